@@ -1,0 +1,9 @@
+pub mod Numbers
+pub mod Access
+pub mod Chips
+pub mod Action
+pub mod Following
+pub mod Arithmetic
+pub mod Bytes
+pub mod Taking
+pub mod Events
