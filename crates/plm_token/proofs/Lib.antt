@@ -1,0 +1,14 @@
+pub mod CharacterTests
+pub mod Longest
+pub mod Classes
+pub mod Runs
+pub mod Comments
+pub mod Quotes
+pub mod Normal
+pub mod Spelled
+pub mod Fronts
+pub mod Includes
+pub mod Skips
+pub mod Gathered
+pub mod Trims
+pub mod Lawful

@@ -1,0 +1,5 @@
+use Rattle.plm_token.proofs.Lawful.{longest_front}
+use Rattle.plm_token.proofs.laws.front_is_longest.Goals as goal
+
+pub returns : goal.returns
+returns c = λ place. longest_front place c.args.text.now

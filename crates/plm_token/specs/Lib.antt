@@ -1,0 +1,10 @@
+pub mod Characters
+pub mod Names
+pub mod Numbers
+pub mod Strings
+pub mod Forms
+pub mod Pieces
+pub mod Front
+pub mod Scanning
+pub mod Literals
+pub mod Laws

@@ -1,0 +1,44 @@
+//! What stands at the front of a text.
+
+use crate::token::Kind;
+use word86::Number;
+
+/// Where a piece stands.
+#[derive(Debug, Clone, Copy, PartialEq, Eq)]
+pub enum Place {
+    /// In the first column of a line, where a dollar sign begins a control line.
+    FirstColumn,
+    /// Behind another piece of its line.
+    Within,
+    /// In the text of a literal, which has no control lines and no strings.
+    Literal,
+}
+
+impl Place {
+    ghost use Rattle.std.specs.Prelude.{◌≡◌};
+    ghost use Rattle.plm_token.specs.Forms.{is_literal};
+
+    pub fn is_literal(self) -> bool
+        ensures { result ≡ is_literal self }
+    {
+        matches!(self, Place::Literal)
+    }
+}
+
+/// What the characters at the front of a text are.
+#[derive(Debug, Clone, Copy, PartialEq, Eq)]
+pub enum Piece {
+    /// A blank, a comment or a control line.
+    Skipped,
+    /// A token.
+    Token(Kind),
+    /// No piece of the language.
+    Fault(Number),
+}
+
+/// A piece, and how many bytes it has.
+#[derive(Debug, Clone, Copy, PartialEq, Eq)]
+pub struct Front {
+    pub piece: Piece,
+    pub length: usize,
+}

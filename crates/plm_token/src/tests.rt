@@ -1,0 +1,399 @@
+//! Small texts, and what the rules of the language say of each.
+
+use crate::{Keyword, Kind, Mark, SOURCE_LIMIT, same_name, scan, scan_literal, string_value};
+use std::alloc::Global;
+use std::process::Abort;
+use std::test::Fail;
+use word86::{Fault, Number};
+
+const IDENTIFIER: Kind = Kind::Identifier;
+
+const STRING: Kind = Kind::String;
+
+const COLON: Kind = Kind::Special(Mark::Colon);
+
+const SEMICOLON: Kind = Kind::Special(Mark::Semicolon);
+
+const DO: Kind = Kind::Reserved(Keyword::Do);
+
+const END: Kind = Kind::Reserved(Keyword::End);
+
+const DECLARE: Kind = Kind::Reserved(Keyword::Declare);
+
+/// Checks that a text has just these tokens, each with its slice and its line.
+fn has_tokens(
+    rt: &impl Abort,
+    alloc: Global,
+    text: &[u8],
+    wanted: &[(Kind, &[u8], u32)],
+) -> Result<(), Fault> {
+    let tokens = scan(alloc, text)?;
+    assert_eq!(rt; tokens.len(), wanted.len(), "in {text:?}");
+    for (token, (kind, slice, line)) in tokens.iter().zip(wanted) {
+        assert!(rt; token.kind == *kind, "{kind:?} in {text:?}");
+        assert!(rt; token.text == *slice, "{slice:?} in {text:?}");
+        assert_eq!(rt; token.line, *line, "in {text:?}");
+    }
+    Ok(())
+}
+
+/// Checks that a text has this fault at this line.
+fn has_fault(rt: &impl Abort, alloc: Global, text: &[u8], line: u32, number: Number) {
+    match scan(alloc, text) {
+        Ok(_) => assert!(rt; false, "no fault in {text:?}"),
+        Err(fault) => assert_eq!(rt; fault, Fault::At(0, line, number), "in {text:?}"),
+    }
+}
+
+#[test]
+fn modules(rt: HostRuntime) -> Result<(), Fault> {
+    let alloc = rt.alloc();
+    has_tokens(
+        &rt,
+        alloc,
+        b"M: DO; ; END M;",
+        &[
+            (IDENTIFIER, b"M", 1),
+            (COLON, b":", 1),
+            (DO, b"DO", 1),
+            (SEMICOLON, b";", 1),
+            (SEMICOLON, b";", 1),
+            (END, b"END", 1),
+            (IDENTIFIER, b"M", 1),
+            (SEMICOLON, b";", 1),
+        ],
+    )?;
+    has_tokens(
+        &rt,
+        alloc,
+        b"M:\nDO",
+        &[(IDENTIFIER, b"M", 1), (COLON, b":", 1), (DO, b"DO", 2)],
+    )
+}
+
+#[test]
+fn blanks_and_lines(rt: HostRuntime) -> Result<(), Fault> {
+    let alloc = rt.alloc();
+    let table: &[(&[u8], u32)] = &[
+        (b"A", 1),
+        (b" \t\x0CA ", 1),
+        (b"\nA", 2),
+        (b"\r\nA", 2),
+        (b"\rA", 1),
+        (b"\n\r\n\rA\n", 3),
+        (b"/* \n \n */A", 3),
+        (b"/**/A", 1),
+        (b"/***/A", 1),
+        (b"/* / * /* **/A", 1),
+        (b"/*/ */A", 1),
+        (b"/* \xFF\x00\x1A ' */A", 1),
+        (b"A/* $ */", 1),
+        (b"A\x1A", 1),
+        (b"A\x1A\x1A\x1A", 1),
+        (b"$ LIST\nA", 2),
+        (b"$\nA", 2),
+        (b"$INCLUD\r\nA", 2),
+        (b"$NOINCLUDE $SET$INCLUDE INCLUDES IN.CLUDE\nA", 2),
+        (b"A\n$ /* ' # \x80", 1),
+        (b"/*\n$INCLUDE(F)\n*/A", 3),
+    ];
+    for (text, line) in table {
+        has_tokens(&rt, alloc, text, &[(IDENTIFIER, b"A", *line)])?;
+    }
+    has_tokens(&rt, alloc, b"", &[])?;
+    has_tokens(&rt, alloc, b"\x1A\x1A", &[])?;
+    has_tokens(&rt, alloc, b"$LIST\x1A", &[])
+}
+
+#[test]
+fn names(rt: HostRuntime) -> Result<(), Fault> {
+    let alloc = rt.alloc();
+    let table: &[(&[u8], Kind)] = &[
+        (b"a", IDENTIFIER),
+        (b"A1_b$2$", IDENTIFIER),
+        (b"A23456789_123456789_123456789_1", IDENTIFIER),
+        (b"A$2$3$4$5$6$7$8$9_123456789_123456789_1$", IDENTIFIER),
+        (b"INTEGERS", IDENTIFIER),
+        (b"DO_", IDENTIFIER),
+        (b"DWORD", Kind::Reserved(Keyword::Dword)),
+        (b"declare", DECLARE),
+        (b"DE$CLARE", DECLARE),
+        (b"eNd$", END),
+        (b"Literally", Kind::Reserved(Keyword::Literally)),
+        (b"xor", Kind::Reserved(Keyword::Xor)),
+    ];
+    for (text, kind) in table {
+        has_tokens(&rt, alloc, text, &[(*kind, *text, 1)])?;
+    }
+    assert!(rt; same_name(b"Fo$o_1", b"f$OO_1$"));
+    assert!(rt; !same_name(b"FOO", b"FO"));
+    assert!(rt; !same_name(b"FO", b"FOO"));
+    assert!(rt; !same_name(b"F_O", b"FO"));
+    Ok(())
+}
+
+#[test]
+fn reserved_words(rt: HostRuntime) -> Result<(), Fault> {
+    let table: &[(&[u8], Keyword)] = &[
+        (b"ADDRESS", Keyword::Address),
+        (b"AND", Keyword::And),
+        (b"AT", Keyword::At),
+        (b"BASED", Keyword::Based),
+        (b"BY", Keyword::By),
+        (b"BYTE", Keyword::Byte),
+        (b"CALL", Keyword::Call),
+        (b"CASE", Keyword::Case),
+        (b"DATA", Keyword::Data),
+        (b"DECLARE", Keyword::Declare),
+        (b"DISABLE", Keyword::Disable),
+        (b"DO", Keyword::Do),
+        (b"DWORD", Keyword::Dword),
+        (b"ELSE", Keyword::Else),
+        (b"ENABLE", Keyword::Enable),
+        (b"END", Keyword::End),
+        (b"EXTERNAL", Keyword::External),
+        (b"GO", Keyword::Go),
+        (b"GOTO", Keyword::Goto),
+        (b"HALT", Keyword::Halt),
+        (b"IF", Keyword::If),
+        (b"INITIAL", Keyword::Initial),
+        (b"INTEGER", Keyword::Integer),
+        (b"INTERRUPT", Keyword::Interrupt),
+        (b"LABEL", Keyword::Label),
+        (b"LITERALLY", Keyword::Literally),
+        (b"MINUS", Keyword::Minus),
+        (b"MOD", Keyword::Mod),
+        (b"NOT", Keyword::Not),
+        (b"OR", Keyword::Or),
+        (b"PLUS", Keyword::Plus),
+        (b"POINTER", Keyword::Pointer),
+        (b"PROCEDURE", Keyword::Procedure),
+        (b"PUBLIC", Keyword::Public),
+        (b"REAL", Keyword::Real),
+        (b"REENTRANT", Keyword::Reentrant),
+        (b"RETURN", Keyword::Return),
+        (b"SELECTOR", Keyword::Selector),
+        (b"STRUCTURE", Keyword::Structure),
+        (b"THEN", Keyword::Then),
+        (b"TO", Keyword::To),
+        (b"WHILE", Keyword::While),
+        (b"WORD", Keyword::Word),
+        (b"XOR", Keyword::Xor),
+    ];
+    for (text, keyword) in table {
+        has_tokens(
+            &rt,
+            rt.alloc(),
+            text,
+            &[(Kind::Reserved(*keyword), *text, 1)],
+        )?;
+    }
+    Ok(())
+}
+
+#[test]
+fn numbers(rt: HostRuntime) -> Result<(), Fault> {
+    let table: &[(&[u8], u32)] = &[
+        (b"0", 0),
+        (b"12", 12),
+        (b"12d", 12),
+        (b"1$2$D$", 12),
+        (b"1$", 1),
+        (b"101B", 5),
+        (b"1b", 1),
+        (b"17O", 15),
+        (b"17q", 15),
+        (b"0FFH", 255),
+        (b"0bh", 11),
+        (b"0B8H", 0xB8),
+        (b"1D", 1),
+        (b"0DH", 13),
+        (b"300H", 0x300),
+        (b"0000000000000000000000001", 1),
+        (b"0F$FFFFH", 0xF_FFFF),
+        (b"1048575", 0xF_FFFF),
+        (b"3777777Q", 0xF_FFFF),
+        (b"11111111111111111111B", 0xF_FFFF),
+    ];
+    for (text, value) in table {
+        has_tokens(&rt, rt.alloc(), text, &[(Kind::Numeral(*value), *text, 1)])?;
+    }
+    Ok(())
+}
+
+#[test]
+fn strings(rt: HostRuntime) -> Result<(), Fail> {
+    let alloc = rt.alloc();
+    let table: &[(&[u8], &[u8])] = &[
+        (b"''", b""),
+        (b"'A'", b"A"),
+        (b"''''", b"'"),
+        (b"'it''s'", b"it's"),
+        (b"'''a'''''", b"'a''"),
+        (b"' ~/* $'", b" ~/* $"),
+    ];
+    for (text, characters) in table {
+        has_tokens(&rt, alloc, text, &[(STRING, *text, 1)])?;
+        let value = string_value(alloc, text)?;
+        assert!(rt; value.as_slice() == *characters, "{text:?}");
+    }
+    has_tokens(
+        &rt,
+        alloc,
+        b"'a' 'b'",
+        &[(STRING, b"'a'", 1), (STRING, b"'b'", 1)],
+    )?;
+    Ok(())
+}
+
+#[test]
+fn special_tokens(rt: HostRuntime) -> Result<(), Fault> {
+    let alloc = rt.alloc();
+    let table: &[(&[u8], Mark)] = &[
+        (b"=", Mark::Equal),
+        (b".", Mark::Period),
+        (b"/", Mark::Slash),
+        (b"(", Mark::LeftParenthesis),
+        (b")", Mark::RightParenthesis),
+        (b"+", Mark::Plus),
+        (b"-", Mark::Minus),
+        (b"*", Mark::Star),
+        (b",", Mark::Comma),
+        (b"<", Mark::Less),
+        (b">", Mark::Greater),
+        (b":", Mark::Colon),
+        (b";", Mark::Semicolon),
+        (b"@", Mark::AtSign),
+        (b"<>", Mark::NotEqual),
+        (b"<=", Mark::LessEqual),
+        (b">=", Mark::GreaterEqual),
+        (b":=", Mark::Assign),
+    ];
+    for (text, mark) in table {
+        has_tokens(&rt, alloc, text, &[(Kind::Special(*mark), *text, 1)])?;
+    }
+    has_tokens(
+        &rt,
+        alloc,
+        b"=<",
+        &[
+            (Kind::Special(Mark::Equal), b"=", 1),
+            (Kind::Special(Mark::Less), b"<", 1),
+        ],
+    )?;
+    has_tokens(
+        &rt,
+        alloc,
+        b"<<>",
+        &[
+            (Kind::Special(Mark::Less), b"<", 1),
+            (Kind::Special(Mark::NotEqual), b"<>", 1),
+        ],
+    )?;
+    has_tokens(
+        &rt,
+        alloc,
+        b"*/",
+        &[
+            (Kind::Special(Mark::Star), b"*", 1),
+            (Kind::Special(Mark::Slash), b"/", 1),
+        ],
+    )
+}
+
+#[test]
+fn faults(rt: HostRuntime) {
+    let table: &[(&[u8], u32, Number)] = &[
+        (b"#", 1, Number::E101),
+        (b"A\n?", 2, Number::E101),
+        (b"_A", 1, Number::E101),
+        (b" $LIST", 1, Number::E101),
+        (b"\r$LIST", 1, Number::E101),
+        (b"A $B", 1, Number::E101),
+        (b"/**/$LIST", 1, Number::E101),
+        (b"A\x1A\n", 1, Number::E101),
+        (b"\x1AA", 1, Number::E101),
+        (b"\x80", 1, Number::E101),
+        (b"'a\tb'", 1, Number::E101),
+        (b"'a\x7Fb", 1, Number::E101),
+        (b"'a\rb'", 1, Number::E101),
+        (b"'a''\x00'", 1, Number::E101),
+        (b"'a", 1, Number::E102),
+        (b"'", 1, Number::E102),
+        (b"'''", 1, Number::E102),
+        (b"'a''", 1, Number::E102),
+        (b"'a\n'", 1, Number::E102),
+        (b"\n'a\r\n'", 2, Number::E102),
+        (b"'abc\x1A", 1, Number::E102),
+        (b"M: DO; /* x", 1, Number::E103),
+        (b"\n/* x\n\n *", 2, Number::E103),
+        (b"/*/", 1, Number::E103),
+        (b"12X", 1, Number::E104),
+        (b"1_2", 1, Number::E104),
+        (b"9Q", 1, Number::E104),
+        (b"2B", 1, Number::E104),
+        (b"0B8", 1, Number::E104),
+        (b"0G", 1, Number::E104),
+        (b"0FF", 1, Number::E104),
+        (b"1HH", 1, Number::E104),
+        (b"100000H", 1, Number::E104),
+        (b"1048576", 1, Number::E104),
+        (b"99999999999999999999", 1, Number::E104),
+        (b"A\n\n2B", 3, Number::E104),
+        (b"A23456789_123456789_123456789_12", 1, Number::E105),
+        (b"\nA_23456789$123456789$123456789$1234", 2, Number::E105),
+        (b"$INCLUDE(F)", 1, Number::E106),
+        (b"$ include", 1, Number::E106),
+        (b"$IN$CLUDE", 1, Number::E106),
+        (b"A\n$LIST NOLIST,$Include$,#\nB", 2, Number::E106),
+        (b"$INCLUDE\n#", 1, Number::E106),
+        (b"#\n$INCLUDE", 1, Number::E101),
+    ];
+    for (text, line, number) in table {
+        has_fault(&rt, rt.alloc(), text, *line, *number);
+    }
+}
+
+#[test]
+fn long_sources(rt: HostRuntime) -> Result<(), Fault> {
+    let alloc = rt.alloc();
+    let mut text = vec![in alloc; b' '; SOURCE_LIMIT]?;
+    has_tokens(&rt, alloc, text.as_slice(), &[])?;
+    text.push(0x1A)?;
+    has_fault(&rt, alloc, text.as_slice(), 1, Number::E107);
+    text.push(b'#')?;
+    has_fault(&rt, alloc, text.as_slice(), 1, Number::E107);
+    Ok(())
+}
+
+#[test]
+fn literals(rt: HostRuntime) -> Result<(), Fault> {
+    let alloc = rt.alloc();
+    let tokens = scan_literal(alloc, b"WHILE /* it''s */ 1", 7)?;
+    assert_eq!(rt; tokens.len(), 2);
+    for (token, (kind, slice)) in tokens.iter().zip(&[
+        (Kind::Reserved(Keyword::While), b"WHILE".as_slice()),
+        (Kind::Numeral(1), b"1".as_slice()),
+    ]) {
+        assert!(rt; token.kind == *kind && token.text == *slice);
+        assert_eq!(rt; token.line, 7);
+    }
+    assert!(rt; scan_literal(alloc, b"", 1)?.is_empty());
+    let table: &[(&[u8], Number)] = &[
+        (b"a''#'''", Number::E101),
+        (b"$LIST", Number::E101),
+        (b"2B #", Number::E101),
+        (b"2B /*", Number::E103),
+        (b"A23456789_123456789_123456789_12 2B ''", Number::E104),
+        (b"''A23456789_123456789_123456789_12", Number::E105),
+        (b"''", Number::E204),
+        (b"A '' B", Number::E204),
+    ];
+    for (text, number) in table {
+        match scan_literal(alloc, text, 9) {
+            Ok(_) => assert!(rt; false, "no fault in {text:?}"),
+            Err(fault) => assert_eq!(rt; fault, Fault::At(0, 9, *number), "in {text:?}"),
+        }
+    }
+    Ok(())
+}
