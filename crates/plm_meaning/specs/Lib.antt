@@ -1,0 +1,6 @@
+pub mod Store
+pub mod System
+pub mod Rest
+pub mod Next
+pub mod Placed
+pub mod Programs

@@ -1,0 +1,13 @@
+//! The meaning of a program: what its main and its interrupt procedures do, step by step, with the board around them.
+#![tactic(auto)]
+
+mod names;
+mod placement;
+mod program;
+
+pub use names::{Names, Object};
+pub use placement::Placement;
+pub use program::{Operand, Program, Statement, Sum};
+
+#[cfg(test)]
+mod tests;
