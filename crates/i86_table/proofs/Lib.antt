@@ -1,0 +1,3 @@
+pub mod FlagProofs
+pub mod PairProofs
+pub mod Steps

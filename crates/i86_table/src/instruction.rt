@@ -1,0 +1,260 @@
+//! The instructions, as the 8086 Family User's Manual names them: one value for each thing that a row of the table says.
+
+use crate::pairs::{BytePair, WordPair};
+use crate::registers::{LoadableSegment, Register8, Register16, Segment};
+use word86::Width;
+
+/// An operation on two operands, in the order of its number in an encoding.
+#[derive(Clone, Copy, PartialEq, Eq, Debug)]
+pub enum AluOperation {
+    Add,
+    Or,
+    Adc,
+    Sbb,
+    And,
+    Sub,
+    Xor,
+    Cmp,
+}
+
+/// An operation that changes its one operand in place.
+#[derive(Clone, Copy, PartialEq, Eq, Debug)]
+pub enum UnaryOperation {
+    Not,
+    Neg,
+    Inc,
+    Dec,
+}
+
+/// A shift or a rotation.
+#[derive(Clone, Copy, PartialEq, Eq, Debug)]
+pub enum ShiftOperation {
+    Rol,
+    Ror,
+    Shl,
+    Shr,
+    Sar,
+}
+
+/// How often a shift goes by one place: once, or as often as CL says.
+#[derive(Clone, Copy, PartialEq, Eq, Debug)]
+pub enum Count {
+    One,
+    Cl,
+}
+
+/// Whether a multiplication or division reads its operands as two's complement.
+#[derive(Clone, Copy, PartialEq, Eq, Debug)]
+pub enum Signedness {
+    Unsigned,
+    Signed,
+}
+
+/// When a conditional jump is taken, in the order of its number in an encoding.
+#[derive(Clone, Copy, PartialEq, Eq, Debug)]
+pub enum Condition {
+    Overflow,
+    NotOverflow,
+    Below,
+    NotBelow,
+    Equal,
+    NotEqual,
+    BelowOrEqual,
+    Above,
+    Sign,
+    NotSign,
+    ParityEven,
+    ParityOdd,
+    Less,
+    NotLess,
+    LessOrEqual,
+    Greater,
+}
+
+/// The registers whose sum an effective address begins with.
+#[derive(Clone, Copy, PartialEq, Eq, Debug)]
+pub enum Base {
+    BxSi,
+    BxDi,
+    BpSi,
+    BpDi,
+    Si,
+    Di,
+    Bp,
+    Bx,
+}
+
+/// Where an operand in memory lies in its segment.
+#[derive(Clone, Copy, PartialEq, Eq, Debug)]
+pub enum Address {
+    /// A fixed offset.
+    Direct(u16),
+    /// Base registers and a displacement, added modulo 65,536.
+    Based { base: Base, displacement: u16 },
+}
+
+/// An operand in memory: its segment, an override counted in, and its place there.
+#[derive(Clone, Copy, PartialEq, Eq, Debug)]
+pub struct Memory {
+    pub segment: Segment,
+    pub address: Address,
+}
+
+/// A register or an operand in memory.
+#[derive(Clone, Copy, PartialEq, Eq, Debug)]
+pub enum Place<R> {
+    Register(R),
+    Memory(Memory),
+}
+
+/// A target and a source, not both in memory.
+#[derive(Clone, Copy, PartialEq, Eq, Debug)]
+pub enum Operands<R, I> {
+    FromRegister(Place<R>, R),
+    FromMemory(R, Memory),
+    Immediate(Place<R>, I),
+}
+
+/// What TEST compares a place with.
+#[derive(Clone, Copy, PartialEq, Eq, Debug)]
+pub enum TestMask<R, I> {
+    Register(R),
+    Immediate(I),
+}
+
+/// A port named by the instruction or by DX.
+#[derive(Clone, Copy, PartialEq, Eq, Debug)]
+pub enum Port {
+    Fixed(u8),
+    Dx,
+}
+
+/// Whether a string instruction stands alone or is repeated as often as CX says.
+#[derive(Clone, Copy, PartialEq, Eq, Debug)]
+pub enum Repeat {
+    Once,
+    WhileCx,
+}
+
+/// An instruction. Distances and displacements are numbers modulo 256 or 65,536, counted from the next instruction.
+#[derive(Clone, Copy, PartialEq, Eq, Debug)]
+pub enum Instr {
+    /// NOP.
+    Nop,
+    /// ADD, OR, ADC, SBB, AND, SUB, XOR, CMP of bytes.
+    AluByte(AluOperation, Operands<Register8, u8>),
+    /// ADD, OR, ADC, SBB, AND, SUB, XOR, CMP of words.
+    AluWord(AluOperation, Operands<Register16, u16>),
+    /// NOT, NEG, INC, DEC of a byte.
+    UnaryByte(UnaryOperation, Place<Register8>),
+    /// NOT, NEG, INC, DEC of a word.
+    UnaryWord(UnaryOperation, Place<Register16>),
+    /// TEST of bytes.
+    TestByte(Place<Register8>, TestMask<Register8, u8>),
+    /// TEST of words.
+    TestWord(Place<Register16>, TestMask<Register16, u16>),
+    /// ROL, ROR, SHL, SHR, SAR of a byte.
+    ShiftByte(ShiftOperation, Place<Register8>, Count),
+    /// ROL, ROR, SHL, SHR, SAR of a word.
+    ShiftWord(ShiftOperation, Place<Register16>, Count),
+    /// MUL, IMUL: AX is AL times the operand.
+    MultiplyByte(Signedness, Place<Register8>),
+    /// MUL, IMUL: DX and AX are AX times the operand.
+    MultiplyWord(Signedness, Place<Register16>),
+    /// DIV, IDIV: AL and AH are quotient and remainder of AX and the operand.
+    DivideByte(Signedness, Place<Register8>),
+    /// DIV, IDIV: AX and DX are quotient and remainder of DX, AX and the operand.
+    DivideWord(Signedness, Place<Register16>),
+    /// CBW: AX is AL with its sign.
+    ConvertByte,
+    /// CWD: DX and AX are AX with its sign.
+    ConvertWord,
+    /// MOV of a byte.
+    MoveByte(Operands<Register8, u8>),
+    /// MOV of a word.
+    MoveWord(Operands<Register16, u16>),
+    /// MOV from a segment register.
+    MoveFromSegment(Place<Register16>, Segment),
+    /// MOV to a segment register.
+    MoveToSegment(LoadableSegment, Place<Register16>),
+    /// LEA: the offset, not what lies there.
+    LoadAddress(Register16, Address),
+    /// XCHG of two byte registers.
+    ExchangeBytes(BytePair),
+    /// XCHG of two word registers.
+    ExchangeWords(WordPair),
+    /// XCHG of a byte register with memory.
+    ExchangeMemoryByte(Register8, Memory),
+    /// XCHG of a word register with memory.
+    ExchangeMemoryWord(Register16, Memory),
+    /// PUSH of a word.
+    Push(Place<Register16>),
+    /// POP of a word.
+    Pop(Place<Register16>),
+    /// PUSH of a segment register.
+    PushSegment(Segment),
+    /// POP of a segment register.
+    PopSegment(LoadableSegment),
+    /// PUSHF.
+    PushFlags,
+    /// POPF.
+    PopFlags,
+    /// MOVS, from SI in the named segment to DI in ES.
+    MoveString {
+        width: Width,
+        source: Segment,
+        repeat: Repeat,
+    },
+    /// STOS, from AL or AX to DI in ES.
+    StoreString {
+        width: Width,
+        repeat: Repeat,
+    },
+    /// IN to AL or AX.
+    In(Width, Port),
+    /// OUT of AL or AX.
+    Out(Width, Port),
+    /// A conditional jump by a distance of one byte.
+    JumpIf(Condition, u8),
+    /// LOOP: CX is counted down, and the jump is taken unless it is 0.
+    Loop(u8),
+    /// JCXZ.
+    JumpIfCxZero(u8),
+    /// JMP by a distance of one byte.
+    JumpShort(u8),
+    /// JMP by a distance of one word.
+    Jump(u16),
+    /// JMP to the offset in a register or in memory.
+    JumpTo(Place<Register16>),
+    /// JMP to another segment.
+    JumpFar {
+        offset: u16,
+        segment: u16,
+    },
+    /// CALL by a distance of one word.
+    Call(u16),
+    /// CALL of the offset in a register or in memory.
+    CallTo(Place<Register16>),
+    /// RET.
+    Return,
+    /// RET that drops so many bytes more.
+    ReturnDropping(u16),
+    /// IRET.
+    InterruptReturn,
+    /// CMC.
+    ComplementCarry,
+    /// CLC.
+    ClearCarry,
+    /// STC.
+    SetCarry,
+    /// CLI.
+    DisableInterrupts,
+    /// STI.
+    EnableInterrupts,
+    /// CLD.
+    ClearDirection,
+    /// STD.
+    SetDirection,
+    /// HLT.
+    Halt,
+}

@@ -1,0 +1,31 @@
+//! The instructions of the 8086, its registers, its flags and its arithmetic.
+#![tactic(auto)]
+
+mod alu;
+mod condition;
+mod flags;
+mod instruction;
+mod multiplication;
+mod operands;
+mod outcome;
+mod pair_law;
+mod pairs;
+mod registers;
+mod shifts;
+mod width;
+
+pub use alu::{change, operate, test};
+pub use flags::{Flags, flag_laws};
+pub use instruction::{
+    Address, AluOperation, Base, Condition, Count, Instr, Memory, Operands, Place, Port, Repeat,
+    ShiftOperation, Signedness, TestMask, UnaryOperation,
+};
+pub use multiplication::{divide, multiply, sign_extended, sign_word};
+pub use outcome::{Division, Outcome, Product};
+pub use pair_law::pair_laws;
+pub use pairs::{BytePair, WordPair};
+pub use registers::{LoadableSegment, Register8, Register16, Regs, Segment};
+pub use shifts::shift;
+
+#[cfg(test)]
+mod tests;
