@@ -1,0 +1,9 @@
+pub mod RegisterLaws
+pub mod Table
+pub mod Places
+pub mod FormLaws
+pub mod DecodeLaws
+pub mod Sizes
+pub mod WrittenForms
+pub mod Costs
+pub mod BestForms

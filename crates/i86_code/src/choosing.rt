@@ -1,0 +1,592 @@
+//! The form that is written for an instruction.
+
+ghost use Rattle.std.specs.Prelude.{◌≡◌};
+ghost use Rattle.i86_table.specs.Numbers.{byte_register_code, word_register_code};
+ghost use Rattle.i86_code.specs.declared.form.Fields.TheVariants as fields;
+ghost use Rattle.i86_code.specs.Writing.{prefix_for, prefix_at, prefix_of, is_near, based_form, address_form, place_form, plain, addressed, with_memory, with_byte, with_word, in_group, from_register, is_al, is_ax, accumulator_form, alu_immediate_of, alu_byte_of, alu_word_of, move_byte_of, move_word_of, test_byte_of, test_word_of, unary_byte_of, unary_word_of, push_of, pop_of, multiply_code, divide_code, shift_code, exchange_words_of, string_prefixes, in_of, out_of, form_of};
+
+use crate::form::{Fields, Form, Opcode, Prefixes, RegisterOrMemory};
+use crate::meaning::{is_short, usual_segment};
+use crate::numbers::{Numbered, operation_number, segment_number};
+use i86_table::{
+    Address, AluOperation, Base, Instr, Memory, Operands, Place, Port, Register8, Register16,
+    Repeat, Segment, ShiftOperation, Signedness, TestMask, UnaryOperation,
+};
+use word86::Width;
+
+/// No prefix for the usual segment.
+fn prefix_for(usual: Segment, segment: Segment) -> Prefixes
+    ensures { result ≡ prefix_for usual segment }
+{
+    match (usual, segment) {
+        (Segment::Ds, Segment::Ds) | (Segment::Ss, Segment::Ss) => Prefixes::Nothing,
+        _ => Prefixes::Override(segment),
+    }
+}
+
+fn prefix_at(segment: Segment, address: Address) -> Prefixes
+    ensures { result ≡ prefix_at segment address }
+{
+    match address {
+        Address::Direct(_) => prefix_for(Segment::Ds, segment),
+        Address::Based { base, .. } => prefix_for(usual_segment(base), segment),
+    }
+}
+
+fn prefix_of<R: Copy>(place: Place<R>) -> Prefixes
+    ensures { result ≡ prefix_of place }
+{
+    match place {
+        Place::Register(_) => Prefixes::Nothing,
+        Place::Memory(memory) => prefix_at(memory.segment, memory.address),
+    }
+}
+
+fn is_near(displacement: u16) -> bool
+    ensures { result ≡ is_near displacement }
+{
+    displacement < 128 || displacement >= 65408
+}
+
+/// The shortest displacement that holds it; BP alone has none of no length.
+#[tactic(auto, unfolding(crate::specs::Writing::based_form))]
+fn based_form(base: Base, displacement: u16) -> RegisterOrMemory
+    ensures { result ≡ based_form base displacement }
+{
+    if displacement == 0 && !matches!(base, Base::Bp) {
+        RegisterOrMemory::Indirect(base)
+    } else if is_near(displacement) {
+        RegisterOrMemory::Near(base, (displacement % 256) as u8)
+    } else {
+        RegisterOrMemory::Far(base, displacement)
+    }
+}
+
+fn address_form(address: Address) -> RegisterOrMemory
+    ensures { result ≡ address_form address }
+{
+    match address {
+        Address::Direct(offset) => RegisterOrMemory::Direct(offset),
+        Address::Based { base, displacement } => based_form(base, displacement),
+    }
+}
+
+fn place_form<R: Numbered>(place: Place<R>) -> RegisterOrMemory
+    ensures { result ≡ place_form R.code place }
+{
+    match place {
+        Place::Register(register) => RegisterOrMemory::Register(register.number()),
+        Place::Memory(memory) => address_form(memory.address),
+    }
+}
+
+fn plain(opcode: Opcode, fields: Fields) -> Form
+    ensures { result ≡ plain opcode fields }
+{
+    Form {
+        prefixes: Prefixes::Nothing,
+        opcode,
+        fields,
+    }
+}
+
+fn addressed<R: Numbered>(opcode: Opcode, number: u8, place: Place<R>) -> Form
+    ensures { result ≡ addressed R.code opcode number place }
+{
+    Form {
+        prefixes: prefix_of(place),
+        opcode,
+        fields: Fields::Address(number, place_form(place)),
+    }
+}
+
+fn with_memory(opcode: Opcode, number: u8, memory: Memory) -> Form
+    ensures { result ≡ with_memory opcode number memory }
+{
+    Form {
+        prefixes: prefix_at(memory.segment, memory.address),
+        opcode,
+        fields: Fields::Address(number, address_form(memory.address)),
+    }
+}
+
+fn with_byte<R: Numbered>(opcode: Opcode, number: u8, place: Place<R>, immediate: u8) -> Form
+    ensures { result ≡ with_byte R.code opcode number place immediate }
+{
+    Form {
+        prefixes: prefix_of(place),
+        opcode,
+        fields: Fields::AddressByte(number, place_form(place), immediate),
+    }
+}
+
+fn with_word(opcode: Opcode, number: u8, place: Place<Register16>, immediate: u16) -> Form
+    ensures { result ≡ with_word opcode number place immediate }
+{
+    Form {
+        prefixes: prefix_of(place),
+        opcode,
+        fields: Fields::AddressWord(number, place_form(place), immediate),
+    }
+}
+
+fn in_group<R: Numbered>(width: Width, number: u8, place: Place<R>) -> Form
+    ensures { result ≡ in_group R.code width number place }
+{
+    Form {
+        prefixes: prefix_of(place),
+        opcode: Opcode::UnaryGroup(width),
+        fields: Fields::Unary(width, number, place_form(place)),
+    }
+}
+
+/// Between two registers the target is in the register field.
+fn from_register<R: Numbered>(
+    to_place: Opcode,
+    to_register: Opcode,
+    target: Place<R>,
+    source: R,
+) -> Form
+    ensures { result ≡ from_register R.code to_place to_register target source }
+{
+    match target {
+        Place::Register(register) => plain(
+            to_register,
+            Fields::Address(
+                register.number(),
+                RegisterOrMemory::Register(source.number()),
+            ),
+        ),
+        Place::Memory(memory) => with_memory(to_place, source.number(), memory),
+    }
+}
+
+fn is_al(register: Register8) -> bool
+    ensures { result ≡ is_al register }
+{
+    matches!(register, Register8::Al)
+}
+
+fn is_ax(register: Register16) -> bool
+    ensures { result ≡ is_ax register }
+{
+    matches!(register, Register16::Ax)
+}
+
+/// The accumulator has a form of its own for a direct address.
+fn accumulator_form(is_accumulator: bool, opcode: Opcode, other: Form, memory: Memory) -> Form
+    ensures { result ≡ accumulator_form is_accumulator opcode other memory.segment memory.address }
+{
+    match memory.address {
+        Address::Direct(offset) if is_accumulator => Form {
+            prefixes: prefix_for(Segment::Ds, memory.segment),
+            opcode,
+            fields: Fields::Word(offset),
+        },
+        _ => other,
+    }
+}
+
+fn alu_immediate(operation: AluOperation, place: Place<Register16>, number: u16) -> Form
+    ensures { result ≡ alu_immediate_of operation place number }
+{
+    let code = operation_number(operation);
+    if is_short(code) && is_near(number) {
+        with_byte(Opcode::AluShort, code, place, (number % 256) as u8)
+    } else {
+        with_word(Opcode::AluImmediate(Width::Word), code, place, number)
+    }
+}
+
+#[tactic(auto, unfolding(crate::specs::Writing::alu_byte_of))]
+fn alu_byte(operation: AluOperation, operands: Operands<Register8, u8>) -> Form
+    ensures { result ≡ alu_byte_of operation operands }
+{
+    let to_register = Opcode::AluToRegister(operation, Width::Byte);
+    match operands {
+        Operands::FromRegister(target, source) => {
+            let to_place = Opcode::AluToPlace(operation, Width::Byte);
+            from_register(to_place, to_register, target, source)
+        }
+        Operands::FromMemory(register, memory) => {
+            with_memory(to_register, register.number(), memory)
+        }
+        Operands::Immediate(Place::Register(Register8::Al), number) => plain(
+            Opcode::AluAccumulator(operation, Width::Byte),
+            Fields::Byte(number),
+        ),
+        Operands::Immediate(place, number) => with_byte(
+            Opcode::AluImmediate(Width::Byte),
+            operation_number(operation),
+            place,
+            number,
+        ),
+    }
+}
+
+#[tactic(auto, unfolding(crate::specs::Writing::alu_word_of))]
+fn alu_word(operation: AluOperation, operands: Operands<Register16, u16>) -> Form
+    ensures { result ≡ alu_word_of operation operands }
+{
+    let to_register = Opcode::AluToRegister(operation, Width::Word);
+    match operands {
+        Operands::FromRegister(target, source) => {
+            let to_place = Opcode::AluToPlace(operation, Width::Word);
+            from_register(to_place, to_register, target, source)
+        }
+        Operands::FromMemory(register, memory) => {
+            with_memory(to_register, register.number(), memory)
+        }
+        Operands::Immediate(Place::Register(Register16::Ax), number) => plain(
+            Opcode::AluAccumulator(operation, Width::Word),
+            Fields::Word(number),
+        ),
+        Operands::Immediate(place, number) => alu_immediate(operation, place, number),
+    }
+}
+
+#[tactic(auto, unfolding(crate::specs::Writing::move_byte_of))]
+fn move_byte(operands: Operands<Register8, u8>) -> Form
+    ensures { result ≡ move_byte_of operands }
+{
+    let to_register = Opcode::MoveToRegister(Width::Byte);
+    match operands {
+        Operands::FromRegister(Place::Register(target), source) => plain(
+            to_register,
+            Fields::Address(target.number(), RegisterOrMemory::Register(source.number())),
+        ),
+        Operands::FromRegister(Place::Memory(memory), register) => {
+            let other = with_memory(Opcode::MoveToPlace(Width::Byte), register.number(), memory);
+            let short = Opcode::MoveToDirect(Width::Byte);
+            accumulator_form(is_al(register), short, other, memory)
+        }
+        Operands::FromMemory(register, memory) => {
+            let other = with_memory(to_register, register.number(), memory);
+            let short = Opcode::MoveFromDirect(Width::Byte);
+            accumulator_form(is_al(register), short, other, memory)
+        }
+        Operands::Immediate(Place::Register(register), number) => {
+            plain(Opcode::MoveRegisterByte(register), Fields::Byte(number))
+        }
+        Operands::Immediate(place, number) => {
+            with_byte(Opcode::MoveImmediate(Width::Byte), 0, place, number)
+        }
+    }
+}
+
+#[tactic(auto, unfolding(crate::specs::Writing::move_word_of))]
+fn move_word(operands: Operands<Register16, u16>) -> Form
+    ensures { result ≡ move_word_of operands }
+{
+    let to_register = Opcode::MoveToRegister(Width::Word);
+    match operands {
+        Operands::FromRegister(Place::Register(target), source) => plain(
+            to_register,
+            Fields::Address(target.number(), RegisterOrMemory::Register(source.number())),
+        ),
+        Operands::FromRegister(Place::Memory(memory), register) => {
+            let other = with_memory(Opcode::MoveToPlace(Width::Word), register.number(), memory);
+            let short = Opcode::MoveToDirect(Width::Word);
+            accumulator_form(is_ax(register), short, other, memory)
+        }
+        Operands::FromMemory(register, memory) => {
+            let other = with_memory(to_register, register.number(), memory);
+            let short = Opcode::MoveFromDirect(Width::Word);
+            accumulator_form(is_ax(register), short, other, memory)
+        }
+        Operands::Immediate(Place::Register(register), number) => {
+            plain(Opcode::MoveRegisterWord(register), Fields::Word(number))
+        }
+        Operands::Immediate(place, number) => {
+            with_word(Opcode::MoveImmediate(Width::Word), 0, place, number)
+        }
+    }
+}
+
+fn test_byte(place: Place<Register8>, mask: TestMask<Register8, u8>) -> Form
+    ensures { result ≡ test_byte_of place mask }
+{
+    match (place, mask) {
+        (_, TestMask::Register(register)) => {
+            addressed(Opcode::Test(Width::Byte), register.number(), place)
+        }
+        (Place::Register(Register8::Al), TestMask::Immediate(number)) => {
+            plain(Opcode::TestAccumulator(Width::Byte), Fields::Byte(number))
+        }
+        (_, TestMask::Immediate(number)) => Form {
+            prefixes: prefix_of(place),
+            opcode: Opcode::UnaryGroup(Width::Byte),
+            fields: Fields::TestByte(place_form(place), number),
+        },
+    }
+}
+
+fn test_word(place: Place<Register16>, mask: TestMask<Register16, u16>) -> Form
+    ensures { result ≡ test_word_of place mask }
+{
+    match (place, mask) {
+        (_, TestMask::Register(register)) => {
+            addressed(Opcode::Test(Width::Word), register.number(), place)
+        }
+        (Place::Register(Register16::Ax), TestMask::Immediate(number)) => {
+            plain(Opcode::TestAccumulator(Width::Word), Fields::Word(number))
+        }
+        (_, TestMask::Immediate(number)) => Form {
+            prefixes: prefix_of(place),
+            opcode: Opcode::UnaryGroup(Width::Word),
+            fields: Fields::TestWord(place_form(place), number),
+        },
+    }
+}
+
+fn unary_byte(operation: UnaryOperation, place: Place<Register8>) -> Form
+    ensures { result ≡ unary_byte_of operation place }
+{
+    match operation {
+        UnaryOperation::Not => in_group(Width::Byte, 2, place),
+        UnaryOperation::Neg => in_group(Width::Byte, 3, place),
+        UnaryOperation::Inc => addressed(Opcode::StepGroup(Width::Byte), 0, place),
+        UnaryOperation::Dec => addressed(Opcode::StepGroup(Width::Byte), 1, place),
+    }
+}
+
+fn unary_word(operation: UnaryOperation, place: Place<Register16>) -> Form
+    ensures { result ≡ unary_word_of operation place }
+{
+    let group = Opcode::StepGroup(Width::Word);
+    match (operation, place) {
+        (UnaryOperation::Not, _) => in_group(Width::Word, 2, place),
+        (UnaryOperation::Neg, _) => in_group(Width::Word, 3, place),
+        (UnaryOperation::Inc, Place::Register(register)) => {
+            plain(Opcode::Increment(register), Fields::Nothing)
+        }
+        (UnaryOperation::Inc, Place::Memory(memory)) => with_memory(group, 0, memory),
+        (UnaryOperation::Dec, Place::Register(register)) => {
+            plain(Opcode::Decrement(register), Fields::Nothing)
+        }
+        (UnaryOperation::Dec, Place::Memory(memory)) => with_memory(group, 1, memory),
+    }
+}
+
+fn push(place: Place<Register16>) -> Form
+    ensures { result ≡ push_of place }
+{
+    match place {
+        Place::Register(register) => plain(Opcode::Push(register), Fields::Nothing),
+        Place::Memory(memory) => with_memory(Opcode::StepGroup(Width::Word), 6, memory),
+    }
+}
+
+fn pop(place: Place<Register16>) -> Form
+    ensures { result ≡ pop_of place }
+{
+    match place {
+        Place::Register(register) => plain(Opcode::Pop(register), Fields::Nothing),
+        Place::Memory(memory) => with_memory(Opcode::PopPlace, 0, memory),
+    }
+}
+
+fn multiply_number(signedness: Signedness) -> u8
+    ensures { result ≡ multiply_code signedness }
+{
+    match signedness {
+        Signedness::Unsigned => 4,
+        Signedness::Signed => 5,
+    }
+}
+
+fn divide_number(signedness: Signedness) -> u8
+    ensures { result ≡ divide_code signedness }
+{
+    match signedness {
+        Signedness::Unsigned => 6,
+        Signedness::Signed => 7,
+    }
+}
+
+fn shift_number(operation: ShiftOperation) -> u8
+    ensures { result ≡ shift_code operation }
+{
+    match operation {
+        ShiftOperation::Rol => 0,
+        ShiftOperation::Ror => 1,
+        ShiftOperation::Shl => 4,
+        ShiftOperation::Shr => 5,
+        ShiftOperation::Sar => 7,
+    }
+}
+
+fn exchange_words(a: Register16, b: Register16) -> Form
+    ensures { result ≡ exchange_words_of a b }
+{
+    if is_ax(a) && !is_ax(b) {
+        plain(Opcode::ExchangeAccumulator(b), Fields::Nothing)
+    } else {
+        plain(
+            Opcode::Exchange(Width::Word),
+            Fields::Address(a.number(), RegisterOrMemory::Register(b.number())),
+        )
+    }
+}
+
+/// The segment prefix first.
+fn string_prefixes(source: Segment, repeat: Repeat) -> Prefixes
+    ensures { result ≡ string_prefixes source repeat }
+{
+    match (source, repeat) {
+        (Segment::Ds, Repeat::Once) => Prefixes::Nothing,
+        (Segment::Ds, Repeat::WhileCx) => Prefixes::Repeat,
+        (_, Repeat::Once) => Prefixes::Override(source),
+        (_, Repeat::WhileCx) => Prefixes::OverrideRepeat(source),
+    }
+}
+
+fn input(width: Width, port: Port) -> Form
+    ensures { result ≡ in_of width port }
+{
+    match port {
+        Port::Fixed(number) => plain(Opcode::InFixed(width), Fields::Byte(number)),
+        Port::Dx => plain(Opcode::InDx(width), Fields::Nothing),
+    }
+}
+
+fn output(width: Width, port: Port) -> Form
+    ensures { result ≡ out_of width port }
+{
+    match port {
+        Port::Fixed(number) => plain(Opcode::OutFixed(width), Fields::Byte(number)),
+        Port::Dx => plain(Opcode::OutDx(width), Fields::Nothing),
+    }
+}
+
+/// An opcode alone.
+fn alone(opcode: Opcode) -> Form
+    ensures { result ≡ plain opcode fields.Nothing }
+{
+    plain(opcode, Fields::Nothing)
+}
+
+fn byte_after(opcode: Opcode, number: u8) -> Form
+    ensures { result ≡ plain opcode (fields.Byte number) }
+{
+    plain(opcode, Fields::Byte(number))
+}
+
+fn word_after(opcode: Opcode, number: u16) -> Form
+    ensures { result ≡ plain opcode (fields.Word number) }
+{
+    plain(opcode, Fields::Word(number))
+}
+
+impl Form {
+    /// The form that is written for an instruction.
+    #[tactic(auto, unfolding(crate::specs::Writing::form_of))]
+    pub fn of(instruction: Instr) -> Form
+        ensures { result ≡ form_of instruction }
+    {
+        match instruction {
+            Instr::Nop => alone(Opcode::ExchangeAccumulator(Register16::Ax)),
+            Instr::AluByte(operation, operands) => alu_byte(operation, operands),
+            Instr::AluWord(operation, operands) => alu_word(operation, operands),
+            Instr::UnaryByte(operation, place) => unary_byte(operation, place),
+            Instr::UnaryWord(operation, place) => unary_word(operation, place),
+            Instr::TestByte(place, mask) => test_byte(place, mask),
+            Instr::TestWord(place, mask) => test_word(place, mask),
+            Instr::ShiftByte(operation, place, count) => addressed(
+                Opcode::Shift(Width::Byte, count),
+                shift_number(operation),
+                place,
+            ),
+            Instr::ShiftWord(operation, place, count) => addressed(
+                Opcode::Shift(Width::Word, count),
+                shift_number(operation),
+                place,
+            ),
+            Instr::MultiplyByte(signedness, place) => {
+                in_group(Width::Byte, multiply_number(signedness), place)
+            }
+            Instr::MultiplyWord(signedness, place) => {
+                in_group(Width::Word, multiply_number(signedness), place)
+            }
+            Instr::DivideByte(signedness, place) => {
+                in_group(Width::Byte, divide_number(signedness), place)
+            }
+            Instr::DivideWord(signedness, place) => {
+                in_group(Width::Word, divide_number(signedness), place)
+            }
+            Instr::ConvertByte => alone(Opcode::ConvertByte),
+            Instr::ConvertWord => alone(Opcode::ConvertWord),
+            Instr::MoveByte(operands) => move_byte(operands),
+            Instr::MoveWord(operands) => move_word(operands),
+            Instr::MoveFromSegment(place, segment) => {
+                addressed(Opcode::MoveFromSegment, segment_number(segment), place)
+            }
+            Instr::MoveToSegment(segment, place) => {
+                let number = segment_number(segment.segment());
+                addressed(Opcode::MoveToSegment, number, place)
+            }
+            Instr::LoadAddress(register, address) => {
+                let fields = Fields::Address(register.number(), address_form(address));
+                plain(Opcode::LoadAddress, fields)
+            }
+            Instr::ExchangeBytes(pair) => plain(
+                Opcode::Exchange(Width::Byte),
+                Fields::Address(
+                    pair.first.number(),
+                    RegisterOrMemory::Register(pair.second.number()),
+                ),
+            ),
+            Instr::ExchangeWords(pair) => exchange_words(pair.first, pair.second),
+            Instr::ExchangeMemoryByte(register, memory) => {
+                with_memory(Opcode::Exchange(Width::Byte), register.number(), memory)
+            }
+            Instr::ExchangeMemoryWord(register, memory) => {
+                with_memory(Opcode::Exchange(Width::Word), register.number(), memory)
+            }
+            Instr::Push(place) => push(place),
+            Instr::Pop(place) => pop(place),
+            Instr::PushSegment(segment) => alone(Opcode::PushSegment(segment)),
+            Instr::PopSegment(segment) => alone(Opcode::PopSegment(segment)),
+            Instr::PushFlags => alone(Opcode::PushFlags),
+            Instr::PopFlags => alone(Opcode::PopFlags),
+            Instr::MoveString {
+                width,
+                source,
+                repeat,
+            } => Form {
+                prefixes: string_prefixes(source, repeat),
+                opcode: Opcode::MoveString(width),
+                fields: Fields::Nothing,
+            },
+            Instr::StoreString { width, repeat } => Form {
+                prefixes: string_prefixes(Segment::Ds, repeat),
+                opcode: Opcode::StoreString(width),
+                fields: Fields::Nothing,
+            },
+            Instr::In(width, port) => input(width, port),
+            Instr::Out(width, port) => output(width, port),
+            Instr::JumpIf(condition, distance) => byte_after(Opcode::JumpIf(condition), distance),
+            Instr::Loop(distance) => byte_after(Opcode::Loop, distance),
+            Instr::JumpIfCxZero(distance) => byte_after(Opcode::JumpIfCxZero, distance),
+            Instr::JumpShort(distance) => byte_after(Opcode::JumpShort, distance),
+            Instr::Jump(distance) => word_after(Opcode::Jump, distance),
+            Instr::JumpTo(place) => addressed(Opcode::StepGroup(Width::Word), 4, place),
+            Instr::JumpFar { offset, segment } => {
+                plain(Opcode::JumpFar, Fields::TwoWords(offset, segment))
+            }
+            Instr::Call(distance) => word_after(Opcode::Call, distance),
+            Instr::CallTo(place) => addressed(Opcode::StepGroup(Width::Word), 2, place),
+            Instr::Return => alone(Opcode::Return),
+            Instr::ReturnDropping(bytes) => word_after(Opcode::ReturnDropping, bytes),
+            Instr::InterruptReturn => alone(Opcode::InterruptReturn),
+            Instr::ComplementCarry => alone(Opcode::ComplementCarry),
+            Instr::ClearCarry => alone(Opcode::ClearCarry),
+            Instr::SetCarry => alone(Opcode::SetCarry),
+            Instr::DisableInterrupts => alone(Opcode::DisableInterrupts),
+            Instr::EnableInterrupts => alone(Opcode::EnableInterrupts),
+            Instr::ClearDirection => alone(Opcode::ClearDirection),
+            Instr::SetDirection => alone(Opcode::SetDirection),
+            Instr::Halt => alone(Opcode::Halt),
+        }
+    }
+}
