@@ -1,0 +1,33 @@
+-- Sets of the eight levels, and their order of priority.
+use Rattle.std.specs.Prelude.{ℕ, Bool, true, ◌≡◌, ◌==◌, ◌+◌, ◌-◌, ◌%◌, ◌^◌, ◌≤◌, ◌<◌, bit_and, bit_or, Option, find, map}
+use Rattle.std.specs.Int.{bit_at}
+use Rattle.std.specs.List.{range_with_len}
+
+-- a set of levels is a byte: level k is in it where bit k is 1
+abbrev pub has : ℕ → ℕ → Bool
+has levels k = bit_at levels k == 1
+
+-- the set with a level more, and with one less
+abbrev pub with_level : ℕ → ℕ → ℕ
+with_level k levels = bit_or levels (2 ^ k)
+
+abbrev pub without_level : ℕ → ℕ → ℕ
+without_level k levels = bit_and levels (255 - 2 ^ k)
+
+-- the level at a place of the order of priority: the highest is the one behind the lowest
+abbrev pub level_at : ℕ → ℕ → ℕ
+level_at lowest place = (lowest + 1 + place) % 8
+
+-- the place of a level, 0 for the highest
+abbrev pub rank : ℕ → ℕ → ℕ
+rank lowest k = (k + 7 - lowest) % 8
+
+-- the highest level that passes a test
+unfoldable pub highest : ℕ → (ℕ → Bool) → Option ℕ
+highest lowest test = find test (map (level_at lowest) (range_with_len 0 8))
+
+-- the level passes, and none that passes stands above it
+pub record IsHighest (lowest : ℕ) (test : ℕ → Bool) (k : ℕ) : Type 0 where
+  pub is_level : k < 8
+  pub passes : test k ≡ true
+  pub none_above : (j : ℕ) → j < 8 → test j ≡ true → rank lowest k ≤ rank lowest j

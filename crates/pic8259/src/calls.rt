@@ -1,0 +1,88 @@
+//! The laws: over every list of calls, and of the sets and their order.
+
+ghost use Rattle.std.specs.Prelude.{◌≡◌, ℕ, ◌<◌, Bool, true, false, ◌==◌, not, ◌&&◌, ◌||◌, Some, None, length};
+ghost use Rattle.pic8259.specs.Levels.{has, with_level, without_level, rank, highest, IsHighest};
+ghost use Rattle.pic8259.specs.Controller.{Controller, reset, pending, IsNext};
+ghost use Rattle.pic8259.specs.ShownPic.{controller_of};
+ghost use Rattle.pic8259.specs.Calls.{after, after_one, reply_of, replies_of};
+
+use crate::pic::Pic;
+
+/// A call of the chip.
+#[derive(Clone, Copy, PartialEq, Eq, Debug)]
+pub enum Call {
+    Write(u8, u8),
+    Read(u8),
+    /// Does nothing for a number above 7.
+    Pulse(u8),
+    Line,
+    /// Does nothing while the line is down.
+    Acknowledge,
+}
+
+/// What a call answers.
+#[derive(Clone, Copy, PartialEq, Eq, Debug)]
+pub enum Reply {
+    Nothing,
+    Byte(u8),
+    Level(bool),
+}
+
+fn make(pic: &mut Pic, call: Call) -> Reply
+    ensures state { controller_of pic.new ≡ after_one call (controller_of pic.old) }
+    ensures reply { result ≡ reply_of call (controller_of pic.old) }
+{
+    match call {
+        Call::Write(a0, v) => {
+            pic.write(a0, v);
+            Reply::Nothing
+        }
+        Call::Read(a0) => Reply::Byte(pic.read(a0)),
+        Call::Pulse(level) => {
+            if level < 8 {
+                pic.pulse(level);
+            }
+            Reply::Nothing
+        }
+        Call::Line => Reply::Level(pic.int_line()),
+        Call::Acknowledge => {
+            if pic.int_line() {
+                Reply::Byte(pic.acknowledge())
+            } else {
+                Reply::Nothing
+            }
+        }
+    }
+}
+
+/// Makes any list of calls on a chip at reset and writes each one's answer into `replies`: they are the definition's, and
+/// the chip's state is that to which the definition leads.
+pub fn replay(calls: &[Call], replies: &mut [Reply]) -> Pic
+    requires { length calls.now ≡ length replies.old }
+    ensures answers { replies.new ≡ replies_of calls.now reset }
+    ensures state { controller_of result ≡ after calls.now reset }
+{
+    let mut pic = Pic::reset();
+    for (i, call) in calls.iter().enumerate() {
+        replies[i] = make(&mut pic, *call);
+    }
+    pic
+}
+
+/// The law of the sets: a set with a level more or less has just that one more or less.
+pub fn sets_law()
+    ensures more { (s k j : ℕ) → has (with_level k s) j ≡ ((j == k) || has s j) }
+    ensures less { (s k j : ℕ) → k < 8 → j < 8 → has (without_level k s) j ≡ (not (j == k) && has s j) }
+{}
+
+/// The law of priority: the highest level that passes a test is a level that passes and that none that passes stands above;
+/// there is none only where no level passes.
+pub fn highest_law()
+    ensures some { (lowest : ℕ) (test : ℕ → Bool) (k : ℕ) → lowest < 8 → highest lowest test ≡ Some k → IsHighest lowest test k }
+    ensures none { (lowest : ℕ) (test : ℕ → Bool) → lowest < 8 → highest lowest test ≡ None → (k : ℕ) → k < 8 → test k ≡ false }
+{}
+
+/// The law of the next level: it is requested, unmasked and above every level in service, and the highest such one.
+pub fn next_law()
+    ensures { (s : Controller) (k : ℕ) → s.lowest < 8 → pending s ≡ Some k → IsNext s k }
+{}

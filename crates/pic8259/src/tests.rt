@@ -1,0 +1,163 @@
+//! Rows from the data sheet, worked by hand.
+
+use super::*;
+use std::test::Fail;
+
+/// A chip in 8086 mode with vectors from 8 on; `automatic` chooses the end of interrupt.
+fn started(automatic: bool) -> Pic {
+    let mut pic = Pic::reset();
+    pic.write(0, 0x13);
+    pic.write(1, 8);
+    pic.write(1, if automatic { 3 } else { 1 });
+    pic
+}
+
+/// The vector that is taken, if INT is up.
+fn taken(pic: &mut Pic) -> Option<u8> {
+    if pic.int_line() {
+        Some(pic.acknowledge())
+    } else {
+        None
+    }
+}
+
+// Two levels, one after the other: specific end, end of the highest, and the register in service.
+#[test]
+fn two_levels_in_turn(rt: HostRuntime) -> Result<(), Fail> {
+    let mut pic = started(false);
+    pic.pulse(1);
+    pic.pulse(0);
+    assert_eq!(rt; taken(&mut pic), Some(8));
+    assert!(rt; !pic.int_line());
+    pic.write(0, 0x61);
+    assert!(rt; !pic.int_line());
+    pic.write(0, 0x20);
+    assert_eq!(rt; taken(&mut pic), Some(9));
+    pic.write(0, 0x0B);
+    assert_eq!(rt; pic.read(0), 2);
+    Ok(())
+}
+
+// Fully nested mode: a higher level interrupts a lower one in service, a lower one waits, and each end takes the highest.
+#[test]
+fn fully_nested(rt: HostRuntime) -> Result<(), Fail> {
+    let mut pic = started(false);
+    pic.pulse(4);
+    assert_eq!(rt; taken(&mut pic), Some(12));
+    pic.pulse(6);
+    assert_eq!(rt; taken(&mut pic), None);
+    pic.pulse(2);
+    assert_eq!(rt; taken(&mut pic), Some(10));
+    pic.write(0, 0x0B);
+    assert_eq!(rt; pic.read(0), 0x14);
+    pic.write(0, 0x20);
+    assert_eq!(rt; pic.read(0), 0x10);
+    assert_eq!(rt; taken(&mut pic), None);
+    pic.write(0, 0x20);
+    assert_eq!(rt; taken(&mut pic), Some(14));
+    Ok(())
+}
+
+// A specific end takes its level alone, also one that is not the highest.
+#[test]
+fn specific_end(rt: HostRuntime) -> Result<(), Fail> {
+    let mut pic = started(false);
+    pic.pulse(5);
+    assert_eq!(rt; taken(&mut pic), Some(13));
+    pic.pulse(3);
+    assert_eq!(rt; taken(&mut pic), Some(11));
+    pic.write(0, 0x65);
+    pic.write(0, 0x0B);
+    assert_eq!(rt; pic.read(0), 0x08);
+    Ok(())
+}
+
+// A mask holds a request back without dropping it, and reads back.
+#[test]
+fn mask_during_service(rt: HostRuntime) -> Result<(), Fail> {
+    let mut pic = started(false);
+    pic.pulse(1);
+    assert_eq!(rt; taken(&mut pic), Some(9));
+    pic.write(1, 0x01);
+    pic.pulse(0);
+    assert_eq!(rt; pic.read(1), 0x01);
+    assert_eq!(rt; pic.read(0), 0x01);
+    assert_eq!(rt; taken(&mut pic), None);
+    pic.write(1, 0);
+    assert_eq!(rt; taken(&mut pic), Some(8));
+    Ok(())
+}
+
+// ICW1 clears requests, service and mask, and leaves 8086 mode; the vector's bits stay.
+#[test]
+fn initialised_again(rt: HostRuntime) -> Result<(), Fail> {
+    let mut pic = started(true);
+    pic.pulse(0);
+    pic.pulse(7);
+    pic.write(1, 0x80);
+    pic.write(0, 0x0B);
+    pic.write(0, 0x13);
+    assert!(rt; !pic.int_line());
+    assert_eq!(rt; pic.read(0), 0);
+    pic.pulse(3);
+    assert_eq!(rt; pic.read(0), 8);
+    pic.write(1, 0x40);
+    pic.write(1, 1);
+    assert_eq!(rt; pic.read(1), 0);
+    assert_eq!(rt; taken(&mut pic), Some(0x43));
+    pic.write(0, 0x0B);
+    assert_eq!(rt; pic.read(0), 8);
+    Ok(())
+}
+
+// With SNGL = 0 ICW3 is awaited and ignored; without ICW4 the chip stays out of 8086 mode.
+#[test]
+fn initialisation_words(rt: HostRuntime) -> Result<(), Fail> {
+    let mut pic = Pic::reset();
+    for (a0, v) in [(0, 0x11), (1, 0x27), (1, 0xFF), (1, 1), (1, 0x0F)] {
+        pic.write(a0, v);
+    }
+    pic.pulse(4);
+    assert_eq!(rt; taken(&mut pic), Some(0x24));
+    assert_eq!(rt; pic.read(1), 0x0F);
+    for (a0, v) in [(0, 0x12), (1, 8), (1, 0)] {
+        pic.write(a0, v);
+    }
+    pic.pulse(4);
+    assert!(rt; !pic.int_line());
+    Ok(())
+}
+
+// Automatic end: nothing is in service, so a lower level follows at once.
+#[test]
+fn automatic_end(rt: HostRuntime) -> Result<(), Fail> {
+    let mut pic = started(true);
+    pic.pulse(0);
+    pic.pulse(1);
+    assert_eq!(rt; taken(&mut pic), Some(8));
+    assert_eq!(rt; taken(&mut pic), Some(9));
+    assert_eq!(rt; taken(&mut pic), None);
+    Ok(())
+}
+
+#[test]
+fn list_of_calls(rt: HostRuntime) -> Result<(), Fail> {
+    let calls = [
+        Call::Write(0, 0x13),
+        Call::Write(1, 8),
+        Call::Write(1, 1),
+        Call::Pulse(9),
+        Call::Acknowledge,
+        Call::Pulse(1),
+        Call::Line,
+        Call::Acknowledge,
+        Call::Read(1),
+    ];
+    let mut replies = [Reply::Nothing; 9];
+    replay(&calls, &mut replies);
+    assert_eq!(rt; replies[4], Reply::Nothing);
+    assert_eq!(rt; replies[6], Reply::Level(true));
+    assert_eq!(rt; replies[7], Reply::Byte(9));
+    assert_eq!(rt; replies[8], Reply::Byte(0));
+    Ok(())
+}

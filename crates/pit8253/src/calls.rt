@@ -1,0 +1,69 @@
+//! The laws over every list of calls.
+
+ghost use Rattle.std.specs.Prelude.{◌≡◌, true, length};
+ghost use Rattle.pit8253.specs.Timer.{Timer, timer_reset, timer_pulses};
+ghost use Rattle.pit8253.specs.ShownTimer.{Shows};
+ghost use Rattle.pit8253.specs.Calls.{after, after_one, reply_of, replies_of};
+
+use crate::pit::Pit;
+
+/// A call of the chip.
+#[derive(Clone, Copy, PartialEq, Eq, Debug)]
+pub enum Call {
+    Write(u8, u8),
+    Read(u8),
+    Gate(bool),
+    Pulse(u16),
+    Out(u8),
+}
+
+/// What a call answers.
+#[derive(Clone, Copy, PartialEq, Eq, Debug)]
+pub enum Reply {
+    Done,
+    Byte(u8),
+    /// A level of OUT, or whether channel 0's rose.
+    Level(bool),
+}
+
+fn make(pit: &mut Pit, call: Call) -> Reply
+    ensures moved { (c : Timer) → Shows pit.old c → Shows pit.new (after_one call c) }
+    ensures reply { (c : Timer) → Shows pit.old c → result ≡ reply_of call c }
+{
+    match call {
+        Call::Write(n, v) => {
+            pit.write(n, v);
+            Reply::Done
+        }
+        Call::Read(n) => Reply::Byte(pit.read(n)),
+        Call::Gate(gate) => {
+            pit.gate(gate);
+            Reply::Done
+        }
+        Call::Pulse(k) => Reply::Level(pit.pulse(k)),
+        Call::Out(n) => Reply::Level(pit.out(n)),
+    }
+}
+
+/// Makes any list of calls on a chip at reset and writes each one's answer into `replies`: they are the definition's, and
+/// the chip shows the state to which the definition leads.
+pub fn replay(calls: &[Call], replies: &mut [Reply]) -> Pit
+    requires { length calls.now ≡ length replies.old }
+    ensures answers { replies.new ≡ replies_of calls.now timer_reset }
+    ensures state { Shows result (after calls.now timer_reset) }
+{
+    let mut pit = Pit::reset();
+    for (i, call) in calls.iter().enumerate() {
+        replies[i] = make(&mut pit, *call);
+    }
+    pit
+}
+
+/// The two bodies of `pulse` agree: on chips that show one state, the answers are equal and the chips show one state again.
+pub fn pulse_agrees(quick: &mut Pit, plain: &mut Pit, k: u16) -> bool
+    ensures equal { (c : Timer) → Shows quick.old c → Shows plain.old c → result ≡ true }
+    ensures quick_moved { (c : Timer) → Shows quick.old c → Shows quick.new (timer_pulses k c) }
+    ensures plain_moved { (c : Timer) → Shows plain.old c → Shows plain.new (timer_pulses k c) }
+{
+    quick.pulse(k) == plain.pulse_singly(k)
+}
