@@ -1,0 +1,64 @@
+//! Schedules: what comes from outside at which turn, and when the run stops.
+
+ghost use Rattle.std.specs.Prelude.{◌≡◌, ◌≢◌, IfOk, IfErr, Some};
+ghost use Rattle.word86.specs.declared.fault.Fault.TheVariants.{Memory};
+ghost use Rattle.board.specs.Due.{due_at};
+ghost use Rattle.board.specs.Schedules.{read_lines, IsRead, fault_of};
+
+use crate::reading;
+use crate::timetable::Timetable;
+use std::alloc::Global;
+use word86::{Event, Fault, Number};
+
+/// A schedule: the byte that memory holds at power-on, the events of each turn, and the turn at which the run stops.
+#[derive(Debug, Drop)]
+pub struct Schedule {
+    fill: u8,
+    stop: u32,
+    timetable: Timetable,
+}
+
+impl Schedule {
+    /// The byte that every place of RAM and of the screen holds at power-on: FILL's, or 0.
+    pub fn fill(&self) -> u8
+        ensures { result ≡ self.now.fill }
+    {
+        self.fill
+    }
+
+    /// How many turns are run: turns 0 to one less.
+    pub fn stop(&self) -> u32
+        ensures { result ≡ self.now.stop }
+    {
+        self.stop
+    }
+
+    /// The events of this turn, in the schedule's order.
+    pub fn due(&self, turn: u32) -> &[Event]
+        ensures { result.now ≡ due_at turn self.now.timetable.turns.items self.now.timetable.events.items }
+    {
+        self.timetable.due(turn)
+    }
+}
+
+/// Reads the schedule that a text spells, or answers its first fault: E701 at a faulty line, E702 at a line out of order,
+/// E703 at the last line (1 if the text is empty) where STOP is missing.
+pub fn read_schedule(alloc: Global, text: &[u8]) -> Result<Schedule, Fault>
+    ensures ok { IfOk result (λ s. IsRead (read_lines text.now) s) }
+    ensures err { IfErr result (λ e. e ≢ Memory → Some e ≡ fault_of (read_lines text.now)) }
+{
+    let Ok(reading) = reading::read_lines(alloc, text) else {
+        return Err(Fault::Memory);
+    };
+    if let Some((line, number)) = reading.fault {
+        return Err(Fault::At(0, line, number));
+    }
+    let Some(stop) = reading.stop else {
+        return Err(Fault::At(0, reading.line.max(1), Number::E703));
+    };
+    Ok(Schedule {
+        fill: reading.fill.unwrap_or(0),
+        stop,
+        timetable: reading.timetable,
+    })
+}

@@ -1,0 +1,83 @@
+//! Events in the order of their turns.
+
+ghost use Rattle.std.specs.Prelude.{◌≡◌, ◌==◌, ◌≤◌, ◌-◌, ◌<◌, ◌++◌, ◌∷◌, [], OnOk, OnErr, length, slice_index};
+ghost use Rattle.std.specs.List.Sorted.{IsNonDecreasingBy};
+ghost use Rattle.board.specs.Due.{due_at, last_turn};
+
+use std::alloc::Global;
+use word86::{Event, Fault};
+
+/// Events and their turns, which do not fall.
+#[derive(Debug, Drop)]
+pub(crate) struct Timetable {
+    turns: Vec<u32>,
+    events: Vec<Event>,
+    ghost sorted: { IsNonDecreasingBy (λ n. n) turns.items },
+    ghost paired: { length events.items ≡ length turns.items },
+}
+
+impl Timetable {
+    pub(crate) fn new(alloc: Global) -> Timetable
+        ensures turns { result.turns.items ≡ [] }
+        ensures events { result.events.items ≡ [] }
+    {
+        Timetable {
+            turns: Vec::new(alloc),
+            events: Vec::new(alloc),
+        }
+    }
+
+    pub(crate) fn is_empty(&self) -> bool
+        ensures { result ≡ length self.now.turns.items == 0 }
+    {
+        self.turns.is_empty()
+    }
+
+    /// The last turn, or 0.
+    pub(crate) fn last_turn(&self) -> u32
+        ensures { result ≡ last_turn self.now.turns.items }
+    {
+        match self.turns.last() {
+            Some(turn) => *turn,
+            None => 0,
+        }
+    }
+
+    /// One more event, at a turn that is not before the last one. Where memory is refused nothing is added.
+    pub(crate) fn push(&mut self, turn: u32, event: Event) -> Result<(), Fault>
+        requires { last_turn self.old.turns.items ≤ turn }
+        ensures turns { OnOk result (self.new.turns.items ≡ self.old.turns.items ++ turn ∷ []) }
+        ensures events { OnOk result (self.new.events.items ≡ self.old.events.items ++ event ∷ []) }
+    {
+        self.turns.push(turn)?;
+        if self.events.push(event).is_err() {
+            let _turn = self.turns.pop();
+            return Err(Fault::Memory);
+        }
+        Ok(())
+    }
+
+    /// The events of this turn, in their order, found in logarithmic time.
+    pub(crate) fn due(&self, turn: u32) -> &[Event]
+        ensures { result.now ≡ due_at turn self.now.turns.items self.now.events.items }
+    {
+        due_in(&self.turns, &self.events, turn)
+    }
+}
+
+// The events whose turn is `turn`, in their order.
+fn due_in<'a>(turns: &[u32], events: &'a [Event], turn: u32) -> &'a [Event]
+    requires sorted { IsNonDecreasingBy (λ n. n) turns.now }
+    requires paired { length events.now ≡ length turns.now }
+    ensures { result.now ≡ due_at turn turns.now events.now }
+{
+    let from = turns.partition_point(|n| *n < turn);
+    let to = turns.partition_point(|n| *n <= turn);
+    if from <= to {
+        let (_, rest) = events.split_at(from);
+        let (found, _) = rest.split_at(to - from);
+        found
+    } else {
+        &events[..0]
+    }
+}

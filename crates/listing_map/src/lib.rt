@@ -1,0 +1,11 @@
+//! The texts that users see: the lines of a trace and of faults.
+#![tactic(auto)]
+
+mod lines;
+mod numerals;
+mod pieces;
+
+pub use lines::{fault_line, trace_line};
+
+#[cfg(test)]
+mod tests;

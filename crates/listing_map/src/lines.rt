@@ -1,0 +1,105 @@
+//! The lines of a trace, and of a fault or a warning.
+
+ghost use Rattle.std.specs.Prelude.{◌≡◌, IfErr};
+ghost use Rattle.word86.specs.Taking.{Writes};
+ghost use Rattle.word86.specs.declared.fault.Fault.TheVariants.{At};
+ghost use Rattle.word86.specs.declared.number.Number.TheVariants.{E704};
+ghost use Rattle.listing_map.specs.Lines.{byte_line, word_line, short_line, decimal_line, label_line, located_line};
+
+use crate::numerals::{hex_byte, hex_word};
+use crate::pieces::{put_six, put_three, put_two};
+use itoa::Buffer;
+use word86::{Fault, Label, Number, Sink, SinkFault};
+
+const CANNOT_WRITE: Fault = Fault::At(0, 1, Number::E704);
+
+/// Writes the line of a label, as `OUT 0300 FF`, with its line feed. The one refusal is E704, where the sink failed; what it
+/// took is then a beginning of the line. It takes no memory.
+pub fn trace_line<S: Sink>(label: &Label, sink: &mut S) -> Result<(), Fault>
+    ensures text { Writes (S.taken sink.old) (S.taken sink.new) (S.failures sink.old) (S.failures sink.new) (label_line label.now) result }
+    ensures fault { IfErr result (λ e. e ≡ At 0 1 E704) }
+{
+    match put_label(label, sink) {
+        Ok(()) => Ok(()),
+        Err(_) => Err(CANNOT_WRITE),
+    }
+}
+
+/// Writes the line of a fault or of the warning, as `m.plm(1): E201 syntax`, with its line feed. The one refusal is E704,
+/// where the sink failed; what it took is then a beginning of the line.
+pub fn fault_line<S: Sink>(name: &str, line: u32, number: Number, sink: &mut S) -> Result<(), Fault>
+    ensures text { Writes (S.taken sink.old) (S.taken sink.new) (S.failures sink.old) (S.failures sink.new) (located_line name.now line number) result }
+    ensures fault { IfErr result (λ e. e ≡ At 0 1 E704) }
+{
+    match put_located_line(sink, name, line, number) {
+        Ok(()) => Ok(()),
+        Err(_) => Err(CANNOT_WRITE),
+    }
+}
+
+fn put_label<S: Sink>(label: &Label, sink: &mut S) -> Result<(), SinkFault>
+    ensures { Writes (S.taken sink.old) (S.taken sink.new) (S.failures sink.old) (S.failures sink.new) (label_line label.now) result }
+{
+    match *label {
+        Label::In(port, v) => put_byte_line(sink, b"IN ", port, v),
+        Label::InW(port, v) => put_word_line(sink, b"INW ", port, v),
+        Label::Out(port, v) => put_byte_line(sink, b"OUT ", port, v),
+        Label::OutW(port, v) => put_word_line(sink, b"OUTW ", port, v),
+        Label::Scr(place, v) => put_byte_line(sink, b"SCR ", place, v),
+        Label::ScrW(place, v) => put_word_line(sink, b"SCRW ", place, v),
+        Label::Ack(n) => put_short_line(sink, b"ACK ", n),
+        Label::Tick(k) => put_decimal_line(sink, b"TICK ", u32::from(k)),
+        Label::Key(h) => put_short_line(sink, b"KEY ", h),
+    }
+}
+
+fn put_located_line<S: Sink>(
+    sink: &mut S,
+    name: &str,
+    line: u32,
+    number: Number,
+) -> Result<(), SinkFault>
+    ensures { Writes (S.taken sink.old) (S.taken sink.new) (S.failures sink.old) (S.failures sink.new) (located_line name.now line number) result }
+{
+    let mut buffer = Buffer::new();
+    let digits = buffer.format(line).as_bytes();
+    put_six(
+        sink,
+        name.as_bytes(),
+        b"(",
+        digits,
+        b"): ",
+        number.text().as_bytes(),
+        b"\n",
+    )
+}
+
+fn put_byte_line<S: Sink>(sink: &mut S, word: &[u8], place: u16, v: u8) -> Result<(), SinkFault>
+    ensures { Writes (S.taken sink.old) (S.taken sink.new) (S.failures sink.old) (S.failures sink.new) (byte_line word.now place v) result }
+{
+    let [a, b, c, d] = hex_word(place);
+    let [e, f] = hex_byte(v);
+    put_two(sink, word, &[a, b, c, d, b' ', e, f, b'\n'])
+}
+
+fn put_word_line<S: Sink>(sink: &mut S, word: &[u8], place: u16, v: u16) -> Result<(), SinkFault>
+    ensures { Writes (S.taken sink.old) (S.taken sink.new) (S.failures sink.old) (S.failures sink.new) (word_line word.now place v) result }
+{
+    let [a, b, c, d] = hex_word(place);
+    let [e, f, g, h] = hex_word(v);
+    put_two(sink, word, &[a, b, c, d, b' ', e, f, g, h, b'\n'])
+}
+
+fn put_short_line<S: Sink>(sink: &mut S, word: &[u8], v: u8) -> Result<(), SinkFault>
+    ensures { Writes (S.taken sink.old) (S.taken sink.new) (S.failures sink.old) (S.failures sink.new) (short_line word.now v) result }
+{
+    let [e, f] = hex_byte(v);
+    put_two(sink, word, &[e, f, b'\n'])
+}
+
+fn put_decimal_line<S: Sink>(sink: &mut S, word: &[u8], n: u32) -> Result<(), SinkFault>
+    ensures { Writes (S.taken sink.old) (S.taken sink.new) (S.failures sink.old) (S.failures sink.new) (decimal_line word.now n) result }
+{
+    let mut buffer = Buffer::new();
+    put_three(sink, word, buffer.format(n).as_bytes(), b"\n")
+}

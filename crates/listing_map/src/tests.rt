@@ -1,0 +1,56 @@
+//! The printed texts, whose forms users rely on.
+
+use super::*;
+use std::test::Fail;
+use word86::{CutSink, Fault, Label, Number};
+
+#[test]
+fn writes_each_label(rt: HostRuntime) -> Result<(), Fail> {
+    let cases = [
+        (Label::In(0x60, 0x1E), "IN 0060 1E\n"),
+        (Label::InW(0xFFFF, 0xABCD), "INW FFFF ABCD\n"),
+        (Label::Out(0x300, 0), "OUT 0300 00\n"),
+        (Label::OutW(0x302, 0x200), "OUTW 0302 0200\n"),
+        (Label::Scr(0xF9F, 0x41), "SCR 0F9F 41\n"),
+        (Label::ScrW(0xF9E, 0x741), "SCRW 0F9E 0741\n"),
+        (Label::Ack(8), "ACK 08\n"),
+        (Label::Tick(65535), "TICK 65535\n"),
+        (Label::Key(0x1E), "KEY 1E\n"),
+    ];
+    for (label, text) in cases {
+        let mut sink = CutSink::new(rt.alloc(), 20, 20)?;
+        assert_eq!(rt; trace_line(&label, &mut sink), Ok(()));
+        assert_eq!(rt; sink.bytes(), text.as_bytes());
+    }
+    Ok(())
+}
+
+#[test]
+fn writes_faults_and_the_warning(rt: HostRuntime) -> Result<(), Fail> {
+    let mut sink = CutSink::new(rt.alloc(), 100, 1)?;
+    assert_eq!(rt; fault_line("m.plm", 1, Number::E201, &mut sink), Ok(()));
+    assert_eq!(rt;
+        fault_line("b.plm", 4294967295, Number::W1, &mut sink),
+        Ok(())
+    );
+    assert_eq!(rt;
+        sink.bytes(),
+        b"m.plm(1): E201 syntax\nb.plm(4294967295): W1 procedure shared with an interrupt procedure\n".as_slice()
+    );
+    Ok(())
+}
+
+#[test]
+fn stops_where_the_sink_does(rt: HostRuntime) -> Result<(), Fail> {
+    let text = b"OUTW 0302 0200\n";
+    for room in 0..text.len() {
+        let mut sink = CutSink::new(rt.alloc(), room, 4)?;
+        assert_eq!(rt;
+            trace_line(&Label::OutW(0x302, 0x200), &mut sink),
+            Err(Fault::At(0, 1, Number::E704))
+        );
+        assert_eq!(rt; sink.bytes(), &text[..room]);
+        assert_eq!(rt; sink.failures(), 1);
+    }
+    Ok(())
+}
