@@ -1,5 +1,5 @@
 #!/usr/bin/env bash
-# Builds the benchmark in a scratch repository over this repository's crates, and times both kernels.
+# Builds the benchmark in a scratch repository over this repository's crates, and times both kernels, each anew and with a cache.
 # usage: bench/cpu_speed/run.sh [FOLDER]     the scratch repository, kept for the next run; a temporary folder if left out
 set -euo pipefail
 here=$(cd "$(dirname "$0")" && pwd)
@@ -22,7 +22,8 @@ echo 'pub mod Windows' > "$work/crates/cpu_speed/proofs/Lib.antt"
 cd "$work/crates/cpu_speed"
 rt run > "$work/build.log" 2>&1 || { tail -30 "$work/build.log"; exit 1; }
 TIMEFORMAT='%U s user, %R s real'
-for kernel in registers memory; do
+for kernel in registers memory "registers cached" "memory cached"; do
     echo "$kernel:"
+    # shellcheck disable=SC2086
     for _ in 1 2 3; do time out/cpu_speed $kernel; done
 done

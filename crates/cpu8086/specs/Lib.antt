@@ -1,0 +1,10 @@
+pub mod Meaning
+pub mod Machine
+pub mod Operands
+pub mod Control
+pub mod Arithmetic
+pub mod Moves
+pub mod Strings
+pub mod Effect
+pub mod Turn
+pub mod TestBus

@@ -1,0 +1,215 @@
+//! Instructions that compute.
+
+ghost use Rattle.std.specs.Prelude.{◌≡◌, ◌+◌, ◌*◌, ◌<◌, ◌≤◌};
+ghost use Rattle.i86_table.specs.Arithmetic.{size_of};
+ghost use Rattle.arrayvec.specs.ArrayVec.{array_vec_len};
+ghost use Rattle.cpu8086.specs.Machine.{machine};
+ghost use Rattle.cpu8086.specs.Arithmetic.{computed, changed_in_place, tested_place, shift_count, shifted_place, multiplied_byte, multiplied_word, divided_byte, divided_word};
+
+use crate::bus::Bus;
+use crate::control::interrupt;
+use crate::memory::Labels;
+use crate::operand::{Operand, locate, read_mask, read_source};
+use i86_table::{
+    AluOperation, Count, Operands, Place, Register8, Register16, Regs, ShiftOperation, Signedness,
+    TestMask, UnaryOperation, change, divide, multiply, operate, shift, test,
+};
+use word86::Width;
+
+/// ADD, OR, ADC, SBB, AND, SUB, XOR; CMP stores nothing.
+#[tactic(auto, unfolding(crate::specs::Arithmetic::computed))]
+#[inline(always)]
+pub(crate) fn compute<R: Operand, B: Bus>(
+    registers: &mut Regs,
+    bus: &mut B,
+    labels: &mut Labels,
+    operation: AluOperation,
+    operands: Operands<R, R::Number>,
+)
+    requires { array_vec_len labels.old < 4 }
+    ensures { machine registers.new (B.world bus.new) labels.new.items
+        ≡ computed B.meaning R.bank operation operands (machine registers.old (B.world bus.old) labels.old.items) }
+{
+    let target = locate(registers, operands.target());
+    let first = target.read(registers, bus);
+    let second = read_source(registers, bus, operands);
+    let outcome = operate(operation, R::width(), first, second, registers.flags);
+    registers.flags = outcome.flags;
+    if !matches!(operation, AluOperation::Cmp) {
+        target.write(registers, bus, labels, outcome.value);
+    }
+}
+
+/// NOT, NEG, INC, DEC.
+#[tactic(auto, unfolding(crate::specs::Arithmetic::changed_in_place))]
+#[inline(always)]
+pub(crate) fn change_in_place<R: Operand, B: Bus>(
+    registers: &mut Regs,
+    bus: &mut B,
+    labels: &mut Labels,
+    operation: UnaryOperation,
+    place: Place<R>,
+)
+    requires { array_vec_len labels.old < 4 }
+    ensures { machine registers.new (B.world bus.new) labels.new.items
+        ≡ changed_in_place B.meaning R.bank operation place (machine registers.old (B.world bus.old) labels.old.items) }
+{
+    let target = locate(registers, place);
+    let value = target.read(registers, bus);
+    let outcome = change(operation, R::width(), value, registers.flags);
+    registers.flags = outcome.flags;
+    target.write(registers, bus, labels, outcome.value);
+}
+
+/// TEST: the flags alone.
+#[tactic(auto, unfolding(crate::specs::Arithmetic::tested_place))]
+#[inline(always)]
+pub(crate) fn test_place<R: Operand, B: Bus>(
+    registers: &mut Regs,
+    bus: &B,
+    place: Place<R>,
+    mask: TestMask<R, R::Number>,
+)
+    ensures { registers.new ≡ tested_place B.meaning R.bank place mask (B.world bus.now) registers.old }
+{
+    let first = locate(registers, place).read(registers, bus);
+    let second = read_mask(registers, mask);
+    registers.flags = test(R::width(), first, second, registers.flags);
+}
+
+#[inline(always)]
+fn shift_count(registers: &Regs, count: Count) -> u8
+    ensures { result ≡ shift_count registers.now count }
+{
+    match count {
+        Count::One => 1,
+        Count::Cl => registers.byte(Register8::Cl),
+    }
+}
+
+/// ROL, ROR, SHL, SHR, SAR.
+#[tactic(auto, unfolding(crate::specs::Arithmetic::shifted_place))]
+#[inline(always)]
+pub(crate) fn shift_place<R: Operand, B: Bus>(
+    registers: &mut Regs,
+    bus: &mut B,
+    labels: &mut Labels,
+    operation: ShiftOperation,
+    place: Place<R>,
+    count: Count,
+)
+    requires { array_vec_len labels.old < 4 }
+    ensures { machine registers.new (B.world bus.new) labels.new.items
+        ≡ shifted_place B.meaning R.bank operation place count (machine registers.old (B.world bus.old) labels.old.items) }
+{
+    let target = locate(registers, place);
+    let value = target.read(registers, bus);
+    let count = shift_count(registers, count);
+    let outcome = shift(operation, R::width(), value, count, registers.flags);
+    registers.flags = outcome.flags;
+    target.write(registers, bus, labels, outcome.value);
+}
+
+/// MUL, IMUL of bytes.
+#[tactic(auto, unfolding(crate::specs::Arithmetic::multiplied_byte))]
+#[inline(always)]
+pub(crate) fn multiply_byte<B: Bus>(
+    registers: &mut Regs,
+    bus: &B,
+    signedness: Signedness,
+    place: Place<Register8>,
+)
+    ensures { registers.new ≡ multiplied_byte B.meaning signedness place (B.world bus.now) registers.old }
+{
+    let factor = locate(registers, place).read(registers, bus);
+    let accumulator = u16::from(registers.byte(Register8::Al));
+    let product = multiply(
+        signedness,
+        Width::Byte,
+        accumulator,
+        factor,
+        registers.flags,
+    );
+    registers.ax = product.value as u16;
+    registers.flags = product.flags;
+}
+
+/// MUL, IMUL of words.
+#[tactic(auto, unfolding(crate::specs::Arithmetic::multiplied_word))]
+#[inline(always)]
+pub(crate) fn multiply_word<B: Bus>(
+    registers: &mut Regs,
+    bus: &B,
+    signedness: Signedness,
+    place: Place<Register16>,
+)
+    ensures { registers.new ≡ multiplied_word B.meaning signedness place (B.world bus.now) registers.old }
+{
+    let factor = locate(registers, place).read(registers, bus);
+    let product = multiply(
+        signedness,
+        Width::Word,
+        registers.ax,
+        factor,
+        registers.flags,
+    );
+    registers.ax = (product.value % 65536) as u16;
+    registers.dx = (product.value / 65536) as u16;
+    registers.flags = product.flags;
+}
+
+/// DIV, IDIV of bytes: the fault enters vector 0.
+#[tactic(auto, unfolding(crate::specs::Arithmetic::divided_byte))]
+#[inline(always)]
+pub(crate) fn divide_byte<B: Bus>(
+    registers: &mut Regs,
+    bus: &mut B,
+    labels: &mut Labels,
+    signedness: Signedness,
+    place: Place<Register8>,
+)
+    requires { array_vec_len labels.old ≤ 1 }
+    ensures { machine registers.new (B.world bus.new) labels.new.items
+        ≡ divided_byte B.meaning signedness place (machine registers.old (B.world bus.old) labels.old.items) }
+{
+    let divisor = locate(registers, place).read(registers, bus);
+    let dividend = u32::from(registers.ax);
+    match divide(signedness, Width::Byte, dividend, divisor) {
+        None => interrupt(registers, bus, labels, 0),
+        Some(division) => {
+            registers.ax = division.remainder * 256 + division.quotient;
+        }
+    }
+}
+
+#[inline(always)]
+fn two_words(high: u16, low: u16) -> u32
+    ensures { result ≡ high * 65536 + low }
+{
+    u32::from(high) * 65536 + u32::from(low)
+}
+
+/// DIV, IDIV of words: the fault enters vector 0.
+#[tactic(auto, unfolding(crate::specs::Arithmetic::divided_word))]
+#[inline(always)]
+pub(crate) fn divide_word<B: Bus>(
+    registers: &mut Regs,
+    bus: &mut B,
+    labels: &mut Labels,
+    signedness: Signedness,
+    place: Place<Register16>,
+)
+    requires { array_vec_len labels.old ≤ 1 }
+    ensures { machine registers.new (B.world bus.new) labels.new.items
+        ≡ divided_word B.meaning signedness place (machine registers.old (B.world bus.old) labels.old.items) }
+{
+    let divisor = locate(registers, place).read(registers, bus);
+    let dividend = two_words(registers.dx, registers.ax);
+    match divide(signedness, Width::Word, dividend, divisor) {
+        None => interrupt(registers, bus, labels, 0),
+        Some(division) => {
+            registers.ax = division.quotient;
+            registers.dx = division.remainder;
+        }
+    }
+}

@@ -1,0 +1,71 @@
+//! What the processor is attached to.
+
+ghost use Rattle.std.specs.Prelude.{◌≡◌, ◌+◌, ◌<◌, ◌≤◌, ◌^◌, ℕ, List, Option, IfSome};
+ghost use Rattle.word86.specs.declared.width.Width.{Width};
+ghost use Rattle.cpu8086.specs.declared.bus.Store.{Store};
+ghost use Rattle.cpu8086.specs.Meaning.{Meaning, LoadAfterStore, PortsKeepMemory, eight_bytes};
+
+use word86::{Label, Width};
+
+/// One access that stores, whole, with its one or two physical addresses.
+///
+/// The second byte of a word need not be at the next address: it is at the next offset of its segment.
+#[derive(Clone, Copy, PartialEq, Eq, Debug)]
+pub enum Store {
+    Byte { address: u32, value: u8 },
+    Word { low: u32, high: u32, value: u16 },
+}
+
+/// Memory, ports and the interrupt line, as the processor sees them.
+///
+/// Physical addresses are below 1,048,576. What a bus answers and becomes is told by `meaning` over `World`, its
+/// states, and a lawful bus keeps two laws: a load after a store, and that a port access changes no memory.
+pub trait Bus {
+    // The states of what is attached.
+    ghost World: { Type 0 };
+
+    // The state that this bus is in.
+    ghost world: { Self → World };
+
+    // What each access answers and leaves.
+    ghost meaning: { Meaning World };
+
+    /// The byte at a physical address.
+    fn load(&self, address: u32) -> u8
+        requires { address < 2 ^ 20 }
+        ensures { result ≡ meaning.load (world self.now) address };
+
+    /// Eight bytes in a row, where the bus can lend them from one place: the processor need not load them one by one.
+    fn window(&self, address: u32) -> Option<&[u8]>
+        requires { address + 8 ≤ 2 ^ 20 }
+        ensures { IfSome result (λ bytes. bytes.now ≡ eight_bytes meaning (world self.now) address) };
+
+    /// Stores a byte or a word, and answers the label that shows it, if any.
+    fn store(&mut self, store: Store) -> Option<Label>
+        ensures label { result ≡ meaning.store_label (world self.old) store }
+        ensures after { world self.new ≡ meaning.store (world self.old) store };
+
+    /// Reads a port; a word comes from it and the one above it.
+    fn port_in(&mut self, width: Width, port: u16) -> u16
+        ensures value { result ≡ meaning.port_value (world self.old) width port }
+        ensures after { world self.new ≡ meaning.port_in (world self.old) width port };
+
+    /// Writes a port; a word goes to it and the one above it.
+    fn port_out(&mut self, width: Width, port: u16, value: u16)
+        ensures after { world self.new ≡ meaning.port_out (world self.old) width port value };
+
+    /// Whether an interrupt is requested.
+    fn int_line(&self) -> bool
+        ensures { result ≡ meaning.line (world self.now) };
+
+    /// Acknowledges the interrupt that is requested, and answers its vector.
+    fn acknowledge(&mut self) -> u8
+        ensures vector { result ≡ meaning.vector (world self.old) }
+        ensures after { world self.new ≡ meaning.acknowledge (world self.old) };
+
+    // A byte that was stored is loaded again, where the address keeps what is stored; other bytes stay.
+    ghost load_after_store: { LoadAfterStore meaning };
+
+    // No port access and no acknowledgement changes memory.
+    ghost ports_keep_memory: { PortsKeepMemory meaning };
+}

@@ -1,0 +1,144 @@
+//! Instructions that change where the processor goes on.
+
+ghost use Rattle.std.specs.Prelude.{◌≡◌, ◌<◌, ◌≤◌};
+ghost use Rattle.arrayvec.specs.ArrayVec.{array_vec_len};
+ghost use Rattle.cpu8086.specs.Machine.{machine};
+ghost use Rattle.cpu8086.specs.Control.{flag_word, closed, jumped_if, looped, called_at, called, called_to, returned, returned_dropping, flags_popped, returned_from_interrupt, interrupted};
+
+use crate::bus::Bus;
+use crate::memory::{Labels, load_word, pop, push};
+use crate::operand::locate;
+use bitflags::Flags as _;
+use i86_table::{Flags, Place, Register16, Regs, sign_extended};
+
+/// The flags as they are pushed: a bit without a name is 0.
+#[inline(always)]
+pub(crate) fn flag_word(flags: Flags) -> u16
+    ensures { result ≡ flag_word flags }
+{
+    flags.bits() & 0xFD5
+}
+
+#[inline(always)]
+fn close(flags: Flags) -> Flags
+    ensures { result ≡ closed flags }
+{
+    flags.with(Flags::TRAP, false).with(Flags::INTERRUPT, false)
+}
+
+/// A conditional jump by a distance of one byte.
+#[inline(always)]
+pub(crate) fn jump_if(registers: &mut Regs, taken: bool, distance: u8)
+    ensures { registers.new ≡ jumped_if taken distance registers.old }
+{
+    if taken {
+        registers.ip = registers.ip.wrapping_add(sign_extended(distance));
+    }
+}
+
+/// LOOP.
+#[inline(always)]
+pub(crate) fn count_and_jump(registers: &mut Regs, distance: u8)
+    ensures { registers.new ≡ looped distance registers.old }
+{
+    registers.cx = registers.cx.wrapping_sub(1);
+    jump_if(registers, registers.cx != 0, distance);
+}
+
+#[tactic(auto, unfolding(crate::specs::Control::called_at))]
+#[inline(always)]
+fn call_at<B: Bus>(registers: &mut Regs, bus: &mut B, labels: &mut Labels, ip: u16)
+    requires { array_vec_len labels.old < 4 }
+    ensures { machine registers.new (B.world bus.new) labels.new.items
+        ≡ called_at B.meaning ip (machine registers.old (B.world bus.old) labels.old.items) }
+{
+    push(registers, bus, labels, registers.ip);
+    registers.ip = ip;
+}
+
+/// CALL by a distance.
+#[tactic(auto, unfolding(crate::specs::Control::called))]
+#[inline(always)]
+pub(crate) fn call<B: Bus>(registers: &mut Regs, bus: &mut B, labels: &mut Labels, distance: u16)
+    requires { array_vec_len labels.old < 4 }
+    ensures { machine registers.new (B.world bus.new) labels.new.items
+        ≡ called B.meaning distance (machine registers.old (B.world bus.old) labels.old.items) }
+{
+    let ip = registers.ip.wrapping_add(distance);
+    call_at(registers, bus, labels, ip);
+}
+
+/// CALL of an offset in a register or in memory, which is taken before the push.
+#[tactic(auto, unfolding(crate::specs::Control::called_to))]
+#[inline(always)]
+pub(crate) fn call_to<B: Bus>(
+    registers: &mut Regs,
+    bus: &mut B,
+    labels: &mut Labels,
+    place: Place<Register16>,
+)
+    requires { array_vec_len labels.old < 4 }
+    ensures { machine registers.new (B.world bus.new) labels.new.items
+        ≡ called_to B.meaning place (machine registers.old (B.world bus.old) labels.old.items) }
+{
+    let ip = locate(registers, place).read(registers, bus);
+    call_at(registers, bus, labels, ip);
+}
+
+/// RET.
+#[tactic(auto, unfolding(crate::specs::Control::returned))]
+#[inline(always)]
+pub(crate) fn return_near<B: Bus>(registers: &mut Regs, bus: &B)
+    ensures { registers.new ≡ returned B.meaning (B.world bus.now) registers.old }
+{
+    registers.ip = pop(registers, bus);
+}
+
+/// RET that drops so many bytes more.
+#[tactic(auto, unfolding(crate::specs::Control::returned_dropping))]
+#[inline(always)]
+pub(crate) fn return_dropping<B: Bus>(registers: &mut Regs, bus: &B, count: u16)
+    ensures { registers.new ≡ returned_dropping B.meaning count (B.world bus.now) registers.old }
+{
+    return_near(registers, bus);
+    registers.sp = registers.sp.wrapping_add(count);
+}
+
+/// POPF: a bit without a name is dropped.
+#[tactic(auto, unfolding(crate::specs::Control::flags_popped))]
+#[inline(always)]
+pub(crate) fn pop_flags<B: Bus>(registers: &mut Regs, bus: &B)
+    ensures { registers.new ≡ flags_popped B.meaning (B.world bus.now) registers.old }
+{
+    let word = pop(registers, bus);
+    registers.flags = Flags::of_word(word);
+}
+
+/// IRET.
+#[tactic(auto, unfolding(crate::specs::Control::returned_from_interrupt))]
+#[inline(always)]
+pub(crate) fn return_from_interrupt<B: Bus>(registers: &mut Regs, bus: &B)
+    ensures { registers.new ≡ returned_from_interrupt B.meaning (B.world bus.now) registers.old }
+{
+    return_near(registers, bus);
+    registers.cs = pop(registers, bus);
+    pop_flags(registers, bus);
+}
+
+/// Enters the interrupt of a number.
+#[tactic(auto, unfolding(crate::specs::Control::interrupted))]
+#[inline(always)]
+pub(crate) fn interrupt<B: Bus>(registers: &mut Regs, bus: &mut B, labels: &mut Labels, number: u8)
+    requires { array_vec_len labels.old ≤ 1 }
+    ensures { machine registers.new (B.world bus.new) labels.new.items
+        ≡ interrupted B.meaning number (machine registers.old (B.world bus.old) labels.old.items) }
+{
+    let flags = flag_word(registers.flags);
+    push(registers, bus, labels, flags);
+    registers.flags = close(registers.flags);
+    push(registers, bus, labels, registers.cs);
+    push(registers, bus, labels, registers.ip);
+    let vector = 4 * u16::from(number);
+    registers.ip = load_word(bus, 0, vector);
+    registers.cs = load_word(bus, 0, vector + 2);
+}

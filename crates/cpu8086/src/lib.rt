@@ -1,0 +1,20 @@
+//! The processor: one turn of it over any bus.
+#![tactic(auto)]
+
+mod arithmetic;
+mod bus;
+mod cache;
+mod control;
+mod cpu;
+mod entry;
+mod execute;
+mod memory;
+mod moves;
+mod operand;
+mod strings;
+#[cfg(test)]
+mod tests;
+
+pub use bus::{Bus, Store};
+pub use cache::DecodeCache;
+pub use cpu::{Cpu, Kind, Phase, Turn};

@@ -1,0 +1,118 @@
+//! Memory by segment and offset, and the stack.
+
+ghost use Rattle.std.specs.Prelude.{◌≡◌, ◌+◌, ◌<◌, ◌≤◌, ◌^◌, ◌++◌};
+ghost use Rattle.i86_table.specs.Arithmetic.{size_of};
+ghost use Rattle.arrayvec.specs.ArrayVec.{array_vec_len};
+ghost use Rattle.cpu8086.specs.Machine.{machine, physical, next_offset, access_at, labels_of, loaded_byte, loaded_word, loaded, pushed, popped};
+
+use crate::bus::{Bus, Store};
+use arrayvec::ArrayVec;
+use i86_table::Regs;
+use word86::{Label, Width};
+
+/// The labels of a turn.
+pub(crate) type Labels = ArrayVec<Label, 4>;
+
+/// The physical address of an offset in a segment: addresses wrap at 1,048,576.
+#[inline(always)]
+pub(crate) fn physical(segment: u16, offset: u16) -> u32
+    ensures value { result ≡ physical segment offset }
+    ensures fits { result < 2 ^ 20 }
+{
+    (u32::from(segment) * 16 + u32::from(offset)) % 1_048_576
+}
+
+#[inline(always)]
+fn next_offset(offset: u16) -> u16
+    ensures { result ≡ next_offset offset }
+{
+    offset.wrapping_add(1)
+}
+
+#[tactic(auto, unfolding(crate::specs::Machine::loaded_byte))]
+#[inline(always)]
+pub(crate) fn load_byte<B: Bus>(bus: &B, segment: u16, offset: u16) -> u8
+    ensures { result ≡ loaded_byte B.meaning (B.world bus.now) segment offset }
+{
+    bus.load(physical(segment, offset))
+}
+
+#[tactic(auto, unfolding(crate::specs::Machine::loaded_word))]
+#[inline(always)]
+pub(crate) fn load_word<B: Bus>(bus: &B, segment: u16, offset: u16) -> u16
+    ensures { result ≡ loaded_word B.meaning (B.world bus.now) segment offset }
+{
+    let low = load_byte(bus, segment, offset);
+    let high = load_byte(bus, segment, next_offset(offset));
+    u16::from(low) + 256 * u16::from(high)
+}
+
+#[inline(always)]
+pub(crate) fn load<B: Bus>(bus: &B, width: Width, segment: u16, offset: u16) -> u16
+    ensures value { result ≡ loaded B.meaning width (B.world bus.now) segment offset }
+    ensures fits { result < size_of width }
+{
+    match width {
+        Width::Byte => u16::from(load_byte(bus, segment, offset)),
+        Width::Word => load_word(bus, segment, offset),
+    }
+}
+
+/// The access that stores a value of a width.
+#[inline(always)]
+pub(crate) fn access_at(width: Width, segment: u16, offset: u16, value: u16) -> Store
+    requires { value < size_of width }
+    ensures { result ≡ access_at width segment offset value }
+{
+    let address = physical(segment, offset);
+    match width {
+        Width::Byte => Store::Byte {
+            address,
+            value: value as u8,
+        },
+        Width::Word => Store::Word {
+            low: address,
+            high: physical(segment, next_offset(offset)),
+            value,
+        },
+    }
+}
+
+/// Stores, and adds the label that shows it.
+#[inline(always)]
+pub(crate) fn store<B: Bus>(bus: &mut B, labels: &mut Labels, access: Store)
+    requires { array_vec_len labels.old < 4 }
+    ensures after { B.world bus.new ≡ B.meaning.store (B.world bus.old) access }
+    ensures shown { labels.new.items ≡ labels.old.items ++ labels_of (B.meaning.store_label (B.world bus.old) access) }
+    ensures room { array_vec_len labels.new ≤ array_vec_len labels.old + 1 }
+{
+    if let Some(label) = bus.store(access) {
+        labels.push(label);
+    }
+}
+
+/// Pushes a word: SP goes down first.
+#[tactic(auto, unfolding(crate::specs::Machine::pushed, crate::specs::Machine::stored_access))]
+#[inline(always)]
+pub(crate) fn push<B: Bus>(registers: &mut Regs, bus: &mut B, labels: &mut Labels, value: u16)
+    requires { array_vec_len labels.old < 4 }
+    ensures after { machine registers.new (B.world bus.new) labels.new.items
+        ≡ pushed B.meaning value (machine registers.old (B.world bus.old) labels.old.items) }
+    ensures room { array_vec_len labels.new ≤ array_vec_len labels.old + 1 }
+{
+    registers.sp = registers.sp.wrapping_sub(2);
+    let access = access_at(Width::Word, registers.ss, registers.sp, value);
+    store(bus, labels, access);
+}
+
+/// Pops a word.
+#[tactic(auto, unfolding(crate::specs::Machine::popped))]
+#[inline(always)]
+pub(crate) fn pop<B: Bus>(registers: &mut Regs, bus: &B) -> u16
+    ensures value { result ≡ (popped B.meaning (B.world bus.now) registers.old).0 }
+    ensures after { registers.new ≡ (popped B.meaning (B.world bus.now) registers.old).1 }
+{
+    let value = load_word(bus, registers.ss, registers.sp);
+    registers.sp = registers.sp.wrapping_add(2);
+    value
+}

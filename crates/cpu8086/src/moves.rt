@@ -1,0 +1,275 @@
+//! Instructions that move data.
+
+ghost use Rattle.std.specs.Prelude.{◌≡◌, ◌<◌, ◌≤◌, ◌%◌};
+ghost use Rattle.i86_table.specs.Arithmetic.{size_of};
+ghost use Rattle.arrayvec.specs.ArrayVec.{array_vec_len};
+ghost use Rattle.cpu8086.specs.Machine.{machine};
+ghost use Rattle.cpu8086.specs.Moves.{exchanged_bytes, exchanged_words, byte_converted, word_converted, accumulator, with_accumulator, in_label, out_label, moved, exchanged_with, moved_from_segment, moved_to_segment, pushed_value, pushed_place, popped_to, popped_to_segment, read_in, written_out};
+
+use crate::bus::Bus;
+use crate::memory::{Labels, pop, push};
+use crate::operand::{Operand, locate, locate_memory, read_source};
+use i86_table::{
+    BytePair, LoadableSegment, Memory, Operands, Place, Port, Register8, Register16, Regs, Segment,
+    WordPair, sign_extended, sign_word,
+};
+use word86::{Label, Width};
+
+/// MOV.
+#[tactic(auto, unfolding(crate::specs::Moves::moved))]
+#[inline(always)]
+pub(crate) fn move_operands<R: Operand, B: Bus>(
+    registers: &mut Regs,
+    bus: &mut B,
+    labels: &mut Labels,
+    operands: Operands<R, R::Number>,
+)
+    requires { array_vec_len labels.old < 4 }
+    ensures { machine registers.new (B.world bus.new) labels.new.items
+        ≡ moved B.meaning R.bank operands (machine registers.old (B.world bus.old) labels.old.items) }
+{
+    let value = read_source(registers, bus, operands);
+    locate(registers, operands.target()).write(registers, bus, labels, value);
+}
+
+/// XCHG of a register with memory.
+#[tactic(auto, unfolding(crate::specs::Moves::exchanged_with))]
+#[inline(always)]
+pub(crate) fn exchange_with<R: Operand, B: Bus>(
+    registers: &mut Regs,
+    bus: &mut B,
+    labels: &mut Labels,
+    register: R,
+    memory: Memory,
+)
+    requires { array_vec_len labels.old < 4 }
+    ensures { machine registers.new (B.world bus.new) labels.new.items
+        ≡ exchanged_with B.meaning R.bank register memory (machine registers.old (B.world bus.old) labels.old.items) }
+{
+    let spot = locate_memory::<R>(registers, memory);
+    let value = spot.read(registers, bus);
+    let stored = register.value(registers);
+    spot.write(registers, bus, labels, stored);
+    register.set(registers, value);
+}
+
+/// XCHG of two byte registers.
+#[inline(always)]
+pub(crate) fn exchange_bytes(registers: &mut Regs, pair: BytePair)
+    ensures { registers.new ≡ exchanged_bytes pair registers.old }
+{
+    let first = registers.byte(pair.first);
+    let second = registers.byte(pair.second);
+    registers.set_byte(pair.first, second);
+    registers.set_byte(pair.second, first);
+}
+
+/// XCHG of two word registers.
+#[inline(always)]
+pub(crate) fn exchange_words(registers: &mut Regs, pair: WordPair)
+    ensures { registers.new ≡ exchanged_words pair registers.old }
+{
+    let first = registers.word(pair.first);
+    let second = registers.word(pair.second);
+    registers.set_word(pair.first, second);
+    registers.set_word(pair.second, first);
+}
+
+/// CBW.
+#[inline(always)]
+pub(crate) fn convert_byte(registers: &mut Regs)
+    ensures { registers.new ≡ byte_converted registers.old }
+{
+    registers.ax = sign_extended(registers.byte(Register8::Al));
+}
+
+/// CWD.
+#[inline(always)]
+pub(crate) fn convert_word(registers: &mut Regs)
+    ensures { registers.new ≡ word_converted registers.old }
+{
+    registers.dx = sign_word(registers.ax);
+}
+
+/// MOV from a segment register.
+#[tactic(auto, unfolding(crate::specs::Moves::moved_from_segment))]
+#[inline(always)]
+pub(crate) fn move_from_segment<B: Bus>(
+    registers: &mut Regs,
+    bus: &mut B,
+    labels: &mut Labels,
+    place: Place<Register16>,
+    segment: Segment,
+)
+    requires { array_vec_len labels.old < 4 }
+    ensures { machine registers.new (B.world bus.new) labels.new.items
+        ≡ moved_from_segment B.meaning place segment (machine registers.old (B.world bus.old) labels.old.items) }
+{
+    let value = registers.segment(segment);
+    locate(registers, place).write(registers, bus, labels, value);
+}
+
+/// MOV to a segment register.
+#[tactic(auto, unfolding(crate::specs::Moves::moved_to_segment))]
+#[inline(always)]
+pub(crate) fn move_to_segment<B: Bus>(
+    registers: &mut Regs,
+    bus: &B,
+    segment: LoadableSegment,
+    place: Place<Register16>,
+)
+    ensures { registers.new ≡ moved_to_segment B.meaning segment place (B.world bus.now) registers.old }
+{
+    let value = locate(registers, place).read(registers, bus);
+    registers.set_segment(segment, value);
+}
+
+#[inline(always)]
+fn pushed_value<B: Bus>(registers: &Regs, bus: &B, place: Place<Register16>) -> u16
+    ensures { result ≡ pushed_value B.meaning place (B.world bus.now) registers.now }
+{
+    match place {
+        Place::Register(Register16::Sp) => registers.sp.wrapping_sub(2),
+        _ => locate(registers, place).read(registers, bus),
+    }
+}
+
+/// PUSH: of SP the decreased value is stored.
+#[tactic(auto, unfolding(crate::specs::Moves::pushed_place))]
+#[inline(always)]
+pub(crate) fn push_place<B: Bus>(
+    registers: &mut Regs,
+    bus: &mut B,
+    labels: &mut Labels,
+    place: Place<Register16>,
+)
+    requires { array_vec_len labels.old < 4 }
+    ensures { machine registers.new (B.world bus.new) labels.new.items
+        ≡ pushed_place B.meaning place (machine registers.old (B.world bus.old) labels.old.items) }
+{
+    let value = pushed_value(registers, bus, place);
+    push(registers, bus, labels, value);
+}
+
+/// POP.
+#[tactic(auto, unfolding(crate::specs::Moves::popped_to))]
+#[inline(always)]
+pub(crate) fn pop_to<B: Bus>(
+    registers: &mut Regs,
+    bus: &mut B,
+    labels: &mut Labels,
+    place: Place<Register16>,
+)
+    requires { array_vec_len labels.old < 4 }
+    ensures { machine registers.new (B.world bus.new) labels.new.items
+        ≡ popped_to B.meaning place (machine registers.old (B.world bus.old) labels.old.items) }
+{
+    let value = pop(registers, bus);
+    locate(registers, place).write(registers, bus, labels, value);
+}
+
+/// POP of a segment register.
+#[tactic(auto, unfolding(crate::specs::Moves::popped_to_segment))]
+#[inline(always)]
+pub(crate) fn pop_to_segment<B: Bus>(registers: &mut Regs, bus: &B, segment: LoadableSegment)
+    ensures { registers.new ≡ popped_to_segment B.meaning segment (B.world bus.now) registers.old }
+{
+    let value = pop(registers, bus);
+    registers.set_segment(segment, value);
+}
+
+/// AL or AX.
+#[inline(always)]
+pub(crate) fn accumulator(width: Width, registers: &Regs) -> u16
+    ensures value { result ≡ accumulator width registers.now }
+    ensures fits { result < size_of width }
+{
+    match width {
+        Width::Byte => u16::from(registers.byte(Register8::Al)),
+        Width::Word => registers.word(Register16::Ax),
+    }
+}
+
+#[inline(always)]
+fn set_accumulator(width: Width, registers: &mut Regs, value: u16)
+    requires { value < size_of width }
+    ensures { registers.new ≡ with_accumulator width registers.old value }
+{
+    match width {
+        Width::Byte => registers.set_byte(Register8::Al, value as u8),
+        Width::Word => registers.ax = value,
+    }
+}
+
+#[inline(always)]
+fn wrapped(width: Width, value: u16) -> u16
+    ensures value { result ≡ value % size_of width }
+    ensures fits { result < size_of width }
+{
+    match width {
+        Width::Byte => value % 256,
+        Width::Word => value,
+    }
+}
+
+#[inline(always)]
+fn in_label(width: Width, port: u16, value: u16) -> Label
+    requires { value < size_of width }
+    ensures { result ≡ in_label width port value }
+{
+    match width {
+        Width::Byte => Label::In(port, value as u8),
+        Width::Word => Label::InW(port, value),
+    }
+}
+
+#[inline(always)]
+fn out_label(width: Width, port: u16, value: u16) -> Label
+    requires { value < size_of width }
+    ensures { result ≡ out_label width port value }
+{
+    match width {
+        Width::Byte => Label::Out(port, value as u8),
+        Width::Word => Label::OutW(port, value),
+    }
+}
+
+/// IN.
+#[tactic(auto, unfolding(crate::specs::Moves::read_in))]
+#[inline(always)]
+pub(crate) fn input<B: Bus>(
+    registers: &mut Regs,
+    bus: &mut B,
+    labels: &mut Labels,
+    width: Width,
+    port: Port,
+)
+    requires { array_vec_len labels.old < 4 }
+    ensures { machine registers.new (B.world bus.new) labels.new.items
+        ≡ read_in B.meaning width port (machine registers.old (B.world bus.old) labels.old.items) }
+{
+    let port = registers.port(port);
+    let value = wrapped(width, bus.port_in(width, port));
+    set_accumulator(width, registers, value);
+    labels.push(in_label(width, port, value));
+}
+
+/// OUT.
+#[tactic(auto, unfolding(crate::specs::Moves::written_out))]
+#[inline(always)]
+pub(crate) fn output<B: Bus>(
+    registers: &Regs,
+    bus: &mut B,
+    labels: &mut Labels,
+    width: Width,
+    port: Port,
+)
+    requires { array_vec_len labels.old < 4 }
+    ensures { machine registers.now (B.world bus.new) labels.new.items
+        ≡ written_out B.meaning width port (machine registers.now (B.world bus.old) labels.old.items) }
+{
+    let port = registers.port(port);
+    let value = accumulator(width, registers);
+    bus.port_out(width, port, value);
+    labels.push(out_label(width, port, value));
+}

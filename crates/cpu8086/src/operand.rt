@@ -1,0 +1,172 @@
+//! Operands of both widths, by one text.
+
+ghost use Rattle.std.specs.Prelude.{◌≡◌, ◌<◌, ◌≤◌, ◌+◌};
+ghost use Rattle.i86_table.specs.Arithmetic.{size_of};
+ghost use Rattle.arrayvec.specs.ArrayVec.{array_vec_len};
+ghost use Rattle.cpu8086.specs.Machine.{machine};
+ghost use Rattle.cpu8086.specs.Operands.{Bank, bytes, words, located, in_memory, held, put, source, mask};
+
+use crate::bus::Bus;
+use crate::memory::{Labels, access_at, load, store};
+use i86_table::{Memory, Operands, Place, Register8, Register16, Regs, TestMask};
+use word86::Width;
+
+/// Where an operand lies: in a register, or at a segment's value and an offset.
+#[derive(Clone, Copy, PartialEq, Eq, Debug)]
+pub(crate) enum Spot<R> {
+    Register(R),
+    Memory { segment: u16, offset: u16 },
+}
+
+/// A register of one width, by which operand code is written once for both.
+pub(crate) trait Operand: Copy {
+    /// An immediate number of this width.
+    type Number: Copy;
+
+    ghost bank: { Bank Self Self.Number };
+
+    fn width() -> Width
+        ensures { result ≡ bank.width };
+
+    fn value(self, registers: &Regs) -> u16
+        ensures value { result ≡ bank.value registers.now self }
+        ensures fits { result < size_of bank.width };
+
+    fn set(self, registers: &mut Regs, value: u16)
+        requires { value < size_of bank.width }
+        ensures { registers.new ≡ bank.with_value registers.old self value };
+
+    fn number(number: Self::Number) -> u16
+        ensures value { result ≡ bank.number number }
+        ensures fits { result < size_of bank.width };
+}
+
+impl Operand for Register8 {
+    type Number = u8;
+
+    ghost bank = { bytes };
+
+    fn width() -> Width {
+        Width::Byte
+    }
+
+    fn value(self, registers: &Regs) -> u16 {
+        u16::from(registers.byte(self))
+    }
+
+    fn set(self, registers: &mut Regs, value: u16) {
+        registers.set_byte(self, value as u8);
+    }
+
+    fn number(number: u8) -> u16 {
+        u16::from(number)
+    }
+}
+
+impl Operand for Register16 {
+    type Number = u16;
+
+    ghost bank = { words };
+
+    fn width() -> Width {
+        Width::Word
+    }
+
+    fn value(self, registers: &Regs) -> u16 {
+        registers.word(self)
+    }
+
+    fn set(self, registers: &mut Regs, value: u16) {
+        registers.set_word(self, value);
+    }
+
+    fn number(number: u16) -> u16 {
+        number
+    }
+}
+
+#[inline(always)]
+pub(crate) fn locate_memory<R: Operand>(registers: &Regs, memory: Memory) -> Spot<R>
+    ensures { result ≡ in_memory registers.now memory }
+{
+    Spot::Memory {
+        segment: registers.segment(memory.segment),
+        offset: registers.offset(memory.address),
+    }
+}
+
+#[inline(always)]
+pub(crate) fn locate<R: Operand>(registers: &Regs, place: Place<R>) -> Spot<R>
+    ensures { result ≡ located registers.now place }
+{
+    match place {
+        Place::Register(register) => Spot::Register(register),
+        Place::Memory(memory) => locate_memory(registers, memory),
+    }
+}
+
+impl<R: Operand> Spot<R> {
+    #[inline(always)]
+    pub(crate) fn read<B: Bus>(self, registers: &Regs, bus: &B) -> u16
+        ensures value { result ≡ held B.meaning R.bank registers.now (B.world bus.now) self }
+        ensures fits { result < size_of R.bank.width }
+    {
+        match self {
+            Spot::Register(register) => register.value(registers),
+            Spot::Memory { segment, offset } => load(bus, R::width(), segment, offset),
+        }
+    }
+
+    #[tactic(auto, unfolding(crate::specs::Machine::stored_access))]
+    #[inline(always)]
+    pub(crate) fn write<B: Bus>(
+        self,
+        registers: &mut Regs,
+        bus: &mut B,
+        labels: &mut Labels,
+        value: u16,
+    )
+        requires fits { value < size_of R.bank.width }
+        requires room { array_vec_len labels.old < 4 }
+        ensures after { machine registers.new (B.world bus.new) labels.new.items
+            ≡ put B.meaning R.bank self value (machine registers.old (B.world bus.old) labels.old.items) }
+        ensures room { array_vec_len labels.new ≤ array_vec_len labels.old + 1 }
+    {
+        match self {
+            Spot::Register(register) => register.set(registers, value),
+            Spot::Memory { segment, offset } => {
+                let access = access_at(R::width(), segment, offset, value);
+                store(bus, labels, access);
+            }
+        }
+    }
+}
+
+#[inline(always)]
+pub(crate) fn read_source<R: Operand, B: Bus>(
+    registers: &Regs,
+    bus: &B,
+    operands: Operands<R, R::Number>,
+) -> u16
+    ensures value { result ≡ source B.meaning R.bank registers.now (B.world bus.now) operands }
+    ensures fits { result < size_of R.bank.width }
+{
+    match operands {
+        Operands::FromRegister(_, register) => register.value(registers),
+        Operands::FromMemory(_, memory) => {
+            locate_memory::<R>(registers, memory).read(registers, bus)
+        }
+        Operands::Immediate(_, number) => R::number(number),
+    }
+}
+
+#[inline(always)]
+pub(crate) fn read_mask<R: Operand>(registers: &Regs, tested: TestMask<R, R::Number>) -> u16
+    ensures value { result ≡ mask R.bank registers.now tested }
+    ensures fits { result < size_of R.bank.width }
+{
+    match tested {
+        TestMask::Register(register) => register.value(registers),
+        TestMask::Immediate(number) => R::number(number),
+    }
+}

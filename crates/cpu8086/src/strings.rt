@@ -1,0 +1,125 @@
+//! MOVS and STOS, alone and repeated.
+
+ghost use Rattle.std.specs.Prelude.{◌≡◌, ◌<◌, ◌≤◌, ◌+◌};
+ghost use Rattle.arrayvec.specs.ArrayVec.{array_vec_len};
+ghost use Rattle.cpu8086.specs.Machine.{machine};
+ghost use Rattle.cpu8086.specs.Strings.{stepped, unit_moved, unit_stored, is_due, counted_down, string_moved, string_stored};
+
+use crate::bus::Bus;
+use crate::memory::{Labels, access_at, load, store};
+use crate::moves::accumulator;
+use bitflags::Flags as _;
+use i86_table::{Flags, Regs, Repeat, Segment};
+use word86::Width;
+
+fn stepped(flags: Flags, width: Width, offset: u16) -> u16
+    ensures { result ≡ stepped flags width offset }
+{
+    let size = match width {
+        Width::Byte => 1,
+        Width::Word => 2,
+    };
+    if flags.contains(Flags::DIRECTION) {
+        offset.wrapping_sub(size)
+    } else {
+        offset.wrapping_add(size)
+    }
+}
+
+#[tactic(auto, unfolding(crate::specs::Strings::unit_moved, crate::specs::Machine::stored_access))]
+fn move_unit<B: Bus>(
+    registers: &mut Regs,
+    bus: &mut B,
+    labels: &mut Labels,
+    width: Width,
+    source: Segment,
+)
+    requires { array_vec_len labels.old < 4 }
+    ensures { machine registers.new (B.world bus.new) labels.new.items
+        ≡ unit_moved B.meaning width source (machine registers.old (B.world bus.old) labels.old.items) }
+{
+    let value = load(bus, width, registers.segment(source), registers.si);
+    store(
+        bus,
+        labels,
+        access_at(width, registers.es, registers.di, value),
+    );
+    registers.si = stepped(registers.flags, width, registers.si);
+    registers.di = stepped(registers.flags, width, registers.di);
+}
+
+#[tactic(auto, unfolding(crate::specs::Strings::unit_stored, crate::specs::Machine::stored_access))]
+fn store_unit<B: Bus>(registers: &mut Regs, bus: &mut B, labels: &mut Labels, width: Width)
+    requires { array_vec_len labels.old < 4 }
+    ensures { machine registers.new (B.world bus.new) labels.new.items
+        ≡ unit_stored B.meaning width (machine registers.old (B.world bus.old) labels.old.items) }
+{
+    let value = accumulator(width, registers);
+    store(
+        bus,
+        labels,
+        access_at(width, registers.es, registers.di, value),
+    );
+    registers.di = stepped(registers.flags, width, registers.di);
+}
+
+fn is_due(repeat: Repeat, registers: &Regs) -> bool
+    ensures { result ≡ is_due repeat registers.now }
+{
+    match repeat {
+        Repeat::Once => true,
+        Repeat::WhileCx => registers.cx != 0,
+    }
+}
+
+fn count_down(repeat: Repeat, start: u16, registers: &mut Regs)
+    ensures { registers.new ≡ counted_down repeat start registers.old }
+{
+    if matches!(repeat, Repeat::WhileCx) {
+        registers.cx = registers.cx.wrapping_sub(1);
+        if registers.cx != 0 {
+            registers.ip = start;
+        }
+    }
+}
+
+/// MOVS: one repetition of it, if it is repeated.
+#[tactic(auto, unfolding(crate::specs::Strings::string_moved))]
+pub(crate) fn move_string<B: Bus>(
+    registers: &mut Regs,
+    bus: &mut B,
+    labels: &mut Labels,
+    width: Width,
+    source: Segment,
+    repeat: Repeat,
+    start: u16,
+)
+    requires { array_vec_len labels.old < 4 }
+    ensures { machine registers.new (B.world bus.new) labels.new.items
+        ≡ string_moved B.meaning width source repeat start (machine registers.old (B.world bus.old) labels.old.items) }
+{
+    if is_due(repeat, registers) {
+        move_unit(registers, bus, labels, width, source);
+        count_down(repeat, start, registers);
+    }
+}
+
+/// STOS: one repetition of it, if it is repeated.
+#[tactic(auto, unfolding(crate::specs::Strings::string_stored))]
+pub(crate) fn store_string<B: Bus>(
+    registers: &mut Regs,
+    bus: &mut B,
+    labels: &mut Labels,
+    width: Width,
+    repeat: Repeat,
+    start: u16,
+)
+    requires { array_vec_len labels.old < 4 }
+    ensures { machine registers.new (B.world bus.new) labels.new.items
+        ≡ string_stored B.meaning width repeat start (machine registers.old (B.world bus.old) labels.old.items) }
+{
+    if is_due(repeat, registers) {
+        store_unit(registers, bus, labels, width);
+        count_down(repeat, start, registers);
+    }
+}
