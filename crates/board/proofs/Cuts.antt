@@ -1,7 +1,11 @@
-use Rattle.std.proofs.Common.{◌≡◌, ◌≢◌, ◌∙◌, ◌<◌, ◌≤◌, ◌-◌, ℕ, zero, suc, Bool, true, false, List, [], ◌∷◌, length, take, drop, ap, sym, refl, slice_index, arith, nat_eq}
+use Rattle.std.proofs.Common.{◌≡◌, ◌≢◌, ◌∙◌, ◌<◌, ◌≤◌, ◌-◌, ℕ, zero, suc, true, false, List, [], ◌∷◌, length, take, drop, ap, sym, refl, slice_index, arith, nat_eq, inl, inr, ◌⊎◌}
+use Rattle.std.specs.List.Sorted.{IsNonDecreasingBy}
 use Rattle.board.specs.Due.{due_at}
 use Rattle.std.proofs.lemmas.List.{get_or-drop, length-drop}
 use Rattle.std.proofs.Common.{◌+◌}
+
+two_ways : (i j : ℕ) → (i < j) ⊎ (j ≤ i)
+two_ways i j = grind arith
 
 -- turns that differ do not count
 pub due_after : {A : Type 0} (t : ℕ) (ns : List ℕ) (es : List A) (a : ℕ) → ((i : ℕ) → i < a → i < length ns → slice_index ns i ≢ t) → length es ≡ length ns
@@ -33,6 +37,10 @@ due_front {A = A} t (n ∷ ns) (e ∷ es) (suc k) h q p =
     let yes : nat_eq n t ≡ true = search (same, arith) in
     rw yes (ap (λ (l : List A). e ∷ l) (due_front {A = A} t ns es k (λ i lt len. h (suc i) (omega arith) (omega arith)) (λ i le len. q (suc i) (omega arith) (omega arith)) (omega arith)))
 
+-- where no turn is t
+pub due_none : {A : Type 0} (t : ℕ) (ns : List ℕ) (es : List A) → ((i : ℕ) → i < length ns → slice_index ns i ≢ t) → length es ≡ length ns → due_at t ns es ≡ []
+due_none {A = A} t ns es h p = due_front {A = A} t ns es zero (λ i lt len. absurd (omega arith)) (λ i le len. h i len) p
+
 -- between two partition points of rising turns stand those that are t
 pub due_between : {A : Type 0} (t : ℕ) (ns : List ℕ) (es : List A) (a b : ℕ) → a ≤ b → length es ≡ length ns
     → ((i : ℕ) → i < a → i < length ns → slice_index ns i < t) → ((i : ℕ) → a ≤ i → i < length ns → t ≤ slice_index ns i)
@@ -48,3 +56,14 @@ due_between {A = A} t ns es a b le p below from to past =
     let n = length-drop a ns in
     let x = past (a + i) (omega arith) (omega arith) in omega arith)
     (length-drop a es ∙ ap (λ (n : ℕ). n - a) p ∙ sym (length-drop a ns))
+
+-- between a turn and the next one of rising turns stands none
+pub gap : (ns : List ℕ) (next turn t i : ℕ) → IsNonDecreasingBy (λ n. n) ns → ((j : ℕ) → j < next → j < length ns → slice_index ns j ≤ turn) → turn < t → t < slice_index ns next → i < length ns → slice_index ns i ≢ t
+gap ns next turn t i sorted below lt before len same =
+    elim (two_ways i next) [
+      | inl lower ↦ let x = below i lower len in absurd (omega arith)
+      | inr upper ↦ let x = sorted next i 0 upper len in absurd (omega arith)
+    ]
+
+pub no_gap : (ns : List ℕ) (next turn t i : ℕ) → ((j : ℕ) → j < next → j < length ns → slice_index ns j ≤ turn) → turn < t → length ns ≤ next → i < length ns → slice_index ns i ≢ t
+no_gap ns next turn t i below lt all len same = let x = below i (omega arith) len in absurd (omega arith)

@@ -1,2 +1,12 @@
 pub mod Due
 pub mod Schedules
+pub mod World
+pub mod Machine
+pub mod MemoryLaws
+pub mod Rom
+pub mod Settled
+pub mod ShownBoard
+pub mod Text
+pub mod Runs
+pub mod ShownRuns
+pub mod Spelling

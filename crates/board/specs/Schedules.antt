@@ -1,5 +1,5 @@
 -- The schedule that a text spells, or its first fault.
-use Rattle.std.specs.Prelude.{◌≡◌, ◌+◌, ◌*◌, ◌-◌, ◌^◌, ℕ, Bool, true, false, not, ◌&&◌, ◌||◌, ◌==◌, List, [], ◌∷◌, ◌++◌, map, length, take, drop, Option, Some, None, is_some, option_map, option_and_then, if◌then◌else◌, nat_lt, nat_le, codes, min, max, fold, unwrap_or}
+use Rattle.std.specs.Prelude.{◌≡◌, ◌+◌, ◌*◌, ◌-◌, ◌^◌, ℕ, Bool, true, not, ◌&&◌, ◌||◌, ◌==◌, List, [], ◌∷◌, ◌++◌, map, length, take, drop, Option, Some, None, is_some, option_map, option_and_then, if◌then◌else◌, nat_lt, nat_le, codes, min, max, fold, unwrap_or}
 use Rattle.std.specs.Str.{bytes_eq}
 use Rattle.bstr.specs.Text.{lines_of, without_terminator}
 use Rattle.std.specs.Prelude.{slice_index}

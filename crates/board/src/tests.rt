@@ -1,5 +1,8 @@
 //! Schedules whose answers the format's rules give.
 
+mod machine;
+mod roms;
+
 use super::*;
 use std::test::Fail;
 use word86::{Event, Fault, Number};
@@ -45,4 +48,17 @@ fn refuses_the_first_faulty_line(rt: HostRuntime) {
             Some(Fault::At(0, line, number))
         );
     }
+}
+
+#[test]
+fn beginnings_of_a_schedule(rt: HostRuntime) {
+    let text = b"FILL 00\nAT 1 TICK 1\nAT 1 KEY 1E\nSTOP 9";
+    for end in 0..text.len() {
+        let number = match read_schedule(rt.alloc(), &text[..end]) {
+            Err(Fault::At(_, _, number)) => number,
+            _ => Number::E704,
+        };
+        assert!(rt; number == Number::E701 || number == Number::E703);
+    }
+    assert!(rt; read_schedule(rt.alloc(), text).is_ok());
 }

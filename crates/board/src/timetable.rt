@@ -1,6 +1,6 @@
 //! Events in the order of their turns.
 
-ghost use Rattle.std.specs.Prelude.{◌≡◌, ◌==◌, ◌≤◌, ◌-◌, ◌<◌, ◌++◌, ◌∷◌, [], OnOk, OnErr, length, slice_index};
+ghost use Rattle.std.specs.Prelude.{◌≡◌, ◌≢◌, ℕ, ◌==◌, ◌≤◌, ◌-◌, ◌<◌, ◌++◌, ◌∷◌, [], OnOk, OnErr, length, slice_index};
 ghost use Rattle.std.specs.List.Sorted.{IsNonDecreasingBy};
 ghost use Rattle.board.specs.Due.{due_at, last_turn};
 
@@ -62,6 +62,27 @@ impl Timetable {
         ensures { result.now ≡ due_at turn self.now.turns.items self.now.events.items }
     {
         due_in(&self.turns, &self.events, turn)
+    }
+
+    /// The first turn behind this one that has events, or the greatest number, found in logarithmic time. Between the two no
+    /// turn has any.
+    pub(crate) fn next_turn(&self, turn: u32) -> u32
+        ensures { (t : ℕ) → turn < t → t < result → due_at t self.now.turns.items self.now.events.items ≡ [] }
+    {
+        next_in(&self.turns, turn)
+    }
+}
+
+// The first of the turns that is above `turn`, or the greatest number.
+fn next_in(turns: &[u32], turn: u32) -> u32
+    requires { IsNonDecreasingBy (λ n. n) turns.now }
+    ensures { (t : ℕ) → turn < t → t < result → (i : ℕ) → i < length turns.now → slice_index turns.now i ≢ t }
+{
+    let next = turns.partition_point(|n| *n <= turn);
+    if next < turns.len() {
+        turns[next]
+    } else {
+        u32::MAX
     }
 }
 

@@ -4,3 +4,4 @@ pub mod Rest
 pub mod Next
 pub mod Placed
 pub mod Programs
+pub mod Known

@@ -13,6 +13,10 @@ HoldsByte offsets sizes k b = Has (slice_index offsets k) (slice_index sizes k) 
 abbrev pub IsApart : List ℕ → List ℕ → ℕ → ℕ → Type 0
 IsApart offsets sizes k n = (j : ℕ) → j < n → (b : ℕ) → HoldsByte offsets sizes j b → ¬ HoldsByte offsets sizes k b
 
+-- the first n end here at the latest
+abbrev pub EndBy : List ℕ → List ℕ → ℕ → ℕ → Type 0
+EndBy offsets sizes n end = (j : ℕ) → j < n → slice_index offsets j + slice_index sizes j ≤ end
+
 abbrev pub IsWithin : List ℕ → List ℕ → ℕ → Type 0
 IsWithin offsets sizes k = (b : ℕ) → HoldsByte offsets sizes k b → (2 ≤ b) × (b < 0xF000)
 

@@ -1,5 +1,8 @@
 //! A program whose names are resolved and whose types are checked.
 
+ghost use Rattle.std.specs.Prelude.{length};
+ghost use Rattle.plm_meaning.specs.Known.{StatementsIn, StatementsIn-prop};
+
 use crate::names::Names;
 
 /// An operand of a sum.
@@ -29,9 +32,10 @@ pub enum Statement {
     Output(u16, Sum),
 }
 
-/// A program: its names, and main's statements.
+/// A program: its names, and main's statements, which name no other objects.
 #[derive(Debug, Drop)]
 pub struct Program {
     pub names: Names,
     pub main: Vec<Statement>,
+    pub ghost known: { StatementsIn (length names.objects.items) main.items } by { StatementsIn-prop (length names.objects.items) main.items },
 }

@@ -1,4 +1,4 @@
-use Rattle.std.proofs.Common.{rules, ◌≡◌, ◌∙◌, ◌-◌, ◌<◌, ◌≤◌, ℕ, Bool, true, false, List, [], ap, sym, take, drop, length, leb, ltb, leb-true, ltb-true, leb-false, ltb-false, arith, slice_index}
+use Rattle.std.proofs.Common.{rules, ◌∙◌, ◌-◌, ◌<◌, ℕ, ap, sym, take, leb, ltb, leb-true, ltb-true, leb-false, ltb-false, arith}
 use Rattle.std.proofs.lemmas.List.Sorted.{IsPartitionPoint-from_clause, IsPartitionedBy-leb, IsPartitionedBy-ltb}
 use Rattle.board.proofs.Cuts.{due_between}
 use Rattle.board.proofs.timetable.due_in.Goals as goal

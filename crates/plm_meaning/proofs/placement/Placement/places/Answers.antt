@@ -1,4 +1,5 @@
-use Rattle.std.proofs.Common.{◌<◌, map, length, sym, subst, ◌∙◌, arith, below_more, true≢false}
+use Rattle.std.specs.Prelude.{slice_index}
+use Rattle.std.proofs.Common.{◌<◌, ◌+◌, ◌≤◌, map, length, sym, subst, ◌∙◌, arith, below_more, true≢false}
 use Rattle.std.proofs.lemmas.List.{length-map}
 use Rattle.plm_meaning.specs.Placed.{IsApart, IsWithin, IsPlacement}
 use Rattle.plm_meaning.proofs.Apart.{refuses, grants, within_from, within_of}
@@ -13,13 +14,13 @@ returns-then-not-lies_within c =
     let in_range : k < length ss = subst (λ n. k < n) (sym (length-map c.args.objects.now (λ o. o.size))) c.loop-k-test.true in
     refuses (λ (p : IsPlacement os ss). true≢false (sym (c.lies_within.ensures.1 (within_of os ss k here.result.0 here.result.1 here.ensures.offset here.ensures.size (p.within k in_range))) ∙ c.if-not-lies_within.true))
 
-pub returns-then-not-is_apart : goal.returns-then-not-is_apart
-returns-then-not-is_apart c =
+pub returns-then-not-is_clear : goal.returns-then-not-is_clear
+returns-then-not-is_clear c =
     let os = c.args.self.now.offsets.items in
     let ss = map (λ o. o.size) c.args.objects.now in
     let k = c.loop-k.k in
     let in_range : k < length ss = subst (λ n. k < n) (sym (length-map c.args.objects.now (λ o. o.size))) c.loop-k-test.true in
-    refuses (λ (p : IsPlacement os ss). true≢false (sym (c.is_apart.ensures.1 (p.apart k in_range)) ∙ c.if-not-is_apart.true))
+    refuses (λ (p : IsPlacement os ss). true≢false (sym (c.is_clear.ensures.1 (p.apart k in_range)) ∙ c.if-not-is_clear.true))
 
 pub loop-k-preserved : goal.loop-k-preserved
 loop-k-preserved c =
@@ -29,7 +30,8 @@ loop-k-preserved c =
     let k = c.loop-k.k in
     record {
       within = below_more (λ k. IsWithin os ss k) k c.loop-k.invariant.within (within_from os ss k here.result.0 here.result.1 here.ensures.offset here.ensures.size (c.lies_within.ensures.0 c.if-not-lies_within.false));
-      apart = below_more (λ k. IsApart os ss k k) k c.loop-k.invariant.apart (c.is_apart.ensures.0 c.if-not-is_apart.false);
+      apart = below_more (λ k. IsApart os ss k k) k c.loop-k.invariant.apart (c.is_clear.ensures.0 c.if-not-is_clear.false);
+      ends = below_more (λ j. slice_index os j + slice_index ss j ≤ c.max-end.result) k (λ j lt. let h = c.loop-k.invariant.ends j lt in omega (arith, h, c.max-end.ensures)) (omega (arith, here.ensures.offset, here.ensures.size, c.from.ensures, c.from-in-loop-k.ensures, c.max-end.ensures));
     }
 
 pub returns : goal.returns

@@ -1,5 +1,5 @@
 use Rattle.std.proofs.Common.{map, ℕ, ◌<◌}
-use Rattle.plm_meaning.specs.Placed.{IsApart, IsWithin}
+use Rattle.plm_meaning.specs.Placed.{IsApart, IsWithin, EndBy}
 use Rattle.plm_meaning.proofs.placement.Placement.places.Given as goal
 
 abbrev pub invariant-loop-k : goal.invariant-loop-k
@@ -9,4 +9,5 @@ invariant-loop-k l =
     record {
       within : (k : ℕ) → k < l.k → IsWithin offsets sizes k;
       apart : (k : ℕ) → k < l.k → IsApart offsets sizes k k;
+      ends : EndBy offsets sizes l.k l.end;
     }

@@ -1,0 +1,64 @@
+-- One text after another, for a sink that may fail.
+use Rattle.std.proofs.Common.{◌≡◌, ◌∙◌, ◌++◌, [], ℕ, List, Option, Result, Ok, Err, ap, sym, refl, append_assoc, append-nil, subst, drop, drop-cons, get_or, suc, length, ◌<◌, ◌+◌, arith}
+use Rattle.std.specs.Prelude.{map}
+use Rattle.std.proofs.KnownBytes.{Appends-trans, Appends-nil}
+use Rattle.word86.specs.declared.label.Label.{Label}
+use Rattle.word86.specs.declared.event.Event.{Event}
+use Rattle.word86.specs.Events.{event_label}
+use Rattle.listing_map.specs.Lines.{label_line}
+use Rattle.board.specs.Text.{lines}
+use Rattle.word86.specs.Taking.{Appends, Cut, Rises, Writes}
+
+-- a beginning of the first text is one of both
+pub cut_longer : (a b : Option (List ℕ)) (s t : List ℕ) → Cut a b s → Cut a b (s ++ t)
+cut_longer a b s t h = (h.0, h.1 ++ t, ap (λ (l : List ℕ). l ++ t) h.2 ∙ append_assoc h.0 h.1 t, h.3)
+
+-- the second text's beginning, after the first
+pub cut_after : (a b c : Option (List ℕ)) (s t : List ℕ) → Appends a b s → Cut b c t → Cut a c (s ++ t)
+cut_after a b c s t first h = (s ++ h.0, h.1, ap (λ (l : List ℕ). s ++ l) h.2 ∙ sym (append_assoc s h.0 h.1), Appends-trans a b c s h.0 first h.3)
+
+pub writes_after : {T E : Type 0} (a b c : Option (List ℕ)) (m n k : ℕ) (s t : List ℕ) (r : Result T E)
+    → Appends a b s × (n ≡ m) → Writes b c n k t r → Writes a c m k (s ++ t) r
+writes_after a b c m n k s t (Ok x) first h = (Appends-trans a b c s t first.0 h.0, h.1 ∙ first.1)
+writes_after a b c m n k s t (Err x) first h = (cut_after a b c s t first.0 h.0, rw (sym first.1) h.1)
+
+-- what was taken of a list of texts, so far: so many of them, whole
+pub record Took (old new : Option (List ℕ)) (before after : ℕ) (whole left : List ℕ) : Type 0 where
+  pub done : List ℕ
+  pub parts : whole ≡ done ++ left
+  pub taken : Appends old new done
+  pub same : after ≡ before
+
+pub took_none : (a : Option (List ℕ)) (m : ℕ) (whole : List ℕ) → Took a a m m whole whole
+took_none a m whole = record { done = []; parts = refl; taken = Appends-nil a; same = refl }
+
+pub took_all : (a b : Option (List ℕ)) (m n : ℕ) (whole : List ℕ) → Took a b m n whole [] → Appends a b whole
+took_all a b m n whole t = subst (Appends a b) (sym (t.parts ∙ append-nil t.done)) t.taken
+
+-- one text more
+pub took_more : (a b c : Option (List ℕ)) (m n k : ℕ) (whole text left rest : List ℕ) → left ≡ text ++ rest → Took a b m n whole left → Appends b c text → k ≡ n → Took a c m k whole rest
+took_more a b c m n k whole text left rest e t h s = record {
+  done = t.done ++ text;
+  parts = t.parts ∙ ap (λ (l : List ℕ). t.done ++ l) e ∙ sym (append_assoc t.done text rest);
+  taken = Appends-trans a b c t.done text t.taken h;
+  same = s ∙ t.same;
+}
+
+-- the next text fails
+pub took_cut : (a b c : Option (List ℕ)) (m n : ℕ) (whole text left rest : List ℕ) → left ≡ text ++ rest → Took a b m n whole left → Cut b c text → Cut a c whole
+took_cut a b c m n whole text left rest e t h =
+    (t.done ++ h.0, h.1 ++ rest, t.parts ∙ ap (λ (l : List ℕ). t.done ++ l) (e ∙ ap (λ (l : List ℕ). l ++ rest) h.2 ∙ append_assoc h.0 h.1 rest) ∙ sym (append_assoc t.done h.0 (h.1 ++ rest)), Appends-trans a b c t.done h.0 t.taken h.3)
+
+pub took_breaks : (a b c : Option (List ℕ)) (m n k : ℕ) (whole text left rest : List ℕ) → left ≡ text ++ rest → Took a b m n whole left → Cut b c text × Rises n k → Cut a c whole × Rises m k
+took_breaks a b c m n k whole text left rest e t h = (took_cut a b c m n whole text left rest e t h.0, subst (λ z. Rises z k) t.same h.1)
+
+-- the lines from a place of the list on
+pub lines_from : (ls : List Label) (j : ℕ) (d : Label) → j < length ls → lines (drop j ls) ≡ label_line (get_or ls j d) ++ lines (drop (j + 1) ls)
+lines_from ls j d lt =
+    let next : suc j ≡ j + 1 = omega arith in
+    ap lines (drop-cons ls j d lt) ∙ ap (λ (n : ℕ). label_line (get_or ls j d) ++ lines (drop n ls)) next
+
+pub event_lines_from : (es : List Event) (j : ℕ) (d : Event) → j < length es → lines (map event_label (drop j es)) ≡ label_line (event_label (get_or es j d)) ++ lines (map event_label (drop (j + 1) es))
+event_lines_from es j d lt =
+    let next : suc j ≡ j + 1 = omega arith in
+    ap (λ (l : List Event). lines (map event_label l)) (drop-cons es j d lt) ∙ ap (λ (n : ℕ). label_line (event_label (get_or es j d)) ++ lines (map event_label (drop n es))) next

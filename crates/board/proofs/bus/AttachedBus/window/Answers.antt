@@ -1,0 +1,18 @@
+use Rattle.std.proofs.Common.{◌-◌, arith}
+use Rattle.board.specs.Settled.{settled_chips}
+use Rattle.board.specs.ShownBoard.{world_of}
+use Rattle.board.proofs.Windows.{ram_window, rom_window}
+use Rattle.board.proofs.bus.AttachedBus.window.Goals as goal
+
+pub returns-then-place-len : goal.returns-then-place-len
+returns-then-place-len c =
+    rw c.deref.ensures.value (ram_window settled_chips (world_of c.args.self.now) c.args.address (omega (arith, c.if-place-len.true, c.len.ensures)))
+
+pub returns-then-self-address : goal.returns-then-self-address
+returns-then-self-address c =
+    let a = c.args.self.now in
+    rw c.deref-then-self-address.ensures.value
+    (rom_window settled_chips (world_of a) c.args.address (c.args.address - a.rom_start) a.rom_start (omega (arith, c.if-self-address.true)) (omega (arith, a.rom_ends))
+    (omega (arith, a.ram_is_whole, a.rom_is_high, c.if-self-address.true))
+    (omega (arith, a.screen_is_whole, a.rom_is_high, c.if-self-address.true))
+    (omega (arith, a.rom_ends, c.requires, c.if-self-address.true)))

@@ -1,0 +1,86 @@
+//! The board: a processor with memory and chips, and its turns.
+
+ghost use Rattle.std.specs.Prelude.{◌≡◌, ◌++◌, true, false, length, map, IfOk, IfErr, Err};
+ghost use Rattle.word86.specs.declared.fault.Fault.TheVariants.{Memory, At};
+ghost use Rattle.word86.specs.declared.number.Number.TheVariants.{E705};
+ghost use Rattle.word86.specs.Events.{event_label};
+ghost use Rattle.ppi_kbd.specs.Chips.{ChipState, reset};
+ghost use Rattle.ppi_kbd.specs.BoardChips.{board_chips};
+ghost use Rattle.board.specs.World.{World, board_meaning, befall};
+ghost use Rattle.board.specs.Machine.{befalls, power_on as powered_on};
+ghost use Rattle.board.specs.Machine.{Board as State, turn, turn_kind};
+ghost use Rattle.board.specs.Rom.{is_rom_length};
+ghost use Rattle.board.specs.Settled.{settled_chips};
+ghost use Rattle.board.specs.ShownBoard.{Shows, world_of};
+
+use crate::attached::Attached;
+use crate::chips;
+use cpu8086::{Cpu, Turn};
+use ppi_kbd::Ports;
+use std::alloc::Global;
+use word86::{Event, Fault, Number, PowerOn};
+
+/// The board: an 8086, memory, and the chips behind its ports (IBM PC Technical Reference).
+///
+/// RAM is 00000H to 1FFFFH, the screen 0B8000H to 0B8F9FH, and the ROM ends at 0FFFFFH. Other memory reads 0FFH; stores there
+/// and into the ROM are lost. What a call does is stated for every state of the definition that the board shows.
+#[derive(Drop)]
+pub struct Board {
+    pub(crate) cpu: Cpu,
+    pub(crate) attached: Attached,
+}
+
+/// 8, 16, 32 or 64 KiB.
+fn is_rom_length(length: usize) -> bool
+    ensures { result ≡ is_rom_length length }
+{
+    length == 8192 || length == 16384 || length == 32768 || length == 65536
+}
+
+fn befall_all(attached: &mut Attached, events: &[Event])
+    ensures { world_of attached.new ≡ befalls (board_meaning settled_chips) (befall settled_chips) events.now (world_of attached.old) }
+{
+    for event in events {
+        chips::befall(&mut attached.ports, *event);
+    }
+}
+
+impl Board {
+    /// The board when the power comes on, with this ROM: the processor and the chips are at reset. The ROM has 8, 16, 32 or
+    /// 64 KiB, and E705 is the answer to any other length; else the one refusal is want of memory.
+    pub fn new(alloc: Global, rom: &[u8], power_on: PowerOn) -> Result<Board, Fault>
+        ensures refused { is_rom_length (length rom.now) ≡ false → result ≡ Err (At 0 1 E705) }
+        ensures taken { is_rom_length (length rom.now) ≡ true → IfErr result (λ e. e ≡ Memory) }
+        ensures reset { IfOk result (λ b. Shows b (powered_on rom.now power_on.ram.items power_on.screen.items reset)) }
+    {
+        if !is_rom_length(rom.len()) {
+            return Err(Fault::At(0, 1, Number::E705));
+        }
+        let rom_start = 1_048_576 - rom.len() as u32;
+        let rom = rom.to_vec(alloc)?;
+        let (ram, screen) = power_on.into_parts();
+        Ok(Board {
+            cpu: Cpu::reset(),
+            attached: Attached {
+                ram,
+                screen,
+                rom,
+                rom_start,
+                ports: Ports::reset(),
+            },
+        })
+    }
+
+    /// One turn: the due events in their order reach the chips, and then the processor does its turn: an acknowledgement if
+    /// one can be taken, else a wait while halted, else one instruction or one repetition of it. It takes no memory.
+    ///
+    /// The labels of the answer are the processor's; those of the events are the events handed in.
+    pub fn turn(&mut self, events: &[Event]) -> Turn
+        ensures state { (b : State (World ChipState)) → Shows self.old b → Shows self.new (turn (board_meaning board_chips) (befall board_chips) events.now b).0 }
+        ensures labels { (b : State (World ChipState)) → Shows self.old b → map event_label events.now ++ result.labels.items ≡ (turn (board_meaning board_chips) (befall board_chips) events.now b).1 }
+        ensures kind { (b : State (World ChipState)) → Shows self.old b → result.kind ≡ turn_kind (board_meaning board_chips) (befall board_chips) events.now b }
+    {
+        befall_all(&mut self.attached, events);
+        self.cpu.turn(&mut self.attached)
+    }
+}

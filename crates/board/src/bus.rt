@@ -1,0 +1,91 @@
+//! What the processor sees of the board.
+
+ghost use Rattle.std.specs.Prelude.{◌≡◌, ◌++◌};
+ghost use Rattle.ppi_kbd.specs.Chips.{ChipState};
+ghost use Rattle.board.specs.World.{World, board_meaning, put};
+ghost use Rattle.board.specs.Settled.{chips_of, settled_chips};
+ghost use Rattle.board.specs.ShownBoard.{world_of};
+ghost use Rattle.board.specs.MemoryLaws.{load_after_store_law, ports_law};
+
+use crate::attached::Attached;
+use crate::chips::{acknowledge, is_requested, read_port, write_port};
+use crate::regions::{SCREEN_START, byte_in, put, shown_store};
+use cpu8086::{Bus, Store};
+use word86::{Label, Width};
+
+impl Attached {
+    /// Stores a byte where RAM or the screen holds the address.
+    fn put(&mut self, address: u32, value: u8)
+        ensures ram { self.new.ram.items ≡ put 0 self.old.ram.items address value }
+        ensures screen { self.new.screen.items ≡ put 0xB8000 self.old.screen.items address value }
+        ensures rom { self.new.rom ≡ self.old.rom }
+        ensures ports { self.new.ports ≡ self.old.ports }
+    {
+        put(self.ram.as_mut_slice(), 0, address, value);
+        put(self.screen.as_mut_slice(), SCREEN_START, address, value);
+    }
+}
+
+impl Bus for Attached {
+    ghost World = { World ChipState };
+
+    ghost world = { world_of };
+
+    ghost meaning = { board_meaning settled_chips };
+
+    fn load(&self, address: u32) -> u8 {
+        if let Some(byte) = byte_in(self.ram.as_slice(), 0, address) {
+            return byte;
+        }
+        if let Some(byte) = byte_in(self.screen.as_slice(), SCREEN_START, address) {
+            return byte;
+        }
+        if let Some(byte) = byte_in(self.rom.as_slice(), self.rom_start, address) {
+            return byte;
+        }
+        0xFF
+    }
+
+    fn window(&self, address: u32) -> Option<&[u8]> {
+        let place = address as usize;
+        if place + 8 <= self.ram.len() {
+            return Some(&self.ram[place..place + 8]);
+        }
+        if self.rom_start <= address {
+            let place = (address - self.rom_start) as usize;
+            return Some(&self.rom[place..place + 8]);
+        }
+        None
+    }
+
+    fn store(&mut self, store: Store) -> Option<Label> {
+        match store {
+            Store::Byte { address, value } => self.put(address, value),
+            Store::Word { low, high, value } => {
+                self.put(low, (value % 256) as u8);
+                self.put(high, (value / 256) as u8);
+            }
+        }
+        shown_store(store)
+    }
+
+    fn port_in(&mut self, width: Width, port: u16) -> u16 {
+        read_port(&mut self.ports, width, port)
+    }
+
+    fn port_out(&mut self, width: Width, port: u16, value: u16) {
+        write_port(&mut self.ports, width, port, value);
+    }
+
+    fn int_line(&self) -> bool {
+        is_requested(&self.ports)
+    }
+
+    fn acknowledge(&mut self) -> u8 {
+        acknowledge(&mut self.ports)
+    }
+
+    ghost load_after_store = { load_after_store_law settled_chips };
+
+    ghost ports_keep_memory = { ports_law settled_chips };
+}

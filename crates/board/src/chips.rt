@@ -1,0 +1,54 @@
+//! The chips' calls, by the settled states that they stand for.
+
+ghost use Rattle.std.specs.Prelude.{◌≡◌};
+ghost use Rattle.board.specs.Settled.{chips_of, settled_chips};
+
+use ppi_kbd::Ports;
+use word86::{Event, Width};
+
+/// Reads a port; a word comes from it and the next one.
+pub(crate) fn read_port(ports: &mut Ports, width: Width, port: u16) -> u16
+    ensures value { result ≡ settled_chips.value (chips_of ports.old) width port }
+    ensures after { chips_of ports.new ≡ settled_chips.reading (chips_of ports.old) width port }
+{
+    match width {
+        Width::Byte => u16::from(ports.read(port)),
+        Width::Word => ports.read_word(port),
+    }
+}
+
+/// Writes a port; a word goes to it and the next one. Of a value for a byte the low half is taken.
+pub(crate) fn write_port(ports: &mut Ports, width: Width, port: u16, value: u16)
+    ensures { chips_of ports.new ≡ settled_chips.writing (chips_of ports.old) width port value }
+{
+    match width {
+        Width::Byte => ports.write(port, (value % 256) as u8),
+        Width::Word => ports.write_word(port, value),
+    }
+}
+
+/// Whether INT is up.
+pub(crate) fn is_requested(ports: &Ports) -> bool
+    ensures { result ≡ settled_chips.line (chips_of ports.now) }
+{
+    ports.int_line()
+}
+
+/// Acknowledges the interrupt that is requested, if one is, and answers its vector.
+pub(crate) fn acknowledge(ports: &mut Ports) -> u8
+    ensures vector { result ≡ settled_chips.vector (chips_of ports.old) }
+    ensures after { chips_of ports.new ≡ settled_chips.acknowledge (chips_of ports.old) }
+{
+    if ports.int_line() {
+        ports.acknowledge()
+    } else {
+        0
+    }
+}
+
+/// An event comes.
+pub(crate) fn befall(ports: &mut Ports, event: Event)
+    ensures { chips_of ports.new ≡ settled_chips.comes event (chips_of ports.old) }
+{
+    ports.event(event);
+}

@@ -1,0 +1,354 @@
+//! ROMs made by hand, with the traces that the manuals and the formats give.
+
+use super::roms::*;
+use crate::{Board, End, read_schedule};
+use bstr::ByteSlice;
+use std::alloc::Global;
+use std::process::Abort;
+use std::test::Fail;
+use word86::{CutSink, Event, Fault, Label, Number, PowerOn};
+
+/// JMP 0F000H:0E000H.
+const TO_THE_FRONT: [u8; 5] = [0xEA, 0x00, 0xE0, 0x00, 0xF0];
+
+/// 8 KiB of zeros with the first bytes at the front and the others at 0FFFF0H.
+fn rom(alloc: Global, code: &[u8], reset: &[u8]) -> Result<Vec<u8>, Fail> {
+    let mut bytes = vec![in alloc; 0u8; 8192]?;
+    for (place, byte) in code.iter().enumerate() {
+        if place < bytes.len() {
+            bytes[place] = *byte;
+        }
+    }
+    for (place, byte) in reset.iter().enumerate() {
+        if place < 16 {
+            bytes[0x1FF0 + place] = *byte;
+        }
+    }
+    Ok(bytes)
+}
+
+/// How the run of such a ROM ends, whose trace goes to the sink.
+fn traced(
+    alloc: Global,
+    code: &[u8],
+    reset: &[u8],
+    schedule: &[u8],
+    sink: &mut CutSink,
+) -> Result<Result<End, Fault>, Fail> {
+    let schedule = read_schedule(alloc, schedule)?;
+    let rom = rom(alloc, code, reset)?;
+    let memory = PowerOn::filled(alloc, schedule.fill())?;
+    let mut board = Board::new(alloc, &rom, memory)?;
+    Ok(board.run(&schedule, sink))
+}
+
+/// Fails unless the ROM writes this text and ends so.
+fn check(
+    rt: &impl Abort,
+    alloc: Global,
+    code: &[u8],
+    reset: &[u8],
+    schedule: &[u8],
+    end: End,
+    text: &[u8],
+) -> Result<(), Fail> {
+    let mut sink = CutSink::new(alloc, 300_000, 4096)?;
+    assert_eq!(rt; traced(alloc, code, reset, schedule, &mut sink)?, Ok(end));
+    assert_eq!(rt; sink.bytes(), text);
+    Ok(())
+}
+
+/// Fails unless the code at the ROM's front writes this text up to the stop.
+fn writes(
+    rt: &impl Abort,
+    alloc: Global,
+    code: &[u8],
+    schedule: &[u8],
+    text: &[u8],
+) -> Result<(), Fail> {
+    check(rt, alloc, code, &TO_THE_FRONT, schedule, End::Stopped, text)
+}
+
+// No code, and no instruction.
+#[test]
+fn bytes_of_any_kind(rt: HostRuntime) -> Result<(), Fail> {
+    let cases = [
+        (
+            b"".as_slice(),
+            b"STOP 100".as_slice(),
+            End::Stopped,
+            b"END 100\n".as_slice(),
+        ),
+        (b"", b"STOP 0", End::Stopped, b"END 0\n"),
+        (b"", b"FILL FF\nSTOP 100", End::Opcode(0), b"OPCODE 00000\n"),
+        (b"\xEB\xFE", b"STOP 100", End::Stopped, b"END 100\n"),
+        (
+            b"\x26\x26",
+            b"STOP 100",
+            End::Opcode(0xFFFF0),
+            b"OPCODE FFFF0\n",
+        ),
+        (b"\xF7\xF1", b"STOP 100", End::Stopped, b"END 100\n"),
+        (
+            b"\xF7\xF1",
+            b"STOP 40000",
+            End::Opcode(0x0FFFC),
+            b"OPCODE 0FFFC\n",
+        ),
+        (
+            b"\x0F\x0F",
+            b"AT 0 TICK 5\nAT 1 KEY 11\nSTOP 9",
+            End::Opcode(0xFFFF0),
+            b"TICK 5\nOPCODE FFFF0\n",
+        ),
+    ];
+    for (reset, schedule, end, text) in cases {
+        check(&rt, rt.alloc(), &[], reset, schedule, end, text)?;
+    }
+    Ok(())
+}
+
+#[test]
+fn refuses_other_lengths(rt: HostRuntime) -> Result<(), Fail> {
+    for length in [0usize, 8191, 8193, 24576, 65535, 65537] {
+        let rom = vec![in rt.alloc(); 0x0Fu8; length]?;
+        let memory = PowerOn::filled(rt.alloc(), 0)?;
+        assert_eq!(rt;
+            Board::new(rt.alloc(), &rom, memory).err(),
+            Some(Fault::At(0, 1, Number::E705))
+        );
+    }
+    for length in [8192usize, 16384, 32768, 65536] {
+        let rom = vec![in rt.alloc(); 0x0Fu8; length]?;
+        let memory = PowerOn::filled(rt.alloc(), 0)?;
+        let mut board = Board::new(rt.alloc(), &rom, memory)?;
+        let schedule = read_schedule(rt.alloc(), b"STOP 9")?;
+        let mut sink = CutSink::new(rt.alloc(), 99, 99)?;
+        assert_eq!(rt; board.run(&schedule, &mut sink), Ok(End::Opcode(0xFFFF0)));
+    }
+    Ok(())
+}
+
+// Three turns a round, the first reading at turn 3: 6,666 of them before turn 20,000.
+#[test]
+fn polls_the_keyboard(rt: HostRuntime) -> Result<(), Fail> {
+    let mut text = Vec::new(rt.alloc());
+    text.extend_from_slice(b"OUT 0063 99\n")?;
+    for _ in 0..6666 {
+        text.extend_from_slice(b"IN 0060 00\n")?;
+    }
+    text.extend_from_slice(b"KEY 1E\nIN 0060 1E\nOUT 0300 01\nEND 30000\n")?;
+    writes(
+        &rt,
+        rt.alloc(),
+        &POLLS_THE_KEYBOARD,
+        b"AT 20000 KEY 1E\nSTOP 30000",
+        &text,
+    )
+}
+
+// OUT rises at pulses 5, 9 and 13; the first two are one request, and no end of interrupt comes.
+#[test]
+fn timer_wakes_once(rt: HostRuntime) -> Result<(), Fail> {
+    writes(
+        &rt,
+        rt.alloc(),
+        &TIMER_WAKES_ONCE,
+        b"AT 20000 TICK 9\nAT 25000 TICK 4\nSTOP 30000",
+        b"OUT 0020 13\nOUT 0021 08\nOUT 0021 01\nOUT 0021 FE\nOUT 0043 14\nOUT 0040 04\nTICK 9\nACK 08\nOUT 0300 01\nTICK 4\nEND 30000\n",
+    )
+}
+
+#[test]
+fn echoes_keys(rt: HostRuntime) -> Result<(), Fail> {
+    writes(
+        &rt,
+        rt.alloc(),
+        &ECHOES_KEYS,
+        b"AT 20000 KEY 1E\nAT 20000 KEY 30\nSTOP 40000",
+        b"OUT 0063 99\nOUT 0020 13\nOUT 0021 08\nOUT 0021 03\nOUT 0021 FD\nKEY 1E\nKEY 30\nACK 09\nIN 0060 1E\nOUT 0300 1E\nOUT 0061 80\nOUT 0061 00\nACK 09\nIN 0060 30\nOUT 0300 30\nOUT 0061 80\nOUT 0061 00\nEND 40000\n",
+    )
+}
+
+// One code in the register, sixteen in the queue, and the last is lost.
+#[test]
+fn seventeen_of_eighteen_keys(rt: HostRuntime) -> Result<(), Fail> {
+    let mut schedule = Vec::new(rt.alloc());
+    let mut text = Vec::new(rt.alloc());
+    text.extend_from_slice(b"OUT 0063 99\nOUT 0020 13\nOUT 0021 08\nOUT 0021 03\nOUT 0021 FD\n")?;
+    for code in 1..=18u8 {
+        let digits = [
+            b'0' + code / 16,
+            b"0123456789ABCDEF"[usize::from(code % 16)],
+        ];
+        schedule.extend_from_slice(b"AT 20000 KEY ")?;
+        schedule.extend_from_slice(&digits)?;
+        schedule.extend_from_slice(b"\n")?;
+        text.extend_from_slice(b"KEY ")?;
+        text.extend_from_slice(&digits)?;
+        text.extend_from_slice(b"\n")?;
+    }
+    for code in 1..=17u8 {
+        let digits = [
+            b'0' + code / 16,
+            b"0123456789ABCDEF"[usize::from(code % 16)],
+        ];
+        text.extend_from_slice(b"ACK 09\nIN 0060 ")?;
+        text.extend_from_slice(&digits)?;
+        text.extend_from_slice(b"\nOUT 0300 ")?;
+        text.extend_from_slice(&digits)?;
+        text.extend_from_slice(b"\nOUT 0061 80\nOUT 0061 00\n")?;
+    }
+    schedule.extend_from_slice(b"STOP 40000")?;
+    text.extend_from_slice(b"END 40000\n")?;
+    writes(&rt, rt.alloc(), &ECHOES_KEYS, &schedule, &text)
+}
+
+// The third repetition waits for the handler, which sees CX, and then goes on from its first prefix.
+#[test]
+fn acknowledges_between_repetitions(rt: HostRuntime) -> Result<(), Fail> {
+    writes(
+        &rt,
+        rt.alloc(),
+        &COPIES_TO_THE_SCREEN,
+        b"AT 26 TICK 3\nSTOP 60",
+        b"OUT 0020 13\nOUT 0021 08\nOUT 0021 03\nOUT 0021 FE\nOUT 0043 14\nOUT 0040 02\nSCR 0000 41\nSCR 0001 42\nTICK 3\nACK 08\nOUT 0080 02\nSCR 0002 43\nSCR 0003 44\nOUTW 0300 E050\nEND 60\n",
+    )
+}
+
+// No acknowledgement comes right after either STI.
+#[test]
+fn delays_after_each_sti(rt: HostRuntime) -> Result<(), Fail> {
+    writes(
+        &rt,
+        rt.alloc(),
+        &ENABLES_TWICE,
+        b"AT 16 KEY 1E\nSTOP 40",
+        b"OUT 0063 99\nOUT 0020 13\nOUT 0021 08\nOUT 0021 03\nOUT 0021 FD\nKEY 1E\nIN 0060 1E\nOUT 0300 1E\nACK 09\nOUT 0300 1F\nEND 40\n",
+    )
+}
+
+#[test]
+fn wakes_by_a_key(rt: HostRuntime) -> Result<(), Fail> {
+    writes(
+        &rt,
+        rt.alloc(),
+        &WAKES_BY_A_KEY,
+        b"AT 30 KEY 1E\nSTOP 50",
+        b"OUT 0063 99\nOUT 0020 13\nOUT 0021 08\nOUT 0021 03\nOUT 0021 FD\nKEY 1E\nACK 09\nIN 0060 1E\nOUT 0080 07\nEND 50\n",
+    )
+}
+
+#[test]
+fn stores_at_the_edges(rt: HostRuntime) -> Result<(), Fail> {
+    writes(
+        &rt,
+        rt.alloc(),
+        &STORES_AT_THE_EDGES,
+        b"STOP 99",
+        b"SCR 0F9F 34\nSCR 0000 56\nSCRW 0000 DEF0\nOUTW 0300 FF34\nOUTW 0300 56FF\nOUTW 0300 FFBC\nOUTW 0300 00B8\nEND 99\n",
+    )
+}
+
+#[test]
+fn last_port(rt: HostRuntime) -> Result<(), Fail> {
+    writes(
+        &rt,
+        rt.alloc(),
+        &LAST_PORT,
+        b"STOP 20",
+        b"INW FFFF FFFF\nOUTW FFFF 1234\nOUTW 001F 1300\nIN 0020 00\nEND 20\n",
+    )
+}
+
+#[test]
+fn returns_disabled(rt: HostRuntime) -> Result<(), Fail> {
+    writes(
+        &rt,
+        rt.alloc(),
+        &RETURNS_DISABLED,
+        b"AT 100 KEY 1E\nAT 200 KEY 30\nSTOP 300",
+        b"OUT 0063 99\nOUT 0020 13\nOUT 0021 08\nOUT 0021 03\nOUT 0021 FD\nKEY 1E\nACK 09\nIN 0060 1E\nOUT 0061 80\nOUT 0061 00\nKEY 30\nEND 300\n",
+    )
+}
+
+// A turn's events are not among its labels.
+#[test]
+fn turns_one_by_one(rt: HostRuntime) -> Result<(), Fail> {
+    let rom = rom(rt.alloc(), &WAKES_BY_A_KEY, &TO_THE_FRONT)?;
+    let mut board = Board::new(rt.alloc(), &rom, PowerOn::filled(rt.alloc(), 0)?)?;
+    for _ in 0..20 {
+        board.turn(&[]);
+    }
+    let turn = board.turn(&[Event::Key(0x1E), Event::Tick(3)]);
+    assert_eq!(rt; turn.labels.as_slice(), [Label::Ack(9)].as_slice());
+    Ok(())
+}
+
+// A sink that takes k bytes and then fails has them, and one that takes one byte a call takes the whole text.
+#[test]
+fn failing_sinks(rt: HostRuntime) -> Result<(), Fail> {
+    let text =
+        b"OUT 0063 99\nIN 0060 00\nIN 0060 00\nKEY 1E\nIN 0060 1E\nOUT 0300 01\nTICK 12\nEND 40\n";
+    let schedule = b"AT 8 KEY 1E\nAT 30 TICK 12\nSTOP 40";
+    for room in 0..text.len() {
+        let mut sink = CutSink::new(rt.alloc(), room, 7)?;
+        let end = traced(
+            rt.alloc(),
+            &POLLS_THE_KEYBOARD,
+            &TO_THE_FRONT,
+            schedule,
+            &mut sink,
+        )?;
+        assert_eq!(rt; end, Err(Fault::At(0, 1, Number::E704)));
+        assert_eq!(rt; sink.bytes(), &text[..room]);
+        assert_eq!(rt; sink.failures(), 1);
+    }
+    let mut sink = CutSink::new(rt.alloc(), text.len(), 1)?;
+    let end = traced(
+        rt.alloc(),
+        &POLLS_THE_KEYBOARD,
+        &TO_THE_FRONT,
+        schedule,
+        &mut sink,
+    )?;
+    assert_eq!(rt; end, Ok(End::Stopped));
+    assert_eq!(rt; sink.bytes(), text.as_slice());
+    Ok(())
+}
+
+/// The lines that begin with this word, and how many of them are this line, of a run with a key at every turn from one on.
+fn counted(alloc: Global, from: u32, word: &[u8], line: &[u8]) -> Result<(u32, u32), Fail> {
+    let mut schedule = Vec::new(alloc);
+    for turn in from..3000 {
+        let key = format!(in alloc; "AT {turn} KEY 1E\n")?;
+        schedule.extend_from_slice(key.as_bytes())?;
+    }
+    schedule.extend_from_slice(b"STOP 3000")?;
+    let mut sink = CutSink::new(alloc, 300_000, 4096)?;
+    let _end = traced(alloc, &ECHOES_KEYS, &TO_THE_FRONT, &schedule, &mut sink)?;
+    let mut begun = 0u32;
+    let mut equal = 0u32;
+    for given in sink.bytes().lines() {
+        if given.starts_with(word) {
+            begun = begun.wrapping_add(1);
+        }
+        if given == line {
+            equal = equal.wrapping_add(1);
+        }
+    }
+    Ok((begun, equal))
+}
+
+// ICW1 clears the one request of a key that came before it, and the register stays full.
+#[test]
+fn keys_at_every_turn(rt: HostRuntime) -> Result<(), Fail> {
+    let (reads, same) = counted(rt.alloc(), 1000, b"IN 0060", b"IN 0060 1E")?;
+    assert!(rt; reads > 0);
+    assert_eq!(rt; reads, same);
+    let (taken, _) = counted(rt.alloc(), 1000, b"ACK", b"ACK 09")?;
+    assert!(rt; taken > 0);
+    let (taken, _) = counted(rt.alloc(), 0, b"ACK", b"ACK 09")?;
+    assert_eq!(rt; taken, 0);
+    Ok(())
+}

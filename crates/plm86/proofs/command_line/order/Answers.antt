@@ -1,0 +1,28 @@
+use Rattle.std.proofs.Common.{◌≡◌, ◌⊎◌, ◌∙◌, ℕ, Bool, true, false, Option, Some, None, List, [], ap, refl, sym, inl, inr, codes, map, Bor, rules, subst}
+use Rattle.std.proofs.lemmas.Result.{IfOk-weaker, IfErr-weaker}
+use Rattle.clap.specs.Words.{App, Row, Text, app_of, subcommand_of, takes, is_simple, found_of, rows_of}
+use Rattle.clap.specs.Faults.{fault_of, is_simple_and_free}
+use Rattle.plm86.specs.CommandLine.{plm86_app}
+use Rattle.plm86.specs.Orders.{HasWords, IsRefused, OrderOf, Spells}
+use Rattle.plm86.specs.declared.order.OrderFault.{OrderFault}
+use Rattle.plm86.specs.declared.order.OrderFault.TheVariants.{Memory}
+use Rattle.plm86.proofs.Meets.{app_is_simple, app_is_free, named, met, wordless, only_memory}
+use Rattle.plm86.proofs.command_line.order.Goals as goal
+
+pub returns-in-Err-clause-words : goal.returns-in-Err-clause-words
+returns-in-Err-clause-words c =
+    let words = map (λ (w : Bor Text). w.now) c.args.words.now in
+    let app_is = c.in_ok-command.ensures in
+    wordless words c.refusal.result (λ none. c.refusal.ensures (only_memory _ c.in-Err.error (c.in-Err.ensures.kinds (ap is_simple_and_free app_is ∙ app_is_free)) (ap (λ (a : App). fault_of a words) app_is ∙ none)))
+
+pub returns-clause-ok : goal.returns-clause-ok
+returns-clause-ok c =
+    let words = map (λ (w : Bor Text). w.now) c.args.words.now in
+    let app_is = c.in_ok-command.ensures in
+    let accepted : fault_of plm86_app words ≡ [] = ap (λ (a : App). fault_of a words) (sym app_is) ∙ c.in-Ok.ensures.kinds (ap is_simple_and_free app_is ∙ app_is_free) in
+    let rows = rows_of (found_of c.in-Some.inner.now) in
+    let given = met c.in-Ok.matches c.in-Some._name.now rows c.in-Some.ensures.name c.in-Some.ensures.rows in
+    let at_words : subcommand_of plm86_app words ≡ Some (c.in-Some._name.now, rows) =
+    ap (λ (a : App). subcommand_of a words) (sym app_is) ∙ sym (c.in-Ok.ensures.matches (ap is_simple app_is ∙ app_is_simple)).1 ∙ given in
+    let name : c.in-Some._name.now ≡ codes "run" = named words c.in-Some._name.now rows at_words in
+    (accepted, c.in-Some._name.now, rows, at_words, subst (λ (n : Text). OrderOf n rows c.run_order.result) (sym name) c.run_order.ensures)

@@ -1,0 +1,5 @@
+use Rattle.plm86.proofs.Whole.{from_layers}
+use Rattle.plm86.proofs.laws.board_is_correct.Goals as goal
+
+pub returns : goal.returns
+returns g c = from_layers g.L.Layers.Ports g.L.Layers.Rest g.L.Layers.Place

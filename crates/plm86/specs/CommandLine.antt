@@ -1,0 +1,28 @@
+-- The command line as `clap` is told it, and the order that its matches spell.
+use Rattle.std.specs.Prelude.{◌≡◌, ◌==◌, ℕ, Bool, true, false, List, [], ◌∷◌, Option, Some, None, codes, map, unwrap_or, option_map, ⊤, IfSome, OnOk, IfErr}
+use Rattle.std.specs.Borrow.{Bor}
+use Rattle.clap.specs.Words.{App, Row, Rule, Shape, Text, all_of, first_of, new_app, new_rule, subcommand_of, takes, with_rule, with_subcommand}
+use Rattle.clap.specs.declared.builder.action.ArgAction.TheVariants.{Set, Append}
+
+abbrev pub needed : Text → Rule
+needed id = record (new_rule id) { required = true; value_names = 1 }
+
+abbrev pub run_app : App
+run_app = with_rule (with_rule (new_app (codes "run")) (needed (codes "rom"))) (needed (codes "schedule"))
+
+abbrev pub outer : App
+outer = record {
+  top = record (new_app (codes "plm86")).top {
+    no_binary_name = true;
+    disable_help_subcommand = true;
+    subcommand_required = true;
+  };
+  subs = [];
+}
+
+abbrev pub plm86_app : App
+plm86_app = with_subcommand outer run_app.top
+
+-- the first value of an argument
+abbrev pub value_of : Text → List Row → Text
+value_of id rows = unwrap_or (first_of id rows) []

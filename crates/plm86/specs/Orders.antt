@@ -1,0 +1,29 @@
+-- The order that the matches of `clap` spell.
+use Rattle.std.specs.Prelude.{◌≡◌, ◌⊎◌, ℕ, Bool, true, false, List, [], ◌∷◌, Option, Some, None, codes, map, unwrap_or, option_map, if◌then◌else◌, ⊤}
+use Rattle.std.specs.Str.{bytes_eq}
+use Rattle.clap.specs.Words.{Row, Text, all_of, first_of, subcommand_of, takes}
+use Rattle.clap.specs.Faults.{fault_of}
+use Rattle.plm86.specs.CommandLine.{plm86_app, value_of}
+use Rattle.plm86.specs.declared.order.Order.{Order}
+use Rattle.plm86.specs.declared.order.Order.TheVariants.{Run}
+use Rattle.plm86.specs.declared.order.OrderFault.{OrderFault}
+use Rattle.plm86.specs.declared.order.OrderFault.TheVariants.{Words, Memory}
+
+-- the order is that of the subcommand `name` with these values
+abbrev pub OrderOf : Text → List Row → Order → Type 0
+OrderOf name rows (Run rom schedule) = (name ≡ codes "run")
+    × (rom.now ≡ value_of (codes "rom") rows)
+    × (schedule.now ≡ value_of (codes "schedule") rows)
+
+-- `clap` takes the words, and the order is that of the subcommand and values of its matches
+abbrev pub Spells : List Text → Order → Type 0
+Spells words o = (fault_of plm86_app words ≡ []) × (name : Text) × (rows : List Row)
+    × (subcommand_of plm86_app words ≡ Some (name, rows)) × OrderOf name rows o
+
+abbrev pub HasWords : OrderFault → Type 0
+HasWords (Words text) = ⊤
+HasWords Memory = ⊥
+
+-- `clap` refuses the words
+abbrev pub IsRefused : List Text → Type 0
+IsRefused words = fault_of plm86_app words ≡ [] → ⊥

@@ -1,0 +1,34 @@
+//! What stands between the layers of the compiler and the board.
+
+ghost use Rattle.plm86.specs.Headline.{FromLayers};
+ghost use Rattle.plm86.specs.FromRom.{FromRom};
+
+use i86_code::one_form;
+
+/// The types of a compiler's layers: the states of the chips, the rests of a program's contexts, and the places of its
+/// intermediate code.
+pub trait Layers {
+    ghost Ports: { Type 0 };
+
+    ghost Rest: { Type 0 };
+
+    ghost Place: { Type 0 };
+}
+
+/// From the promises of the layers to what the board does.
+///
+/// If the intermediate code tracks the program's rests, the instructions follow the intermediate code, and start-up leads from
+/// each power-on memory to main's first instruction, then, whatever events are due turn by turn, the board's labels are those
+/// of an allowed run of the program, interrupts included. From the end of start-up on that run makes a step in every 64 turns,
+/// ROM and vectors stand, and the stack pointer stays in its bounds.
+pub fn board_is_correct<L: Layers>()
+    ensures { FromLayers L.Ports L.Rest L.Place }
+{}
+
+/// The same from the bytes of a ROM: they spell the code, and the code has a start-up that leaves the vectors and the
+/// program's first store.
+pub fn rom_is_correct<L: Layers>()
+    ensures { FromRom L.Ports L.Rest L.Place }
+{
+    one_form();
+}

@@ -1,0 +1,36 @@
+//! What a command line comes to.
+
+ghost use Rattle.std.specs.Prelude.{◌≡◌};
+ghost use Rattle.plm86.specs.declared.order.OrderFault.TheVariants.{Memory};
+
+use std::alloc::{AllocError, AllocFailed};
+
+/// What the command line asks for.
+#[derive(Debug, Drop)]
+pub enum Order<'a> {
+    /// `run ROM SCHEDULE`, with the files' names.
+    Run { rom: &'a str, schedule: &'a str },
+}
+
+/// Why there is no order: words to print, or want of memory.
+#[derive(Debug, Drop)]
+pub enum OrderFault {
+    Words(String),
+    Memory,
+}
+
+impl From<AllocError> for OrderFault {
+    ghost from_gives = { λ _ e. e ≡ Memory };
+
+    fn from(_refused: AllocError) -> OrderFault {
+        OrderFault::Memory
+    }
+}
+
+impl<T: Drop> From<AllocFailed<T>> for OrderFault {
+    ghost from_gives = { λ _ e. e ≡ Memory };
+
+    fn from(_refused: AllocFailed<T>) -> OrderFault {
+        OrderFault::Memory
+    }
+}
