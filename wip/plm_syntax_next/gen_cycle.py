@@ -144,23 +144,23 @@ IN=f'(Want InterruptG ∷ {LK[1:-1]})'
 RT=f'(Want ReturnedTypeG ∷ {IN[1:-1]})'
 b='(ItemsR is ∷ v)'
 ps='(names_of c.in_ok-parameters.parameters.items)'
-ty='c.returned.result.0'
+ty='c.returned-returned.result.0'
 it='(counted c.in_ok-interrupt.interrupt)'
 H0=f'(HeaderR {nn} {ps} None None no_linkage ∷ {b[1:-1]})'
 H1=f'(HeaderR {nn} {ps} {ty} None no_linkage ∷ {b[1:-1]})'
 H2=f'(HeaderR {nn} {ps} {ty} {it} no_linkage ∷ {b[1:-1]})'
-H3=f'(HeaderR {nn} {ps} {ty} {it} (linkage_of c.linkage.result.0) ∷ {b[1:-1]})'
+H3=f'(HeaderR {nn} {ps} {ty} {it} (linkage_of c.linkage-linkage.result.0) ∷ {b[1:-1]})'
 p1=f'c.in_ok-parameters.ensures.leads {nn} {RT} {b}'
-p2=f'{p1}{J}c.returned.ensures.leads {nn} {ps} {IN} {b}'
+p2=f'{p1}{J}c.returned-returned.ensures.leads {nn} {ps} {IN} {b}'
 p3=f'{p2}{J}c.in_ok-interrupt.ensures.leads {nn} {ps} {ty} {LK} {b}'
-p4=f'{p3}{J}c.linkage.ensures.leads {nn} {ps} {ty} {it} {SP} {b}'
+p4=f'{p3}{J}c.linkage-linkage.ensures.leads {nn} {ps} {ty} {it} {SP} {b}'
 p5=f'{p4}{J}taken {SP} {H3} c.in_ok-inner.ensures.1{J}quiet c.in_ok-inner.inner {PI} {IGp} {H3} (ItemsR no_items ∷ {H3[1:-1]}) {R0}'
 RP='(read_procedure is)'
 LI='λ is s v d. '
 A('procedure-returns-in_err-interrupt',LI+failed(RP,'interrupt',p2,f'c.in_err-interrupt.ensures.leads {nn} {ps} {ty} {LK} {b}'))
-A('procedure-returns-in_err-inner',LI+failed(RP,'inner',f'{p4}{J}need_refused (Sign mark.Semicolon) c.linkage.result.1 {PI} {H3} c.in_err-inner.ensures.0',ref('inner','c.linkage.result.1')))
+A('procedure-returns-in_err-inner',LI+failed(RP,'inner',f'{p4}{J}need_refused (Sign mark.Semicolon) c.linkage-linkage.result.1 {PI} {H3} c.in_err-inner.ensures.0',ref('inner','c.linkage-linkage.result.1')))
 A('procedure-returns-in_err-block',LI+failed(RP,'block',p5,f'c.in_err-block.ensures.leads {LP} {H3} d'))
-PR=f'ProcedureI {nn} {ps} {ty} {it} (linkage_of c.linkage.result.0)'
+PR=f'ProcedureI {nn} {ps} {ty} {it} (linkage_of c.linkage-linkage.result.0)'
 A('procedure-returns',f'{LI}{p5}{J}{bl}.ensures.leads {LP} {H3} d{J}quiet {bl}.rest {LP} s (read_block ({bl}.block, {bl}.end) {H3}) (ItemsR (items is ({PR} (BlockOf (items_part (block_of {bl}.block)) (statements_part (block_of {bl}.block))) (base_of {bl}.end))) ∷ v) {R0}{J}ap (λ (k : BlockT). run 64 s (ItemsR (items is ({PR} k (base_of {bl}.end))) ∷ v) (ahead {bl}.rest)) (block_parts (block_of {bl}.block))')
 # item
 IG='(Want (ItemsG l) ∷ s)'
@@ -196,17 +196,17 @@ Iv=f'(ItemsR {Is} ∷ v)'
 iv='c.loop-items.invariant.leads s v d'
 ans['block-loop-items-init!']=f'record {{ leads = λ s v d. ap (λ (xs : List Item). run 64 {IB} (ItemsR (items_of xs) ∷ v) (ahead c.args.cursor)) (sym c.new-items.ensures.items); shorter = omega arith }}'
 ans['block-loop-items-preserved!']=f'''record {{
-      leads = λ s v d. {iv}{J}c.in-Some.ensures.leads {lab} {Is} s v d{J}ap (λ (xs : ItemsT). run 64 {IB} (ItemsR xs ∷ v) (ahead c.in-Some.behind)) (sym (item_pushed c.loop-items.items.items c.in-Some.item no_items)){J}ap (λ (xs : List Item). run 64 {IB} (ItemsR (items_of xs) ∷ v) (ahead c.in-Some.behind)) (sym c.in_ok-push.ensures.items);
-      shorter = omega (arith, c.loop-items.invariant.shorter, c.in-Some.ensures.within);
+      leads = λ s v d. {iv}{J}(item_there c.loop-items.rest c.args.room c.in-Some.is c.in_ok-item.ensures.leads) {lab} {Is} s v d{J}ap (λ (xs : ItemsT). run 64 {IB} (ItemsR xs ∷ v) (ahead c.in-Some.behind)) (sym (item_pushed c.loop-items.items.items c.in-Some.item no_items)){J}ap (λ (xs : List Item). run 64 {IB} (ItemsR (items_of xs) ∷ v) (ahead c.in-Some.behind)) (sym c.in_ok-push.ensures.items);
+      shorter = omega (arith, c.loop-items.invariant.shorter, item_within c.loop-items.rest c.in-Some.is c.in_ok-item.ensures.within);
     }}'''
 A('block-returns-in_err-item','λ s v d. '+failed('read_block','item',iv,f'c.in_err-item.ensures.leads {lab} {Is} s v d',True))
-nb=f'{iv}{J}c.in_default.ensures.leads {lab} s {Iv}'
+nb=f'{iv}{J}(no_item c.loop-items.rest c.args.room c.in_default.is c.in_ok-item.ensures.leads) {lab} s {Iv}'
 A('block-returns-in_err-statements','λ s v d. '+failed('read_block','statements',nb,f'c.in_err-statements.ensures.leads s {Iv} d'))
 st='c.in_ok-statements'
 A('block-returns',f'λ s v d. {nb}{J}{st}.ensures.leads s {Iv} d{J}ap (λ (x : StatementsT). run 64 s (EndR (base_of {st}.end) ∷ StatementsR x ∷ {Iv[1:-1]}) (ahead {st}.behind)) (sym (statement_row {st}.statements)){J}ap (λ (x : ItemsT). run 64 s (EndR (base_of {st}.end) ∷ StatementsR (statements_in (hidden-the_row-Statement-0 {st}.statements) no_statements) ∷ ItemsR x ∷ v) (ahead {st}.behind)) (sym (item_row c.loop-items.items))')
 h2=head.replace("use Rattle.plm_syntax.specs.Parsed.{ahead, next_of}","use Rattle.plm_syntax.specs.Parsed.{ahead, next_of, first_of}\nuse Rattle.plm_syntax.specs.Answers.{terminal_of}\nuse Rattle.plm_token.specs.declared.token.Token.{Token}\nuse Rattle.plm_syntax.specs.declared.tree.Basic.TheBlock.{hidden-the_row-Statement-0}")
 h2=h2.replace("Blocks.{is_label,","Blocks.{items_part, statements_part, begins_statement, is_label,").replace("Tree.{NamesT,","Tree.{BlockT, ProcedureI, NamesT,").replace("View.{name_of,","View.{statements_in, block_of, name_of,")
-h2=h2.replace("arm_refused, statements_begin}","arm_refused, statements_begin, next_is, block_parts, failed_item, deep_at_length}").replace("arrives_behind, arrives_left}","arrives_behind, arrives_left, fails_behind, ahead_length}")
+h2=h2.replace("arm_refused, statements_begin}","arm_refused, statements_begin, next_is, block_parts, failed_item, deep_at_length, item_there, no_item, item_within}").replace("arrives_behind, arrives_left}","arrives_behind, arrives_left, fails_behind, ahead_length}")
 out=[h2+'use Rattle.plm_syntax.proofs.statement.+statement.Goals as goal\n']
 for k,bb in ans.items():
     nme=k[:-1] if k.endswith('!') else k+'-clause-leads'
@@ -236,7 +236,7 @@ emit('module',{
 'returns-in_err-inner!':fm('inner',f'{m3}{J}need_refused (Sign mark.Semicolon) c.in_ok-start.start {PM} [] c.in_err-inner.ensures.0',ref('inner','c.in_ok-start.start')),
 'returns-in_err-block!':fm('block',m4,f'c.in_err-block.ensures.leads {DM} [] refl'),
 'returns-in-None!':f'{m5}{J}ap (λ (ts : List Token). run 64 {DM} {BV} (stream {bl}.rest.number ts)) c.in-None.ensures{J}ap (λ (b : BlockT). finished (ModuleOf {n} b (base_of {bl}.end))) (block_parts (block_of {bl}.block))',
-'returns-in-Some!':f'refusal c.refuse.result {bl}.rest c.refuse.ensures\n      ({m5}{J}quiet {bl}.rest {DM} (Need Finish ∷ []) {BV} (ModuleR (ModuleOf {n} (BlockOf (items_part (block_of {bl}.block)) (statements_part (block_of {bl}.block))) (base_of {bl}.end)) ∷ []) {R0}{J}need_refused Finish {bl}.rest [] _ (more_text {bl}.rest c.in-Some.field-0.2 c.in-Some.field-0.0.kind c.in-Some.field-0.0.text.now c.in-Some.field-0.1 c.in-Some.ensures))',
+'returns!':f'refusal c.refuse.result {bl}.rest c.refuse.ensures\n      ({m5}{J}quiet {bl}.rest {DM} (Need Finish ∷ []) {BV} (ModuleR (ModuleOf {n} (BlockOf (items_part (block_of {bl}.block)) (statements_part (block_of {bl}.block))) (base_of {bl}.end)) ∷ []) {R0}{J}need_refused Finish {bl}.rest [] _ (more_text {bl}.rest c.in-Some.field-0.2 c.in-Some.field-0.0.kind c.in-Some.field-0.0.text.now c.in-Some.field-0.1 c.in-Some.ensures))',
 })
 p=R+'module/Answers.antt'
 t=open(p).read()
