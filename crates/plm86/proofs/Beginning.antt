@@ -4,8 +4,8 @@ use Rattle.word86.specs.Chips.{Chips}
 use Rattle.plm_meaning.specs.Store.{Store, with_chips}
 use Rattle.i86_table.specs.Contexts.{Working, all_registers}
 use Rattle.cpu8086.specs.Machine.{physical, next_offset, loaded_byte, loaded_word}
-use Rattle.plm86.specs.World.{World, board_meaning, befall, Whole}
-use Rattle.plm86.specs.Machine.{Board}
+use Rattle.board.specs.World.{World, board_meaning, befall, Whole}
+use Rattle.board.specs.Machine.{Board}
 use Rattle.plm86.specs.Relation.{FlagsAre}
 use Rattle.plm86.specs.Headline.{Layout, IsSound, Begins}
 use Rattle.plm86.specs.FromRom.{HoldsStore}

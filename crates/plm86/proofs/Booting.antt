@@ -24,7 +24,7 @@ use Rattle.cpu8086.specs.Moves.{moved, moved_to_segment}
 use Rattle.cpu8086.specs.Effect.{effect}
 use Rattle.cpu8086.specs.Turn.{reset_cpu, phase_after, fetched}
 use Rattle.plm86.specs.Laws.{OfBoard, Events}
-use Rattle.plm86.specs.Machine.{Board, befalls, goes}
+use Rattle.board.specs.Machine.{Board, befalls, goes}
 use Rattle.plm86.specs.Relation.{FlagsAre}
 use Rattle.plm86.specs.Startup.{load_word, put_word, put_byte, Stands, Act, PutWord, PutByte, Copy, HasAct, HasActs, turns_of, turns_of_all, word_put, byte_put, with_vectors, copied, after_act, after_acts, HasStartUp, start_up_turns}
 use Rattle.plm86.proofs.Data.{store_at}

@@ -7,7 +7,8 @@ use Rattle.word86.specs.Action.{Shared, Action, Silent, Touch, Enable, Disable, 
 use Rattle.word86.specs.Following.{Offer, Does, Arms, Paid, Quiet, Switch, Meets, Follows}
 use Rattle.plm_meaning.specs.System.{Choice, Program, Occurs, Enter, Leave, Idle, System, State, kept_if, settled, counted, and_then, labelled, step, steps, some_step, joined, FitsTurns, HasNoBad, KeepsPace, BadIsNext, leave_step, enter_step}
 use Rattle.plm86.specs.Duo.{Duo, Alone, Armed, Serving, after_events, duo_after_events, execute, serve, alone, act}
-use Rattle.plm86.specs.Machine.{outputs, final, Boots}
+use Rattle.board.specs.Machine.{outputs, final}
+use Rattle.plm86.specs.Boots.{Boots}
 
 pub data Joint (S R C : Type 0) : Type 0 where
   -- both stand at the same place

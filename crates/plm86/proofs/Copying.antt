@@ -16,7 +16,7 @@ use Rattle.cpu8086.specs.Machine.{Machine, physical, loaded_byte, stored_access,
 use Rattle.cpu8086.specs.Strings.{string_moved, unit_moved, counted_down, stepped}
 use Rattle.cpu8086.specs.Effect.{effect}
 use Rattle.plm86.specs.Laws.{OfBoard, Events}
-use Rattle.plm86.specs.Machine.{Board}
+use Rattle.board.specs.Machine.{Board}
 use Rattle.plm86.specs.Relation.{FlagsAre}
 use Rattle.plm86.specs.Startup.{rep_movsb, byte_put, word_put, copied}
 use Rattle.plm86.proofs.Memory

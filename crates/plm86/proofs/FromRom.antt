@@ -3,8 +3,9 @@ use Rattle.std.proofs.Common.{◌≡◌, ℕ, List, length, refl, sym}
 use Rattle.i86_code.specs.Decoding.{IsOneForm, IsShort}
 use Rattle.word86.specs.Chips.{Chips}
 use Rattle.plm_meaning.specs.Store.{Store}
-use Rattle.plm86.specs.World.{World, Whole, board_meaning, befall}
-use Rattle.plm86.specs.Headline.{Layout, IsSound, Begins, StartsUp, power_on}
+use Rattle.board.specs.World.{World, Whole, board_meaning, befall}
+use Rattle.board.specs.Machine.{power_on}
+use Rattle.plm86.specs.Headline.{Layout, IsSound, Begins, StartsUp}
 use Rattle.plm86.specs.Rom.{CodeInRom}
 use Rattle.plm86.specs.Startup.{Act, HasStartUp, start_up_turns, with_vectors, after_acts}
 use Rattle.plm86.specs.FromRom.{FromRom, HoldsStore, power_on_memory}

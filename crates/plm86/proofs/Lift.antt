@@ -31,7 +31,7 @@ use Rattle.cpu8086.specs.Effect.{effect}
 use Rattle.cpu8086.specs.Turn.{turn_of, doing, acknowledging, fetched, phase_after, decoded_turn, instruction_turn, still, Outcome}
 use Rattle.plm86.specs.Laws.{OfBoard, Events}
 use Rattle.plm86.specs.Duo.{Duo, Alone, Armed, Serving, after_events, duo_after_events, execute, serve, alone, act}
-use Rattle.plm86.specs.Machine.{Board, befalls, goes, turn}
+use Rattle.board.specs.Machine.{Board, befalls, goes, turn}
 use Rattle.plm86.specs.Relation.{Stacked, Stack, Fine, Placed, Finds, FlagsAre}
 use Rattle.plm86.proofs.Memory
 use Rattle.plm86.proofs.Memory.{push_is, pop_is, push_stacks, fine_push}

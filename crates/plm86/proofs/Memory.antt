@@ -16,7 +16,7 @@ use Rattle.cpu8086.specs.Turn.{fetched}
 use Rattle.word86.specs.Chips.{Chips}
 use Rattle.plm_meaning.specs.Store.{Store}
 use Rattle.i86_table.specs.Contexts.{Working, all_registers}
-use Rattle.plm86.specs.World.{is_on_screen, screen_at}
+use Rattle.board.specs.World.{is_on_screen, screen_at}
 use Rattle.plm86.specs.Laws.{OfBoard}
 use Rattle.plm86.specs.Relation.{Stacked, Stack, Spelled, Vectors, Fine, Placed}
 

@@ -7,7 +7,7 @@ use Rattle.i86_code.specs.Meaning.{Spells}
 use Rattle.i86_code.specs.Decoding.{decoded, IsOneForm, IsShort}
 use Rattle.cpu8086.specs.Machine.{physical, loaded_byte}
 use Rattle.cpu8086.specs.Turn.{fetched}
-use Rattle.plm86.specs.World.{World, Whole, board_meaning, region, screen_at}
+use Rattle.board.specs.World.{World, Whole, board_meaning, region, screen_at}
 use Rattle.plm86.specs.Relation.{Spelled}
 use Rattle.plm86.specs.Rom.{rom_byte, Written, CodeInRom}
 use Rattle.plm86.proofs.Regions.{within_true, within_above}

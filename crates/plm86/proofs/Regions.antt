@@ -8,7 +8,7 @@ use Rattle.cpu8086.specs.declared.bus.Store.{Store}
 use Rattle.cpu8086.specs.declared.bus.Store.TheVariants as stores
 use Rattle.cpu8086.specs.Meaning.{LoadAfterStore, PortsKeepMemory, stored}
 use Rattle.word86.specs.Chips.{Chips}
-use Rattle.plm86.specs.World.{Whole, lies_in, region, put, after_store, board_meaning, screen_at, befall}
+use Rattle.board.specs.World.{Whole, lies_in, region, put, after_store, board_meaning, screen_at, befall}
 use Rattle.plm86.specs.Laws.{OfBoard, Events}
 
 chosen : {A : Type 0} (b : Bool) (x y : A) → ((b ≡ true) × (cond b x y ≡ x)) ⊎ ((b ≡ false) × (cond b x y ≡ y))

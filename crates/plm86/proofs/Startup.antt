@@ -19,7 +19,8 @@ use Rattle.cpu8086.specs.Effect.{effect}
 use Rattle.cpu8086.specs.Turn.{turn_of, doing, fetched, phase_after, instruction_turn, decoded_turn, acknowledging}
 use Rattle.plm86.specs.Laws.{OfBoard, Events}
 use Rattle.plm86.specs.Duo.{after_events}
-use Rattle.plm86.specs.Machine.{Board, befalls, goes, turn, Boots}
+use Rattle.board.specs.Machine.{Board, befalls, goes, turn}
+use Rattle.plm86.specs.Boots.{Boots}
 use Rattle.plm86.specs.Relation.{Spelled}
 use Rattle.plm86.proofs.Memory
 

@@ -29,7 +29,7 @@ use Rattle.cpu8086.specs.Effect.{effect}
 use Rattle.cpu8086.specs.Turn.{phase_after}
 use Rattle.plm86.specs.Startup.{low_half, high_half, HasLoop, word_put, with_vectors}
 use Rattle.plm86.specs.Laws.{OfBoard, Events}
-use Rattle.plm86.specs.Machine.{Board}
+use Rattle.board.specs.Machine.{Board}
 use Rattle.plm86.specs.Relation.{FlagsAre}
 use Rattle.plm86.proofs.Memory
 use Rattle.plm86.proofs.Data

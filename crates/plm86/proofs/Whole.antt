@@ -4,9 +4,9 @@ use Rattle.word86.specs.Access.{Access, answers}
 use Rattle.word86.specs.Following.{Follows}
 use Rattle.plm_meaning.specs.Store.{Store, shared}
 use Rattle.i86_table.specs.Contexts.{Context, Own, Working}
-use Rattle.plm86.specs.World.{World, Whole, board_meaning, befall}
+use Rattle.board.specs.World.{World, Whole, board_meaning, befall}
 use Rattle.plm86.specs.Duo.{Duo, Alone}
-use Rattle.plm86.specs.Machine.{Board}
+use Rattle.board.specs.Machine.{Board}
 use Rattle.plm86.specs.Headline.{Layout, IsSound, FromInstructions, FromLayers, Begins, Compiled, offers_of, main_of, starts_of, board_turn}
 use Rattle.plm86.proofs.Joining
 use Rattle.plm86.proofs.Regions.{of_board, events_law}

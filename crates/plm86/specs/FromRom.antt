@@ -5,7 +5,7 @@ use Rattle.word86.specs.Chips.{Chips}
 use Rattle.word86.specs.Action.{Action}
 use Rattle.plm_meaning.specs.Store.{Store, object}
 use Rattle.i86_table.specs.Contexts.{Context, Working}
-use Rattle.plm86.specs.World.{region, screen_at}
+use Rattle.board.specs.World.{region, screen_at}
 use Rattle.plm86.specs.Headline.{Layout, IsSound, Lowered, Compiled, offers_of, main_of, starts_of, RomIsCorrect}
 use Rattle.plm86.specs.Rom.{CodeInRom}
 use Rattle.plm86.specs.Startup.{Act, HasStartUp, start_up_turns, with_vectors, after_acts}

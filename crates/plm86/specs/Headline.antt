@@ -11,9 +11,9 @@ use Rattle.plm_meaning.specs.Store.{Store, shared}
 use Rattle.i86_table.specs.declared.instruction.Instr.{Instr}
 use Rattle.i86_table.specs.Contexts.{Context, Own, Working, all_registers, offer, start}
 use Rattle.cpu8086.specs.declared.cpu.Phase.TheVariants.{Running}
-use Rattle.cpu8086.specs.Turn.{reset_cpu}
-use Rattle.plm86.specs.World.{World, Whole, board_meaning, befall}
-use Rattle.plm86.specs.Machine.{Board, turn, outputs, final, Boots}
+use Rattle.board.specs.World.{World, Whole, board_meaning, befall}
+use Rattle.board.specs.Machine.{Board, turn, outputs, final, power_on}
+use Rattle.plm86.specs.Boots.{Boots}
 use Rattle.plm86.specs.Relation.{Fine, Vectors, Placed, Finds, FlagsAre}
 
 -- ---- the promises of the layers
@@ -63,10 +63,6 @@ abbrev pub stack_bytes_of : Layout → ℕ
 stack_bytes_of x = 2 * (x.main + 3 + x.handler)
 
 -- ---- the board
-
--- the board when the power comes on
-abbrev pub power_on : {P : Type 0} → (rom ram screen : List ℕ) → (chips : P) → Board (World P)
-power_on rom ram screen chips = record { cpu = reset_cpu; world = record { ram = ram; screen = screen; rom = rom; chips = chips } }
 
 module _ {P : Type 0} (c : Chips P) where
   abbrev pub board_turn : List Event → Board (World P) → Board (World P) × List Label

@@ -5,7 +5,7 @@ use Rattle.word86.specs.declared.event.Event.{Event}
 use Rattle.word86.specs.Chips.{Chips}
 use Rattle.cpu8086.specs.declared.bus.Store.{Store}
 use Rattle.cpu8086.specs.Meaning.{Meaning, LoadAfterStore, PortsKeepMemory}
-use Rattle.plm86.specs.World.{shown_store}
+use Rattle.board.specs.World.{shown_store}
 
 -- RAM below 128 KiB and the screen keep what is stored, what is above 0C0000H does not; stores show what comes to the screen;
 -- and the chips are these.

@@ -1,7 +1,6 @@
-pub mod World
 pub mod Laws
 pub mod Duo
-pub mod Machine
+pub mod Boots
 pub mod Relation
 pub mod Headline
 pub mod Startup
