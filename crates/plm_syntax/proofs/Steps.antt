@@ -1,0 +1,153 @@
+-- One step of a run, and what may follow an expression.
+use Rattle.std.proofs.Common.{◌≡◌, ℕ, zero, suc, ◌≤◌, ◌<◌, List, [], ◌∷◌, ◌++◌, Bool, true, false, cond, Option, Some, None, Result, Ok, Err, refl, sym, ap, ◌∙◌, subst, append_assoc, arith, length}
+use Rattle.plm_token.specs.declared.token.Keyword.{Keyword}
+use Rattle.plm_token.specs.declared.token.Keyword.TheVariants as key
+use Rattle.plm_token.specs.declared.token.Mark.{Mark}
+use Rattle.plm_token.specs.declared.token.Mark.TheVariants as mark
+use Rattle.plm_syntax.specs.declared.tree.Place.{Place}
+use Rattle.plm_syntax.specs.declared.tree.Scalar.{Scalar}
+use Rattle.plm_syntax.specs.declared.tree.Scalar.TheVariants as scalar
+use Rattle.plm_syntax.specs.declared.tree.UnaryOperator.{UnaryOperator}
+use Rattle.plm_syntax.specs.declared.tree.UnaryOperator.TheVariants as unary
+use Rattle.plm_syntax.specs.declared.tree.BinaryOperator.{BinaryOperator}
+use Rattle.plm_syntax.specs.declared.tree.BinaryOperator.TheVariants as binary
+use Rattle.plm_syntax.specs.Terminal.{NameT, NumberT, TextT, Terminal, Name, Number, Text, Key, Sign, Finish, Leaf, leaf, leaf_at, key_number, sign_number, is_key, is_sign, is_finish, is_same}
+use Rattle.plm_syntax.specs.Tree.{LocationForm, Pointer, Offset, ExpressionT, NumberE, TextE, ReferenceE, LocationE, ParenthesisedE, EmbeddedE, UnaryE, BinaryE, ReferenceT, ReferenceOf, ExpressionsT, no_expressions, expressions, SelectorT, no_member, member, member_at, LocationT, LocationOf, ConstantsOf, ValueT, NumberV, NegativeV, TextV, LocationV, ValuesT, no_values, values, NamesT, no_names, names, VariableT, VariableOf, VariablesT, no_variables, variables, DeclaredT, OneVariable, VariableList, DimensionT, no_dimension, dimension, implicit_dimension, MemberT, OneMember, MemberList, MembersT, no_members, members, TypeT, ScalarType, StructureType, AtT, no_at, at_number, at_location, InitialT, no_initial, initial, constant_data, AttributesT, External, Attributes, ElementT, LiteralElement, VariableElement, ElementsT, no_elements, elements, LinkageT, no_linkage, public_linkage, external_linkage, ReferencesT, no_references, references, StatementT, Labelled, BasicT, EmptyS, AssignS, CallS, ReturnS, ReturnValueS, EnableS, DisableS, HaltS, IfS, IfElseS, DoS, WhileS, CaseS, IterateS, StatementsT, no_statements, statements, BlockT, BlockOf, ItemsT, no_items, items, ItemT, DeclareI, ProcedureI, ModuleT, ModuleOf}
+use Rattle.plm_syntax.specs.Spelling.{unary_sign, binary_sign, form_sign, scalar_key, last_name, behind_labels, tok, sign, word, expression, reference, subscripts, listed, selector, location, value, value_list, listed_values, listed_names, name_list, parenthesised_names, base, variable, listed_variables, variable_list, declared, in_parentheses, dimension_leaves, count, member_leaves, listed_members, member_list, type_leaves, at_leaves, initial_leaves, public, attributes, element, listed_elements, element_list, returned, interrupt, linkage, ending, listed_references, targets, labels, step, statement, basic, statement_list, block, item_list, item, module_leaves, put_leaf, put_level, leaves_of, levels_of}
+use Rattle.plm_syntax.specs.WellFormed.{level_of, left_level, unary_level, operand_level, level, Well, WellReference, WellExpressions, WellSelector, WellLocation, WellValue, WellValues, WellSomeValues, HasNames, HasVariables, WellDeclared, WellMember, WellSomeMembers, WellType, WellAt, WellInitial, WellAttributes, WellElement, WellSomeElements, WellElements, WellSomeReferences, WellTargets, WellStep, ends_open, basic_open, is_end_name, WellEnd, WellStatement, WellBasic, WellStatements, WellBlock, WellItems, WellItem, WellModule}
+use Rattle.plm_syntax.specs.Symbol.{Value, Action, Level, Goal, Symbol, depth_on, depth, Rule, behind, otherwise, before, opened, need, push, ExpressionR, ExpressionsR, NameR, ValueR, ValuesR, ReferencesR, NamesR, StatementR, ArmsR, StatementsR, ItemsR, StepR, EndR, VariableR, VariablesR, DimensionR, CountR, MembersR, MemberR, TypeR, AtR, InitialR, PublicR, AttributesR, ElementR, ElementsR, DeclaredR, RangeR, HeaderR, ModuleR, Products, Sums, Relations, Conjunctions, Disjunctions, PrimaryG, SignedG, NegationG, MoreG, InsideG, AfterReferenceG, SubscriptsG, MoreSubscriptsG, SelectorG, MemberG, MemberSubscriptG, LocatedG, ValueG, NegativeG, MoreValuesG, StatementG, LeadG, TargetG, MoreTargetsG, CalledG, ReturnedG, ArmG, OtherwiseG, DoG, StepG, StatementsG, EndG, ItemsG, ItemLeadG, ItemColonG, ParametersG, ParameterG, MoreParametersG, ReturnedTypeG, InterruptG, InterruptNumberG, LinkageG, ElementG, ElementLeadG, LiteralTextG, VariableG, MoreVariablesG, BasedG, BaseG, DimensionG, DimensionBodyG, TypeG, MemberOfG, MemberNameG, MoreMemberNamesG, CountG, CountNumberG, MemberTypeG, MoreMembersG, AttributesG, AtG, AtBodyG, InitialG, MoreElementsG, ModuleG, StartG, Need, Want, Do, Leave, Refused, Over, Take, Keep}
+use Rattle.plm_syntax.specs.Machine.{plain, operand, again, number_of, an_expression, operator_of, make_binary, make_unary, make_parenthesised, make_embedded, add_expression, set_subscripts, set_member, set_member_subscript, operation, more, reference_begun, primary, signed, negation, expression_at, closing, inside, after_reference, subscripts_rule, more_subscripts, selector_rule, member_rule, member_subscript, locate, locate_values, location_value, add_value, a_value_list, located, value_rule, negative, more_values, make_simple, add_label, add_target, make_assign, make_call, make_return, join_arms, make_if, add_statement, make_do, make_while, make_case, make_range, set_step, make_iterate, statement_rule, more_targets, assignment_rule, lead, target, called, returned_rule, no_labels, no_statement_yet, arm, otherwise_rule, do_rule, step_rule, end_rule, and_more, statements_rule, make_declare, make_procedure, add_parameter, set_returned, set_interrupt, set_linkage, make_module, scalar_of, parameters_rule, parameter, more_parameters, returned_type, interrupt_rule, interrupt_number, linkage_rule, items_rule, item_lead, procedure_symbols, item_colon, add_element, make_literal, set_base, add_variable, one_variable, variable_group, set_dimension, set_count, add_name, make_member, add_member, make_structure, set_external, set_public, set_at, set_at_location, set_initial, set_data, make_element, attributes_tail, declared_tail, element_rule, more_elements, variable_rule, more_variables, based_rule, base_rule, dimension_rule, dimension_body, type_rule, member_of, member_name, more_member_names, count_rule, count_number, member_type, more_members, at_rule, at_body, initial_rule, attributes_rule, element_lead, literal_text, module_rule, start_rule, rule, Move, moved, kept, feed, Trace, trace, Stop, Reading, run, start, Stay, Next, Open, Ended, Wrong, Then, Refusal, Deep}
+use Rattle.std.specs.Prelude.{nat_eq}
+use Rattle.std.proofs.lemmas.Bool.{eqb-true}
+
+-- what a run makes of one token
+abbrev pub go : Move → List Leaf → Trace
+go Stay ls = Wrong (length ls)
+go (Next s v) ls = Then 0 (trace s v ls)
+go (Open s v) ls = Then (depth s) (trace s v ls)
+
+pub trace_step : (s : List Symbol) (v : List Value) (l : Leaf) (ls : List Leaf) → trace s v (l ∷ ls) ≡ go (feed s v l.terminal l.place) ls
+trace_step s v l ls = by_move (feed s v l.terminal l.place)
+  where
+    by_move : (m : Move) → (elim m [ Stay ↦ Wrong (length ls) | Next s' v' ↦ Then 0 (trace s' v' ls) | Open s' v' ↦ Then (depth s') (trace s' v' ls) ]) ≡ go m ls
+    by_move Stay = refl
+    by_move (Next s' v') = refl
+    by_move (Open s' v') = refl
+
+pub same_trace : (s s' : List Symbol) (v v' : List Value) (l : Leaf) (ls : List Leaf) → feed s v l.terminal l.place ≡ feed s' v' l.terminal l.place → trace s v (l ∷ ls) ≡ trace s' v' (l ∷ ls)
+same_trace s s' v v' l ls h = trace_step s v l ls ∙ ap (λ (m : Move). go m ls) h ∙ sym (trace_step s' v' l ls)
+
+-- what a rule makes of a token
+abbrev pub ruled : Rule → List Symbol → List Value → Terminal → Option Place → Move
+ruled Refused s v t p = Stay
+ruled Over s v t p = feed s v t p
+ruled (Take b r) s v t p = moved b (r ++ s) v
+ruled (Keep b f) s v t p = kept b f s v p
+
+pub feed_want : (g : Goal) (s : List Symbol) (v : List Value) (t : Terminal) (p : Option Place) → feed (Want g ∷ s) v t p ≡ ruled (rule g t) s v t p
+feed_want g s v t p = by_rule (rule g t)
+  where
+    by_rule : (r : Rule) → (elim r [ Refused ↦ Stay | Over ↦ feed s v t p | Take b r ↦ moved b (r ++ s) v | Keep b f ↦ kept b f s v p ]) ≡ ruled r s v t p
+    by_rule Refused = refl
+    by_rule Over = refl
+    by_rule (Take b r) = refl
+    by_rule (Keep b f) = refl
+
+-- a goal that is over before the token
+pub over : (g : Goal) (s : List Symbol) (v : List Value) (l : Leaf) (ls : List Leaf) → rule g l.terminal ≡ Over → trace (Want g ∷ s) v (l ∷ ls) ≡ trace s v (l ∷ ls)
+over g s v l ls h = same_trace (Want g ∷ s) s v v l ls (feed_want g s v l.terminal l.place ∙ ap (λ (r : Rule). ruled r s v l.terminal l.place) h)
+
+-- two goals with one rule for the token
+pub same_rule : (g g' : Goal) (s : List Symbol) (v : List Value) (l : Leaf) (ls : List Leaf) → rule g l.terminal ≡ rule g' l.terminal → trace (Want g ∷ s) v (l ∷ ls) ≡ trace (Want g' ∷ s) v (l ∷ ls)
+same_rule g g' s v l ls h = same_trace (Want g ∷ s) (Want g' ∷ s) v v l ls (feed_want g s v l.terminal l.place ∙ ap (λ (r : Rule). ruled r s v l.terminal l.place) h ∙ sym (feed_want g' s v l.terminal l.place))
+
+-- a rule that is not over
+abbrev pub IsDecided : Rule → Type 0
+IsDecided Over = ⊥
+IsDecided r = Unit {0}
+
+pub ruled_behind : (r : Rule) (a s : List Symbol) (v : List Value) (t : Terminal) (p : Option Place) → IsDecided r → ruled (behind r a) s v t p ≡ ruled r (a ++ s) v t p
+ruled_behind Refused a s v t p h = refl
+ruled_behind Over a s v t p h = absurd h
+ruled_behind (Take b r) a s v t p h = ap (λ (x : List Symbol). moved b x v) (append_assoc r a s)
+ruled_behind (Keep b f) a s v t None h = refl
+ruled_behind (Keep b f) a s v t (Some p) h = ap (λ (x : List Symbol). moved b x v) (append_assoc (f p) a s)
+
+-- a rule that goes on with another where it is over
+pub ruled_otherwise : (r r' : Rule) (a s s' : List Symbol) (v : List Value) (t : Terminal) (p : Option Place) → ruled r' s v t p ≡ feed (a ++ s) v t p → ruled (otherwise (behind r a) r') s v t p ≡ ruled r (a ++ s) v t p
+ruled_otherwise Refused r' a s s' v t p h = refl
+ruled_otherwise Over r' a s s' v t p h = h
+ruled_otherwise (Take b r) r' a s s' v t p h = ap (λ (x : List Symbol). moved b x v) (append_assoc r a s)
+ruled_otherwise (Keep b f) r' a s s' v t None h = refl
+ruled_otherwise (Keep b f) r' a s s' v t (Some p) h = ap (λ (x : List Symbol). moved b x v) (append_assoc (f p) a s)
+
+-- ---- what may follow
+
+-- how tightly a token binds what stands before it: "(" and "." of a reference, operators by their level, all else not at all
+abbrev pub binds_as : Option BinaryOperator → Terminal → ℕ
+binds_as (Some o) t = level_of o
+binds_as None t = cond (is_sign mark.LeftParenthesis t) 0 (cond (is_sign mark.Period t) 1 8)
+
+abbrev pub binds : Terminal → ℕ
+binds t = binds_as (operator_of t) t
+
+-- the next token binds nothing of level n or tighter
+pub data Stops (n : ℕ) : List Leaf → Type 0 where
+  stops : {l : Leaf} {ls : List Leaf} → n < binds l.terminal → Stops n (l ∷ ls)
+
+pub less : {n : ℕ} (m : ℕ) {ls : List Leaf} → m ≤ n → Stops n ls → Stops m ls
+less m e (stops h) = stops (omega (arith, e, h))
+
+pub did : {n : ℕ} {ls : List Leaf} (a : Action) (s : List Symbol) (v w : List Value) → Stops n ls → a v ≡ Some w → trace (Do a ∷ s) v ls ≡ trace s w ls
+did a s v w (stops {l} {ls} h) e = same_trace (Do a ∷ s) s v w l ls (by_option (a v) e)
+  where
+    by_option : (o : Option (List Value)) → o ≡ Some w → (elim o [ None ↦ Stay | Some x ↦ feed s x l.terminal l.place ]) ≡ feed s w l.terminal l.place
+    by_option None e = absurd cc
+    by_option (Some x) e = let is : x ≡ w = cc in ap (λ (y : List Value). feed s y l.terminal l.place) is
+
+pub left : {n : ℕ} {ls : List Leaf} (s : List Symbol) (v : List Value) → Stops n ls → trace (Leave ∷ s) v ls ≡ trace s v ls
+left s v (stops {l} {ls} h) = same_trace (Leave ∷ s) s v v l ls refl
+
+pub operation_over : (l : Level) (o : BinaryOperator) → number_of l < level_of o → operation l o ≡ Over
+operation_over l o h = by_test (nat_eq (level_of o) (number_of l)) refl
+  where
+    by_test : (b : Bool) → nat_eq (level_of o) (number_of l) ≡ b → operation l o ≡ Over
+    by_test false e = ap (λ (b : Bool). cond b (Keep false (λ p. operand l ++ (Do (make_binary p o) ∷ again l))) Over) e
+    by_test true e = absurd (omega (arith, h, eqb-true (level_of o) (number_of l) e))
+
+pub more_over : (l : Level) (t : Terminal) → number_of l < binds t → more l t ≡ Over
+more_over l t h = by_operator (operator_of t) h
+  where
+    by_operator : (o : Option BinaryOperator) → number_of l < binds_as o t → (elim o [ None ↦ Over | Some o ↦ operation l o ]) ≡ Over
+    by_operator None h = refl
+    by_operator (Some o) h = operation_over l o h
+
+pub no_more : {ls : List Leaf} (l : Level) (s : List Symbol) (v : List Value) → Stops (number_of l) ls → trace (Want (MoreG l) ∷ s) v ls ≡ trace s v ls
+no_more l s v (stops {l = k} {ls} h) = over (MoreG l) s v k ls (more_over l k.terminal h)
+
+pub no_parenthesis : (t : Terminal) → 0 < binds t → is_sign mark.LeftParenthesis t ≡ false
+no_parenthesis (Sign mark.LeftParenthesis) h = absurd (omega (arith, h))
+no_parenthesis (Name n) h = refl
+no_parenthesis (Number n) h = refl
+no_parenthesis (Text n) h = refl
+no_parenthesis (Key n) h = refl
+no_parenthesis Finish h = refl
+no_parenthesis (Sign m) h = refl
+
+pub no_period : (t : Terminal) → 1 < binds t → is_sign mark.Period t ≡ false
+no_period (Sign mark.Period) h = absurd (omega (arith, h))
+no_period (Name n) h = refl
+no_period (Number n) h = refl
+no_period (Text n) h = refl
+no_period (Key n) h = refl
+no_period Finish h = refl
+no_period (Sign m) h = refl
+
+pub no_subscripts : {ls : List Leaf} (s : List Symbol) (v : List Value) → Stops 0 ls → trace (Want SubscriptsG ∷ s) v ls ≡ trace s v ls
+no_subscripts s v (stops {l} {ls} h) = over SubscriptsG s v l ls (ap (λ (b : Bool). cond b (Take true (push (ExpressionsR no_expressions) ∷ an_expression (Do add_expression ∷ Want MoreSubscriptsG ∷ Leave ∷ Do set_subscripts ∷ []))) Over) (no_parenthesis l.terminal h))
+
+pub no_selector : {ls : List Leaf} (s : List Symbol) (v : List Value) → Stops 1 ls → trace (Want SelectorG ∷ s) v ls ≡ trace s v ls
+no_selector s v (stops {l} {ls} h) = over SelectorG s v l ls (ap (λ (b : Bool). cond b (Take false (Want MemberG ∷ [])) Over) (no_period l.terminal h))
+
+pub no_member_subscript : {ls : List Leaf} (s : List Symbol) (v : List Value) → Stops 0 ls → trace (Want MemberSubscriptG ∷ s) v ls ≡ trace s v ls
+no_member_subscript s v (stops {l} {ls} h) = over MemberSubscriptG s v l ls (ap (λ (b : Bool). cond b (Take true (an_expression (need mark.RightParenthesis ∷ Leave ∷ Do set_member_subscript ∷ []))) Over) (no_parenthesis l.terminal h))

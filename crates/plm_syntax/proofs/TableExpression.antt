@@ -1,0 +1,391 @@
+-- What the rules of expressions say.
+use Rattle.std.proofs.Common.{◌≡◌, ℕ, zero, suc, ◌≤◌, ◌<◌, List, [], ◌∷◌, ◌++◌, Bool, true, false, cond, Option, Some, None, Result, Ok, Err, refl, sym, ap, ◌∙◌, subst, append_assoc, arith, length}
+use Rattle.plm_token.specs.declared.token.Keyword.{Keyword}
+use Rattle.plm_token.specs.declared.token.Keyword.TheVariants as key
+use Rattle.plm_token.specs.declared.token.Mark.{Mark}
+use Rattle.plm_token.specs.declared.token.Mark.TheVariants as mark
+use Rattle.plm_syntax.specs.declared.tree.Place.{Place}
+use Rattle.plm_syntax.specs.declared.tree.Scalar.{Scalar}
+use Rattle.plm_syntax.specs.declared.tree.Scalar.TheVariants as scalar
+use Rattle.plm_syntax.specs.declared.tree.UnaryOperator.{UnaryOperator}
+use Rattle.plm_syntax.specs.declared.tree.UnaryOperator.TheVariants as unary
+use Rattle.plm_syntax.specs.declared.tree.BinaryOperator.{BinaryOperator}
+use Rattle.plm_syntax.specs.declared.tree.BinaryOperator.TheVariants as binary
+use Rattle.plm_syntax.specs.Terminal.{NameT, NumberT, TextT, Terminal, Name, Number, Text, Key, Sign, Finish, Leaf, leaf, leaf_at, key_number, sign_number, is_key, is_sign, is_finish, is_same}
+use Rattle.plm_syntax.specs.Tree.{LocationForm, Pointer, Offset, ExpressionT, NumberE, TextE, ReferenceE, LocationE, ParenthesisedE, EmbeddedE, UnaryE, BinaryE, ReferenceT, ReferenceOf, ExpressionsT, no_expressions, expressions, SelectorT, no_member, member, member_at, LocationT, LocationOf, ConstantsOf, ValueT, NumberV, NegativeV, TextV, LocationV, ValuesT, no_values, values, NamesT, no_names, names, VariableT, VariableOf, VariablesT, no_variables, variables, DeclaredT, OneVariable, VariableList, DimensionT, no_dimension, dimension, implicit_dimension, MemberT, OneMember, MemberList, MembersT, no_members, members, TypeT, ScalarType, StructureType, AtT, no_at, at_number, at_location, InitialT, no_initial, initial, constant_data, AttributesT, External, Attributes, ElementT, LiteralElement, VariableElement, ElementsT, no_elements, elements, LinkageT, no_linkage, public_linkage, external_linkage, ReferencesT, no_references, references, StatementT, Labelled, BasicT, EmptyS, AssignS, CallS, ReturnS, ReturnValueS, EnableS, DisableS, HaltS, IfS, IfElseS, DoS, WhileS, CaseS, IterateS, StatementsT, no_statements, statements, BlockT, BlockOf, ItemsT, no_items, items, ItemT, DeclareI, ProcedureI, ModuleT, ModuleOf}
+use Rattle.plm_syntax.specs.Spelling.{unary_sign, binary_sign, form_sign, scalar_key, last_name, behind_labels, tok, sign, word, expression, reference, subscripts, listed, selector, location, value, value_list, listed_values, listed_names, name_list, parenthesised_names, base, variable, listed_variables, variable_list, declared, in_parentheses, dimension_leaves, count, member_leaves, listed_members, member_list, type_leaves, at_leaves, initial_leaves, public, attributes, element, listed_elements, element_list, returned, interrupt, linkage, ending, listed_references, targets, labels, step, statement, basic, statement_list, block, item_list, item, module_leaves, put_leaf, put_level, leaves_of, levels_of}
+use Rattle.plm_syntax.specs.WellFormed.{level_of, left_level, unary_level, operand_level, level, Well, WellReference, WellExpressions, WellSelector, WellLocation, WellValue, WellValues, WellSomeValues, HasNames, HasVariables, WellDeclared, WellMember, WellSomeMembers, WellType, WellAt, WellInitial, WellAttributes, WellElement, WellSomeElements, WellElements, WellSomeReferences, WellTargets, WellStep, ends_open, basic_open, is_end_name, WellEnd, WellStatement, WellBasic, WellStatements, WellBlock, WellItems, WellItem, WellModule}
+use Rattle.plm_syntax.specs.Symbol.{Value, Action, Level, Goal, Symbol, depth_on, depth, Rule, behind, otherwise, before, opened, need, push, ExpressionR, ExpressionsR, NameR, ValueR, ValuesR, ReferencesR, NamesR, StatementR, ArmsR, StatementsR, ItemsR, StepR, EndR, VariableR, VariablesR, DimensionR, CountR, MembersR, MemberR, TypeR, AtR, InitialR, PublicR, AttributesR, ElementR, ElementsR, DeclaredR, RangeR, HeaderR, ModuleR, Products, Sums, Relations, Conjunctions, Disjunctions, PrimaryG, SignedG, NegationG, MoreG, InsideG, AfterReferenceG, SubscriptsG, MoreSubscriptsG, SelectorG, MemberG, MemberSubscriptG, LocatedG, ValueG, NegativeG, MoreValuesG, StatementG, LeadG, TargetG, MoreTargetsG, CalledG, ReturnedG, ArmG, OtherwiseG, DoG, StepG, StatementsG, EndG, ItemsG, ItemLeadG, ItemColonG, ParametersG, ParameterG, MoreParametersG, ReturnedTypeG, InterruptG, InterruptNumberG, LinkageG, ElementG, ElementLeadG, LiteralTextG, VariableG, MoreVariablesG, BasedG, BaseG, DimensionG, DimensionBodyG, TypeG, MemberOfG, MemberNameG, MoreMemberNamesG, CountG, CountNumberG, MemberTypeG, MoreMembersG, AttributesG, AtG, AtBodyG, InitialG, MoreElementsG, ModuleG, StartG, Need, Want, Do, Leave, Refused, Over, Take, Keep}
+use Rattle.plm_syntax.specs.Machine.{plain, operand, again, number_of, an_expression, operator_of, make_binary, make_unary, make_parenthesised, make_embedded, add_expression, set_subscripts, set_member, set_member_subscript, operation, more, reference_begun, primary, signed, negation, expression_at, closing, inside, after_reference, subscripts_rule, more_subscripts, selector_rule, member_rule, member_subscript, locate, locate_values, location_value, add_value, a_value_list, located, value_rule, negative, more_values, make_simple, add_label, add_target, make_assign, make_call, make_return, join_arms, make_if, add_statement, make_do, make_while, make_case, make_range, set_step, make_iterate, statement_rule, more_targets, assignment_rule, lead, target, called, returned_rule, no_labels, no_statement_yet, arm, otherwise_rule, do_rule, step_rule, end_rule, and_more, statements_rule, make_declare, make_procedure, add_parameter, set_returned, set_interrupt, set_linkage, make_module, scalar_of, parameters_rule, parameter, more_parameters, returned_type, interrupt_rule, interrupt_number, linkage_rule, items_rule, item_lead, procedure_symbols, item_colon, add_element, make_literal, set_base, add_variable, one_variable, variable_group, set_dimension, set_count, add_name, make_member, add_member, make_structure, set_external, set_public, set_at, set_at_location, set_initial, set_data, make_element, attributes_tail, declared_tail, element_rule, more_elements, variable_rule, more_variables, based_rule, base_rule, dimension_rule, dimension_body, type_rule, member_of, member_name, more_member_names, count_rule, count_number, member_type, more_members, at_rule, at_body, initial_rule, attributes_rule, element_lead, literal_text, module_rule, start_rule, rule, Move, moved, kept, feed, Trace, trace, Stop, Reading, run, start, Stay, Next, Open, Ended, Wrong, Then, Refusal, Deep}
+use Rattle.std.specs.Prelude.{nat_eq}
+use Rattle.plm_syntax.proofs.Steps.{IsDecided}
+use Rattle.plm_syntax.proofs.DriveExpression.{signed_decided}
+use Rattle.plm_syntax.proofs.Meaning.{Any, Inner, inner, WellInner, Several, several_leaves, WellSeveral, Group, group_leaves, group_statement, WellGroup, Ended_statements, ended_leaves, WellEnded, Ended_block, block_leaves, WellEndedBlock, at_body_leaves, WellAtBody, begins_else, left_of, Means, Awaits, Says, depth_join, awaits_join, split, joined, element_at, some_inj, all_sign, sign_found, same_sign, all_key, key_found, same_key, sign_is, key_is, same_is, on_test, on_sign, on_key, on_behind, on_otherwise, on_before, on_same, Nested, Stored, PlainDo, WhileDo, CaseDo, IterateDo, without, with_else, An, AStatement, Otherwise, Token_then}
+
+-- ---- whole expressions
+
+-- what an expression's symbols stand for
+pub expression_of : (d : ℕ) (K : List Leaf → Type 0) (ls : List Leaf) (s : List Symbol) → Awaits (an_expression s) d K ls → An ExpressionT Well (expression put_leaf (depth_on s d)) (Awaits s d K) ls
+expression_of d K ls s h =
+    let c = h.goes h.part (omega (arith, h.ok.0)) h.ok.1 in
+    let o = c.goes c.part (omega (arith, c.ok.0)) c.ok.1 in
+    record { part = o.part; rest = o.rest; ok = o.ok.1; is = h.is ∙ c.is ∙ o.is; goes = o.goes }
+
+-- ---- operators
+
+-- the tree of an operator, and what goes on behind it
+abbrev pub Operated : Level → ℕ → (List Leaf → Type 0) → Place → BinaryOperator → List Leaf → Type 0
+Operated l d K p o ls = (e : ExpressionT) → level e ≤ left_of l → Well e → An ExpressionT (λ f. (level f ≤ number_of l) × Well f) (expression put_leaf d) K (expression put_leaf d e (leaf_at (binary_sign o) p ∷ ls))
+
+pub products_go : (p : Place) (o : BinaryOperator) → level_of o ≡ 2 → left_level o ≡ 2 → (d : ℕ) (K : List Leaf → Type 0) (ls : List Leaf) → Awaits (Want SignedG ∷ Do (make_binary p o) ∷ Want (MoreG Products) ∷ []) d K ls → Operated Products d K p o ls
+products_go p o two ltwo d K ls h e le we =
+    let g = h.goes (BinaryE p o e h.part) (omega (arith, two)) (omega (arith, ltwo, le), omega (arith, two, h.ok.0), we, h.ok.1) in
+    record { part = g.part; rest = g.rest; ok = g.ok; is = ap (λ (x : List Leaf). expression put_leaf d e (leaf_at (binary_sign o) p ∷ x)) h.is ∙ g.is; goes = g.goes }
+
+pub sums_go : (p : Place) (o : BinaryOperator) → level_of o ≡ 3 → left_level o ≡ 3 → (d : ℕ) (K : List Leaf → Type 0) (ls : List Leaf) → Awaits (Want SignedG ∷ Want (MoreG Products) ∷ Do (make_binary p o) ∷ Want (MoreG Sums) ∷ []) d K ls → Operated Sums d K p o ls
+sums_go p o three lthree d K ls h e le we =
+    let c = h.goes h.part (omega (arith, h.ok.0)) h.ok.1 in
+    let g = c.goes (BinaryE p o e c.part) (omega (arith, three)) (omega (arith, lthree, le), omega (arith, three, c.ok.0), we, c.ok.1) in
+    record { part = g.part; rest = g.rest; ok = g.ok; is = ap (λ (x : List Leaf). expression put_leaf d e (leaf_at (binary_sign o) p ∷ x)) (h.is ∙ c.is) ∙ g.is; goes = g.goes }
+
+pub relations_go : (p : Place) (o : BinaryOperator) → level_of o ≡ 4 → left_level o ≡ 3 → (d : ℕ) (K : List Leaf → Type 0) (ls : List Leaf) → Awaits (Want SignedG ∷ Want (MoreG Products) ∷ Want (MoreG Sums) ∷ Do (make_binary p o) ∷ []) d K ls → Operated Relations d K p o ls
+relations_go p o four lthree d K ls h e le we =
+    let c = h.goes h.part (omega (arith, h.ok.0)) h.ok.1 in
+    let g = c.goes c.part (omega (arith, c.ok.0)) c.ok.1 in
+    record { part = BinaryE p o e g.part; rest = g.rest; ok = (omega (arith, four), (omega (arith, lthree, le), omega (arith, four, g.ok.0), we, g.ok.1)); is = ap (λ (x : List Leaf). expression put_leaf d e (leaf_at (binary_sign o) p ∷ x)) (h.is ∙ c.is ∙ g.is); goes = g.goes }
+
+pub conjunctions_go : (p : Place) (o : BinaryOperator) → level_of o ≡ 6 → left_level o ≡ 6 → (d : ℕ) (K : List Leaf → Type 0) (ls : List Leaf) → Awaits (Want NegationG ∷ Do (make_binary p o) ∷ Want (MoreG Conjunctions) ∷ []) d K ls → Operated Conjunctions d K p o ls
+conjunctions_go p o six lsix d K ls h e le we =
+    let g = h.goes (BinaryE p o e h.part) (omega (arith, six)) (omega (arith, lsix, le), omega (arith, six, h.ok.0), we, h.ok.1) in
+    record { part = g.part; rest = g.rest; ok = g.ok; is = ap (λ (x : List Leaf). expression put_leaf d e (leaf_at (binary_sign o) p ∷ x)) h.is ∙ g.is; goes = g.goes }
+
+pub disjunctions_go : (p : Place) (o : BinaryOperator) → level_of o ≡ 7 → left_level o ≡ 7 → (d : ℕ) (K : List Leaf → Type 0) (ls : List Leaf) → Awaits (Want NegationG ∷ Want (MoreG Conjunctions) ∷ Do (make_binary p o) ∷ Want (MoreG Disjunctions) ∷ []) d K ls → Operated Disjunctions d K p o ls
+disjunctions_go p o seven lseven d K ls h e le we =
+    let c = h.goes h.part (omega (arith, h.ok.0)) h.ok.1 in
+    let g = c.goes (BinaryE p o e c.part) (omega (arith, seven)) (omega (arith, lseven, le), omega (arith, seven, c.ok.0), we, c.ok.1) in
+    record { part = g.part; rest = g.rest; ok = g.ok; is = ap (λ (x : List Leaf). expression put_leaf d e (leaf_at (binary_sign o) p ∷ x)) (h.is ∙ c.is) ∙ g.is; goes = g.goes }
+
+pub operator_is : (t : Terminal) (o : BinaryOperator) → operator_of t ≡ Some o → binary_sign o ≡ t
+operator_is (Sign mark.Star) binary.Multiply h = refl
+operator_is (Sign mark.Slash) binary.Divide h = refl
+operator_is (Key key.Mod) binary.Modulo h = refl
+operator_is (Sign mark.Plus) binary.Add h = refl
+operator_is (Sign mark.Minus) binary.Subtract h = refl
+operator_is (Sign mark.Equal) binary.Equal h = refl
+operator_is (Sign mark.NotEqual) binary.NotEqual h = refl
+operator_is (Sign mark.Less) binary.Less h = refl
+operator_is (Sign mark.LessEqual) binary.LessEqual h = refl
+operator_is (Sign mark.Greater) binary.Greater h = refl
+operator_is (Sign mark.GreaterEqual) binary.GreaterEqual h = refl
+operator_is (Key key.And) binary.And h = refl
+operator_is (Key key.Or) binary.Or h = refl
+operator_is (Key key.Xor) binary.ExclusiveOr h = refl
+operator_is t o h = absurd cc
+
+pub left_most_of : (l : Level) → left_of l ≤ number_of l
+left_most_of Products = omega arith
+left_most_of Sums = omega arith
+left_most_of Relations = omega arith
+left_most_of Conjunctions = omega arith
+left_most_of Disjunctions = omega arith
+
+pub operated : (l : Level) (p : Place) (o : BinaryOperator) → nat_eq (level_of o) (number_of l) ≡ true → (d : ℕ) (K : List Leaf → Type 0) (ls : List Leaf) → Awaits (operand l ++ (Do (make_binary p o) ∷ again l)) d K ls → Operated l d K p o ls
+operated Products p binary.Multiply h d K ls w = products_go p binary.Multiply refl refl d K ls w
+operated Products p binary.Divide h d K ls w = products_go p binary.Divide refl refl d K ls w
+operated Products p binary.Modulo h d K ls w = products_go p binary.Modulo refl refl d K ls w
+operated Products p binary.Add h d K ls w = absurd cc
+operated Products p binary.Subtract h d K ls w = absurd cc
+operated Products p binary.Equal h d K ls w = absurd cc
+operated Products p binary.NotEqual h d K ls w = absurd cc
+operated Products p binary.Less h d K ls w = absurd cc
+operated Products p binary.LessEqual h d K ls w = absurd cc
+operated Products p binary.Greater h d K ls w = absurd cc
+operated Products p binary.GreaterEqual h d K ls w = absurd cc
+operated Products p binary.And h d K ls w = absurd cc
+operated Products p binary.Or h d K ls w = absurd cc
+operated Products p binary.ExclusiveOr h d K ls w = absurd cc
+operated Sums p binary.Multiply h d K ls w = absurd cc
+operated Sums p binary.Divide h d K ls w = absurd cc
+operated Sums p binary.Modulo h d K ls w = absurd cc
+operated Sums p binary.Add h d K ls w = sums_go p binary.Add refl refl d K ls w
+operated Sums p binary.Subtract h d K ls w = sums_go p binary.Subtract refl refl d K ls w
+operated Sums p binary.Equal h d K ls w = absurd cc
+operated Sums p binary.NotEqual h d K ls w = absurd cc
+operated Sums p binary.Less h d K ls w = absurd cc
+operated Sums p binary.LessEqual h d K ls w = absurd cc
+operated Sums p binary.Greater h d K ls w = absurd cc
+operated Sums p binary.GreaterEqual h d K ls w = absurd cc
+operated Sums p binary.And h d K ls w = absurd cc
+operated Sums p binary.Or h d K ls w = absurd cc
+operated Sums p binary.ExclusiveOr h d K ls w = absurd cc
+operated Relations p binary.Multiply h d K ls w = absurd cc
+operated Relations p binary.Divide h d K ls w = absurd cc
+operated Relations p binary.Modulo h d K ls w = absurd cc
+operated Relations p binary.Add h d K ls w = absurd cc
+operated Relations p binary.Subtract h d K ls w = absurd cc
+operated Relations p binary.Equal h d K ls w = relations_go p binary.Equal refl refl d K ls w
+operated Relations p binary.NotEqual h d K ls w = relations_go p binary.NotEqual refl refl d K ls w
+operated Relations p binary.Less h d K ls w = relations_go p binary.Less refl refl d K ls w
+operated Relations p binary.LessEqual h d K ls w = relations_go p binary.LessEqual refl refl d K ls w
+operated Relations p binary.Greater h d K ls w = relations_go p binary.Greater refl refl d K ls w
+operated Relations p binary.GreaterEqual h d K ls w = relations_go p binary.GreaterEqual refl refl d K ls w
+operated Relations p binary.And h d K ls w = absurd cc
+operated Relations p binary.Or h d K ls w = absurd cc
+operated Relations p binary.ExclusiveOr h d K ls w = absurd cc
+operated Conjunctions p binary.Multiply h d K ls w = absurd cc
+operated Conjunctions p binary.Divide h d K ls w = absurd cc
+operated Conjunctions p binary.Modulo h d K ls w = absurd cc
+operated Conjunctions p binary.Add h d K ls w = absurd cc
+operated Conjunctions p binary.Subtract h d K ls w = absurd cc
+operated Conjunctions p binary.Equal h d K ls w = absurd cc
+operated Conjunctions p binary.NotEqual h d K ls w = absurd cc
+operated Conjunctions p binary.Less h d K ls w = absurd cc
+operated Conjunctions p binary.LessEqual h d K ls w = absurd cc
+operated Conjunctions p binary.Greater h d K ls w = absurd cc
+operated Conjunctions p binary.GreaterEqual h d K ls w = absurd cc
+operated Conjunctions p binary.And h d K ls w = conjunctions_go p binary.And refl refl d K ls w
+operated Conjunctions p binary.Or h d K ls w = absurd cc
+operated Conjunctions p binary.ExclusiveOr h d K ls w = absurd cc
+operated Disjunctions p binary.Multiply h d K ls w = absurd cc
+operated Disjunctions p binary.Divide h d K ls w = absurd cc
+operated Disjunctions p binary.Modulo h d K ls w = absurd cc
+operated Disjunctions p binary.Add h d K ls w = absurd cc
+operated Disjunctions p binary.Subtract h d K ls w = absurd cc
+operated Disjunctions p binary.Equal h d K ls w = absurd cc
+operated Disjunctions p binary.NotEqual h d K ls w = absurd cc
+operated Disjunctions p binary.Less h d K ls w = absurd cc
+operated Disjunctions p binary.LessEqual h d K ls w = absurd cc
+operated Disjunctions p binary.Greater h d K ls w = absurd cc
+operated Disjunctions p binary.GreaterEqual h d K ls w = absurd cc
+operated Disjunctions p binary.And h d K ls w = absurd cc
+operated Disjunctions p binary.Or h d K ls w = disjunctions_go p binary.Or refl refl d K ls w
+operated Disjunctions p binary.ExclusiveOr h d K ls w = disjunctions_go p binary.ExclusiveOr refl refl d K ls w
+
+pub more_says : (l : Level) (d : ℕ) (K : List Leaf → Type 0) (t : Terminal) → Says (Means (MoreG l) d K) d K t (more l t)
+more_says l d K t = by_operator (operator_of t) refl
+  where
+    taken : (o : BinaryOperator) → binary_sign o ≡ t → (b : Bool) → nat_eq (level_of o) (number_of l) ≡ b → Says (Means (MoreG l) d K) d K t (cond b (Keep false (λ p. operand l ++ (Do (make_binary p o) ∷ again l))) Over)
+    taken o e true h = λ p ls w f lf wf. subst (λ (u : Terminal). An ExpressionT (λ g. (level g ≤ number_of l) × Well g) (expression put_leaf d) K (expression put_leaf d f (leaf_at u p ∷ ls))) e (operated l p o h d K ls w f lf wf)
+    taken o e false h = λ k ls i w f lf wf. record { part = f; rest = k ∷ ls; ok = (omega (arith, lf, left_most_of l), wf); is = refl; goes = w }
+
+    by_operator : (o : Option BinaryOperator) → operator_of t ≡ o → Says (Means (MoreG l) d K) d K t (elim o [ None ↦ Over | Some o ↦ operation l o ])
+    by_operator None e = λ k ls i w f lf wf. record { part = f; rest = k ∷ ls; ok = (omega (arith, lf, left_most_of l), wf); is = refl; goes = w }
+    by_operator (Some o) e = taken o (operator_is t o e) (nat_eq (level_of o) (number_of l)) refl
+
+-- ---- references
+
+-- a reference behind its name
+pub reference_of : (d : ℕ) (n : NameT) (K : List Leaf → Type 0) (ls : List Leaf) (s : List Symbol) → Awaits (reference_begun n s) d K ls → An ReferenceT WellReference (reference put_leaf 0 (depth_on s d)) (Awaits s d K) (leaf (Name n) ∷ ls)
+reference_of d n K ls s h = record {
+  part = ReferenceOf n h.part h.goes.part;
+  rest = h.goes.rest;
+  ok = (h.ok, h.goes.ok);
+  is = ap (λ (x : List Leaf). leaf (Name n) ∷ x) (h.is ∙ ap (subscripts put_leaf (depth_on s d) h.part) h.goes.is);
+  goes = h.goes.goes;
+}
+
+pub subscripts_says : (d : ℕ) (K : List Leaf → Type 0) (t : Terminal) → Says (Means SubscriptsG d K) d K t (subscripts_rule t)
+subscripts_says d K t = on_sign (Means SubscriptsG d K) d K mark.LeftParenthesis t _ Over
+    (λ ls w.
+    let e = expression_of d K ls (Do add_expression ∷ Want MoreSubscriptsG ∷ Leave ∷ Do set_subscripts ∷ []) w in
+    let g = e.goes (record { front = no_expressions; last = e.part }) (tt, e.ok) in
+    record { part = expressions g.part.front g.part.last; rest = g.rest; ok = g.ok; is = ap (λ (x : List Leaf). leaf (Sign mark.LeftParenthesis) ∷ x) (e.is ∙ g.is); goes = g.goes })
+    (λ h l ls i w. record { part = no_expressions; rest = l ∷ ls; ok = tt; is = refl; goes = w })
+
+pub more_subscripts_says : (d : ℕ) (K : List Leaf → Type 0) (t : Terminal) → Says (Means MoreSubscriptsG d K) d K t (more_subscripts t)
+more_subscripts_says d K t = on_sign (Means MoreSubscriptsG d K) d K mark.Comma t _ _
+    (λ ls w es o.
+    let e = expression_of d K ls (Do add_expression ∷ Want MoreSubscriptsG ∷ []) w in
+    let g = e.goes (record { front = expressions es.front es.last; last = e.part }) (o, e.ok) in
+    record { part = g.part; rest = g.rest; ok = g.ok; is = ap (λ (x : List Leaf). several_leaves d es (leaf (Sign mark.Comma) ∷ x)) e.is ∙ g.is; goes = g.goes })
+    (λ h. on_sign (Means MoreSubscriptsG d K) d K mark.RightParenthesis t _ Refused
+    (λ ls w es o. record { part = es; rest = ls; ok = o; is = refl; goes = w })
+    (λ i. tt))
+
+pub selector_says : (d : ℕ) (K : List Leaf → Type 0) (t : Terminal) → Says (Means SelectorG d K) d K t (selector_rule t)
+selector_says d K t = on_sign (Means SelectorG d K) d K mark.Period t _ Over (λ ls w. w) (λ h l ls i w. record { part = no_member; rest = l ∷ ls; ok = tt; is = refl; goes = w })
+
+pub member_says : (d : ℕ) (K : List Leaf → Type 0) (t : Terminal) → Says (Means MemberG d K) d K t (member_rule t)
+member_says d K (Name n) = λ ls w. w n
+member_says d K (Number n) = tt
+member_says d K (Text n) = tt
+member_says d K (Key n) = tt
+member_says d K (Sign n) = tt
+member_says d K Finish = tt
+
+pub member_subscript_says : (d : ℕ) (K : List Leaf → Type 0) (t : Terminal) → Says (Means MemberSubscriptG d K) d K t (member_subscript t)
+member_subscript_says d K t = on_sign (Means MemberSubscriptG d K) d K mark.LeftParenthesis t _ Over
+    (λ ls w n.
+    let e = expression_of d K ls (need mark.RightParenthesis ∷ Leave ∷ Do set_member_subscript ∷ []) w in
+    record { part = member_at n e.part; rest = e.goes.rest; ok = e.ok; is = ap (λ (x : List Leaf). leaf (Sign mark.Period) ∷ leaf (Name n) ∷ leaf (Sign mark.LeftParenthesis) ∷ x) (e.is ∙ ap (expression put_leaf (suc d) e.part) e.goes.is); goes = e.goes.goes })
+    (λ h l ls i w n. record { part = member n; rest = l ∷ ls; ok = tt; is = refl; goes = w })
+
+-- ---- values and locations
+
+-- a list of values and the parenthesis behind it
+pub values_of : (d : ℕ) (K : List Leaf → Type 0) (ls : List Leaf) (s : List Symbol) → Awaits (a_value_list s) d K ls → An ValuesT WellValues (λ vs r. value_list put_leaf (depth_on s d) vs (leaf (Sign mark.RightParenthesis) ∷ r)) (Awaits s d K) ls
+values_of d K ls s h =
+    let g = h.goes (values no_values h.part) (tt, h.ok) in
+    record { part = g.part; rest = g.rest; ok = g.ok; is = h.is ∙ g.is; goes = g.goes }
+
+pub located_says : (p : Place) (f : LocationForm) (d : ℕ) (K : List Leaf → Type 0) (t : Terminal) → Says (Means (LocatedG p f) d K) d K t (located p f t)
+located_says p f d K (Name n) = λ ls w.
+    let x = reference_of d n K ls (Do (locate p f) ∷ []) w in
+    record { part = LocationOf p f x.part; rest = x.rest; ok = x.ok; is = ap (λ (y : List Leaf). leaf_at (form_sign f) p ∷ y) x.is; goes = x.goes }
+located_says p f d K (Number n) = tt
+located_says p f d K (Text n) = tt
+located_says p f d K (Key n) = tt
+located_says p f d K Finish = tt
+located_says p f d K (Sign m) = on_sign (Means (LocatedG p f) d K) d K mark.LeftParenthesis (Sign m) _ Refused
+    (λ ls w. let g = values_of d K ls (Do (locate_values p f) ∷ []) w in record { part = ConstantsOf p f g.part; rest = g.rest; ok = g.ok; is = ap (λ (y : List Leaf). leaf_at (form_sign f) p ∷ leaf (Sign mark.LeftParenthesis) ∷ y) g.is; goes = g.goes })
+    (λ h. tt)
+
+pub value_says : (d : ℕ) (K : List Leaf → Type 0) (t : Terminal) → Says (Means ValueG d K) d K t (value_rule t)
+value_says d K (Number n) = λ ls w. record { part = NumberV n; rest = ls; ok = tt; is = refl; goes = w }
+value_says d K (Text n) = λ ls w. record { part = TextV n; rest = ls; ok = tt; is = refl; goes = w }
+value_says d K (Name n) = tt
+value_says d K (Key n) = tt
+value_says d K Finish = tt
+value_says d K (Sign m) = on_sign (Means ValueG d K) d K mark.Minus (Sign m) _ _ (λ ls w. w)
+    (λ h. on_sign (Means ValueG d K) d K mark.AtSign (Sign m) _ _ (λ p ls w. record { part = LocationV w.part; rest = w.rest; ok = w.ok; is = w.is; goes = w.goes })
+    (λ h. on_sign (Means ValueG d K) d K mark.Period (Sign m) _ Refused (λ p ls w. record { part = LocationV w.part; rest = w.rest; ok = w.ok; is = w.is; goes = w.goes }) (λ h. tt)))
+
+pub negative_says : (d : ℕ) (K : List Leaf → Type 0) (t : Terminal) → Says (Means NegativeG d K) d K t (negative t)
+negative_says d K (Number n) = λ ls w. record { part = NegativeV n; rest = ls; ok = tt; is = refl; goes = w }
+negative_says d K (Name n) = tt
+negative_says d K (Text n) = tt
+negative_says d K (Key n) = tt
+negative_says d K (Sign n) = tt
+negative_says d K Finish = tt
+
+pub some_are_values : (vs : ValuesT) → WellValues vs → WellSomeValues vs
+some_are_values no_values w = tt
+some_are_values (values vs v) w = w
+
+pub more_values_says : (d : ℕ) (K : List Leaf → Type 0) (t : Terminal) → Says (Means MoreValuesG d K) d K t (more_values t)
+more_values_says d K t = on_sign (Means MoreValuesG d K) d K mark.Comma t _ _
+    (λ ls w vs o. let g = w.goes (values vs w.part) (some_are_values vs o, w.ok) in record { part = g.part; rest = g.rest; ok = g.ok; is = ap (λ (x : List Leaf). value_list put_leaf d vs (leaf (Sign mark.Comma) ∷ x)) w.is ∙ next vs o w.part w.rest ∙ g.is; goes = g.goes })
+    (λ h. on_sign (Means MoreValuesG d K) d K mark.RightParenthesis t _ Refused (λ ls w vs o. record { part = vs; rest = ls; ok = o; is = refl; goes = w }) (λ i. tt))
+  where
+    next : (vs : ValuesT) → WellValues vs → (v : ValueT) (r : List Leaf) → value_list put_leaf d vs (leaf (Sign mark.Comma) ∷ value put_leaf d v r) ≡ value_list put_leaf d (values vs v) r
+    next no_values o v r = absurd o
+    next (values us u) o v r = refl
+
+-- ---- primaries
+
+pub primary_says : (d : ℕ) (K : List Leaf → Type 0) (t : Terminal) → Says (Means PrimaryG d K) d K t (primary t)
+primary_says d K (Name n) = λ ls w. let x = reference_of d n K ls [] w in record { part = ReferenceE x.part; rest = x.rest; ok = (omega arith, x.ok); is = x.is; goes = x.goes }
+primary_says d K (Number n) = λ ls w. record { part = NumberE n; rest = ls; ok = (omega arith, tt); is = refl; goes = w }
+primary_says d K (Text n) = λ ls w. record { part = TextE n; rest = ls; ok = (omega arith, tt); is = refl; goes = w }
+primary_says d K (Key n) = tt
+primary_says d K Finish = tt
+primary_says d K (Sign m) = on_sign (Means PrimaryG d K) d K mark.LeftParenthesis (Sign m) _ _ (λ p ls w. opened_by p ls w w.part refl)
+    (λ h. on_sign (Means PrimaryG d K) d K mark.AtSign (Sign m) _ _ (λ p ls w. record { part = LocationE w.part; rest = w.rest; ok = (omega arith, w.ok); is = w.is; goes = w.goes })
+    (λ h. on_sign (Means PrimaryG d K) d K mark.Period (Sign m) _ Refused (λ p ls w. record { part = LocationE w.part; rest = w.rest; ok = (omega arith, w.ok); is = w.is; goes = w.goes }) (λ h. tt)))
+  where
+    opened_by : (p : Place) (ls : List Leaf) (w : An Inner WellInner (inner (suc d)) K ls) (i : Inner) → w.part ≡ i → Means PrimaryG d K (leaf_at (Sign mark.LeftParenthesis) p ∷ ls)
+    opened_by p ls w (Nested e) is = record { part = ParenthesisedE p e; rest = w.rest; ok = (omega arith, subst WellInner is w.ok); is = ap (λ (x : List Leaf). leaf_at (Sign mark.LeftParenthesis) p ∷ x) (w.is ∙ ap (λ (j : Inner). inner (suc d) j w.rest) is); goes = w.goes }
+    opened_by p ls w (Stored x e) is = record { part = EmbeddedE p x e; rest = w.rest; ok = (omega arith, subst WellInner is w.ok); is = ap (λ (y : List Leaf). leaf_at (Sign mark.LeftParenthesis) p ∷ y) (w.is ∙ ap (λ (j : Inner). inner (suc d) j w.rest) is); goes = w.goes }
+
+pub signed_says : (d : ℕ) (K : List Leaf → Type 0) (t : Terminal) → Says (Means SignedG d K) d K t (signed t)
+signed_says d K t = on_sign (Means SignedG d K) d K mark.Plus t _ _
+    (λ p ls w. record { part = UnaryE p unary.Plus w.part; rest = w.rest; ok = (omega arith, w.ok); is = ap (λ (x : List Leaf). leaf_at (Sign mark.Plus) p ∷ x) w.is; goes = w.goes })
+    (λ h. on_sign (Means SignedG d K) d K mark.Minus t _ _
+    (λ p ls w. record { part = UnaryE p unary.Minus w.part; rest = w.rest; ok = (omega arith, w.ok); is = ap (λ (x : List Leaf). leaf_at (Sign mark.Minus) p ∷ x) w.is; goes = w.goes })
+    (λ h. on_same (Means SignedG d K) d K (Means PrimaryG d K) t (primary t) (λ ls w. record { part = w.part; rest = w.rest; ok = (omega (arith, w.ok.0), w.ok.1); is = w.is; goes = w.goes }) (primary_says d K t)))
+
+-- ---- NOT, and what stands in parentheses
+
+pub relation_of : (d : ℕ) (K : List Leaf → Type 0) (ls : List Leaf) → Means SignedG d (Awaits (Want (MoreG Products) ∷ Want (MoreG Sums) ∷ Want (MoreG Relations) ∷ []) d K) ls → Means NegationG d K ls
+relation_of d K ls h =
+    let a = h.goes h.part (omega (arith, h.ok.0)) h.ok.1 in
+    let b = a.goes a.part (omega (arith, a.ok.0)) a.ok.1 in
+    let c = b.goes b.part (omega (arith, b.ok.0)) b.ok.1 in
+    record { part = c.part; rest = c.rest; ok = (omega (arith, c.ok.0), c.ok.1); is = h.is ∙ a.is ∙ b.is ∙ c.is; goes = c.goes }
+
+pub negation_says : (d : ℕ) (K : List Leaf → Type 0) (t : Terminal) → Says (Means NegationG d K) d K t (negation t)
+negation_says d K t = on_key (Means NegationG d K) d K key.Not t _ _
+    (λ p ls w. record { part = UnaryE p unary.Not w.part; rest = w.rest; ok = (omega arith, w.ok); is = ap (λ (x : List Leaf). leaf_at (Key key.Not) p ∷ x) w.is; goes = w.goes })
+    (λ h. on_behind (Means NegationG d K) d K (Means SignedG d (Awaits (Want (MoreG Products) ∷ Want (MoreG Sums) ∷ Want (MoreG Relations) ∷ []) d K)) t (Want (MoreG Products) ∷ Want (MoreG Sums) ∷ Want (MoreG Relations) ∷ []) (signed t)
+    (signed_says d (Awaits (Want (MoreG Products) ∷ Want (MoreG Sums) ∷ Want (MoreG Relations) ∷ []) d K) t) (signed_decided t) (relation_of d K))
+
+pub negation_decided : (t : Terminal) → IsDecided (negation t)
+negation_decided t = by_test (is_key key.Not t)
+  where
+    behind_decided : (r : Rule) (a : List Symbol) → IsDecided r → IsDecided (behind r a)
+    behind_decided Refused a h = tt
+    behind_decided Over a h = h
+    behind_decided (Take b q) a h = tt
+    behind_decided (Keep b f) a h = tt
+
+    by_test : (b : Bool) → IsDecided (cond b (Keep true (λ p. Want NegationG ∷ Leave ∷ Do (make_unary p unary.Not) ∷ [])) (behind (signed t) (Want (MoreG Products) ∷ Want (MoreG Sums) ∷ Want (MoreG Relations) ∷ [])))
+    by_test true = tt
+    by_test false = behind_decided (signed t) (Want (MoreG Products) ∷ Want (MoreG Sums) ∷ Want (MoreG Relations) ∷ []) (signed_decided t)
+
+-- a whole expression that begins with the token, and symbols behind
+pub expression_says : (M : List Leaf → Type 0) (s : List Symbol) (d : ℕ) (K : List Leaf → Type 0) (t : Terminal) → ((ls : List Leaf) → An ExpressionT Well (expression put_leaf (depth_on s d)) (Awaits s d K) ls → M ls) → Says M d K t (behind (expression_at t) s)
+expression_says M s d K t f = on_behind M d K (λ ls. An ExpressionT Well (expression put_leaf (depth_on s d)) (Awaits s d K) ls) t s (expression_at t)
+    (on_behind (λ ls. An ExpressionT Well (expression put_leaf (depth_on s d)) (Awaits s d K) ls) (depth_on s d) (Awaits s d K) (Means NegationG (depth_on s d) (Awaits (Want (MoreG Conjunctions) ∷ Want (MoreG Disjunctions) ∷ []) (depth_on s d) (Awaits s d K))) t (Want (MoreG Conjunctions) ∷ Want (MoreG Disjunctions) ∷ []) (negation t)
+    (negation_says (depth_on s d) (Awaits (Want (MoreG Conjunctions) ∷ Want (MoreG Disjunctions) ∷ []) (depth_on s d) (Awaits s d K)) t) (negation_decided t)
+    (λ ls w. expression_of (depth_on s d) (Awaits s d K) ls [] w))
+    (decided (negation t) (negation_decided t)) f
+  where
+    decided : (r : Rule) → IsDecided r → IsDecided (behind r (Want (MoreG Conjunctions) ∷ Want (MoreG Disjunctions) ∷ []))
+    decided Refused h = tt
+    decided Over h = h
+    decided (Take b q) h = tt
+    decided (Keep b g) h = tt
+
+-- an expression and the parenthesis behind it
+pub closed_inside : (p : Place) (d : ℕ) (K : List Leaf → Type 0) (ls : List Leaf) → An ExpressionT Well (expression put_leaf d) (Awaits (closing p) d K) ls → Means (InsideG p) d K ls
+closed_inside p d K ls w = record { part = Nested w.part; rest = w.goes.rest; ok = w.ok; is = w.is ∙ ap (expression put_leaf d w.part) w.goes.is; goes = w.goes.goes }
+
+abbrev pub from_disjunctions : Place → List Symbol
+from_disjunctions p = Want (MoreG Disjunctions) ∷ closing p
+
+abbrev pub from_conjunctions : Place → List Symbol
+from_conjunctions p = Want (MoreG Conjunctions) ∷ from_disjunctions p
+
+abbrev pub from_relations : Place → List Symbol
+from_relations p = Want (MoreG Relations) ∷ from_conjunctions p
+
+abbrev pub AnE : ℕ → ℕ → (List Leaf → Type 0) → List Leaf → Type 0
+AnE n d K ls = An ExpressionT (λ e. (level e ≤ n) × Well e) (expression put_leaf d) K ls
+
+-- what goes on behind a part of an expression in parentheses
+pub last_inside : (p : Place) (d : ℕ) (K : List Leaf → Type 0) (ls : List Leaf) → AnE 7 d (Awaits (closing p) d K) ls → An Inner WellInner (inner d) K ls
+last_inside p d K ls w = record { part = Nested w.part; rest = w.goes.rest; ok = w.ok.1; is = w.is ∙ ap (expression put_leaf d w.part) w.goes.is; goes = w.goes.goes }
+
+pub disjunctions_inside : (p : Place) (d : ℕ) (K : List Leaf → Type 0) (ls : List Leaf) → AnE 6 d (Awaits (from_disjunctions p) d K) ls → An Inner WellInner (inner d) K ls
+disjunctions_inside p d K ls w = let g = last_inside p d K (expression put_leaf d w.part w.rest) (w.goes w.part (omega (arith, w.ok.0)) w.ok.1) in record { part = g.part; rest = g.rest; ok = g.ok; is = w.is ∙ g.is; goes = g.goes }
+
+pub conjunctions_inside : (p : Place) (d : ℕ) (K : List Leaf → Type 0) (ls : List Leaf) → AnE 4 d (Awaits (from_conjunctions p) d K) ls → An Inner WellInner (inner d) K ls
+conjunctions_inside p d K ls w = let g = disjunctions_inside p d K (expression put_leaf d w.part w.rest) (w.goes w.part (omega (arith, w.ok.0)) w.ok.1) in record { part = g.part; rest = g.rest; ok = g.ok; is = w.is ∙ g.is; goes = g.goes }
+
+pub relations_inside : (p : Place) (d : ℕ) (K : List Leaf → Type 0) (ls : List Leaf) → AnE 3 d (Awaits (from_relations p) d K) ls → An Inner WellInner (inner d) K ls
+relations_inside p d K ls w = let g = conjunctions_inside p d K (expression put_leaf d w.part w.rest) (w.goes w.part w.ok.0 w.ok.1) in record { part = g.part; rest = g.rest; ok = g.ok; is = w.is ∙ g.is; goes = g.goes }
+
+pub sums_inside : (p : Place) (d : ℕ) (K : List Leaf → Type 0) (ls : List Leaf) → AnE 2 d (Awaits (Want (MoreG Sums) ∷ from_relations p) d K) ls → An Inner WellInner (inner d) K ls
+sums_inside p d K ls w = let g = relations_inside p d K (expression put_leaf d w.part w.rest) (w.goes w.part (omega (arith, w.ok.0)) w.ok.1) in record { part = g.part; rest = g.rest; ok = g.ok; is = w.is ∙ g.is; goes = g.goes }
+
+pub inside_says : (p : Place) (d : ℕ) (K : List Leaf → Type 0) (t : Terminal) → Says (Means (InsideG p) d K) d K t (inside p t)
+inside_says p d K (Name n) = λ ls w.
+    let x = reference_of d n K ls (Want (AfterReferenceG p) ∷ []) w in
+    let g = x.goes x.part x.ok in
+    record { part = g.part; rest = g.rest; ok = g.ok; is = x.is ∙ g.is; goes = g.goes }
+inside_says p d K (Number n) = expression_says (Means (InsideG p) d K) (closing p) d K (Number n) (closed_inside p d K)
+inside_says p d K (Text n) = expression_says (Means (InsideG p) d K) (closing p) d K (Text n) (closed_inside p d K)
+inside_says p d K (Key n) = expression_says (Means (InsideG p) d K) (closing p) d K (Key n) (closed_inside p d K)
+inside_says p d K (Sign n) = expression_says (Means (InsideG p) d K) (closing p) d K (Sign n) (closed_inside p d K)
+inside_says p d K (Finish) = expression_says (Means (InsideG p) d K) (closing p) d K (Finish) (closed_inside p d K)
+
+pub after_reference_says : (p : Place) (d : ℕ) (K : List Leaf → Type 0) (t : Terminal) → Says (Means (AfterReferenceG p) d K) d K t (after_reference p t)
+after_reference_says p d K t = on_sign (Means (AfterReferenceG p) d K) d K mark.Assign t _ _
+    (λ ls w x o. let e = expression_of d K ls (need mark.RightParenthesis ∷ Do (make_embedded p) ∷ []) w in
+    record { part = Stored x e.part; rest = e.goes.rest; ok = (o, e.ok); is = ap (λ (y : List Leaf). reference put_leaf 0 d x (leaf (Sign mark.Assign) ∷ y)) (e.is ∙ ap (expression put_leaf d e.part) e.goes.is); goes = e.goes.goes })
+    (λ h. on_otherwise (Means (AfterReferenceG p) d K) d K (Means (MoreG Products) d (Awaits (Want (MoreG Sums) ∷ from_relations p) d K)) t (Want (MoreG Sums) ∷ from_relations p) (more Products t) _ (more_says Products d (Awaits (Want (MoreG Sums) ∷ from_relations p) d K) t) (λ ls w x o. sums_inside p d K (expression put_leaf d (ReferenceE x) ls) (w (ReferenceE x) (omega arith) o))
+    (on_otherwise (Means (AfterReferenceG p) d K) d K (Means (MoreG Sums) d (Awaits (from_relations p) d K)) t (from_relations p) (more Sums t) _ (more_says Sums d (Awaits (from_relations p) d K) t) (λ ls w x o. relations_inside p d K (expression put_leaf d (ReferenceE x) ls) (w (ReferenceE x) (omega arith) o))
+    (on_otherwise (Means (AfterReferenceG p) d K) d K (Means (MoreG Relations) d (Awaits (from_conjunctions p) d K)) t (from_conjunctions p) (more Relations t) _ (more_says Relations d (Awaits (from_conjunctions p) d K) t) (λ ls w x o. conjunctions_inside p d K (expression put_leaf d (ReferenceE x) ls) (w (ReferenceE x) (omega arith) o))
+    (on_otherwise (Means (AfterReferenceG p) d K) d K (Means (MoreG Conjunctions) d (Awaits (from_disjunctions p) d K)) t (from_disjunctions p) (more Conjunctions t) _ (more_says Conjunctions d (Awaits (from_disjunctions p) d K) t) (λ ls w x o. disjunctions_inside p d K (expression put_leaf d (ReferenceE x) ls) (w (ReferenceE x) (omega arith) o))
+    (on_otherwise (Means (AfterReferenceG p) d K) d K (Means (MoreG Disjunctions) d (Awaits (closing p) d K)) t (closing p) (more Disjunctions t) _ (more_says Disjunctions d (Awaits (closing p) d K) t) (λ ls w x o. last_inside p d K (expression put_leaf d (ReferenceE x) ls) (w (ReferenceE x) (omega arith) o))
+    (on_sign (Means (AfterReferenceG p) d K) d K mark.RightParenthesis t _ Refused (λ ls w x o. record { part = Nested (ReferenceE x); rest = ls; ok = o; is = refl; goes = w }) (λ i. tt)))))))

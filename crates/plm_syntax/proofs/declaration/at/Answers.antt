@@ -1,0 +1,50 @@
+use Rattle.std.proofs.Common.{◌≡◌, ◌∷◌, ◌++◌, [], ℕ, suc, List, ◌+◌, length, true, false, Option, Some, None, refl, sym, ap, ◌∙◌, arith}
+use Rattle.plm_token.specs.declared.token.Mark.TheVariants as mark
+use Rattle.plm_token.specs.declared.token.Keyword.TheVariants as key
+use Rattle.plm_syntax.specs.declared.tree.Name.{Name as NameTree}
+use Rattle.plm_syntax.specs.declared.tree.Variable.{Variable}
+use Rattle.plm_syntax.specs.declared.tree.Member.{Member}
+use Rattle.plm_syntax.specs.declared.tree.Element.{Element}
+use Rattle.plm_syntax.specs.Terminal.{NameT, Sign, Key}
+use Rattle.plm_syntax.specs.Tree.{NamesT, names, no_names, VariableOf, VariablesT, variables, no_variables, OneVariable, VariableList, no_dimension, dimension, implicit_dimension, MembersT, members, no_members, ScalarType, StructureType, no_at, at_number, at_location, no_initial, initial, constant_data, External, Attributes, LiteralElement, VariableElement, ElementsT, elements, no_elements, no_linkage}
+use Rattle.plm_syntax.specs.View.{name_of, number_of, text_of, names_of, names_from, counted, variable_of, variables_from, declared_of, dimension_of, member_of, member_with, members_from, type_of, location_of, values_of, attributes_of, element_of, elements_of}
+use Rattle.plm_syntax.specs.Symbol.{Symbol, depth, need, push, Want, Do, VariableR, VariablesR, DeclaredR, DimensionR, CountR, MembersR, MemberR, TypeR, AttributesR, ElementsR, NamesR, NameR, HeaderR, ElementG, ElementLeadG, LiteralTextG, MoreElementsG, VariableG, MoreVariablesG, BasedG, BaseG, DimensionG, DimensionBodyG, TypeG, MemberOfG, MemberNameG, MoreMemberNamesG, CountG, CountNumberG, MemberTypeG, MoreMembersG, ParameterG, MoreParametersG, AttributesG, AtG, AtBodyG, InitialG}
+use Rattle.plm_syntax.specs.Machine.{a_value_list, add_element, make_literal, set_base, add_variable, one_variable, variable_group, set_dimension, set_count, add_name, add_parameter, make_member, add_member, make_structure, set_external, set_public, set_at, set_at_location, set_initial, set_data, make_element, declared_tail, run}
+use Rattle.plm_syntax.specs.Parsed.{ahead, next_of}
+use Rattle.plm_syntax.specs.Parts.{read_element, read_elements, read_variable, read_variables, read_dimension, read_type, read_member, read_members, read_names, read_parameters, read_count, member_names_read, read_attributes, attributes_read, read_at, read_initial, read_location, read_values}
+use Rattle.plm_syntax.proofs.Rows.{name_pushed, variable_pushed, member_pushed, element_pushed}
+use Rattle.plm_syntax.proofs.Along.{quiet, taken, refused, need_refused, failed, refusal, arrives_behind}
+use Rattle.plm_syntax.proofs.NextDeclaration.{doing, more_elements_refused, element_refused, literal_refused, base_refused, variable_refused, more_variables_refused, more_members_refused, more_member_names_refused, more_parameters_refused, dimension_refused, type_refused, member_of_refused, member_name_refused, parameter_refused, count_refused, member_type_refused, at_body_refused, type_taken, member_type_taken, member_made, located_at, attributes_go, lead_goes}
+use Rattle.plm_syntax.proofs.declaration.at.Goals as goal
+
+pub returns-in_err-inner-clause-leads : goal.returns-in_err-inner-clause-leads
+returns-in_err-inner-clause-leads c = λ b s v d. failed (read_at b) s v c.from_residual.result c.in_err-inner.field-0.0 c.from_residual.ensures.1
+    (taken (Want AtG ∷ s) (attributes_read b no_at v) c.in-Some.ensures
+    ∙ need_refused (Sign mark.LeftParenthesis) c.in-Some.after (Want AtBodyG ∷ need mark.RightParenthesis ∷ s) (attributes_read b no_at v) c.in_err-inner.ensures.0)
+    (refusal c.in_err-inner.field-0.0 c.in-Some.after c.in_err-inner.ensures.1 refl)
+
+pub returns-in_err-rest-clause-leads : goal.returns-in_err-rest-clause-leads
+returns-in_err-rest-clause-leads c = λ b s v d. failed (read_at b) s v c.from_residual-in_err-rest.result c.in_err-rest.field-0.0 c.from_residual-in_err-rest.ensures.1
+    (taken (Want AtG ∷ s) (attributes_read b no_at v) c.in-Some.ensures
+    ∙ taken (need mark.LeftParenthesis ∷ Want AtBodyG ∷ need mark.RightParenthesis ∷ s) (attributes_read b no_at v) c.in_ok-inner.ensures.1
+    ∙ taken (Want AtBodyG ∷ need mark.RightParenthesis ∷ s) (attributes_read b no_at v) c.in-Some-numeral.ensures
+    ∙ quiet c.in-Some-numeral.behind (Do (set_at (at_number (number_of c.in-Some-numeral.number))) ∷ need mark.RightParenthesis ∷ s) (need mark.RightParenthesis ∷ s) (attributes_read b no_at v) (AttributesR (Attributes b (at_number (number_of c.in-Some-numeral.number)) no_initial) ∷ v) (λ t q. refl)
+    ∙ need_refused (Sign mark.RightParenthesis) c.in-Some-numeral.behind s (AttributesR (Attributes b (at_number (number_of c.in-Some-numeral.number)) no_initial) ∷ v) c.in_err-rest.ensures.0)
+    (refusal c.in_err-rest.field-0.0 c.in-Some-numeral.behind c.in_err-rest.ensures.1 refl)
+
+pub returns-in_default-form_at-clause-leads : goal.returns-in_default-form_at-clause-leads
+returns-in_default-form_at-clause-leads c = λ b s v d. refusal c.refuse.result c.in_ok-inner.inner c.refuse.ensures
+    (taken (Want AtG ∷ s) (attributes_read b no_at v) c.in-Some.ensures
+    ∙ taken (need mark.LeftParenthesis ∷ Want AtBodyG ∷ need mark.RightParenthesis ∷ s) (attributes_read b no_at v) c.in_ok-inner.ensures.1
+    ∙ refused AtBodyG c.in_ok-inner.inner (need mark.RightParenthesis ∷ s) (attributes_read b no_at v) (at_body_refused (next_of c.in_ok-inner.inner) c.in_default-numeral.ensures c.in_default-form_at.ensures.0 c.in_default-form_at.ensures.1))
+
+pub returns-in_err-rest-2-clause-leads : goal.returns-in_err-rest-2-clause-leads
+returns-in_err-rest-2-clause-leads c = λ b s v d. failed (read_at b) s v c.from_residual-in_err-rest-2.result c.in_err-rest-2.field-0.0 c.from_residual-in_err-rest-2.ensures.1
+    (taken (Want AtG ∷ s) (attributes_read b no_at v) c.in-Some.ensures
+    ∙ taken (need mark.LeftParenthesis ∷ Want AtBodyG ∷ need mark.RightParenthesis ∷ s) (attributes_read b no_at v) c.in_ok-inner.ensures.1
+    ∙ taken (Want AtBodyG ∷ need mark.RightParenthesis ∷ s) (attributes_read b no_at v) c.in-Some-form_at.ensures
+    ∙ located_at c.in-Some-form_at.form c.in-Some-form_at.place (need mark.RightParenthesis ∷ s) (attributes_read b no_at v) (ahead c.in-Some-form_at.start)
+    ∙ c.in_ok-location.ensures.leads (Do set_at_location ∷ need mark.RightParenthesis ∷ s) (attributes_read b no_at v) d
+    ∙ quiet c.in_ok-location.behind (Do set_at_location ∷ need mark.RightParenthesis ∷ s) (need mark.RightParenthesis ∷ s) (read_location c.in_ok-location.location (attributes_read b no_at v)) (AttributesR (Attributes b (at_location (location_of c.in_ok-location.location)) no_initial) ∷ v) (λ t q. refl)
+    ∙ need_refused (Sign mark.RightParenthesis) c.in_ok-location.behind s (AttributesR (Attributes b (at_location (location_of c.in_ok-location.location)) no_initial) ∷ v) c.in_err-rest-2.ensures.0)
+    (refusal c.in_err-rest-2.field-0.0 c.in_ok-location.behind c.in_err-rest-2.ensures.1 refl)

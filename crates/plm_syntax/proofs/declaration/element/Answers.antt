@@ -1,0 +1,67 @@
+use Rattle.std.proofs.Common.{◌≡◌, ◌∷◌, ◌++◌, [], ℕ, suc, List, ◌+◌, length, true, false, Option, Some, None, refl, sym, ap, ◌∙◌, arith}
+use Rattle.plm_token.specs.declared.token.Mark.TheVariants as mark
+use Rattle.plm_token.specs.declared.token.Keyword.TheVariants as key
+use Rattle.plm_syntax.specs.declared.tree.Name.{Name as NameTree}
+use Rattle.plm_syntax.specs.declared.tree.Variable.{Variable}
+use Rattle.plm_syntax.specs.declared.tree.Member.{Member}
+use Rattle.plm_syntax.specs.declared.tree.Element.{Element}
+use Rattle.plm_syntax.specs.Terminal.{NameT, Sign, Key}
+use Rattle.plm_syntax.specs.Tree.{NamesT, names, no_names, VariableOf, VariablesT, variables, no_variables, OneVariable, VariableList, no_dimension, dimension, implicit_dimension, MembersT, members, no_members, ScalarType, StructureType, no_at, at_number, at_location, no_initial, initial, constant_data, External, Attributes, LiteralElement, VariableElement, ElementsT, elements, no_elements, no_linkage}
+use Rattle.plm_syntax.specs.View.{name_of, number_of, text_of, names_of, names_from, counted, variable_of, variables_from, declared_of, dimension_of, member_of, member_with, members_from, type_of, location_of, values_of, attributes_of, element_of, elements_of}
+use Rattle.plm_syntax.specs.Symbol.{Symbol, depth, need, push, Want, Do, VariableR, VariablesR, DeclaredR, DimensionR, CountR, MembersR, MemberR, TypeR, AttributesR, ElementsR, NamesR, NameR, HeaderR, ElementG, ElementLeadG, LiteralTextG, MoreElementsG, VariableG, MoreVariablesG, BasedG, BaseG, DimensionG, DimensionBodyG, TypeG, MemberOfG, MemberNameG, MoreMemberNamesG, CountG, CountNumberG, MemberTypeG, MoreMembersG, ParameterG, MoreParametersG, AttributesG, AtG, AtBodyG, InitialG}
+use Rattle.plm_syntax.specs.Machine.{a_value_list, add_element, make_literal, set_base, add_variable, one_variable, variable_group, set_dimension, set_count, add_name, add_parameter, make_member, add_member, make_structure, set_external, set_public, set_at, set_at_location, set_initial, set_data, make_element, declared_tail, run}
+use Rattle.plm_syntax.specs.Parsed.{ahead, next_of}
+use Rattle.plm_syntax.specs.Parts.{read_element, read_elements, read_variable, read_variables, read_dimension, read_type, read_member, read_members, read_names, read_parameters, read_count, member_names_read, read_attributes, attributes_read, read_at, read_initial, read_location, read_values}
+use Rattle.plm_syntax.proofs.Rows.{name_pushed, variable_pushed, member_pushed, element_pushed}
+use Rattle.plm_syntax.proofs.Along.{quiet, taken, refused, need_refused, failed, refusal, arrives_behind}
+use Rattle.plm_syntax.proofs.NextDeclaration.{doing, more_elements_refused, element_refused, literal_refused, base_refused, variable_refused, more_variables_refused, more_members_refused, more_member_names_refused, more_parameters_refused, dimension_refused, type_refused, member_of_refused, member_name_refused, parameter_refused, count_refused, member_type_refused, at_body_refused, type_taken, member_type_taken, member_made, located_at, attributes_go, lead_goes}
+use Rattle.plm_syntax.proofs.declaration.element.Goals as goal
+
+pub returns-in_err-list-clause-leads : goal.returns-in_err-list-clause-leads
+returns-in_err-list-clause-leads c = λ es s v d. failed (read_element es) s v c.from_residual.result c.in_err-list.field-0.0 c.from_residual.ensures.1
+    (taken (Want ElementG ∷ s) (ElementsR es ∷ v) c.in-Some.ensures
+    ∙ quiet c.in-Some.inner (push (VariablesR no_variables) ∷ Want VariableG ∷ Do add_variable ∷ Want MoreVariablesG ∷ Do variable_group ∷ (declared_tail ++ (Do add_element ∷ s))) (Want VariableG ∷ Do add_variable ∷ Want MoreVariablesG ∷ Do variable_group ∷ (declared_tail ++ (Do add_element ∷ s))) (ElementsR es ∷ v) (VariablesR no_variables ∷ ElementsR es ∷ v) (λ t q. refl))
+    (c.in_err-list.ensures.leads (Do variable_group ∷ (declared_tail ++ (Do add_element ∷ s))) (ElementsR es ∷ v))
+
+pub returns-in-Some-clause-leads : goal.returns-in-Some-clause-leads
+returns-in-Some-clause-leads c = λ es s v d. arrives_behind (read_element es) s v c.behind_names.result
+    (taken (Want ElementG ∷ s) (ElementsR es ∷ v) c.in-Some.ensures
+    ∙ quiet c.in-Some.inner (push (VariablesR no_variables) ∷ Want VariableG ∷ Do add_variable ∷ Want MoreVariablesG ∷ Do variable_group ∷ (declared_tail ++ (Do add_element ∷ s))) (Want VariableG ∷ Do add_variable ∷ Want MoreVariablesG ∷ Do variable_group ∷ (declared_tail ++ (Do add_element ∷ s))) (ElementsR es ∷ v) (VariablesR no_variables ∷ ElementsR es ∷ v) (λ t q. refl)
+    ∙ c.in_ok-list.ensures.leads (Do variable_group ∷ (declared_tail ++ (Do add_element ∷ s))) (ElementsR es ∷ v)
+    ∙ quiet c.in_ok-list.rest (Do variable_group ∷ (declared_tail ++ (Do add_element ∷ s))) (declared_tail ++ (Do add_element ∷ s)) (read_variables c.in_ok-list.list.items (ElementsR es ∷ v)) (DeclaredR (VariableList (variables_from c.in_ok-list.list.items no_variables)) ∷ ElementsR es ∷ v) (λ t q. refl))
+    (c.behind_names.ensures.leads es s v d)
+
+pub returns-in_err-name-clause-leads : goal.returns-in_err-name-clause-leads
+returns-in_err-name-clause-leads c = λ es s v d. failed (read_element es) s v c.from_residual-in_err-name.result c.in_err-name.field-0.0 c.from_residual-in_err-name.ensures.1
+    (refused ElementG c.args.cursor s (ElementsR es ∷ v) (element_refused (next_of c.args.cursor) c.in_default.ensures c.in_err-name.ensures.0))
+    (refusal c.in_err-name.field-0.0 c.args.cursor c.in_err-name.ensures.1 refl)
+
+pub returns-in-Some-text-clause-leads : goal.returns-in-Some-text-clause-leads
+returns-in-Some-text-clause-leads c = λ es s v d. taken (Want ElementG ∷ s) (ElementsR es ∷ v) c.in_ok-name.ensures
+    ∙ quiet c.in_ok-name.rest (push (VariableR (VariableOf (name_of c.in_ok-name.name) None)) ∷ Want ElementLeadG ∷ Do add_element ∷ s) (Want ElementLeadG ∷ Do add_element ∷ s) (ElementsR es ∷ v) (VariableR (VariableOf (name_of c.in_ok-name.name) None) ∷ ElementsR es ∷ v) (λ t q. refl)
+    ∙ taken (Want ElementLeadG ∷ Do add_element ∷ s) (VariableR (VariableOf (name_of c.in_ok-name.name) None) ∷ ElementsR es ∷ v) c.in-Some-keyword.ensures
+    ∙ taken (Want LiteralTextG ∷ Do add_element ∷ s) (VariableR (VariableOf (name_of c.in_ok-name.name) None) ∷ ElementsR es ∷ v) c.in-Some-text.ensures
+    ∙ quiet c.in-Some-text.behind (Do (make_literal (text_of c.in-Some-text.text)) ∷ Do add_element ∷ s) s (VariableR (VariableOf (name_of c.in_ok-name.name) None) ∷ ElementsR es ∷ v) (ElementsR (elements es (LiteralElement (name_of c.in_ok-name.name) (text_of c.in-Some-text.text))) ∷ v) (λ t q. refl)
+
+pub returns-in-None-clause-leads : goal.returns-in-None-clause-leads
+returns-in-None-clause-leads c = λ es s v d. refusal c.refuse.result c.in-Some-keyword.after c.refuse.ensures
+    (taken (Want ElementG ∷ s) (ElementsR es ∷ v) c.in_ok-name.ensures
+    ∙ quiet c.in_ok-name.rest (push (VariableR (VariableOf (name_of c.in_ok-name.name) None)) ∷ Want ElementLeadG ∷ Do add_element ∷ s) (Want ElementLeadG ∷ Do add_element ∷ s) (ElementsR es ∷ v) (VariableR (VariableOf (name_of c.in_ok-name.name) None) ∷ ElementsR es ∷ v) (λ t q. refl)
+    ∙ taken (Want ElementLeadG ∷ Do add_element ∷ s) (VariableR (VariableOf (name_of c.in_ok-name.name) None) ∷ ElementsR es ∷ v) c.in-Some-keyword.ensures
+    ∙ refused LiteralTextG c.in-Some-keyword.after (Do add_element ∷ s) (VariableR (VariableOf (name_of c.in_ok-name.name) None) ∷ ElementsR es ∷ v) (literal_refused (next_of c.in-Some-keyword.after) c.in-None.ensures))
+
+pub returns-in_err-variable-clause-leads : goal.returns-in_err-variable-clause-leads
+returns-in_err-variable-clause-leads c = λ es s v d. failed (read_element es) s v c.from_residual-in_err-variable.result c.in_err-variable.field-0.0 c.from_residual-in_err-variable.ensures.1
+    (taken (Want ElementG ∷ s) (ElementsR es ∷ v) c.in_ok-name.ensures
+    ∙ quiet c.in_ok-name.rest (push (VariableR (VariableOf (name_of c.in_ok-name.name) None)) ∷ Want ElementLeadG ∷ Do add_element ∷ s) (Want ElementLeadG ∷ Do add_element ∷ s) (ElementsR es ∷ v) (VariableR (VariableOf (name_of c.in_ok-name.name) None) ∷ ElementsR es ∷ v) (λ t q. refl)
+    ∙ lead_goes c.in_ok-name.rest (VariableOf (name_of c.in_ok-name.name) None) (Do add_element ∷ s) (ElementsR es ∷ v) c.in_default-keyword.ensures)
+    (c.in_err-variable.ensures.leads (Do one_variable ∷ (declared_tail ++ (Do add_element ∷ s))) (ElementsR es ∷ v))
+
+pub returns-clause-leads : goal.returns-clause-leads
+returns-clause-leads c = λ es s v d. arrives_behind (read_element es) s v c.behind_names-2.result
+    (taken (Want ElementG ∷ s) (ElementsR es ∷ v) c.in_ok-name.ensures
+    ∙ quiet c.in_ok-name.rest (push (VariableR (VariableOf (name_of c.in_ok-name.name) None)) ∷ Want ElementLeadG ∷ Do add_element ∷ s) (Want ElementLeadG ∷ Do add_element ∷ s) (ElementsR es ∷ v) (VariableR (VariableOf (name_of c.in_ok-name.name) None) ∷ ElementsR es ∷ v) (λ t q. refl)
+    ∙ lead_goes c.in_ok-name.rest (VariableOf (name_of c.in_ok-name.name) None) (Do add_element ∷ s) (ElementsR es ∷ v) c.in_default-keyword.ensures
+    ∙ c.in_ok-variable.ensures.leads (Do one_variable ∷ (declared_tail ++ (Do add_element ∷ s))) (ElementsR es ∷ v)
+    ∙ quiet c.in_ok-variable.behind (Do one_variable ∷ (declared_tail ++ (Do add_element ∷ s))) (declared_tail ++ (Do add_element ∷ s)) (read_variable c.in_ok-variable.variable (ElementsR es ∷ v)) (DeclaredR (OneVariable (variable_of c.in_ok-variable.variable)) ∷ ElementsR es ∷ v) (λ t q. refl))
+    (c.behind_names-2.ensures.leads es s v d)

@@ -1,0 +1,354 @@
+use Rattle.std.proofs.Common.{◌≡◌, ◌∷◌, ◌++◌, [], ℕ, suc, List, ◌+◌, length, refl, sym, ap, ◌∙◌, arith}
+use Rattle.plm_token.specs.declared.token.Mark.TheVariants as mark
+use Rattle.plm_syntax.specs.declared.tree.UnaryOperator.TheVariants as unary
+use Rattle.plm_syntax.specs.declared.tree.Expression.{Expression}
+use Rattle.plm_syntax.specs.declared.tree.Value.{Value as ValueTree}
+use Rattle.plm_syntax.specs.Terminal.{Sign}
+use Rattle.plm_syntax.specs.Tree.{ExpressionT, NumberE, TextE, ReferenceE, LocationE, ParenthesisedE, EmbeddedE, UnaryE, BinaryE, ReferenceOf, ExpressionsT, no_expressions, expressions, no_member, member, member_at, LocationOf, ConstantsOf, NumberV, NegativeV, TextV, LocationV, ValuesT, no_values, values}
+use Rattle.plm_syntax.specs.View.{name_of, number_of, text_of, expression_of, expressions_of, reference_of, location_of, value_of, values_of}
+use Rattle.plm_syntax.specs.Symbol.{Symbol, depth, need, push, ExpressionR, ExpressionsR, ValueR, ValuesR, Want, Do, Leave, PrimaryG, SignedG, NegationG, MoreG, InsideG, AfterReferenceG, SubscriptsG, MoreSubscriptsG, SelectorG, MemberG, MemberSubscriptG, LocatedG, ValueG, NegativeG, MoreValuesG}
+use Rattle.plm_syntax.specs.Machine.{again, an_expression, a_value_list, reference_begun, closing, make_binary, make_unary, make_parenthesised, make_embedded, add_expression, set_subscripts, set_member, set_member_subscript, locate, locate_values, location_value, add_value, run}
+use Rattle.plm_syntax.specs.Parsed.{ahead, next_of}
+use Rattle.plm_syntax.specs.Parts.{level_view, read_expression, read_reference, read_subscripts, read_selector, read_location, read_value, read_values, reference_read, all_levels}
+use Rattle.plm_syntax.proofs.Rows.{expression_pushed, value_pushed}
+use Rattle.plm_syntax.proofs.Seen.{seen, reference_laid, embedded_laid, constants_laid, location_laid, binary_laid}
+use Rattle.plm_syntax.proofs.Along.{quiet, taken, refused, need_refused, entered, too_deep, deeper, failed, refusal, depth_failure, arrives_behind, arrives_left, operator_taken}
+use Rattle.plm_syntax.proofs.NextExpression.{negation_goes, inside_goes, reference_goes, signed_goes, primary_refused, value_refused, negative_refused, member_refused, located_refused, more_subscripts_refused, more_values_refused, located_value, again_relations, again_others, depth_again}
+use Rattle.plm_syntax.proofs.expression.+expression.Goals as goal
+
+pub behind_reference-returns-in_err-rest-clause-leads : goal.behind_reference-returns-in_err-rest-clause-leads
+behind_reference-returns-in_err-rest-clause-leads t c = λ s v d. failed read_expression s v c.from_residual-in_err-rest.result c.in_err-rest.field-0.0 c.from_residual-in_err-rest.ensures.1
+    (taken (Want (AfterReferenceG c.args.place) ∷ s) (read_reference c.args.first v) c.in-Some.ensures
+    ∙ c.in_ok-value.ensures.leads (need mark.RightParenthesis ∷ Do (make_embedded c.args.place) ∷ s) (read_reference c.args.first v) d
+    ∙ need_refused (Sign mark.RightParenthesis) c.in_ok-value.behind (Do (make_embedded c.args.place) ∷ s) _ c.in_err-rest.ensures.0)
+    (refusal c.in_err-rest.field-0.0 c.in_ok-value.behind c.in_err-rest.ensures.1 refl)
+
+pub behind_reference-returns-in-Some-clause-leads : goal.behind_reference-returns-in-Some-clause-leads
+behind_reference-returns-in-Some-clause-leads t c = λ s v d. taken (Want (AfterReferenceG c.args.place) ∷ s) (read_reference c.args.first v) c.in-Some.ensures
+    ∙ c.in_ok-value.ensures.leads (need mark.RightParenthesis ∷ Do (make_embedded c.args.place) ∷ s) (read_reference c.args.first v) d
+    ∙ taken (need mark.RightParenthesis ∷ Do (make_embedded c.args.place) ∷ s) _ c.in_ok-rest.ensures.1
+    ∙ quiet c.in_ok-rest.rest (Do (make_embedded c.args.place) ∷ s) s (read_expression c.in_ok-value.value (read_reference c.args.first v)) (ExpressionR (EmbeddedE c.args.place (reference_of c.args.first) (expression_of c.in_ok-value.value)) ∷ v) (λ t q. refl)
+    ∙ seen s v c.in_ok-rest.rest (embedded_laid c.args.place c.args.first c.in_ok-new.ensures.ok)
+
+pub behind_reference-returns-in_err-inside-clause-leads : goal.behind_reference-returns-in_err-inside-clause-leads
+behind_reference-returns-in_err-inside-clause-leads t c = λ s v d. failed read_expression s v c.from_residual-in_err-inside.result c.in_err-inside.field-0.0 c.from_residual-in_err-inside.ensures.1
+    (reference_goes c.args.place c.args.cursor s (read_reference c.args.first v) c.in_default.ensures
+    ∙ seen (all_levels (closing c.args.place ++ s)) v c.args.cursor (ap ReferenceE (reference_laid c.args.first)))
+    (c.in_err-inside.ensures.leads (closing c.args.place ++ s) v d)
+
+pub behind_reference-returns-in_err-rest-2-clause-leads : goal.behind_reference-returns-in_err-rest-2-clause-leads
+behind_reference-returns-in_err-rest-2-clause-leads t c = λ s v d. failed read_expression s v c.from_residual-in_err-rest-2.result c.in_err-rest-2.field-0.0 c.from_residual-in_err-rest-2.ensures.1
+    (reference_goes c.args.place c.args.cursor s (read_reference c.args.first v) c.in_default.ensures
+    ∙ seen (all_levels (closing c.args.place ++ s)) v c.args.cursor (ap ReferenceE (reference_laid c.args.first))
+    ∙ c.in_ok-inside.ensures.leads (closing c.args.place ++ s) v d
+    ∙ need_refused (Sign mark.RightParenthesis) c.in_ok-inside.behind (Do (make_parenthesised c.args.place) ∷ s) _ c.in_err-rest-2.ensures.0)
+    (refusal c.in_err-rest-2.field-0.0 c.in_ok-inside.behind c.in_err-rest-2.ensures.1 refl)
+
+pub behind_reference-returns-clause-leads : goal.behind_reference-returns-clause-leads
+behind_reference-returns-clause-leads t c = λ s v d. reference_goes c.args.place c.args.cursor s (read_reference c.args.first v) c.in_default.ensures
+    ∙ seen (all_levels (closing c.args.place ++ s)) v c.args.cursor (ap ReferenceE (reference_laid c.args.first))
+    ∙ c.in_ok-inside.ensures.leads (closing c.args.place ++ s) v d
+    ∙ taken (closing c.args.place ++ s) _ c.in_ok-rest-2.ensures.1
+    ∙ quiet c.in_ok-rest-2.rest (Do (make_parenthesised c.args.place) ∷ s) s (read_expression c.in_ok-inside.inside v) (ExpressionR (ParenthesisedE c.args.place (expression_of c.in_ok-inside.inside)) ∷ v) (λ t q. refl)
+    ∙ seen s v c.in_ok-rest-2.rest (ap (λ (e : Expression). ParenthesisedE c.args.place (expression_of e)) (sym c.in_ok-new-2.ensures.ok))
+
+pub location-returns-in-Some-clause-leads : goal.location-returns-in-Some-clause-leads
+location-returns-in-Some-clause-leads t c = λ s v d. taken (Want (LocatedG c.args.place c.args.form) ∷ s) v c.in-Some.ensures
+    ∙ c.in_ok-constants.ensures.leads (Do (locate_values c.args.place c.args.form) ∷ s) v d
+    ∙ quiet c.in_ok-constants.rest (Do (locate_values c.args.place c.args.form) ∷ s) s (read_values c.in_ok-constants.constants.items v) (ExpressionR (LocationE (ConstantsOf c.args.place c.args.form (values_of c.in_ok-constants.constants.items))) ∷ v) (λ t q. refl)
+    ∙ seen s v c.in_ok-constants.rest (ap LocationE (constants_laid c.args.place c.args.form c.in_ok-constants.constants))
+
+pub location-returns-in_err-name-clause-leads : goal.location-returns-in_err-name-clause-leads
+location-returns-in_err-name-clause-leads t c = λ s v d. failed read_location s v c.from_residual-in_err-name.result c.in_err-name.field-0.0 c.from_residual-in_err-name.ensures.1
+    (refused (LocatedG c.args.place c.args.form) c.args.cursor s v (located_refused c.args.place c.args.form (next_of c.args.cursor) c.in_default.ensures c.in_err-name.ensures.0))
+    (refusal c.in_err-name.field-0.0 c.args.cursor c.in_err-name.ensures.1 refl)
+
+pub location-returns-in_err-reference-clause-leads : goal.location-returns-in_err-reference-clause-leads
+location-returns-in_err-reference-clause-leads t c = λ s v d. failed read_location s v c.from_residual-in_err-reference.result c.in_err-reference.field-0.0 c.from_residual-in_err-reference.ensures.1
+    (taken (Want (LocatedG c.args.place c.args.form) ∷ s) v c.in_ok-name.ensures
+    ∙ quiet c.in_ok-name.behind (reference_begun (name_of c.in_ok-name.name) (Do (locate c.args.place c.args.form) ∷ s)) (Want SubscriptsG ∷ Want SelectorG ∷ Do (locate c.args.place c.args.form) ∷ s) v (reference_read (name_of c.in_ok-name.name) v) (λ t q. refl))
+    (c.in_err-reference.ensures.leads (Do (locate c.args.place c.args.form) ∷ s) v d)
+
+pub location-returns-clause-leads : goal.location-returns-clause-leads
+location-returns-clause-leads t c = λ s v d. taken (Want (LocatedG c.args.place c.args.form) ∷ s) v c.in_ok-name.ensures
+    ∙ quiet c.in_ok-name.behind (reference_begun (name_of c.in_ok-name.name) (Do (locate c.args.place c.args.form) ∷ s)) (Want SubscriptsG ∷ Want SelectorG ∷ Do (locate c.args.place c.args.form) ∷ s) v (reference_read (name_of c.in_ok-name.name) v) (λ t q. refl)
+    ∙ c.in_ok-reference.ensures.leads (Do (locate c.args.place c.args.form) ∷ s) v d
+    ∙ quiet c.in_ok-reference.rest (Do (locate c.args.place c.args.form) ∷ s) s (read_reference c.in_ok-reference.reference v) (ExpressionR (LocationE (LocationOf c.args.place c.args.form (reference_of c.in_ok-reference.reference))) ∷ v) (λ t q. refl)
+    ∙ seen s v c.in_ok-reference.rest (ap LocationE (location_laid c.args.place c.args.form c.in_ok-reference.reference))
+
+pub more-returns-then-is_relations-clause-leads : goal.more-returns-then-is_relations-clause-leads
+more-returns-then-is_relations-clause-leads t c = λ s v d. c.loop-place.invariant.leads s v d
+    ∙ taken (Want (MoreG (level_view c.args.level)) ∷ s) (read_expression c.loop-place.left v) c.in-Some.ensures.0
+    ∙ operator_taken (level_view c.args.level) c.in-Some.operator c.in-Some.place s (read_expression c.loop-place.left v) (ahead c.in-Some.after) c.in-Some.ensures.1
+    ∙ c.in_ok-right.ensures.leads (Do (make_binary c.in-Some.place c.in-Some.operator) ∷ (again (level_view c.args.level) ++ s)) (read_expression c.loop-place.left v) (ap (λ (n : ℕ). n + c.args.room) (depth_again (level_view c.args.level) s) ∙ d)
+    ∙ quiet c.in_ok-right.behind (Do (make_binary c.in-Some.place c.in-Some.operator) ∷ (again (level_view c.args.level) ++ s)) (again (level_view c.args.level) ++ s) (read_expression c.in_ok-right.right (read_expression c.loop-place.left v)) (ExpressionR (BinaryE c.in-Some.place c.in-Some.operator (expression_of c.loop-place.left) (expression_of c.in_ok-right.right)) ∷ v) (λ t q. refl)
+    ∙ seen (again (level_view c.args.level) ++ s) v c.in_ok-right.behind (binary_laid c.in-Some.place c.in-Some.operator c.in_ok-new.ensures.ok c.in_ok-new-2.ensures.ok)
+    ∙ ap (λ (x : List Symbol). run 64 x (ExpressionR (BinaryE c.in-Some.place c.in-Some.operator (expression_of c.in_ok-new.field-0.value) (expression_of c.in_ok-new-2.field-0.value)) ∷ v) (ahead c.in_ok-right.behind)) (again_relations (level_view c.args.level) (sym c.is_relations.ensures ∙ c.if-is_relations.true) s)
+
+pub more-loop-place-preserved : goal.more-loop-place-preserved
+more-loop-place-preserved t c = record {
+  leads = λ s v d. c.loop-place.invariant.leads s v d
+      ∙ taken (Want (MoreG (level_view c.args.level)) ∷ s) (read_expression c.loop-place.left v) c.in-Some.ensures.0
+      ∙ operator_taken (level_view c.args.level) c.in-Some.operator c.in-Some.place s (read_expression c.loop-place.left v) (ahead c.in-Some.after) c.in-Some.ensures.1
+      ∙ c.in_ok-right.ensures.leads (Do (make_binary c.in-Some.place c.in-Some.operator) ∷ (again (level_view c.args.level) ++ s)) (read_expression c.loop-place.left v) (ap (λ (n : ℕ). n + c.args.room) (depth_again (level_view c.args.level) s) ∙ d)
+      ∙ quiet c.in_ok-right.behind (Do (make_binary c.in-Some.place c.in-Some.operator) ∷ (again (level_view c.args.level) ++ s)) (again (level_view c.args.level) ++ s) (read_expression c.in_ok-right.right (read_expression c.loop-place.left v)) (ExpressionR (BinaryE c.in-Some.place c.in-Some.operator (expression_of c.loop-place.left) (expression_of c.in_ok-right.right)) ∷ v) (λ t q. refl)
+      ∙ seen (again (level_view c.args.level) ++ s) v c.in_ok-right.behind (binary_laid c.in-Some.place c.in-Some.operator c.in_ok-new.ensures.ok c.in_ok-new-2.ensures.ok)
+      ∙ ap (λ (x : List Symbol). run 64 x (ExpressionR (BinaryE c.in-Some.place c.in-Some.operator (expression_of c.in_ok-new.field-0.value) (expression_of c.in_ok-new-2.field-0.value)) ∷ v) (ahead c.in_ok-right.behind)) (again_others (level_view c.args.level) (sym c.is_relations.ensures ∙ c.if-is_relations.false) s);
+  shorter = omega (arith, c.loop-place.invariant.shorter, c.in-Some.ensures.0.shorter, c.in_ok-right.ensures.within);
+}
+
+pub negation-returns-in_err-level_down-in-Some-clause-leads : goal.negation-returns-in_err-level_down-in-Some-clause-leads
+negation-returns-in_err-level_down-in-Some-clause-leads t c = λ s v d. failed read_expression s v c.from_residual.result c.in_err-level_down-in-Some.field-0.0 c.from_residual.ensures.1
+    (taken (Want NegationG ∷ s) v c.in-Some.ensures
+    ∙ too_deep (depth s) c.args.room c.in-Some.inner (run 64 (Want NegationG ∷ Leave ∷ Do (make_unary c.in-Some.place unary.Not) ∷ s) v (ahead c.in-Some.inner)) d c.in_err-level_down-in-Some.ensures.0)
+    (depth_failure c.in_err-level_down-in-Some.field-0.0 c.in-Some.inner c.in_err-level_down-in-Some.ensures.1 refl)
+
+pub negation-returns-in_ok-new-in-Some-clause-leads : goal.negation-returns-in_ok-new-in-Some-clause-leads
+negation-returns-in_ok-new-in-Some-clause-leads t c = λ s v d. taken (Want NegationG ∷ s) v c.in-Some.ensures
+    ∙ entered (depth s) c.args.room c.in_ok-level_down-in-Some.field-0 (length (ahead c.in-Some.inner)) (run 64 (Want NegationG ∷ Leave ∷ Do (make_unary c.in-Some.place unary.Not) ∷ s) v (ahead c.in-Some.inner)) d c.in_ok-level_down-in-Some.ensures
+    ∙ c.in_ok-operand-in-Some.ensures.leads (Leave ∷ Do (make_unary c.in-Some.place unary.Not) ∷ s) v (deeper (depth s) c.args.room c.in_ok-level_down-in-Some.field-0 d c.in_ok-level_down-in-Some.ensures)
+    ∙ quiet c.in_ok-operand-in-Some.rest (Leave ∷ Do (make_unary c.in-Some.place unary.Not) ∷ s) s (read_expression c.in_ok-operand-in-Some.operand v) (ExpressionR (UnaryE c.in-Some.place unary.Not (expression_of c.in_ok-operand-in-Some.operand)) ∷ v) (λ t q. refl)
+    ∙ seen s v c.in_ok-operand-in-Some.rest (ap (λ (e : Expression). UnaryE c.in-Some.place unary.Not (expression_of e)) (sym c.in_ok-new-in-Some.ensures.ok))
+
+pub negation-returns-in-None-clause-leads : goal.negation-returns-in-None-clause-leads
+negation-returns-in-None-clause-leads t c = λ s v d. arrives_behind read_expression s v c.binary.result (negation_goes c.args.cursor s v c.in-None.ensures) (c.binary.ensures.leads s v d)
+
+pub parenthesised-returns-in_err-reference-clause-leads : goal.parenthesised-returns-in_err-reference-clause-leads
+parenthesised-returns-in_err-reference-clause-leads t c = λ s v d. failed read_expression s v c.from_residual.result c.in_err-reference.field-0.0 c.from_residual.ensures.1
+    (taken (Want (InsideG c.args.place) ∷ s) v c.in-Some.ensures
+    ∙ quiet c.in-Some.rest (reference_begun (name_of c.in-Some.name) (Want (AfterReferenceG c.args.place) ∷ s)) (Want SubscriptsG ∷ Want SelectorG ∷ Want (AfterReferenceG c.args.place) ∷ s) v (reference_read (name_of c.in-Some.name) v) (λ t q. refl))
+    (c.in_err-reference.ensures.leads (Want (AfterReferenceG c.args.place) ∷ s) v d)
+
+pub parenthesised-returns-in-Some-clause-leads : goal.parenthesised-returns-in-Some-clause-leads
+parenthesised-returns-in-Some-clause-leads t c = λ s v d. arrives_behind read_expression s v c.behind_reference.result
+    (taken (Want (InsideG c.args.place) ∷ s) v c.in-Some.ensures
+    ∙ quiet c.in-Some.rest (reference_begun (name_of c.in-Some.name) (Want (AfterReferenceG c.args.place) ∷ s)) (Want SubscriptsG ∷ Want SelectorG ∷ Want (AfterReferenceG c.args.place) ∷ s) v (reference_read (name_of c.in-Some.name) v) (λ t q. refl)
+    ∙ c.in_ok-reference.ensures.leads (Want (AfterReferenceG c.args.place) ∷ s) v d)
+    (c.behind_reference.ensures.leads s v d)
+
+pub parenthesised-returns-in_err-inside-clause-leads : goal.parenthesised-returns-in_err-inside-clause-leads
+parenthesised-returns-in_err-inside-clause-leads t c = λ s v d. failed read_expression s v c.from_residual-in_err-inside.result c.in_err-inside.field-0.0 c.from_residual-in_err-inside.ensures.1
+    (inside_goes c.args.place c.args.cursor s v c.in_default.ensures)
+    (c.in_err-inside.ensures.leads (closing c.args.place ++ s) v d)
+
+pub parenthesised-returns-in_err-rest-clause-leads : goal.parenthesised-returns-in_err-rest-clause-leads
+parenthesised-returns-in_err-rest-clause-leads t c = λ s v d. failed read_expression s v c.from_residual-in_err-rest.result c.in_err-rest.field-0.0 c.from_residual-in_err-rest.ensures.1
+    (inside_goes c.args.place c.args.cursor s v c.in_default.ensures
+    ∙ c.in_ok-inside.ensures.leads (closing c.args.place ++ s) v d
+    ∙ need_refused (Sign mark.RightParenthesis) c.in_ok-inside.behind (Do (make_parenthesised c.args.place) ∷ s) _ c.in_err-rest.ensures.0)
+    (refusal c.in_err-rest.field-0.0 c.in_ok-inside.behind c.in_err-rest.ensures.1 refl)
+
+pub parenthesised-returns-clause-leads : goal.parenthesised-returns-clause-leads
+parenthesised-returns-clause-leads t c = λ s v d. inside_goes c.args.place c.args.cursor s v c.in_default.ensures
+    ∙ c.in_ok-inside.ensures.leads (closing c.args.place ++ s) v d
+    ∙ taken (closing c.args.place ++ s) _ c.in_ok-rest.ensures.1
+    ∙ quiet c.in_ok-rest.rest (Do (make_parenthesised c.args.place) ∷ s) s (read_expression c.in_ok-inside.inside v) (ExpressionR (ParenthesisedE c.args.place (expression_of c.in_ok-inside.inside)) ∷ v) (λ t q. refl)
+    ∙ seen s v c.in_ok-rest.rest (ap (λ (e : Expression). ParenthesisedE c.args.place (expression_of e)) (sym c.in_ok-new.ensures.ok))
+
+pub primary-returns-in_err-reference-clause-leads : goal.primary-returns-in_err-reference-clause-leads
+primary-returns-in_err-reference-clause-leads t c = λ s v d. failed read_expression s v c.from_residual.result c.in_err-reference.field-0.0 c.from_residual.ensures.1
+    (taken (Want PrimaryG ∷ s) v c.in-Some.ensures
+    ∙ quiet c.in-Some.rest (reference_begun (name_of c.in-Some.name) s) (Want SubscriptsG ∷ Want SelectorG ∷ s) v (reference_read (name_of c.in-Some.name) v) (λ t q. refl))
+    (c.in_err-reference.ensures.leads s v d)
+
+pub primary-returns-in-Some-clause-leads : goal.primary-returns-in-Some-clause-leads
+primary-returns-in-Some-clause-leads t c = λ s v d. taken (Want PrimaryG ∷ s) v c.in-Some.ensures
+    ∙ quiet c.in-Some.rest (reference_begun (name_of c.in-Some.name) s) (Want SubscriptsG ∷ Want SelectorG ∷ s) v (reference_read (name_of c.in-Some.name) v) (λ t q. refl)
+    ∙ c.in_ok-reference.ensures.leads s v d
+    ∙ seen s v c.in_ok-reference.behind (ap ReferenceE (reference_laid c.in_ok-reference.reference))
+
+pub primary-returns-in-Some-numeral-clause-leads : goal.primary-returns-in-Some-numeral-clause-leads
+primary-returns-in-Some-numeral-clause-leads t c = λ s v d. taken (Want PrimaryG ∷ s) v c.in-Some-numeral.ensures
+    ∙ quiet c.in-Some-numeral.rest (push (ExpressionR (NumberE (number_of c.in-Some-numeral.number))) ∷ s) s v (ExpressionR (NumberE (number_of c.in-Some-numeral.number)) ∷ v) (λ t q. refl)
+
+pub primary-returns-in-Some-text-clause-leads : goal.primary-returns-in-Some-text-clause-leads
+primary-returns-in-Some-text-clause-leads t c = λ s v d. taken (Want PrimaryG ∷ s) v c.in-Some-text.ensures
+    ∙ quiet c.in-Some-text.rest (push (ExpressionR (TextE (text_of c.in-Some-text.text))) ∷ s) s v (ExpressionR (TextE (text_of c.in-Some-text.text)) ∷ v) (λ t q. refl)
+
+pub primary-returns-in_err-level_down-clause-leads : goal.primary-returns-in_err-level_down-clause-leads
+primary-returns-in_err-level_down-clause-leads t c = λ s v d. failed read_expression s v c.from_residual-in_err-level_down.result c.in_err-level_down.field-0.0 c.from_residual-in_err-level_down.ensures.1
+    (taken (Want PrimaryG ∷ s) v c.in-Some-mark.ensures
+    ∙ too_deep (depth s) c.args.room c.in-Some-mark.inner (run 64 (Want (InsideG c.in-Some-mark.place) ∷ Leave ∷ s) v (ahead c.in-Some-mark.inner)) d c.in_err-level_down.ensures.0)
+    (depth_failure c.in_err-level_down.field-0.0 c.in-Some-mark.inner c.in_err-level_down.ensures.1 refl)
+
+pub primary-returns-in-Some-mark-clause-leads : goal.primary-returns-in-Some-mark-clause-leads
+primary-returns-in-Some-mark-clause-leads t c = λ s v d. arrives_left read_expression s v c.parenthesised.result
+    (taken (Want PrimaryG ∷ s) v c.in-Some-mark.ensures
+    ∙ entered (depth s) c.args.room c.in_ok-level_down.field-0 (length (ahead c.in-Some-mark.inner)) (run 64 (Want (InsideG c.in-Some-mark.place) ∷ Leave ∷ s) v (ahead c.in-Some-mark.inner)) d c.in_ok-level_down.ensures)
+    (c.parenthesised.ensures.leads (Leave ∷ s) v (deeper (depth s) c.args.room c.in_ok-level_down.field-0 d c.in_ok-level_down.ensures))
+
+pub primary-returns-clause-leads : goal.primary-returns-clause-leads
+primary-returns-clause-leads t c = λ s v d. refusal c.refuse.result c.args.cursor c.refuse.ensures (refused PrimaryG c.args.cursor s v (primary_refused (next_of c.args.cursor) c.in_default.ensures c.in_default-numeral.ensures c.in_default-text.ensures c.in_default-mark.ensures c.in_default-form_at.ensures.0 c.in_default-form_at.ensures.1))
+
+pub selector-returns-in_err-name-clause-leads : goal.selector-returns-in_err-name-clause-leads
+selector-returns-in_err-name-clause-leads t c = λ n es s v d. failed (read_selector n es) s v c.from_residual.result c.in_err-name.field-0.0 c.from_residual.ensures.1
+    (taken (Want SelectorG ∷ s) (ExpressionR (ReferenceE (ReferenceOf n es no_member)) ∷ v) c.in-Some.ensures
+    ∙ refused MemberG c.in-Some.after s (ExpressionR (ReferenceE (ReferenceOf n es no_member)) ∷ v) (member_refused (next_of c.in-Some.after) c.in_err-name.ensures.0))
+    (refusal c.in_err-name.field-0.0 c.in-Some.after c.in_err-name.ensures.1 refl)
+
+pub selector-returns-in_err-level_down-clause-leads : goal.selector-returns-in_err-level_down-clause-leads
+selector-returns-in_err-level_down-clause-leads t c = λ n es s v d. failed (read_selector n es) s v c.from_residual-in_err-level_down.result c.in_err-level_down.field-0.0 c.from_residual-in_err-level_down.ensures.1
+    (taken (Want SelectorG ∷ s) (ExpressionR (ReferenceE (ReferenceOf n es no_member)) ∷ v) c.in-Some.ensures
+    ∙ taken (Want MemberG ∷ s) (ExpressionR (ReferenceE (ReferenceOf n es no_member)) ∷ v) c.in_ok-name.ensures
+    ∙ quiet c.in_ok-name.behind (Do (set_member (name_of c.in_ok-name.name)) ∷ Want MemberSubscriptG ∷ s) (Want MemberSubscriptG ∷ s) (ExpressionR (ReferenceE (ReferenceOf n es no_member)) ∷ v) (ExpressionR (ReferenceE (ReferenceOf n es (member (name_of c.in_ok-name.name)))) ∷ v) (λ t q. refl)
+    ∙ taken (Want MemberSubscriptG ∷ s) (ExpressionR (ReferenceE (ReferenceOf n es (member (name_of c.in_ok-name.name)))) ∷ v) c.in-Some-mark.ensures
+    ∙ too_deep (depth s) c.args.room c.in-Some-mark.inner (run 64 (an_expression (need mark.RightParenthesis ∷ Leave ∷ Do set_member_subscript ∷ s)) (ExpressionR (ReferenceE (ReferenceOf n es (member (name_of c.in_ok-name.name)))) ∷ v) (ahead c.in-Some-mark.inner)) d c.in_err-level_down.ensures.0)
+    (depth_failure c.in_err-level_down.field-0.0 c.in-Some-mark.inner c.in_err-level_down.ensures.1 refl)
+
+pub selector-returns-in_err-rest-clause-leads : goal.selector-returns-in_err-rest-clause-leads
+selector-returns-in_err-rest-clause-leads t c = λ n es s v d. failed (read_selector n es) s v c.from_residual-in_err-rest.result c.in_err-rest.field-0.0 c.from_residual-in_err-rest.ensures.1
+    (taken (Want SelectorG ∷ s) (ExpressionR (ReferenceE (ReferenceOf n es no_member)) ∷ v) c.in-Some.ensures
+    ∙ taken (Want MemberG ∷ s) (ExpressionR (ReferenceE (ReferenceOf n es no_member)) ∷ v) c.in_ok-name.ensures
+    ∙ quiet c.in_ok-name.behind (Do (set_member (name_of c.in_ok-name.name)) ∷ Want MemberSubscriptG ∷ s) (Want MemberSubscriptG ∷ s) (ExpressionR (ReferenceE (ReferenceOf n es no_member)) ∷ v) (ExpressionR (ReferenceE (ReferenceOf n es (member (name_of c.in_ok-name.name)))) ∷ v) (λ t q. refl)
+    ∙ taken (Want MemberSubscriptG ∷ s) (ExpressionR (ReferenceE (ReferenceOf n es (member (name_of c.in_ok-name.name)))) ∷ v) c.in-Some-mark.ensures
+    ∙ entered (depth s) c.args.room c.in_ok-level_down.field-0 (length (ahead c.in-Some-mark.inner)) (run 64 (an_expression (need mark.RightParenthesis ∷ Leave ∷ Do set_member_subscript ∷ s)) (ExpressionR (ReferenceE (ReferenceOf n es (member (name_of c.in_ok-name.name)))) ∷ v) (ahead c.in-Some-mark.inner)) d c.in_ok-level_down.ensures
+    ∙ c.in_ok-subscript.ensures.leads (need mark.RightParenthesis ∷ Leave ∷ Do set_member_subscript ∷ s) (ExpressionR (ReferenceE (ReferenceOf n es (member (name_of c.in_ok-name.name)))) ∷ v) (deeper (depth s) c.args.room c.in_ok-level_down.field-0 d c.in_ok-level_down.ensures)
+    ∙ need_refused (Sign mark.RightParenthesis) c.in_ok-subscript.closing (Leave ∷ Do set_member_subscript ∷ s) _ c.in_err-rest.ensures.0)
+    (refusal c.in_err-rest.field-0.0 c.in_ok-subscript.closing c.in_err-rest.ensures.1 refl)
+
+pub selector-returns-clause-leads : goal.selector-returns-clause-leads
+selector-returns-clause-leads t c = λ n es s v d. taken (Want SelectorG ∷ s) (ExpressionR (ReferenceE (ReferenceOf n es no_member)) ∷ v) c.in-Some.ensures
+    ∙ taken (Want MemberG ∷ s) (ExpressionR (ReferenceE (ReferenceOf n es no_member)) ∷ v) c.in_ok-name.ensures
+    ∙ quiet c.in_ok-name.behind (Do (set_member (name_of c.in_ok-name.name)) ∷ Want MemberSubscriptG ∷ s) (Want MemberSubscriptG ∷ s) (ExpressionR (ReferenceE (ReferenceOf n es no_member)) ∷ v) (ExpressionR (ReferenceE (ReferenceOf n es (member (name_of c.in_ok-name.name)))) ∷ v) (λ t q. refl)
+    ∙ taken (Want MemberSubscriptG ∷ s) (ExpressionR (ReferenceE (ReferenceOf n es (member (name_of c.in_ok-name.name)))) ∷ v) c.in-Some-mark.ensures
+    ∙ entered (depth s) c.args.room c.in_ok-level_down.field-0 (length (ahead c.in-Some-mark.inner)) (run 64 (an_expression (need mark.RightParenthesis ∷ Leave ∷ Do set_member_subscript ∷ s)) (ExpressionR (ReferenceE (ReferenceOf n es (member (name_of c.in_ok-name.name)))) ∷ v) (ahead c.in-Some-mark.inner)) d c.in_ok-level_down.ensures
+    ∙ c.in_ok-subscript.ensures.leads (need mark.RightParenthesis ∷ Leave ∷ Do set_member_subscript ∷ s) (ExpressionR (ReferenceE (ReferenceOf n es (member (name_of c.in_ok-name.name)))) ∷ v) (deeper (depth s) c.args.room c.in_ok-level_down.field-0 d c.in_ok-level_down.ensures)
+    ∙ taken (need mark.RightParenthesis ∷ Leave ∷ Do set_member_subscript ∷ s) _ c.in_ok-rest.ensures.1
+    ∙ quiet c.in_ok-rest.rest (Leave ∷ Do set_member_subscript ∷ s) s (read_expression c.in_ok-subscript.subscript (ExpressionR (ReferenceE (ReferenceOf n es (member (name_of c.in_ok-name.name)))) ∷ v)) (ExpressionR (ReferenceE (ReferenceOf n es (member_at (name_of c.in_ok-name.name) (expression_of c.in_ok-subscript.subscript)))) ∷ v) (λ t q. refl)
+    ∙ seen s v c.in_ok-rest.rest (ap (λ (e : Expression). ReferenceE (ReferenceOf n es (member_at (name_of c.in_ok-name.name) (expression_of e)))) (sym c.in_ok-new.ensures.ok))
+
+pub signed-returns-in_err-level_down-clause-leads : goal.signed-returns-in_err-level_down-clause-leads
+signed-returns-in_err-level_down-clause-leads t c = λ s v d. failed read_expression s v c.from_residual.result c.in_err-level_down.field-0.0 c.from_residual.ensures.1
+    (taken (Want SignedG ∷ s) v c.in-Some.ensures
+    ∙ too_deep (depth s) c.args.room c.in-Some.inner (run 64 (Want PrimaryG ∷ Leave ∷ Do (make_unary c.in-Some.place unary.Plus) ∷ s) v (ahead c.in-Some.inner)) d c.in_err-level_down.ensures.0)
+    (depth_failure c.in_err-level_down.field-0.0 c.in-Some.inner c.in_err-level_down.ensures.1 refl)
+
+pub signed-returns-in-Some-clause-leads : goal.signed-returns-in-Some-clause-leads
+signed-returns-in-Some-clause-leads t c = λ s v d. taken (Want SignedG ∷ s) v c.in-Some.ensures
+    ∙ entered (depth s) c.args.room c.in_ok-level_down.field-0 (length (ahead c.in-Some.inner)) (run 64 (Want PrimaryG ∷ Leave ∷ Do (make_unary c.in-Some.place unary.Plus) ∷ s) v (ahead c.in-Some.inner)) d c.in_ok-level_down.ensures
+    ∙ c.in_ok-operand.ensures.leads (Leave ∷ Do (make_unary c.in-Some.place unary.Plus) ∷ s) v (deeper (depth s) c.args.room c.in_ok-level_down.field-0 d c.in_ok-level_down.ensures)
+    ∙ quiet c.in_ok-operand.rest (Leave ∷ Do (make_unary c.in-Some.place unary.Plus) ∷ s) s (read_expression c.in_ok-operand.operand v) (ExpressionR (UnaryE c.in-Some.place unary.Plus (expression_of c.in_ok-operand.operand)) ∷ v) (λ t q. refl)
+    ∙ seen s v c.in_ok-operand.rest (ap (λ (e : Expression). UnaryE c.in-Some.place unary.Plus (expression_of e)) (sym c.in_ok-new.ensures.ok))
+
+pub signed-returns-in_err-level_down-2-clause-leads : goal.signed-returns-in_err-level_down-2-clause-leads
+signed-returns-in_err-level_down-2-clause-leads t c = λ s v d. failed read_expression s v c.from_residual-in_err-level_down-2.result c.in_err-level_down-2.field-0.0 c.from_residual-in_err-level_down-2.ensures.1
+    (taken (Want SignedG ∷ s) v c.in-Some-mark.ensures
+    ∙ too_deep (depth s) c.args.room c.in-Some-mark.inner (run 64 (Want PrimaryG ∷ Leave ∷ Do (make_unary c.in-Some-mark.place unary.Minus) ∷ s) v (ahead c.in-Some-mark.inner)) d c.in_err-level_down-2.ensures.0)
+    (depth_failure c.in_err-level_down-2.field-0.0 c.in-Some-mark.inner c.in_err-level_down-2.ensures.1 refl)
+
+pub signed-returns-in-Some-mark-clause-leads : goal.signed-returns-in-Some-mark-clause-leads
+signed-returns-in-Some-mark-clause-leads t c = λ s v d. taken (Want SignedG ∷ s) v c.in-Some-mark.ensures
+    ∙ entered (depth s) c.args.room c.in_ok-level_down-2.field-0 (length (ahead c.in-Some-mark.inner)) (run 64 (Want PrimaryG ∷ Leave ∷ Do (make_unary c.in-Some-mark.place unary.Minus) ∷ s) v (ahead c.in-Some-mark.inner)) d c.in_ok-level_down-2.ensures
+    ∙ c.in_ok-operand-2.ensures.leads (Leave ∷ Do (make_unary c.in-Some-mark.place unary.Minus) ∷ s) v (deeper (depth s) c.args.room c.in_ok-level_down-2.field-0 d c.in_ok-level_down-2.ensures)
+    ∙ quiet c.in_ok-operand-2.rest (Leave ∷ Do (make_unary c.in-Some-mark.place unary.Minus) ∷ s) s (read_expression c.in_ok-operand-2.operand v) (ExpressionR (UnaryE c.in-Some-mark.place unary.Minus (expression_of c.in_ok-operand-2.operand)) ∷ v) (λ t q. refl)
+    ∙ seen s v c.in_ok-operand-2.rest (ap (λ (e : Expression). UnaryE c.in-Some-mark.place unary.Minus (expression_of e)) (sym c.in_ok-new-2.ensures.ok))
+
+pub signed-returns-clause-leads : goal.signed-returns-clause-leads
+signed-returns-clause-leads t c = λ s v d. arrives_behind read_expression s v c.primary-2.result (signed_goes c.args.cursor s v c.in_default.ensures c.in_default-mark.ensures) (c.primary-2.ensures.leads s v d)
+
+pub subscripts-returns-in_err-inside-clause-leads : goal.subscripts-returns-in_err-inside-clause-leads
+subscripts-returns-in_err-inside-clause-leads t c = λ n s v d. failed (λ es. read_subscripts n es.items) s v c.from_residual.result c.in_err-inside.field-0.0 c.from_residual.ensures.1
+    (taken (Want SubscriptsG ∷ s) (reference_read n v) c.in-Some.ensures
+    ∙ too_deep (depth s) c.args.room c.in-Some.inner (run 64 (push (ExpressionsR no_expressions) ∷ an_expression (Do add_expression ∷ Want MoreSubscriptsG ∷ Leave ∷ Do set_subscripts ∷ s)) (reference_read n v) (ahead c.in-Some.inner)) d c.in_err-inside.ensures.0)
+    (depth_failure c.in_err-inside.field-0.0 c.in-Some.inner c.in_err-inside.ensures.1 refl)
+
+pub subscripts-returns-in_err-first-clause-leads : goal.subscripts-returns-in_err-first-clause-leads
+subscripts-returns-in_err-first-clause-leads t c = λ n s v d. failed (λ es. read_subscripts n es.items) s v c.from_residual-in_err-first.result c.in_err-first.field-0.0 c.from_residual-in_err-first.ensures.1
+    (taken (Want SubscriptsG ∷ s) (reference_read n v) c.in-Some.ensures
+    ∙ entered (depth s) c.args.room c.in_ok-inside.inside (length (ahead c.in-Some.inner)) (run 64 (push (ExpressionsR no_expressions) ∷ an_expression (Do add_expression ∷ Want MoreSubscriptsG ∷ Leave ∷ Do set_subscripts ∷ s)) (reference_read n v) (ahead c.in-Some.inner)) d c.in_ok-inside.ensures
+    ∙ quiet c.in-Some.inner (push (ExpressionsR no_expressions) ∷ an_expression (Do add_expression ∷ Want MoreSubscriptsG ∷ Leave ∷ Do set_subscripts ∷ s)) (an_expression (Do add_expression ∷ Want MoreSubscriptsG ∷ Leave ∷ Do set_subscripts ∷ s)) (reference_read n v) (ExpressionsR no_expressions ∷ reference_read n v) (λ t q. refl))
+    (c.in_err-first.ensures.leads (Do add_expression ∷ Want MoreSubscriptsG ∷ Leave ∷ Do set_subscripts ∷ s) (ExpressionsR no_expressions ∷ reference_read n v) (deeper (depth s) c.args.room c.in_ok-inside.inside d c.in_ok-inside.ensures))
+
+pub subscripts-loop-after-init : goal.subscripts-loop-after-init
+subscripts-loop-after-init t c = record {
+  leads = λ n s v d. taken (Want SubscriptsG ∷ s) (reference_read n v) c.in-Some.ensures
+      ∙ entered (depth s) c.args.room c.in_ok-inside.inside (length (ahead c.in-Some.inner)) (run 64 (push (ExpressionsR no_expressions) ∷ an_expression (Do add_expression ∷ Want MoreSubscriptsG ∷ Leave ∷ Do set_subscripts ∷ s)) (reference_read n v) (ahead c.in-Some.inner)) d c.in_ok-inside.ensures
+      ∙ quiet c.in-Some.inner (push (ExpressionsR no_expressions) ∷ an_expression (Do add_expression ∷ Want MoreSubscriptsG ∷ Leave ∷ Do set_subscripts ∷ s)) (an_expression (Do add_expression ∷ Want MoreSubscriptsG ∷ Leave ∷ Do set_subscripts ∷ s)) (reference_read n v) (ExpressionsR no_expressions ∷ reference_read n v) (λ t q. refl)
+      ∙ c.in_ok-first.ensures.leads (Do add_expression ∷ Want MoreSubscriptsG ∷ Leave ∷ Do set_subscripts ∷ s) (ExpressionsR no_expressions ∷ reference_read n v) (deeper (depth s) c.args.room c.in_ok-inside.inside d c.in_ok-inside.ensures)
+      ∙ quiet c.in_ok-first.rest (Do add_expression ∷ Want MoreSubscriptsG ∷ Leave ∷ Do set_subscripts ∷ s) (Want MoreSubscriptsG ∷ Leave ∷ Do set_subscripts ∷ s) (read_expression c.in_ok-first.first (ExpressionsR no_expressions ∷ reference_read n v)) (ExpressionsR (expressions no_expressions (expression_of c.in_ok-first.first)) ∷ (reference_read n v)) (λ t q. refl)
+      ∙ ap (λ (es : List Expression). run 64 (Want MoreSubscriptsG ∷ Leave ∷ Do set_subscripts ∷ s) (ExpressionsR (expressions_of es) ∷ (reference_read n v)) (ahead c.in_ok-first.rest)) (sym (c.in_ok-push.ensures.items ∙ ap (λ (es : List Expression). es ++ c.in_ok-first.first ∷ []) c.new-list.ensures.items));
+  inside = c.in_ok-inside.ensures;
+  shorter = omega (arith, c.in-Some.ensures.shorter, c.in_ok-first.ensures.within);
+}
+
+pub subscripts-loop-after-preserved : goal.subscripts-loop-after-preserved
+subscripts-loop-after-preserved t c = record {
+  leads = λ n s v d. c.loop-after.invariant.leads n s v d
+      ∙ taken (Want MoreSubscriptsG ∷ Leave ∷ Do set_subscripts ∷ s) (ExpressionsR (expressions_of c.loop-after.list.items) ∷ reference_read n v) c.in-Some-mark.ensures
+      ∙ c.in_ok-next.ensures.leads (Do add_expression ∷ Want MoreSubscriptsG ∷ Leave ∷ Do set_subscripts ∷ s) (ExpressionsR (expressions_of c.loop-after.list.items) ∷ reference_read n v) (deeper (depth s) c.args.room c.in_ok-inside.inside d c.in_ok-inside.ensures)
+      ∙ quiet c.in_ok-next.behind (Do add_expression ∷ Want MoreSubscriptsG ∷ Leave ∷ Do set_subscripts ∷ s) (Want MoreSubscriptsG ∷ Leave ∷ Do set_subscripts ∷ s) (read_expression c.in_ok-next.next (ExpressionsR (expressions_of c.loop-after.list.items) ∷ reference_read n v)) (ExpressionsR (expressions (expressions_of c.loop-after.list.items) (expression_of c.in_ok-next.next)) ∷ (reference_read n v)) (λ t q. refl)
+      ∙ ap (λ (es : ExpressionsT). run 64 (Want MoreSubscriptsG ∷ Leave ∷ Do set_subscripts ∷ s) (ExpressionsR es ∷ (reference_read n v)) (ahead c.in_ok-next.behind)) (sym (expression_pushed c.loop-after.list.items c.in_ok-next.next no_expressions))
+      ∙ ap (λ (es : List Expression). run 64 (Want MoreSubscriptsG ∷ Leave ∷ Do set_subscripts ∷ s) (ExpressionsR (expressions_of es) ∷ (reference_read n v)) (ahead c.in_ok-next.behind)) (sym c.in_ok-push-2.ensures.items);
+  inside = c.loop-after.invariant.inside;
+  shorter = omega (arith, c.loop-after.invariant.shorter, c.in-Some-mark.ensures.shorter, c.in_ok-next.ensures.within);
+}
+
+pub subscripts-returns-in_err-behind-clause-leads : goal.subscripts-returns-in_err-behind-clause-leads
+subscripts-returns-in_err-behind-clause-leads t c = λ n s v d. failed (λ es. read_subscripts n es.items) s v c.from_residual-in_err-behind.result c.in_err-behind.field-0.0 c.from_residual-in_err-behind.ensures.1
+    (c.loop-after.invariant.leads n s v d
+    ∙ refused MoreSubscriptsG c.loop-after.rest (Leave ∷ Do set_subscripts ∷ s) (ExpressionsR (expressions_of c.loop-after.list.items) ∷ reference_read n v) (more_subscripts_refused (next_of c.loop-after.rest) c.in_default-mark.ensures c.in_err-behind.ensures.0))
+    (refusal c.in_err-behind.field-0.0 c.loop-after.rest c.in_err-behind.ensures.1 refl)
+
+pub subscripts-returns-clause-leads : goal.subscripts-returns-clause-leads
+subscripts-returns-clause-leads t c = λ n s v d. c.loop-after.invariant.leads n s v d
+    ∙ taken (Want MoreSubscriptsG ∷ Leave ∷ Do set_subscripts ∷ s) (ExpressionsR (expressions_of c.loop-after.list.items) ∷ reference_read n v) c.in_ok-behind.ensures.1
+    ∙ quiet c.in_ok-behind.behind (Leave ∷ Do set_subscripts ∷ s) s (ExpressionsR (expressions_of c.loop-after.list.items) ∷ reference_read n v) (read_subscripts n c.loop-after.list.items v) (λ t q. refl)
+
+pub value-returns-in-Some-clause-leads : goal.value-returns-in-Some-clause-leads
+value-returns-in-Some-clause-leads t c = λ s v d. taken (Want ValueG ∷ s) v c.in-Some.ensures
+    ∙ quiet c.in-Some.rest (push (ValueR (NumberV (number_of c.in-Some.number))) ∷ s) s v (ValueR (NumberV (number_of c.in-Some.number)) ∷ v) (λ t q. refl)
+
+pub value-returns-in-Some-text-clause-leads : goal.value-returns-in-Some-text-clause-leads
+value-returns-in-Some-text-clause-leads t c = λ s v d. taken (Want ValueG ∷ s) v c.in-Some-text.ensures
+    ∙ quiet c.in-Some-text.rest (push (ValueR (TextV (text_of c.in-Some-text.text))) ∷ s) s v (ValueR (TextV (text_of c.in-Some-text.text)) ∷ v) (λ t q. refl)
+
+pub value-returns-in_err-number-clause-leads : goal.value-returns-in_err-number-clause-leads
+value-returns-in_err-number-clause-leads t c = λ s v d. failed read_value s v c.from_residual.result c.in_err-number.field-0.0 c.from_residual.ensures.1
+    (taken (Want ValueG ∷ s) v c.in-Some-mark.ensures
+    ∙ refused NegativeG c.in-Some-mark.after s v (negative_refused (next_of c.in-Some-mark.after) c.in_err-number.ensures.0))
+    (refusal c.in_err-number.field-0.0 c.in-Some-mark.after c.in_err-number.ensures.1 refl)
+
+pub value-returns-in-Some-mark-clause-leads : goal.value-returns-in-Some-mark-clause-leads
+value-returns-in-Some-mark-clause-leads t c = λ s v d. taken (Want ValueG ∷ s) v c.in-Some-mark.ensures
+    ∙ taken (Want NegativeG ∷ s) v c.in_ok-number.ensures
+    ∙ quiet c.in_ok-number.rest (push (ValueR (NegativeV (number_of c.in_ok-number.number))) ∷ s) s v (ValueR (NegativeV (number_of c.in_ok-number.number)) ∷ v) (λ t q. refl)
+
+pub value-returns-in-Some-form_at-clause-leads : goal.value-returns-in-Some-form_at-clause-leads
+value-returns-in-Some-form_at-clause-leads t c = λ s v d. taken (Want ValueG ∷ s) v c.in-Some-form_at.ensures
+    ∙ located_value c.in-Some-form_at.form c.in-Some-form_at.place s v (ahead c.in-Some-form_at.after)
+    ∙ c.in_ok-location.ensures.leads (Do location_value ∷ s) v d
+    ∙ quiet c.in_ok-location.rest (Do location_value ∷ s) s (read_location c.in_ok-location.location v) (ValueR (LocationV (location_of c.in_ok-location.location)) ∷ v) (λ t q. refl)
+
+pub value-returns-clause-leads : goal.value-returns-clause-leads
+value-returns-clause-leads t c = λ s v d. refusal c.refuse.result c.args.cursor c.refuse.ensures (refused ValueG c.args.cursor s v (value_refused (next_of c.args.cursor) c.in_default.ensures c.in_default-text.ensures c.in_default-mark.ensures c.in_default-form_at.ensures.0 c.in_default-form_at.ensures.1))
+
+pub values-returns-in_err-first-clause-leads : goal.values-returns-in_err-first-clause-leads
+values-returns-in_err-first-clause-leads t c = λ s v d. failed (λ ws. read_values ws.items) s v c.from_residual.result c.in_err-first.field-0.0 c.from_residual.ensures.1
+    (quiet c.args.cursor (a_value_list s) (Want ValueG ∷ Do add_value ∷ Want MoreValuesG ∷ s) v (ValuesR no_values ∷ v) (λ t q. refl))
+    (c.in_err-first.ensures.leads (Do add_value ∷ Want MoreValuesG ∷ s) (ValuesR no_values ∷ v) d)
+
+pub values-loop-after-init : goal.values-loop-after-init
+values-loop-after-init t c = record {
+  leads = λ s v d. quiet c.args.cursor (a_value_list s) (Want ValueG ∷ Do add_value ∷ Want MoreValuesG ∷ s) v (ValuesR no_values ∷ v) (λ t q. refl)
+      ∙ c.in_ok-first.ensures.leads (Do add_value ∷ Want MoreValuesG ∷ s) (ValuesR no_values ∷ v) d
+      ∙ quiet c.in_ok-first.rest (Do add_value ∷ Want MoreValuesG ∷ s) (Want MoreValuesG ∷ s) (read_value c.in_ok-first.first (ValuesR no_values ∷ v)) (ValuesR (values no_values (value_of c.in_ok-first.first)) ∷ v) (λ t q. refl)
+      ∙ ap (λ (ws : List ValueTree). run 64 (Want MoreValuesG ∷ s) (ValuesR (values_of ws) ∷ v) (ahead c.in_ok-first.rest)) (sym (c.in_ok-push.ensures.items ∙ ap (λ (ws : List ValueTree). ws ++ c.in_ok-first.first ∷ []) c.new-list.ensures.items));
+  shorter = c.in_ok-first.ensures.within;
+}
+
+pub values-loop-after-preserved : goal.values-loop-after-preserved
+values-loop-after-preserved t c = record {
+  leads = λ s v d. c.loop-after.invariant.leads s v d
+      ∙ taken (Want MoreValuesG ∷ s) (ValuesR (values_of c.loop-after.list.items) ∷ v) c.in-Some.ensures
+      ∙ c.in_ok-next.ensures.leads (Do add_value ∷ Want MoreValuesG ∷ s) (ValuesR (values_of c.loop-after.list.items) ∷ v) d
+      ∙ quiet c.in_ok-next.behind (Do add_value ∷ Want MoreValuesG ∷ s) (Want MoreValuesG ∷ s) (read_value c.in_ok-next.next (ValuesR (values_of c.loop-after.list.items) ∷ v)) (ValuesR (values (values_of c.loop-after.list.items) (value_of c.in_ok-next.next)) ∷ v) (λ t q. refl)
+      ∙ ap (λ (ws : ValuesT). run 64 (Want MoreValuesG ∷ s) (ValuesR ws ∷ v) (ahead c.in_ok-next.behind)) (sym (value_pushed c.loop-after.list.items c.in_ok-next.next no_values))
+      ∙ ap (λ (ws : List ValueTree). run 64 (Want MoreValuesG ∷ s) (ValuesR (values_of ws) ∷ v) (ahead c.in_ok-next.behind)) (sym c.in_ok-push-2.ensures.items);
+  shorter = omega (arith, c.loop-after.invariant.shorter, c.in-Some.ensures.shorter, c.in_ok-next.ensures.within);
+}
+
+pub values-returns-in_err-behind-clause-leads : goal.values-returns-in_err-behind-clause-leads
+values-returns-in_err-behind-clause-leads t c = λ s v d. failed (λ ws. read_values ws.items) s v c.from_residual-in_err-behind.result c.in_err-behind.field-0.0 c.from_residual-in_err-behind.ensures.1
+    (c.loop-after.invariant.leads s v d
+    ∙ refused MoreValuesG c.loop-after.rest s (ValuesR (values_of c.loop-after.list.items) ∷ v) (more_values_refused (next_of c.loop-after.rest) c.in_default.ensures c.in_err-behind.ensures.0))
+    (refusal c.in_err-behind.field-0.0 c.loop-after.rest c.in_err-behind.ensures.1 refl)

@@ -1,0 +1,150 @@
+-- What the parser's functions read.
+use Rattle.std.specs.Prelude.{◌≡◌, ℕ, nat_eq, List, [], ◌∷◌, ◌++◌, Bool, true, false, Option, Some, None}
+use Rattle.plm_syntax.specs.declared.tree.Place.{Place}
+use Rattle.plm_syntax.specs.declared.tree.BinaryOperator.{BinaryOperator}
+use Rattle.plm_syntax.specs.declared.tree.Expression.{Expression}
+use Rattle.plm_syntax.specs.declared.tree.Reference.{Reference}
+use Rattle.plm_syntax.specs.declared.tree.Selector.{Selector}
+use Rattle.plm_syntax.specs.declared.tree.Location.{Location}
+use Rattle.plm_syntax.specs.declared.tree.Value.{Value as ValueTree}
+use Rattle.plm_syntax.specs.declared.cursor.Cursor.{Cursor}
+use Rattle.plm_syntax.specs.declared.operator.Level.{Level as CodeLevel}
+use Rattle.plm_syntax.specs.declared.operator.Level.TheVariants as levels
+use Rattle.plm_token.specs.declared.token.Mark.TheVariants as mark
+use Rattle.plm_syntax.specs.declared.tree.Name.{Name}
+use Rattle.plm_syntax.specs.declared.tree.Number.{Number}
+use Rattle.plm_syntax.specs.declared.tree.Scalar.{Scalar}
+use Rattle.plm_syntax.specs.declared.tree.Variable.{Variable}
+use Rattle.plm_syntax.specs.declared.tree.Dimension.{Dimension}
+use Rattle.plm_syntax.specs.declared.tree.MemberNames.{MemberNames}
+use Rattle.plm_syntax.specs.declared.tree.MemberNames.TheVariants as member_names
+use Rattle.plm_syntax.specs.declared.tree.Member.{Member}
+use Rattle.plm_syntax.specs.declared.tree.VariableType.{VariableType}
+use Rattle.plm_syntax.specs.declared.tree.At.{At}
+use Rattle.plm_syntax.specs.declared.tree.Initial.{Initial}
+use Rattle.plm_syntax.specs.declared.tree.Attributes.{Attributes as Extras}
+use Rattle.plm_syntax.specs.declared.tree.Element.{Element}
+use Rattle.plm_syntax.specs.Terminal.{NameT, is_sign}
+use Rattle.plm_syntax.specs.Tree.{ElementsT, elements, no_variables, no_members, no_linkage, no_initial, AtT, Attributes, LocationForm, ReferenceE, LocationE, ReferenceT, ReferenceOf, ExpressionsT, no_expressions, no_member}
+use Rattle.plm_syntax.specs.View.{name_of, counted, names_of, variable_of, variables_from, dimension_of, member_of, members_from, type_of, at_of, initial_of, attributes_of, element_of, elements_of, expression_of, expressions_of, reference_of, selector_of, location_of, value_of, values_of}
+use Rattle.plm_syntax.specs.Spelling.{binary_sign, form_sign, scalar_key}
+use Rattle.plm_syntax.specs.WellFormed.{level_of}
+use Rattle.plm_syntax.specs.Symbol.{NamesR, NameR, VariableR, VariablesR, DimensionR, CountR, MembersR, MemberR, TypeR, AttributesR, ElementsR, HeaderR, Value, Level, Symbol, Over, Want, MoreG, ExpressionR, ValueR, ValuesR, Products, Sums, Relations, Conjunctions, Disjunctions}
+use Rattle.plm_syntax.specs.Machine.{operand, number_of, more, scalar_of}
+use Rattle.plm_syntax.specs.Parsed.{next_of, Takes}
+
+abbrev pub level_view : CodeLevel → Level
+level_view levels.Products = Products
+level_view levels.Sums = Sums
+level_view levels.Relations = Relations
+level_view levels.Conjunctions = Conjunctions
+level_view levels.Disjunctions = Disjunctions
+
+abbrev pub is_relations : Level → Bool
+is_relations Products = false
+is_relations Sums = false
+is_relations Relations = true
+is_relations Conjunctions = false
+is_relations Disjunctions = false
+
+abbrev pub IsOperator : Level → Cursor → Option (Place × BinaryOperator × Cursor) → Type 0
+IsOperator l c None = more l (next_of c) ≡ Over
+IsOperator l c (Some x) = Takes c (binary_sign x.1) x.0 x.2 × (nat_eq (level_of x.1) (number_of l) ≡ true)
+
+abbrev pub IsForm : Cursor → Option (Place × LocationForm × Cursor) → Type 0
+IsForm c None = (is_sign mark.AtSign (next_of c) ≡ false) × (is_sign mark.Period (next_of c) ≡ false)
+IsForm c (Some x) = Takes c (form_sign x.1) x.0 x.2
+
+-- ---- what was read, before what had been read
+
+abbrev pub read_expression : Expression → List Value → List Value
+read_expression e v = ExpressionR (expression_of e) ∷ v
+
+abbrev pub read_reference : Reference → List Value → List Value
+read_reference x v = ExpressionR (ReferenceE (reference_of x)) ∷ v
+
+abbrev pub read_subscripts : NameT → List Expression → List Value → List Value
+read_subscripts n es v = ExpressionR (ReferenceE (ReferenceOf n (expressions_of es) no_member)) ∷ v
+
+abbrev pub read_selector : NameT → ExpressionsT → Selector → List Value → List Value
+read_selector n es m v = ExpressionR (ReferenceE (ReferenceOf n es (selector_of m))) ∷ v
+
+abbrev pub read_location : Location → List Value → List Value
+read_location l v = ExpressionR (LocationE (location_of l)) ∷ v
+
+abbrev pub read_value : ValueTree → List Value → List Value
+read_value w v = ValueR (value_of w) ∷ v
+
+abbrev pub read_values : List ValueTree → List Value → List Value
+read_values ws v = ValuesR (values_of ws) ∷ v
+
+abbrev pub reference_read : NameT → List Value → List Value
+reference_read n v = ExpressionR (ReferenceE (ReferenceOf n no_expressions no_member)) ∷ v
+
+-- ---- what is awaited
+
+abbrev pub nothing_read : List Value → List Value
+nothing_read v = v
+
+-- operands of a level, joined by its operators
+abbrev pub joined : Level → List Symbol → List Symbol
+joined l s = operand l ++ (Want (MoreG l) ∷ s)
+
+-- the operators of all levels behind a primary
+abbrev pub all_levels : List Symbol → List Symbol
+all_levels s = Want (MoreG Products) ∷ Want (MoreG Sums) ∷ Want (MoreG Relations) ∷ Want (MoreG Conjunctions) ∷ Want (MoreG Disjunctions) ∷ s
+
+-- ---- declarations
+
+abbrev pub IsScalar : Cursor → Option (Scalar × Cursor) → Type 0
+IsScalar c None = scalar_of (next_of c) ≡ None
+IsScalar c (Some x) = (p : Place) × Takes c (scalar_key x.0) p x.1
+
+abbrev pub read_element : ElementsT → Element → List Value → List Value
+read_element es e v = ElementsR (elements es (element_of e)) ∷ v
+
+abbrev pub read_elements : List Element → List Value → List Value
+read_elements es v = ElementsR (elements_of es) ∷ v
+
+abbrev pub read_variable : Variable → List Value → List Value
+read_variable x v = VariableR (variable_of x) ∷ v
+
+abbrev pub read_variables : List Variable → List Value → List Value
+read_variables xs v = VariablesR (variables_from xs no_variables) ∷ v
+
+abbrev pub read_dimension : Dimension → List Value → List Value
+read_dimension d v = DimensionR (dimension_of d) ∷ v
+
+abbrev pub read_type : VariableType → List Value → List Value
+read_type t v = TypeR (type_of t) ∷ v
+
+abbrev pub read_member : Member → List Value → List Value
+read_member m v = MemberR (member_of m) ∷ v
+
+abbrev pub read_members : List Member → List Value → List Value
+read_members ms v = MembersR (members_from ms no_members) ∷ v
+
+abbrev pub read_names : List Name → List Value → List Value
+read_names ns v = NamesR (names_of ns) ∷ v
+
+abbrev pub read_parameters : NameT → List Name → List Value → List Value
+read_parameters n ns v = HeaderR n (names_of ns) None None no_linkage ∷ v
+
+abbrev pub read_count : Option Number → List Value → List Value
+read_count n v = CountR (counted n) ∷ v
+
+abbrev pub member_names_read : MemberNames → List Value → List Value
+member_names_read (member_names.One n) v = NameR (name_of n) ∷ v
+member_names_read (member_names.List ns) v = NamesR (names_of ns.items) ∷ v
+
+abbrev pub read_attributes : Extras → List Value → List Value
+read_attributes a v = AttributesR (attributes_of a) ∷ v
+
+abbrev pub attributes_read : Bool → AtT → List Value → List Value
+attributes_read b a v = AttributesR (Attributes b a no_initial) ∷ v
+
+abbrev pub read_at : Bool → At → List Value → List Value
+read_at b a v = AttributesR (Attributes b (at_of a) no_initial) ∷ v
+
+abbrev pub read_initial : Bool → AtT → Initial → List Value → List Value
+read_initial b a i v = AttributesR (Attributes b a (initial_of i)) ∷ v

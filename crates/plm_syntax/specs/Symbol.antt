@@ -1,0 +1,191 @@
+-- What the machine of proofs awaits, the trees that it has read, and what a rule says. No public clause speaks of it.
+use Rattle.std.specs.Prelude.{◌≡◌, ℕ, zero, suc, nat_lt, nat_eq, List, [], ◌∷◌, ◌++◌, length, Bool, true, false, cond, Option, Some, None, Result, Ok, Err}
+use Rattle.plm_token.specs.declared.token.Keyword.{Keyword}
+use Rattle.plm_token.specs.declared.token.Keyword.TheVariants as key
+use Rattle.plm_token.specs.declared.token.Mark.{Mark}
+use Rattle.plm_token.specs.declared.token.Mark.TheVariants as mark
+use Rattle.plm_syntax.specs.declared.tree.Place.{Place}
+use Rattle.plm_syntax.specs.declared.tree.Scalar.{Scalar}
+use Rattle.plm_syntax.specs.declared.tree.Scalar.TheVariants as scalar
+use Rattle.plm_syntax.specs.declared.tree.UnaryOperator.{UnaryOperator}
+use Rattle.plm_syntax.specs.declared.tree.UnaryOperator.TheVariants as unary
+use Rattle.plm_syntax.specs.declared.tree.BinaryOperator.{BinaryOperator}
+use Rattle.plm_syntax.specs.declared.tree.BinaryOperator.TheVariants as binary
+use Rattle.plm_syntax.specs.Terminal.{NameT, NumberT, TextT, Terminal, Name, Number, Text, Key, Sign, Finish, Leaf, is_key, is_sign, is_same}
+use Rattle.plm_syntax.specs.WellFormed.{level_of, is_end_name}
+use Rattle.plm_syntax.specs.Tree.{LocationForm, Pointer, Offset, ExpressionT, NumberE, TextE, ReferenceE, LocationE, ParenthesisedE, EmbeddedE, UnaryE, BinaryE, ReferenceT, ReferenceOf, ExpressionsT, no_expressions, expressions, SelectorT, no_member, member, member_at, LocationT, LocationOf, ConstantsOf, ValueT, NumberV, NegativeV, TextV, LocationV, ValuesT, no_values, values, NamesT, no_names, names, VariableT, VariableOf, VariablesT, no_variables, variables, DeclaredT, OneVariable, VariableList, DimensionT, no_dimension, dimension, implicit_dimension, MemberT, OneMember, MemberList, MembersT, no_members, members, TypeT, ScalarType, StructureType, AtT, no_at, at_number, at_location, InitialT, no_initial, initial, constant_data, AttributesT, External, Attributes, ElementT, LiteralElement, VariableElement, ElementsT, no_elements, elements, LinkageT, no_linkage, public_linkage, external_linkage, ReferencesT, no_references, references, StatementT, Labelled, BasicT, EmptyS, AssignS, CallS, ReturnS, ReturnValueS, EnableS, DisableS, HaltS, IfS, IfElseS, DoS, WhileS, CaseS, IterateS, StatementsT, no_statements, statements, BlockT, BlockOf, ItemsT, no_items, items, ItemT, DeclareI, ProcedureI, ModuleT, ModuleOf}
+
+-- ---- the trees read so far, the newest first
+
+pub data Value : Type 0 where
+  ExpressionR : ExpressionT → Value
+  ExpressionsR : ExpressionsT → Value
+  NameR : NameT → Value
+  ValueR : ValueT → Value
+  ValuesR : ValuesT → Value
+  ReferencesR : ReferencesT → Value
+  NamesR : NamesT → Value
+  StatementR : StatementT → Value
+  ArmsR : StatementT → StatementT → Value
+  StatementsR : StatementsT → Value
+  ItemsR : ItemsT → Value
+  StepR : Option ExpressionT → Value
+  EndR : Option NameT → Value
+  VariableR : VariableT → Value
+  VariablesR : VariablesT → Value
+  DimensionR : DimensionT → Value
+  CountR : Option NumberT → Value
+  MembersR : MembersT → Value
+  MemberR : MemberT → Value
+  TypeR : TypeT → Value
+  AtR : AtT → Value
+  InitialR : InitialT → Value
+  PublicR : Bool → Value
+  AttributesR : AttributesT → Value
+  ElementR : ElementT → Value
+  ElementsR : ElementsT → Value
+  DeclaredR : DeclaredT → Value
+  -- the index and the bounds of DO .. TO
+  RangeR : NameT → ExpressionT → ExpressionT → Value
+  -- a procedure's name, parameters, type, interrupt and linkage
+  HeaderR : NameT → NamesT → Option Scalar → Option NumberT → LinkageT → Value
+  ModuleR : ModuleT → Value
+
+abbrev pub Action : Type 0
+Action = List Value → Option (List Value)
+
+-- ---- what is awaited
+
+pub data Level : Type 0 where
+  Products : Level
+  Sums : Level
+  Relations : Level
+  Conjunctions : Level
+  Disjunctions : Level
+
+pub data Goal : Type 0 where
+  PrimaryG : Goal
+  SignedG : Goal
+  NegationG : Goal
+  -- the operators of a level, and their right operands
+  MoreG : Level → Goal
+  -- behind "(" of an expression, and behind the reference there
+  InsideG : Place → Goal
+  AfterReferenceG : Place → Goal
+  SubscriptsG : Goal
+  MoreSubscriptsG : Goal
+  SelectorG : Goal
+  MemberG : Goal
+  MemberSubscriptG : Goal
+  LocatedG : Place → LocationForm → Goal
+  ValueG : Goal
+  NegativeG : Goal
+  MoreValuesG : Goal
+  -- a statement, behind a label where there is one
+  StatementG : Option NameT → Goal
+  LeadG : NameT → Goal
+  TargetG : Goal
+  MoreTargetsG : Goal
+  CalledG : Goal
+  ReturnedG : Place → Goal
+  ArmG : Goal
+  OtherwiseG : Goal
+  DoG : Place → Option NameT → Goal
+  StepG : Goal
+  StatementsG : Option NameT → Goal
+  EndG : Option NameT → Goal
+  ItemsG : Option NameT → Goal
+  ItemLeadG : NameT → Option NameT → Goal
+  ItemColonG : NameT → Option NameT → Goal
+  ParametersG : Goal
+  ParameterG : Goal
+  MoreParametersG : Goal
+  ReturnedTypeG : Goal
+  InterruptG : Goal
+  InterruptNumberG : Goal
+  LinkageG : Goal
+  ElementG : Goal
+  ElementLeadG : Goal
+  LiteralTextG : Goal
+  VariableG : Goal
+  MoreVariablesG : Goal
+  BasedG : Goal
+  BaseG : Goal
+  DimensionG : Goal
+  DimensionBodyG : Goal
+  TypeG : Goal
+  MemberOfG : Goal
+  MemberNameG : Goal
+  MoreMemberNamesG : Goal
+  CountG : Goal
+  CountNumberG : Goal
+  MemberTypeG : Goal
+  MoreMembersG : Goal
+  AttributesG : Goal
+  AtG : Goal
+  AtBodyG : Goal
+  InitialG : Goal
+  MoreElementsG : Goal
+  ModuleG : NameT → Goal
+  StartG : Goal
+
+pub data Symbol : Type 0 where
+  -- this reserved word, special token or end of the text
+  Need : Terminal → Symbol
+  Want : Goal → Symbol
+  -- puts trees together
+  Do : Action → Symbol
+  -- closes a level
+  Leave : Symbol
+
+-- how many levels are open
+abbrev pub depth_on : List Symbol → ℕ → ℕ
+depth_on [] d = d
+depth_on (Need t ∷ s) d = depth_on s d
+depth_on (Want g ∷ s) d = depth_on s d
+depth_on (Do a ∷ s) d = depth_on s d
+depth_on (Leave ∷ s) d = suc (depth_on s d)
+
+abbrev pub depth : List Symbol → ℕ
+depth s = depth_on s 0
+
+-- What a goal does with a token: refuses it, is over before it, or takes it and awaits symbols. True where the token opens a level.
+pub data Rule : Type 0 where
+  Refused : Rule
+  Over : Rule
+  Take : Bool → List Symbol → Rule
+  -- the same, where the tree keeps the token's place
+  Keep : Bool → (Place → List Symbol) → Rule
+
+-- with further symbols behind
+abbrev pub behind : Rule → List Symbol → Rule
+behind Refused s = Refused
+behind Over s = Over
+behind (Take b r) s = Take b (r ++ s)
+behind (Keep b f) s = Keep b (λ p. f p ++ s)
+
+-- the next goal's rule where a goal is over
+abbrev pub otherwise : Rule → Rule → Rule
+otherwise Refused r = Refused
+otherwise Over r = r
+otherwise (Take b s) r = Take b s
+otherwise (Keep b f) r = Keep b f
+
+-- with symbols in front, and with a level opened around it
+abbrev pub before : List Symbol → Rule → Rule
+before s Refused = Refused
+before s Over = Over
+before s (Take b r) = Take b (s ++ r)
+before s (Keep b f) = Keep b (λ p. s ++ f p)
+
+abbrev pub opened : Rule → Rule
+opened Refused = Refused
+opened Over = Over
+opened (Take b r) = Take true (r ++ Leave ∷ [])
+opened (Keep b f) = Keep true (λ p. f p ++ Leave ∷ [])
+
+abbrev pub need : Mark → Symbol
+need m = Need (Sign m)
+
+abbrev pub push : Value → Symbol
+push v = Do (λ vs. Some (v ∷ vs))

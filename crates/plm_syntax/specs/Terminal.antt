@@ -1,0 +1,127 @@
+-- A token as the grammar sees it.
+use Rattle.std.specs.Prelude.{ℕ, List, [], ◌∷◌, Bool, true, false, cond, nat_eq, Option, Some, None}
+use Rattle.plm_token.specs.declared.token.Keyword.{Keyword}
+use Rattle.plm_token.specs.declared.token.Keyword.TheVariants as key
+use Rattle.plm_token.specs.declared.token.Mark.{Mark}
+use Rattle.plm_token.specs.declared.token.Mark.TheVariants as mark
+use Rattle.plm_syntax.specs.declared.tree.Place.{Place}
+
+-- a name, a number and a string where they stand
+pub record NameT : Type 0 where
+  pub text : List ℕ
+  pub place : Place
+
+pub record NumberT : Type 0 where
+  pub value : ℕ
+  pub place : Place
+
+pub record TextT : Type 0 where
+  pub text : List ℕ
+  pub place : Place
+
+-- what a token is; the end of the text counts as one
+pub data Terminal : Type 0 where
+  Name : NameT → Terminal
+  Number : NumberT → Terminal
+  Text : TextT → Terminal
+  Key : Keyword → Terminal
+  Sign : Mark → Terminal
+  Finish : Terminal
+
+-- a leaf of a tree: a token, and its place where the tree keeps it
+pub record Leaf : Type 0 where
+  pub terminal : Terminal
+  pub place : Option Place
+
+abbrev pub leaf : Terminal → Leaf
+leaf t = record { terminal = t; place = None }
+
+abbrev pub leaf_at : Terminal → Place → Leaf
+leaf_at t p = record { terminal = t; place = Some p }
+
+-- ---- tests
+
+abbrev pub key_number : Keyword → ℕ
+key_number key.Address = 0
+key_number key.And = 1
+key_number key.At = 2
+key_number key.Based = 3
+key_number key.By = 4
+key_number key.Byte = 5
+key_number key.Call = 6
+key_number key.Case = 7
+key_number key.Data = 8
+key_number key.Declare = 9
+key_number key.Disable = 10
+key_number key.Do = 11
+key_number key.Dword = 12
+key_number key.Else = 13
+key_number key.Enable = 14
+key_number key.End = 15
+key_number key.External = 16
+key_number key.Go = 17
+key_number key.Goto = 18
+key_number key.Halt = 19
+key_number key.If = 20
+key_number key.Initial = 21
+key_number key.Integer = 22
+key_number key.Interrupt = 23
+key_number key.Label = 24
+key_number key.Literally = 25
+key_number key.Minus = 26
+key_number key.Mod = 27
+key_number key.Not = 28
+key_number key.Or = 29
+key_number key.Plus = 30
+key_number key.Pointer = 31
+key_number key.Procedure = 32
+key_number key.Public = 33
+key_number key.Real = 34
+key_number key.Reentrant = 35
+key_number key.Return = 36
+key_number key.Selector = 37
+key_number key.Structure = 38
+key_number key.Then = 39
+key_number key.To = 40
+key_number key.While = 41
+key_number key.Word = 42
+key_number key.Xor = 43
+
+abbrev pub sign_number : Mark → ℕ
+sign_number mark.Equal = 0
+sign_number mark.Period = 1
+sign_number mark.Slash = 2
+sign_number mark.LeftParenthesis = 3
+sign_number mark.RightParenthesis = 4
+sign_number mark.Plus = 5
+sign_number mark.Minus = 6
+sign_number mark.Star = 7
+sign_number mark.Comma = 8
+sign_number mark.Less = 9
+sign_number mark.Greater = 10
+sign_number mark.Colon = 11
+sign_number mark.Semicolon = 12
+sign_number mark.AtSign = 13
+sign_number mark.NotEqual = 14
+sign_number mark.LessEqual = 15
+sign_number mark.GreaterEqual = 16
+sign_number mark.Assign = 17
+
+abbrev pub is_key : Keyword → Terminal → Bool
+is_key k (Key j) = nat_eq (key_number k) (key_number j)
+is_key k t = false
+
+abbrev pub is_sign : Mark → Terminal → Bool
+is_sign m (Sign n) = nat_eq (sign_number m) (sign_number n)
+is_sign m t = false
+
+abbrev pub is_finish : Terminal → Bool
+is_finish Finish = true
+is_finish t = false
+
+-- the same reserved word, special token or end of the text
+abbrev pub is_same : Terminal → Terminal → Bool
+is_same (Key k) t = is_key k t
+is_same (Sign m) t = is_sign m t
+is_same Finish t = is_finish t
+is_same u t = false

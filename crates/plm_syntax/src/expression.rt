@@ -1,0 +1,413 @@
+//! Expressions, references, locations and values.
+//!
+//! `room` is how many more levels may be opened. Each function's contract leads a run, from a stack that awaits what the function
+//! reads to the stack behind it, over the tokens that it took (see `Leads`).
+
+ghost use Rattle.std.specs.Prelude.{◌≡◌, ◌∷◌, ◌++◌, [], ℕ, List};
+ghost use Rattle.plm_syntax.specs.Terminal.{NameT};
+ghost use Rattle.plm_syntax.specs.Tree.{ReferenceE, ReferenceOf, ExpressionsT, no_member};
+ghost use Rattle.plm_syntax.specs.View.{name_of, expression_of, reference_of};
+ghost use Rattle.plm_syntax.specs.Symbol.{ExpressionR, Want, PrimaryG, SignedG, NegationG, MoreG, InsideG, AfterReferenceG, SubscriptsG, SelectorG, LocatedG, ValueG};
+ghost use Rattle.plm_syntax.specs.Machine.{operand, an_expression, a_value_list};
+ghost use Rattle.plm_syntax.specs.Parsed.{Leads, Within};
+ghost use Rattle.plm_syntax.specs.Parts.{level_view, read_expression, read_reference, read_subscripts, read_selector, read_location, read_value, read_values, reference_read, nothing_read, joined, all_levels, IsForm};
+
+use crate::cursor::Cursor;
+use crate::failure::Failure;
+use crate::operator::{Level, operator_at};
+use crate::tree::{
+    Expression, Location, LocationForm, Name, Place, Reference, Selector, UnaryOperator, Value,
+};
+use plm_token::{Keyword, Mark};
+use std::alloc::Global;
+
+/// An expression.
+pub(crate) fn expression<'t, 'a>(
+    alloc: Global,
+    room: u8,
+    cursor: Cursor<'t, 'a>,
+) -> Result<(Expression<'a>, Cursor<'t, 'a>), Failure>
+    ensures leads { Leads read_expression an_expression nothing_read result cursor.entry room }
+    ensures within { Within result cursor.entry }
+{
+    binary(alloc, room, Level::Disjunctions, cursor)
+}
+
+/// Operands of a level, joined by its operators from left to right.
+#[cycle(expression)]
+fn binary<'t, 'a>(
+    alloc: Global,
+    room: u8,
+    level: Level,
+    cursor: Cursor<'t, 'a>,
+) -> Result<(Expression<'a>, Cursor<'t, 'a>), Failure>
+    ensures leads { Leads read_expression (joined (level_view level)) nothing_read result cursor.entry room }
+    ensures within { Within result cursor.entry }
+{
+    let (left, rest) = operand(alloc, room, level, cursor)?;
+    more(alloc, room, level, left, rest)
+}
+
+/// The operators of a level behind a left operand, and their right operands; there is one relation at most.
+#[cycle(expression)]
+fn more<'t, 'a>(
+    alloc: Global,
+    room: u8,
+    level: Level,
+    first: Expression<'a>,
+    cursor: Cursor<'t, 'a>,
+) -> Result<(Expression<'a>, Cursor<'t, 'a>), Failure>
+    ensures leads { Leads read_expression (λ s. Want (MoreG (level_view level)) ∷ s) (read_expression first.entry) result cursor.entry room }
+    ensures within { Within result cursor.entry }
+{
+    let mut left = first;
+    let mut rest = cursor;
+    while let Some((place, operator, after)) = operator_at(level, rest) {
+        let (right, behind) = operand(alloc, room, level, after)?;
+        left = Expression::Binary(
+            place,
+            operator,
+            Box::new(alloc, left)?,
+            Box::new(alloc, right)?,
+        );
+        rest = behind;
+        if level.is_relations() {
+            return Ok((left, rest));
+        }
+    }
+    Ok((left, rest))
+}
+
+/// An operand of a level's operators.
+#[cycle(expression)]
+fn operand<'t, 'a>(
+    alloc: Global,
+    room: u8,
+    level: Level,
+    cursor: Cursor<'t, 'a>,
+) -> Result<(Expression<'a>, Cursor<'t, 'a>), Failure>
+    ensures leads { Leads read_expression (λ s. operand (level_view level) ++ s) nothing_read result cursor.entry room }
+    ensures within { Within result cursor.entry }
+{
+    match level {
+        Level::Products => signed(alloc, room, cursor),
+        Level::Sums => binary(alloc, room, Level::Products, cursor),
+        Level::Relations => binary(alloc, room, Level::Sums, cursor),
+        Level::Conjunctions => negation(alloc, room, cursor),
+        Level::Disjunctions => binary(alloc, room, Level::Conjunctions, cursor),
+    }
+}
+
+/// A relation, with NOT before it any number of times.
+#[cycle(expression)]
+fn negation<'t, 'a>(
+    alloc: Global,
+    room: u8,
+    cursor: Cursor<'t, 'a>,
+) -> Result<(Expression<'a>, Cursor<'t, 'a>), Failure>
+    ensures leads { Leads read_expression (λ s. Want NegationG ∷ s) nothing_read result cursor.entry room }
+    ensures within { Within result cursor.entry }
+{
+    match cursor.keyword(Keyword::Not) {
+        Some((place, inner)) => {
+            let (operand, rest) = negation(alloc, inner.level_down(room)?, inner)?;
+            Ok((
+                Expression::Unary(place, UnaryOperator::Not, Box::new(alloc, operand)?),
+                rest,
+            ))
+        }
+        None => binary(alloc, room, Level::Relations, cursor),
+    }
+}
+
+/// A primary, with a sign before it or none.
+#[cycle(expression)]
+fn signed<'t, 'a>(
+    alloc: Global,
+    room: u8,
+    cursor: Cursor<'t, 'a>,
+) -> Result<(Expression<'a>, Cursor<'t, 'a>), Failure>
+    ensures leads { Leads read_expression (λ s. Want SignedG ∷ s) nothing_read result cursor.entry room }
+    ensures within { Within result cursor.entry }
+{
+    if let Some((place, inner)) = cursor.mark(Mark::Plus) {
+        let (operand, rest) = primary(alloc, inner.level_down(room)?, inner)?;
+        return Ok((
+            Expression::Unary(place, UnaryOperator::Plus, Box::new(alloc, operand)?),
+            rest,
+        ));
+    }
+    if let Some((place, inner)) = cursor.mark(Mark::Minus) {
+        let (operand, rest) = primary(alloc, inner.level_down(room)?, inner)?;
+        return Ok((
+            Expression::Unary(place, UnaryOperator::Minus, Box::new(alloc, operand)?),
+            rest,
+        ));
+    }
+    primary(alloc, room, cursor)
+}
+
+/// A primary.
+#[cycle(expression)]
+fn primary<'t, 'a>(
+    alloc: Global,
+    room: u8,
+    cursor: Cursor<'t, 'a>,
+) -> Result<(Expression<'a>, Cursor<'t, 'a>), Failure>
+    ensures leads { Leads read_expression (λ s. Want PrimaryG ∷ s) nothing_read result cursor.entry room }
+    ensures within { Within result cursor.entry }
+{
+    if let Some((name, rest)) = cursor.name() {
+        let (reference, behind) = reference(alloc, room, name, rest)?;
+        return Ok((Expression::Reference(reference), behind));
+    }
+    if let Some((number, rest)) = cursor.numeral() {
+        return Ok((Expression::Number(number), rest));
+    }
+    if let Some((text, rest)) = cursor.text() {
+        return Ok((Expression::Text(text), rest));
+    }
+    if let Some((place, inner)) = cursor.mark(Mark::LeftParenthesis) {
+        return parenthesised(alloc, inner.level_down(room)?, place, inner);
+    }
+    if let Some((place, form, rest)) = form_at(cursor) {
+        let (location, behind) = location(alloc, room, place, form, rest)?;
+        return Ok((Expression::Location(location), behind));
+    }
+    Err(cursor.refuse())
+}
+
+/// The mark of a location where it comes next, and what is left behind it.
+pub(crate) fn form_at<'t, 'a>(
+    cursor: Cursor<'t, 'a>,
+) -> Option<(Place, LocationForm, Cursor<'t, 'a>)>
+    ensures { IsForm cursor.entry result }
+{
+    if let Some((place, rest)) = cursor.mark(Mark::AtSign) {
+        return Some((place, LocationForm::Pointer, rest));
+    }
+    let (place, rest) = cursor.mark(Mark::Period)?;
+    Some((place, LocationForm::Offset, rest))
+}
+
+/// What stands behind a parenthesis: an expression, or a reference, `:=` and an expression.
+#[cycle(expression)]
+fn parenthesised<'t, 'a>(
+    alloc: Global,
+    room: u8,
+    place: Place,
+    cursor: Cursor<'t, 'a>,
+) -> Result<(Expression<'a>, Cursor<'t, 'a>), Failure>
+    ensures leads { Leads read_expression (λ s. Want (InsideG place) ∷ s) nothing_read result cursor.entry room }
+    ensures within { Within result cursor.entry }
+{
+    if let Some((name, rest)) = cursor.name() {
+        let (reference, behind) = reference(alloc, room, name, rest)?;
+        return behind_reference(alloc, room, place, reference, behind);
+    }
+    let (inside, behind) = binary(alloc, room, Level::Disjunctions, cursor)?;
+    let rest = behind.expect_mark(Mark::RightParenthesis)?;
+    Ok((
+        Expression::Parenthesised(place, Box::new(alloc, inside)?),
+        rest,
+    ))
+}
+
+/// What stands behind a parenthesis and a reference.
+#[cycle(expression)]
+fn behind_reference<'t, 'a>(
+    alloc: Global,
+    room: u8,
+    place: Place,
+    first: Reference<'a>,
+    cursor: Cursor<'t, 'a>,
+) -> Result<(Expression<'a>, Cursor<'t, 'a>), Failure>
+    ensures leads { Leads read_expression (λ s. Want (AfterReferenceG place) ∷ s) (read_reference first.entry) result cursor.entry room }
+    ensures within { Within result cursor.entry }
+{
+    if let Some((_, after)) = cursor.mark(Mark::Assign) {
+        let (value, behind) = binary(alloc, room, Level::Disjunctions, after)?;
+        let rest = behind.expect_mark(Mark::RightParenthesis)?;
+        return Ok((
+            Expression::Embedded(place, first, Box::new(alloc, value)?),
+            rest,
+        ));
+    }
+    let (inside, behind) = climb(alloc, room, Expression::Reference(first), cursor)?;
+    let rest = behind.expect_mark(Mark::RightParenthesis)?;
+    Ok((
+        Expression::Parenthesised(place, Box::new(alloc, inside)?),
+        rest,
+    ))
+}
+
+/// An expression of which the first primary was read.
+#[cycle(expression)]
+fn climb<'t, 'a>(
+    alloc: Global,
+    room: u8,
+    first: Expression<'a>,
+    cursor: Cursor<'t, 'a>,
+) -> Result<(Expression<'a>, Cursor<'t, 'a>), Failure>
+    ensures leads { Leads read_expression all_levels (read_expression first.entry) result cursor.entry room }
+    ensures within { Within result cursor.entry }
+{
+    let (term, after_term) = more(alloc, room, Level::Products, first, cursor)?;
+    let (sum, after_sum) = more(alloc, room, Level::Sums, term, after_term)?;
+    let (relation, after_relation) = more(alloc, room, Level::Relations, sum, after_sum)?;
+    let (conjunction, after_conjunction) = more(
+        alloc,
+        room,
+        Level::Conjunctions,
+        relation,
+        after_relation,
+    )?;
+    more(
+        alloc,
+        room,
+        Level::Disjunctions,
+        conjunction,
+        after_conjunction,
+    )
+}
+
+/// A reference behind its name.
+#[cycle(expression)]
+pub(crate) fn reference<'t, 'a>(
+    alloc: Global,
+    room: u8,
+    name: Name<'a>,
+    cursor: Cursor<'t, 'a>,
+) -> Result<(Reference<'a>, Cursor<'t, 'a>), Failure>
+    ensures leads { Leads read_reference (λ s. Want SubscriptsG ∷ Want SelectorG ∷ s) (reference_read (name_of name.entry)) result cursor.entry room }
+    ensures within { Within result cursor.entry }
+{
+    let (subscripts, behind) = subscripts(alloc, room, cursor)?;
+    let (selector, rest) = selector(alloc, room, behind)?;
+    Ok((
+        Reference {
+            name,
+            subscripts,
+            selector,
+        },
+        rest,
+    ))
+}
+
+/// Expressions in parentheses, parted by commas, where a parenthesis comes next.
+#[cycle(expression)]
+fn subscripts<'t, 'a>(
+    alloc: Global,
+    room: u8,
+    cursor: Cursor<'t, 'a>,
+) -> Result<(Vec<Expression<'a>>, Cursor<'t, 'a>), Failure>
+    ensures leads { (n : NameT) → Leads (λ es. read_subscripts n es.items) (λ s. Want SubscriptsG ∷ s) (reference_read n) result cursor.entry room }
+    ensures within { Within result cursor.entry }
+{
+    let mut list = Vec::new(alloc);
+    let Some((_, inner)) = cursor.mark(Mark::LeftParenthesis) else {
+        return Ok((list, cursor));
+    };
+    let inside = inner.level_down(room)?;
+    let (first, mut rest) = binary(alloc, inside, Level::Disjunctions, inner)?;
+    list.push(first)?;
+    while let Some((_, after)) = rest.mark(Mark::Comma) {
+        let (next, behind) = binary(alloc, inside, Level::Disjunctions, after)?;
+        list.push(next)?;
+        rest = behind;
+    }
+    let behind = rest.expect_mark(Mark::RightParenthesis)?;
+    Ok((list, behind))
+}
+
+/// A member, where there is one.
+#[cycle(expression)]
+fn selector<'t, 'a>(
+    alloc: Global,
+    room: u8,
+    cursor: Cursor<'t, 'a>,
+) -> Result<(Selector<'a>, Cursor<'t, 'a>), Failure>
+    ensures leads { (n : NameT) (es : ExpressionsT) → Leads (read_selector n es) (λ s. Want SelectorG ∷ s) (λ v. ExpressionR (ReferenceE (ReferenceOf n es no_member)) ∷ v) result cursor.entry room }
+    ensures within { Within result cursor.entry }
+{
+    let Some((_, after)) = cursor.mark(Mark::Period) else {
+        return Ok((Selector::None, cursor));
+    };
+    let (name, behind) = after.expect_name()?;
+    let Some((_, inner)) = behind.mark(Mark::LeftParenthesis) else {
+        return Ok((Selector::Member(name), behind));
+    };
+    let (subscript, closing) = binary(alloc, inner.level_down(room)?, Level::Disjunctions, inner)?;
+    let rest = closing.expect_mark(Mark::RightParenthesis)?;
+    Ok((Selector::Element(name, Box::new(alloc, subscript)?), rest))
+}
+
+/// A location behind its `@` or `.`.
+#[cycle(expression)]
+pub(crate) fn location<'t, 'a>(
+    alloc: Global,
+    room: u8,
+    place: Place,
+    form: LocationForm,
+    cursor: Cursor<'t, 'a>,
+) -> Result<(Location<'a>, Cursor<'t, 'a>), Failure>
+    ensures leads { Leads read_location (λ s. Want (LocatedG place form) ∷ s) nothing_read result cursor.entry room }
+    ensures within { Within result cursor.entry }
+{
+    if let Some((_, inner)) = cursor.mark(Mark::LeftParenthesis) {
+        let (constants, rest) = values(alloc, room, inner)?;
+        return Ok((Location::Constants(place, form, constants), rest));
+    }
+    let (name, behind) = cursor.expect_name()?;
+    let (reference, rest) = reference(alloc, room, name, behind)?;
+    Ok((Location::Reference(place, form, reference), rest))
+}
+
+/// Values parted by commas, and the parenthesis behind them.
+#[cycle(expression)]
+pub(crate) fn values<'t, 'a>(
+    alloc: Global,
+    room: u8,
+    cursor: Cursor<'t, 'a>,
+) -> Result<(Vec<Value<'a>>, Cursor<'t, 'a>), Failure>
+    ensures leads { Leads (λ ws. read_values ws.items) a_value_list nothing_read result cursor.entry room }
+    ensures within { Within result cursor.entry }
+{
+    let mut list = Vec::new(alloc);
+    let (first, mut rest) = value(alloc, room, cursor)?;
+    list.push(first)?;
+    while let Some((_, after)) = rest.mark(Mark::Comma) {
+        let (next, behind) = value(alloc, room, after)?;
+        list.push(next)?;
+        rest = behind;
+    }
+    let behind = rest.expect_mark(Mark::RightParenthesis)?;
+    Ok((list, behind))
+}
+
+/// A value of INITIAL, DATA or a list of constants.
+#[cycle(expression)]
+fn value<'t, 'a>(
+    alloc: Global,
+    room: u8,
+    cursor: Cursor<'t, 'a>,
+) -> Result<(Value<'a>, Cursor<'t, 'a>), Failure>
+    ensures leads { Leads read_value (λ s. Want ValueG ∷ s) nothing_read result cursor.entry room }
+    ensures within { Within result cursor.entry }
+{
+    if let Some((number, rest)) = cursor.numeral() {
+        return Ok((Value::Number(number), rest));
+    }
+    if let Some((text, rest)) = cursor.text() {
+        return Ok((Value::Text(text), rest));
+    }
+    if let Some((_, after)) = cursor.mark(Mark::Minus) {
+        let (number, rest) = after.expect_number()?;
+        return Ok((Value::Negative(number), rest));
+    }
+    if let Some((place, form, after)) = form_at(cursor) {
+        let (location, rest) = location(alloc, room, place, form, after)?;
+        return Ok((Value::Location(location), rest));
+    }
+    Err(cursor.refuse())
+}

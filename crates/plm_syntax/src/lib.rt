@@ -1,0 +1,32 @@
+//! The parser of PL/M-86: a module's tree from its tokens, or its first fault.
+//!
+//! `parse` replaces literals (`literals`), reads the tree by recursive descent (`statement`, `declaration`, `expression` over the
+//! `cursor`), and answers the tree or the least fault. Its contract speaks of trees, of the tokens that spell them, and of literals
+//! replaced; that no two trees are spelled alike is the law `spell_once`.
+#![tactic(auto)]
+
+mod answer;
+mod cursor;
+mod declaration;
+mod expression;
+mod failure;
+mod laws;
+#[cfg(test)]
+mod literal_tests;
+mod literals;
+mod open_blocks;
+mod operator;
+mod reading;
+mod statement;
+#[cfg(test)]
+mod tests;
+mod tree;
+
+pub use answer::parse;
+pub use laws::spell_once;
+pub use tree::{
+    At, Attributes, Basic, BinaryOperator, Block, Declared, Dimension, Element, Expression,
+    Initial, Item, Linkage, Location, LocationForm, Member, MemberNames, Module, Name, Number,
+    Place, Procedure, Reference, Scalar, Selector, Statement, Text, UnaryOperator, Value, Variable,
+    VariableType,
+};

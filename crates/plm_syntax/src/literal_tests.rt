@@ -1,0 +1,182 @@
+//! Small sources with literals, and what comes out.
+
+use crate::literals::expand;
+use plm_token::scan;
+use std::alloc::Global;
+use std::process::Abort;
+use word86::{Fault, Number};
+
+/// Checks that a source with its literals replaced has the tokens of another, and stops so.
+fn gives(
+    rt: &impl Abort,
+    alloc: Global,
+    source: &[u8],
+    wanted: &[u8],
+    stop: Option<(Number, u32)>,
+) -> Result<(), Fault> {
+    let expansion = expand(alloc, scan(alloc, source)?)?;
+    let tokens = scan(alloc, wanted)?;
+    assert_eq!(rt; expansion.tokens.len(), tokens.len(), "in {source:?}");
+    for (token, other) in expansion.tokens.iter().zip(tokens.iter()) {
+        assert!(rt;
+            token.kind == other.kind && token.text == other.text,
+            "in {source:?}"
+        );
+    }
+    assert!(rt; expansion.stop == stop, "in {source:?}");
+    Ok(())
+}
+
+/// Checks what comes out of declarations, which put themselves out, and of what follows them.
+fn gives_behind(
+    rt: &impl Abort,
+    alloc: Global,
+    declared: &[u8],
+    source: &[u8],
+    wanted: &[u8],
+    stop: Option<(Number, u32)>,
+) -> Result<(), Fault> {
+    let mut text = Vec::from_slice(alloc, declared)?;
+    text.extend_from_slice(source)?;
+    let mut out = Vec::from_slice(alloc, declared)?;
+    out.extend_from_slice(wanted)?;
+    gives(rt, alloc, text.as_slice(), out.as_slice(), stop)
+}
+
+#[test]
+fn replacements(rt: HostRuntime) -> Result<(), Fault> {
+    let alloc = rt.alloc();
+    gives(
+        &rt,
+        alloc,
+        b"M: DO; DECLARE FOREVER LITERALLY 'WHILE 1'; DO forever; END; END M;",
+        b"M: DO; DECLARE FOREVER LITERALLY 'WHILE 1'; DO WHILE 1; END; END M;",
+        None,
+    )?;
+    gives(
+        &rt,
+        alloc,
+        b"DECLARE X LITERALLY 'X'; A X = 1;",
+        b"DECLARE X LITERALLY 'X'; A",
+        Some((Number::E202, 1)),
+    )?;
+    // Until the semicolon of the block's END.
+    gives(
+        &rt,
+        alloc,
+        b"DO; P: PROCEDURE; DECLARE X LITERALLY 'Y'; X END X; X END; X",
+        b"DO; P: PROCEDURE; DECLARE X LITERALLY 'Y'; Y END Y; X END; X",
+        None,
+    )?;
+    // Later elements of the same DECLARE, labels and names to be declared are replaced too.
+    gives(
+        &rt,
+        alloc,
+        b"DECLARE X LITERALLY 'Y', X BYTE; X: ;",
+        b"DECLARE X LITERALLY 'Y', Y BYTE; Y: ;",
+        None,
+    )?;
+    // An empty statement ends no block.
+    gives(
+        &rt,
+        alloc,
+        b"DO; DECLARE X LITERALLY 'Y'; DO; END; ; X",
+        b"DO; DECLARE X LITERALLY 'Y'; DO; END; ; Y",
+        None,
+    )?;
+    gives(
+        &rt,
+        alloc,
+        b"DECLARE L LITERALLY 'LITERALLY'; DECLARE X L 'Y'; X",
+        b"DECLARE L LITERALLY 'LITERALLY'; DECLARE X LITERALLY 'Y'; Y",
+        None,
+    )
+}
+
+#[test]
+fn depths(rt: HostRuntime) -> Result<(), Fault> {
+    let alloc = rt.alloc();
+    let declared: &[u8] =
+        b"DECLARE L0 LITERALLY '7', L1 LITERALLY 'L0', L2 LITERALLY 'L1', L3 LITERALLY 'L2', L4 LITERALLY 'L3', L5 LITERALLY 'L4', L6 LITERALLY 'L5', L7 LITERALLY 'L6', L8 LITERALLY 'L7';\n";
+    gives_behind(&rt, alloc, declared, b"L7", b"7", None)?;
+    gives_behind(&rt, alloc, declared, b"L8", b"", Some((Number::E202, 2)))
+}
+
+#[test]
+fn faulty_texts(rt: HostRuntime) -> Result<(), Fault> {
+    let alloc = rt.alloc();
+    gives(
+        &rt,
+        alloc,
+        b"DECLARE X\nLITERALLY 'a''#''' ;",
+        b"DECLARE X LITERALLY 'a''#'''",
+        Some((Number::E101, 2)),
+    )?;
+    gives(
+        &rt,
+        alloc,
+        b"DECLARE X LITERALLY '2B';",
+        b"DECLARE X LITERALLY '2B'",
+        Some((Number::E104, 1)),
+    )?;
+    gives(&rt, alloc, b"X = '2B''';", b"X = '2B''';", None)
+}
+
+/// Eight literals, each of which names the one before it sixteen times, and the first of which is empty: read whole, the last one has
+/// 268 million names.
+const SIXTEEN_TIMES: &[u8] =
+    b"DECLARE A LITERALLY '', B LITERALLY 'A A A A A A A A A A A A A A A A', C LITERALLY 'B B B B B B B B B B B B B B B B', D LITERALLY 'C C C C C C C C C C C C C C C C', E LITERALLY 'D D D D D D D D D D D D D D D D', F LITERALLY 'E E E E E E E E E E E E E E E E', G LITERALLY 'F F F F F F F F F F F F F F F F', H LITERALLY 'G G G G G G G G G G G G G G G G';\n";
+
+/// The same with two names in turn.
+const TWO_IN_TURN: &[u8] =
+    b"DECLARE A LITERALLY '', B LITERALLY 'A A A A A A A A A A A A A A A A', C LITERALLY 'A B A B A B A B A B A B A B A B', D LITERALLY 'B C B C B C B C B C B C B C B C', E LITERALLY 'C D C D C D C D C D C D C D C D', F LITERALLY 'D E D E D E D E D E D E D E D E', G LITERALLY 'E F E F E F E F E F E F E F E F', H LITERALLY 'F G F G F G F G F G F G F G F G';\n";
+
+#[test]
+fn empty_texts(rt: HostRuntime) -> Result<(), Fault> {
+    let alloc = rt.alloc();
+    gives_behind(&rt, alloc, SIXTEEN_TIMES, b"H H 1", b"1", None)?;
+    gives_behind(&rt, alloc, TWO_IN_TURN, b"H G H 1", b"1", None)?;
+    // An empty text that stands too deep is refused, though it was seen to be empty.
+    gives_behind(
+        &rt,
+        alloc,
+        SIXTEEN_TIMES,
+        b"DECLARE I LITERALLY 'H'; H\n1 I 2",
+        b"DECLARE I LITERALLY 'H'; 1",
+        Some((Number::E202, 3)),
+    )?;
+    // It is empty no longer where the literals that it names are gone.
+    gives(
+        &rt,
+        alloc,
+        b"DO; DECLARE X LITERALLY 'Y'; DO; DECLARE Y LITERALLY ''; X X END; X",
+        b"DO; DECLARE X LITERALLY 'Y'; DO; DECLARE Y LITERALLY ''; END; Y",
+        None,
+    )
+}
+
+#[test]
+fn many_tokens(rt: HostRuntime) -> Result<(), Fault> {
+    let alloc = rt.alloc();
+    let mut source = vec![in alloc; b';'; 65_535]?;
+    gives(&rt, alloc, source.as_slice(), source.as_slice(), None)?;
+    let mut longer = vec![in alloc; b';'; 65_536]?;
+    gives(
+        &rt,
+        alloc,
+        longer.as_slice(),
+        longer.as_slice(),
+        Some((Number::E205, 1)),
+    )?;
+    source.push(b'\n')?;
+    source.push(b'A')?;
+    longer.truncate(65_535);
+    longer.push(b'A')?;
+    gives(
+        &rt,
+        alloc,
+        source.as_slice(),
+        longer.as_slice(),
+        Some((Number::E205, 2)),
+    )
+}

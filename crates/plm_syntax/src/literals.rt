@@ -1,0 +1,297 @@
+//! Names that LITERALLY declares are replaced by their texts' tokens.
+
+ghost use Rattle.std.specs.Prelude.{◌≡◌, ◌<◌, length, map, fold, OnOk, IfOk, IfErr, option_map};
+ghost use Rattle.word86.specs.declared.fault.Fault.TheVariants.{Memory};
+ghost use Rattle.plm_token.specs.Scanning.{lexeme, lexemes};
+ghost use Rattle.plm_syntax.specs.Expand.{ends, declares, is_keyword, is_string, over_limit, ends_block, declared_name, between, put, symbol_out, text_out, nothing_out, expanded};
+ghost use Rattle.plm_syntax.specs.Quiet.{symbol, text_at};
+ghost use Rattle.plm_syntax.specs.ExpandView.{out_of, text_view, text_for, with_text, source_view, put_with_text, out_with_text, expansion_view, expansion_of};
+
+use crate::open_blocks::{Literal, OpenBlocks, is_identifier};
+use plm_token::{Keyword, Kind, Token, scan_literal};
+use std::alloc::Global;
+use word86::{Fault, Number};
+
+/// How many replacements may stand one inside the other.
+const LEVELS: u8 = 8;
+
+/// The most tokens that a module may have once its literals are replaced.
+const TOKEN_LIMIT: usize = 65_535;
+
+/// What came out so far: the tokens, the last two of them, and the fault and line where it stopped.
+#[derive(Drop)]
+pub struct Expander<'t, 'a> {
+    pub tokens: Vec<Token<'a>>,
+    pub blocks: OpenBlocks<'t, 'a>,
+    pub last: Option<Token<'a>>,
+    pub before: Option<Token<'a>>,
+    pub stop: Option<(Number, u32)>,
+}
+
+/// The tokens that came out, and the fault and its line where it stopped.
+#[derive(Drop)]
+pub struct Expansion<'a> {
+    pub tokens: Vec<Token<'a>>,
+    pub stop: Option<(Number, u32)>,
+}
+
+fn is_end(kind: Kind) -> bool
+    ensures { result ≡ is_keyword ends kind }
+{
+    matches!(kind, Kind::Reserved(Keyword::End))
+}
+
+fn is_literally(kind: Kind) -> bool
+    ensures { result ≡ is_keyword declares kind }
+{
+    matches!(kind, Kind::Reserved(Keyword::Literally))
+}
+
+fn is_string(kind: Kind) -> bool
+    ensures { result ≡ is_string kind }
+{
+    matches!(kind, Kind::String)
+}
+
+fn over_limit(count: usize, line: u32) -> Option<(Number, u32)>
+    ensures { result ≡ over_limit count line }
+{
+    if count > TOKEN_LIMIT {
+        Some((Number::E205, line))
+    } else {
+        None
+    }
+}
+
+impl<'t, 'a> Expander<'t, 'a> {
+    /// Whether a semicolon ends a block here: behind END, or END and a name.
+    fn ends_block(&self) -> bool
+        ensures { result ≡ ends_block (option_map lexeme self.now.last) (option_map lexeme self.now.before) }
+    {
+        match (self.last, self.before) {
+            (None, _) => false,
+            (Some(last), None) => is_end(last.kind),
+            (Some(last), Some(before)) => {
+                is_end(last.kind) || (is_identifier(last.kind) && is_end(before.kind))
+            }
+        }
+    }
+
+    /// The name that a string declares here: behind an identifier and LITERALLY.
+    fn declared_name(&self, kind: Kind) -> Option<&'a [u8]>
+        ensures { option_map (λ n. n.now) result ≡ declared_name kind (option_map lexeme self.now.last) (option_map lexeme self.now.before) }
+    {
+        match (self.last, self.before) {
+            (Some(last), Some(before)) => {
+                if is_string(kind) && is_literally(last.kind) && is_identifier(before.kind) {
+                    Some(before.text)
+                } else {
+                    None
+                }
+            }
+            _ => None,
+        }
+    }
+
+    /// Puts one token out.
+    fn put(&mut self, token: Token<'a>) -> Result<(), Fault>
+        ensures ok { OnOk result (out_of self.new ≡ put (lexeme token.entry) (out_of self.old)) }
+        ensures err { IfErr result (λ f. f ≡ Memory) }
+    {
+        let ending = self.ends_block();
+        self.blocks.step(token.kind, ending)?;
+        self.tokens.push(token)?;
+        self.before = self.last;
+        self.last = Some(token);
+        self.stop = over_limit(self.tokens.len(), token.line);
+        Ok(())
+    }
+
+    /// Puts a token of a literal's text out, with the line of the name that the text replaces, or replaces it in turn.
+    #[cycle(replace)]
+    #[tactic(auto, using(crate::proofs::Replaced::symbol_stopped, crate::proofs::Replaced::symbol_plain, crate::proofs::Replaced::symbol_deep, crate::proofs::Replaced::symbol_text))]
+    fn put_symbol(&mut self, token: Token<'a>, line: u32, levels: u8) -> Result<(), Fault>
+        ensures ok { OnOk result (out_of self.new ≡ symbol_out levels line (symbol token.entry) (out_of self.old)) }
+        ensures err { IfErr result (λ f. f ≡ Memory) }
+    {
+        if self.stop.is_some() {
+            return Ok(());
+        }
+        match self.blocks.literal(token.kind, token.text) {
+            None => self.put(Token {
+                kind: token.kind,
+                text: token.text,
+                line,
+            }),
+            Some(index) => {
+                if levels == 0 {
+                    self.stop = Some((Number::E202, line));
+                    return Ok(());
+                }
+                self.put_literal(index, line, levels - 1)
+            }
+        }
+    }
+
+    /// Puts a literal's text out. One that is known to put nothing out is passed over, and one that is seen to is remembered.
+    #[cycle(replace)]
+    fn put_literal(&mut self, index: usize, line: u32, levels: u8) -> Result<(), Fault>
+        requires { index < length self.old.blocks.literals.items }
+        ensures ok { OnOk result (out_of self.new ≡ text_out levels line (text_at (out_of self.old).blocks.literals index) (out_of self.old)) }
+        ensures err { IfErr result (λ f. f ≡ Memory) }
+    {
+        if self.blocks.is_seen(index, levels) {
+            return Ok(());
+        }
+        let count = self.tokens.len();
+        let literal = self.blocks.literals[index];
+        self.put_text(literal.text, line, levels)?;
+        if self.stop.is_none() && self.tokens.len() == count {
+            self.blocks.remember(index, levels)?;
+        }
+        Ok(())
+    }
+
+    /// Puts a literal's text out, its tokens with the line of the name that it replaces.
+    #[cycle(replace)]
+    fn put_text(&mut self, text: &'t [Token<'a>], line: u32, levels: u8) -> Result<(), Fault>
+        ensures ok { OnOk result (out_of self.new ≡ text_out levels line (map symbol text.now) (out_of self.old)) }
+        ensures err { IfErr result (λ f. f ≡ Memory) }
+    {
+        for token in text {
+            self.put_symbol(*token, line, levels)?;
+        }
+        Ok(())
+    }
+
+    /// Puts a token of the source out; a string may declare a literal, whose faults stand at it.
+    fn put_source(&mut self, token: Token<'a>, text: &'t Text<'a>) -> Result<(), Fault>
+        ensures ok { OnOk result (out_of self.new ≡ put_with_text (lexeme token.entry) (text_view text.now) (out_of self.old)) }
+        ensures err { IfErr result (λ f. f ≡ Memory) }
+    {
+        let name = self.declared_name(token.kind);
+        self.put(token)?;
+        match name {
+            None => Ok(()),
+            Some(name) => match text {
+                Text::Absent => Ok(()),
+                Text::Tokens(tokens) => self.blocks.declare(Literal {
+                    name,
+                    text: tokens.as_slice(),
+                }),
+                Text::Faulty(number) => {
+                    self.stop = Some((*number, token.line));
+                    Ok(())
+                }
+            },
+        }
+    }
+
+    /// Puts a token of the source out, or replaces it.
+    fn take(&mut self, source: &'t Source<'a>) -> Result<(), Fault>
+        ensures ok { OnOk result (out_of self.new ≡ out_with_text (source_view source.now) (out_of self.old)) }
+        ensures err { IfErr result (λ f. f ≡ Memory) }
+    {
+        if self.stop.is_some() {
+            return Ok(());
+        }
+        let token = source.token;
+        match self.blocks.literal(token.kind, token.text) {
+            None => self.put_source(token, &source.text),
+            Some(index) => self.put_literal(index, token.line, LEVELS - 1),
+        }
+    }
+}
+
+/// The text of a source's string, as a literal would have it.
+#[derive(Drop)]
+pub enum Text<'a> {
+    /// No string.
+    Absent,
+    /// Its tokens.
+    Tokens(Vec<Token<'a>>),
+    /// The least of its faults.
+    Faulty(Number),
+}
+
+/// A token of the source, with the text that it is if it declares a literal.
+#[derive(Drop)]
+pub struct Source<'a> {
+    pub token: Token<'a>,
+    pub text: Text<'a>,
+}
+
+fn between<'a>(text: &'a [u8]) -> &'a [u8]
+    ensures { result.now ≡ between text.now }
+{
+    match text {
+        [_, inside @ .., _] => inside,
+        _ => &[],
+    }
+}
+
+/// What a string's token would declare.
+fn text_of<'a>(alloc: Global, token: Token<'a>) -> Result<Text<'a>, Fault>
+    ensures ok { IfOk result (λ t. text_view t ≡ text_for token.entry.kind token.entry.text.now) }
+    ensures err { IfErr result (λ f. f ≡ Memory) }
+{
+    if is_string(token.kind) {
+        match scan_literal(alloc, between(token.text), 0) {
+            Ok(tokens) => Ok(Text::Tokens(tokens)),
+            Err(Fault::Memory) => Err(Fault::Memory),
+            Err(Fault::At(_, _, number)) => Ok(Text::Faulty(number)),
+        }
+    } else {
+        Ok(Text::Absent)
+    }
+}
+
+fn prepare<'a>(alloc: Global, tokens: &[Token<'a>]) -> Result<Vec<Source<'a>>, Fault>
+    ensures ok { IfOk result (λ v. map source_view v.items ≡ map with_text (lexemes tokens.now)) }
+    ensures err { IfErr result (λ f. f ≡ Memory) }
+{
+    let mut sources = Vec::new(alloc);
+    for token in tokens {
+        let text = text_of(alloc, *token)?;
+        sources.push(Source {
+            token: *token,
+            text,
+        })?;
+    }
+    Ok(sources)
+}
+
+fn replaced<'t, 'a>(alloc: Global, sources: &'t [Source<'a>]) -> Result<Expansion<'a>, Fault>
+    ensures ok { IfOk result (λ e. expansion_view e ≡ expansion_of (fold (λ o p. out_with_text p o) nothing_out (map source_view sources.now))) }
+    ensures err { IfErr result (λ f. f ≡ Memory) }
+{
+    let mut expander = Expander {
+        tokens: Vec::new(alloc),
+        blocks: OpenBlocks::new(alloc),
+        last: None,
+        before: None,
+        stop: None,
+    };
+    for source in sources {
+        expander.take(source)?;
+    }
+    let Expander {
+        tokens,
+        blocks: _,
+        last: _,
+        before: _,
+        stop,
+    } = expander;
+    Ok(Expansion { tokens, stop })
+}
+
+/// The tokens of a source with its literals replaced, up to the first fault. Memory is its only error.
+#[tactic(auto, using(crate::proofs::Replaced::expanded_same))]
+pub fn expand<'a>(alloc: Global, tokens: Vec<Token<'a>>) -> Result<Expansion<'a>, Fault>
+    ensures ok { IfOk result (λ e. expansion_view e ≡ expansion_of (expanded (lexemes tokens.entry.items))) }
+    ensures err { IfErr result (λ f. f ≡ Memory) }
+{
+    let sources = prepare(alloc, tokens.as_slice())?;
+    let expansion = replaced(alloc, sources.as_slice())?;
+    Ok(expansion)
+}

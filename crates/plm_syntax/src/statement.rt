@@ -1,0 +1,560 @@
+//! Statements, blocks, procedures and modules.
+
+ghost use Rattle.std.specs.Prelude.{◌≡◌, ◌∷◌, ◌++◌, [], ℕ, List, false, None, Option};
+ghost use Rattle.plm_token.specs.declared.token.Keyword.TheVariants.{If as TheIf, Do as TheDo};
+ghost use Rattle.plm_syntax.specs.declared.tree.Place.{Place as SomePlace};
+ghost use Rattle.plm_syntax.specs.declared.tree.Scalar.{Scalar as SomeScalar};
+ghost use Rattle.plm_syntax.specs.Terminal.{NameT, NumberT, is_key};
+ghost use Rattle.plm_syntax.specs.Tree.{NamesT, ItemsT, no_names, no_statements, no_items, no_references, no_linkage};
+ghost use Rattle.plm_syntax.specs.View.{name_of, base_of};
+ghost use Rattle.plm_syntax.specs.Answers.{terminal_of};
+ghost use Rattle.plm_syntax.specs.WellFormed.{is_end_name};
+ghost use Rattle.plm_syntax.specs.Symbol.{Want, Do, need, NamesR, NameR, ReferencesR, StatementsR, ItemsR, HeaderR, StepR, StatementG, ArmG, DoG, StatementsG, EndG, ItemsG, StepG, SubscriptsG, SelectorG, MoreTargetsG, CalledG, ReturnedG, ParametersG, InterruptG};
+ghost use Rattle.plm_syntax.specs.Parsed.{Leads, LeadsInside, Reads, Within, is_name, next_of, ahead};
+ghost use Rattle.plm_syntax.specs.Blocks.{is_label, begins_statement, IsBeginning, IsLabel, IsHeading, LeadsItem, WithinItem, LeadsReturned, LeadsLinkage, Parses, read_statement, read_basic, read_block, read_body, read_end, read_governed, read_step, read_procedure, read_interrupt, Shrinks, condition_goals, governed_goals, iteration_goals, procedure_goals, no_parameters_read};
+ghost use Rattle.plm_token.specs.declared.token.Mark.TheVariants.{Semicolon};
+ghost use Rattle.plm_syntax.specs.Machine.{make_call};
+ghost use Rattle.plm_syntax.specs.Parts.{nothing_read, reference_read, read_parameters};
+
+use crate::cursor::Cursor;
+use crate::declaration::{elements, names, scalar_at};
+use crate::expression::{expression, reference};
+use crate::failure::Failure;
+use crate::tree::{
+    Basic, Block, Expression, Item, Linkage, Module, Name, Number, Place, Procedure, Scalar,
+    Statement,
+};
+use plm_token::{Keyword, Kind, Mark, Token, same_name};
+use std::alloc::Global;
+
+/// How many levels may be open inside a module's own.
+const INNER_LEVELS: u8 = 63;
+
+/// A module, which takes all tokens.
+pub(crate) fn module<'a>(alloc: Global, cursor: Cursor<'_, 'a>) -> Result<Module<'a>, Failure>
+    ensures { Parses cursor.entry result }
+{
+    let (name, behind) = cursor.expect_name()?;
+    let heading = behind.expect_mark(Mark::Colon)?;
+    let start = heading.expect_keyword(Keyword::Do)?;
+    let inner = start.expect_mark(Mark::Semicolon)?;
+    let ((block, end), rest) = block(alloc, INNER_LEVELS, Some(name), inner)?;
+    match rest.next() {
+        None => Ok(Module { name, block, end }),
+        Some(_) => Err(rest.refuse()),
+    }
+}
+
+/// A block, and the name behind its END.
+#[cycle(statement)]
+fn block<'t, 'a>(
+    alloc: Global,
+    room: u8,
+    label: Option<Name<'a>>,
+    cursor: Cursor<'t, 'a>,
+) -> Result<((Block<'a>, Option<Name<'a>>), Cursor<'t, 'a>), Failure>
+    ensures leads { Leads read_block (λ s. Want (ItemsG (base_of label.entry)) ∷ s) (λ v. ItemsR no_items ∷ v) result cursor.entry room }
+    ensures within { Within result cursor.entry }
+{
+    let mut items = Vec::new(alloc);
+    let mut rest = cursor;
+    while let Some((item, behind)) = item(alloc, room, rest)? {
+        items.push(item)?;
+        rest = behind;
+    }
+    let ((statements, end), behind) = statements(alloc, room, label, rest)?;
+    Ok(((Block { items, statements }, end), behind))
+}
+
+/// A declaration or a procedure, where one comes next.
+#[cycle(statement)]
+fn item<'t, 'a>(
+    alloc: Global,
+    room: u8,
+    cursor: Cursor<'t, 'a>,
+) -> Result<Option<(Item<'a>, Cursor<'t, 'a>)>, Failure>
+    ensures leads { LeadsItem result cursor.entry room }
+    ensures within { WithinItem result cursor.entry }
+{
+    if let Some((place, after)) = cursor.keyword(Keyword::Declare) {
+        let (list, rest) = elements(alloc, room, after)?;
+        return Ok(Some((Item::Declare(place, list), rest)));
+    }
+    let Some((name, after)) = heading_at(cursor) else {
+        return Ok(None);
+    };
+    let inside = after.level_down(room)?;
+    let (procedure, rest) = procedure(alloc, inside, name, after)?;
+    Ok(Some((Item::Procedure(procedure), rest)))
+}
+
+/// A procedure's name where it comes next with a colon and the word PROCEDURE, and what is left behind these.
+fn heading_at<'t, 'a>(cursor: Cursor<'t, 'a>) -> Option<(Name<'a>, Cursor<'t, 'a>)>
+    ensures { IsHeading cursor.entry result }
+{
+    let Some((name, behind)) = label_at(cursor) else {
+        return None;
+    };
+    let Some((_, rest)) = behind.keyword(Keyword::Procedure) else {
+        return None;
+    };
+    Some((name, rest))
+}
+
+/// A procedure behind the word PROCEDURE.
+#[cycle(statement)]
+fn procedure<'t, 'a>(
+    alloc: Global,
+    room: u8,
+    name: Name<'a>,
+    cursor: Cursor<'t, 'a>,
+) -> Result<(Procedure<'a>, Cursor<'t, 'a>), Failure>
+    ensures leads { (is : ItemsT) → LeadsInside (read_procedure is) (procedure_goals (name_of name.entry)) (no_parameters_read (name_of name.entry) is) result cursor.entry room }
+    ensures within { Within result cursor.entry }
+{
+    let (parameters, behind) = parameters(alloc, cursor)?;
+    let (returned, behind) = returned(behind);
+    let (interrupt, behind) = interrupt(behind)?;
+    let (linkage, behind) = linkage(behind);
+    let inner = behind.expect_mark(Mark::Semicolon)?;
+    let ((block, end), rest) = block(alloc, room, Some(name), inner)?;
+    Ok((
+        Procedure {
+            name,
+            parameters,
+            returned,
+            interrupt,
+            linkage,
+            block,
+            end,
+        },
+        rest,
+    ))
+}
+
+/// A procedure's parameters, where a parenthesis comes next.
+fn parameters<'t, 'a>(
+    alloc: Global,
+    cursor: Cursor<'t, 'a>,
+) -> Result<(Vec<Name<'a>>, Cursor<'t, 'a>), Failure>
+    ensures leads { (n : NameT) → Reads (λ ns. read_parameters n ns.items) (λ s. Want ParametersG ∷ s) (read_parameters n []) result cursor.entry }
+    ensures within { Within result cursor.entry }
+{
+    let Some((_, inner)) = cursor.mark(Mark::LeftParenthesis) else {
+        return Ok((Vec::new(alloc), cursor));
+    };
+    names(alloc, inner)
+}
+
+/// A procedure's type, where one comes next.
+fn returned<'t, 'a>(cursor: Cursor<'t, 'a>) -> (Option<Scalar>, Cursor<'t, 'a>)
+    ensures { LeadsReturned cursor.entry result }
+{
+    match scalar_at(cursor) {
+        Some((scalar, rest)) => (Some(scalar), rest),
+        None => (None, cursor),
+    }
+}
+
+/// The number of an interrupt procedure, where the word comes next.
+fn interrupt<'t, 'a>(cursor: Cursor<'t, 'a>) -> Result<(Option<Number>, Cursor<'t, 'a>), Failure>
+    ensures leads { (n : NameT) (ps : NamesT) (t : Option SomeScalar) → Reads (read_interrupt n ps t) (λ s. Want InterruptG ∷ s) (λ v. HeaderR n ps t None no_linkage ∷ v) result cursor.entry }
+    ensures within { Within result cursor.entry }
+{
+    let Some((_, after)) = cursor.keyword(Keyword::Interrupt) else {
+        return Ok((None, cursor));
+    };
+    let (number, rest) = after.expect_number()?;
+    Ok((Some(number), rest))
+}
+
+/// How a procedure is joined with those of other modules.
+fn linkage<'t, 'a>(cursor: Cursor<'t, 'a>) -> (Linkage, Cursor<'t, 'a>)
+    ensures { LeadsLinkage cursor.entry result }
+{
+    if let Some((_, rest)) = cursor.keyword(Keyword::Public) {
+        return (Linkage::Public, rest);
+    }
+    if let Some((_, rest)) = cursor.keyword(Keyword::External) {
+        return (Linkage::External, rest);
+    }
+    (Linkage::None, cursor)
+}
+
+/// Statements up to their END, and the name behind it.
+#[cycle(statement)]
+fn statements<'t, 'a>(
+    alloc: Global,
+    room: u8,
+    label: Option<Name<'a>>,
+    cursor: Cursor<'t, 'a>,
+) -> Result<((Vec<Statement<'a>>, Option<Name<'a>>), Cursor<'t, 'a>), Failure>
+    ensures leads { Leads read_body (λ s. Want (StatementsG (base_of label.entry)) ∷ s) (λ v. StatementsR no_statements ∷ v) result cursor.entry room }
+    ensures within { Within result cursor.entry }
+{
+    let mut list = Vec::new(alloc);
+    let mut rest = cursor;
+    loop {
+        if let Some((_, after)) = rest.keyword(Keyword::End) {
+            let (end, behind) = end(label, after)?;
+            return Ok(((list, end), behind));
+        }
+        let (statement, behind) = statement(alloc, room, rest)?;
+        list.push(statement)?;
+        rest = behind;
+    }
+}
+
+/// The name behind END, if it is there, and the semicolon.
+fn end<'t, 'a>(
+    label: Option<Name<'a>>,
+    cursor: Cursor<'t, 'a>,
+) -> Result<(Option<Name<'a>>, Cursor<'t, 'a>), Failure>
+    ensures leads { Reads read_end (λ s. Want (EndG (base_of label.entry)) ∷ s) nothing_read result cursor.entry }
+    ensures within { Within result cursor.entry }
+{
+    let Some((name, behind)) = cursor.name() else {
+        let rest = cursor.expect_mark(Mark::Semicolon)?;
+        return Ok((None, rest));
+    };
+    if names_block(label, name) {
+        let rest = behind.expect_mark(Mark::Semicolon)?;
+        return Ok((Some(name), rest));
+    }
+    Err(cursor.refuse())
+}
+
+/// Whether a name may stand behind the END of the block with this label.
+fn names_block(label: Option<Name<'_>>, name: Name<'_>) -> bool
+    ensures { result ≡ is_end_name (base_of label.entry) (name_of name.entry) }
+{
+    match label {
+        Some(label) => same_name(label.text, name.text),
+        None => false,
+    }
+}
+
+/// A statement with its labels.
+#[cycle(statement)]
+fn statement<'t, 'a>(
+    alloc: Global,
+    room: u8,
+    cursor: Cursor<'t, 'a>,
+) -> Result<(Statement<'a>, Cursor<'t, 'a>), Failure>
+    ensures leads { Leads read_statement (λ s. Want (StatementG None) ∷ s) (λ v. NamesR no_names ∷ v) result cursor.entry room }
+    ensures within { Shrinks result cursor.entry }
+{
+    let mut labels = Vec::new(alloc);
+    let mut last = None;
+    let mut rest = cursor;
+    while let Some((label, behind)) = label_at(rest) {
+        labels.push(label)?;
+        last = Some(label);
+        rest = behind;
+    }
+    let (basic, behind) = basic(alloc, room, last, rest)?;
+    Ok((Statement { labels, basic }, behind))
+}
+
+/// A label and its colon where they come next, and what is left behind them.
+fn label_at<'t, 'a>(cursor: Cursor<'t, 'a>) -> Option<(Name<'a>, Cursor<'t, 'a>)>
+    ensures { IsLabel cursor.entry result }
+{
+    let Some((name, behind)) = cursor.name() else {
+        return None;
+    };
+    let Some((_, rest)) = behind.mark(Mark::Colon) else {
+        return None;
+    };
+    Some((name, rest))
+}
+
+/// A statement behind its labels, the last of which this is.
+#[cycle(statement)]
+fn basic<'t, 'a>(
+    alloc: Global,
+    room: u8,
+    label: Option<Name<'a>>,
+    cursor: Cursor<'t, 'a>,
+) -> Result<(Basic<'a>, Cursor<'t, 'a>), Failure>
+    requires { is_label (ahead cursor) ≡ false }
+    ensures leads { (ls : NamesT) → Leads (read_basic ls) (λ s. Want (StatementG (base_of label.entry)) ∷ s) (λ v. NamesR ls ∷ v) result cursor.entry room }
+    ensures within { Shrinks result cursor.entry }
+{
+    if let Some((name, after)) = cursor.name() {
+        return assignment(alloc, room, name, after);
+    }
+    if let Some((place, after)) = cursor.keyword(Keyword::If) {
+        return condition(alloc, room, place, after);
+    }
+    if let Some((place, after)) = cursor.keyword(Keyword::Do) {
+        let inside = after.level_down(room)?;
+        return group(alloc, inside, label, place, after);
+    }
+    plain(alloc, room, cursor)
+}
+
+/// An assignment behind the name of its first target.
+fn assignment<'t, 'a>(
+    alloc: Global,
+    room: u8,
+    name: Name<'a>,
+    cursor: Cursor<'t, 'a>,
+) -> Result<(Basic<'a>, Cursor<'t, 'a>), Failure>
+    ensures leads { (ls : NamesT) → Leads (read_basic ls) (λ s. Want SubscriptsG ∷ Want SelectorG ∷ Want MoreTargetsG ∷ s) (λ v. reference_read (name_of name.entry) (ReferencesR no_references ∷ NamesR ls ∷ v)) result cursor.entry room }
+    ensures within { Within result cursor.entry }
+{
+    let mut targets = Vec::new(alloc);
+    let (first, mut rest) = reference(alloc, room, name, cursor)?;
+    let mut last = first;
+    while let Some((_, after)) = rest.mark(Mark::Comma) {
+        let (name, begun) = after.expect_name()?;
+        let (next, behind) = reference(alloc, room, name, begun)?;
+        targets.push(last)?;
+        last = next;
+        rest = behind;
+    }
+    targets.push(last)?;
+    let after = rest.expect_mark(Mark::Equal)?;
+    let (value, behind) = expression(alloc, room, after)?;
+    let end = behind.expect_mark(Mark::Semicolon)?;
+    Ok((Basic::Assign(targets, value), end))
+}
+
+/// A statement that begins neither with a name nor with IF or DO.
+fn plain<'t, 'a>(
+    alloc: Global,
+    room: u8,
+    cursor: Cursor<'t, 'a>,
+) -> Result<(Basic<'a>, Cursor<'t, 'a>), Failure>
+    requires name { is_name (next_of cursor) ≡ false }
+    requires condition { is_key TheIf (next_of cursor) ≡ false }
+    requires group { is_key TheDo (next_of cursor) ≡ false }
+    ensures leads { (label : Option NameT) (ls : NamesT) → Leads (read_basic ls) (λ s. Want (StatementG label) ∷ s) (λ v. NamesR ls ∷ v) result cursor.entry room }
+    ensures within { Shrinks result cursor.entry }
+{
+    if let Some((place, rest)) = cursor.mark(Mark::Semicolon) {
+        return Ok((Basic::Empty(place), rest));
+    }
+    if let Some((place, after)) = cursor.keyword(Keyword::Call) {
+        return call(alloc, room, place, after);
+    }
+    if let Some((place, after)) = cursor.keyword(Keyword::Return) {
+        return return_from(alloc, room, place, after);
+    }
+    if let Some((place, after)) = cursor.keyword(Keyword::Enable) {
+        let rest = after.expect_mark(Mark::Semicolon)?;
+        return Ok((Basic::Enable(place), rest));
+    }
+    if let Some((place, after)) = cursor.keyword(Keyword::Disable) {
+        let rest = after.expect_mark(Mark::Semicolon)?;
+        return Ok((Basic::Disable(place), rest));
+    }
+    if let Some((place, after)) = cursor.keyword(Keyword::Halt) {
+        let rest = after.expect_mark(Mark::Semicolon)?;
+        return Ok((Basic::Halt(place), rest));
+    }
+    Err(cursor.refuse())
+}
+
+/// A CALL behind its first word.
+fn call<'t, 'a>(
+    alloc: Global,
+    room: u8,
+    place: Place,
+    cursor: Cursor<'t, 'a>,
+) -> Result<(Basic<'a>, Cursor<'t, 'a>), Failure>
+    ensures leads { (ls : NamesT) → Leads (read_basic ls) (λ s. Want CalledG ∷ need Semicolon ∷ Do (make_call place) ∷ s) (λ v. NamesR ls ∷ v) result cursor.entry room }
+    ensures within { Within result cursor.entry }
+{
+    let (name, begun) = cursor.expect_name()?;
+    let (called, behind) = reference(alloc, room, name, begun)?;
+    let rest = behind.expect_mark(Mark::Semicolon)?;
+    Ok((Basic::Call(place, called), rest))
+}
+
+/// A RETURN behind its first word.
+fn return_from<'t, 'a>(
+    alloc: Global,
+    room: u8,
+    place: Place,
+    cursor: Cursor<'t, 'a>,
+) -> Result<(Basic<'a>, Cursor<'t, 'a>), Failure>
+    ensures leads { (ls : NamesT) → Leads (read_basic ls) (λ s. Want (ReturnedG place) ∷ s) (λ v. NamesR ls ∷ v) result cursor.entry room }
+    ensures within { Within result cursor.entry }
+{
+    if let Some((_, rest)) = cursor.mark(Mark::Semicolon) {
+        return Ok((Basic::Return(place), rest));
+    }
+    let (value, behind) = expression(alloc, room, cursor)?;
+    let rest = behind.expect_mark(Mark::Semicolon)?;
+    Ok((Basic::ReturnValue(place, value), rest))
+}
+
+/// An IF behind its first word.
+#[cycle(statement)]
+fn condition<'t, 'a>(
+    alloc: Global,
+    room: u8,
+    place: Place,
+    cursor: Cursor<'t, 'a>,
+) -> Result<(Basic<'a>, Cursor<'t, 'a>), Failure>
+    ensures leads { (ls : NamesT) → Leads (read_basic ls) (condition_goals place) (λ v. NamesR ls ∷ v) result cursor.entry room }
+    ensures within { Within result cursor.entry }
+{
+    let (test, after_test) = expression(alloc, room, cursor)?;
+    let start = after_test.expect_keyword(Keyword::Then)?;
+    let (then, behind) = arm(alloc, room, start)?;
+    if let Some((_, after)) = behind.keyword(Keyword::Else) {
+        let (other, rest) = arm(alloc, room, after)?;
+        return Ok((
+            Basic::IfElse(place, test, Box::new(alloc, then)?, Box::new(alloc, other)?),
+            rest,
+        ));
+    }
+    Ok((Basic::If(place, test, Box::new(alloc, then)?), behind))
+}
+
+/// An arm of an IF: its first token opens a level, if it can begin a statement.
+#[cycle(statement)]
+fn arm<'t, 'a>(
+    alloc: Global,
+    room: u8,
+    cursor: Cursor<'t, 'a>,
+) -> Result<(Statement<'a>, Cursor<'t, 'a>), Failure>
+    ensures leads { Leads read_statement (λ s. Want ArmG ∷ s) nothing_read result cursor.entry room }
+    ensures within { Within result cursor.entry }
+{
+    let Some((_, _, behind)) = beginning(cursor) else {
+        return Err(cursor.refuse());
+    };
+    let inside = behind.level_down(room)?;
+    statement(alloc, inside, cursor)
+}
+
+/// A token that can begin a statement where one comes next, and what is left behind it.
+fn beginning<'t, 'a>(cursor: Cursor<'t, 'a>) -> Option<(Token<'a>, Place, Cursor<'t, 'a>)>
+    ensures { IsBeginning cursor.entry result }
+{
+    let (token, place, rest) = cursor.next()?;
+    if begins_statement(token.kind) {
+        Some((token, place, rest))
+    } else {
+        None
+    }
+}
+
+/// Whether a token can begin a statement.
+fn begins_statement(kind: Kind) -> bool
+    ensures { (text : List ℕ) (p : SomePlace) → result ≡ begins_statement (terminal_of kind text p) }
+{
+    matches!(
+        kind,
+        Kind::Identifier
+            | Kind::Special(Mark::Semicolon)
+            | Kind::Reserved(
+                Keyword::Call
+                    | Keyword::Return
+                    | Keyword::Enable
+                    | Keyword::Disable
+                    | Keyword::Halt
+                    | Keyword::If
+                    | Keyword::Do
+            )
+    )
+}
+
+/// A DO group behind the word DO.
+#[cycle(statement)]
+fn group<'t, 'a>(
+    alloc: Global,
+    room: u8,
+    label: Option<Name<'a>>,
+    place: Place,
+    cursor: Cursor<'t, 'a>,
+) -> Result<(Basic<'a>, Cursor<'t, 'a>), Failure>
+    ensures leads { (ls : NamesT) → Leads (read_basic ls) (λ s. Want (DoG place (base_of label.entry)) ∷ s) (λ v. NamesR ls ∷ v) result cursor.entry room }
+    ensures within { Within result cursor.entry }
+{
+    if let Some((index, after)) = cursor.name() {
+        return iteration(alloc, room, label, place, index, after);
+    }
+    if let Some((_, inner)) = cursor.mark(Mark::Semicolon) {
+        let ((block, end), rest) = block(alloc, room, label, inner)?;
+        return Ok((Basic::Do(place, block, end), rest));
+    }
+    if let Some((_, after)) = cursor.keyword(Keyword::While) {
+        let ((test, body, end), rest) = governed(alloc, room, label, after)?;
+        return Ok((Basic::While(place, test, body, end), rest));
+    }
+    if let Some((_, after)) = cursor.keyword(Keyword::Case) {
+        let ((selected, cases, end), rest) = governed(alloc, room, label, after)?;
+        return Ok((Basic::Case(place, selected, cases, end), rest));
+    }
+    Err(cursor.refuse())
+}
+
+/// The expression of a DO WHILE or DO CASE, its statements, and the name behind their END.
+#[cycle(statement)]
+fn governed<'t, 'a>(
+    alloc: Global,
+    room: u8,
+    label: Option<Name<'a>>,
+    cursor: Cursor<'t, 'a>,
+) -> Result<
+    (
+        (Expression<'a>, Vec<Statement<'a>>, Option<Name<'a>>),
+        Cursor<'t, 'a>,
+    ),
+    Failure,
+>
+    ensures leads { Leads read_governed (governed_goals (base_of label.entry)) nothing_read result cursor.entry room }
+    ensures within { Within result cursor.entry }
+{
+    let (value, behind) = expression(alloc, room, cursor)?;
+    let start = behind.expect_mark(Mark::Semicolon)?;
+    let ((list, end), rest) = statements(alloc, room, label, start)?;
+    Ok(((value, list, end), rest))
+}
+
+/// `DO i = a TO b [BY s]` behind its index.
+#[cycle(statement)]
+fn iteration<'t, 'a>(
+    alloc: Global,
+    room: u8,
+    label: Option<Name<'a>>,
+    place: Place,
+    index: Name<'a>,
+    cursor: Cursor<'t, 'a>,
+) -> Result<(Basic<'a>, Cursor<'t, 'a>), Failure>
+    ensures leads { (ls : NamesT) → Leads (read_basic ls) (iteration_goals place (base_of label.entry)) (λ v. NameR (name_of index.entry) ∷ NamesR ls ∷ v) result cursor.entry room }
+    ensures within { Within result cursor.entry }
+{
+    let begun = cursor.expect_mark(Mark::Equal)?;
+    let (first, behind_first) = expression(alloc, room, begun)?;
+    let bound = behind_first.expect_keyword(Keyword::To)?;
+    let (last, behind_last) = expression(alloc, room, bound)?;
+    let (step, behind_step) = step(alloc, room, behind_last)?;
+    let start = behind_step.expect_mark(Mark::Semicolon)?;
+    let ((body, end), rest) = statements(alloc, room, label, start)?;
+    Ok((
+        Basic::Iterate(place, index, first, last, step, body, end),
+        rest,
+    ))
+}
+
+/// The step of an iteration, where the word BY comes next.
+fn step<'t, 'a>(
+    alloc: Global,
+    room: u8,
+    cursor: Cursor<'t, 'a>,
+) -> Result<(Option<Expression<'a>>, Cursor<'t, 'a>), Failure>
+    ensures leads { Leads read_step (λ s. Want StepG ∷ s) (λ v. StepR None ∷ v) result cursor.entry room }
+    ensures within { Within result cursor.entry }
+{
+    let Some((_, after)) = cursor.keyword(Keyword::By) else {
+        return Ok((None, cursor));
+    };
+    let (value, rest) = expression(alloc, room, after)?;
+    Ok((Some(value), rest))
+}

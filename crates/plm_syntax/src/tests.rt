@@ -1,0 +1,422 @@
+//! Small texts, and what becomes of them.
+
+use crate::answer::parse;
+use crate::tree::Basic;
+use plm_token::scan;
+use std::alloc::Global;
+use std::process::Abort;
+use word86::{Fault, Number};
+
+/// How a text parses.
+#[derive(Debug, Clone, Copy, PartialEq, Eq)]
+enum Outcome {
+    Fine,
+    /// A fault and its line.
+    Fault(Number, u32),
+    Memory,
+}
+
+use Outcome::Fine;
+
+fn refused(number: Number, line: u32) -> Outcome {
+    Outcome::Fault(number, line)
+}
+
+fn parsed(alloc: Global, text: &[u8]) -> Outcome {
+    let tokens = match scan(alloc, text) {
+        Ok(tokens) => tokens,
+        Err(Fault::At(_, line, number)) => return refused(number, line),
+        Err(Fault::Memory) => return Outcome::Memory,
+    };
+    match parse(alloc, tokens) {
+        Ok(_) => Fine,
+        Err(Fault::At(_, line, number)) => refused(number, line),
+        Err(Fault::Memory) => Outcome::Memory,
+    }
+}
+
+fn check(rt: &impl Abort, alloc: Global, rows: &[(&[u8], Outcome)]) {
+    for (text, wanted) in rows {
+        assert_eq!(rt; parsed(alloc, text), *wanted, "in {text:?}");
+    }
+}
+
+#[test]
+fn modules_and_blocks(rt: HostRuntime) {
+    let rows: [(&[u8], Outcome); 23] = [
+        (b"M: DO; ; END M;", Fine),
+        (b"M: DO; /* x", refused(Number::E103, 1)),
+        (b"M: DO; END;", Fine),
+        (b"M: DO; END m;", Fine),
+        (b"A$B: DO; END AB;", Fine),
+        (b"M: DO; END\nN;", refused(Number::E201, 2)),
+        (b"M: DO; END M;\nX", refused(Number::E201, 2)),
+        (b"M: DO;\nEND M", refused(Number::E201, 2)),
+        (b"", refused(Number::E201, 1)),
+        (b"M: DO; EN", refused(Number::E201, 1)),
+        (b"M DO; END M;", refused(Number::E201, 1)),
+        (b"M: DO;\n\nDO; END; DO; END; END M;", Fine),
+        (b"M: DO; L1: L2: DO; END L2; END;", Fine),
+        (
+            b"M: DO; L1: L2: DO; END\nL1; END;",
+            refused(Number::E201, 2),
+        ),
+        (
+            b"M: DO; P: PROCEDURE (A, B) BYTE PUBLIC; DECLARE (A, B) BYTE; RETURN A; END P; CALL P(1, 2); END M;",
+            Fine,
+        ),
+        (
+            b"M: DO; P: PROCEDURE INTERRUPT 8; END P; Q: PROCEDURE EXTERNAL; END; END;",
+            Fine,
+        ),
+        (
+            b"M: DO; ; P:\nPROCEDURE; END P; END;",
+            refused(Number::E201, 2),
+        ),
+        (
+            b"M: DO; L: P:\nPROCEDURE; END P; END;",
+            refused(Number::E201, 2),
+        ),
+        (b"M: DO; ;\nDECLARE A BYTE; END;", refused(Number::E201, 2)),
+        (b"M: DO; DO; DECLARE A BYTE; A = 1; END; END;", Fine),
+        (
+            b"M: DO; P: PROCEDURE ()\n; END P; END;",
+            refused(Number::E201, 1),
+        ),
+        (
+            b"M: DO; P: PROCEDURE PUBLIC\nEXTERNAL; END P; END;",
+            refused(Number::E201, 2),
+        ),
+        (
+            b"M: DO; P: PROCEDURE; END\nM; END;",
+            refused(Number::E201, 2),
+        ),
+    ];
+    check(&rt, rt.alloc(), &rows);
+}
+
+#[test]
+fn expressions(rt: HostRuntime) {
+    let rows: [(&[u8], Outcome); 20] = [
+        (b"M: DO; A = 1 + 2 * 3; END;", Fine),
+        (
+            b"M: DO; A, B(1, 2), C.D(3) = (X := 4) + (Y) AND NOT Z; END;",
+            Fine,
+        ),
+        (b"M: DO; A = 1 < 2\n< 3; END;", refused(Number::E201, 2)),
+        (b"M: DO; A = (1 < 2) < 3; END;", Fine),
+        (b"M: DO; A = (B + C\n:= 3); END;", refused(Number::E201, 2)),
+        (b"M: DO; A = (B(1).C := 3); END;", Fine),
+        (b"M: DO; A = (B := C := 3); END;", refused(Number::E201, 1)),
+        (b"M: DO; A = -\n- 1; END;", refused(Number::E201, 2)),
+        (b"M: DO; A = NOT NOT B; END;", Fine),
+        (b"M: DO; A = 1 +\nNOT B; END;", refused(Number::E201, 2)),
+        (b"M: DO; A = 'X' MOD +2 / -B XOR C OR D; END;", Fine),
+        (b"M: DO; A = @B(1).C + .('X', 1); END;", Fine),
+        (b"M: DO; A = @(1, -2, @(.B)); END;", Fine),
+        (b"M: DO; A = @3; END;", refused(Number::E201, 1)),
+        (b"M: DO; A.B\n.C = 1; END;", refused(Number::E201, 2)),
+        (b"M: DO; A() = 1; END;", refused(Number::E201, 1)),
+        (b"M: DO; A.B(1, 2) = 1; END;", refused(Number::E201, 1)),
+        (b"M: DO; A =\n; END;", refused(Number::E201, 2)),
+        (b"M: DO; A = 1 PLUS 2; END;", refused(Number::E201, 1)),
+        (b"M: DO; A = (1; END;", refused(Number::E201, 1)),
+    ];
+    check(&rt, rt.alloc(), &rows);
+}
+
+#[test]
+fn statements(rt: HostRuntime) {
+    let rows: [(&[u8], Outcome); 14] = [
+        (b"M: DO; IF A THEN IF B THEN C = 1; ELSE C = 2; END;", Fine),
+        (
+            b"M: DO; IF A THEN C = 1; ELSE IF B THEN ; ELSE ;\nELSE ; END;",
+            refused(Number::E201, 2),
+        ),
+        (b"M: DO; IF A THEN\nEND; END;", refused(Number::E201, 2)),
+        (b"M: DO; IF A THEN L: ; ELSE DO; END; END;", Fine),
+        (b"M: DO; IF A C = 1; END;", refused(Number::E201, 1)),
+        (
+            b"M: DO; DO WHILE 1; END; DO CASE X; ; ; END; DO I = 1 TO 2 BY 3; END; DO I = 1 TO 2; END; END;",
+            Fine,
+        ),
+        (b"M: DO; DO\nFOREVER; END; END;", refused(Number::E201, 2)),
+        (b"M: DO; DO I = 1 BY 2; END; END;", refused(Number::E201, 1)),
+        (
+            b"M: DO; CALL P(1).Q; RETURN; RETURN 1; ENABLE; DISABLE; HALT; END;",
+            Fine,
+        ),
+        (b"M: DO; GOTO L; END;", refused(Number::E201, 1)),
+        (
+            b"M: DO; DO; ; DECLARE A BYTE; END; END;",
+            refused(Number::E201, 1),
+        ),
+        (b"M: DO; CALL 3; END;", refused(Number::E201, 1)),
+        (b"M: DO; A B; END;", refused(Number::E201, 1)),
+        (b"M: DO; HALT END;", refused(Number::E201, 1)),
+    ];
+    check(&rt, rt.alloc(), &rows);
+}
+
+#[test]
+fn declarations(rt: HostRuntime) {
+    let rows: [(&[u8], Outcome); 14] = [
+        (
+            b"M: DO; DECLARE A BYTE, (B, C BASED P) (10) WORD PUBLIC AT (0B8000H) INITIAL (1, -2, 'AB', .A); END;",
+            Fine,
+        ),
+        (
+            b"M: DO; DECLARE S (*) STRUCTURE (X BYTE, (Y, Z) (3) WORD) DATA (1, @('X', 0)); END;",
+            Fine,
+        ),
+        (
+            b"M: DO; DECLARE P POINTER, Q ADDRESS AT (@P), R BASED Q BYTE; END;",
+            Fine,
+        ),
+        (
+            b"M: DO; DECLARE F LITERALLY 'X', G LITERALLY ''; END;",
+            Fine,
+        ),
+        (
+            b"M: DO; DECLARE\nBYTE LITERALLY 'X'; END;",
+            refused(Number::E201, 2),
+        ),
+        (
+            b"M: DO; DECLARE A BYTE EXTERNAL\nAT (1); END;",
+            refused(Number::E201, 2),
+        ),
+        (
+            b"M: DO; DECLARE A BYTE INITIAL (1)\nPUBLIC; END;",
+            refused(Number::E201, 2),
+        ),
+        (b"M: DO; DECLARE A (3\nBYTE; END;", refused(Number::E201, 2)),
+        (b"M: DO; DECLARE A INTEGER; END;", refused(Number::E201, 1)),
+        (b"M: DO; DECLARE (A) BYTE; END;", Fine),
+        (b"M: DO; DECLARE () BYTE; END;", refused(Number::E201, 1)),
+        (
+            b"M: DO; DECLARE S STRUCTURE (X); END;",
+            refused(Number::E201, 1),
+        ),
+        (
+            b"M: DO; DECLARE A BYTE INITIAL (); END;",
+            refused(Number::E201, 1),
+        ),
+        (
+            b"M: DO; DECLARE A BYTE B BYTE; END;",
+            refused(Number::E201, 1),
+        ),
+    ];
+    check(&rt, rt.alloc(), &rows);
+}
+
+#[test]
+fn literals(rt: HostRuntime) {
+    let rows: [(&[u8], Outcome); 16] = [
+        (
+            b"M: DO; DECLARE A LITERALLY '; ; ; ; ; ; ; ; ; ; ; ; ; ; ; ;', B LITERALLY 'A A A A A A A A A A A A A A A A', C LITERALLY 'B B B B B B B B B B B B B B B B', D LITERALLY 'C C C C C C C C C C C C C C C C'; D END M;",
+            refused(Number::E205, 1),
+        ),
+        (
+            b"M: DO; DECLARE A LITERALLY '7', B LITERALLY 'A', C LITERALLY 'B', D LITERALLY 'C', E LITERALLY 'D', F LITERALLY 'E', G LITERALLY 'F', H LITERALLY 'G', I LITERALLY 'H'; X = H;\nX = I; END;",
+            refused(Number::E202, 2),
+        ),
+        (
+            b"M: DO; DECLARE FOREVER LITERALLY 'WHILE 1'; DO FOREVER; OUTPUT(300H) = 1; HALT; END; END M;",
+            Fine,
+        ),
+        (
+            b"M: DO; DECLARE X LITERALLY 'X'; X = 1; END M;",
+            refused(Number::E202, 1),
+        ),
+        (
+            b"M: DO; DECLARE X LITERALLY '#';\nEND M;",
+            refused(Number::E101, 1),
+        ),
+        (
+            b"M: DO; DECLARE X LITERALLY\n'/* x'; END M;",
+            refused(Number::E103, 2),
+        ),
+        (
+            b"M: DO; DECLARE X LITERALLY '12X'; END M;",
+            refused(Number::E104, 1),
+        ),
+        (
+            b"M: DO; DECLARE X LITERALLY 'A2345678901234567890123456789012'; END M;",
+            refused(Number::E105, 1),
+        ),
+        (
+            b"M: DO; DECLARE X LITERALLY 'it''s'; END M;",
+            refused(Number::E204, 1),
+        ),
+        (
+            b"M: DO; DECLARE X LITERALLY 'a''#'''; END M;",
+            refused(Number::E101, 1),
+        ),
+        (
+            b"M: DO; DECLARE M LITERALLY 'N'; END\nM;",
+            refused(Number::E201, 2),
+        ),
+        (
+            b"M: DO; DO; DECLARE X LITERALLY 'Y = 1;'; X END; X: ; END;",
+            Fine,
+        ),
+        (
+            b"M: DO; P: PROCEDURE; DECLARE X LITERALLY '7'; END P; X = 1; END;",
+            Fine,
+        ),
+        (
+            b"M: DO; DECLARE X LITERALLY '7';\nX = 1; END;",
+            refused(Number::E201, 2),
+        ),
+        (
+            b"M: DO; DECLARE T LITERALLY 'A =\n1'; END;",
+            refused(Number::E102, 1),
+        ),
+        (
+            b"M: DO; DECLARE L LITERALLY 'LITERALLY', X L '; ;';\nX END;",
+            Fine,
+        ),
+    ];
+    check(&rt, rt.alloc(), &rows);
+}
+
+/// A text with a part so many times.
+fn repeated(
+    alloc: Global,
+    before: &[u8],
+    part: &[u8],
+    count: usize,
+    middle: &[u8],
+    closing: &[u8],
+    after: &[u8],
+) -> Result<Vec<u8>, Fault> {
+    let mut text = Vec::from_slice(alloc, before)?;
+    for _ in 0..count {
+        text.extend_from_slice(part)?;
+    }
+    text.extend_from_slice(middle)?;
+    for _ in 0..count {
+        text.extend_from_slice(closing)?;
+    }
+    text.extend_from_slice(after)?;
+    Ok(text)
+}
+
+#[test]
+fn levels(rt: HostRuntime) -> Result<(), Fault> {
+    let alloc = rt.alloc();
+    let forms: [(&[u8], &[u8], &[u8], &[u8], &[u8]); 13] = [
+        (b"M: DO;\nA = ", b"(", b"1", b")", b"; END;"),
+        (b"M: DO;\nA = ", b"NOT ", b"1", b"", b"; END;"),
+        (b"M: DO;\nA = ", b"B(", b"1", b")", b"; END;"),
+        (b"M: DO;\nA = ", b"B.C(", b"1", b")", b"; END;"),
+        (b"M: DO;\nA = ", b"(B := ", b"1", b")", b"; END;"),
+        (b"M: DO;\nCALL ", b"B(", b"1", b")", b"; END;"),
+        (b"M: DO;\n", b"DO; ", b";", b"END; ", b"END;"),
+        (b"M: DO;\n", b"DO WHILE 1; ", b";", b"END; ", b"END;"),
+        (b"M: DO;\n", b"DO CASE 1; ", b";", b"END; ", b"END;"),
+        (b"M: DO;\n", b"DO I = 1 TO 2; ", b";", b"END; ", b"END;"),
+        (b"M: DO;\n", b"IF 1 THEN ; ELSE ", b";", b"", b"END;"),
+        (b"M: DO;\n", b"IF 1 THEN ", b";", b"", b"END;"),
+        (b"M: DO;\n", b"P: PROCEDURE; ", b";", b"END; ", b"END;"),
+    ];
+    for (before, part, middle, closing, after) in forms {
+        assert_eq!(&rt;
+            parsed(
+                alloc,
+                &repeated(alloc, before, part, 63, middle, closing, after)?
+            ),
+            Fine,
+            "in {part:?}"
+        );
+        assert_eq!(&rt;
+            parsed(
+                alloc,
+                &repeated(alloc, before, part, 64, middle, closing, after)?
+            ),
+            refused(Number::E203, 2),
+            "in {part:?}"
+        );
+    }
+    Ok(())
+}
+
+/// Groups, arms and an expression, 64 levels in all, and one sign more.
+#[test]
+fn levels_of_all_kinds(rt: HostRuntime) -> Result<(), Fault> {
+    let alloc = rt.alloc();
+    let opening: &[u8] =
+        b"DO; DO WHILE 1; DO CASE 1; DO I = 1 TO 2; IF 1 THEN ; ELSE IF 1 THEN DO; ";
+    let closing: &[u8] = b"END; END; END; END; END; ";
+    let rows: [(&[u8], Outcome); 2] = [(b"1", Fine), (b"-1", refused(Number::E203, 2))];
+    for (innermost, wanted) in rows {
+        let statement = repeated(
+            alloc,
+            b"A = ",
+            b"(B := @C.D(NOT -E(",
+            7,
+            innermost,
+            b")))",
+            b";",
+        )?;
+        let text = repeated(
+            alloc,
+            b"M: DO;\n",
+            opening,
+            4,
+            statement.as_slice(),
+            closing,
+            b"END;",
+        )?;
+        assert_eq!(&rt; parsed(alloc, &text), wanted, "in {innermost:?}");
+    }
+    Ok(())
+}
+
+/// ELSE stands at the nearest IF.
+#[test]
+fn nearest_if(rt: HostRuntime) -> Result<(), Fault> {
+    let alloc = rt.alloc();
+    let module = parse(
+        alloc,
+        scan(
+            alloc,
+            b"M: DO; DECLARE B BYTE; IF B THEN IF B THEN B = 1; ELSE B = 2; END M;",
+        )?,
+    )?;
+    let inner = match module.block.statements.as_slice() {
+        [only] => match &only.basic {
+            Basic::If(_, _, arm) => matches!(&arm.basic, Basic::IfElse(..)),
+            _ => false,
+        },
+        _ => false,
+    };
+    assert_eq!(&rt; inner, true);
+    Ok(())
+}
+
+/// As many tokens as a module may have, and one more.
+#[test]
+fn many_tokens(rt: HostRuntime) -> Result<(), Fault> {
+    let alloc = rt.alloc();
+    let full = repeated(alloc, b"M: DO;", b";", 65_535 - 6, b"", b"", b"\nEND;")?;
+    assert_eq!(&rt; parsed(alloc, &full), Fine);
+    let over = repeated(alloc, b"M: DO;", b";", 65_535 - 5, b"", b"", b"\nEND;")?;
+    assert_eq!(&rt; parsed(alloc, &over), refused(Number::E205, 2));
+    Ok(())
+}
+
+/// Each proper beginning of a text is refused at its end.
+#[test]
+fn beginnings(rt: HostRuntime) {
+    let alloc = rt.alloc();
+    let text: &[u8] = b"M: DO; DECLARE B BYTE; B = 255; OUTPUT(300H) = B + 1; END M;";
+    for length in 0..text.len() {
+        assert_eq!(&rt;
+            parsed(alloc, &text[..length]),
+            refused(Number::E201, 1),
+            "at {length}"
+        );
+    }
+    assert_eq!(&rt; parsed(alloc, text), Fine);
+}
