@@ -15,10 +15,11 @@ ghost use Rattle.board.specs.ShownBoard.{Shows, world_of};
 
 use crate::attached::Attached;
 use crate::chips;
-use cpu8086::{Cpu, Turn};
+use arrayvec::ArrayVec;
+use cpu8086::{Cpu, DecodeCache, Kind, Turn};
 use ppi_kbd::Ports;
 use std::alloc::Global;
-use word86::{Event, Fault, Number, PowerOn};
+use word86::{Event, Fault, Label, Number, PowerOn};
 
 /// The board: an 8086, memory, and the chips behind its ports (IBM PC Technical Reference).
 ///
@@ -28,6 +29,8 @@ use word86::{Event, Fault, Number, PowerOn};
 pub struct Board {
     pub(crate) cpu: Cpu,
     pub(crate) attached: Attached,
+    /// Instructions that were met before: it changes no turn.
+    pub(crate) cache: DecodeCache,
 }
 
 /// 8, 16, 32 or 64 KiB.
@@ -58,6 +61,7 @@ impl Board {
         }
         let rom_start = 1_048_576 - rom.len() as u32;
         let rom = rom.to_vec(alloc)?;
+        let cache = DecodeCache::new(alloc)?;
         let (ram, screen) = power_on.into_parts();
         Ok(Board {
             cpu: Cpu::reset(),
@@ -68,6 +72,7 @@ impl Board {
                 rom_start,
                 ports: Ports::reset(),
             },
+            cache,
         })
     }
 
@@ -80,7 +85,19 @@ impl Board {
         ensures labels { (b : State (World ChipState)) → Shows self.old b → map event_label events.now ++ result.labels.items ≡ (turn (board_meaning board_chips) (befall board_chips) events.now b).1 }
         ensures kind { (b : State (World ChipState)) → Shows self.old b → result.kind ≡ turn_kind (board_meaning board_chips) (befall board_chips) events.now b }
     {
-        befall_all(&mut self.attached, events);
-        self.cpu.turn(&mut self.attached)
+        let mut labels = ArrayVec::new();
+        let kind = self.turn_into(events, &mut labels);
+        Turn { labels, kind }
+    }
+
+    /// The same turn, with the processor's labels left in `labels`, in place of those that were there.
+    pub(crate) fn turn_into(&mut self, events: &[Event], labels: &mut ArrayVec<Label, 4>) -> Kind
+        ensures state { (b : State (World ChipState)) → Shows self.old b → Shows self.new (turn (board_meaning board_chips) (befall board_chips) events.now b).0 }
+        ensures labels { (b : State (World ChipState)) → Shows self.old b → map event_label events.now ++ labels.new.items ≡ (turn (board_meaning board_chips) (befall board_chips) events.now b).1 }
+        ensures kind { (b : State (World ChipState)) → Shows self.old b → result ≡ turn_kind (board_meaning board_chips) (befall board_chips) events.now b }
+    {
+        let attached = &mut self.attached;
+        befall_all(attached, events);
+        self.cpu.turn_into(attached, &mut self.cache, labels)
     }
 }

@@ -8,7 +8,7 @@ ghost use Rattle.word86.specs.declared.fault.Fault.TheVariants.{At};
 ghost use Rattle.word86.specs.declared.number.Number.TheVariants.{E704};
 ghost use Rattle.board.specs.Text.{lines, end_line, opcode_line, closing, hex_digit};
 
-use cpu8086::{Kind, Turn};
+use cpu8086::Kind;
 use itoa::Buffer;
 use listing_map::trace_line;
 use word86::{Event, Fault, Label, Number, Sink, put_all};
@@ -105,12 +105,17 @@ fn put_closing<S: Sink>(kind: Kind, sink: &mut S) -> Result<(), Fault>
 }
 
 /// Writes the lines of a turn: those of the events that came, and then its own.
-pub(crate) fn put_turn<S: Sink>(events: &[Event], turn: &Turn, sink: &mut S) -> Result<(), Fault>
-    ensures text { Writes (S.taken sink.old) (S.taken sink.new) (S.failures sink.old) (S.failures sink.new) (lines (map event_label events.now) ++ lines turn.now.labels.items ++ closing turn.now.kind) result }
+pub(crate) fn put_turn<S: Sink>(
+    events: &[Event],
+    labels: &[Label],
+    kind: Kind,
+    sink: &mut S,
+) -> Result<(), Fault>
+    ensures text { Writes (S.taken sink.old) (S.taken sink.new) (S.failures sink.old) (S.failures sink.new) (lines (map event_label events.now) ++ lines labels.now ++ closing kind) result }
     ensures fault { IfErr result (λ e. e ≡ At 0 1 E704) }
 {
-    match put_both(events, turn.labels.as_slice(), sink) {
-        Ok(()) => put_closing(turn.kind, sink),
+    match put_both(events, labels, sink) {
+        Ok(()) => put_closing(kind, sink),
         Err(fault) => Err(fault),
     }
 }

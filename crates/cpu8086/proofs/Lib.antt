@@ -1,2 +1,3 @@
+pub mod Computing
 pub mod Fetching
 pub mod Windows

@@ -1,41 +1,118 @@
 //! Instructions that compute.
 
-ghost use Rattle.std.specs.Prelude.{◌≡◌, ◌+◌, ◌*◌, ◌<◌, ◌≤◌};
+ghost use Rattle.std.specs.Prelude.{◌≡◌, not, ◌+◌, ◌*◌, ◌<◌, ◌≤◌};
 ghost use Rattle.i86_table.specs.Arithmetic.{size_of};
 ghost use Rattle.arrayvec.specs.ArrayVec.{array_vec_len};
 ghost use Rattle.cpu8086.specs.Machine.{machine};
-ghost use Rattle.cpu8086.specs.Arithmetic.{computed, changed_in_place, tested_place, shift_count, shifted_place, multiplied_byte, multiplied_word, divided_byte, divided_word};
+ghost use Rattle.cpu8086.specs.Operands.{located, in_memory};
+ghost use Rattle.cpu8086.specs.Arithmetic.{computed, computed_at, register_computed, register_changed, is_compare, changed_in_place, tested_place, shift_count, shifted_place, multiplied_byte, multiplied_word, divided_byte, divided_word};
 
 use crate::bus::Bus;
 use crate::control::interrupt;
 use crate::memory::Labels;
-use crate::operand::{Operand, locate, read_mask, read_source};
+use crate::operand::{Operand, locate, locate_memory, read_mask, read_source};
 use i86_table::{
-    AluOperation, Count, Operands, Place, Register8, Register16, Regs, ShiftOperation, Signedness,
-    TestMask, UnaryOperation, change, divide, multiply, operate, shift, test,
+    AluOperation, Count, Memory, Operands, Place, Register8, Register16, Regs, ShiftOperation,
+    Signedness, TestMask, UnaryOperation, change, divide, multiply, operate, shift, test,
 };
 use word86::Width;
 
+/// Whether an operation stores its result: CMP does not.
+#[inline(always)]
+fn is_stored(operation: AluOperation) -> bool
+    ensures { result ≡ not (is_compare operation) }
+{
+    !matches!(operation, AluOperation::Cmp)
+}
+
 /// ADD, OR, ADC, SBB, AND, SUB, XOR; CMP stores nothing.
-#[tactic(auto, unfolding(crate::specs::Arithmetic::computed))]
+#[tactic(auto, unfolding(crate::specs::Arithmetic::computed, crate::specs::Arithmetic::computed_at))]
 #[inline(always)]
 pub(crate) fn compute<R: Operand, B: Bus>(
     registers: &mut Regs,
     bus: &mut B,
     labels: &mut Labels,
     operation: AluOperation,
-    operands: Operands<R, R::Number>,
+    operands: &Operands<R, R::Number>,
 )
     requires { array_vec_len labels.old < 4 }
     ensures { machine registers.new (B.world bus.new) labels.new.items
-        ≡ computed B.meaning R.bank operation operands (machine registers.old (B.world bus.old) labels.old.items) }
+        ≡ computed B.meaning R.bank operation operands.now (machine registers.old (B.world bus.old) labels.old.items) }
 {
-    let target = locate(registers, operands.target());
-    let first = target.read(registers, bus);
     let second = read_source(registers, bus, operands);
+    match operands {
+        Operands::FromRegister(place, _) | Operands::Immediate(place, _) => {
+            compute_place(registers, bus, labels, operation, place, second);
+        }
+        Operands::FromMemory(register, _) => {
+            let place = Place::Register(*register);
+            compute_place(registers, bus, labels, operation, &place, second);
+        }
+    }
+}
+
+#[tactic(auto, using(crate::proofs::Computing::computed_register))]
+#[inline(always)]
+fn compute_place<R: Operand, B: Bus>(
+    registers: &mut Regs,
+    bus: &mut B,
+    labels: &mut Labels,
+    operation: AluOperation,
+    place: &Place<R>,
+    second: u16,
+)
+    requires fits { second < size_of R.bank.width }
+    requires room { array_vec_len labels.old < 4 }
+    ensures { machine registers.new (B.world bus.new) labels.new.items
+        ≡ computed_at B.meaning R.bank operation (located registers.old place.now) second (machine registers.old (B.world bus.old) labels.old.items) }
+{
+    match place {
+        Place::Register(register) => compute_register(registers, operation, *register, second),
+        Place::Memory(memory) => {
+            compute_memory::<R, B>(registers, bus, labels, operation, memory, second);
+        }
+    }
+}
+
+#[tactic(auto, unfolding(crate::specs::Arithmetic::register_computed))]
+#[inline(never)]
+fn compute_register<R: Operand>(
+    registers: &mut Regs,
+    operation: AluOperation,
+    register: R,
+    second: u16,
+)
+    requires { second < size_of R.bank.width }
+    ensures { registers.new ≡ register_computed R.bank operation register second registers.old }
+{
+    let first = register.value(registers);
     let outcome = operate(operation, R::width(), first, second, registers.flags);
     registers.flags = outcome.flags;
-    if !matches!(operation, AluOperation::Cmp) {
+    if is_stored(operation) {
+        register.set(registers, outcome.value);
+    }
+}
+
+#[tactic(auto, unfolding(crate::specs::Arithmetic::computed_at))]
+#[inline(never)]
+fn compute_memory<R: Operand, B: Bus>(
+    registers: &mut Regs,
+    bus: &mut B,
+    labels: &mut Labels,
+    operation: AluOperation,
+    memory: &Memory,
+    second: u16,
+)
+    requires fits { second < size_of R.bank.width }
+    requires room { array_vec_len labels.old < 4 }
+    ensures { machine registers.new (B.world bus.new) labels.new.items
+        ≡ computed_at B.meaning R.bank operation (in_memory registers.old memory.now) second (machine registers.old (B.world bus.old) labels.old.items) }
+{
+    let target = locate_memory::<R>(registers, memory);
+    let first = target.read(registers, bus);
+    let outcome = operate(operation, R::width(), first, second, registers.flags);
+    registers.flags = outcome.flags;
+    if is_stored(operation) {
         target.write(registers, bus, labels, outcome.value);
     }
 }
@@ -48,11 +125,40 @@ pub(crate) fn change_in_place<R: Operand, B: Bus>(
     bus: &mut B,
     labels: &mut Labels,
     operation: UnaryOperation,
-    place: Place<R>,
+    place: &Place<R>,
 )
     requires { array_vec_len labels.old < 4 }
     ensures { machine registers.new (B.world bus.new) labels.new.items
-        ≡ changed_in_place B.meaning R.bank operation place (machine registers.old (B.world bus.old) labels.old.items) }
+        ≡ changed_in_place B.meaning R.bank operation place.now (machine registers.old (B.world bus.old) labels.old.items) }
+{
+    match place {
+        Place::Register(register) => change_register(registers, operation, *register),
+        Place::Memory(_) => change_located(registers, bus, labels, operation, place),
+    }
+}
+
+#[inline(never)]
+fn change_register<R: Operand>(registers: &mut Regs, operation: UnaryOperation, register: R)
+    ensures { registers.new ≡ register_changed R.bank operation register registers.old }
+{
+    let value = register.value(registers);
+    let outcome = change(operation, R::width(), value, registers.flags);
+    registers.flags = outcome.flags;
+    register.set(registers, outcome.value);
+}
+
+#[tactic(auto, unfolding(crate::specs::Arithmetic::changed_in_place))]
+#[inline(never)]
+fn change_located<R: Operand, B: Bus>(
+    registers: &mut Regs,
+    bus: &mut B,
+    labels: &mut Labels,
+    operation: UnaryOperation,
+    place: &Place<R>,
+)
+    requires { array_vec_len labels.old < 4 }
+    ensures { machine registers.new (B.world bus.new) labels.new.items
+        ≡ changed_in_place B.meaning R.bank operation place.now (machine registers.old (B.world bus.old) labels.old.items) }
 {
     let target = locate(registers, place);
     let value = target.read(registers, bus);
@@ -63,14 +169,14 @@ pub(crate) fn change_in_place<R: Operand, B: Bus>(
 
 /// TEST: the flags alone.
 #[tactic(auto, unfolding(crate::specs::Arithmetic::tested_place))]
-#[inline(always)]
+#[inline(never)]
 pub(crate) fn test_place<R: Operand, B: Bus>(
     registers: &mut Regs,
     bus: &B,
-    place: Place<R>,
-    mask: TestMask<R, R::Number>,
+    place: &Place<R>,
+    mask: &TestMask<R, R::Number>,
 )
-    ensures { registers.new ≡ tested_place B.meaning R.bank place mask (B.world bus.now) registers.old }
+    ensures { registers.new ≡ tested_place B.meaning R.bank place.now mask.now (B.world bus.now) registers.old }
 {
     let first = locate(registers, place).read(registers, bus);
     let second = read_mask(registers, mask);
@@ -89,18 +195,18 @@ fn shift_count(registers: &Regs, count: Count) -> u8
 
 /// ROL, ROR, SHL, SHR, SAR.
 #[tactic(auto, unfolding(crate::specs::Arithmetic::shifted_place))]
-#[inline(always)]
+#[inline(never)]
 pub(crate) fn shift_place<R: Operand, B: Bus>(
     registers: &mut Regs,
     bus: &mut B,
     labels: &mut Labels,
     operation: ShiftOperation,
-    place: Place<R>,
+    place: &Place<R>,
     count: Count,
 )
     requires { array_vec_len labels.old < 4 }
     ensures { machine registers.new (B.world bus.new) labels.new.items
-        ≡ shifted_place B.meaning R.bank operation place count (machine registers.old (B.world bus.old) labels.old.items) }
+        ≡ shifted_place B.meaning R.bank operation place.now count (machine registers.old (B.world bus.old) labels.old.items) }
 {
     let target = locate(registers, place);
     let value = target.read(registers, bus);
@@ -112,14 +218,14 @@ pub(crate) fn shift_place<R: Operand, B: Bus>(
 
 /// MUL, IMUL of bytes.
 #[tactic(auto, unfolding(crate::specs::Arithmetic::multiplied_byte))]
-#[inline(always)]
+#[inline(never)]
 pub(crate) fn multiply_byte<B: Bus>(
     registers: &mut Regs,
     bus: &B,
     signedness: Signedness,
-    place: Place<Register8>,
+    place: &Place<Register8>,
 )
-    ensures { registers.new ≡ multiplied_byte B.meaning signedness place (B.world bus.now) registers.old }
+    ensures { registers.new ≡ multiplied_byte B.meaning signedness place.now (B.world bus.now) registers.old }
 {
     let factor = locate(registers, place).read(registers, bus);
     let accumulator = u16::from(registers.byte(Register8::Al));
@@ -136,14 +242,14 @@ pub(crate) fn multiply_byte<B: Bus>(
 
 /// MUL, IMUL of words.
 #[tactic(auto, unfolding(crate::specs::Arithmetic::multiplied_word))]
-#[inline(always)]
+#[inline(never)]
 pub(crate) fn multiply_word<B: Bus>(
     registers: &mut Regs,
     bus: &B,
     signedness: Signedness,
-    place: Place<Register16>,
+    place: &Place<Register16>,
 )
-    ensures { registers.new ≡ multiplied_word B.meaning signedness place (B.world bus.now) registers.old }
+    ensures { registers.new ≡ multiplied_word B.meaning signedness place.now (B.world bus.now) registers.old }
 {
     let factor = locate(registers, place).read(registers, bus);
     let product = multiply(
@@ -160,17 +266,17 @@ pub(crate) fn multiply_word<B: Bus>(
 
 /// DIV, IDIV of bytes: the fault enters vector 0.
 #[tactic(auto, unfolding(crate::specs::Arithmetic::divided_byte))]
-#[inline(always)]
+#[inline(never)]
 pub(crate) fn divide_byte<B: Bus>(
     registers: &mut Regs,
     bus: &mut B,
     labels: &mut Labels,
     signedness: Signedness,
-    place: Place<Register8>,
+    place: &Place<Register8>,
 )
     requires { array_vec_len labels.old ≤ 1 }
     ensures { machine registers.new (B.world bus.new) labels.new.items
-        ≡ divided_byte B.meaning signedness place (machine registers.old (B.world bus.old) labels.old.items) }
+        ≡ divided_byte B.meaning signedness place.now (machine registers.old (B.world bus.old) labels.old.items) }
 {
     let divisor = locate(registers, place).read(registers, bus);
     let dividend = u32::from(registers.ax);
@@ -191,17 +297,17 @@ fn two_words(high: u16, low: u16) -> u32
 
 /// DIV, IDIV of words: the fault enters vector 0.
 #[tactic(auto, unfolding(crate::specs::Arithmetic::divided_word))]
-#[inline(always)]
+#[inline(never)]
 pub(crate) fn divide_word<B: Bus>(
     registers: &mut Regs,
     bus: &mut B,
     labels: &mut Labels,
     signedness: Signedness,
-    place: Place<Register16>,
+    place: &Place<Register16>,
 )
     requires { array_vec_len labels.old ≤ 1 }
     ensures { machine registers.new (B.world bus.new) labels.new.items
-        ≡ divided_word B.meaning signedness place (machine registers.old (B.world bus.old) labels.old.items) }
+        ≡ divided_word B.meaning signedness place.now (machine registers.old (B.world bus.old) labels.old.items) }
 {
     let divisor = locate(registers, place).read(registers, bus);
     let dividend = two_words(registers.dx, registers.ax);

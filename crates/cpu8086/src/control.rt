@@ -1,6 +1,7 @@
 //! Instructions that change where the processor goes on.
 
 ghost use Rattle.std.specs.Prelude.{◌≡◌, ◌<◌, ◌≤◌};
+ghost use Rattle.i86_table.specs.Conditions.{holds};
 ghost use Rattle.arrayvec.specs.ArrayVec.{array_vec_len};
 ghost use Rattle.cpu8086.specs.Machine.{machine};
 ghost use Rattle.cpu8086.specs.Control.{flag_word, closed, jumped_if, looped, called_at, called, called_to, returned, returned_dropping, flags_popped, returned_from_interrupt, interrupted};
@@ -9,7 +10,7 @@ use crate::bus::Bus;
 use crate::memory::{Labels, load_word, pop, push};
 use crate::operand::locate;
 use bitflags::Flags as _;
-use i86_table::{Flags, Place, Register16, Regs, sign_extended};
+use i86_table::{Condition, Flags, Place, Register16, Regs, sign_extended};
 
 /// The flags as they are pushed: a bit without a name is 0.
 #[inline(always)]
@@ -36,8 +37,16 @@ pub(crate) fn jump_if(registers: &mut Regs, taken: bool, distance: u8)
     }
 }
 
+/// A jump on a condition.
+#[inline(never)]
+pub(crate) fn jump_on(registers: &mut Regs, condition: Condition, distance: u8)
+    ensures { registers.new ≡ jumped_if (holds condition registers.old.flags) distance registers.old }
+{
+    jump_if(registers, condition.holds(registers.flags), distance);
+}
+
 /// LOOP.
-#[inline(always)]
+#[inline(never)]
 pub(crate) fn count_and_jump(registers: &mut Regs, distance: u8)
     ensures { registers.new ≡ looped distance registers.old }
 {
@@ -58,7 +67,7 @@ fn call_at<B: Bus>(registers: &mut Regs, bus: &mut B, labels: &mut Labels, ip: u
 
 /// CALL by a distance.
 #[tactic(auto, unfolding(crate::specs::Control::called))]
-#[inline(always)]
+#[inline(never)]
 pub(crate) fn call<B: Bus>(registers: &mut Regs, bus: &mut B, labels: &mut Labels, distance: u16)
     requires { array_vec_len labels.old < 4 }
     ensures { machine registers.new (B.world bus.new) labels.new.items
@@ -70,16 +79,16 @@ pub(crate) fn call<B: Bus>(registers: &mut Regs, bus: &mut B, labels: &mut Label
 
 /// CALL of an offset in a register or in memory, which is taken before the push.
 #[tactic(auto, unfolding(crate::specs::Control::called_to))]
-#[inline(always)]
+#[inline(never)]
 pub(crate) fn call_to<B: Bus>(
     registers: &mut Regs,
     bus: &mut B,
     labels: &mut Labels,
-    place: Place<Register16>,
+    place: &Place<Register16>,
 )
     requires { array_vec_len labels.old < 4 }
     ensures { machine registers.new (B.world bus.new) labels.new.items
-        ≡ called_to B.meaning place (machine registers.old (B.world bus.old) labels.old.items) }
+        ≡ called_to B.meaning place.now (machine registers.old (B.world bus.old) labels.old.items) }
 {
     let ip = locate(registers, place).read(registers, bus);
     call_at(registers, bus, labels, ip);
@@ -87,7 +96,7 @@ pub(crate) fn call_to<B: Bus>(
 
 /// RET.
 #[tactic(auto, unfolding(crate::specs::Control::returned))]
-#[inline(always)]
+#[inline(never)]
 pub(crate) fn return_near<B: Bus>(registers: &mut Regs, bus: &B)
     ensures { registers.new ≡ returned B.meaning (B.world bus.now) registers.old }
 {
@@ -96,7 +105,7 @@ pub(crate) fn return_near<B: Bus>(registers: &mut Regs, bus: &B)
 
 /// RET that drops so many bytes more.
 #[tactic(auto, unfolding(crate::specs::Control::returned_dropping))]
-#[inline(always)]
+#[inline(never)]
 pub(crate) fn return_dropping<B: Bus>(registers: &mut Regs, bus: &B, count: u16)
     ensures { registers.new ≡ returned_dropping B.meaning count (B.world bus.now) registers.old }
 {
@@ -106,7 +115,7 @@ pub(crate) fn return_dropping<B: Bus>(registers: &mut Regs, bus: &B, count: u16)
 
 /// POPF: a bit without a name is dropped.
 #[tactic(auto, unfolding(crate::specs::Control::flags_popped))]
-#[inline(always)]
+#[inline(never)]
 pub(crate) fn pop_flags<B: Bus>(registers: &mut Regs, bus: &B)
     ensures { registers.new ≡ flags_popped B.meaning (B.world bus.now) registers.old }
 {
@@ -116,7 +125,7 @@ pub(crate) fn pop_flags<B: Bus>(registers: &mut Regs, bus: &B)
 
 /// IRET.
 #[tactic(auto, unfolding(crate::specs::Control::returned_from_interrupt))]
-#[inline(always)]
+#[inline(never)]
 pub(crate) fn return_from_interrupt<B: Bus>(registers: &mut Regs, bus: &B)
     ensures { registers.new ≡ returned_from_interrupt B.meaning (B.world bus.now) registers.old }
 {
@@ -127,7 +136,7 @@ pub(crate) fn return_from_interrupt<B: Bus>(registers: &mut Regs, bus: &B)
 
 /// Enters the interrupt of a number.
 #[tactic(auto, unfolding(crate::specs::Control::interrupted))]
-#[inline(always)]
+#[inline(never)]
 pub(crate) fn interrupt<B: Bus>(registers: &mut Regs, bus: &mut B, labels: &mut Labels, number: u8)
     requires { array_vec_len labels.old ≤ 1 }
     ensures { machine registers.new (B.world bus.new) labels.new.items

@@ -1,6 +1,7 @@
 //! The table of effects.
 //!
-//! The functions of a turn ask to be inlined, since a call passes operands and labels through memory.
+//! An instruction is lent, and each kind of it has a function of its own: what a turn does not need is not copied, and the
+//! table is one jump.
 
 ghost use Rattle.std.specs.Prelude.{◌≡◌, ◌≤◌};
 ghost use Rattle.arrayvec.specs.ArrayVec.{array_vec_len};
@@ -14,7 +15,7 @@ use crate::arithmetic::{
 };
 use crate::bus::Bus;
 use crate::control::{
-    call, call_to, count_and_jump, flag_word, jump_if, pop_flags, return_dropping,
+    call, call_to, count_and_jump, flag_word, jump_if, jump_on, pop_flags, return_dropping,
     return_from_interrupt, return_near,
 };
 use crate::memory::{Labels, push};
@@ -41,90 +42,94 @@ pub(crate) fn execute<B: Bus>(
     registers: &mut Regs,
     bus: &mut B,
     labels: &mut Labels,
-    instruction: Instr,
+    instruction: &Instr,
     start: u16,
 )
     requires { array_vec_len labels.old ≤ 1 }
     ensures { machine registers.new (B.world bus.new) labels.new.items
-        ≡ effect B.meaning instruction start (machine registers.old (B.world bus.old) labels.old.items) }
+        ≡ effect B.meaning instruction.now start (machine registers.old (B.world bus.old) labels.old.items) }
 {
     match instruction {
         Instr::Nop | Instr::Halt => {}
-        Instr::AluByte(operation, operands) => compute(registers, bus, labels, operation, operands),
-        Instr::AluWord(operation, operands) => compute(registers, bus, labels, operation, operands),
+        Instr::AluByte(operation, operands) => compute(
+            registers, bus, labels, *operation, operands,
+        ),
+        Instr::AluWord(operation, operands) => compute(
+            registers, bus, labels, *operation, operands,
+        ),
         Instr::UnaryByte(operation, place) => {
-            change_in_place(registers, bus, labels, operation, place);
+            change_in_place(registers, bus, labels, *operation, place);
         }
         Instr::UnaryWord(operation, place) => {
-            change_in_place(registers, bus, labels, operation, place);
+            change_in_place(registers, bus, labels, *operation, place);
         }
         Instr::TestByte(place, mask) => test_place(registers, bus, place, mask),
         Instr::TestWord(place, mask) => test_place(registers, bus, place, mask),
         Instr::ShiftByte(operation, place, count) => {
-            shift_place(registers, bus, labels, operation, place, count);
+            shift_place(registers, bus, labels, *operation, place, *count);
         }
         Instr::ShiftWord(operation, place, count) => {
-            shift_place(registers, bus, labels, operation, place, count);
+            shift_place(registers, bus, labels, *operation, place, *count);
         }
-        Instr::MultiplyByte(signedness, place) => multiply_byte(registers, bus, signedness, place),
-        Instr::MultiplyWord(signedness, place) => multiply_word(registers, bus, signedness, place),
+        Instr::MultiplyByte(signedness, place) => multiply_byte(registers, bus, *signedness, place),
+        Instr::MultiplyWord(signedness, place) => multiply_word(registers, bus, *signedness, place),
         Instr::DivideByte(signedness, place) => {
-            divide_byte(registers, bus, labels, signedness, place);
+            divide_byte(registers, bus, labels, *signedness, place);
         }
         Instr::DivideWord(signedness, place) => {
-            divide_word(registers, bus, labels, signedness, place);
+            divide_word(registers, bus, labels, *signedness, place);
         }
         Instr::ConvertByte => convert_byte(registers),
         Instr::ConvertWord => convert_word(registers),
         Instr::MoveByte(operands) => move_operands(registers, bus, labels, operands),
         Instr::MoveWord(operands) => move_operands(registers, bus, labels, operands),
         Instr::MoveFromSegment(place, segment) => {
-            move_from_segment(registers, bus, labels, place, segment);
+            move_from_segment(registers, bus, labels, place, *segment);
         }
-        Instr::MoveToSegment(segment, place) => move_to_segment(registers, bus, segment, place),
+        Instr::MoveToSegment(segment, place) => move_to_segment(registers, bus, *segment, place),
         Instr::LoadAddress(register, address) => {
-            registers.set_word(register, registers.offset(address));
+            registers.set_word(*register, registers.offset(*address));
         }
         Instr::ExchangeBytes(pair) => exchange_bytes(registers, pair),
         Instr::ExchangeWords(pair) => exchange_words(registers, pair),
         Instr::ExchangeMemoryByte(register, memory) => {
-            exchange_with(registers, bus, labels, register, memory);
+            exchange_with(registers, bus, labels, *register, memory);
         }
         Instr::ExchangeMemoryWord(register, memory) => {
-            exchange_with(registers, bus, labels, register, memory);
+            exchange_with(registers, bus, labels, *register, memory);
         }
         Instr::Push(place) => push_place(registers, bus, labels, place),
         Instr::Pop(place) => pop_to(registers, bus, labels, place),
-        Instr::PushSegment(segment) => push(registers, bus, labels, registers.segment(segment)),
-        Instr::PopSegment(segment) => pop_to_segment(registers, bus, segment),
+        Instr::PushSegment(segment) => push(registers, bus, labels, registers.segment(*segment)),
+        Instr::PopSegment(segment) => pop_to_segment(registers, bus, *segment),
         Instr::PushFlags => push(registers, bus, labels, flag_word(registers.flags)),
         Instr::PopFlags => pop_flags(registers, bus),
         Instr::MoveString {
             width,
             source,
             repeat,
-        } => move_string(registers, bus, labels, width, source, repeat, start),
+        } => move_string(registers, bus, labels, *width, *source, *repeat, start),
         Instr::StoreString { width, repeat } => {
-            store_string(registers, bus, labels, width, repeat, start);
+            store_string(registers, bus, labels, *width, *repeat, start);
         }
-        Instr::In(width, port) => input(registers, bus, labels, width, port),
-        Instr::Out(width, port) => output(registers, bus, labels, width, port),
+        Instr::In(width, port) => input(registers, bus, labels, *width, *port),
+        Instr::Out(width, port) => output(registers, bus, labels, *width, *port),
         Instr::JumpIf(condition, distance) => {
-            jump_if(registers, condition.holds(registers.flags), distance);
+            jump_on(registers, *condition, *distance);
         }
-        Instr::Loop(distance) => count_and_jump(registers, distance),
-        Instr::JumpIfCxZero(distance) => jump_if(registers, registers.cx == 0, distance),
-        Instr::JumpShort(distance) => jump_if(registers, true, distance),
-        Instr::Jump(distance) => registers.ip = registers.ip.wrapping_add(distance),
+        Instr::Loop(distance) => count_and_jump(registers, *distance),
+        Instr::JumpIfCxZero(distance) => jump_if(registers, registers.cx == 0, *distance),
+        Instr::JumpShort(distance) => jump_if(registers, true, *distance),
+        Instr::Jump(distance) => registers.ip = registers.ip.wrapping_add(*distance),
         Instr::JumpTo(place) => registers.ip = locate(registers, place).read(registers, bus),
         Instr::JumpFar { offset, segment } => {
-            registers.ip = offset;
-            registers.cs = segment;
+            registers.ip = *offset;
+            registers.cs = *segment;
         }
-        Instr::Call(distance) => call(registers, bus, labels, distance),
+        Instr::Call(distance) => call(registers, bus, labels, *distance),
         Instr::CallTo(place) => call_to(registers, bus, labels, place),
         Instr::Return => return_near(registers, bus),
-        Instr::ReturnDropping(count) => return_dropping(registers, bus, count),
+        Instr::ReturnDropping(count) => return_dropping(registers, bus, *count),
         Instr::InterruptReturn => return_from_interrupt(registers, bus),
         Instr::ComplementCarry => {
             let carry = registers.flags.contains(Flags::CARRY);

@@ -93,7 +93,7 @@ pub(crate) fn store<B: Bus>(bus: &mut B, labels: &mut Labels, access: Store)
 
 /// Pushes a word: SP goes down first.
 #[tactic(auto, unfolding(crate::specs::Machine::pushed, crate::specs::Machine::stored_access))]
-#[inline(always)]
+#[inline(never)]
 pub(crate) fn push<B: Bus>(registers: &mut Regs, bus: &mut B, labels: &mut Labels, value: u16)
     requires { array_vec_len labels.old < 4 }
     ensures after { machine registers.new (B.world bus.new) labels.new.items

@@ -17,34 +17,39 @@ use word86::{Label, Width};
 
 /// MOV.
 #[tactic(auto, unfolding(crate::specs::Moves::moved))]
-#[inline(always)]
+#[inline(never)]
 pub(crate) fn move_operands<R: Operand, B: Bus>(
     registers: &mut Regs,
     bus: &mut B,
     labels: &mut Labels,
-    operands: Operands<R, R::Number>,
+    operands: &Operands<R, R::Number>,
 )
     requires { array_vec_len labels.old < 4 }
     ensures { machine registers.new (B.world bus.new) labels.new.items
-        ≡ moved B.meaning R.bank operands (machine registers.old (B.world bus.old) labels.old.items) }
+        ≡ moved B.meaning R.bank operands.now (machine registers.old (B.world bus.old) labels.old.items) }
 {
     let value = read_source(registers, bus, operands);
-    locate(registers, operands.target()).write(registers, bus, labels, value);
+    match operands {
+        Operands::FromRegister(place, _) | Operands::Immediate(place, _) => {
+            locate(registers, place).write(registers, bus, labels, value);
+        }
+        Operands::FromMemory(register, _) => register.set(registers, value),
+    }
 }
 
 /// XCHG of a register with memory.
 #[tactic(auto, unfolding(crate::specs::Moves::exchanged_with))]
-#[inline(always)]
+#[inline(never)]
 pub(crate) fn exchange_with<R: Operand, B: Bus>(
     registers: &mut Regs,
     bus: &mut B,
     labels: &mut Labels,
     register: R,
-    memory: Memory,
+    memory: &Memory,
 )
     requires { array_vec_len labels.old < 4 }
     ensures { machine registers.new (B.world bus.new) labels.new.items
-        ≡ exchanged_with B.meaning R.bank register memory (machine registers.old (B.world bus.old) labels.old.items) }
+        ≡ exchanged_with B.meaning R.bank register memory.now (machine registers.old (B.world bus.old) labels.old.items) }
 {
     let spot = locate_memory::<R>(registers, memory);
     let value = spot.read(registers, bus);
@@ -54,9 +59,9 @@ pub(crate) fn exchange_with<R: Operand, B: Bus>(
 }
 
 /// XCHG of two byte registers.
-#[inline(always)]
-pub(crate) fn exchange_bytes(registers: &mut Regs, pair: BytePair)
-    ensures { registers.new ≡ exchanged_bytes pair registers.old }
+#[inline(never)]
+pub(crate) fn exchange_bytes(registers: &mut Regs, pair: &BytePair)
+    ensures { registers.new ≡ exchanged_bytes pair.now registers.old }
 {
     let first = registers.byte(pair.first);
     let second = registers.byte(pair.second);
@@ -65,9 +70,9 @@ pub(crate) fn exchange_bytes(registers: &mut Regs, pair: BytePair)
 }
 
 /// XCHG of two word registers.
-#[inline(always)]
-pub(crate) fn exchange_words(registers: &mut Regs, pair: WordPair)
-    ensures { registers.new ≡ exchanged_words pair registers.old }
+#[inline(never)]
+pub(crate) fn exchange_words(registers: &mut Regs, pair: &WordPair)
+    ensures { registers.new ≡ exchanged_words pair.now registers.old }
 {
     let first = registers.word(pair.first);
     let second = registers.word(pair.second);
@@ -76,7 +81,7 @@ pub(crate) fn exchange_words(registers: &mut Regs, pair: WordPair)
 }
 
 /// CBW.
-#[inline(always)]
+#[inline(never)]
 pub(crate) fn convert_byte(registers: &mut Regs)
     ensures { registers.new ≡ byte_converted registers.old }
 {
@@ -84,7 +89,7 @@ pub(crate) fn convert_byte(registers: &mut Regs)
 }
 
 /// CWD.
-#[inline(always)]
+#[inline(never)]
 pub(crate) fn convert_word(registers: &mut Regs)
     ensures { registers.new ≡ word_converted registers.old }
 {
@@ -93,17 +98,17 @@ pub(crate) fn convert_word(registers: &mut Regs)
 
 /// MOV from a segment register.
 #[tactic(auto, unfolding(crate::specs::Moves::moved_from_segment))]
-#[inline(always)]
+#[inline(never)]
 pub(crate) fn move_from_segment<B: Bus>(
     registers: &mut Regs,
     bus: &mut B,
     labels: &mut Labels,
-    place: Place<Register16>,
+    place: &Place<Register16>,
     segment: Segment,
 )
     requires { array_vec_len labels.old < 4 }
     ensures { machine registers.new (B.world bus.new) labels.new.items
-        ≡ moved_from_segment B.meaning place segment (machine registers.old (B.world bus.old) labels.old.items) }
+        ≡ moved_from_segment B.meaning place.now segment (machine registers.old (B.world bus.old) labels.old.items) }
 {
     let value = registers.segment(segment);
     locate(registers, place).write(registers, bus, labels, value);
@@ -111,22 +116,22 @@ pub(crate) fn move_from_segment<B: Bus>(
 
 /// MOV to a segment register.
 #[tactic(auto, unfolding(crate::specs::Moves::moved_to_segment))]
-#[inline(always)]
+#[inline(never)]
 pub(crate) fn move_to_segment<B: Bus>(
     registers: &mut Regs,
     bus: &B,
     segment: LoadableSegment,
-    place: Place<Register16>,
+    place: &Place<Register16>,
 )
-    ensures { registers.new ≡ moved_to_segment B.meaning segment place (B.world bus.now) registers.old }
+    ensures { registers.new ≡ moved_to_segment B.meaning segment place.now (B.world bus.now) registers.old }
 {
     let value = locate(registers, place).read(registers, bus);
     registers.set_segment(segment, value);
 }
 
 #[inline(always)]
-fn pushed_value<B: Bus>(registers: &Regs, bus: &B, place: Place<Register16>) -> u16
-    ensures { result ≡ pushed_value B.meaning place (B.world bus.now) registers.now }
+fn pushed_value<B: Bus>(registers: &Regs, bus: &B, place: &Place<Register16>) -> u16
+    ensures { result ≡ pushed_value B.meaning place.now (B.world bus.now) registers.now }
 {
     match place {
         Place::Register(Register16::Sp) => registers.sp.wrapping_sub(2),
@@ -136,16 +141,16 @@ fn pushed_value<B: Bus>(registers: &Regs, bus: &B, place: Place<Register16>) -> 
 
 /// PUSH: of SP the decreased value is stored.
 #[tactic(auto, unfolding(crate::specs::Moves::pushed_place))]
-#[inline(always)]
+#[inline(never)]
 pub(crate) fn push_place<B: Bus>(
     registers: &mut Regs,
     bus: &mut B,
     labels: &mut Labels,
-    place: Place<Register16>,
+    place: &Place<Register16>,
 )
     requires { array_vec_len labels.old < 4 }
     ensures { machine registers.new (B.world bus.new) labels.new.items
-        ≡ pushed_place B.meaning place (machine registers.old (B.world bus.old) labels.old.items) }
+        ≡ pushed_place B.meaning place.now (machine registers.old (B.world bus.old) labels.old.items) }
 {
     let value = pushed_value(registers, bus, place);
     push(registers, bus, labels, value);
@@ -153,16 +158,16 @@ pub(crate) fn push_place<B: Bus>(
 
 /// POP.
 #[tactic(auto, unfolding(crate::specs::Moves::popped_to))]
-#[inline(always)]
+#[inline(never)]
 pub(crate) fn pop_to<B: Bus>(
     registers: &mut Regs,
     bus: &mut B,
     labels: &mut Labels,
-    place: Place<Register16>,
+    place: &Place<Register16>,
 )
     requires { array_vec_len labels.old < 4 }
     ensures { machine registers.new (B.world bus.new) labels.new.items
-        ≡ popped_to B.meaning place (machine registers.old (B.world bus.old) labels.old.items) }
+        ≡ popped_to B.meaning place.now (machine registers.old (B.world bus.old) labels.old.items) }
 {
     let value = pop(registers, bus);
     locate(registers, place).write(registers, bus, labels, value);
@@ -170,7 +175,7 @@ pub(crate) fn pop_to<B: Bus>(
 
 /// POP of a segment register.
 #[tactic(auto, unfolding(crate::specs::Moves::popped_to_segment))]
-#[inline(always)]
+#[inline(never)]
 pub(crate) fn pop_to_segment<B: Bus>(registers: &mut Regs, bus: &B, segment: LoadableSegment)
     ensures { registers.new ≡ popped_to_segment B.meaning segment (B.world bus.now) registers.old }
 {
@@ -236,7 +241,7 @@ fn out_label(width: Width, port: u16, value: u16) -> Label
 
 /// IN.
 #[tactic(auto, unfolding(crate::specs::Moves::read_in))]
-#[inline(always)]
+#[inline(never)]
 pub(crate) fn input<B: Bus>(
     registers: &mut Regs,
     bus: &mut B,
@@ -256,7 +261,7 @@ pub(crate) fn input<B: Bus>(
 
 /// OUT.
 #[tactic(auto, unfolding(crate::specs::Moves::written_out))]
-#[inline(always)]
+#[inline(never)]
 pub(crate) fn output<B: Bus>(
     registers: &Regs,
     bus: &mut B,

@@ -86,8 +86,8 @@ impl Operand for Register16 {
 }
 
 #[inline(always)]
-pub(crate) fn locate_memory<R: Operand>(registers: &Regs, memory: Memory) -> Spot<R>
-    ensures { result ≡ in_memory registers.now memory }
+pub(crate) fn locate_memory<R: Operand>(registers: &Regs, memory: &Memory) -> Spot<R>
+    ensures { result ≡ in_memory registers.now memory.now }
 {
     Spot::Memory {
         segment: registers.segment(memory.segment),
@@ -96,11 +96,11 @@ pub(crate) fn locate_memory<R: Operand>(registers: &Regs, memory: Memory) -> Spo
 }
 
 #[inline(always)]
-pub(crate) fn locate<R: Operand>(registers: &Regs, place: Place<R>) -> Spot<R>
-    ensures { result ≡ located registers.now place }
+pub(crate) fn locate<R: Operand>(registers: &Regs, place: &Place<R>) -> Spot<R>
+    ensures { result ≡ located registers.now place.now }
 {
     match place {
-        Place::Register(register) => Spot::Register(register),
+        Place::Register(register) => Spot::Register(*register),
         Place::Memory(memory) => locate_memory(registers, memory),
     }
 }
@@ -142,31 +142,37 @@ impl<R: Operand> Spot<R> {
     }
 }
 
+#[inline(never)]
+fn read_memory<R: Operand, B: Bus>(registers: &Regs, bus: &B, memory: &Memory) -> u16
+    ensures value { result ≡ held B.meaning R.bank registers.now (B.world bus.now) (in_memory registers.now memory.now) }
+    ensures fits { result < size_of R.bank.width }
+{
+    locate_memory::<R>(registers, memory).read(registers, bus)
+}
+
 #[inline(always)]
 pub(crate) fn read_source<R: Operand, B: Bus>(
     registers: &Regs,
     bus: &B,
-    operands: Operands<R, R::Number>,
+    operands: &Operands<R, R::Number>,
 ) -> u16
-    ensures value { result ≡ source B.meaning R.bank registers.now (B.world bus.now) operands }
+    ensures value { result ≡ source B.meaning R.bank registers.now (B.world bus.now) operands.now }
     ensures fits { result < size_of R.bank.width }
 {
     match operands {
         Operands::FromRegister(_, register) => register.value(registers),
-        Operands::FromMemory(_, memory) => {
-            locate_memory::<R>(registers, memory).read(registers, bus)
-        }
-        Operands::Immediate(_, number) => R::number(number),
+        Operands::FromMemory(_, memory) => read_memory::<R, B>(registers, bus, memory),
+        Operands::Immediate(_, number) => R::number(*number),
     }
 }
 
 #[inline(always)]
-pub(crate) fn read_mask<R: Operand>(registers: &Regs, tested: TestMask<R, R::Number>) -> u16
-    ensures value { result ≡ mask R.bank registers.now tested }
+pub(crate) fn read_mask<R: Operand>(registers: &Regs, tested: &TestMask<R, R::Number>) -> u16
+    ensures value { result ≡ mask R.bank registers.now tested.now }
     ensures fits { result < size_of R.bank.width }
 {
     match tested {
         TestMask::Register(register) => register.value(registers),
-        TestMask::Immediate(number) => R::number(number),
+        TestMask::Immediate(number) => R::number(*number),
     }
 }

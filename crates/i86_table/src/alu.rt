@@ -68,6 +68,7 @@ fn combine(width: Width, value: u16, flags: Flags) -> Outcome
 
 /// The result of ADD, OR, ADC, SBB, AND, SUB or XOR and its flags; CMP leaves its first operand as it is.
 #[tactic(auto, using(std::proofs::lemmas::Nat::and_le_l, std::proofs::lemmas::Nat::widths), unfolding(crate::specs::Arithmetic::operated))]
+#[inline(always)]
 pub fn operate(operation: AluOperation, width: Width, a: u16, b: u16, flags: Flags) -> Outcome
     requires left { a < size_of width }
     requires right { b < size_of width }
@@ -109,6 +110,7 @@ fn keep_carry(before: Flags, outcome: Outcome) -> Outcome
 
 /// The result of NOT, NEG, INC or DEC and its flags.
 #[tactic(auto, unfolding(crate::specs::Arithmetic::changed))]
+#[inline(always)]
 pub fn change(operation: UnaryOperation, width: Width, a: u16, flags: Flags) -> Outcome
     requires { a < size_of width }
     ensures value { result ≡ changed operation width a flags }

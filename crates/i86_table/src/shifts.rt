@@ -71,6 +71,7 @@ fn overflow(operation: ShiftOperation, width: Width, a: u16, value: u16, out: bo
 /// A shift or rotation by a count that is not masked: CF is the bit that went out last; OF is set for the count 1 alone;
 /// a count of 0 changes nothing.
 #[tactic(auto, unfolding(crate::specs::Arithmetic::shifted))]
+#[inline(always)]
 pub fn shift(operation: ShiftOperation, width: Width, a: u16, count: u8, flags: Flags) -> Outcome
     requires { a < size_of width }
     ensures value { result ≡ shifted operation width a count flags }
