@@ -31,3 +31,5 @@ mod Nodes
 mod Offsets
 mod Imaged
 pub mod Meets
+mod Phases
+mod BuiltRuns

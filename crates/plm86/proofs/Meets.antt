@@ -45,20 +45,21 @@ found_named f (x ∷ xs) words p e = go (f x) refl (found_named f xs words p)
         let e3 : rows_at x words ≡ p = cc in inl (ap (λ (q : Text × List Row). q.0) (sym e3))
     go false t next = let e2 : option_map (λ s. rows_at s words) (find f xs) ≡ Some p = rw t at e in inr (next e2)
 
--- the subcommand that the words name is the one that there is
+-- the subcommand that the words name is one of the two
 pub named : (words : List Text) (name : Text) (rows : List Row) → subcommand_of plm86_app words ≡ Some (name, rows)
-    → name ≡ codes "run"
+    → (name ≡ codes "build") ⊎ (name ≡ codes "run")
 named words name rows e = go (stop_after (built plm86_app).top.rules (names_of (built plm86_app)) (argument_words plm86_app words)) refl e
   where
     go : (o : Option (Text × List Text)) → stop_after (built plm86_app).top.rules (names_of (built plm86_app)) (argument_words plm86_app words) ≡ o
         → entered (built plm86_app) o ≡ Some (name, rows)
-        → name ≡ codes "run"
+        → (name ≡ codes "build") ⊎ (name ≡ codes "run")
     go None o h = cc
     go (Some p) o h = pick (found_named (λ s. answers_to p.0 (label_of s)) (built plm86_app).subs p.1 (name, rows) h)
       where
-        pick : IsOneOf name (built plm86_app).subs → name ≡ codes "run"
-        pick (inl x) = x
-        pick (inr x) = absurd x
+        pick : IsOneOf name (built plm86_app).subs → (name ≡ codes "build") ⊎ (name ≡ codes "run")
+        pick (inl x) = inl x
+        pick (inr (inl x)) = inr x
+        pick (inr (inr x)) = absurd x
 
 pub or_else_nil : (a b : Kinds) → or_else a b ≡ [] → (a ≡ []) × (b ≡ [])
 or_else_nil [] b e = (refl, e)
@@ -76,7 +77,7 @@ met m name rows n r = met_at (out-ArgMatches m).subcommand name rows n r
 
 -- a fault with words is not want of memory
 pub wordless : (words : List Text) (e : OrderFault) → (fault_of plm86_app words ≡ [] → e ≡ Memory) → HasWords e → IsRefused words
-wordless words e h has none = subst HasWords (h none) has
+wordless words e h has = inl (λ none. subst HasWords (h none) has)
 
 pub only_memory : (kinds : Kinds) (e : Error) → HasKind kinds e → kinds ≡ [] → kind_of e ≡ OutOfMemory
 only_memory kinds e (inl m) none = m

@@ -7,6 +7,16 @@ use Rattle.clap.specs.declared.builder.action.ArgAction.TheVariants.{Set, Append
 abbrev pub needed : Text → Rule
 needed id = record (new_rule id) { required = true; value_names = 1 }
 
+abbrev pub several : Text → Rule
+several id = record (needed id) { action = Some Append }
+
+abbrev pub lettered : Text → ℕ → Bool → Rule
+lettered id letter is_required = record (new_rule id) { short = Some letter; required = is_required; value_names = 1 }
+
+-- the letters are r and o
+abbrev pub build_app : App
+build_app = with_rule (with_rule (with_rule (new_app (codes "build")) (lettered (codes "kib") 114 true)) (lettered (codes "rom") 111 true)) (several (codes "source"))
+
 abbrev pub run_app : App
 run_app = with_rule (with_rule (new_app (codes "run")) (needed (codes "rom"))) (needed (codes "schedule"))
 
@@ -21,8 +31,11 @@ outer = record {
 }
 
 abbrev pub plm86_app : App
-plm86_app = with_subcommand outer run_app.top
+plm86_app = with_subcommand (with_subcommand outer build_app.top) run_app.top
 
--- the first value of an argument
+-- the first value of an argument, and all of them
 abbrev pub value_of : Text → List Row → Text
 value_of id rows = unwrap_or (first_of id rows) []
+
+abbrev pub values_of : Text → List Row → List Text
+values_of id rows = unwrap_or (all_of id rows) []

@@ -19,3 +19,6 @@ pub mod CommandLine
 pub mod Orders
 pub mod Bounded
 pub mod Statuses
+pub mod Builds
+pub mod Parsed
+pub mod BuildsAndRuns

@@ -3,14 +3,25 @@ use Rattle.std.specs.Prelude.{◌≡◌, ◌⊎◌, ℕ, Bool, true, false, List
 use Rattle.std.specs.Str.{bytes_eq}
 use Rattle.clap.specs.Words.{Row, Text, all_of, first_of, subcommand_of, takes}
 use Rattle.clap.specs.Faults.{fault_of}
-use Rattle.plm86.specs.CommandLine.{plm86_app, value_of}
+use Rattle.plm86.specs.CommandLine.{plm86_app, value_of, values_of}
+use Rattle.plm86.specs.declared.image.RomSize.{RomSize}
+use Rattle.plm86.specs.declared.image.RomSize.TheVariants.{Kib8, Kib16, Kib32, Kib64}
 use Rattle.plm86.specs.declared.order.Order.{Order}
-use Rattle.plm86.specs.declared.order.Order.TheVariants.{Run}
+use Rattle.plm86.specs.declared.order.Order.TheVariants.{Build, Run}
 use Rattle.plm86.specs.declared.order.OrderFault.{OrderFault}
 use Rattle.plm86.specs.declared.order.OrderFault.TheVariants.{Words, Memory}
+pub use Rattle.plm86.specs.CommandLine.{value_of, values_of}
+
+abbrev pub size_named : Text → Option RomSize
+size_named t = if bytes_eq t (codes "8") then Some Kib8 else (if bytes_eq t (codes "16") then Some Kib16
+    else (if bytes_eq t (codes "32") then Some Kib32 else (if bytes_eq t (codes "64") then Some Kib64 else None)))
 
 -- the order is that of the subcommand `name` with these values
 abbrev pub OrderOf : Text → List Row → Order → Type 0
+OrderOf name rows (Build size rom sources) = (name ≡ codes "build")
+    × (size_named (value_of (codes "kib") rows) ≡ Some size)
+    × (rom.now ≡ value_of (codes "rom") rows)
+    × (map (λ s. s.now) sources.items ≡ values_of (codes "source") rows)
 OrderOf name rows (Run rom schedule) = (name ≡ codes "run")
     × (rom.now ≡ value_of (codes "rom") rows)
     × (schedule.now ≡ value_of (codes "schedule") rows)
@@ -24,6 +35,8 @@ abbrev pub HasWords : OrderFault → Type 0
 HasWords (Words text) = ⊤
 HasWords Memory = ⊥
 
--- `clap` refuses the words
+-- `clap` refuses the words, or KIB is none of the four
 abbrev pub IsRefused : List Text → Type 0
-IsRefused words = fault_of plm86_app words ≡ [] → ⊥
+IsRefused words = (fault_of plm86_app words ≡ [] → ⊥)
+    ⊎ ((rows : List Row) × (subcommand_of plm86_app words ≡ Some (codes "build", rows))
+    × (size_named (value_of (codes "kib") rows) ≡ None))

@@ -1,16 +1,17 @@
 //! The command line.
 
-ghost use Rattle.std.specs.Prelude.{◌≡◌, IfOk, IfErr, false, codes, map, option_map};
+ghost use Rattle.std.specs.Prelude.{◌≡◌, IfOk, IfErr, false, None, codes, map, option_map};
 ghost use Rattle.clap.specs.Words.{app_of, rule_of, found_of, first_of, kind_of, rows_of};
 ghost use Rattle.clap.specs.declared.error.kind.ErrorKind.TheVariants.{OutOfMemory};
 ghost use Rattle.clap.specs.declared.builder.command.Command.TheViews.{out-Command};
-ghost use Rattle.plm86.specs.Orders.{HasWords, IsRefused, OrderOf, Spells};
-ghost use Rattle.plm86.specs.CommandLine.{plm86_app, run_app, needed, value_of};
+ghost use Rattle.plm86.specs.Orders.{HasWords, IsRefused, OrderOf, Spells, size_named, value_of, values_of};
+ghost use Rattle.plm86.specs.CommandLine.{plm86_app, build_app, run_app, needed, several, lettered};
 ghost use Rattle.plm86.specs.declared.order.OrderFault.TheVariants.{Memory};
 
+use crate::image::RomSize;
 use crate::order::{Order, OrderFault};
 use clap::error::ErrorKind;
-use clap::{Arg, ArgMatches, Command, Error};
+use clap::{Arg, ArgAction, ArgMatches, Command, Error};
 use std::alloc::{AllocError, Global};
 
 fn positional<'a>(alloc: Global, id: &'a str, name: &'a str) -> Arg<'a>
@@ -18,6 +19,32 @@ fn positional<'a>(alloc: Global, id: &'a str, name: &'a str) -> Arg<'a>
     ensures local { result.global ≡ false }
 {
     Arg::new(alloc, id).value_name(name).required(true)
+}
+
+fn sources<'a>(alloc: Global) -> Arg<'a>
+    ensures rule { rule_of result ≡ several (codes "source") }
+    ensures local { result.global ≡ false }
+{
+    positional(alloc, "source", "SOURCE").action(ArgAction::Append)
+}
+
+fn option<'a>(alloc: Global, id: &'a str, name: &'a str, letter: char, is_required: bool) -> Arg<'a>
+    ensures rule { rule_of result ≡ lettered id.entry.now letter is_required }
+    ensures local { result.global ≡ false }
+{
+    Arg::new(alloc, id)
+        .value_name(name)
+        .short(letter)
+        .required(is_required)
+}
+
+fn build_command<'a>(alloc: Global) -> Result<Command<'a>, AllocError>
+    ensures { IfOk result (λ c. (app_of c ≡ build_app) × ((out-Command c).has_globals ≡ false)) }
+{
+    let kib = option(alloc, "kib", "KIB", 'r', true);
+    let rom = option(alloc, "rom", "ROM", 'o', true);
+    let source = sources(alloc);
+    Command::new(alloc, "build").arg(kib)?.arg(rom)?.arg(source)
 }
 
 fn run_command<'a>(alloc: Global) -> Result<Command<'a>, AllocError>
@@ -35,7 +62,21 @@ fn whole_command<'a>(alloc: Global) -> Result<Command<'a>, AllocError>
         .no_binary_name(true)
         .disable_help_subcommand(true)
         .subcommand_required(true)
+        .subcommand(build_command(alloc)?)?
         .subcommand(run_command(alloc)?)
+}
+
+// The size that a text names.
+fn size_of_text(text: &str) -> Option<RomSize>
+    ensures { result ≡ size_named text.now }
+{
+    match text {
+        "8" => Some(RomSize::Kib8),
+        "16" => Some(RomSize::Kib16),
+        "32" => Some(RomSize::Kib32),
+        "64" => Some(RomSize::Kib64),
+        _ => None,
+    }
 }
 
 fn option_given<'a>(matches: &ArgMatches<'a>, id: &str) -> Option<&'a str>
@@ -50,6 +91,38 @@ fn text_given<'a>(matches: &ArgMatches<'a>, id: &str) -> &'a str
     match option_given(matches, id) {
         Some(text) => text,
         None => "",
+    }
+}
+
+fn texts_given<'a>(
+    alloc: Global,
+    matches: &ArgMatches<'a>,
+    id: &str,
+) -> Result<Vec<&'a str>, AllocError>
+    ensures { IfOk result (λ v. map (λ s. s.now) v.items ≡ values_of id.now (rows_of (found_of matches.now))) }
+{
+    match matches.get_strs(id) {
+        Some(texts) => Vec::from_slice(alloc, texts),
+        None => Ok(Vec::new(alloc)),
+    }
+}
+
+fn build_order<'a>(alloc: Global, matches: &ArgMatches<'a>) -> Result<Order<'a>, OrderFault>
+    ensures ok { IfOk result (OrderOf (codes "build") (rows_of (found_of matches.now))) }
+    ensures err { IfErr result (λ e. HasWords e
+        → size_named (value_of (codes "kib") (rows_of (found_of matches.now))) ≡ None) }
+{
+    let kib = text_given(matches, "kib");
+    match size_of_text(kib) {
+        Some(size) => Ok(Order::Build {
+            size,
+            rom: text_given(matches, "rom"),
+            sources: texts_given(alloc, matches, "source")?,
+        }),
+        None => {
+            let text = format!(in alloc; "error: KIB is 8, 16, 32 or 64, and not '{kib}'\n")?;
+            Err(OrderFault::Words(text))
+        }
     }
 }
 
@@ -79,7 +152,7 @@ fn refusal(alloc: Global, error: &Error) -> OrderFault
 ///
 /// # Errors
 ///
-/// The words to print where `clap` refuses the line (help among them), or want of memory.
+/// The words to print where `clap` refuses the line (help among them) or KIB is none of 8, 16, 32 and 64, or want of memory.
 pub fn order<'a>(alloc: Global, words: &'a [&str]) -> Result<Order<'a>, OrderFault>
     ensures ok { IfOk result (Spells (map (λ w. w.now) words.entry.now)) }
     ensures words { IfErr result (λ e. HasWords e → IsRefused (map (λ w. w.now) words.entry.now)) }
@@ -89,8 +162,12 @@ pub fn order<'a>(alloc: Global, words: &'a [&str]) -> Result<Order<'a>, OrderFau
         Ok(matches) => matches,
         Err(error) => return Err(refusal(alloc, &error)),
     };
-    let Some((_name, inner)) = matches.subcommand() else {
+    let Some((name, inner)) = matches.subcommand() else {
         unreachable!();
     };
-    Ok(run_order(inner))
+    if name == "build" {
+        build_order(alloc, inner)
+    } else {
+        Ok(run_order(inner))
+    }
 }

@@ -3,13 +3,23 @@
 ghost use Rattle.std.specs.Prelude.{◌≡◌};
 ghost use Rattle.plm86.specs.declared.order.OrderFault.TheVariants.{Memory};
 
+use crate::image::RomSize;
 use std::alloc::{AllocError, AllocFailed};
 
 /// What the command line asks for.
 #[derive(Debug, Drop)]
 pub enum Order<'a> {
+    /// `build -r KIB -o ROM SOURCE...`: the ROM's size, its file's name, and those of the sources.
+    Build {
+        size: RomSize,
+        rom: &'a str,
+        sources: Vec<&'a str>,
+    },
     /// `run ROM SCHEDULE`, with the files' names.
-    Run { rom: &'a str, schedule: &'a str },
+    Run {
+        rom: &'a str,
+        schedule: &'a str,
+    },
 }
 
 /// Why there is no order: words to print, or want of memory.

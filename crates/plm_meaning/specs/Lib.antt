@@ -5,3 +5,5 @@ pub mod Next
 pub mod Placed
 pub mod Programs
 pub mod Known
+pub mod Reading
+pub mod Forms

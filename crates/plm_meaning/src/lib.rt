@@ -4,10 +4,12 @@
 mod names;
 mod placement;
 mod program;
+mod reading;
 
 pub use names::{Names, Object};
 pub use placement::Placement;
 pub use program::{Operand, Program, Statement, Sum};
+pub use reading::{module_number, read_program};
 
 #[cfg(test)]
 mod tests;

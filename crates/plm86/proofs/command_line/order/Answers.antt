@@ -15,14 +15,40 @@ returns-in-Err-clause-words c =
     let app_is = c.in_ok-command.ensures in
     wordless words c.refusal.result (λ none. c.refusal.ensures (only_memory _ c.in-Err.error (c.in-Err.ensures.kinds (ap is_simple_and_free app_is ∙ app_is_free)) (ap (λ (a : App). fault_of a words) app_is ∙ none)))
 
+pub returns-then-eq-clause-ok : goal.returns-then-eq-clause-ok
+returns-then-eq-clause-ok c =
+    let words = map (λ (w : Bor Text). w.now) c.args.words.now in
+    let app_is = c.in_ok-command.ensures in
+    let accepted : fault_of plm86_app words ≡ [] = ap (λ (a : App). fault_of a words) (sym app_is) ∙ c.in-Ok.ensures.kinds (ap is_simple_and_free app_is ∙ app_is_free) in
+    let rows = rows_of (found_of c.in-Some.inner.now) in
+    let name : c.in-Some.name.now ≡ codes "build" = search rules in
+    let given = met c.in-Ok.matches (codes "build") rows (ap Some (sym name) ∙ c.in-Some.ensures.name) c.in-Some.ensures.rows in
+    let at_words : subcommand_of plm86_app words ≡ Some (codes "build", rows) =
+    ap (λ (a : App). subcommand_of a words) (sym app_is) ∙ sym (c.in-Ok.ensures.matches (ap is_simple app_is ∙ app_is_simple)).1 ∙ given in
+    IfOk-weaker c.build_order.result _ _ (λ o h. (accepted, codes "build", rows, at_words, h)) c.build_order.ensures.ok
+
+pub returns-then-eq-clause-words : goal.returns-then-eq-clause-words
+returns-then-eq-clause-words c =
+    let words = map (λ (w : Bor Text). w.now) c.args.words.now in
+    let app_is = c.in_ok-command.ensures in
+    let rows = rows_of (found_of c.in-Some.inner.now) in
+    let name : c.in-Some.name.now ≡ codes "build" = search rules in
+    let given = met c.in-Ok.matches (codes "build") rows (ap Some (sym name) ∙ c.in-Some.ensures.name) c.in-Some.ensures.rows in
+    let at_words : subcommand_of plm86_app words ≡ Some (codes "build", rows) =
+    ap (λ (a : App). subcommand_of a words) (sym app_is) ∙ sym (c.in-Ok.ensures.matches (ap is_simple app_is ∙ app_is_simple)).1 ∙ given in
+    IfErr-weaker c.build_order.result _ _ (λ e h has. inr (rows, at_words, h has)) c.build_order.ensures.err
+
 pub returns-clause-ok : goal.returns-clause-ok
 returns-clause-ok c =
     let words = map (λ (w : Bor Text). w.now) c.args.words.now in
     let app_is = c.in_ok-command.ensures in
     let accepted : fault_of plm86_app words ≡ [] = ap (λ (a : App). fault_of a words) (sym app_is) ∙ c.in-Ok.ensures.kinds (ap is_simple_and_free app_is ∙ app_is_free) in
     let rows = rows_of (found_of c.in-Some.inner.now) in
-    let given = met c.in-Ok.matches c.in-Some._name.now rows c.in-Some.ensures.name c.in-Some.ensures.rows in
-    let at_words : subcommand_of plm86_app words ≡ Some (c.in-Some._name.now, rows) =
+    let given = met c.in-Ok.matches c.in-Some.name.now rows c.in-Some.ensures.name c.in-Some.ensures.rows in
+    let at_words : subcommand_of plm86_app words ≡ Some (c.in-Some.name.now, rows) =
     ap (λ (a : App). subcommand_of a words) (sym app_is) ∙ sym (c.in-Ok.ensures.matches (ap is_simple app_is ∙ app_is_simple)).1 ∙ given in
-    let name : c.in-Some._name.now ≡ codes "run" = named words c.in-Some._name.now rows at_words in
-    (accepted, c.in-Some._name.now, rows, at_words, subst (λ (n : Text). OrderOf n rows c.run_order.result) (sym name) c.run_order.ensures)
+    let name : c.in-Some.name.now ≡ codes "run" = elim (named words c.in-Some.name.now rows at_words) [
+      | inl x ↦ absurd (search rules)
+      | inr x ↦ x
+    ] in
+    (accepted, c.in-Some.name.now, rows, at_words, subst (λ (n : Text). OrderOf n rows c.run_order.result) (sym name) c.run_order.ensures)

@@ -1,11 +1,13 @@
 use Rattle.std.proofs.Common.{◌||◌, rules, ap, ap₂, refl, codes, true, false, List, [], ◌∷◌, ◌≡◌, ◌∙◌}
 use Rattle.std.proofs.lemmas.Result.{IfErr-weaker, IfOk-weaker}
 use Rattle.clap.specs.Words.{App, Row, Rule, Text, app_of, rule_of, with_rule, with_subcommand}
-use Rattle.plm86.specs.CommandLine.{needed, run_app, outer, plm86_app}
+use Rattle.plm86.specs.CommandLine.{needed, several, lettered, build_app, run_app, outer, plm86_app}
 use Rattle.plm86.proofs.command_line.whole_command.Goals as goal
 
 pub returns : goal.returns
 returns c =
     let outer_is : app_of c.subcommand_required.result ≡ outer = search rules in
+    let build_is = ap (λ (a : App). a.top) c.in_ok-build_command.ensures.0 in
     let run_is = ap (λ (a : App). a.top) c.in_ok-run_command.ensures.0 in
-    IfOk-weaker c.subcommand.result _ _ (λ r h. h.shape c.in_ok-run_command.ensures.1 ∙ ap₂ with_subcommand outer_is run_is) c.subcommand.ensures
+    let one = c.in_ok-subcommand.ensures.shape c.in_ok-build_command.ensures.1 ∙ ap₂ with_subcommand outer_is build_is in
+    IfOk-weaker c.subcommand-2.result _ _ (λ r h. h.shape c.in_ok-run_command.ensures.1 ∙ ap₂ with_subcommand one run_is) c.subcommand-2.ensures

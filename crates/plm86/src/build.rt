@@ -1,0 +1,108 @@
+//! From sources to an image.
+
+ghost use Rattle.std.specs.Prelude.{◌≡◌, [], ◌∷◌, map, IfOk, IfErr};
+ghost use Rattle.plm_token.specs.Scanning.{lexemes};
+ghost use Rattle.plm_syntax.specs.View.{module_of};
+ghost use Rattle.plm_meaning.specs.Reading.{Says};
+ghost use Rattle.board.specs.Runs.{due_of};
+ghost use Rattle.plm86.specs.BuildsAndRuns.{HasRun, HasNotRun};
+ghost use Rattle.plm86.specs.Builds.{text_of, in_module, scan_faults, tokens_of, IsBuilt, Refuses};
+ghost use Rattle.plm86.specs.Parsed.{ParsesAll};
+
+use crate::compile::compile;
+use crate::image::{Image, RomSize};
+use board::{Board, End, Schedule};
+use plm_meaning::{module_number, read_program};
+use plm_syntax::{Module, parse};
+use plm_token::{Token, scan};
+use std::alloc::Global;
+use word86::{Fault, PowerOn, Sink};
+
+/// A source: its file's name and its text, one module.
+#[derive(Debug, Clone, Copy)]
+pub struct Source<'a> {
+    pub name: &'a str,
+    pub text: &'a [u8],
+}
+
+// The fault of a text as that of its module, counted from 0.
+fn in_module(ordinal: usize, fault: Fault) -> Fault
+    ensures { result ≡ in_module ordinal fault }
+{
+    match fault {
+        Fault::Memory => Fault::Memory,
+        Fault::At(_, line, number) => Fault::At(module_number(ordinal), line, number),
+    }
+}
+
+// The tokens of each source.
+fn scan_all<'a>(alloc: Global, sources: &[Source<'a>]) -> Result<Vec<Vec<Token<'a>>>, Fault>
+    ensures says { Says (scan_faults 0 (map text_of sources.now)) result }
+    ensures tokens { IfOk result (λ v. map (λ t. lexemes t.items) v.items ≡ map tokens_of (map text_of sources.now)) }
+{
+    let mut scanned = Vec::new(alloc);
+    for (ordinal, source) in sources.iter().enumerate() {
+        match scan(alloc, source.text) {
+            Ok(tokens) => scanned.push(tokens)?,
+            Err(fault) => return Err(in_module(ordinal, fault)),
+        }
+    }
+    Ok(scanned)
+}
+
+// The tree of each module.
+fn parse_all<'a>(alloc: Global, scanned: Vec<Vec<Token<'a>>>) -> Result<Vec<Module<'a>>, Fault>
+    ensures { ParsesAll (map (λ t. lexemes t.items) scanned.entry.items) result }
+{
+    let mut modules = Vec::new(alloc);
+    for tokens in scanned {
+        match parse(alloc, tokens) {
+            Ok(tree) => modules.push(tree)?,
+            Err(fault) => return Err(in_module(modules.len(), fault)),
+        }
+    }
+    Ok(modules)
+}
+
+/// The image of sources for a ROM of this size: a ROM that does on the board what the sources mean, interrupts included.
+///
+/// # Errors
+///
+/// The first fault of the phases, each over all sources: scanning (E101 to E107), parsing with literals replaced (E101, E103
+/// to E105 of a literal's text, E201 to E205), names (E301, E302, E308, E310) and forms (E401), the ROM's room (E601, never
+/// where the program has at most 16 nodes for each KiB). Modules count from 0. The one other refusal is want of memory.
+pub fn build(alloc: Global, sources: &[Source<'_>], size: RomSize) -> Result<Image, Fault>
+    ensures built { IfOk result (IsBuilt (map text_of sources.now) size) }
+    ensures refused { IfErr result (Refuses (map text_of sources.now) size) }
+{
+    let scanned = scan_all(alloc, sources)?;
+    let modules = parse_all(alloc, scanned)?;
+    let program = read_program(alloc, &modules)?;
+    compile(alloc, &program, size)
+}
+
+/// Builds sources, and runs the ROM on the board from its reset on under a schedule, with this power-on memory: the trace goes
+/// to the sink, and the answer tells how the run ended.
+///
+/// # Errors
+///
+/// Those of `build` and want of memory, before anything is written; E704 where the sink failed, which then took a beginning of
+/// the trace.
+pub fn build_and_run<S: Sink>(
+    alloc: Global,
+    sources: &[Source<'_>],
+    size: RomSize,
+    power_on: PowerOn,
+    schedule: &Schedule,
+    sink: &mut S,
+) -> Result<End, Fault>
+    ensures ran { IfOk result (HasRun (map text_of sources.now) size power_on (due_of schedule.now) schedule.now.stop (S.taken sink.old) (S.taken sink.new) (S.failures sink.old) (S.failures sink.new)) }
+    ensures refused { IfErr result (HasNotRun (map text_of sources.now) size power_on (due_of schedule.now) schedule.now.stop (S.taken sink.old) (S.taken sink.new) (S.failures sink.old) (S.failures sink.new)) }
+{
+    let image = build(alloc, sources, size)?;
+    let mut board = Board::new(alloc, &image.rom, power_on)?;
+    board.run(schedule, sink)
+}
+
+#[cfg(test)]
+mod tests;
