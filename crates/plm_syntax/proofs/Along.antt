@@ -1,22 +1,19 @@
 -- Steps of a run over the tokens ahead of the parser.
-use Rattle.std.proofs.Common.{◌≡◌, ℕ, zero, suc, ◌+◌, ◌≤◌, ◌<◌, List, [], ◌∷◌, ◌++◌, Bool, true, false, cond, Option, Some, None, Result, Ok, Err, refl, sym, ap, ◌∙◌, subst, append_assoc, arith, length, nat_lt}
+use Rattle.std.proofs.Common.{◌≡◌, ℕ, zero, suc, ◌+◌, List, [], ◌∷◌, ◌++◌, Bool, true, false, cond, Option, Some, None, Result, Ok, Err, refl, sym, ap, ◌∙◌, subst, append_assoc, arith, length, nat_lt}
 use Rattle.std.specs.Prelude.{nat_eq, IsErrAnd}
 use Rattle.std.proofs.lemmas.Bool.{ltb-true, ltb-false}
-use Rattle.plm_token.specs.declared.token.Keyword.TheVariants as key
-use Rattle.plm_token.specs.declared.token.Mark.TheVariants as mark
 use Rattle.plm_token.specs.declared.token.Token.{Token}
 use Rattle.plm_syntax.specs.declared.tree.Place.{Place}
-use Rattle.plm_syntax.specs.declared.tree.UnaryOperator.TheVariants as unary
 use Rattle.plm_syntax.specs.declared.tree.BinaryOperator.{BinaryOperator}
 use Rattle.plm_syntax.specs.declared.tree.BinaryOperator.TheVariants as binary
 use Rattle.plm_syntax.specs.declared.cursor.Cursor.{Cursor}
 use Rattle.plm_syntax.specs.declared.failure.Failure.{Failure}
 use Rattle.plm_syntax.specs.declared.failure.Failure.TheVariants as failure
-use Rattle.plm_syntax.specs.Terminal.{Terminal, Name, Number, Text, Key, Sign, Finish, Leaf, leaf, leaf_at, is_key, is_sign, is_same}
+use Rattle.plm_syntax.specs.Terminal.{Terminal, Finish, Leaf, leaf, leaf_at, is_same}
 use Rattle.plm_syntax.specs.Spelling.{binary_sign}
 use Rattle.plm_syntax.specs.WellFormed.{level_of}
 use Rattle.plm_syntax.specs.Answers.{terminal_of}
-use Rattle.plm_syntax.specs.Symbol.{Value, Goal, Level, Symbol, depth, Rule, need, Need, Want, Do, Leave, Refused, Over, Take, Keep, MoreG}
+use Rattle.plm_syntax.specs.Symbol.{Value, Goal, Level, Symbol, depth, Rule, Need, Want, Do, Leave, Refused, Over, Keep, MoreG}
 use Rattle.plm_syntax.specs.Machine.{operand, again, number_of, operator_of, make_binary, operation, more, rule, Move, Stay, Next, Open, feed, Trace, Ended, Wrong, Then, trace, Stop, Refusal, Deep, Reading, run}
 use Rattle.plm_syntax.specs.Parsed.{place_at, stream, ahead, first_of, next_of, Takes, Fails, Arrives}
 use Rattle.plm_syntax.proofs.Steps.{ruled, feed_want, over, same_rule}

@@ -1,15 +1,14 @@
 -- No more tokens come out than one over the limit.
-use Rattle.std.proofs.Common.{◌≡◌, ℕ, zero, suc, ◌+◌, ◌≤◌, ◌<◌, nat_lt, List, [], ◌∷◌, ◌++◌, Bool, true, false, cond, Option, Some, None, Result, Ok, Err, refl, sym, ap, ◌∙◌, arith, length, length-append, fold}
+use Rattle.std.proofs.Common.{◌≡◌, ℕ, zero, suc, ◌+◌, ◌≤◌, nat_lt, List, [], ◌∷◌, ◌++◌, Bool, true, false, cond, Option, Some, None, Result, Ok, Err, refl, ap, arith, length, length-append, fold}
 use Rattle.std.proofs.lemmas.Bool.{ltb-false}
 use Rattle.word86.specs.declared.number.Number.{Number}
 use Rattle.word86.specs.declared.number.Number.TheVariants.{E202, E205}
-use Rattle.plm_token.specs.declared.token.Kind.{Kind}
 use Rattle.plm_token.specs.declared.token.Token.{Token}
 use Rattle.plm_token.specs.Scanning.{Lexeme, lexemes}
 use Rattle.plm_syntax.specs.declared.literals.Expansion.{Expansion}
 use Rattle.plm_syntax.specs.ExpandView.{Expanded, expansion_of, expansion_view}
 use Rattle.plm_token.specs.Literals.{Symbol, on_line, literal_of}
-use Rattle.plm_syntax.specs.Expand.{LiteralText, Blocks, Out, blocks_behind, ends_block, over_limit, put, declared_name, between, declare, put_source, literal_for, by_literal, stop_at, or_else, symbol_out, text_out, source_out, nothing_out, expanded}
+use Rattle.plm_syntax.specs.Expand.{LiteralText, Out, put, declared_name, between, declare, put_source, literal_for, by_literal, stop_at, or_else, symbol_out, text_out, source_out, nothing_out, expanded}
 
 pub record Bounded (o : Out) : Type 0 where
   pub going : o.stop ≡ None → length o.tokens ≤ 65535

@@ -1,29 +1,21 @@
 -- What a run does next where the parser has tested the next token, in expressions.
-use Rattle.std.proofs.Common.{◌≡◌, ℕ, zero, suc, ◌≤◌, ◌<◌, List, [], ◌∷◌, ◌++◌, Bool, true, false, cond, Option, Some, None, Result, Ok, Err, refl, sym, ap, ◌∙◌, subst, append_assoc, arith, length}
-use Rattle.plm_token.specs.declared.token.Keyword.{Keyword}
+use Rattle.std.proofs.Common.{◌≡◌, List, [], ◌∷◌, ◌++◌, Bool, true, false, cond, refl, ap, ◌∙◌}
 use Rattle.plm_token.specs.declared.token.Keyword.TheVariants as key
-use Rattle.plm_token.specs.declared.token.Mark.{Mark}
 use Rattle.plm_token.specs.declared.token.Mark.TheVariants as mark
 use Rattle.plm_syntax.specs.declared.tree.Place.{Place}
-use Rattle.plm_syntax.specs.declared.tree.Scalar.{Scalar}
-use Rattle.plm_syntax.specs.declared.tree.Scalar.TheVariants as scalar
-use Rattle.plm_syntax.specs.declared.tree.UnaryOperator.{UnaryOperator}
 use Rattle.plm_syntax.specs.declared.tree.UnaryOperator.TheVariants as unary
-use Rattle.plm_syntax.specs.declared.tree.BinaryOperator.{BinaryOperator}
-use Rattle.plm_syntax.specs.declared.tree.BinaryOperator.TheVariants as binary
-use Rattle.plm_syntax.specs.Terminal.{NameT, NumberT, TextT, Terminal, Name, Number, Text, Key, Sign, Finish, Leaf, leaf, leaf_at, key_number, sign_number, is_key, is_sign, is_finish, is_same}
-use Rattle.plm_syntax.specs.Tree.{LocationForm, Pointer, Offset, ExpressionT, NumberE, TextE, ReferenceE, LocationE, ParenthesisedE, EmbeddedE, UnaryE, BinaryE, ReferenceT, ReferenceOf, ExpressionsT, no_expressions, expressions, SelectorT, no_member, member, member_at, LocationT, LocationOf, ConstantsOf, ValueT, NumberV, NegativeV, TextV, LocationV, ValuesT, no_values, values, NamesT, no_names, names, VariableT, VariableOf, VariablesT, no_variables, variables, DeclaredT, OneVariable, VariableList, DimensionT, no_dimension, dimension, implicit_dimension, MemberT, OneMember, MemberList, MembersT, no_members, members, TypeT, ScalarType, StructureType, AtT, no_at, at_number, at_location, InitialT, no_initial, initial, constant_data, AttributesT, External, Attributes, ElementT, LiteralElement, VariableElement, ElementsT, no_elements, elements, LinkageT, no_linkage, public_linkage, external_linkage, ReferencesT, no_references, references, StatementT, Labelled, BasicT, EmptyS, AssignS, CallS, ReturnS, ReturnValueS, EnableS, DisableS, HaltS, IfS, IfElseS, DoS, WhileS, CaseS, IterateS, StatementsT, no_statements, statements, BlockT, BlockOf, ItemsT, no_items, items, ItemT, DeclareI, ProcedureI, ModuleT, ModuleOf}
-use Rattle.plm_syntax.specs.Spelling.{unary_sign, binary_sign, form_sign, scalar_key, last_name, behind_labels, tok, sign, word, expression, reference, subscripts, listed, selector, location, value, value_list, listed_values, listed_names, name_list, parenthesised_names, base, variable, listed_variables, variable_list, declared, in_parentheses, dimension_leaves, count, member_leaves, listed_members, member_list, type_leaves, at_leaves, initial_leaves, public, attributes, element, listed_elements, element_list, returned, interrupt, linkage, ending, listed_references, targets, labels, step, statement, basic, statement_list, block, item_list, item, module_leaves, put_leaf, put_level, leaves_of, levels_of}
-use Rattle.plm_syntax.specs.WellFormed.{level_of, left_level, unary_level, operand_level, level, Well, WellReference, WellExpressions, WellSelector, WellLocation, WellValue, WellValues, WellSomeValues, HasNames, HasVariables, WellDeclared, WellMember, WellSomeMembers, WellType, WellAt, WellInitial, WellAttributes, WellElement, WellSomeElements, WellElements, WellSomeReferences, WellTargets, WellStep, ends_open, basic_open, is_end_name, WellEnd, WellStatement, WellBasic, WellStatements, WellBlock, WellItems, WellItem, WellModule}
-use Rattle.plm_syntax.specs.Symbol.{Value, Action, Level, Goal, Symbol, depth_on, depth, Rule, behind, otherwise, before, opened, need, push, ExpressionR, ExpressionsR, NameR, ValueR, ValuesR, ReferencesR, NamesR, StatementR, ArmsR, StatementsR, ItemsR, StepR, EndR, VariableR, VariablesR, DimensionR, CountR, MembersR, MemberR, TypeR, AtR, InitialR, PublicR, AttributesR, ElementR, ElementsR, DeclaredR, RangeR, HeaderR, ModuleR, Products, Sums, Relations, Conjunctions, Disjunctions, PrimaryG, SignedG, NegationG, MoreG, InsideG, AfterReferenceG, SubscriptsG, MoreSubscriptsG, SelectorG, MemberG, MemberSubscriptG, LocatedG, ValueG, NegativeG, MoreValuesG, StatementG, LeadG, TargetG, MoreTargetsG, CalledG, ReturnedG, ArmG, OtherwiseG, DoG, StepG, StatementsG, EndG, ItemsG, ItemLeadG, ItemColonG, ParametersG, ParameterG, MoreParametersG, ReturnedTypeG, InterruptG, InterruptNumberG, LinkageG, ElementG, ElementLeadG, LiteralTextG, VariableG, MoreVariablesG, BasedG, BaseG, DimensionG, DimensionBodyG, TypeG, MemberOfG, MemberNameG, MoreMemberNamesG, CountG, CountNumberG, MemberTypeG, MoreMembersG, AttributesG, AtG, AtBodyG, InitialG, MoreElementsG, ModuleG, StartG, Need, Want, Do, Leave, Refused, Over, Take, Keep}
-use Rattle.plm_syntax.specs.Machine.{plain, operand, again, number_of, an_expression, operator_of, make_binary, make_unary, make_parenthesised, make_embedded, add_expression, set_subscripts, set_member, set_member_subscript, operation, more, reference_begun, primary, signed, negation, expression_at, closing, inside, after_reference, subscripts_rule, more_subscripts, selector_rule, member_rule, member_subscript, locate, locate_values, location_value, add_value, a_value_list, located, value_rule, negative, more_values, make_simple, add_label, add_target, make_assign, make_call, make_return, join_arms, make_if, add_statement, make_do, make_while, make_case, make_range, set_step, make_iterate, statement_rule, more_targets, assignment_rule, lead, target, called, returned_rule, no_labels, no_statement_yet, arm, otherwise_rule, do_rule, step_rule, end_rule, and_more, statements_rule, make_declare, make_procedure, add_parameter, set_returned, set_interrupt, set_linkage, make_module, scalar_of, parameters_rule, parameter, more_parameters, returned_type, interrupt_rule, interrupt_number, linkage_rule, items_rule, item_lead, procedure_symbols, item_colon, add_element, make_literal, set_base, add_variable, one_variable, variable_group, set_dimension, set_count, add_name, make_member, add_member, make_structure, set_external, set_public, set_at, set_at_location, set_initial, set_data, make_element, attributes_tail, declared_tail, element_rule, more_elements, variable_rule, more_variables, based_rule, base_rule, dimension_rule, dimension_body, type_rule, member_of, member_name, more_member_names, count_rule, count_number, member_type, more_members, at_rule, at_body, initial_rule, attributes_rule, element_lead, literal_text, module_rule, start_rule, rule, Move, moved, kept, feed, Trace, trace, Stop, Reading, run, start, Stay, Next, Open, Ended, Wrong, Then, Refusal, Deep}
+use Rattle.plm_syntax.specs.Terminal.{Terminal, Name, Number, Text, Key, Sign, Finish, Leaf, leaf_at, is_key, is_sign}
+use Rattle.plm_syntax.specs.Tree.{LocationForm, Pointer, Offset}
+use Rattle.plm_syntax.specs.Spelling.{form_sign}
+use Rattle.plm_syntax.specs.Symbol.{Value, Level, Symbol, depth, behind, Products, Sums, Relations, Conjunctions, Disjunctions, PrimaryG, SignedG, NegationG, MoreG, InsideG, AfterReferenceG, MoreSubscriptsG, LocatedG, ValueG, NegativeG, MoreValuesG, Want, Do, Leave, Refused, Take, Keep}
+use Rattle.plm_syntax.specs.Machine.{again, an_expression, make_unary, add_expression, primary, expression_at, closing, inside, more_subscripts, member_rule, locate_values, location_value, add_value, a_value_list, located, value_rule, negative, more_values, run}
 use Rattle.plm_syntax.proofs.DriveParts.{after_goes}
 use Rattle.plm_syntax.proofs.DriveBlock.{expression_goes}
 use Rattle.plm_syntax.proofs.Along.{at_front, same_goal}
 use Rattle.plm_syntax.specs.declared.cursor.Cursor.{Cursor}
 use Rattle.plm_syntax.specs.Parsed.{ahead, next_of, is_name, is_number, is_text}
 use Rattle.plm_syntax.specs.Parts.{joined, all_levels, is_relations}
-use Rattle.plm_syntax.proofs.DriveExpression.{negation_is, NoNot, no_not}
+use Rattle.plm_syntax.proofs.DriveExpression.{negation_is, no_not}
 
 pub negation_goes : (c : Cursor) (s : List Symbol) (v : List Value) → is_key key.Not (next_of c) ≡ false → run 64 (Want NegationG ∷ s) v (ahead c) ≡ run 64 (joined Relations s) v (ahead c)
 negation_goes c s v h = at_front c (Want NegationG ∷ s) (joined Relations s) v v (λ l ls q. negation_is s v (l ∷ ls) (no_not (ap (is_key key.Not) q ∙ h)))

@@ -1,5 +1,5 @@
 -- One token of a literal's text.
-use Rattle.std.proofs.Common.{◌≡◌, ◌∙◌, ℕ, zero, suc, List, [], ◌∷◌, Bool, true, false, cond, ◌&&◌, Option, Some, None, is_some, Result, Ok, Err, map, fold, length, get_or, ◌<◌, ap, refl, sym, ◌≢◌, ◌-◌, arith}
+use Rattle.std.proofs.Common.{◌≡◌, ◌∙◌, ℕ, zero, suc, List, [], ◌∷◌, Bool, true, false, cond, Option, Some, None, is_some, Result, Ok, Err, map, fold, length, get_or, ◌<◌, ap, refl, sym, ◌≢◌, ◌-◌, arith}
 use Rattle.std.specs.List.{slice_get}
 use Rattle.std.proofs.lemmas.Option.{slice_get-get_or}
 use Rattle.word86.specs.declared.number.Number.{Number}
@@ -10,9 +10,9 @@ use Rattle.plm_token.specs.declared.token.Token.{Token}
 use Rattle.plm_syntax.specs.declared.literals.Source.{Source}
 use Rattle.plm_token.specs.Scanning.{Lexeme, lexemes}
 use Rattle.plm_token.specs.Literals.{Symbol, on_line, at_line, literal_of}
-use Rattle.plm_syntax.specs.Expand.{LiteralText, Out, or_else, by_literal, literal_for, put, stop_at, symbol_out, text_out, source_out, declare, declared_name, is_string, between, name_of, nothing_out, expanded}
+use Rattle.plm_syntax.specs.Expand.{LiteralText, Out, or_else, by_literal, literal_for, put, stop_at, symbol_out, text_out, source_out, declare, declared_name, is_string, between, nothing_out, expanded}
 use Rattle.plm_syntax.specs.Quiet.{symbol, text_of, text_at}
-use Rattle.plm_syntax.specs.ExpandView.{with_text, out_with_text, put_with_text, text_for, declare_text, source_view}
+use Rattle.plm_syntax.specs.ExpandView.{with_text, out_with_text, text_for, declare_text, source_view}
 
 stopped : (stop : Option (Number × ℕ)) (o next : Out) → is_some stop ≡ true → or_else stop o next ≡ o
 stopped None o next e = absurd (cc e)

@@ -15,8 +15,8 @@ use Rattle.plm_syntax.specs.declared.tree.Item.{Item}
 use Rattle.plm_syntax.specs.declared.tree.Block.{Row_of-Item, end_of-Item, more_of-Item, items-the_row-Item, items_hidden-the_row-Item-1}
 use Rattle.plm_syntax.specs.declared.tree.Basic.{Row_of-Statement, end_of-Statement, more_of-Statement, items-the_row-Statement, items_hidden-the_row-Statement-0}
 use Rattle.plm_syntax.specs.declared.tree.Basic.TheBlock.{hidden-the_row-Item-1, hidden-the_row-Statement-0}
-use Rattle.plm_syntax.specs.Tree.{VariablesT, variables, MembersT, members, ElementsT, elements, StatementsT, no_statements, statements, ItemsT, no_items, items, ExpressionsT, no_expressions, expressions, ValuesT, no_values, values, NamesT, no_names, names, ReferencesT, no_references, references}
-use Rattle.plm_syntax.specs.View.{name_of, expression_of, expressions_in, expressions_from, expressions_of, value_of, values_in, values_from, values_of, names_from, names_of, reference_of, references_from, variable_of, variables_from, member_of, members_from, element_of, elements_from, statement_of, statements_in, statements_from, statements_of, item_of, items_in, items_from, items_of}
+use Rattle.plm_syntax.specs.Tree.{VariablesT, variables, MembersT, members, ElementsT, elements, StatementsT, no_statements, statements, ItemsT, no_items, items, ExpressionsT, no_expressions, expressions, ValuesT, no_values, values, NamesT, names, ReferencesT, references}
+use Rattle.plm_syntax.specs.View.{name_of, expression_of, expressions_in, expressions_from, expressions_of, value_of, values_in, values_from, values_of, names_from, reference_of, references_from, variable_of, variables_from, member_of, members_from, element_of, elements_from, statement_of, statements_in, statements_from, statements_of, item_of, items_in, items_from, items_of}
 
 pub expression_rows : {m : _} (row : Row_of-Expression m) (before : ExpressionsT) → expressions_in row before ≡ expressions_from (items-the_row-Expression m row) before
 expression_rows end_of-Expression before = refl

@@ -1,16 +1,15 @@
 -- The trees of parts as they are put together.
-use Rattle.std.proofs.Common.{◌≡◌, List, [], ◌∷◌, ◌++◌, refl, sym, ap, ◌∙◌}
+use Rattle.std.proofs.Common.{◌≡◌, List, ◌∷◌, sym, ap, ◌∙◌}
 use Rattle.std.specs.Global.{Vec}
 use Rattle.plm_syntax.specs.declared.tree.Place.{Place}
-use Rattle.plm_syntax.specs.declared.tree.Name.{Name}
 use Rattle.plm_syntax.specs.declared.tree.Expression.{Expression}
 use Rattle.plm_syntax.specs.declared.tree.Expression.TheBlock.{hidden-the_row-Expression-0, hidden-the_row-Value-1}
 use Rattle.plm_syntax.specs.declared.tree.Reference.{Reference}
 use Rattle.plm_syntax.specs.declared.tree.Value.{Value as ValueTree}
 use Rattle.plm_syntax.specs.declared.tree.BinaryOperator.{BinaryOperator}
 use Rattle.plm_syntax.specs.declared.cursor.Cursor.{Cursor}
-use Rattle.plm_syntax.specs.Tree.{LocationForm, ExpressionT, ReferenceE, LocationE, ParenthesisedE, EmbeddedE, UnaryE, BinaryE, ReferenceT, ReferenceOf, ExpressionsT, no_expressions, LocationT, LocationOf, ConstantsOf, ValuesT, no_values}
-use Rattle.plm_syntax.specs.View.{name_of, expression_of, expressions_in, expressions_of, selector_of, reference_of, values_in, values_of}
+use Rattle.plm_syntax.specs.Tree.{LocationForm, ExpressionT, EmbeddedE, BinaryE, ReferenceT, ReferenceOf, ExpressionsT, no_expressions, LocationOf, ConstantsOf, no_values}
+use Rattle.plm_syntax.specs.View.{name_of, expression_of, expressions_in, selector_of, reference_of, values_in, values_of}
 use Rattle.plm_syntax.specs.Symbol.{Value, Symbol, ExpressionR}
 use Rattle.plm_syntax.specs.Machine.{run}
 use Rattle.plm_syntax.specs.Parsed.{ahead}

@@ -1,6 +1,6 @@
 -- Runs over a text with its end behind it, and without.
-use Rattle.std.proofs.Common.{◌≡◌, ℕ, zero, suc, ◌+◌, ◌≤◌, ◌<◌, nat_lt, List, [], ◌∷◌, ◌++◌, Bool, true, false, cond, Option, Some, None, Result, Ok, Err, refl, sym, ap, ◌∙◌, subst, append_assoc, arith, length, length-append, ◌⊎◌, inl, inr}
-use Rattle.plm_syntax.specs.Terminal.{Terminal, Finish, Leaf, leaf}
+use Rattle.std.proofs.Common.{◌≡◌, ℕ, suc, ◌+◌, ◌≤◌, nat_lt, List, [], ◌∷◌, ◌++◌, Bool, true, false, None, Result, Ok, Err, refl, sym, ap, ◌∙◌, arith, length, length-append, ◌⊎◌, inl, inr}
+use Rattle.plm_syntax.specs.Terminal.{Finish, Leaf, leaf}
 use Rattle.plm_syntax.specs.Sentence.{BeginsWithin}
 use Rattle.plm_syntax.specs.Symbol.{Value, Symbol, depth}
 use Rattle.plm_syntax.specs.Machine.{Move, Stay, Next, Open, feed, Stop, Refusal, Deep, Reading, run, start}

@@ -1,8 +1,8 @@
 -- The starts of blocks, turned round.
-use Rattle.std.proofs.Common.{◌≡◌, ◌∙◌, ℕ, List, [], ◌∷◌, ◌++◌, reverse, map, take, ap, refl, sym}
+use Rattle.std.proofs.Common.{◌≡◌, ℕ, List, [], ◌∷◌, ◌++◌, reverse, map, take, refl}
 use Rattle.std.proofs.lemmas.List.{reverse-append, take-map}
 use Rattle.plm_syntax.specs.declared.open_blocks.Literal.{Literal}
-use Rattle.plm_syntax.specs.Expand.{Blocks, closed}
+use Rattle.plm_syntax.specs.Expand.{closed}
 use Rattle.plm_syntax.specs.ExpandView.{literal_text}
 
 pub reverse_push : (xs : List ℕ) (x : ℕ) → reverse (xs ++ x ∷ []) ≡ x ∷ reverse xs

@@ -1,33 +1,23 @@
 -- Runs and modules: no two modules are spelled by one list, and what a run takes begins a module.
-use Rattle.std.proofs.Common.{◌≡◌, ℕ, zero, suc, ◌≤◌, ◌<◌, List, [], ◌∷◌, ◌++◌, Bool, true, false, cond, Option, Some, None, Result, Ok, Err, refl, sym, ap, ◌∙◌, subst, append_assoc, arith, length}
-use Rattle.plm_token.specs.declared.token.Keyword.{Keyword}
-use Rattle.plm_token.specs.declared.token.Keyword.TheVariants as key
-use Rattle.plm_token.specs.declared.token.Mark.{Mark}
-use Rattle.plm_token.specs.declared.token.Mark.TheVariants as mark
+use Rattle.std.proofs.Common.{◌≡◌, ℕ, suc, List, [], ◌∷◌, ◌++◌, Bool, true, false, cond, Option, Some, None, refl, sym, ap, ◌∙◌, subst, length}
 use Rattle.plm_syntax.specs.declared.tree.Place.{Place}
-use Rattle.plm_syntax.specs.declared.tree.Scalar.{Scalar}
-use Rattle.plm_syntax.specs.declared.tree.Scalar.TheVariants as scalar
-use Rattle.plm_syntax.specs.declared.tree.UnaryOperator.{UnaryOperator}
-use Rattle.plm_syntax.specs.declared.tree.UnaryOperator.TheVariants as unary
-use Rattle.plm_syntax.specs.declared.tree.BinaryOperator.{BinaryOperator}
-use Rattle.plm_syntax.specs.declared.tree.BinaryOperator.TheVariants as binary
-use Rattle.plm_syntax.specs.Terminal.{NameT, NumberT, TextT, Terminal, Name, Number, Text, Key, Sign, Finish, Leaf, leaf, leaf_at, key_number, sign_number, is_key, is_sign, is_finish, is_same}
-use Rattle.plm_syntax.specs.Tree.{LocationForm, Pointer, Offset, ExpressionT, NumberE, TextE, ReferenceE, LocationE, ParenthesisedE, EmbeddedE, UnaryE, BinaryE, ReferenceT, ReferenceOf, ExpressionsT, no_expressions, expressions, SelectorT, no_member, member, member_at, LocationT, LocationOf, ConstantsOf, ValueT, NumberV, NegativeV, TextV, LocationV, ValuesT, no_values, values, NamesT, no_names, names, VariableT, VariableOf, VariablesT, no_variables, variables, DeclaredT, OneVariable, VariableList, DimensionT, no_dimension, dimension, implicit_dimension, MemberT, OneMember, MemberList, MembersT, no_members, members, TypeT, ScalarType, StructureType, AtT, no_at, at_number, at_location, InitialT, no_initial, initial, constant_data, AttributesT, External, Attributes, ElementT, LiteralElement, VariableElement, ElementsT, no_elements, elements, LinkageT, no_linkage, public_linkage, external_linkage, ReferencesT, no_references, references, StatementT, Labelled, BasicT, EmptyS, AssignS, CallS, ReturnS, ReturnValueS, EnableS, DisableS, HaltS, IfS, IfElseS, DoS, WhileS, CaseS, IterateS, StatementsT, no_statements, statements, BlockT, BlockOf, ItemsT, no_items, items, ItemT, DeclareI, ProcedureI, ModuleT, ModuleOf}
-use Rattle.plm_syntax.specs.Spelling.{unary_sign, binary_sign, form_sign, scalar_key, last_name, behind_labels, tok, sign, word, expression, reference, subscripts, listed, selector, location, value, value_list, listed_values, listed_names, name_list, parenthesised_names, base, variable, listed_variables, variable_list, declared, in_parentheses, dimension_leaves, count, member_leaves, listed_members, member_list, type_leaves, at_leaves, initial_leaves, public, attributes, element, listed_elements, element_list, returned, interrupt, linkage, ending, listed_references, targets, labels, step, statement, basic, statement_list, block, item_list, item, module_leaves, put_leaf, put_level, leaves_of, levels_of}
-use Rattle.plm_syntax.specs.WellFormed.{level_of, left_level, unary_level, operand_level, level, Well, WellReference, WellExpressions, WellSelector, WellLocation, WellValue, WellValues, WellSomeValues, HasNames, HasVariables, WellDeclared, WellMember, WellSomeMembers, WellType, WellAt, WellInitial, WellAttributes, WellElement, WellSomeElements, WellElements, WellSomeReferences, WellTargets, WellStep, ends_open, basic_open, is_end_name, WellEnd, WellStatement, WellBasic, WellStatements, WellBlock, WellItems, WellItem, WellModule}
-use Rattle.plm_syntax.specs.Symbol.{Value, Action, Level, Goal, Symbol, depth_on, depth, Rule, behind, otherwise, before, opened, need, push, ExpressionR, ExpressionsR, NameR, ValueR, ValuesR, ReferencesR, NamesR, StatementR, ArmsR, StatementsR, ItemsR, StepR, EndR, VariableR, VariablesR, DimensionR, CountR, MembersR, MemberR, TypeR, AtR, InitialR, PublicR, AttributesR, ElementR, ElementsR, DeclaredR, RangeR, HeaderR, ModuleR, Products, Sums, Relations, Conjunctions, Disjunctions, PrimaryG, SignedG, NegationG, MoreG, InsideG, AfterReferenceG, SubscriptsG, MoreSubscriptsG, SelectorG, MemberG, MemberSubscriptG, LocatedG, ValueG, NegativeG, MoreValuesG, StatementG, LeadG, TargetG, MoreTargetsG, CalledG, ReturnedG, ArmG, OtherwiseG, DoG, StepG, StatementsG, EndG, ItemsG, ItemLeadG, ItemColonG, ParametersG, ParameterG, MoreParametersG, ReturnedTypeG, InterruptG, InterruptNumberG, LinkageG, ElementG, ElementLeadG, LiteralTextG, VariableG, MoreVariablesG, BasedG, BaseG, DimensionG, DimensionBodyG, TypeG, MemberOfG, MemberNameG, MoreMemberNamesG, CountG, CountNumberG, MemberTypeG, MoreMembersG, AttributesG, AtG, AtBodyG, InitialG, MoreElementsG, ModuleG, StartG, Need, Want, Do, Leave, Refused, Over, Take, Keep}
-use Rattle.plm_syntax.specs.Machine.{plain, operand, again, number_of, an_expression, operator_of, make_binary, make_unary, make_parenthesised, make_embedded, add_expression, set_subscripts, set_member, set_member_subscript, operation, more, reference_begun, primary, signed, negation, expression_at, closing, inside, after_reference, subscripts_rule, more_subscripts, selector_rule, member_rule, member_subscript, locate, locate_values, location_value, add_value, a_value_list, located, value_rule, negative, more_values, make_simple, add_label, add_target, make_assign, make_call, make_return, join_arms, make_if, add_statement, make_do, make_while, make_case, make_range, set_step, make_iterate, statement_rule, more_targets, assignment_rule, lead, target, called, returned_rule, no_labels, no_statement_yet, arm, otherwise_rule, do_rule, step_rule, end_rule, and_more, statements_rule, make_declare, make_procedure, add_parameter, set_returned, set_interrupt, set_linkage, make_module, scalar_of, parameters_rule, parameter, more_parameters, returned_type, interrupt_rule, interrupt_number, linkage_rule, items_rule, item_lead, procedure_symbols, item_colon, add_element, make_literal, set_base, add_variable, one_variable, variable_group, set_dimension, set_count, add_name, make_member, add_member, make_structure, set_external, set_public, set_at, set_at_location, set_initial, set_data, make_element, attributes_tail, declared_tail, element_rule, more_elements, variable_rule, more_variables, based_rule, base_rule, dimension_rule, dimension_body, type_rule, member_of, member_name, more_member_names, count_rule, count_number, member_type, more_members, at_rule, at_body, initial_rule, attributes_rule, element_lead, literal_text, module_rule, start_rule, rule, Move, moved, kept, feed, Trace, trace, Stop, Reading, run, start, Stay, Next, Open, Ended, Wrong, Then, Refusal, Deep}
+use Rattle.plm_syntax.specs.Terminal.{Terminal, Leaf, leaf, leaf_at, is_same}
+use Rattle.plm_syntax.specs.Tree.{ModuleT}
+use Rattle.plm_syntax.specs.Spelling.{module_leaves, put_leaf, leaves_of, levels_of}
+use Rattle.plm_syntax.specs.WellFormed.{WellModule}
+use Rattle.plm_syntax.specs.Symbol.{Value, Action, Goal, Symbol, depth, Rule, ModuleR, PrimaryG, SignedG, NegationG, MoreG, InsideG, AfterReferenceG, SubscriptsG, MoreSubscriptsG, SelectorG, MemberG, MemberSubscriptG, LocatedG, ValueG, NegativeG, MoreValuesG, StatementG, LeadG, TargetG, MoreTargetsG, CalledG, ReturnedG, ArmG, OtherwiseG, DoG, StepG, StatementsG, EndG, ItemsG, ItemLeadG, ItemColonG, ParametersG, ParameterG, MoreParametersG, ReturnedTypeG, InterruptG, InterruptNumberG, LinkageG, ElementG, ElementLeadG, LiteralTextG, VariableG, MoreVariablesG, BasedG, BaseG, DimensionG, DimensionBodyG, TypeG, MemberOfG, MemberNameG, MoreMemberNamesG, CountG, CountNumberG, MemberTypeG, MoreMembersG, AttributesG, AtG, AtBodyG, InitialG, MoreElementsG, ModuleG, StartG, Need, Want, Do, Leave, Refused, Over, Take, Keep}
+use Rattle.plm_syntax.specs.Machine.{again, rule, Move, kept, feed, Trace, trace, start, Stay, Next, Open, Ended, Then}
 use Rattle.std.proofs.Common.{take, drop}
 use Rattle.std.proofs.lemmas.List.{append-nil}
-use Rattle.plm_syntax.specs.Sentence.{IsKept, Fits, Spells, AllWithin, Begins, BeginsWithin, IsFirstWrong, IsFirstDeep, SpellOnce}
+use Rattle.plm_syntax.specs.Sentence.{IsKept, Fits, AllWithin, Begins, BeginsWithin, SpellOnce}
 use Rattle.plm_syntax.proofs.Steps.{go, trace_step, ruled, feed_want}
-use Rattle.plm_syntax.proofs.Levels.{thens, Levelled, levels_module_leaves}
+use Rattle.plm_syntax.proofs.Levels.{thens, levels_module_leaves}
 use Rattle.plm_syntax.proofs.DriveBlock.{module_drives}
-use Rattle.plm_syntax.proofs.Fill.{Filled, fill_all}
-use Rattle.plm_syntax.proofs.Meaning.{Any, Inner, inner, WellInner, Several, several_leaves, WellSeveral, Group, group_leaves, group_statement, WellGroup, Ended_statements, ended_leaves, WellEnded, Ended_block, block_leaves, WellEndedBlock, at_body_leaves, WellAtBody, begins_else, left_of, Means, Awaits, Says, depth_join, awaits_join, split, joined, element_at, some_inj, all_sign, sign_found, same_sign, all_key, key_found, same_key, sign_is, key_is, same_is, on_test, on_sign, on_key, on_behind, on_otherwise, on_before, on_same, Nested, Stored, PlainDo, WhileDo, CaseDo, IterateDo, without, with_else, An, AStatement, Otherwise, Token_then}
-use Rattle.plm_syntax.proofs.TableExpression.{expression_of, Operated, products_go, sums_go, relations_go, conjunctions_go, disjunctions_go, operator_is, left_most_of, operated, more_says, reference_of, subscripts_says, more_subscripts_says, selector_says, member_says, member_subscript_says, values_of, located_says, value_says, negative_says, some_are_values, more_values_says, primary_says, signed_says, relation_of, negation_says, negation_decided, expression_says, closed_inside, from_disjunctions, from_conjunctions, from_relations, AnE, last_inside, disjunctions_inside, conjunctions_inside, relations_inside, sums_inside, inside_says, after_reference_says}
-use Rattle.plm_syntax.proofs.TableDeclaration.{scalar_is, name_next, parameter_says, member_name_says, AnList, more_parameters_says, more_member_names_says, names_in_parentheses, parameters_says, on_scalar, returned_type_says, interrupt_says, interrupt_number_says, linkage_says, at_says, at_body_says, initial_says, attributes_says, count_says, count_number_says, member_type_says, member_of_says, member_next, some_are_members, more_members_says, type_says, dimension_says, dimension_body_says, based_says, base_says, variable_says, variable_next, more_variables_says, Tail, tail_leaves, WellTail, attributed, tail_of, element_of, type_decided, element_lead_says, literal_text_says, element_says, element_next, some_are_elements, more_elements_says}
-use Rattle.plm_syntax.proofs.TableBlock.{with_labels, along, group_open, group_well, group_is, if_of, statement_says, target_next, target_added, some_are_targets, assign_of, more_targets_says, target_says, first_target_is, AssignsTo, assigns_from, assignment_says, label_added, lead_says, called_says, returned_says, on_opened, arm_says, otherwise_says, step_says, end_says, more_and_end, statement_then, statements_says, do_says, block_then, item_then, items_statement, items_other, items_says, assignment_decided, item_lead_says, item_colon_says, module_says, start_says}
+use Rattle.plm_syntax.proofs.Fill.{fill_all}
+use Rattle.plm_syntax.proofs.Meaning.{Means, Awaits, Says, split, same_is}
+use Rattle.plm_syntax.proofs.TableExpression.{more_says, subscripts_says, more_subscripts_says, selector_says, member_says, member_subscript_says, located_says, value_says, negative_says, more_values_says, primary_says, signed_says, negation_says, inside_says, after_reference_says}
+use Rattle.plm_syntax.proofs.TableDeclaration.{parameter_says, member_name_says, more_parameters_says, more_member_names_says, parameters_says, returned_type_says, interrupt_says, interrupt_number_says, linkage_says, at_says, at_body_says, initial_says, attributes_says, count_says, count_number_says, member_type_says, member_of_says, more_members_says, type_says, dimension_says, dimension_body_says, based_says, base_says, variable_says, more_variables_says, element_lead_says, literal_text_says, element_says, more_elements_says}
+use Rattle.plm_syntax.proofs.TableBlock.{statement_says, more_targets_says, target_says, lead_says, called_says, returned_says, arm_says, otherwise_says, step_says, end_says, statements_says, do_says, items_says, item_lead_says, item_colon_says, module_says, start_says}
 
 pub taken : (q s : List Symbol) (K : List Leaf → Type 0) (ls : List Leaf) → Awaits (q ++ s) 0 K ls → Awaits q (depth s) (Awaits s 0 K) ls
 taken q s K ls w = split q s 0 K ls w

@@ -1,5 +1,5 @@
 -- What `parse` answers.
-use Rattle.std.specs.Prelude.{◌≡◌, ℕ, zero, suc, ◌+◌, ◌-◌, List, [], ◌∷◌, ◌++◌, Bool, true, false, cond, Option, Some, None, Result, Ok, Err}
+use Rattle.std.specs.Prelude.{◌≡◌, ℕ, zero, suc, ◌+◌, ◌-◌, List, [], ◌∷◌, ◌++◌, cond, Option, Some, None, Result, Ok, Err}
 use Rattle.word86.specs.declared.fault.Fault.{Fault}
 use Rattle.word86.specs.declared.fault.Fault.TheVariants.{Memory, At}
 use Rattle.word86.specs.declared.number.Number.{Number as FaultNumber}
@@ -11,7 +11,6 @@ use Rattle.plm_token.specs.Scanning.{Lexeme}
 use Rattle.plm_syntax.specs.declared.tree.Place.{Place}
 use Rattle.plm_syntax.specs.declared.tree.Module.{Module}
 use Rattle.plm_syntax.specs.Terminal.{Terminal, Name, Number, Text, Key, Sign, Finish, Leaf, leaf, leaf_at, is_key}
-use Rattle.plm_syntax.specs.Tree.{ModuleT}
 use Rattle.plm_syntax.specs.View.{module_of}
 use Rattle.plm_syntax.specs.Spelling.{levels_of}
 use Rattle.plm_syntax.specs.WellFormed.{WellModule}

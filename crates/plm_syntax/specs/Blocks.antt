@@ -1,6 +1,6 @@
 -- What the parser's functions read: statements, blocks and modules.
-use Rattle.std.specs.Prelude.{◌≡◌, ℕ, suc, ◌+◌, ◌≤◌, ◌<◌, List, [], ◌∷◌, ◌++◌, length, Bool, true, false, ◌&&◌, Option, Some, None, Result, Ok, Err}
-use Rattle.std.specs.Global.{Vec}
+use Rattle.std.specs.Prelude.{◌≡◌, ℕ, suc, ◌+◌, ◌≤◌, ◌<◌, List, [], ◌∷◌, length, Bool, true, false, ◌&&◌, Option, Some, None, Result, Ok, Err}
+use Rattle.std.specs.Global.{Vec, Box}
 use Rattle.plm_token.specs.declared.token.Keyword.{Keyword}
 use Rattle.plm_token.specs.declared.token.Mark.{Mark}
 use Rattle.plm_token.specs.declared.token.Keyword.TheVariants as key
@@ -17,16 +17,18 @@ use Rattle.plm_syntax.specs.declared.tree.Block.{Block}
 use Rattle.plm_syntax.specs.declared.tree.Item.{Item}
 use Rattle.plm_syntax.specs.declared.tree.Procedure.{Procedure}
 use Rattle.plm_syntax.specs.declared.tree.Module.{Module}
+use Rattle.plm_syntax.specs.declared.statement.Signature.{Signature}
+use Rattle.plm_syntax.specs.declared.statement.Bounds.{Bounds}
 use Rattle.plm_syntax.specs.declared.cursor.Cursor.{Cursor}
 use Rattle.plm_syntax.specs.declared.failure.Failure.{Failure}
 use Rattle.plm_syntax.specs.Terminal.{NameT, NumberT, Terminal, Name, Number, Text, Key, Sign, Finish, Leaf, leaf_at, is_key, is_sign}
-use Rattle.plm_syntax.specs.Tree.{BlockT, BlockOf, StatementsT, NamesT, no_names, ItemsT, items, no_items, no_statements, LinkageT, no_linkage, Labelled}
-use Rattle.plm_syntax.specs.View.{name_of, counted, base_of, names_of, expression_of, step_of, linkage_of, basic_of, statement_of, statements_of, item_of, items_of, block_of, procedure_of, module_of}
-use Rattle.plm_syntax.specs.Symbol.{Value, Symbol, depth, need, push, Need, Want, Do, Leave, ExpressionR, StatementR, StatementsR, ItemsR, NamesR, EndR, StepR, HeaderR, ModuleR, ArmG, OtherwiseG, StepG, StatementsG, ItemsG, ParametersG, ReturnedTypeG, InterruptG, LinkageG}
-use Rattle.plm_syntax.specs.Machine.{an_expression, make_if, make_range, make_iterate, no_statement_yet, make_procedure, Reading, run, start}
+use Rattle.plm_syntax.specs.Tree.{BlockT, BlockOf, StatementsT, NamesT, no_names, ItemsT, items, no_items, no_statements, no_linkage, Labelled}
+use Rattle.plm_syntax.specs.View.{name_of, counted, base_of, names_of, expression_of, step_of, linkage_of, basic_of, statement_of, statements_of, item_of, block_of, procedure_of, module_of}
+use Rattle.plm_syntax.specs.Symbol.{Value, Symbol, depth, need, push, Need, Want, Do, Leave, ExpressionR, StatementR, StatementsR, ItemsR, EndR, StepR, RangeR, HeaderR, ModuleR, ArmG, OtherwiseG, StepG, StatementsG, ItemsG, ParametersG, ReturnedTypeG, InterruptG, LinkageG}
+use Rattle.plm_syntax.specs.Machine.{an_expression, make_if, make_range, make_iterate, no_statement_yet, make_procedure, run, start}
 use Rattle.plm_token.specs.declared.token.Token.{Token}
 use Rattle.plm_syntax.specs.Answers.{terminal_of}
-use Rattle.plm_syntax.specs.Parsed.{next_of, ahead, is_name, Takes, Fails, Arrives}
+use Rattle.plm_syntax.specs.Parsed.{next_of, ahead, is_name, Takes, Fails}
 
 -- ---- the tokens that come next
 
@@ -99,6 +101,10 @@ IsBeginning c (Some x) = Takes c (terminal_of x.0.kind x.0.text.now x.1) x.1 x.2
 abbrev pub read_statement : Statement → List Value → List Value
 read_statement s v = StatementR (statement_of s) ∷ v
 
+-- a statement in a box, as IF keeps its arms
+abbrev pub read_arm : Box Statement → List Value → List Value
+read_arm b v = StatementR (statement_of b.value) ∷ v
+
 abbrev pub read_basic : NamesT → Basic → List Value → List Value
 read_basic ls b v = StatementR (Labelled ls (basic_of b)) ∷ v
 
@@ -123,6 +129,12 @@ read_governed x v = EndR (base_of x.2) ∷ StatementsR (statements_of x.1.items)
 abbrev pub read_step : Option Expression → List Value → List Value
 read_step s v = StepR (step_of s) ∷ v
 
+abbrev pub read_range : NameT → Bounds → List Value → List Value
+read_range i r v = StepR (step_of r.step) ∷ RangeR i (expression_of r.first) (expression_of r.last) ∷ v
+
+abbrev pub read_header : NameT → Signature → List Value → List Value
+read_header n h v = HeaderR n (names_of h.parameters.items) h.returned (counted h.interrupt) (linkage_of h.linkage) ∷ v
+
 abbrev pub read_procedure : ItemsT → Procedure → List Value → List Value
 read_procedure is p v = ItemsR (items is (procedure_of p)) ∷ v
 
@@ -140,11 +152,17 @@ condition_goals p s = an_expression (Need (Key key.Then) ∷ Want ArmG ∷ Want 
 abbrev pub governed_goals : Option NameT → List Symbol → List Symbol
 governed_goals l s = an_expression (need mark.Semicolon ∷ no_statement_yet ∷ Want (StatementsG l) ∷ s)
 
+abbrev pub range_goals : List Symbol → List Symbol
+range_goals s = need mark.Equal ∷ an_expression (Need (Key key.To) ∷ an_expression (Do make_range ∷ push (StepR None) ∷ Want StepG ∷ need mark.Semicolon ∷ s))
+
 abbrev pub iteration_goals : Place → Option NameT → List Symbol → List Symbol
-iteration_goals p l s = need mark.Equal ∷ an_expression (Need (Key key.To) ∷ an_expression (Do make_range ∷ push (StepR None) ∷ Want StepG ∷ need mark.Semicolon ∷ no_statement_yet ∷ Want (StatementsG l) ∷ Do (make_iterate p) ∷ s))
+iteration_goals p l s = range_goals (no_statement_yet ∷ Want (StatementsG l) ∷ Do (make_iterate p) ∷ s)
+
+abbrev pub header_goals : List Symbol → List Symbol
+header_goals s = Want ParametersG ∷ Want ReturnedTypeG ∷ Want InterruptG ∷ Want LinkageG ∷ need mark.Semicolon ∷ s
 
 abbrev pub procedure_goals : NameT → List Symbol → List Symbol
-procedure_goals n s = Want ParametersG ∷ Want ReturnedTypeG ∷ Want InterruptG ∷ Want LinkageG ∷ need mark.Semicolon ∷ push (ItemsR no_items) ∷ Want (ItemsG (Some n)) ∷ Leave ∷ Do make_procedure ∷ s
+procedure_goals n s = header_goals (push (ItemsR no_items) ∷ Want (ItemsG (Some n)) ∷ Leave ∷ Do make_procedure ∷ s)
 
 -- ---- parts that are no failures, or no results
 

@@ -1,8 +1,6 @@
 -- A machine over tokens: a stack of what is awaited, and the trees read so far. It is scaffolding of proofs: no public clause speaks of it.
-use Rattle.std.specs.Prelude.{◌≡◌, ℕ, zero, suc, nat_lt, nat_eq, List, [], ◌∷◌, ◌++◌, length, Bool, true, false, cond, Option, Some, None, Result, Ok, Err}
-use Rattle.plm_token.specs.declared.token.Keyword.{Keyword}
+use Rattle.std.specs.Prelude.{ℕ, nat_lt, nat_eq, List, [], ◌∷◌, ◌++◌, length, Bool, true, false, cond, Option, Some, None, Result, Ok, Err}
 use Rattle.plm_token.specs.declared.token.Keyword.TheVariants as key
-use Rattle.plm_token.specs.declared.token.Mark.{Mark}
 use Rattle.plm_token.specs.declared.token.Mark.TheVariants as mark
 use Rattle.plm_syntax.specs.declared.tree.Place.{Place}
 use Rattle.plm_syntax.specs.declared.tree.Scalar.{Scalar}
@@ -13,8 +11,8 @@ use Rattle.plm_syntax.specs.declared.tree.BinaryOperator.{BinaryOperator}
 use Rattle.plm_syntax.specs.declared.tree.BinaryOperator.TheVariants as binary
 use Rattle.plm_syntax.specs.Terminal.{NameT, NumberT, TextT, Terminal, Name, Number, Text, Key, Sign, Finish, Leaf, is_key, is_sign, is_same}
 use Rattle.plm_syntax.specs.WellFormed.{level_of, is_end_name}
-use Rattle.plm_syntax.specs.Tree.{LocationForm, Pointer, Offset, ExpressionT, NumberE, TextE, ReferenceE, LocationE, ParenthesisedE, EmbeddedE, UnaryE, BinaryE, ReferenceT, ReferenceOf, ExpressionsT, no_expressions, expressions, SelectorT, no_member, member, member_at, LocationT, LocationOf, ConstantsOf, ValueT, NumberV, NegativeV, TextV, LocationV, ValuesT, no_values, values, NamesT, no_names, names, VariableT, VariableOf, VariablesT, no_variables, variables, DeclaredT, OneVariable, VariableList, DimensionT, no_dimension, dimension, implicit_dimension, MemberT, OneMember, MemberList, MembersT, no_members, members, TypeT, ScalarType, StructureType, AtT, no_at, at_number, at_location, InitialT, no_initial, initial, constant_data, AttributesT, External, Attributes, ElementT, LiteralElement, VariableElement, ElementsT, no_elements, elements, LinkageT, no_linkage, public_linkage, external_linkage, ReferencesT, no_references, references, StatementT, Labelled, BasicT, EmptyS, AssignS, CallS, ReturnS, ReturnValueS, EnableS, DisableS, HaltS, IfS, IfElseS, DoS, WhileS, CaseS, IterateS, StatementsT, no_statements, statements, BlockT, BlockOf, ItemsT, no_items, items, ItemT, DeclareI, ProcedureI, ModuleT, ModuleOf}
-use Rattle.plm_syntax.specs.Symbol.{Value, Action, Level, Goal, Symbol, depth_on, depth, Rule, behind, otherwise, before, opened, need, push, ExpressionR, ExpressionsR, NameR, ValueR, ValuesR, ReferencesR, NamesR, StatementR, ArmsR, StatementsR, ItemsR, StepR, EndR, VariableR, VariablesR, DimensionR, CountR, MembersR, MemberR, TypeR, AtR, InitialR, PublicR, AttributesR, ElementR, ElementsR, DeclaredR, RangeR, HeaderR, ModuleR, Products, Sums, Relations, Conjunctions, Disjunctions, PrimaryG, SignedG, NegationG, MoreG, InsideG, AfterReferenceG, SubscriptsG, MoreSubscriptsG, SelectorG, MemberG, MemberSubscriptG, LocatedG, ValueG, NegativeG, MoreValuesG, StatementG, LeadG, TargetG, MoreTargetsG, CalledG, ReturnedG, ArmG, OtherwiseG, DoG, StepG, StatementsG, EndG, ItemsG, ItemLeadG, ItemColonG, ParametersG, ParameterG, MoreParametersG, ReturnedTypeG, InterruptG, InterruptNumberG, LinkageG, ElementG, ElementLeadG, LiteralTextG, VariableG, MoreVariablesG, BasedG, BaseG, DimensionG, DimensionBodyG, TypeG, MemberOfG, MemberNameG, MoreMemberNamesG, CountG, CountNumberG, MemberTypeG, MoreMembersG, AttributesG, AtG, AtBodyG, InitialG, MoreElementsG, ModuleG, StartG, Need, Want, Do, Leave, Refused, Over, Take, Keep}
+use Rattle.plm_syntax.specs.Tree.{LocationForm, Pointer, Offset, NumberE, TextE, ReferenceE, LocationE, ParenthesisedE, EmbeddedE, UnaryE, BinaryE, ReferenceT, ReferenceOf, no_expressions, expressions, no_member, member, member_at, LocationOf, ConstantsOf, NumberV, NegativeV, TextV, LocationV, no_values, values, no_names, names, VariableOf, no_variables, variables, OneVariable, VariableList, DimensionT, no_dimension, dimension, implicit_dimension, OneMember, MemberList, no_members, members, ScalarType, StructureType, AtT, no_at, at_number, at_location, no_initial, initial, constant_data, External, Attributes, LiteralElement, VariableElement, no_elements, elements, LinkageT, no_linkage, public_linkage, external_linkage, no_references, references, Labelled, BasicT, EmptyS, AssignS, CallS, ReturnS, ReturnValueS, EnableS, DisableS, HaltS, IfS, IfElseS, DoS, WhileS, CaseS, IterateS, no_statements, statements, BlockOf, no_items, items, DeclareI, ProcedureI, ModuleOf}
+use Rattle.plm_syntax.specs.Symbol.{Value, Action, Level, Goal, Symbol, depth, Rule, behind, otherwise, before, opened, need, push, ExpressionR, ExpressionsR, NameR, ValueR, ValuesR, ReferencesR, NamesR, StatementR, ArmsR, StatementsR, ItemsR, StepR, EndR, VariableR, VariablesR, DimensionR, CountR, MembersR, MemberR, TypeR, AttributesR, ElementR, ElementsR, DeclaredR, RangeR, HeaderR, ModuleR, Products, Sums, Relations, Conjunctions, Disjunctions, PrimaryG, SignedG, NegationG, MoreG, InsideG, AfterReferenceG, SubscriptsG, MoreSubscriptsG, SelectorG, MemberG, MemberSubscriptG, LocatedG, ValueG, NegativeG, MoreValuesG, StatementG, LeadG, TargetG, MoreTargetsG, CalledG, ReturnedG, ArmG, OtherwiseG, DoG, StepG, StatementsG, EndG, ItemsG, ItemLeadG, ItemColonG, ParametersG, ParameterG, MoreParametersG, ReturnedTypeG, InterruptG, InterruptNumberG, LinkageG, ElementG, ElementLeadG, LiteralTextG, VariableG, MoreVariablesG, BasedG, BaseG, DimensionG, DimensionBodyG, TypeG, MemberOfG, MemberNameG, MoreMemberNamesG, CountG, CountNumberG, MemberTypeG, MoreMembersG, AttributesG, AtG, AtBodyG, InitialG, MoreElementsG, ModuleG, StartG, Need, Want, Do, Leave, Refused, Over, Take, Keep}
 
 -- ---- expressions
 

@@ -1,5 +1,5 @@
 -- What a function of the parser returns: where it leads a run.
-use Rattle.std.specs.Prelude.{◌≡◌, ℕ, zero, suc, ◌+◌, ◌≤◌, List, [], ◌∷◌, length, Bool, true, false, nat_eq, Option, Some, None, Result, Ok, Err}
+use Rattle.std.specs.Prelude.{◌≡◌, ℕ, suc, ◌+◌, ◌≤◌, List, [], ◌∷◌, length, Bool, true, false, nat_eq, Option, Some, None, Result, Ok, Err}
 use Rattle.plm_token.specs.declared.token.Keyword.{Keyword}
 use Rattle.plm_token.specs.declared.token.Mark.{Mark}
 use Rattle.plm_token.specs.declared.token.Kind.{Kind}

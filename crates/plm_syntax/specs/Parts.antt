@@ -1,5 +1,5 @@
 -- What the parser's functions read.
-use Rattle.std.specs.Prelude.{◌≡◌, ℕ, nat_eq, List, [], ◌∷◌, ◌++◌, Bool, true, false, Option, Some, None}
+use Rattle.std.specs.Prelude.{◌≡◌, nat_eq, List, ◌∷◌, ◌++◌, Bool, true, false, Option, Some, None}
 use Rattle.plm_syntax.specs.declared.tree.Place.{Place}
 use Rattle.plm_syntax.specs.declared.tree.BinaryOperator.{BinaryOperator}
 use Rattle.plm_syntax.specs.declared.tree.Expression.{Expression}
@@ -25,7 +25,7 @@ use Rattle.plm_syntax.specs.declared.tree.Initial.{Initial}
 use Rattle.plm_syntax.specs.declared.tree.Attributes.{Attributes as Extras}
 use Rattle.plm_syntax.specs.declared.tree.Element.{Element}
 use Rattle.plm_syntax.specs.Terminal.{NameT, is_sign}
-use Rattle.plm_syntax.specs.Tree.{ElementsT, elements, no_variables, no_members, no_linkage, no_initial, AtT, Attributes, LocationForm, ReferenceE, LocationE, ReferenceT, ReferenceOf, ExpressionsT, no_expressions, no_member}
+use Rattle.plm_syntax.specs.Tree.{ElementsT, elements, no_variables, no_members, no_linkage, no_initial, AtT, Attributes, LocationForm, ReferenceE, LocationE, ReferenceOf, ExpressionsT, no_expressions, no_member}
 use Rattle.plm_syntax.specs.View.{name_of, counted, names_of, variable_of, variables_from, dimension_of, member_of, members_from, type_of, at_of, initial_of, attributes_of, element_of, elements_of, expression_of, expressions_of, reference_of, selector_of, location_of, value_of, values_of}
 use Rattle.plm_syntax.specs.Spelling.{binary_sign, form_sign, scalar_key}
 use Rattle.plm_syntax.specs.WellFormed.{level_of}

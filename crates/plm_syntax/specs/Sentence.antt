@@ -1,7 +1,7 @@
 -- Which tokens spell a module, and the token at which a list of tokens stops being one.
 use Rattle.std.specs.Prelude.{◌≡◌, ℕ, suc, ◌≤◌, ◌<◌, List, [], ◌∷◌, ◌++◌, length, take, Option, Some, None}
 use Rattle.plm_syntax.specs.declared.tree.Place.{Place}
-use Rattle.plm_syntax.specs.Terminal.{Terminal, Leaf}
+use Rattle.plm_syntax.specs.Terminal.{Leaf}
 use Rattle.plm_syntax.specs.Tree.{ModuleT}
 use Rattle.plm_syntax.specs.Spelling.{leaves_of, levels_of}
 use Rattle.plm_syntax.specs.WellFormed.{WellModule}

@@ -1,19 +1,10 @@
 -- What the machine of proofs awaits, the trees that it has read, and what a rule says. No public clause speaks of it.
-use Rattle.std.specs.Prelude.{◌≡◌, ℕ, zero, suc, nat_lt, nat_eq, List, [], ◌∷◌, ◌++◌, length, Bool, true, false, cond, Option, Some, None, Result, Ok, Err}
-use Rattle.plm_token.specs.declared.token.Keyword.{Keyword}
-use Rattle.plm_token.specs.declared.token.Keyword.TheVariants as key
+use Rattle.std.specs.Prelude.{ℕ, suc, List, [], ◌∷◌, ◌++◌, Bool, true, Option, Some}
 use Rattle.plm_token.specs.declared.token.Mark.{Mark}
-use Rattle.plm_token.specs.declared.token.Mark.TheVariants as mark
 use Rattle.plm_syntax.specs.declared.tree.Place.{Place}
 use Rattle.plm_syntax.specs.declared.tree.Scalar.{Scalar}
-use Rattle.plm_syntax.specs.declared.tree.Scalar.TheVariants as scalar
-use Rattle.plm_syntax.specs.declared.tree.UnaryOperator.{UnaryOperator}
-use Rattle.plm_syntax.specs.declared.tree.UnaryOperator.TheVariants as unary
-use Rattle.plm_syntax.specs.declared.tree.BinaryOperator.{BinaryOperator}
-use Rattle.plm_syntax.specs.declared.tree.BinaryOperator.TheVariants as binary
-use Rattle.plm_syntax.specs.Terminal.{NameT, NumberT, TextT, Terminal, Name, Number, Text, Key, Sign, Finish, Leaf, is_key, is_sign, is_same}
-use Rattle.plm_syntax.specs.WellFormed.{level_of, is_end_name}
-use Rattle.plm_syntax.specs.Tree.{LocationForm, Pointer, Offset, ExpressionT, NumberE, TextE, ReferenceE, LocationE, ParenthesisedE, EmbeddedE, UnaryE, BinaryE, ReferenceT, ReferenceOf, ExpressionsT, no_expressions, expressions, SelectorT, no_member, member, member_at, LocationT, LocationOf, ConstantsOf, ValueT, NumberV, NegativeV, TextV, LocationV, ValuesT, no_values, values, NamesT, no_names, names, VariableT, VariableOf, VariablesT, no_variables, variables, DeclaredT, OneVariable, VariableList, DimensionT, no_dimension, dimension, implicit_dimension, MemberT, OneMember, MemberList, MembersT, no_members, members, TypeT, ScalarType, StructureType, AtT, no_at, at_number, at_location, InitialT, no_initial, initial, constant_data, AttributesT, External, Attributes, ElementT, LiteralElement, VariableElement, ElementsT, no_elements, elements, LinkageT, no_linkage, public_linkage, external_linkage, ReferencesT, no_references, references, StatementT, Labelled, BasicT, EmptyS, AssignS, CallS, ReturnS, ReturnValueS, EnableS, DisableS, HaltS, IfS, IfElseS, DoS, WhileS, CaseS, IterateS, StatementsT, no_statements, statements, BlockT, BlockOf, ItemsT, no_items, items, ItemT, DeclareI, ProcedureI, ModuleT, ModuleOf}
+use Rattle.plm_syntax.specs.Terminal.{NameT, NumberT, Terminal, Sign}
+use Rattle.plm_syntax.specs.Tree.{LocationForm, ExpressionT, ExpressionsT, ValueT, ValuesT, NamesT, VariableT, VariablesT, DeclaredT, DimensionT, MemberT, MembersT, TypeT, AtT, InitialT, AttributesT, ElementT, ElementsT, LinkageT, ReferencesT, StatementT, StatementsT, ItemsT, ModuleT}
 
 -- ---- the trees read so far, the newest first
 

@@ -1,5 +1,5 @@
 -- The syntax tree without where it lies in memory. Lists grow at their end.
-use Rattle.std.specs.Prelude.{ℕ, Bool, Option, Some, None}
+use Rattle.std.specs.Prelude.{Bool, Option}
 use Rattle.plm_syntax.specs.declared.tree.Place.{Place}
 pub use Rattle.plm_syntax.specs.declared.tree.LocationForm.{LocationForm}
 pub use Rattle.plm_syntax.specs.declared.tree.LocationForm.TheVariants.{Pointer, Offset}

@@ -1,14 +1,14 @@
 -- Which trees are well formed: operators stand at their level, equal levels lean left, lists that cannot be empty are not, ELSE stands at
 -- the nearest IF, and the name after END is the block's last label.
-use Rattle.std.specs.Prelude.{◌≡◌, ℕ, ◌≤◌, ◌<◌, List, [], ◌∷◌, Bool, true, false, Option, Some, None}
+use Rattle.std.specs.Prelude.{◌≡◌, ℕ, ◌≤◌, ◌<◌, Bool, true, false, Option, Some, None}
 use Rattle.plm_syntax.specs.declared.tree.UnaryOperator.{UnaryOperator}
 use Rattle.plm_syntax.specs.declared.tree.UnaryOperator.TheVariants as unary
 use Rattle.plm_syntax.specs.declared.tree.BinaryOperator.{BinaryOperator}
 use Rattle.plm_syntax.specs.declared.tree.BinaryOperator.TheVariants as binary
 use Rattle.plm_token.specs.Names.{names_equal}
-use Rattle.plm_syntax.specs.Terminal.{NameT, NumberT, TextT}
+use Rattle.plm_syntax.specs.Terminal.{NameT}
 use Rattle.plm_syntax.specs.Spelling.{last_name}
-use Rattle.plm_syntax.specs.Tree.{LocationForm, Pointer, Offset, ExpressionT, NumberE, TextE, ReferenceE, LocationE, ParenthesisedE, EmbeddedE, UnaryE, BinaryE, ReferenceT, ReferenceOf, ExpressionsT, no_expressions, expressions, SelectorT, no_member, member, member_at, LocationT, LocationOf, ConstantsOf, ValueT, NumberV, NegativeV, TextV, LocationV, ValuesT, no_values, values, NamesT, no_names, names, VariableT, VariableOf, VariablesT, no_variables, variables, DeclaredT, OneVariable, VariableList, DimensionT, no_dimension, dimension, implicit_dimension, MemberT, OneMember, MemberList, MembersT, no_members, members, TypeT, ScalarType, StructureType, AtT, no_at, at_number, at_location, InitialT, no_initial, initial, constant_data, AttributesT, External, Attributes, ElementT, LiteralElement, VariableElement, ElementsT, no_elements, elements, LinkageT, no_linkage, public_linkage, external_linkage, ReferencesT, no_references, references, StatementT, Labelled, BasicT, EmptyS, AssignS, CallS, ReturnS, ReturnValueS, EnableS, DisableS, HaltS, IfS, IfElseS, DoS, WhileS, CaseS, IterateS, StatementsT, no_statements, statements, BlockT, BlockOf, ItemsT, no_items, items, ItemT, DeclareI, ProcedureI, ModuleT, ModuleOf}
+use Rattle.plm_syntax.specs.Tree.{ExpressionT, NumberE, TextE, ReferenceE, LocationE, ParenthesisedE, EmbeddedE, UnaryE, BinaryE, ReferenceT, ReferenceOf, ExpressionsT, no_expressions, expressions, SelectorT, no_member, member, member_at, LocationT, LocationOf, ConstantsOf, ValueT, NumberV, NegativeV, TextV, LocationV, ValuesT, no_values, values, NamesT, no_names, names, VariablesT, no_variables, variables, DeclaredT, OneVariable, VariableList, MemberT, OneMember, MemberList, MembersT, no_members, members, TypeT, ScalarType, StructureType, AtT, no_at, at_number, at_location, InitialT, no_initial, initial, constant_data, AttributesT, External, Attributes, ElementT, LiteralElement, VariableElement, ElementsT, no_elements, elements, ReferencesT, no_references, references, StatementT, Labelled, BasicT, EmptyS, AssignS, CallS, ReturnS, ReturnValueS, EnableS, DisableS, HaltS, IfS, IfElseS, DoS, WhileS, CaseS, IterateS, StatementsT, no_statements, statements, BlockT, BlockOf, ItemsT, no_items, items, ItemT, DeclareI, ProcedureI, ModuleT, ModuleOf}
 
 -- 0 a primary, 1 a sign, 2 a term, 3 a sum, 4 a relation, 5 NOT, 6 AND, 7 OR and XOR
 abbrev pub level_of : BinaryOperator → ℕ

@@ -4,17 +4,17 @@ ghost use Rattle.std.specs.Prelude.{◌≡◌, ◌∷◌, ◌++◌, [], ℕ, Lis
 ghost use Rattle.plm_token.specs.declared.token.Keyword.TheVariants.{If as TheIf, Do as TheDo};
 ghost use Rattle.plm_syntax.specs.declared.tree.Place.{Place as SomePlace};
 ghost use Rattle.plm_syntax.specs.declared.tree.Scalar.{Scalar as SomeScalar};
-ghost use Rattle.plm_syntax.specs.Terminal.{NameT, NumberT, is_key};
+ghost use Rattle.plm_syntax.specs.Terminal.{NameT, NumberT, Key, is_key};
 ghost use Rattle.plm_syntax.specs.Tree.{NamesT, ItemsT, no_names, no_statements, no_items, no_references, no_linkage};
 ghost use Rattle.plm_syntax.specs.View.{name_of, base_of};
 ghost use Rattle.plm_syntax.specs.Answers.{terminal_of};
 ghost use Rattle.plm_syntax.specs.WellFormed.{is_end_name};
-ghost use Rattle.plm_syntax.specs.Symbol.{Want, Do, need, NamesR, NameR, ReferencesR, StatementsR, ItemsR, HeaderR, StepR, StatementG, ArmG, DoG, StatementsG, EndG, ItemsG, StepG, SubscriptsG, SelectorG, MoreTargetsG, CalledG, ReturnedG, ParametersG, InterruptG};
+ghost use Rattle.plm_syntax.specs.Symbol.{Want, Need, Do, need, NamesR, NameR, ReferencesR, StatementsR, ItemsR, HeaderR, StepR, StatementG, ArmG, DoG, StatementsG, EndG, ItemsG, StepG, SubscriptsG, SelectorG, MoreTargetsG, CalledG, ReturnedG, ParametersG, InterruptG};
 ghost use Rattle.plm_syntax.specs.Parsed.{Leads, LeadsInside, Reads, Within, is_name, next_of, ahead};
-ghost use Rattle.plm_syntax.specs.Blocks.{is_label, begins_statement, IsBeginning, IsLabel, IsHeading, LeadsItem, WithinItem, LeadsReturned, LeadsLinkage, Parses, read_statement, read_basic, read_block, read_body, read_end, read_governed, read_step, read_procedure, read_interrupt, Shrinks, condition_goals, governed_goals, iteration_goals, procedure_goals, no_parameters_read};
+ghost use Rattle.plm_syntax.specs.Blocks.{is_label, begins_statement, IsBeginning, IsLabel, IsHeading, LeadsItem, WithinItem, LeadsReturned, LeadsLinkage, Parses, read_statement, read_arm, read_basic, read_block, read_body, read_end, read_governed, read_step, read_procedure, read_header, read_range, read_interrupt, Shrinks, condition_goals, governed_goals, iteration_goals, range_goals, procedure_goals, header_goals, no_parameters_read};
 ghost use Rattle.plm_token.specs.declared.token.Mark.TheVariants.{Semicolon};
-ghost use Rattle.plm_syntax.specs.Machine.{make_call};
-ghost use Rattle.plm_syntax.specs.Parts.{nothing_read, reference_read, read_parameters};
+ghost use Rattle.plm_syntax.specs.Machine.{make_call, an_expression};
+ghost use Rattle.plm_syntax.specs.Parts.{nothing_read, read_expression, reference_read, read_parameters};
 
 use crate::cursor::Cursor;
 use crate::declaration::{elements, names, scalar_at};
@@ -112,21 +112,50 @@ fn procedure<'t, 'a>(
     ensures leads { (is : ItemsT) → LeadsInside (read_procedure is) (procedure_goals (name_of name.entry)) (no_parameters_read (name_of name.entry) is) result cursor.entry room }
     ensures within { Within result cursor.entry }
 {
-    let (parameters, behind) = parameters(alloc, cursor)?;
-    let (returned, behind) = returned(behind);
-    let (interrupt, behind) = interrupt(behind)?;
-    let (linkage, behind) = linkage(behind);
-    let inner = behind.expect_mark(Mark::Semicolon)?;
+    let (signature, inner) = header(alloc, cursor)?;
     let ((block, end), rest) = block(alloc, room, Some(name), inner)?;
     Ok((
         Procedure {
             name,
+            parameters: signature.parameters,
+            returned: signature.returned,
+            interrupt: signature.interrupt,
+            linkage: signature.linkage,
+            block,
+            end,
+        },
+        rest,
+    ))
+}
+
+/// What stands between the word PROCEDURE and the semicolon.
+#[derive(Drop)]
+struct Signature<'a> {
+    parameters: Vec<Name<'a>>,
+    returned: Option<Scalar>,
+    interrupt: Option<Number>,
+    linkage: Linkage,
+}
+
+/// A procedure's signature behind the word PROCEDURE, and the semicolon behind it.
+fn header<'t, 'a>(
+    alloc: Global,
+    cursor: Cursor<'t, 'a>,
+) -> Result<(Signature<'a>, Cursor<'t, 'a>), Failure>
+    ensures leads { (n : NameT) → Reads (read_header n) header_goals (λ v. HeaderR n no_names None None no_linkage ∷ v) result cursor.entry }
+    ensures within { Shrinks result cursor.entry }
+{
+    let (parameters, behind) = parameters(alloc, cursor)?;
+    let (returned, behind) = returned(behind);
+    let (interrupt, behind) = interrupt(behind)?;
+    let (linkage, behind) = linkage(behind);
+    let rest = behind.expect_mark(Mark::Semicolon)?;
+    Ok((
+        Signature {
             parameters,
             returned,
             interrupt,
             linkage,
-            block,
-            end,
         },
         rest,
     ))
@@ -316,8 +345,7 @@ fn assignment<'t, 'a>(
     }
     targets.push(last)?;
     let after = rest.expect_mark(Mark::Equal)?;
-    let (value, behind) = expression(alloc, room, after)?;
-    let end = behind.expect_mark(Mark::Semicolon)?;
+    let (value, end) = closing_expression(alloc, room, after)?;
     Ok((Basic::Assign(targets, value), end))
 }
 
@@ -386,9 +414,37 @@ fn return_from<'t, 'a>(
     if let Some((_, rest)) = cursor.mark(Mark::Semicolon) {
         return Ok((Basic::Return(place), rest));
     }
+    let (value, rest) = closing_expression(alloc, room, cursor)?;
+    Ok((Basic::ReturnValue(place, value), rest))
+}
+
+/// An expression, and the semicolon behind it.
+fn closing_expression<'t, 'a>(
+    alloc: Global,
+    room: u8,
+    cursor: Cursor<'t, 'a>,
+) -> Result<(Expression<'a>, Cursor<'t, 'a>), Failure>
+    ensures leads { Leads read_expression (λ s. an_expression (need Semicolon ∷ s)) nothing_read result cursor.entry room }
+    ensures within { Shrinks result cursor.entry }
+{
     let (value, behind) = expression(alloc, room, cursor)?;
     let rest = behind.expect_mark(Mark::Semicolon)?;
-    Ok((Basic::ReturnValue(place, value), rest))
+    Ok((value, rest))
+}
+
+/// An expression, and the reserved word behind it.
+fn expression_before<'t, 'a>(
+    alloc: Global,
+    room: u8,
+    word: Keyword,
+    cursor: Cursor<'t, 'a>,
+) -> Result<(Expression<'a>, Cursor<'t, 'a>), Failure>
+    ensures leads { Leads read_expression (λ s. an_expression (Need (Key word) ∷ s)) nothing_read result cursor.entry room }
+    ensures within { Shrinks result cursor.entry }
+{
+    let (value, behind) = expression(alloc, room, cursor)?;
+    let rest = behind.expect_keyword(word)?;
+    Ok((value, rest))
 }
 
 /// An IF behind its first word.
@@ -402,17 +458,13 @@ fn condition<'t, 'a>(
     ensures leads { (ls : NamesT) → Leads (read_basic ls) (condition_goals place) (λ v. NamesR ls ∷ v) result cursor.entry room }
     ensures within { Within result cursor.entry }
 {
-    let (test, after_test) = expression(alloc, room, cursor)?;
-    let start = after_test.expect_keyword(Keyword::Then)?;
+    let (test, start) = expression_before(alloc, room, Keyword::Then, cursor)?;
     let (then, behind) = arm(alloc, room, start)?;
-    if let Some((_, after)) = behind.keyword(Keyword::Else) {
-        let (other, rest) = arm(alloc, room, after)?;
-        return Ok((
-            Basic::IfElse(place, test, Box::new(alloc, then)?, Box::new(alloc, other)?),
-            rest,
-        ));
-    }
-    Ok((Basic::If(place, test, Box::new(alloc, then)?), behind))
+    let Some((_, after)) = behind.keyword(Keyword::Else) else {
+        return Ok((Basic::If(place, test, then), behind));
+    };
+    let (other, rest) = arm(alloc, room, after)?;
+    Ok((Basic::IfElse(place, test, then, other), rest))
 }
 
 /// An arm of an IF: its first token opens a level, if it can begin a statement.
@@ -421,15 +473,16 @@ fn arm<'t, 'a>(
     alloc: Global,
     room: u8,
     cursor: Cursor<'t, 'a>,
-) -> Result<(Statement<'a>, Cursor<'t, 'a>), Failure>
-    ensures leads { Leads read_statement (λ s. Want ArmG ∷ s) nothing_read result cursor.entry room }
+) -> Result<(Box<Statement<'a>>, Cursor<'t, 'a>), Failure>
+    ensures leads { Leads read_arm (λ s. Want ArmG ∷ s) nothing_read result cursor.entry room }
     ensures within { Within result cursor.entry }
 {
     let Some((_, _, behind)) = beginning(cursor) else {
         return Err(cursor.refuse());
     };
     let inside = behind.level_down(room)?;
-    statement(alloc, inside, cursor)
+    let (statement, rest) = statement(alloc, inside, cursor)?;
+    Ok((Box::new(alloc, statement)?, rest))
 }
 
 /// A token that can begin a statement where one comes next, and what is left behind it.
@@ -511,8 +564,7 @@ fn governed<'t, 'a>(
     ensures leads { Leads read_governed (governed_goals (base_of label.entry)) nothing_read result cursor.entry room }
     ensures within { Within result cursor.entry }
 {
-    let (value, behind) = expression(alloc, room, cursor)?;
-    let start = behind.expect_mark(Mark::Semicolon)?;
+    let (value, start) = closing_expression(alloc, room, cursor)?;
     let ((list, end), rest) = statements(alloc, room, label, start)?;
     Ok(((value, list, end), rest))
 }
@@ -530,31 +582,60 @@ fn iteration<'t, 'a>(
     ensures leads { (ls : NamesT) → Leads (read_basic ls) (iteration_goals place (base_of label.entry)) (λ v. NameR (name_of index.entry) ∷ NamesR ls ∷ v) result cursor.entry room }
     ensures within { Within result cursor.entry }
 {
-    let begun = cursor.expect_mark(Mark::Equal)?;
-    let (first, behind_first) = expression(alloc, room, begun)?;
-    let bound = behind_first.expect_keyword(Keyword::To)?;
-    let (last, behind_last) = expression(alloc, room, bound)?;
-    let (step, behind_step) = step(alloc, room, behind_last)?;
-    let start = behind_step.expect_mark(Mark::Semicolon)?;
+    let (bounds, start) = range(alloc, room, cursor)?;
     let ((body, end), rest) = statements(alloc, room, label, start)?;
     Ok((
-        Basic::Iterate(place, index, first, last, step, body, end),
+        Basic::Iterate(
+            place,
+            index,
+            bounds.first,
+            bounds.last,
+            bounds.step,
+            body,
+            end,
+        ),
         rest,
     ))
 }
 
-/// The step of an iteration, where the word BY comes next.
+/// The first and the last value of an iteration's index, and the step.
+#[derive(Drop)]
+struct Bounds<'a> {
+    first: Expression<'a>,
+    last: Expression<'a>,
+    step: Option<Expression<'a>>,
+}
+
+/// `= a TO b [BY s]` and the semicolon behind it.
+fn range<'t, 'a>(
+    alloc: Global,
+    room: u8,
+    cursor: Cursor<'t, 'a>,
+) -> Result<(Bounds<'a>, Cursor<'t, 'a>), Failure>
+    ensures leads { (i : NameT) → Leads (read_range i) range_goals (λ v. NameR i ∷ v) result cursor.entry room }
+    ensures within { Shrinks result cursor.entry }
+{
+    let begun = cursor.expect_mark(Mark::Equal)?;
+    let (first, bound) = expression_before(alloc, room, Keyword::To, begun)?;
+    let (last, behind) = expression(alloc, room, bound)?;
+    let (step, rest) = step(alloc, room, behind)?;
+    Ok((Bounds { first, last, step }, rest))
+}
+
+/// The step of an iteration, where the word BY comes next, and the semicolon behind it.
 fn step<'t, 'a>(
     alloc: Global,
     room: u8,
     cursor: Cursor<'t, 'a>,
 ) -> Result<(Option<Expression<'a>>, Cursor<'t, 'a>), Failure>
-    ensures leads { Leads read_step (λ s. Want StepG ∷ s) (λ v. StepR None ∷ v) result cursor.entry room }
-    ensures within { Within result cursor.entry }
+    ensures leads { Leads read_step (λ s. Want StepG ∷ need Semicolon ∷ s) (λ v. StepR None ∷ v) result cursor.entry room }
+    ensures within { Shrinks result cursor.entry }
 {
     let Some((_, after)) = cursor.keyword(Keyword::By) else {
-        return Ok((None, cursor));
+        let rest = cursor.expect_mark(Mark::Semicolon)?;
+        return Ok((None, rest));
     };
-    let (value, rest) = expression(alloc, room, after)?;
+    let (value, behind) = expression(alloc, room, after)?;
+    let rest = behind.expect_mark(Mark::Semicolon)?;
     Ok((Some(value), rest))
 }

@@ -1,4 +1,4 @@
-use Rattle.std.proofs.Common.{◌≡◌, ◌∙◌, ap, sym, length, arith}
+use Rattle.std.proofs.Common.{ap, sym, length, arith}
 use Rattle.plm_token.specs.Scanning.{lexemes}
 use Rattle.plm_syntax.specs.Expand.{expanded}
 use Rattle.plm_syntax.specs.ExpandView.{expansion_view}

@@ -1,4 +1,4 @@
-use Rattle.std.proofs.Common.{◌≡◌, ◌∷◌, List, ◌+◌, ◌≤◌, length}
+use Rattle.std.proofs.Common.{◌≡◌, ◌∷◌, List, ◌≤◌, length}
 use Rattle.plm_syntax.specs.Tree.{no_members}
 use Rattle.plm_syntax.specs.View.{members_from}
 use Rattle.plm_syntax.specs.Symbol.{Value, Symbol, MembersR, Want, Do, MemberOfG, MoreMembersG}

@@ -1,4 +1,4 @@
-use Rattle.std.proofs.Common.{◌≡◌, ◌∷◌, [], List, ◌+◌, ◌≤◌, length}
+use Rattle.std.proofs.Common.{◌≡◌, ◌∷◌, [], List, ◌≤◌, length}
 use Rattle.plm_syntax.specs.Terminal.{NameT}
 use Rattle.plm_syntax.specs.Tree.{no_names}
 use Rattle.plm_syntax.specs.View.{names_of}

@@ -1,20 +1,14 @@
-use Rattle.std.proofs.Common.{◌≡◌, ◌∷◌, ◌++◌, [], ℕ, suc, List, ◌+◌, length, true, false, Option, Some, None, refl, sym, ap, ◌∙◌, arith}
-use Rattle.plm_token.specs.declared.token.Mark.TheVariants as mark
-use Rattle.plm_token.specs.declared.token.Keyword.TheVariants as key
-use Rattle.plm_syntax.specs.declared.tree.Name.{Name as NameTree}
+use Rattle.std.proofs.Common.{◌∷◌, ◌++◌, [], List, refl, sym, ap, ◌∙◌, arith}
 use Rattle.plm_syntax.specs.declared.tree.Variable.{Variable}
-use Rattle.plm_syntax.specs.declared.tree.Member.{Member}
-use Rattle.plm_syntax.specs.declared.tree.Element.{Element}
-use Rattle.plm_syntax.specs.Terminal.{NameT, Sign, Key}
-use Rattle.plm_syntax.specs.Tree.{NamesT, names, no_names, VariableOf, VariablesT, variables, no_variables, OneVariable, VariableList, no_dimension, dimension, implicit_dimension, MembersT, members, no_members, ScalarType, StructureType, no_at, at_number, at_location, no_initial, initial, constant_data, External, Attributes, LiteralElement, VariableElement, ElementsT, elements, no_elements, no_linkage}
-use Rattle.plm_syntax.specs.View.{name_of, number_of, text_of, names_of, names_from, counted, variable_of, variables_from, declared_of, dimension_of, member_of, member_with, members_from, type_of, location_of, values_of, attributes_of, element_of, elements_of}
-use Rattle.plm_syntax.specs.Symbol.{Symbol, depth, need, push, Want, Do, VariableR, VariablesR, DeclaredR, DimensionR, CountR, MembersR, MemberR, TypeR, AttributesR, ElementsR, NamesR, NameR, HeaderR, ElementG, ElementLeadG, LiteralTextG, MoreElementsG, VariableG, MoreVariablesG, BasedG, BaseG, DimensionG, DimensionBodyG, TypeG, MemberOfG, MemberNameG, MoreMemberNamesG, CountG, CountNumberG, MemberTypeG, MoreMembersG, ParameterG, MoreParametersG, AttributesG, AtG, AtBodyG, InitialG}
-use Rattle.plm_syntax.specs.Machine.{a_value_list, add_element, make_literal, set_base, add_variable, one_variable, variable_group, set_dimension, set_count, add_name, add_parameter, make_member, add_member, make_structure, set_external, set_public, set_at, set_at_location, set_initial, set_data, make_element, declared_tail, run}
+use Rattle.plm_syntax.specs.Tree.{VariablesT, variables, no_variables}
+use Rattle.plm_syntax.specs.View.{variable_of, variables_from}
+use Rattle.plm_syntax.specs.Symbol.{Want, Do, VariablesR, MoreVariablesG}
+use Rattle.plm_syntax.specs.Machine.{add_variable, run}
 use Rattle.plm_syntax.specs.Parsed.{ahead, next_of}
-use Rattle.plm_syntax.specs.Parts.{read_element, read_elements, read_variable, read_variables, read_dimension, read_type, read_member, read_members, read_names, read_parameters, read_count, member_names_read, read_attributes, attributes_read, read_at, read_initial, read_location, read_values}
-use Rattle.plm_syntax.proofs.Rows.{name_pushed, variable_pushed, member_pushed, element_pushed}
-use Rattle.plm_syntax.proofs.Along.{quiet, taken, refused, need_refused, failed, refusal, arrives_behind}
-use Rattle.plm_syntax.proofs.NextDeclaration.{doing, more_elements_refused, element_refused, literal_refused, base_refused, variable_refused, more_variables_refused, more_members_refused, more_member_names_refused, more_parameters_refused, dimension_refused, type_refused, member_of_refused, member_name_refused, parameter_refused, count_refused, member_type_refused, at_body_refused, type_taken, member_type_taken, member_made, located_at, attributes_go, lead_goes}
+use Rattle.plm_syntax.specs.Parts.{read_variable, read_variables}
+use Rattle.plm_syntax.proofs.Rows.{variable_pushed}
+use Rattle.plm_syntax.proofs.Along.{quiet, taken, refused, failed, refusal}
+use Rattle.plm_syntax.proofs.NextDeclaration.{more_variables_refused}
 use Rattle.plm_syntax.proofs.declaration.variables.Goals as goal
 
 pub loop-after-init : goal.loop-after-init

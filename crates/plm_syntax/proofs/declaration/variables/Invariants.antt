@@ -1,4 +1,4 @@
-use Rattle.std.proofs.Common.{◌≡◌, ◌∷◌, List, ◌+◌, ◌≤◌, length}
+use Rattle.std.proofs.Common.{◌≡◌, ◌∷◌, List, ◌≤◌, length}
 use Rattle.plm_syntax.specs.Tree.{no_variables}
 use Rattle.plm_syntax.specs.View.{variables_from}
 use Rattle.plm_syntax.specs.Symbol.{Value, Symbol, VariablesR, Want, Do, VariableG, MoreVariablesG}

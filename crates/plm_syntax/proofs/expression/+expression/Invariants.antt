@@ -1,10 +1,9 @@
 use Rattle.std.proofs.Common.{◌≡◌, ◌∷◌, ℕ, suc, List, ◌+◌, ◌*◌, ◌≤◌, length}
 use Rattle.plm_syntax.specs.Terminal.{NameT}
 use Rattle.plm_syntax.specs.View.{expressions_of, values_of}
-use Rattle.plm_syntax.specs.Tree.{ReferenceE, ReferenceOf, no_expressions, no_member}
-use Rattle.plm_syntax.specs.Symbol.{Value, Level, Symbol, depth, Products, Sums, Relations, Conjunctions, Disjunctions, ExpressionR, ExpressionsR, ValuesR, Want, Do, Leave, MoreG, SubscriptsG, MoreSubscriptsG, MoreValuesG}
-use Rattle.plm_syntax.specs.Machine.{an_expression, a_value_list, set_subscripts, run}
-use Rattle.plm_syntax.specs.Parsed.{stream, ahead}
+use Rattle.plm_syntax.specs.Symbol.{Value, Level, Symbol, depth, Products, Sums, Relations, Conjunctions, Disjunctions, ExpressionsR, ValuesR, Want, Do, Leave, MoreG, SubscriptsG, MoreSubscriptsG, MoreValuesG}
+use Rattle.plm_syntax.specs.Machine.{a_value_list, set_subscripts, run}
+use Rattle.plm_syntax.specs.Parsed.{ahead}
 use Rattle.plm_syntax.specs.Parts.{level_view, read_expression, reference_read}
 use Rattle.plm_syntax.proofs.expression.+expression.Given as goal
 

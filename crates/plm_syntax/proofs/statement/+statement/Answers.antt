@@ -1,26 +1,19 @@
-use Rattle.std.proofs.Common.{◌≡◌, ◌∷◌, ◌++◌, [], ℕ, zero, suc, List, ◌+◌, length, true, false, Option, Some, None, refl, sym, ap, ◌∙◌, arith}
-use Rattle.plm_token.specs.declared.token.Mark.TheVariants as mark
-use Rattle.plm_token.specs.declared.token.Keyword.TheVariants as key
+use Rattle.std.proofs.Common.{◌∷◌, ◌++◌, List, length, Some, None, refl, sym, ap, ◌∙◌, arith}
+use Rattle.plm_syntax.specs.declared.tree.Place.{Place}
 use Rattle.plm_syntax.specs.declared.tree.Name.{Name as NameTree}
-use Rattle.plm_syntax.specs.declared.tree.Reference.{Reference}
 use Rattle.plm_syntax.specs.declared.tree.Statement.{Statement}
 use Rattle.plm_syntax.specs.declared.tree.Item.{Item}
-use Rattle.plm_syntax.specs.declared.tree.Linkage.TheVariants as linkage
-use Rattle.plm_syntax.specs.Terminal.{NameT, Name, Sign, Key, Leaf, leaf_at}
-use Rattle.plm_syntax.specs.Tree.{BlockT, ProcedureI, NamesT, names, no_names, ReferenceE, ReferencesT, references, no_references, StatementsT, statements, no_statements, ItemsT, items, no_items, ElementsT, no_elements, DeclareI, Labelled, BasicT, EmptyS, AssignS, CallS, ReturnS, ReturnValueS, EnableS, DisableS, HaltS, IfS, IfElseS, DoS, WhileS, CaseS, IterateS, BlockOf, no_linkage, public_linkage, external_linkage}
-use Rattle.plm_syntax.specs.View.{statements_in, block_of, name_of, base_of, number_of, names_of, names_from, expression_of, reference_of, references_from, elements_of, statement_of, statements_of, statements_from, item_of, items_of, items_from, basic_of, step_of, counted, linkage_of}
-use Rattle.plm_syntax.specs.Symbol.{Symbol, depth, need, push, Need, Want, Do, Leave, ExpressionR, NameR, NamesR, ReferencesR, StatementR, ArmsR, StatementsR, ItemsR, ElementsR, EndR, StepR, RangeR, HeaderR, StatementG, LeadG, TargetG, MoreTargetsG, SubscriptsG, SelectorG, CalledG, ReturnedG, ArmG, OtherwiseG, DoG, StepG, StatementsG, EndG, ItemsG, ElementG, MoreElementsG, ParametersG, ParameterG, MoreParametersG, ReturnedTypeG, InterruptG, InterruptNumberG, LinkageG, ModuleG, StartG}
-use Rattle.plm_syntax.specs.Machine.{plain, an_expression, make_simple, add_label, add_target, make_assign, make_call, make_return, join_arms, make_if, add_statement, make_do, make_while, make_case, make_range, set_step, make_iterate, no_labels, no_statement_yet, and_more, make_declare, make_procedure, procedure_symbols, set_returned, set_interrupt, set_linkage, make_module, run}
-use Rattle.plm_syntax.specs.Parsed.{ahead, next_of, first_of}
+use Rattle.plm_syntax.specs.Tree.{BlockT, ProcedureI, NamesT, names, no_names, ReferenceE, no_references, StatementsT, statements, no_statements, ItemsT, items, no_items, no_elements, DeclareI, Labelled, IfS, IfElseS, DoS, WhileS, CaseS, IterateS, BlockOf}
+use Rattle.plm_syntax.specs.View.{block_of, name_of, base_of, names_of, expression_of, elements_of, statement_of, statements_of, items_of, step_of, counted, linkage_of}
+use Rattle.plm_syntax.specs.Symbol.{Symbol, depth, push, Want, Do, Leave, ExpressionR, NameR, NamesR, ReferencesR, StatementR, StatementsR, ItemsR, ElementsR, StatementG, LeadG, ArmG, OtherwiseG, DoG, StatementsG, ItemsG, ElementG, MoreElementsG}
+use Rattle.plm_syntax.specs.Machine.{plain, add_label, join_arms, make_if, make_do, make_while, make_case, make_iterate, no_statement_yet, and_more, make_declare, make_procedure, procedure_symbols, run}
+use Rattle.plm_syntax.specs.Parsed.{ahead, next_of}
 use Rattle.plm_syntax.specs.Answers.{terminal_of}
-use Rattle.plm_token.specs.declared.token.Token.{Token}
-use Rattle.plm_syntax.specs.declared.tree.Basic.TheBlock.{hidden-the_row-Statement-0}
-use Rattle.plm_syntax.specs.Blocks.{items_part, statements_part, begins_statement, is_label, read_statement, read_basic, read_block, read_body, read_end, read_governed, read_step, read_procedure, read_interrupt, condition_goals, governed_goals, iteration_goals, procedure_goals, no_parameters_read}
-use Rattle.plm_syntax.specs.Parts.{read_expression, read_reference, reference_read, read_elements, read_parameters}
-use Rattle.plm_syntax.proofs.Rows.{name_pushed, reference_pushed, statement_pushed, item_pushed, statement_row, item_row}
-use Rattle.plm_syntax.proofs.Along.{quiet, taken, refused, need_refused, entered, too_deep, deeper, failed, refusal, depth_failure, arrives_behind, arrives_left, fails_behind, ahead_length}
-use Rattle.plm_syntax.proofs.NextDeclaration.{returned_taken}
-use Rattle.plm_syntax.proofs.NextBlock.{no_colon, unnamed, uncoloned, unheaded, no_procedure, end_taken, end_other, statement_refused, more_targets_refused, target_refused, called_refused, start_refused, interrupt_refused, end_refused, module_refused, do_refused, no_step, no_else, no_parameters_there, no_type_there, no_interrupt_there, no_linkage_there, target_goes, returned_goes, statements_go, arm_goes, arm_too_deep, arm_refused, statements_begin, next_is, block_parts, failed_item, out_of_memory, deep_at_length, item_there, no_item, item_within}
+use Rattle.plm_syntax.specs.Blocks.{items_part, statements_part, read_statement, read_basic, read_block, read_body, read_governed, read_procedure, read_header, read_range, read_arm, iteration_goals, procedure_goals, no_parameters_read}
+use Rattle.plm_syntax.specs.Parts.{read_expression, reference_read, read_elements}
+use Rattle.plm_syntax.proofs.Rows.{name_pushed, statement_pushed, item_pushed, statement_row}
+use Rattle.plm_syntax.proofs.Along.{quiet, taken, refused, entered, too_deep, deeper, failed, refusal, depth_failure, arrives_behind, arrives_left, fails_behind, ahead_length}
+use Rattle.plm_syntax.proofs.NextBlock.{no_colon, do_refused, no_else, target_goes, statements_go, arm_goes, arm_too_deep, arm_refused, statements_begin, block_parts, failed_item, out_of_memory, deep_at_length, item_there, no_item, item_within}
 use Rattle.plm_syntax.proofs.Built.{block_there, procedure_there}
 use Rattle.plm_syntax.proofs.statement.+statement.Goals as goal
 
@@ -50,58 +43,54 @@ pub arm-returns-in_default-clause-leads : goal.arm-returns-in_default-clause-lea
 arm-returns-in_default-clause-leads t c = λ s v d. refusal c.refuse.result c.args.cursor c.refuse.ensures (refused ArmG c.args.cursor s v (arm_refused (next_of c.args.cursor) c.in_default.ensures))
 
 pub arm-returns-in_err-inside-clause-leads : goal.arm-returns-in_err-inside-clause-leads
-arm-returns-in_err-inside-clause-leads t c = λ s v d. failed read_statement s v c.from_residual.result c.in_err-inside.field-0.0 c.from_residual.ensures.1
+arm-returns-in_err-inside-clause-leads t c = λ s v d. failed read_arm s v c.from_residual.result c.in_err-inside.field-0.0 c.from_residual.ensures.1
     (taken (Want ArmG ∷ s) v c.in-Some.ensures.0
     ∙ arm_too_deep (terminal_of c.in-Some.field-0-0.kind c.in-Some.field-0-0.text.now c.in-Some.field-0-1) c.in-Some.field-0-1 s v (ahead c.in-Some.behind) c.in-Some.ensures.1 (omega (arith, d, c.in_err-inside.ensures.0))
     ∙ ap deep_at_length (ahead_length c.in-Some.behind.number c.in-Some.behind.tokens.now))
     (depth_failure c.in_err-inside.field-0.0 c.in-Some.behind c.in_err-inside.ensures.1 refl)
 
-pub arm-returns-clause-leads : goal.arm-returns-clause-leads
-arm-returns-clause-leads t c = λ s v d. arrives_left read_statement s v c.statement.result (arm_goes c.args.cursor s v c.args.room c.in_ok-inside.inside d c.in_ok-inside.ensures) (c.statement.ensures.leads (Leave ∷ s) v (deeper (depth s) c.args.room c.in_ok-inside.inside d c.in_ok-inside.ensures))
+pub arm-returns-in_err-statement-clause-leads : goal.arm-returns-in_err-statement-clause-leads
+arm-returns-in_err-statement-clause-leads t c = λ s v d. failed read_arm s v c.from_residual-in_err-statement.result c.in_err-statement.field-0.0 c.from_residual-in_err-statement.ensures.1
+    (arm_goes c.args.cursor s v c.args.room c.in_ok-inside.inside d c.in_ok-inside.ensures)
+    (c.in_err-statement.ensures.leads (Leave ∷ s) v (deeper (depth s) c.args.room c.in_ok-inside.inside d c.in_ok-inside.ensures))
 
-pub condition-returns-in_err-start-clause-leads : goal.condition-returns-in_err-start-clause-leads
-condition-returns-in_err-start-clause-leads t c = λ ls s v d. failed (read_basic ls) s v c.from_residual-in_err-start.result c.in_err-start.field-0.0 c.from_residual-in_err-start.ensures.1
-    (c.in_ok-test.ensures.leads (Need (Key key.Then) ∷ Want ArmG ∷ Want OtherwiseG ∷ Do (make_if c.args.place) ∷ s) (NamesR ls ∷ v) d
-    ∙ need_refused (Key key.Then) c.in_ok-test.after_test (Want ArmG ∷ Want OtherwiseG ∷ Do (make_if c.args.place) ∷ s) (read_expression c.in_ok-test.test (NamesR ls ∷ v)) c.in_err-start.ensures.0)
-    (refusal c.in_err-start.field-0.0 c.in_ok-test.after_test c.in_err-start.ensures.1 refl)
+pub arm-returns-in_err-new-clause-leads : goal.arm-returns-in_err-new-clause-leads
+arm-returns-in_err-new-clause-leads t c = λ s v d. out_of_memory read_arm s v c.from_residual-in_err-new.result (run 64 (Want ArmG ∷ s) v (ahead c.args.cursor)) c.from_residual-in_err-new.ensures.1
+
+pub arm-returns-clause-leads : goal.arm-returns-clause-leads
+arm-returns-clause-leads t c = λ s v d. arm_goes c.args.cursor s v c.args.room c.in_ok-inside.inside d c.in_ok-inside.ensures
+    ∙ c.in_ok-statement.ensures.leads (Leave ∷ s) v (deeper (depth s) c.args.room c.in_ok-inside.inside d c.in_ok-inside.ensures)
+    ∙ quiet c.in_ok-statement.rest (Leave ∷ s) s (read_statement c.in_ok-statement.statement v) (read_statement c.in_ok-statement.statement v) (λ t q. refl)
+    ∙ ap (λ (x : Statement). run 64 s (read_statement x v) (ahead c.in_ok-statement.rest)) (sym c.in_ok-new.ensures.ok)
+
+-- what is awaited behind the word THEN, and behind its arm
+abbrev to_arms : Place → List Symbol → List Symbol
+to_arms p s = Want ArmG ∷ Want OtherwiseG ∷ Do (make_if p) ∷ s
 
 pub condition-returns-in_err-then-clause-leads : goal.condition-returns-in_err-then-clause-leads
 condition-returns-in_err-then-clause-leads t c = λ ls s v d. failed (read_basic ls) s v c.from_residual-in_err-then.result c.in_err-then.field-0.0 c.from_residual-in_err-then.ensures.1
-    (c.in_ok-test.ensures.leads (Need (Key key.Then) ∷ Want ArmG ∷ Want OtherwiseG ∷ Do (make_if c.args.place) ∷ s) (NamesR ls ∷ v) d
-    ∙ taken (Need (Key key.Then) ∷ Want ArmG ∷ Want OtherwiseG ∷ Do (make_if c.args.place) ∷ s) (read_expression c.in_ok-test.test (NamesR ls ∷ v)) c.in_ok-start.ensures.1)
+    (c.in_ok-test.ensures.leads (to_arms c.args.place s) (NamesR ls ∷ v) d)
     (c.in_err-then.ensures.leads (Want OtherwiseG ∷ Do (make_if c.args.place) ∷ s) (read_expression c.in_ok-test.test (NamesR ls ∷ v)) d)
+
+pub condition-returns-in_default-clause-leads : goal.condition-returns-in_default-clause-leads
+condition-returns-in_default-clause-leads t c = λ ls s v d. c.in_ok-test.ensures.leads (to_arms c.args.place s) (NamesR ls ∷ v) d
+    ∙ c.in_ok-then.ensures.leads (Want OtherwiseG ∷ Do (make_if c.args.place) ∷ s) (read_expression c.in_ok-test.test (NamesR ls ∷ v)) d
+    ∙ no_else c.in_ok-then.behind (Do (make_if c.args.place) ∷ s) (read_arm c.in_ok-then.then (read_expression c.in_ok-test.test (NamesR ls ∷ v))) c.in_default.ensures
+    ∙ quiet c.in_ok-then.behind (Do (make_if c.args.place) ∷ s) s (read_arm c.in_ok-then.then (read_expression c.in_ok-test.test (NamesR ls ∷ v))) (StatementR (Labelled ls (IfS c.args.place (expression_of c.in_ok-test.test) (statement_of c.in_ok-then.then.value))) ∷ v) (λ t q. refl)
 
 pub condition-returns-in_err-other-clause-leads : goal.condition-returns-in_err-other-clause-leads
 condition-returns-in_err-other-clause-leads t c = λ ls s v d. failed (read_basic ls) s v c.from_residual-in_err-other.result c.in_err-other.field-0.0 c.from_residual-in_err-other.ensures.1
-    (c.in_ok-test.ensures.leads (Need (Key key.Then) ∷ Want ArmG ∷ Want OtherwiseG ∷ Do (make_if c.args.place) ∷ s) (NamesR ls ∷ v) d
-    ∙ taken (Need (Key key.Then) ∷ Want ArmG ∷ Want OtherwiseG ∷ Do (make_if c.args.place) ∷ s) (read_expression c.in_ok-test.test (NamesR ls ∷ v)) c.in_ok-start.ensures.1
+    (c.in_ok-test.ensures.leads (to_arms c.args.place s) (NamesR ls ∷ v) d
     ∙ c.in_ok-then.ensures.leads (Want OtherwiseG ∷ Do (make_if c.args.place) ∷ s) (read_expression c.in_ok-test.test (NamesR ls ∷ v)) d
-    ∙ taken (Want OtherwiseG ∷ Do (make_if c.args.place) ∷ s) (read_statement c.in_ok-then.then (read_expression c.in_ok-test.test (NamesR ls ∷ v))) c.in-Some.ensures)
-    (c.in_err-other.ensures.leads (Do join_arms ∷ Do (make_if c.args.place) ∷ s) (read_statement c.in_ok-then.then (read_expression c.in_ok-test.test (NamesR ls ∷ v))) d)
-
-pub condition-returns-in_err-new-clause-leads : goal.condition-returns-in_err-new-clause-leads
-condition-returns-in_err-new-clause-leads t c = λ ls s v d. out_of_memory (read_basic ls) s v c.from_residual-in_err-new.result (run 64 (condition_goals c.args.place s) (NamesR ls ∷ v) (ahead c.args.cursor)) c.from_residual-in_err-new.ensures.1
-
-pub condition-returns-in_err-new-2-clause-leads : goal.condition-returns-in_err-new-2-clause-leads
-condition-returns-in_err-new-2-clause-leads t c = λ ls s v d. out_of_memory (read_basic ls) s v c.from_residual-in_err-new-2.result (run 64 (condition_goals c.args.place s) (NamesR ls ∷ v) (ahead c.args.cursor)) c.from_residual-in_err-new-2.ensures.1
-
-pub condition-returns-in-Some-clause-leads : goal.condition-returns-in-Some-clause-leads
-condition-returns-in-Some-clause-leads t c = λ ls s v d. c.in_ok-test.ensures.leads (Need (Key key.Then) ∷ Want ArmG ∷ Want OtherwiseG ∷ Do (make_if c.args.place) ∷ s) (NamesR ls ∷ v) d
-    ∙ taken (Need (Key key.Then) ∷ Want ArmG ∷ Want OtherwiseG ∷ Do (make_if c.args.place) ∷ s) (read_expression c.in_ok-test.test (NamesR ls ∷ v)) c.in_ok-start.ensures.1
-    ∙ c.in_ok-then.ensures.leads (Want OtherwiseG ∷ Do (make_if c.args.place) ∷ s) (read_expression c.in_ok-test.test (NamesR ls ∷ v)) d
-    ∙ taken (Want OtherwiseG ∷ Do (make_if c.args.place) ∷ s) (read_statement c.in_ok-then.then (read_expression c.in_ok-test.test (NamesR ls ∷ v))) c.in-Some.ensures
-    ∙ c.in_ok-other.ensures.leads (Do join_arms ∷ Do (make_if c.args.place) ∷ s) (read_statement c.in_ok-then.then (read_expression c.in_ok-test.test (NamesR ls ∷ v))) d
-    ∙ quiet c.in_ok-other.rest (Do join_arms ∷ Do (make_if c.args.place) ∷ s) s (read_statement c.in_ok-other.other (read_statement c.in_ok-then.then (read_expression c.in_ok-test.test (NamesR ls ∷ v)))) (StatementR (Labelled ls (IfElseS c.args.place (expression_of c.in_ok-test.test) (statement_of c.in_ok-then.then) (statement_of c.in_ok-other.other))) ∷ v) (λ t q. refl)
-    ∙ ap (λ (x : Statement). run 64 s (StatementR (Labelled ls (IfElseS c.args.place (expression_of c.in_ok-test.test) (statement_of x) (statement_of c.in_ok-other.other))) ∷ v) (ahead c.in_ok-other.rest)) (sym c.in_ok-new.ensures.ok)
-    ∙ ap (λ (x : Statement). run 64 s (StatementR (Labelled ls (IfElseS c.args.place (expression_of c.in_ok-test.test) (statement_of c.in_ok-new.field-0.value) (statement_of x))) ∷ v) (ahead c.in_ok-other.rest)) (sym c.in_ok-new-2.ensures.ok)
+    ∙ taken (Want OtherwiseG ∷ Do (make_if c.args.place) ∷ s) (read_arm c.in_ok-then.then (read_expression c.in_ok-test.test (NamesR ls ∷ v))) c.in-Some.ensures)
+    (c.in_err-other.ensures.leads (Do join_arms ∷ Do (make_if c.args.place) ∷ s) (read_arm c.in_ok-then.then (read_expression c.in_ok-test.test (NamesR ls ∷ v))) d)
 
 pub condition-returns-clause-leads : goal.condition-returns-clause-leads
-condition-returns-clause-leads t c = λ ls s v d. c.in_ok-test.ensures.leads (Need (Key key.Then) ∷ Want ArmG ∷ Want OtherwiseG ∷ Do (make_if c.args.place) ∷ s) (NamesR ls ∷ v) d
-    ∙ taken (Need (Key key.Then) ∷ Want ArmG ∷ Want OtherwiseG ∷ Do (make_if c.args.place) ∷ s) (read_expression c.in_ok-test.test (NamesR ls ∷ v)) c.in_ok-start.ensures.1
+condition-returns-clause-leads t c = λ ls s v d. c.in_ok-test.ensures.leads (to_arms c.args.place s) (NamesR ls ∷ v) d
     ∙ c.in_ok-then.ensures.leads (Want OtherwiseG ∷ Do (make_if c.args.place) ∷ s) (read_expression c.in_ok-test.test (NamesR ls ∷ v)) d
-    ∙ no_else c.in_ok-then.behind (Do (make_if c.args.place) ∷ s) (read_statement c.in_ok-then.then (read_expression c.in_ok-test.test (NamesR ls ∷ v))) c.in_default.ensures
-    ∙ quiet c.in_ok-then.behind (Do (make_if c.args.place) ∷ s) s (read_statement c.in_ok-then.then (read_expression c.in_ok-test.test (NamesR ls ∷ v))) (StatementR (Labelled ls (IfS c.args.place (expression_of c.in_ok-test.test) (statement_of c.in_ok-then.then))) ∷ v) (λ t q. refl)
-    ∙ ap (λ (x : Statement). run 64 s (StatementR (Labelled ls (IfS c.args.place (expression_of c.in_ok-test.test) (statement_of x))) ∷ v) (ahead c.in_ok-then.behind)) (sym c.in_ok-new-3.ensures.ok)
+    ∙ taken (Want OtherwiseG ∷ Do (make_if c.args.place) ∷ s) (read_arm c.in_ok-then.then (read_expression c.in_ok-test.test (NamesR ls ∷ v))) c.in-Some.ensures
+    ∙ c.in_ok-other.ensures.leads (Do join_arms ∷ Do (make_if c.args.place) ∷ s) (read_arm c.in_ok-then.then (read_expression c.in_ok-test.test (NamesR ls ∷ v))) d
+    ∙ quiet c.in_ok-other.rest (Do join_arms ∷ Do (make_if c.args.place) ∷ s) s (read_arm c.in_ok-other.other (read_arm c.in_ok-then.then (read_expression c.in_ok-test.test (NamesR ls ∷ v)))) (StatementR (Labelled ls (IfElseS c.args.place (expression_of c.in_ok-test.test) (statement_of c.in_ok-then.then.value) (statement_of c.in_ok-other.other.value))) ∷ v) (λ t q. refl)
 
 pub group-returns-in-Some-clause-leads : goal.group-returns-in-Some-clause-leads
 group-returns-in-Some-clause-leads t c = λ ls s v d. arrives_behind (read_basic ls) s v c.iteration.result
@@ -147,93 +136,33 @@ group-returns-in-Some-keyword-2-clause-leads t c = λ ls s v d. taken (Want (DoG
 pub group-returns-clause-leads : goal.group-returns-clause-leads
 group-returns-clause-leads t c = λ ls s v d. refusal c.refuse.result c.args.cursor c.refuse.ensures (refused (DoG c.args.place (base_of c.args.label)) c.args.cursor s (NamesR ls ∷ v) (do_refused c.args.place (base_of c.args.label) (next_of c.args.cursor) c.in_default.ensures c.in_default-mark.ensures c.in_default-keyword.ensures c.in_default-keyword-2.ensures))
 
-pub governed-returns-in_err-start-clause-leads : goal.governed-returns-in_err-start-clause-leads
-governed-returns-in_err-start-clause-leads t c = λ s v d. failed read_governed s v c.from_residual-in_err-start.result c.in_err-start.field-0.0 c.from_residual-in_err-start.ensures.1
-    (c.in_ok-value.ensures.leads (need mark.Semicolon ∷ no_statement_yet ∷ Want (StatementsG (base_of c.args.label)) ∷ s) v d
-    ∙ need_refused (Sign mark.Semicolon) c.in_ok-value.behind (no_statement_yet ∷ Want (StatementsG (base_of c.args.label)) ∷ s) (read_expression c.in_ok-value.value v) c.in_err-start.ensures.0)
-    (refusal c.in_err-start.field-0.0 c.in_ok-value.behind c.in_err-start.ensures.1 refl)
-
 pub governed-returns-in_err-list-clause-leads : goal.governed-returns-in_err-list-clause-leads
 governed-returns-in_err-list-clause-leads t c = λ s v d. failed read_governed s v c.from_residual-in_err-list.result c.in_err-list.field-0.0 c.from_residual-in_err-list.ensures.1
-    (c.in_ok-value.ensures.leads (need mark.Semicolon ∷ no_statement_yet ∷ Want (StatementsG (base_of c.args.label)) ∷ s) v d
-    ∙ taken (need mark.Semicolon ∷ no_statement_yet ∷ Want (StatementsG (base_of c.args.label)) ∷ s) (read_expression c.in_ok-value.value v) c.in_ok-start.ensures.1
-    ∙ quiet c.in_ok-start.start (no_statement_yet ∷ Want (StatementsG (base_of c.args.label)) ∷ s) (Want (StatementsG (base_of c.args.label)) ∷ s) (read_expression c.in_ok-value.value v) (StatementsR no_statements ∷ (read_expression c.in_ok-value.value v)) (λ t q. refl))
+    (c.in_ok-value.ensures.leads (no_statement_yet ∷ Want (StatementsG (base_of c.args.label)) ∷ s) v d
+    ∙ quiet c.in_ok-value.start (no_statement_yet ∷ Want (StatementsG (base_of c.args.label)) ∷ s) (Want (StatementsG (base_of c.args.label)) ∷ s) (read_expression c.in_ok-value.value v) (StatementsR no_statements ∷ read_expression c.in_ok-value.value v) (λ t q. refl))
     (c.in_err-list.ensures.leads s (read_expression c.in_ok-value.value v) d)
 
 pub governed-returns-clause-leads : goal.governed-returns-clause-leads
-governed-returns-clause-leads t c = λ s v d. c.in_ok-value.ensures.leads (need mark.Semicolon ∷ no_statement_yet ∷ Want (StatementsG (base_of c.args.label)) ∷ s) v d
-    ∙ taken (need mark.Semicolon ∷ no_statement_yet ∷ Want (StatementsG (base_of c.args.label)) ∷ s) (read_expression c.in_ok-value.value v) c.in_ok-start.ensures.1
-    ∙ quiet c.in_ok-start.start (no_statement_yet ∷ Want (StatementsG (base_of c.args.label)) ∷ s) (Want (StatementsG (base_of c.args.label)) ∷ s) (read_expression c.in_ok-value.value v) (StatementsR no_statements ∷ (read_expression c.in_ok-value.value v)) (λ t q. refl)
+governed-returns-clause-leads t c = λ s v d. c.in_ok-value.ensures.leads (no_statement_yet ∷ Want (StatementsG (base_of c.args.label)) ∷ s) v d
+    ∙ quiet c.in_ok-value.start (no_statement_yet ∷ Want (StatementsG (base_of c.args.label)) ∷ s) (Want (StatementsG (base_of c.args.label)) ∷ s) (read_expression c.in_ok-value.value v) (StatementsR no_statements ∷ read_expression c.in_ok-value.value v) (λ t q. refl)
     ∙ c.in_ok-list.ensures.leads s (read_expression c.in_ok-value.value v) d
 
-pub iteration-returns-in_err-begun-clause-leads : goal.iteration-returns-in_err-begun-clause-leads
-iteration-returns-in_err-begun-clause-leads t c = λ ls s v d. failed (read_basic ls) s v c.from_residual.result c.in_err-begun.field-0.0 c.from_residual.ensures.1
-    (need_refused (Sign mark.Equal) c.args.cursor (an_expression (Need (Key key.To) ∷ an_expression (Do make_range ∷ push (StepR None) ∷ Want StepG ∷ need mark.Semicolon ∷ no_statement_yet ∷ Want (StatementsG (base_of c.args.label)) ∷ Do (make_iterate c.args.place) ∷ s))) (NameR (name_of c.args.index) ∷ NamesR ls ∷ v) c.in_err-begun.ensures.0)
-    (refusal c.in_err-begun.field-0.0 c.args.cursor c.in_err-begun.ensures.1 refl)
-
-pub iteration-returns-in_err-first-clause-leads : goal.iteration-returns-in_err-first-clause-leads
-iteration-returns-in_err-first-clause-leads t c = λ ls s v d. failed (read_basic ls) s v c.from_residual-in_err-first.result c.in_err-first.field-0.0 c.from_residual-in_err-first.ensures.1
-    (taken (need mark.Equal ∷ an_expression (Need (Key key.To) ∷ an_expression (Do make_range ∷ push (StepR None) ∷ Want StepG ∷ need mark.Semicolon ∷ no_statement_yet ∷ Want (StatementsG (base_of c.args.label)) ∷ Do (make_iterate c.args.place) ∷ s))) (NameR (name_of c.args.index) ∷ NamesR ls ∷ v) c.in_ok-begun.ensures.1)
-    (c.in_err-first.ensures.leads (Need (Key key.To) ∷ an_expression (Do make_range ∷ push (StepR None) ∷ Want StepG ∷ need mark.Semicolon ∷ no_statement_yet ∷ Want (StatementsG (base_of c.args.label)) ∷ Do (make_iterate c.args.place) ∷ s)) (NameR (name_of c.args.index) ∷ NamesR ls ∷ v) d)
-
-pub iteration-returns-in_err-bound-clause-leads : goal.iteration-returns-in_err-bound-clause-leads
-iteration-returns-in_err-bound-clause-leads t c = λ ls s v d. failed (read_basic ls) s v c.from_residual-in_err-bound.result c.in_err-bound.field-0.0 c.from_residual-in_err-bound.ensures.1
-    (taken (need mark.Equal ∷ an_expression (Need (Key key.To) ∷ an_expression (Do make_range ∷ push (StepR None) ∷ Want StepG ∷ need mark.Semicolon ∷ no_statement_yet ∷ Want (StatementsG (base_of c.args.label)) ∷ Do (make_iterate c.args.place) ∷ s))) (NameR (name_of c.args.index) ∷ NamesR ls ∷ v) c.in_ok-begun.ensures.1
-    ∙ c.in_ok-first.ensures.leads (Need (Key key.To) ∷ an_expression (Do make_range ∷ push (StepR None) ∷ Want StepG ∷ need mark.Semicolon ∷ no_statement_yet ∷ Want (StatementsG (base_of c.args.label)) ∷ Do (make_iterate c.args.place) ∷ s)) (NameR (name_of c.args.index) ∷ NamesR ls ∷ v) d
-    ∙ need_refused (Key key.To) c.in_ok-first.behind_first (an_expression (Do make_range ∷ push (StepR None) ∷ Want StepG ∷ need mark.Semicolon ∷ no_statement_yet ∷ Want (StatementsG (base_of c.args.label)) ∷ Do (make_iterate c.args.place) ∷ s)) (read_expression c.in_ok-first.first (NameR (name_of c.args.index) ∷ NamesR ls ∷ v)) c.in_err-bound.ensures.0)
-    (refusal c.in_err-bound.field-0.0 c.in_ok-first.behind_first c.in_err-bound.ensures.1 refl)
-
-pub iteration-returns-in_err-last-clause-leads : goal.iteration-returns-in_err-last-clause-leads
-iteration-returns-in_err-last-clause-leads t c = λ ls s v d. failed (read_basic ls) s v c.from_residual-in_err-last.result c.in_err-last.field-0.0 c.from_residual-in_err-last.ensures.1
-    (taken (need mark.Equal ∷ an_expression (Need (Key key.To) ∷ an_expression (Do make_range ∷ push (StepR None) ∷ Want StepG ∷ need mark.Semicolon ∷ no_statement_yet ∷ Want (StatementsG (base_of c.args.label)) ∷ Do (make_iterate c.args.place) ∷ s))) (NameR (name_of c.args.index) ∷ NamesR ls ∷ v) c.in_ok-begun.ensures.1
-    ∙ c.in_ok-first.ensures.leads (Need (Key key.To) ∷ an_expression (Do make_range ∷ push (StepR None) ∷ Want StepG ∷ need mark.Semicolon ∷ no_statement_yet ∷ Want (StatementsG (base_of c.args.label)) ∷ Do (make_iterate c.args.place) ∷ s)) (NameR (name_of c.args.index) ∷ NamesR ls ∷ v) d
-    ∙ taken (Need (Key key.To) ∷ an_expression (Do make_range ∷ push (StepR None) ∷ Want StepG ∷ need mark.Semicolon ∷ no_statement_yet ∷ Want (StatementsG (base_of c.args.label)) ∷ Do (make_iterate c.args.place) ∷ s)) (read_expression c.in_ok-first.first (NameR (name_of c.args.index) ∷ NamesR ls ∷ v)) c.in_ok-bound.ensures.1)
-    (c.in_err-last.ensures.leads (Do make_range ∷ push (StepR None) ∷ Want StepG ∷ need mark.Semicolon ∷ no_statement_yet ∷ Want (StatementsG (base_of c.args.label)) ∷ Do (make_iterate c.args.place) ∷ s) (read_expression c.in_ok-first.first (NameR (name_of c.args.index) ∷ NamesR ls ∷ v)) d)
-
-pub iteration-returns-in_err-step-clause-leads : goal.iteration-returns-in_err-step-clause-leads
-iteration-returns-in_err-step-clause-leads t c = λ ls s v d. failed (read_basic ls) s v c.from_residual-in_err-step.result c.in_err-step.field-0.0 c.from_residual-in_err-step.ensures.1
-    (taken (need mark.Equal ∷ an_expression (Need (Key key.To) ∷ an_expression (Do make_range ∷ push (StepR None) ∷ Want StepG ∷ need mark.Semicolon ∷ no_statement_yet ∷ Want (StatementsG (base_of c.args.label)) ∷ Do (make_iterate c.args.place) ∷ s))) (NameR (name_of c.args.index) ∷ NamesR ls ∷ v) c.in_ok-begun.ensures.1
-    ∙ c.in_ok-first.ensures.leads (Need (Key key.To) ∷ an_expression (Do make_range ∷ push (StepR None) ∷ Want StepG ∷ need mark.Semicolon ∷ no_statement_yet ∷ Want (StatementsG (base_of c.args.label)) ∷ Do (make_iterate c.args.place) ∷ s)) (NameR (name_of c.args.index) ∷ NamesR ls ∷ v) d
-    ∙ taken (Need (Key key.To) ∷ an_expression (Do make_range ∷ push (StepR None) ∷ Want StepG ∷ need mark.Semicolon ∷ no_statement_yet ∷ Want (StatementsG (base_of c.args.label)) ∷ Do (make_iterate c.args.place) ∷ s)) (read_expression c.in_ok-first.first (NameR (name_of c.args.index) ∷ NamesR ls ∷ v)) c.in_ok-bound.ensures.1
-    ∙ c.in_ok-last.ensures.leads (Do make_range ∷ push (StepR None) ∷ Want StepG ∷ need mark.Semicolon ∷ no_statement_yet ∷ Want (StatementsG (base_of c.args.label)) ∷ Do (make_iterate c.args.place) ∷ s) (read_expression c.in_ok-first.first (NameR (name_of c.args.index) ∷ NamesR ls ∷ v)) d
-    ∙ quiet c.in_ok-last.behind_last (Do make_range ∷ push (StepR None) ∷ Want StepG ∷ need mark.Semicolon ∷ no_statement_yet ∷ Want (StatementsG (base_of c.args.label)) ∷ Do (make_iterate c.args.place) ∷ s) (Want StepG ∷ need mark.Semicolon ∷ no_statement_yet ∷ Want (StatementsG (base_of c.args.label)) ∷ Do (make_iterate c.args.place) ∷ s) (read_expression c.in_ok-last.last (read_expression c.in_ok-first.first (NameR (name_of c.args.index) ∷ NamesR ls ∷ v))) (StepR None ∷ RangeR (name_of c.args.index) (expression_of c.in_ok-first.first) (expression_of c.in_ok-last.last) ∷ NamesR ls ∷ v) (λ t q. refl))
-    (c.in_err-step.ensures.leads (need mark.Semicolon ∷ no_statement_yet ∷ Want (StatementsG (base_of c.args.label)) ∷ Do (make_iterate c.args.place) ∷ s) (RangeR (name_of c.args.index) (expression_of c.in_ok-first.first) (expression_of c.in_ok-last.last) ∷ NamesR ls ∷ v) d)
-
-pub iteration-returns-in_err-start-clause-leads : goal.iteration-returns-in_err-start-clause-leads
-iteration-returns-in_err-start-clause-leads t c = λ ls s v d. failed (read_basic ls) s v c.from_residual-in_err-start.result c.in_err-start.field-0.0 c.from_residual-in_err-start.ensures.1
-    (taken (need mark.Equal ∷ an_expression (Need (Key key.To) ∷ an_expression (Do make_range ∷ push (StepR None) ∷ Want StepG ∷ need mark.Semicolon ∷ no_statement_yet ∷ Want (StatementsG (base_of c.args.label)) ∷ Do (make_iterate c.args.place) ∷ s))) (NameR (name_of c.args.index) ∷ NamesR ls ∷ v) c.in_ok-begun.ensures.1
-    ∙ c.in_ok-first.ensures.leads (Need (Key key.To) ∷ an_expression (Do make_range ∷ push (StepR None) ∷ Want StepG ∷ need mark.Semicolon ∷ no_statement_yet ∷ Want (StatementsG (base_of c.args.label)) ∷ Do (make_iterate c.args.place) ∷ s)) (NameR (name_of c.args.index) ∷ NamesR ls ∷ v) d
-    ∙ taken (Need (Key key.To) ∷ an_expression (Do make_range ∷ push (StepR None) ∷ Want StepG ∷ need mark.Semicolon ∷ no_statement_yet ∷ Want (StatementsG (base_of c.args.label)) ∷ Do (make_iterate c.args.place) ∷ s)) (read_expression c.in_ok-first.first (NameR (name_of c.args.index) ∷ NamesR ls ∷ v)) c.in_ok-bound.ensures.1
-    ∙ c.in_ok-last.ensures.leads (Do make_range ∷ push (StepR None) ∷ Want StepG ∷ need mark.Semicolon ∷ no_statement_yet ∷ Want (StatementsG (base_of c.args.label)) ∷ Do (make_iterate c.args.place) ∷ s) (read_expression c.in_ok-first.first (NameR (name_of c.args.index) ∷ NamesR ls ∷ v)) d
-    ∙ quiet c.in_ok-last.behind_last (Do make_range ∷ push (StepR None) ∷ Want StepG ∷ need mark.Semicolon ∷ no_statement_yet ∷ Want (StatementsG (base_of c.args.label)) ∷ Do (make_iterate c.args.place) ∷ s) (Want StepG ∷ need mark.Semicolon ∷ no_statement_yet ∷ Want (StatementsG (base_of c.args.label)) ∷ Do (make_iterate c.args.place) ∷ s) (read_expression c.in_ok-last.last (read_expression c.in_ok-first.first (NameR (name_of c.args.index) ∷ NamesR ls ∷ v))) (StepR None ∷ RangeR (name_of c.args.index) (expression_of c.in_ok-first.first) (expression_of c.in_ok-last.last) ∷ NamesR ls ∷ v) (λ t q. refl)
-    ∙ c.in_ok-step.ensures.leads (need mark.Semicolon ∷ no_statement_yet ∷ Want (StatementsG (base_of c.args.label)) ∷ Do (make_iterate c.args.place) ∷ s) (RangeR (name_of c.args.index) (expression_of c.in_ok-first.first) (expression_of c.in_ok-last.last) ∷ NamesR ls ∷ v) d
-    ∙ need_refused (Sign mark.Semicolon) c.in_ok-step.behind_step (no_statement_yet ∷ Want (StatementsG (base_of c.args.label)) ∷ Do (make_iterate c.args.place) ∷ s) (read_step c.in_ok-step.step (RangeR (name_of c.args.index) (expression_of c.in_ok-first.first) (expression_of c.in_ok-last.last) ∷ NamesR ls ∷ v)) c.in_err-start.ensures.0)
-    (refusal c.in_err-start.field-0.0 c.in_ok-step.behind_step c.in_err-start.ensures.1 refl)
+pub iteration-returns-in_err-bounds-clause-leads : goal.iteration-returns-in_err-bounds-clause-leads
+iteration-returns-in_err-bounds-clause-leads t c = λ ls s v d. failed (read_basic ls) s v c.from_residual.result c.in_err-bounds.field-0.0 c.from_residual.ensures.1 refl
+    (c.in_err-bounds.ensures.leads (name_of c.args.index) (no_statement_yet ∷ Want (StatementsG (base_of c.args.label)) ∷ Do (make_iterate c.args.place) ∷ s) (NamesR ls ∷ v) d)
 
 pub iteration-returns-in_err-body-clause-leads : goal.iteration-returns-in_err-body-clause-leads
 iteration-returns-in_err-body-clause-leads t c = λ ls s v d. failed (read_basic ls) s v c.from_residual-in_err-body.result c.in_err-body.field-0.0 c.from_residual-in_err-body.ensures.1
-    (taken (need mark.Equal ∷ an_expression (Need (Key key.To) ∷ an_expression (Do make_range ∷ push (StepR None) ∷ Want StepG ∷ need mark.Semicolon ∷ no_statement_yet ∷ Want (StatementsG (base_of c.args.label)) ∷ Do (make_iterate c.args.place) ∷ s))) (NameR (name_of c.args.index) ∷ NamesR ls ∷ v) c.in_ok-begun.ensures.1
-    ∙ c.in_ok-first.ensures.leads (Need (Key key.To) ∷ an_expression (Do make_range ∷ push (StepR None) ∷ Want StepG ∷ need mark.Semicolon ∷ no_statement_yet ∷ Want (StatementsG (base_of c.args.label)) ∷ Do (make_iterate c.args.place) ∷ s)) (NameR (name_of c.args.index) ∷ NamesR ls ∷ v) d
-    ∙ taken (Need (Key key.To) ∷ an_expression (Do make_range ∷ push (StepR None) ∷ Want StepG ∷ need mark.Semicolon ∷ no_statement_yet ∷ Want (StatementsG (base_of c.args.label)) ∷ Do (make_iterate c.args.place) ∷ s)) (read_expression c.in_ok-first.first (NameR (name_of c.args.index) ∷ NamesR ls ∷ v)) c.in_ok-bound.ensures.1
-    ∙ c.in_ok-last.ensures.leads (Do make_range ∷ push (StepR None) ∷ Want StepG ∷ need mark.Semicolon ∷ no_statement_yet ∷ Want (StatementsG (base_of c.args.label)) ∷ Do (make_iterate c.args.place) ∷ s) (read_expression c.in_ok-first.first (NameR (name_of c.args.index) ∷ NamesR ls ∷ v)) d
-    ∙ quiet c.in_ok-last.behind_last (Do make_range ∷ push (StepR None) ∷ Want StepG ∷ need mark.Semicolon ∷ no_statement_yet ∷ Want (StatementsG (base_of c.args.label)) ∷ Do (make_iterate c.args.place) ∷ s) (Want StepG ∷ need mark.Semicolon ∷ no_statement_yet ∷ Want (StatementsG (base_of c.args.label)) ∷ Do (make_iterate c.args.place) ∷ s) (read_expression c.in_ok-last.last (read_expression c.in_ok-first.first (NameR (name_of c.args.index) ∷ NamesR ls ∷ v))) (StepR None ∷ RangeR (name_of c.args.index) (expression_of c.in_ok-first.first) (expression_of c.in_ok-last.last) ∷ NamesR ls ∷ v) (λ t q. refl)
-    ∙ c.in_ok-step.ensures.leads (need mark.Semicolon ∷ no_statement_yet ∷ Want (StatementsG (base_of c.args.label)) ∷ Do (make_iterate c.args.place) ∷ s) (RangeR (name_of c.args.index) (expression_of c.in_ok-first.first) (expression_of c.in_ok-last.last) ∷ NamesR ls ∷ v) d
-    ∙ taken (need mark.Semicolon ∷ no_statement_yet ∷ Want (StatementsG (base_of c.args.label)) ∷ Do (make_iterate c.args.place) ∷ s) (read_step c.in_ok-step.step (RangeR (name_of c.args.index) (expression_of c.in_ok-first.first) (expression_of c.in_ok-last.last) ∷ NamesR ls ∷ v)) c.in_ok-start.ensures.1
-    ∙ quiet c.in_ok-start.start (no_statement_yet ∷ Want (StatementsG (base_of c.args.label)) ∷ Do (make_iterate c.args.place) ∷ s) (Want (StatementsG (base_of c.args.label)) ∷ Do (make_iterate c.args.place) ∷ s) (read_step c.in_ok-step.step (RangeR (name_of c.args.index) (expression_of c.in_ok-first.first) (expression_of c.in_ok-last.last) ∷ NamesR ls ∷ v)) (StatementsR no_statements ∷ (read_step c.in_ok-step.step (RangeR (name_of c.args.index) (expression_of c.in_ok-first.first) (expression_of c.in_ok-last.last) ∷ NamesR ls ∷ v))) (λ t q. refl))
-    (c.in_err-body.ensures.leads (Do (make_iterate c.args.place) ∷ s) (read_step c.in_ok-step.step (RangeR (name_of c.args.index) (expression_of c.in_ok-first.first) (expression_of c.in_ok-last.last) ∷ NamesR ls ∷ v)) d)
+    (c.in_ok-bounds.ensures.leads (name_of c.args.index) (no_statement_yet ∷ Want (StatementsG (base_of c.args.label)) ∷ Do (make_iterate c.args.place) ∷ s) (NamesR ls ∷ v) d
+    ∙ quiet c.in_ok-bounds.start (no_statement_yet ∷ Want (StatementsG (base_of c.args.label)) ∷ Do (make_iterate c.args.place) ∷ s) (Want (StatementsG (base_of c.args.label)) ∷ Do (make_iterate c.args.place) ∷ s) (read_range (name_of c.args.index) c.in_ok-bounds.bounds (NamesR ls ∷ v)) (StatementsR no_statements ∷ read_range (name_of c.args.index) c.in_ok-bounds.bounds (NamesR ls ∷ v)) (λ t q. refl))
+    (c.in_err-body.ensures.leads (Do (make_iterate c.args.place) ∷ s) (read_range (name_of c.args.index) c.in_ok-bounds.bounds (NamesR ls ∷ v)) d)
 
 pub iteration-returns-clause-leads : goal.iteration-returns-clause-leads
-iteration-returns-clause-leads t c = λ ls s v d. taken (need mark.Equal ∷ an_expression (Need (Key key.To) ∷ an_expression (Do make_range ∷ push (StepR None) ∷ Want StepG ∷ need mark.Semicolon ∷ no_statement_yet ∷ Want (StatementsG (base_of c.args.label)) ∷ Do (make_iterate c.args.place) ∷ s))) (NameR (name_of c.args.index) ∷ NamesR ls ∷ v) c.in_ok-begun.ensures.1
-    ∙ c.in_ok-first.ensures.leads (Need (Key key.To) ∷ an_expression (Do make_range ∷ push (StepR None) ∷ Want StepG ∷ need mark.Semicolon ∷ no_statement_yet ∷ Want (StatementsG (base_of c.args.label)) ∷ Do (make_iterate c.args.place) ∷ s)) (NameR (name_of c.args.index) ∷ NamesR ls ∷ v) d
-    ∙ taken (Need (Key key.To) ∷ an_expression (Do make_range ∷ push (StepR None) ∷ Want StepG ∷ need mark.Semicolon ∷ no_statement_yet ∷ Want (StatementsG (base_of c.args.label)) ∷ Do (make_iterate c.args.place) ∷ s)) (read_expression c.in_ok-first.first (NameR (name_of c.args.index) ∷ NamesR ls ∷ v)) c.in_ok-bound.ensures.1
-    ∙ c.in_ok-last.ensures.leads (Do make_range ∷ push (StepR None) ∷ Want StepG ∷ need mark.Semicolon ∷ no_statement_yet ∷ Want (StatementsG (base_of c.args.label)) ∷ Do (make_iterate c.args.place) ∷ s) (read_expression c.in_ok-first.first (NameR (name_of c.args.index) ∷ NamesR ls ∷ v)) d
-    ∙ quiet c.in_ok-last.behind_last (Do make_range ∷ push (StepR None) ∷ Want StepG ∷ need mark.Semicolon ∷ no_statement_yet ∷ Want (StatementsG (base_of c.args.label)) ∷ Do (make_iterate c.args.place) ∷ s) (Want StepG ∷ need mark.Semicolon ∷ no_statement_yet ∷ Want (StatementsG (base_of c.args.label)) ∷ Do (make_iterate c.args.place) ∷ s) (read_expression c.in_ok-last.last (read_expression c.in_ok-first.first (NameR (name_of c.args.index) ∷ NamesR ls ∷ v))) (StepR None ∷ RangeR (name_of c.args.index) (expression_of c.in_ok-first.first) (expression_of c.in_ok-last.last) ∷ NamesR ls ∷ v) (λ t q. refl)
-    ∙ c.in_ok-step.ensures.leads (need mark.Semicolon ∷ no_statement_yet ∷ Want (StatementsG (base_of c.args.label)) ∷ Do (make_iterate c.args.place) ∷ s) (RangeR (name_of c.args.index) (expression_of c.in_ok-first.first) (expression_of c.in_ok-last.last) ∷ NamesR ls ∷ v) d
-    ∙ taken (need mark.Semicolon ∷ no_statement_yet ∷ Want (StatementsG (base_of c.args.label)) ∷ Do (make_iterate c.args.place) ∷ s) (read_step c.in_ok-step.step (RangeR (name_of c.args.index) (expression_of c.in_ok-first.first) (expression_of c.in_ok-last.last) ∷ NamesR ls ∷ v)) c.in_ok-start.ensures.1
-    ∙ quiet c.in_ok-start.start (no_statement_yet ∷ Want (StatementsG (base_of c.args.label)) ∷ Do (make_iterate c.args.place) ∷ s) (Want (StatementsG (base_of c.args.label)) ∷ Do (make_iterate c.args.place) ∷ s) (read_step c.in_ok-step.step (RangeR (name_of c.args.index) (expression_of c.in_ok-first.first) (expression_of c.in_ok-last.last) ∷ NamesR ls ∷ v)) (StatementsR no_statements ∷ (read_step c.in_ok-step.step (RangeR (name_of c.args.index) (expression_of c.in_ok-first.first) (expression_of c.in_ok-last.last) ∷ NamesR ls ∷ v))) (λ t q. refl)
-    ∙ c.in_ok-body.ensures.leads (Do (make_iterate c.args.place) ∷ s) (read_step c.in_ok-step.step (RangeR (name_of c.args.index) (expression_of c.in_ok-first.first) (expression_of c.in_ok-last.last) ∷ NamesR ls ∷ v)) d
-    ∙ quiet c.in_ok-body.rest (Do (make_iterate c.args.place) ∷ s) s (read_body (c.in_ok-body.body, c.in_ok-body.end) (read_step c.in_ok-step.step (RangeR (name_of c.args.index) (expression_of c.in_ok-first.first) (expression_of c.in_ok-last.last) ∷ NamesR ls ∷ v))) (StatementR (Labelled ls (IterateS c.args.place (name_of c.args.index) (expression_of c.in_ok-first.first) (expression_of c.in_ok-last.last) (step_of c.in_ok-step.step) (statements_of c.in_ok-body.body.items) (base_of c.in_ok-body.end))) ∷ v) (λ t q. refl)
-    ∙ ap (λ (x : StatementsT). run 64 s (StatementR (Labelled ls (IterateS c.args.place (name_of c.args.index) (expression_of c.in_ok-first.first) (expression_of c.in_ok-last.last) (step_of c.in_ok-step.step) x (base_of c.in_ok-body.end))) ∷ v) (ahead c.in_ok-body.rest)) (sym (statement_row c.in_ok-body.body))
+iteration-returns-clause-leads t c = λ ls s v d. c.in_ok-bounds.ensures.leads (name_of c.args.index) (no_statement_yet ∷ Want (StatementsG (base_of c.args.label)) ∷ Do (make_iterate c.args.place) ∷ s) (NamesR ls ∷ v) d
+    ∙ quiet c.in_ok-bounds.start (no_statement_yet ∷ Want (StatementsG (base_of c.args.label)) ∷ Do (make_iterate c.args.place) ∷ s) (Want (StatementsG (base_of c.args.label)) ∷ Do (make_iterate c.args.place) ∷ s) (read_range (name_of c.args.index) c.in_ok-bounds.bounds (NamesR ls ∷ v)) (StatementsR no_statements ∷ read_range (name_of c.args.index) c.in_ok-bounds.bounds (NamesR ls ∷ v)) (λ t q. refl)
+    ∙ c.in_ok-body.ensures.leads (Do (make_iterate c.args.place) ∷ s) (read_range (name_of c.args.index) c.in_ok-bounds.bounds (NamesR ls ∷ v)) d
+    ∙ quiet c.in_ok-body.rest (Do (make_iterate c.args.place) ∷ s) s (read_body (c.in_ok-body.body, c.in_ok-body.end) (read_range (name_of c.args.index) c.in_ok-bounds.bounds (NamesR ls ∷ v))) (StatementR (Labelled ls (IterateS c.args.place (name_of c.args.index) (expression_of c.in_ok-bounds.bounds.first) (expression_of c.in_ok-bounds.bounds.last) (step_of c.in_ok-bounds.bounds.step) (statements_of c.in_ok-body.body.items) (base_of c.in_ok-body.end))) ∷ v) (λ t q. refl)
+    ∙ ap (λ (x : StatementsT). run 64 s (StatementR (Labelled ls (IterateS c.args.place (name_of c.args.index) (expression_of c.in_ok-bounds.bounds.first) (expression_of c.in_ok-bounds.bounds.last) (step_of c.in_ok-bounds.bounds.step) x (base_of c.in_ok-body.end))) ∷ v) (ahead c.in_ok-body.rest)) (sym (statement_row c.in_ok-body.body))
 
 pub statements-returns-in_err-end-clause-leads : goal.statements-returns-in_err-end-clause-leads
 statements-returns-in_err-end-clause-leads t c = λ s v d. failed read_body s v c.from_residual.result c.in_err-end.field-0.0 c.from_residual.ensures.1
@@ -288,42 +217,23 @@ pub statement-returns-clause-leads : goal.statement-returns-clause-leads
 statement-returns-clause-leads t c = λ s v d. c.loop-label.invariant.leads s v
     ∙ c.in_ok-basic.ensures.leads (names_of c.loop-label.labels.items) s v d
 
-pub procedure-returns-in_err-interrupt-clause-leads : goal.procedure-returns-in_err-interrupt-clause-leads
-procedure-returns-in_err-interrupt-clause-leads t c = λ is s v d. failed (read_procedure is) s v c.from_residual-in_err-interrupt.result c.in_err-interrupt.field-0.0 c.from_residual-in_err-interrupt.ensures.1
-    (c.in_ok-parameters.ensures.leads (name_of c.args.name) (Want ReturnedTypeG ∷ Want InterruptG ∷ Want LinkageG ∷ need mark.Semicolon ∷ push (ItemsR no_items) ∷ Want (ItemsG (Some (name_of c.args.name))) ∷ Leave ∷ Do make_procedure ∷ s) (ItemsR is ∷ v)
-    ∙ c.returned-returned.ensures.leads (name_of c.args.name) (names_of c.in_ok-parameters.parameters.items) (Want InterruptG ∷ Want LinkageG ∷ need mark.Semicolon ∷ push (ItemsR no_items) ∷ Want (ItemsG (Some (name_of c.args.name))) ∷ Leave ∷ Do make_procedure ∷ s) (ItemsR is ∷ v))
-    (c.in_err-interrupt.ensures.leads (name_of c.args.name) (names_of c.in_ok-parameters.parameters.items) c.returned-returned.result.0 (Want LinkageG ∷ need mark.Semicolon ∷ push (ItemsR no_items) ∷ Want (ItemsG (Some (name_of c.args.name))) ∷ Leave ∷ Do make_procedure ∷ s) (ItemsR is ∷ v))
-
-pub procedure-returns-in_err-inner-clause-leads : goal.procedure-returns-in_err-inner-clause-leads
-procedure-returns-in_err-inner-clause-leads t c = λ is s v d. failed (read_procedure is) s v c.from_residual-in_err-inner.result c.in_err-inner.field-0.0 c.from_residual-in_err-inner.ensures.1
-    (c.in_ok-parameters.ensures.leads (name_of c.args.name) (Want ReturnedTypeG ∷ Want InterruptG ∷ Want LinkageG ∷ need mark.Semicolon ∷ push (ItemsR no_items) ∷ Want (ItemsG (Some (name_of c.args.name))) ∷ Leave ∷ Do make_procedure ∷ s) (ItemsR is ∷ v)
-    ∙ c.returned-returned.ensures.leads (name_of c.args.name) (names_of c.in_ok-parameters.parameters.items) (Want InterruptG ∷ Want LinkageG ∷ need mark.Semicolon ∷ push (ItemsR no_items) ∷ Want (ItemsG (Some (name_of c.args.name))) ∷ Leave ∷ Do make_procedure ∷ s) (ItemsR is ∷ v)
-    ∙ c.in_ok-interrupt.ensures.leads (name_of c.args.name) (names_of c.in_ok-parameters.parameters.items) c.returned-returned.result.0 (Want LinkageG ∷ need mark.Semicolon ∷ push (ItemsR no_items) ∷ Want (ItemsG (Some (name_of c.args.name))) ∷ Leave ∷ Do make_procedure ∷ s) (ItemsR is ∷ v)
-    ∙ c.linkage-linkage.ensures.leads (name_of c.args.name) (names_of c.in_ok-parameters.parameters.items) c.returned-returned.result.0 (counted c.in_ok-interrupt.interrupt) (need mark.Semicolon ∷ push (ItemsR no_items) ∷ Want (ItemsG (Some (name_of c.args.name))) ∷ Leave ∷ Do make_procedure ∷ s) (ItemsR is ∷ v)
-    ∙ need_refused (Sign mark.Semicolon) c.linkage-linkage.result.1 (push (ItemsR no_items) ∷ Want (ItemsG (Some (name_of c.args.name))) ∷ Leave ∷ Do make_procedure ∷ s) (HeaderR (name_of c.args.name) (names_of c.in_ok-parameters.parameters.items) c.returned-returned.result.0 (counted c.in_ok-interrupt.interrupt) (linkage_of c.linkage-linkage.result.0) ∷ ItemsR is ∷ v) c.in_err-inner.ensures.0)
-    (refusal c.in_err-inner.field-0.0 c.linkage-linkage.result.1 c.in_err-inner.ensures.1 refl)
+pub procedure-returns-in_err-signature-clause-leads : goal.procedure-returns-in_err-signature-clause-leads
+procedure-returns-in_err-signature-clause-leads t c = λ is s v d. failed (read_procedure is) s v c.from_residual.result c.in_err-signature.field-0.0 c.from_residual.ensures.1 refl
+    (c.in_err-signature.ensures.leads (name_of c.args.name) (push (ItemsR no_items) ∷ Want (ItemsG (Some (name_of c.args.name))) ∷ Leave ∷ Do make_procedure ∷ s) (ItemsR is ∷ v))
 
 pub procedure-returns-in_err-block-clause-leads : goal.procedure-returns-in_err-block-clause-leads
 procedure-returns-in_err-block-clause-leads t c = λ is s v d. failed (read_procedure is) s v c.from_residual-in_err-block.result c.in_err-block.field-0.0 c.from_residual-in_err-block.ensures.1
-    (c.in_ok-parameters.ensures.leads (name_of c.args.name) (Want ReturnedTypeG ∷ Want InterruptG ∷ Want LinkageG ∷ need mark.Semicolon ∷ push (ItemsR no_items) ∷ Want (ItemsG (Some (name_of c.args.name))) ∷ Leave ∷ Do make_procedure ∷ s) (ItemsR is ∷ v)
-    ∙ c.returned-returned.ensures.leads (name_of c.args.name) (names_of c.in_ok-parameters.parameters.items) (Want InterruptG ∷ Want LinkageG ∷ need mark.Semicolon ∷ push (ItemsR no_items) ∷ Want (ItemsG (Some (name_of c.args.name))) ∷ Leave ∷ Do make_procedure ∷ s) (ItemsR is ∷ v)
-    ∙ c.in_ok-interrupt.ensures.leads (name_of c.args.name) (names_of c.in_ok-parameters.parameters.items) c.returned-returned.result.0 (Want LinkageG ∷ need mark.Semicolon ∷ push (ItemsR no_items) ∷ Want (ItemsG (Some (name_of c.args.name))) ∷ Leave ∷ Do make_procedure ∷ s) (ItemsR is ∷ v)
-    ∙ c.linkage-linkage.ensures.leads (name_of c.args.name) (names_of c.in_ok-parameters.parameters.items) c.returned-returned.result.0 (counted c.in_ok-interrupt.interrupt) (need mark.Semicolon ∷ push (ItemsR no_items) ∷ Want (ItemsG (Some (name_of c.args.name))) ∷ Leave ∷ Do make_procedure ∷ s) (ItemsR is ∷ v)
-    ∙ taken (need mark.Semicolon ∷ push (ItemsR no_items) ∷ Want (ItemsG (Some (name_of c.args.name))) ∷ Leave ∷ Do make_procedure ∷ s) (HeaderR (name_of c.args.name) (names_of c.in_ok-parameters.parameters.items) c.returned-returned.result.0 (counted c.in_ok-interrupt.interrupt) (linkage_of c.linkage-linkage.result.0) ∷ ItemsR is ∷ v) c.in_ok-inner.ensures.1
-    ∙ quiet c.in_ok-inner.inner (push (ItemsR no_items) ∷ Want (ItemsG (Some (name_of c.args.name))) ∷ Leave ∷ Do make_procedure ∷ s) (Want (ItemsG (Some (name_of c.args.name))) ∷ Leave ∷ Do make_procedure ∷ s) (HeaderR (name_of c.args.name) (names_of c.in_ok-parameters.parameters.items) c.returned-returned.result.0 (counted c.in_ok-interrupt.interrupt) (linkage_of c.linkage-linkage.result.0) ∷ ItemsR is ∷ v) (ItemsR no_items ∷ HeaderR (name_of c.args.name) (names_of c.in_ok-parameters.parameters.items) c.returned-returned.result.0 (counted c.in_ok-interrupt.interrupt) (linkage_of c.linkage-linkage.result.0) ∷ ItemsR is ∷ v) (λ t q. refl))
-    (c.in_err-block.ensures.leads (Leave ∷ Do make_procedure ∷ s) (HeaderR (name_of c.args.name) (names_of c.in_ok-parameters.parameters.items) c.returned-returned.result.0 (counted c.in_ok-interrupt.interrupt) (linkage_of c.linkage-linkage.result.0) ∷ ItemsR is ∷ v) d)
+    (c.in_ok-signature.ensures.leads (name_of c.args.name) (push (ItemsR no_items) ∷ Want (ItemsG (Some (name_of c.args.name))) ∷ Leave ∷ Do make_procedure ∷ s) (ItemsR is ∷ v)
+    ∙ quiet c.in_ok-signature.inner (push (ItemsR no_items) ∷ Want (ItemsG (Some (name_of c.args.name))) ∷ Leave ∷ Do make_procedure ∷ s) (Want (ItemsG (Some (name_of c.args.name))) ∷ Leave ∷ Do make_procedure ∷ s) (read_header (name_of c.args.name) c.in_ok-signature.signature (ItemsR is ∷ v)) (ItemsR no_items ∷ read_header (name_of c.args.name) c.in_ok-signature.signature (ItemsR is ∷ v)) (λ t q. refl))
+    (c.in_err-block.ensures.leads (Leave ∷ Do make_procedure ∷ s) (read_header (name_of c.args.name) c.in_ok-signature.signature (ItemsR is ∷ v)) d)
 
 pub procedure-returns-clause-leads : goal.procedure-returns-clause-leads
-procedure-returns-clause-leads t c = λ is s v d. procedure_there c.args.name c.in_ok-parameters.parameters c.returned-returned.result.0 c.in_ok-interrupt.interrupt c.linkage-linkage.result.0 c.in_ok-block.block c.in_ok-block.end is s v c.in_ok-block.rest
-    (c.in_ok-parameters.ensures.leads (name_of c.args.name) (Want ReturnedTypeG ∷ Want InterruptG ∷ Want LinkageG ∷ need mark.Semicolon ∷ push (ItemsR no_items) ∷ Want (ItemsG (Some (name_of c.args.name))) ∷ Leave ∷ Do make_procedure ∷ s) (ItemsR is ∷ v)
-    ∙ c.returned-returned.ensures.leads (name_of c.args.name) (names_of c.in_ok-parameters.parameters.items) (Want InterruptG ∷ Want LinkageG ∷ need mark.Semicolon ∷ push (ItemsR no_items) ∷ Want (ItemsG (Some (name_of c.args.name))) ∷ Leave ∷ Do make_procedure ∷ s) (ItemsR is ∷ v)
-    ∙ c.in_ok-interrupt.ensures.leads (name_of c.args.name) (names_of c.in_ok-parameters.parameters.items) c.returned-returned.result.0 (Want LinkageG ∷ need mark.Semicolon ∷ push (ItemsR no_items) ∷ Want (ItemsG (Some (name_of c.args.name))) ∷ Leave ∷ Do make_procedure ∷ s) (ItemsR is ∷ v)
-    ∙ c.linkage-linkage.ensures.leads (name_of c.args.name) (names_of c.in_ok-parameters.parameters.items) c.returned-returned.result.0 (counted c.in_ok-interrupt.interrupt) (need mark.Semicolon ∷ push (ItemsR no_items) ∷ Want (ItemsG (Some (name_of c.args.name))) ∷ Leave ∷ Do make_procedure ∷ s) (ItemsR is ∷ v)
-    ∙ taken (need mark.Semicolon ∷ push (ItemsR no_items) ∷ Want (ItemsG (Some (name_of c.args.name))) ∷ Leave ∷ Do make_procedure ∷ s) (HeaderR (name_of c.args.name) (names_of c.in_ok-parameters.parameters.items) c.returned-returned.result.0 (counted c.in_ok-interrupt.interrupt) (linkage_of c.linkage-linkage.result.0) ∷ ItemsR is ∷ v) c.in_ok-inner.ensures.1
-    ∙ quiet c.in_ok-inner.inner (push (ItemsR no_items) ∷ Want (ItemsG (Some (name_of c.args.name))) ∷ Leave ∷ Do make_procedure ∷ s) (Want (ItemsG (Some (name_of c.args.name))) ∷ Leave ∷ Do make_procedure ∷ s) (HeaderR (name_of c.args.name) (names_of c.in_ok-parameters.parameters.items) c.returned-returned.result.0 (counted c.in_ok-interrupt.interrupt) (linkage_of c.linkage-linkage.result.0) ∷ ItemsR is ∷ v) (ItemsR no_items ∷ HeaderR (name_of c.args.name) (names_of c.in_ok-parameters.parameters.items) c.returned-returned.result.0 (counted c.in_ok-interrupt.interrupt) (linkage_of c.linkage-linkage.result.0) ∷ ItemsR is ∷ v) (λ t q. refl)
-    ∙ c.in_ok-block.ensures.leads (Leave ∷ Do make_procedure ∷ s) (HeaderR (name_of c.args.name) (names_of c.in_ok-parameters.parameters.items) c.returned-returned.result.0 (counted c.in_ok-interrupt.interrupt) (linkage_of c.linkage-linkage.result.0) ∷ ItemsR is ∷ v) d
-    ∙ quiet c.in_ok-block.rest (Leave ∷ Do make_procedure ∷ s) s (read_block (c.in_ok-block.block, c.in_ok-block.end) (HeaderR (name_of c.args.name) (names_of c.in_ok-parameters.parameters.items) c.returned-returned.result.0 (counted c.in_ok-interrupt.interrupt) (linkage_of c.linkage-linkage.result.0) ∷ ItemsR is ∷ v)) (ItemsR (items is (ProcedureI (name_of c.args.name) (names_of c.in_ok-parameters.parameters.items) c.returned-returned.result.0 (counted c.in_ok-interrupt.interrupt) (linkage_of c.linkage-linkage.result.0) (BlockOf (items_part (block_of c.in_ok-block.block)) (statements_part (block_of c.in_ok-block.block))) (base_of c.in_ok-block.end))) ∷ v) (λ t q. refl)
-    ∙ ap (λ (k : BlockT). run 64 s (ItemsR (items is (ProcedureI (name_of c.args.name) (names_of c.in_ok-parameters.parameters.items) c.returned-returned.result.0 (counted c.in_ok-interrupt.interrupt) (linkage_of c.linkage-linkage.result.0) k (base_of c.in_ok-block.end))) ∷ v) (ahead c.in_ok-block.rest)) (block_parts (block_of c.in_ok-block.block)))
+procedure-returns-clause-leads t c = λ is s v d. procedure_there c.args.name c.in_ok-signature.signature.parameters c.in_ok-signature.signature.returned c.in_ok-signature.signature.interrupt c.in_ok-signature.signature.linkage c.in_ok-block.block c.in_ok-block.end is s v c.in_ok-block.rest
+    (c.in_ok-signature.ensures.leads (name_of c.args.name) (push (ItemsR no_items) ∷ Want (ItemsG (Some (name_of c.args.name))) ∷ Leave ∷ Do make_procedure ∷ s) (ItemsR is ∷ v)
+    ∙ quiet c.in_ok-signature.inner (push (ItemsR no_items) ∷ Want (ItemsG (Some (name_of c.args.name))) ∷ Leave ∷ Do make_procedure ∷ s) (Want (ItemsG (Some (name_of c.args.name))) ∷ Leave ∷ Do make_procedure ∷ s) (read_header (name_of c.args.name) c.in_ok-signature.signature (ItemsR is ∷ v)) (ItemsR no_items ∷ read_header (name_of c.args.name) c.in_ok-signature.signature (ItemsR is ∷ v)) (λ t q. refl)
+    ∙ c.in_ok-block.ensures.leads (Leave ∷ Do make_procedure ∷ s) (read_header (name_of c.args.name) c.in_ok-signature.signature (ItemsR is ∷ v)) d
+    ∙ quiet c.in_ok-block.rest (Leave ∷ Do make_procedure ∷ s) s (read_block (c.in_ok-block.block, c.in_ok-block.end) (read_header (name_of c.args.name) c.in_ok-signature.signature (ItemsR is ∷ v))) (ItemsR (items is (ProcedureI (name_of c.args.name) (names_of c.in_ok-signature.signature.parameters.items) c.in_ok-signature.signature.returned (counted c.in_ok-signature.signature.interrupt) (linkage_of c.in_ok-signature.signature.linkage) (BlockOf (items_part (block_of c.in_ok-block.block)) (statements_part (block_of c.in_ok-block.block))) (base_of c.in_ok-block.end))) ∷ v) (λ t q. refl)
+    ∙ ap (λ (k : BlockT). run 64 s (ItemsR (items is (ProcedureI (name_of c.args.name) (names_of c.in_ok-signature.signature.parameters.items) c.in_ok-signature.signature.returned (counted c.in_ok-signature.signature.interrupt) (linkage_of c.in_ok-signature.signature.linkage) k (base_of c.in_ok-block.end))) ∷ v) (ahead c.in_ok-block.rest)) (block_parts (block_of c.in_ok-block.block)))
 
 pub item-returns-in_err-list-clause-leads : goal.item-returns-in_err-list-clause-leads
 item-returns-in_err-list-clause-leads t c = failed_item c.from_residual.result c.in_err-list.field-0.0 c.from_residual.ensures.1 c.args.cursor c.args.room (λ l is s v d. fails_behind c.in_err-list.field-0.0

@@ -1,5 +1,4 @@
-use Rattle.std.proofs.Common.{◌≡◌, ◌∷◌, ◌++◌, ℕ, List, ◌+◌, ◌*◌, ◌≤◌, length, None}
-use Rattle.plm_syntax.specs.Terminal.{NameT}
+use Rattle.std.proofs.Common.{◌≡◌, ◌∷◌, List, ◌+◌, ◌*◌, ◌≤◌, length, None}
 use Rattle.plm_syntax.specs.Tree.{no_names, no_statements, no_items}
 use Rattle.plm_syntax.specs.View.{base_of, names_of, statements_of, items_of}
 use Rattle.plm_syntax.specs.Symbol.{Value, Symbol, depth, NamesR, StatementsR, ItemsR, Want, StatementG, StatementsG, ItemsG}

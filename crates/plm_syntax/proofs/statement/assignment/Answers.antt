@@ -1,23 +1,16 @@
-use Rattle.std.proofs.Common.{◌≡◌, ◌∷◌, ◌++◌, [], ℕ, zero, suc, List, ◌+◌, length, true, false, Option, Some, None, refl, sym, ap, ◌∙◌, arith}
+use Rattle.std.proofs.Common.{◌∷◌, List, refl, sym, ap, ◌∙◌, arith}
 use Rattle.plm_token.specs.declared.token.Mark.TheVariants as mark
-use Rattle.plm_token.specs.declared.token.Keyword.TheVariants as key
-use Rattle.plm_syntax.specs.declared.tree.Name.{Name as NameTree}
 use Rattle.plm_syntax.specs.declared.tree.Reference.{Reference}
-use Rattle.plm_syntax.specs.declared.tree.Statement.{Statement}
-use Rattle.plm_syntax.specs.declared.tree.Item.{Item}
-use Rattle.plm_syntax.specs.declared.tree.Linkage.TheVariants as linkage
-use Rattle.plm_syntax.specs.Terminal.{NameT, Name, Sign, Key, Leaf, leaf_at}
-use Rattle.plm_syntax.specs.Tree.{NamesT, names, no_names, ReferenceE, ReferencesT, references, no_references, StatementsT, statements, no_statements, ItemsT, items, no_items, ElementsT, no_elements, DeclareI, Labelled, BasicT, EmptyS, AssignS, CallS, ReturnS, ReturnValueS, EnableS, DisableS, HaltS, IfS, IfElseS, DoS, WhileS, CaseS, IterateS, BlockOf, no_linkage, public_linkage, external_linkage}
-use Rattle.plm_syntax.specs.View.{name_of, base_of, number_of, names_of, names_from, expression_of, reference_of, references_from, elements_of, statement_of, statements_of, statements_from, item_of, items_of, items_from, basic_of, step_of, counted, linkage_of}
-use Rattle.plm_syntax.specs.Symbol.{Symbol, depth, need, push, Need, Want, Do, Leave, ExpressionR, NameR, NamesR, ReferencesR, StatementR, ArmsR, StatementsR, ItemsR, ElementsR, EndR, StepR, RangeR, HeaderR, StatementG, LeadG, TargetG, MoreTargetsG, SubscriptsG, SelectorG, CalledG, ReturnedG, ArmG, OtherwiseG, DoG, StepG, StatementsG, EndG, ItemsG, ElementG, MoreElementsG, ParametersG, ParameterG, MoreParametersG, ReturnedTypeG, InterruptG, InterruptNumberG, LinkageG, ModuleG, StartG}
-use Rattle.plm_syntax.specs.Machine.{plain, an_expression, make_simple, add_label, add_target, make_assign, make_call, make_return, join_arms, make_if, add_statement, make_do, make_while, make_case, make_range, set_step, make_iterate, no_labels, no_statement_yet, and_more, make_declare, make_procedure, procedure_symbols, set_returned, set_interrupt, set_linkage, make_module, run}
+use Rattle.plm_syntax.specs.Tree.{ReferenceE, ReferencesT, references, no_references, Labelled, AssignS}
+use Rattle.plm_syntax.specs.View.{name_of, expression_of, reference_of, references_from}
+use Rattle.plm_syntax.specs.Symbol.{need, push, Want, Do, ExpressionR, NamesR, ReferencesR, StatementR, TargetG, MoreTargetsG, SubscriptsG, SelectorG}
+use Rattle.plm_syntax.specs.Machine.{plain, an_expression, add_target, make_assign, run}
 use Rattle.plm_syntax.specs.Parsed.{ahead, next_of}
-use Rattle.plm_syntax.specs.Blocks.{is_label, read_statement, read_basic, read_block, read_body, read_end, read_governed, read_step, read_procedure, read_interrupt, condition_goals, governed_goals, iteration_goals, procedure_goals, no_parameters_read}
-use Rattle.plm_syntax.specs.Parts.{read_expression, read_reference, reference_read, read_elements, read_parameters}
-use Rattle.plm_syntax.proofs.Rows.{name_pushed, reference_pushed, statement_pushed, item_pushed, statement_row, item_row}
-use Rattle.plm_syntax.proofs.Along.{quiet, taken, refused, need_refused, entered, too_deep, deeper, failed, refusal, depth_failure, arrives_behind, arrives_left}
-use Rattle.plm_syntax.proofs.NextDeclaration.{returned_taken}
-use Rattle.plm_syntax.proofs.NextBlock.{no_colon, unnamed, uncoloned, unheaded, no_procedure, end_taken, end_other, statement_refused, more_targets_refused, target_refused, called_refused, start_refused, interrupt_refused, end_refused, module_refused, do_refused, no_step, no_else, no_parameters_there, no_type_there, no_interrupt_there, no_linkage_there, target_goes, returned_goes, statements_go, arm_goes, arm_too_deep, arm_refused, statements_begin}
+use Rattle.plm_syntax.specs.Blocks.{read_basic}
+use Rattle.plm_syntax.specs.Parts.{read_expression, read_reference, reference_read}
+use Rattle.plm_syntax.proofs.Rows.{reference_pushed}
+use Rattle.plm_syntax.proofs.Along.{quiet, taken, refused, failed, refusal}
+use Rattle.plm_syntax.proofs.NextBlock.{more_targets_refused, target_refused}
 use Rattle.plm_syntax.proofs.statement.assignment.Goals as goal
 
 pub loop-after-init : goal.loop-after-init
@@ -65,23 +58,13 @@ returns-in_err-value-clause-leads c = λ ls s v d. failed (read_basic ls) s v c.
     (c.loop-after.invariant.leads ls s v d
     ∙ taken (Want MoreTargetsG ∷ s) (read_reference c.loop-after.last (ReferencesR (references_from c.loop-after.targets.items no_references) ∷ NamesR ls ∷ v)) c.in_ok-after.ensures.1
     ∙ quiet c.in_ok-after.after (Do add_target ∷ an_expression (need mark.Semicolon ∷ Do make_assign ∷ s)) (an_expression (need mark.Semicolon ∷ Do make_assign ∷ s)) (read_reference c.loop-after.last (ReferencesR (references_from c.loop-after.targets.items no_references) ∷ NamesR ls ∷ v)) (ReferencesR (references (references_from c.loop-after.targets.items no_references) (reference_of c.loop-after.last)) ∷ NamesR ls ∷ v) (λ t q. refl))
-    (c.in_err-value.ensures.leads (need mark.Semicolon ∷ Do make_assign ∷ s) (ReferencesR (references (references_from c.loop-after.targets.items no_references) (reference_of c.loop-after.last)) ∷ NamesR ls ∷ v) d)
-
-pub returns-in_err-end-clause-leads : goal.returns-in_err-end-clause-leads
-returns-in_err-end-clause-leads c = λ ls s v d. failed (read_basic ls) s v c.from_residual-in_err-end.result c.in_err-end.field-0.0 c.from_residual-in_err-end.ensures.1
-    (c.loop-after.invariant.leads ls s v d
-    ∙ taken (Want MoreTargetsG ∷ s) (read_reference c.loop-after.last (ReferencesR (references_from c.loop-after.targets.items no_references) ∷ NamesR ls ∷ v)) c.in_ok-after.ensures.1
-    ∙ quiet c.in_ok-after.after (Do add_target ∷ an_expression (need mark.Semicolon ∷ Do make_assign ∷ s)) (an_expression (need mark.Semicolon ∷ Do make_assign ∷ s)) (read_reference c.loop-after.last (ReferencesR (references_from c.loop-after.targets.items no_references) ∷ NamesR ls ∷ v)) (ReferencesR (references (references_from c.loop-after.targets.items no_references) (reference_of c.loop-after.last)) ∷ NamesR ls ∷ v) (λ t q. refl)
-    ∙ c.in_ok-value.ensures.leads (need mark.Semicolon ∷ Do make_assign ∷ s) (ReferencesR (references (references_from c.loop-after.targets.items no_references) (reference_of c.loop-after.last)) ∷ NamesR ls ∷ v) d
-    ∙ need_refused (Sign mark.Semicolon) c.in_ok-value.behind (Do make_assign ∷ s) (read_expression c.in_ok-value.value (ReferencesR (references (references_from c.loop-after.targets.items no_references) (reference_of c.loop-after.last)) ∷ NamesR ls ∷ v)) c.in_err-end.ensures.0)
-    (refusal c.in_err-end.field-0.0 c.in_ok-value.behind c.in_err-end.ensures.1 refl)
+    (c.in_err-value.ensures.leads (Do make_assign ∷ s) (ReferencesR (references (references_from c.loop-after.targets.items no_references) (reference_of c.loop-after.last)) ∷ NamesR ls ∷ v) d)
 
 pub returns-clause-leads : goal.returns-clause-leads
 returns-clause-leads c = λ ls s v d. c.loop-after.invariant.leads ls s v d
     ∙ taken (Want MoreTargetsG ∷ s) (read_reference c.loop-after.last (ReferencesR (references_from c.loop-after.targets.items no_references) ∷ NamesR ls ∷ v)) c.in_ok-after.ensures.1
     ∙ quiet c.in_ok-after.after (Do add_target ∷ an_expression (need mark.Semicolon ∷ Do make_assign ∷ s)) (an_expression (need mark.Semicolon ∷ Do make_assign ∷ s)) (read_reference c.loop-after.last (ReferencesR (references_from c.loop-after.targets.items no_references) ∷ NamesR ls ∷ v)) (ReferencesR (references (references_from c.loop-after.targets.items no_references) (reference_of c.loop-after.last)) ∷ NamesR ls ∷ v) (λ t q. refl)
-    ∙ c.in_ok-value.ensures.leads (need mark.Semicolon ∷ Do make_assign ∷ s) (ReferencesR (references (references_from c.loop-after.targets.items no_references) (reference_of c.loop-after.last)) ∷ NamesR ls ∷ v) d
-    ∙ taken (need mark.Semicolon ∷ Do make_assign ∷ s) (read_expression c.in_ok-value.value (ReferencesR (references (references_from c.loop-after.targets.items no_references) (reference_of c.loop-after.last)) ∷ NamesR ls ∷ v)) c.in_ok-end.ensures.1
-    ∙ quiet c.in_ok-end.end (Do make_assign ∷ s) s (read_expression c.in_ok-value.value (ReferencesR (references (references_from c.loop-after.targets.items no_references) (reference_of c.loop-after.last)) ∷ NamesR ls ∷ v)) (StatementR (Labelled ls (AssignS (references (references_from c.loop-after.targets.items no_references) (reference_of c.loop-after.last)) (expression_of c.in_ok-value.value))) ∷ v) (λ t q. refl)
-    ∙ ap (λ (xs : ReferencesT). run 64 s (StatementR (Labelled ls (AssignS xs (expression_of c.in_ok-value.value))) ∷ v) (ahead c.in_ok-end.end)) (sym (reference_pushed c.loop-after.targets.items c.loop-after.last no_references))
-    ∙ ap (λ (xs : List Reference). run 64 s (StatementR (Labelled ls (AssignS (references_from xs no_references) (expression_of c.in_ok-value.value))) ∷ v) (ahead c.in_ok-end.end)) (sym c.in_ok-push-2.ensures.items)
+    ∙ c.in_ok-value.ensures.leads (Do make_assign ∷ s) (ReferencesR (references (references_from c.loop-after.targets.items no_references) (reference_of c.loop-after.last)) ∷ NamesR ls ∷ v) d
+    ∙ quiet c.in_ok-value.end (Do make_assign ∷ s) s (read_expression c.in_ok-value.value (ReferencesR (references (references_from c.loop-after.targets.items no_references) (reference_of c.loop-after.last)) ∷ NamesR ls ∷ v)) (StatementR (Labelled ls (AssignS (references (references_from c.loop-after.targets.items no_references) (reference_of c.loop-after.last)) (expression_of c.in_ok-value.value))) ∷ v) (λ t q. refl)
+    ∙ ap (λ (xs : ReferencesT). run 64 s (StatementR (Labelled ls (AssignS xs (expression_of c.in_ok-value.value))) ∷ v) (ahead c.in_ok-value.end)) (sym (reference_pushed c.loop-after.targets.items c.loop-after.last no_references))
+    ∙ ap (λ (xs : List Reference). run 64 s (StatementR (Labelled ls (AssignS (references_from xs no_references) (expression_of c.in_ok-value.value))) ∷ v) (ahead c.in_ok-value.end)) (sym c.in_ok-push-2.ensures.items)

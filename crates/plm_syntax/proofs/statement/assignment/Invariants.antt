@@ -1,4 +1,4 @@
-use Rattle.std.proofs.Common.{◌≡◌, ◌∷◌, ℕ, List, ◌+◌, ◌≤◌, length}
+use Rattle.std.proofs.Common.{◌≡◌, ◌∷◌, List, ◌+◌, ◌≤◌, length}
 use Rattle.plm_syntax.specs.Tree.{NamesT, no_references}
 use Rattle.plm_syntax.specs.View.{name_of, references_from}
 use Rattle.plm_syntax.specs.Symbol.{Value, Symbol, depth, NamesR, ReferencesR, Want, SubscriptsG, SelectorG, MoreTargetsG}
