@@ -1,0 +1,285 @@
+-- Resolved statements and procedures are within the final counts.
+use Rattle.std.proofs.Common.{◌≡◌, ℕ, ◌≤◌, List, [], ◌∷◌, ◌++◌, length, Bool, true, false, ◌&&◌, ◌||◌, not, cond, Option, Some, None, nat_lt, is_some, subst, refl, sym, ap, ◌∙◌}
+use Rattle.std.specs.Prelude.{slice_get}
+use Rattle.std.specs.List.{list_all}
+use Rattle.std.proofs.lemmas.List.{length-set}
+use Rattle.word86.specs.declared.number.Number.TheVariants.{E301, E302}
+use Rattle.plm_token.specs.Names.{normal}
+use Rattle.plm_syntax.specs.declared.tree.Place.{Place}
+use Rattle.plm_syntax.specs.declared.tree.Linkage.{Linkage}
+use Rattle.plm_syntax.specs.Terminal.{NameT}
+use Rattle.plm_syntax.specs.Tree.{ElementT, ReferenceT, ExpressionT, StatementT, Labelled, BasicT, EmptyS, AssignS, CallS, ReturnS, ReturnValueS, EnableS, DisableS, HaltS, IfS, IfElseS, DoS, WhileS, CaseS, IterateS, StatementsT, BlockT, BlockOf, ItemsT, no_items, items, ItemT, DeclareI, ProcedureI}
+use Rattle.plm_syntax.specs.Tree as tree
+use Rattle.plm_decl.specs.declared.names.Item.{Item}
+use Rattle.plm_decl.specs.declared.names.Item.TheVariants as item
+use Rattle.plm_decl.specs.Scopes.{Entries, Level, level, found_here, found_in, path_in, is_external}
+use Rattle.plm_decl.specs.Paths.{name_behind}
+use Rattle.plm_decl.specs.Known.{Known, ProcedureR, note_whole}
+use Rattle.plm_decl.specs.Lists.{element_list, name_list, reference_list}
+use Rattle.plm_decl.specs.Uses.{used}
+use Rattle.plm_decl.specs.Strays.{is_external_linkage}
+use Rattle.plm_decl.specs.Resolved.{ReferencesR, no_references, references, ReferenceR', StatementR, StatementsR, no_statements, statements, and_reference, and_statement}
+use Rattle.plm_decl.specs.Expressions.{expression, reference}
+use Rattle.plm_decl.specs.Elements.{linked}
+use Rattle.plm_decl.specs.Fills.{element}
+use Rattle.plm_decl.specs.Statements.{targets_from, step_for, last_name, block_path, with_elements, linkage_of, is_handled, note_handler, header, with_header, declared_procedure, parameter_is, with_parameter, parameter_for, parameters_from, completed_at, statement, basic, statements as read_statements, block, with_items, with_item}
+use Rattle.plm_decl.specs.Ranges.{Counts, meaning_within, expression_within, reference_within, references_within, step_within, statement_within, statements_within, procedure_within, Within, item_within}
+use Rattle.plm_decl.proofs.Kept.{Ends, Kept, Declares, declares_none, declares_then, kept, kept_then, both, left, right, levels_within, note_kept, note_unless_kept, all_pushed, all_set, maybe, got, pushed_below, pushed_most, unless_kept}
+use Rattle.plm_decl.proofs.RangesNames.{used_kept, used_within, here_within, with_name_within}
+use Rattle.plm_decl.proofs.RangesExpressions.{expression_kept, expression_is_within, reference_kept, reference_is_within}
+use Rattle.plm_decl.proofs.RangesElements.{linked_kept, declared_kept}
+use Rattle.plm_decl.proofs.RangesFills.{element_declares}
+
+-- ---- targets and steps
+
+and_reference_within : (c : Counts) (xs : ReferencesR) (x : ReferenceR') → references_within c xs ≡ true → reference_within c x ≡ true → references_within c (and_reference xs x) ≡ true
+and_reference_within c no_references x h g = both g refl
+and_reference_within c (references y xs) x h g =
+    both (left (reference_within c y) (references_within c xs) h) (and_reference_within c xs x (right (reference_within c y) (references_within c xs) h) g)
+
+and_statement_within : (c : Counts) (ss : StatementsR) (s : StatementR) → statements_within c ss ≡ true → statement_within c s ≡ true → statements_within c (and_statement ss s) ≡ true
+and_statement_within c no_statements s h g = both g refl
+and_statement_within c (statements t ss) s h g =
+    both (left (statement_within c t) (statements_within c ss) h) (and_statement_within c ss s (right (statement_within c t) (statements_within c ss) h) g)
+
+targets_kept : (c : Counts) (levels : List Level) (before : ReferencesR) (xs : List ReferenceT) (k : Known) → Kept c k (targets_from levels before xs k).1
+targets_kept c levels before [] k = kept c k
+targets_kept c levels before (x ∷ xs) k = let r = reference levels x k in kept_then (reference_kept c levels x k) (targets_kept c levels (and_reference before r.0) xs r.1)
+
+targets_within : (c : Counts) (levels : List Level) (before : ReferencesR) (xs : List ReferenceT) (k : Known)
+    → levels_within c levels ≡ true → references_within c before ≡ true → Ends c (targets_from levels before xs k).1 → references_within c (targets_from levels before xs k).0 ≡ true
+targets_within c levels before [] k h g e = g
+targets_within c levels before (x ∷ xs) k h g e =
+    let r = reference levels x k in
+    let d = (targets_kept c levels (and_reference before r.0) xs r.1).ends e in
+    targets_within c levels (and_reference before r.0) xs r.1 h (and_reference_within c before r.0 g (reference_is_within c levels x k h d)) e
+
+step_kept : (c : Counts) (levels : List Level) (s : Option ExpressionT) (k : Known) → Kept c k (step_for levels s k).1
+step_kept c levels None k = kept c k
+step_kept c levels (Some e) k = expression_kept c levels e k
+
+step_is_within : (c : Counts) (levels : List Level) (s : Option ExpressionT) (k : Known) → levels_within c levels ≡ true → Ends c (step_for levels s k).1 → step_within c (step_for levels s k).0 ≡ true
+step_is_within c levels None k h e = refl
+step_is_within c levels (Some x) k h e = expression_is_within c levels x k h e
+
+path_kept : (c : Counts) (levels : List Level) (n : Option NameT) (k : Known) → Kept c k (block_path levels n k).1
+path_kept c levels (Some n) k = kept c k
+path_kept c levels None k = record { ends = λ e. e; within = λ e w. w }
+
+elements_declare : (c : Counts) (es : List ElementT) (levels : List Level) (k : Known) → Declares c levels k (with_elements es levels k).0 (with_elements es levels k).1
+elements_declare c [] levels k = declares_none c levels k
+elements_declare c (x ∷ es) levels k = let r = element x levels k in declares_then (element_declares c x levels k) (elements_declare c es r.0 r.1)
+
+-- ---- procedures
+
+handler_kept : (c : Counts) (p : Place) (l : Linkage) (n : Option ℕ) (k : Known) → Kept c k (note_handler p l n k)
+handler_kept c p l None k = kept c k
+handler_kept c p l (Some n) k = unless_kept c (is_external_linkage l || not (is_handled n k)) k _ (record { ends = λ e. e; within = λ e w. w })
+
+pushed_kept : (c : Counts) (p : ProcedureR) (k : Known) → (Ends c (record k { procedures = k.procedures ++ p ∷ [] }) → procedure_within c p ≡ true) → Kept c k (record k { procedures = k.procedures ++ p ∷ [] })
+pushed_kept c p k h = record {
+  ends = λ e. (e.0, e.1, e.2, pushed_most k.procedures p c.procedures e.3, e.4);
+  within = λ e w. (w.0, w.1, all_pushed (procedure_within c) k.procedures p w.2 (h e), w.3, w.4, w.5, w.6);
+}
+
+handler_numbers : (p : Place) (l : Linkage) (n : Option ℕ) (k : Known) → (note_handler p l n k).procedures ≡ k.procedures
+handler_numbers p l None k = refl
+handler_numbers p l (Some n) k = same (is_external_linkage l || not (is_handled n k)) _
+  where
+    same : (b : Bool) (q : _) → (cond b k (note_whole q k)).procedures ≡ k.procedures
+    same true q = refl
+    same false q = refl
+
+-- a procedure whose parameters and body are to come
+declared_procedure_declares : (c : Counts) (levels : List Level) (n : NameT) (p : ProcedureR) (k : Known)
+    → p.entry ≡ length k.procedures → (nat_lt p.entry c.procedures ≡ true → procedure_within c p ≡ true)
+    → Declares c levels k (declared_procedure levels n p k).0 (declared_procedure levels n p k).1
+declared_procedure_declares c levels n p k number holds =
+    let q = note_handler p.place p.linkage p.interrupt k in
+    let made = with_header p k in
+    let i = item.Procedure p.entry in
+    let name = normal n.text in
+    let below : Ends c made → nat_lt p.entry c.procedures ≡ true =
+    λ e. ap (λ m. nat_lt m c.procedures) (number ∙ sym (ap length (handler_numbers p.place p.linkage p.interrupt k))) ∙ pushed_below q.procedures p c.procedures e.3 in
+    let first = kept_then (handler_kept c p.place p.linkage p.interrupt k) (pushed_kept c p q (λ e. holds (below e))) in
+    let last = kept_then (linked_kept c levels p.linkage name i made below) (declared_kept c n i levels (linked levels p.linkage name i made)) in
+    record {
+      ends = λ e. first.ends (last.ends e);
+      within = λ h e w. let d = last.ends e in (last.within e (first.within d w), with_name_within c name i levels h (below d));
+    }
+
+-- ---- parameters
+
+parameter_is_kept : (c : Counts) (i : Option Item) (p : Place) (vs : List ℕ) (k : Known) → Kept c k (parameter_is i p vs k).1
+parameter_is_kept c (Some (item.Variable v)) p vs k = kept c k
+parameter_is_kept c (Some (item.Procedure q)) p vs k = note_kept c E301 p k
+parameter_is_kept c None p vs k = note_kept c E301 p k
+
+parameter_is_within : (c : Counts) (i : Option Item) (p : Place) (vs : List ℕ) (k : Known) → maybe (item_within c) i ≡ true
+    → list_all (λ v. nat_lt v c.variables) vs ≡ true → list_all (λ v. nat_lt v c.variables) (parameter_is i p vs k).0 ≡ true
+parameter_is_within c (Some (item.Variable v)) p vs k h g = all_pushed (λ v. nat_lt v c.variables) vs v g h
+parameter_is_within c (Some (item.Procedure q)) p vs k h g = g
+parameter_is_within c None p vs k h g = g
+
+parameter_kept : (c : Counts) (levels : List Level) (listed : Entries) (vs : List ℕ) (n : NameT) (k : Known) → Kept c k (parameter_for levels listed vs n k).1
+parameter_kept c levels listed vs n k =
+    kept_then (note_unless_kept c (not (is_some (found_in (normal n.text) listed))) E302 n.place k) (parameter_is_kept c (found_here (normal n.text) levels) n.place vs _)
+
+parameters_kept : (c : Counts) (levels : List Level) (listed : Entries) (vs : List ℕ) (ns : List NameT) (k : Known) → Kept c k (parameters_from levels listed vs ns k).1
+parameters_kept c levels listed vs [] k = kept c k
+parameters_kept c levels listed vs (n ∷ ns) k =
+    let r = parameter_for levels listed vs n k in kept_then (parameter_kept c levels listed vs n k) (parameters_kept c levels (with_parameter n listed) r.0 ns r.1)
+
+parameters_within : (c : Counts) (levels : List Level) (listed : Entries) (vs : List ℕ) (ns : List NameT) (k : Known) → levels_within c levels ≡ true
+    → list_all (λ v. nat_lt v c.variables) vs ≡ true → list_all (λ v. nat_lt v c.variables) (parameters_from levels listed vs ns k).0 ≡ true
+parameters_within c levels listed vs [] k h g = g
+parameters_within c levels listed vs (n ∷ ns) k h g =
+    let r = parameter_for levels listed vs n k in
+    parameters_within c levels (with_parameter n listed) r.0 ns r.1 h (parameter_is_within c (found_here (normal n.text) levels) n.place vs _ (here_within c (normal n.text) levels h) g)
+
+completed_at_ends : (c : Counts) (number : ℕ) (ps : List ℕ) (body : StatementsR) (p : Option ProcedureR) (k : Known) → Ends c (completed_at number ps body p k) → Ends c k
+completed_at_ends c number ps body None k e = e
+completed_at_ends c number ps body (Some p) k e = (e.0, e.1, e.2, subst (λ n. n ≤ c.procedures) (length-set k.procedures number (record p { parameters = ps; body = body })) e.3, e.4)
+
+completed_at_within : (c : Counts) (number : ℕ) (ps : List ℕ) (body : StatementsR) (p : Option ProcedureR) (k : Known)
+    → list_all (λ v. nat_lt v c.variables) ps ≡ true → statements_within c body ≡ true → maybe (procedure_within c) p ≡ true → Within c k → Within c (completed_at number ps body p k)
+completed_at_within c number ps body None k h g m w = w
+completed_at_within c number ps body (Some p) k h g m w =
+    let entry = left (nat_lt p.entry c.procedures) (statements_within c p.body) (right (list_all (λ v. nat_lt v c.variables) p.parameters) (nat_lt p.entry c.procedures && statements_within c p.body) m) in
+    (w.0, w.1, all_set (procedure_within c) k.procedures number (record p { parameters = ps; body = body }) w.2 (both h (both entry g)), w.3, w.4, w.5, w.6)
+
+-- ---- statements
+
+-- what is answered passes this test
+pub record Gives (c : Counts) (levels : List Level) (k : Known) (p : Bool) (q : Known) : Type 0 where
+  pub ends : Ends c q → Ends c k
+  pub within : levels_within c levels ≡ true → Ends c q → Within c k → Within c q × (p ≡ true)
+
+gives_none : (c : Counts) (levels : List Level) (k : Known) → Gives c levels k true k
+gives_none c levels k = record { ends = λ e. e; within = λ h e w. (w, refl) }
+
+gives_then : {c : Counts} {levels : List Level} {k : Known} {p : Bool} {q : Known} {s : Bool} {r : Known} → Gives c levels k p q → Gives c levels q s r → Gives c levels k (p && s) r
+gives_then a b = record {
+  ends = λ e. a.ends (b.ends e);
+  within = λ h e w. let one = a.within h (b.ends e) w in let two = b.within h e one.0 in (two.0, both one.1 two.1);
+}
+
+expression_gives : (c : Counts) (levels : List Level) (e : ExpressionT) (k : Known) → Gives c levels k (expression_within c (expression levels e k).0) (expression levels e k).1
+expression_gives c levels x k =
+    let here = expression_kept c levels x k in
+    record { ends = λ e. here.ends e; within = λ h e w. (here.within e w, expression_is_within c levels x k h e) }
+
+reference_gives : (c : Counts) (levels : List Level) (x : ReferenceT) (k : Known) → Gives c levels k (reference_within c (reference levels x k).0) (reference levels x k).1
+reference_gives c levels x k =
+    let here = reference_kept c levels x k in
+    record { ends = λ e. here.ends e; within = λ h e w. (here.within e w, reference_is_within c levels x k h e) }
+
+targets_give : (c : Counts) (levels : List Level) (xs : List ReferenceT) (k : Known) → Gives c levels k (references_within c (targets_from levels no_references xs k).0) (targets_from levels no_references xs k).1
+targets_give c levels xs k =
+    let here = targets_kept c levels no_references xs k in
+    record { ends = λ e. here.ends e; within = λ h e w. (here.within e w, targets_within c levels no_references xs k h refl e) }
+
+step_gives : (c : Counts) (levels : List Level) (s : Option ExpressionT) (k : Known) → Gives c levels k (step_within c (step_for levels s k).0) (step_for levels s k).1
+step_gives c levels s k =
+    let here = step_kept c levels s k in
+    record { ends = λ e. here.ends e; within = λ h e w. (here.within e w, step_is_within c levels s k h e) }
+
+used_gives : (c : Counts) (levels : List Level) (n : NameT) (k : Known) → Gives c levels k (meaning_within c (used levels n k).0) (used levels n k).1
+used_gives c levels n k =
+    let here = used_kept c levels n k in
+    record { ends = λ e. here.ends e; within = λ h e w. (here.within e w, used_within c levels n k h e) }
+
+-- of a block
+pub record Blocks (c : Counts) (levels : List Level) (k : Known) (p : Bool) (after : List Level) (q : Known) : Type 0 where
+  pub ends : Ends c q → Ends c k
+  pub within : levels_within c levels ≡ true → Ends c q → Within c k → Within c q × (levels_within c after ≡ true) × (p ≡ true)
+
+mutual
+  statement_gives : (c : Counts) (levels : List Level) (s : StatementT) (k : Known) → Gives c levels k (statement_within c (statement levels s k).0) (statement levels s k).1
+  statement_gives c levels (Labelled ls b) k = basic_gives c levels (last_name ls) b k
+
+  basic_gives : (c : Counts) (levels : List Level) (label : Option NameT) (b : BasicT) (k : Known) → Gives c levels k (statement_within c (basic levels label b k).0) (basic levels label b k).1
+  basic_gives c levels label (EmptyS p) k = gives_none c levels k
+  basic_gives c levels label (AssignS xs e) k = gives_then (targets_give c levels (reference_list xs) k) (expression_gives c levels e (targets_from levels no_references (reference_list xs) k).1)
+  basic_gives c levels label (CallS p x) k = reference_gives c levels x k
+  basic_gives c levels label (ReturnS p) k = gives_none c levels k
+  basic_gives c levels label (ReturnValueS p e) k = expression_gives c levels e k
+  basic_gives c levels label (EnableS p) k = gives_none c levels k
+  basic_gives c levels label (DisableS p) k = gives_none c levels k
+  basic_gives c levels label (HaltS p) k = gives_none c levels k
+  basic_gives c levels label (IfS p e s) k = let r = expression levels e k in gives_then (expression_gives c levels e k) (statement_gives c levels s r.1)
+  basic_gives c levels label (IfElseS p e s t) k =
+      let r = expression levels e k in let q = statement levels s r.1 in
+      gives_then (expression_gives c levels e k) (gives_then (statement_gives c levels s r.1) (statement_gives c levels t q.1))
+  basic_gives c levels label (DoS p b n) k =
+      let r = block_path levels label k in
+      let here = path_kept c levels label k in
+      let body = block_gives c (level r.0 (is_external levels) ∷ levels) b r.1 in
+      record {
+        ends = λ e. here.ends (body.ends e);
+        within = λ h e w. let done = body.within h e (here.within (body.ends e) w) in (done.0, done.2);
+      }
+  basic_gives c levels label (WhileS p e ss n) k = let r = expression levels e k in gives_then (expression_gives c levels e k) (statements_give c levels ss r.1)
+  basic_gives c levels label (CaseS p e ss n) k = let r = expression levels e k in gives_then (expression_gives c levels e k) (statements_give c levels ss r.1)
+  basic_gives c levels label (IterateS p i a b s ss n) k =
+      let m = used levels i k in let r = expression levels a m.1 in let q = expression levels b r.1 in let u = step_for levels s q.1 in
+      gives_then (used_gives c levels i k)
+      (gives_then (expression_gives c levels a m.1) (gives_then (expression_gives c levels b r.1) (gives_then (step_gives c levels s q.1) (statements_give c levels ss u.1))))
+
+  statements_give : (c : Counts) (levels : List Level) (ss : StatementsT) (k : Known) → Gives c levels k (statements_within c (read_statements levels ss k).0) (read_statements levels ss k).1
+  statements_give c levels tree.no_statements k = gives_none c levels k
+  statements_give c levels (tree.statements ss s) k =
+      let r = read_statements levels ss k in
+      let q = statement levels s r.1 in
+      let before = statements_give c levels ss k in
+      let here = statement_gives c levels s r.1 in
+      record {
+        ends = λ e. before.ends (here.ends e);
+        within = λ h e w.
+            let one = before.within h (here.ends e) w in
+            let two = here.within h e one.0 in
+            (two.0, and_statement_within c r.0 q.0 one.1 two.1);
+      }
+
+  pub block_gives : (c : Counts) (levels : List Level) (b : BlockT) (k : Known) → Blocks c levels k (statements_within c (block levels b k).0) (block levels b k).1 (block levels b k).2
+  block_gives c levels (BlockOf is ss) k =
+      let r = with_items levels is k in
+      let before = items_declare c levels is k in
+      let here = statements_give c r.0 ss r.1 in
+      record {
+        ends = λ e. before.ends (here.ends e);
+        within = λ h e w.
+            let one = before.within h (here.ends e) w in
+            let two = here.within one.1 e one.0 in
+            (two.0, one.1, two.1);
+      }
+
+  items_declare : (c : Counts) (levels : List Level) (is : ItemsT) (k : Known) → Declares c levels k (with_items levels is k).0 (with_items levels is k).1
+  items_declare c levels no_items k = declares_none c levels k
+  items_declare c levels (items is i) k = let r = with_items levels is k in declares_then (items_declare c levels is k) (item_declares c r.0 i r.1)
+
+  item_declares : (c : Counts) (levels : List Level) (i : ItemT) (k : Known) → Declares c levels k (with_item levels i k).0 (with_item levels i k).1
+  item_declares c levels (DeclareI p es) k = elements_declare c (element_list es) levels k
+  item_declares c levels (ProcedureI n ps s i l b e) k =
+      let p = header (name_behind (path_in levels) (normal n.text)) n (name_list ps) s i (linkage_of l) b k in
+      let r = declared_procedure levels n p k in
+      let inside = level p.path (is_external_linkage p.linkage || is_external levels) in
+      let q = block (inside ∷ r.0) b r.1 in
+      let u = parameters_from q.1 [] [] (name_list ps) q.2 in
+      let first = declared_procedure_declares c levels n p k refl (λ h. both h refl) in
+      let body = block_gives c (inside ∷ r.0) b r.1 in
+      let listed = parameters_kept c q.1 [] [] (name_list ps) q.2 in
+      record {
+        ends = λ d. first.ends (body.ends (listed.ends (completed_at_ends c p.entry u.0 q.0 (slice_get u.1.procedures p.entry) u.1 d)));
+        within = λ h d w.
+            let d3 = completed_at_ends c p.entry u.0 q.0 (slice_get u.1.procedures p.entry) u.1 d in
+            let d2 = listed.ends d3 in
+            let d1 = body.ends d2 in
+            let one = first.within h d1 w in
+            let two = body.within one.1 d2 one.0 in
+            let three = listed.within d3 two.0 in (
+              completed_at_within c p.entry u.0 q.0 (slice_get u.1.procedures p.entry) u.1
+                  (parameters_within c q.1 [] [] (name_list ps) q.2 two.1 refl) two.2 (got (procedure_within c) u.1.procedures p.entry three.2) three,
+              one.1,
+            );
+      }

@@ -1,0 +1,36 @@
+-- The lists of resolved trees: joined from their rows, and grown by a push.
+use Rattle.std.proofs.Common.{◌≡◌, List, [], ◌∷◌, ◌++◌, refl, ap, ◌∙◌}
+use Rattle.std.specs.Global.{Vec}
+use Rattle.plm_decl.specs.declared.resolved.Expression.{Expression, Row_of-Expression, end_of-Expression, more_of-Expression, items-the_row-Expression, items_hidden-the_row-Expression-0}
+use Rattle.plm_decl.specs.declared.resolved.Expression.TheBlock.{hidden-the_row-Expression-0}
+use Rattle.plm_decl.specs.declared.resolved.Reference.{Reference}
+use Rattle.plm_decl.specs.declared.resolved.Statement.{Statement, Row_of-Statement, end_of-Statement, more_of-Statement, items-the_row-Statement, items_hidden-the_row-Statement-0}
+use Rattle.plm_decl.specs.declared.resolved.Statement.TheBlock.{hidden-the_row-Statement-0}
+use Rattle.plm_decl.specs.Resolved.{expressions, references, statements, and_expression, and_reference, and_statement}
+use Rattle.plm_decl.specs.ResolvedView.{expression_of, expressions_in, expressions_of, reference_of, references_of, statement_of, statements_in, statements_of}
+
+expression_rows : {m : _} (row : Row_of-Expression m) → expressions_in row ≡ expressions_of (items-the_row-Expression m row)
+expression_rows end_of-Expression = refl
+expression_rows (more_of-Expression e es) = ap (expressions (expression_of e)) (expression_rows es)
+
+pub expression_row : (v : Vec Expression) → expressions_in (hidden-the_row-Expression-0 v) ≡ expressions_of v.items
+expression_row v = expression_rows (hidden-the_row-Expression-0 v) ∙ ap expressions_of (items_hidden-the_row-Expression-0 v)
+
+pub expression_pushed : (es : List Expression) (e : Expression) → expressions_of (es ++ e ∷ []) ≡ and_expression (expressions_of es) (expression_of e)
+expression_pushed [] e = refl
+expression_pushed (d ∷ es) e = ap (expressions (expression_of d)) (expression_pushed es e)
+
+pub reference_pushed : (xs : List Reference) (x : Reference) → references_of (xs ++ x ∷ []) ≡ and_reference (references_of xs) (reference_of x)
+reference_pushed [] x = refl
+reference_pushed (y ∷ xs) x = ap (references (reference_of y)) (reference_pushed xs x)
+
+statement_rows : {m : _} (row : Row_of-Statement m) → statements_in row ≡ statements_of (items-the_row-Statement m row)
+statement_rows end_of-Statement = refl
+statement_rows (more_of-Statement s ss) = ap (statements (statement_of s)) (statement_rows ss)
+
+pub statement_row : (v : Vec Statement) → statements_in (hidden-the_row-Statement-0 v) ≡ statements_of v.items
+statement_row v = statement_rows (hidden-the_row-Statement-0 v) ∙ ap statements_of (items_hidden-the_row-Statement-0 v)
+
+pub statement_pushed : (ss : List Statement) (s : Statement) → statements_of (ss ++ s ∷ []) ≡ and_statement (statements_of ss) (statement_of s)
+statement_pushed [] s = refl
+statement_pushed (t ∷ ss) s = ap (statements (statement_of t)) (statement_pushed ss s)

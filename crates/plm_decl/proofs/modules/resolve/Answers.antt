@@ -1,0 +1,32 @@
+use Rattle.std.proofs.Common.{◌≡◌, List, [], map, sym, subst, ◌∙◌}
+use Rattle.std.proofs.lemmas.List.{at_drop_all}
+use Rattle.std.proofs.lemmas.Result.{IfOk-weaker, IfErr-weaker}
+use Rattle.plm_syntax.specs.declared.tree.Module.{Module}
+use Rattle.plm_syntax.specs.View.{module_of}
+use Rattle.plm_decl.specs.Known.{Known, known_of}
+use Rattle.plm_decl.specs.Joins.{known_from, modules_from}
+use Rattle.plm_decl.specs.Answers.{AreAnswered, IsRefused}
+use Rattle.plm_decl.specs.Ranges.{Within, counts_of}
+use Rattle.plm_decl.proofs.RangesJoins.{known_within}
+use Rattle.plm_decl.proofs.modules.resolve.Goals as goal
+
+pub answer-requires : goal.answer-requires
+answer-requires c =
+    let here = c.loop-number in
+    let ms = c.args.modules.now in
+    let all : known_of here.resolver ≡ known_from (map module_of ms) =
+    sym (at_drop_all (λ (l : List Module). modules_from here.number (map module_of l) (known_of here.resolver)) ms here.number c.loop-number-test.false)
+    ∙ here.invariant in
+    λ none. subst (λ (k : Known). Within (counts_of k) k) (sym all) (known_within (map module_of ms) (subst (λ (k : Known). k.faults ≡ []) all none))
+
+pub returns : goal.returns
+returns c =
+    let here = c.loop-number in
+    let ms = c.args.modules.now in
+    let all : known_of here.resolver ≡ known_from (map module_of ms) =
+    sym (at_drop_all (λ (l : List Module). modules_from here.number (map module_of l) (known_of here.resolver)) ms here.number c.loop-number-test.false)
+    ∙ here.invariant in
+    record {
+      names = IfOk-weaker c.answer.result _ _ (λ names are. subst (λ (k : Known). AreAnswered names k) all are) c.answer.ensures.names;
+      refused = IfErr-weaker c.answer.result _ _ (λ fault is. subst (λ (k : Known). IsRefused fault k) all is) c.answer.ensures.refused;
+    }

@@ -1,0 +1,271 @@
+-- Declarations of variables.
+use Rattle.std.specs.Prelude.{ℕ, ◌+◌, ◌*◌, ◌-◌, List, [], ◌∷◌, ◌++◌, length, slice_get, Bool, true, false, not, cond, ◌&&◌, ◌||◌, nat_le, is_some, Option, Some, None}
+use Rattle.plm_decl.specs.Lists.{bind}
+use Rattle.std.specs.Option.{option_map_or}
+use Rattle.word86.specs.declared.number.Number.{Number}
+use Rattle.word86.specs.declared.number.Number.TheVariants.{E302, E303, E304, E307}
+use Rattle.plm_token.specs.Names.{normal}
+use Rattle.plm_syntax.specs.declared.tree.Place.{Place}
+use Rattle.plm_syntax.specs.declared.tree.Linkage.{Linkage}
+use Rattle.plm_syntax.specs.declared.tree.Linkage.TheVariants as linkage
+use Rattle.plm_syntax.specs.Terminal.{NameT}
+use Rattle.plm_syntax.specs.Tree.{VariableT, VariableOf, DeclaredT, OneVariable, VariableList, DimensionT, TypeT, ValueT, AtT, no_at, at_number, at_location, InitialT, no_initial, initial, constant_data, AttributesT, External, Attributes, ElementT, LiteralElement, VariableElement, LocationT}
+use Rattle.plm_syntax.specs.Tree as tree
+use Rattle.plm_decl.specs.declared.layout.ScalarType.TheVariants.{Byte, Word, Pointer}
+use Rattle.plm_decl.specs.declared.layout.Form.{Form}
+use Rattle.plm_decl.specs.declared.layout.Form.TheVariants as form
+use Rattle.plm_decl.specs.declared.names.Region.{Region}
+use Rattle.plm_decl.specs.declared.names.Region.TheVariants as region
+use Rattle.plm_decl.specs.declared.names.Variable.{Variable}
+use Rattle.plm_decl.specs.declared.names.Item.{Item}
+use Rattle.plm_decl.specs.declared.names.Item.TheVariants as item
+use Rattle.plm_decl.specs.declared.resolved.Meaning.{Meaning}
+use Rattle.plm_decl.specs.declared.resolved.Meaning.TheVariants as meaning
+use Rattle.plm_decl.specs.declared.found.Found.{Found}
+use Rattle.plm_decl.specs.declared.elements.Site.{Site}
+use Rattle.plm_decl.specs.declared.elements.Site.TheVariants as site
+use Rattle.plm_decl.specs.declared.elements.Traits.{Traits}
+use Rattle.plm_decl.specs.Layouts.{counted, size_of}
+use Rattle.plm_decl.specs.Scopes.{Level, with_name, is_fresh, is_external, path_in, found_in, with_entry}
+use Rattle.plm_decl.specs.Paths.{name_behind}
+use Rattle.plm_decl.specs.Known.{Known, note, note_unless, note_whole}
+use Rattle.plm_decl.specs.Lists.{value_list, variable_list}
+use Rattle.plm_decl.specs.Uses.{used}
+use Rattle.plm_decl.specs.Resolved.{ExpressionR, NumberR, ExpressionsR, no_expressions, expressions, SelectorR, no_member, member, member_at, ReferenceR', Use, LocationOf}
+use Rattle.plm_decl.specs.Expressions.{variable_meant, reference}
+use Rattle.plm_decl.specs.Shapes.{size_of_shape}
+
+-- ---- where a location with number subscripts lies
+
+abbrev pub number_in : ExpressionR → Option ℕ
+number_in (NumberR n) = Some n.value
+number_in e = None
+
+abbrev pub are_numbers : ExpressionsR → Bool
+are_numbers no_expressions = true
+are_numbers (expressions e es) = is_some (number_in e) && are_numbers es
+
+-- the first of some subscripts, all of which are numbers; 0 where there is none
+abbrev pub first_number : ExpressionsR → Option ℕ
+first_number no_expressions = Some 0
+first_number (expressions e es) = cond (are_numbers es) (number_in e) None
+
+abbrev pub member_distance : SelectorR → Option ℕ
+member_distance no_member = Some 0
+member_distance (member p None) = Some 0
+member_distance (member p (Some m)) = Some m.offset
+member_distance (member_at p None e) = bind (number_in e) (λ n. Some 0)
+member_distance (member_at p (Some m) e) = bind (number_in e) (λ n. Some (counted (m.offset + counted (n * size_of m.scalar))))
+
+-- how many bytes behind the first of its variable a reference lies
+abbrev pub distance : Known → ReferenceR' → Option ℕ
+distance k (Use p m es s) =
+    bind (variable_meant k m) (λ v. bind (first_number es) (λ n. bind (member_distance s) (λ d. Some (counted (counted (n * v.stride) + d)))))
+
+-- ---- AT
+
+-- the next name of an element stands behind this one
+abbrev pub site_behind : Site → ℕ → Site
+site_behind (site.Ram object offset) size = site.Ram object (counted (offset + size))
+site_behind (site.Screen offset) size = site.Screen (counted (offset + size))
+site_behind site.Own size = site.Own
+site_behind site.Nowhere size = site.Nowhere
+site_behind site.Outside size = site.Outside
+
+abbrev pub site_within : Region → Option ℕ → Site
+site_within (region.Ram object offset) (Some d) = site.Ram object (counted (offset + d))
+site_within (region.Ram object offset) None = site.Outside
+site_within (region.Screen offset) d = site.Outside
+site_within (region.Based v) d = site.Outside
+site_within region.Nowhere d = site.Outside
+
+abbrev pub site_for : Meaning → Option Variable → Option ℕ → Site
+site_for (meaning.Variable n) (Some v) d = site_within v.region d
+site_for (meaning.Variable n) None d = site.Outside
+site_for (meaning.Procedure p) v d = site.Outside
+site_for (meaning.Builtin b) v d = site.Outside
+site_for meaning.Nothing v d = site.Nowhere
+
+-- AT a variable: into the RAM object in which it lies, if it is not based and not EXTERNAL, and subscripts are numbers
+abbrev pub site_of : Known → ReferenceR' → Site
+site_of k (Use p m es s) = site_for m (variable_meant k m) (distance k (Use p m es s))
+
+-- the screen begins at 0B8000H
+abbrev pub screen_site : ℕ → Site
+screen_site n = cond (nat_le 0xB8000 n) (site.Screen (n - 0xB8000)) site.Outside
+
+abbrev pub location_site : List Level → LocationT → Known → Site × Known
+location_site levels (tree.ConstantsOf p f vs) k = (site.Outside, k)
+location_site levels (tree.LocationOf p f x) k =
+    let r = reference levels x k in
+    (site_of r.1 r.0, record r.1 { locations = r.1.locations ++ record { «module» = r.1.module; location = LocationOf p f r.0 } ∷ [] })
+
+abbrev pub at_site : List Level → AtT → Known → Site × Known
+at_site levels no_at k = (site.Own, k)
+at_site levels (at_number n) k = (screen_site n.value, k)
+at_site levels (at_location l) k = location_site levels l k
+
+-- where an element's first name goes
+abbrev pub first_site : List Level → AttributesT → Known → Site × Known
+first_site levels External k = (site.Nowhere, k)
+first_site levels (Attributes public at fill) k = at_site levels at k
+
+-- ---- bases
+
+abbrev pub is_plain_form : Form → Bool
+is_plain_form (form.Scalar Byte) = false
+is_plain_form (form.Scalar Word) = true
+is_plain_form (form.Scalar Pointer) = true
+is_plain_form (form.Structure n) = false
+
+abbrev pub is_based : Region → Bool
+is_based (region.Based v) = true
+is_based (region.Ram o n) = false
+is_based (region.Screen n) = false
+is_based region.Nowhere = false
+
+-- a plain scalar, WORD or POINTER, that is not itself based
+abbrev pub is_plain_base : Variable → Bool
+is_plain_base v = not (is_some v.dimension) && (is_plain_form v.form && not (is_based v.region))
+
+-- an undeclared base is no bad one
+abbrev pub is_base : Known → Meaning → Bool
+is_base k (meaning.Variable n) = option_map_or is_plain_base (slice_get k.variables n) false
+is_base k (meaning.Procedure p) = false
+is_base k (meaning.Builtin b) = false
+is_base k meaning.Nothing = true
+
+abbrev pub based_region : Meaning → Region
+based_region (meaning.Variable n) = region.Based n
+based_region (meaning.Procedure p) = region.Nowhere
+based_region (meaning.Builtin b) = region.Nowhere
+based_region meaning.Nothing = region.Nowhere
+
+abbrev pub base_for : List Level → NameT → NameT → Bool → Known → Region × Known
+base_for levels n base attributed k =
+    let m = used levels base k in
+    (based_region m.0, note_unless (is_base m.1 m.0 && not attributed) E304 n.place m.1)
+
+-- ---- regions
+
+abbrev pub own_region : List Level → List ℕ → ℕ → Known → Region × Known
+own_region levels name size k = cond (is_external levels) (region.Nowhere, k)
+    (region.Ram (length k.objects) 0, record k { objects = k.objects ++ record { path = name_behind (path_in levels) name; size = size; initial = [] } ∷ [] })
+
+abbrev pub object_size : Known → ℕ → ℕ
+object_size k object = option_map_or (λ o. o.size) (slice_get k.objects object) 0
+
+-- what an EXTERNAL procedure declares is no name of the program's on the screen
+abbrev pub with_screen_name : List Level → List ℕ → ℕ → ℕ → Known → Known
+with_screen_name levels name size offset k = cond (is_external levels) k
+    (record k { screen_names = k.screen_names ++ record { path = name_behind (path_in levels) name; size = size; offset = offset; objects_before = length k.objects } ∷ [] })
+
+-- a name that is not based lies wholly in its object, or in the screen's 4,000 bytes
+abbrev pub region_for : List Level → NameT → List ℕ → ℕ → Site → Known → Region × Known
+region_for levels n name size site.Own k = own_region levels name size k
+region_for levels n name size site.Nowhere k = (region.Nowhere, k)
+region_for levels n name size site.Outside k = (region.Nowhere, note E303 n.place k)
+region_for levels n name size (site.Ram object offset) k = (region.Ram object offset, note_unless (nat_le (counted (offset + size)) (object_size k object)) E303 n.place k)
+region_for levels n name size (site.Screen offset) k =
+    (region.Screen offset, with_screen_name levels name size offset (note_unless (nat_le (counted (offset + size)) 4000) E303 n.place k))
+
+-- ---- names of several modules
+
+abbrev pub start : Place
+start = record { token = 0; line = 1 }
+
+abbrev pub found_item : Known → Item → Number → Found
+found_item k (item.Variable v) number = option_map_or (λ x. record { «module» = x.module; place = x.place; number = number }) (slice_get k.variables v) (record { «module» = 0; place = start; number = number })
+found_item k (item.Procedure p) number = option_map_or (λ x. record { «module» = x.module; place = x.place; number = number }) (slice_get k.procedures p) (record { «module» = 0; place = start; number = number })
+
+-- the first PUBLIC of a name counts; each further one is a fault at the first
+abbrev pub with_public : List ℕ → Item → Option Item → Known → Known
+with_public name i None k = record k { publics = with_entry name i k.publics }
+with_public name i (Some first) k = note_whole (found_item k first E307) k
+
+-- what an EXTERNAL procedure declares is no PUBLIC
+abbrev pub linked : List Level → Linkage → List ℕ → Item → Known → Known
+linked levels linkage.None name i k = k
+linked levels linkage.Public name i k = cond (is_external levels) k (with_public name i (found_in name k.publics) k)
+linked levels linkage.External name i k = record k { externals = k.externals ++ record { name = name; item = i } ∷ [] }
+
+-- ---- declared names
+
+abbrev pub size_of_traits : Traits → ℕ
+size_of_traits t = size_of_shape t.shape
+
+-- a name is declared once in its block
+abbrev pub declared : NameT → Item → List Level → Known → List Level × Known
+declared n i levels k = (with_name (normal n.text) i levels, note_unless (is_fresh (normal n.text) levels) E302 n.place k)
+
+abbrev pub with_variable : Variable → Known → Known
+with_variable v k = record k { variables = k.variables ++ v ∷ [] }
+
+abbrev pub variable_in : Traits → Place → Region → Known → Variable
+variable_in t place r k = record { «module» = k.module; place = place; form = t.shape.form; dimension = t.shape.dimension; stride = t.shape.stride; region = r; is_data = t.is_data }
+
+-- the region of a name: its base's, or that of its site
+abbrev pub region_of_variable : List Level → NameT → Option NameT → Traits → Site → Known → Region × Known
+region_of_variable levels n (Some base) t s k = base_for levels n base t.has_attribute k
+region_of_variable levels n None t s k = region_for levels n (normal n.text) (size_of_shape t.shape) s k
+
+-- a variable is numbered in order of declaration
+abbrev pub variable_declared : NameT → Traits → Region × Known → List Level → List Level × Known
+variable_declared n t r levels =
+    let i = item.Variable (length r.1.variables) in
+    declared n i levels (linked levels t.linkage (normal n.text) i (with_variable (variable_in t n.place r.0 r.1) r.1))
+
+abbrev pub declared_variable : VariableT → Traits → Site → List Level → Known → List Level × Known
+declared_variable (VariableOf n base) t s levels k = variable_declared n t (region_of_variable levels n base t s k) levels
+
+-- the names of an element, one after another, and where the next would go
+abbrev pub declared_variables : List VariableT → Traits → Site → List Level → Known → Site × List Level × Known
+declared_variables [] t s levels k = (s, levels, k)
+declared_variables (v ∷ vs) t s levels k =
+    let r = declared_variable v t s levels k in declared_variables vs t (site_behind s (size_of_shape t.shape)) r.0 r.1
+
+-- ---- attributes
+
+abbrev pub element_values : AttributesT → List ValueT
+element_values External = []
+element_values (Attributes public at no_initial) = []
+element_values (Attributes public at (initial vs)) = value_list vs
+element_values (Attributes public at (constant_data vs)) = value_list vs
+
+abbrev pub has_values : AttributesT → Bool
+has_values External = false
+has_values (Attributes public at no_initial) = false
+has_values (Attributes public at (initial vs)) = true
+has_values (Attributes public at (constant_data vs)) = true
+
+abbrev pub is_data : AttributesT → Bool
+is_data External = false
+is_data (Attributes public at no_initial) = false
+is_data (Attributes public at (initial vs)) = false
+is_data (Attributes public at (constant_data vs)) = true
+
+abbrev pub is_placed : AttributesT → Bool
+is_placed External = false
+is_placed (Attributes public no_at fill) = false
+is_placed (Attributes public (at_number n) fill) = true
+is_placed (Attributes public (at_location l) fill) = true
+
+abbrev pub linkage_for : AttributesT → Linkage
+linkage_for External = linkage.External
+linkage_for (Attributes true at fill) = linkage.Public
+linkage_for (Attributes false at fill) = linkage.None
+
+abbrev pub is_joined : Linkage → Bool
+is_joined linkage.None = false
+is_joined linkage.Public = true
+is_joined linkage.External = true
+
+abbrev pub has_attribute : AttributesT → Bool
+has_attribute a = is_joined (linkage_for a) || (is_placed a || has_values a)
+
+abbrev pub declared_list : DeclaredT → List VariableT
+declared_list (OneVariable v) = v ∷ []
+declared_list (VariableList vs) = variable_list vs
+
+abbrev pub place_of_variable : VariableT → Place
+place_of_variable (VariableOf n base) = n.place

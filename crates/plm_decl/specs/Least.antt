@@ -1,0 +1,46 @@
+-- The fault that is answered: the least by module, token and number.
+use Rattle.std.specs.Prelude.{◌≡◌, ℕ, ◌-◌, ◌^◌, List, [], ◌∷◌, Bool, false, cond, min, nat_eq, nat_lt, Option, Some, None, Contains, All, ◌⊎◌}
+use Rattle.word86.specs.declared.number.Number.{Number}
+use Rattle.word86.specs.declared.number.Number.TheVariants.{E301, E302, E303, E304, E305, E306, E307, E308, E309, E310}
+use Rattle.word86.specs.declared.fault.Fault.{Fault}
+use Rattle.word86.specs.declared.fault.Fault.TheVariants.{Memory, At}
+use Rattle.plm_decl.specs.declared.found.Found.{Found}
+
+-- faults of names by number; there are no others here
+abbrev pub code_of : Number → ℕ
+code_of E301 = 301
+code_of E302 = 302
+code_of E303 = 303
+code_of E304 = 304
+code_of E305 = 305
+code_of E306 = 306
+code_of E307 = 307
+code_of E308 = 308
+code_of E309 = 309
+code_of E310 = 310
+code_of n = 999
+
+abbrev pub precedes : Found → Found → Bool
+precedes f g = cond (nat_eq f.module g.module) (cond (nat_eq f.place.token g.place.token) (nat_lt (code_of f.number) (code_of g.number)) (nat_lt f.place.token g.place.token)) (nat_lt f.module g.module)
+
+-- of two, the one that precedes; of two at one place with one number the first
+abbrev pub sooner : Option Found → Found → Option Found
+sooner None f = Some f
+sooner (Some g) f = cond (precedes f g) (Some f) (Some g)
+
+abbrev pub least : Option Found → List Found → Option Found
+least o [] = o
+least o (f ∷ fs) = least (sooner o f) fs
+
+-- a fault of the list that none of the list precedes
+abbrev pub IsLeast : List Found → Found → Type 0
+IsLeast fs f = Contains fs f × All (λ g. precedes g f ≡ false) fs
+
+abbrev pub fault_at : Found → Fault
+fault_at f = At (min f.module (2 ^ 32 - 1)) f.place.line f.number
+
+-- the least of the faults is answered; those of the whole program come after the others
+abbrev pub IsRefusal : Fault → List Found → List Found → Type 0
+IsRefusal Memory faults whole = Unit {0}
+IsRefusal (At m line number) faults whole =
+    (f : Found) × (IsLeast faults f ⊎ ((faults ≡ []) × IsLeast whole f)) × (fault_at f ≡ At m line number)

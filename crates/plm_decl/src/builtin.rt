@@ -1,0 +1,83 @@
+//! The built-in procedures: their names are not reserved.
+
+ghost use Rattle.std.specs.Prelude.{◌≡◌, bytes_eq, find};
+ghost use Rattle.plm_decl.specs.Builtins.{builtin_named, spelling};
+
+/// A built-in procedure.
+#[derive(Debug, Clone, Copy, PartialEq, Eq)]
+pub enum Builtin {
+    Length,
+    Last,
+    Size,
+    Low,
+    High,
+    Double,
+    ShiftLeft,
+    ShiftRight,
+    RotateLeft,
+    RotateRight,
+    Input,
+    InputWord,
+    Output,
+    OutputWord,
+}
+
+static BUILTINS: [Builtin; 14] = [
+    Builtin::Length,
+    Builtin::Last,
+    Builtin::Size,
+    Builtin::Low,
+    Builtin::High,
+    Builtin::Double,
+    Builtin::ShiftLeft,
+    Builtin::ShiftRight,
+    Builtin::RotateLeft,
+    Builtin::RotateRight,
+    Builtin::Input,
+    Builtin::InputWord,
+    Builtin::Output,
+    Builtin::OutputWord,
+];
+
+impl Builtin {
+    /// Its name, in normal form.
+    pub fn spelling(self) -> &'static [u8]
+        ensures { result.now ≡ spelling self }
+    {
+        match self {
+            Builtin::Length => b"LENGTH",
+            Builtin::Last => b"LAST",
+            Builtin::Size => b"SIZE",
+            Builtin::Low => b"LOW",
+            Builtin::High => b"HIGH",
+            Builtin::Double => b"DOUBLE",
+            Builtin::ShiftLeft => b"SHL",
+            Builtin::ShiftRight => b"SHR",
+            Builtin::RotateLeft => b"ROL",
+            Builtin::RotateRight => b"ROR",
+            Builtin::Input => b"INPUT",
+            Builtin::InputWord => b"INWORD",
+            Builtin::Output => b"OUTPUT",
+            Builtin::OutputWord => b"OUTWORD",
+        }
+    }
+
+    /// The built-in of a name in normal form.
+    #[tactic(auto, unfolding(crate::specs::Builtins::builtin_named))]
+    pub fn named(name: &[u8]) -> Option<Builtin>
+        ensures { result ≡ builtin_named name.now }
+    {
+        among(name, &BUILTINS)
+    }
+}
+
+fn among(name: &[u8], builtins: &[Builtin]) -> Option<Builtin>
+    ensures { result ≡ find (λ b. bytes_eq name.now (spelling b)) builtins.now }
+{
+    for builtin in builtins {
+        if name == builtin.spelling() {
+            return Some(*builtin);
+        }
+    }
+    None
+}

@@ -1,0 +1,59 @@
+//! What a value fills a scalar with.
+
+ghost use Rattle.std.specs.Prelude.{◌≡◌};
+ghost use Rattle.plm_decl.specs.Values.{character_datum, number_datum, takes, text_datum};
+
+use crate::layout::ScalarType;
+use crate::names::Datum;
+use plm_syntax::LocationForm;
+
+/// A number in a scalar, or such a number with a minus before it: its two's complement there.
+pub fn number_datum(scalar: ScalarType, value: u32, negative: bool) -> Option<Datum>
+    ensures { result ≡ number_datum scalar value negative }
+{
+    match scalar {
+        ScalarType::Byte => {
+            let byte = u8::try_from(value).ok()?;
+            Some(Datum::Byte(if negative { byte.wrapping_neg() } else { byte }))
+        }
+        ScalarType::Word => {
+            let word = u16::try_from(value).ok()?;
+            Some(Datum::Word(if negative { word.wrapping_neg() } else { word }))
+        }
+        ScalarType::Pointer => None,
+    }
+}
+
+/// A string in a WORD: one character, or two with the first high.
+pub fn text_datum(scalar: ScalarType, characters: &[u8]) -> Option<Datum>
+    ensures { result ≡ text_datum scalar characters.now }
+{
+    if scalar != ScalarType::Word {
+        return None;
+    }
+    match characters {
+        [low] => Some(Datum::Word(u16::from(*low))),
+        [high, low] => Some(Datum::Word(u16::from(*high) * 256 + u16::from(*low))),
+        _ => None,
+    }
+}
+
+/// Whether a location of this form goes into this scalar.
+pub fn takes(scalar: ScalarType, form: LocationForm) -> bool
+    ensures { result ≡ takes scalar form }
+{
+    match form {
+        LocationForm::Pointer => scalar == ScalarType::Pointer,
+        LocationForm::Offset => scalar == ScalarType::Word,
+    }
+}
+
+/// A character of a string that fills BYTEs.
+pub fn character_datum(scalar: ScalarType, character: u8) -> Option<Datum>
+    ensures { result ≡ character_datum scalar character }
+{
+    match scalar {
+        ScalarType::Byte => Some(Datum::Byte(character)),
+        ScalarType::Word | ScalarType::Pointer => None,
+    }
+}

@@ -1,0 +1,633 @@
+//! Declarations of variables.
+
+ghost use Rattle.std.specs.Prelude.{◌≡◌, ◌+◌, ◌*◌, IfOk, OnOk, map, length};
+ghost use Rattle.plm_syntax.specs.View.{name_of, location_of, variable_of, declared_of, dimension_of, type_of, attributes_of, element_of, value_of};
+ghost use Rattle.plm_decl.specs.Scopes.{levels_of, found_in};
+ghost use Rattle.plm_decl.specs.Known.{known_of};
+ghost use Rattle.plm_decl.specs.ResolvedView as view;
+ghost use Rattle.plm_decl.specs.Elements as spec;
+ghost use Rattle.plm_decl.specs.Fills as fills;
+ghost use Rattle.plm_decl.specs.FillsView.{filling_of};
+
+use crate::fill::Filling;
+use crate::found::Found;
+use crate::layout::{Form, ScalarType};
+use crate::names::{DeclaredLocation, Item, Object, Region, ScreenName, Variable};
+use crate::resolved::{Expression, Location, Meaning, Reference, Selector};
+use crate::resolver::{External, Resolver};
+use crate::scope::Scope;
+use crate::shape::Shape;
+use crate::spelling::{name_path, normal};
+use plm_syntax::{
+    At, Attributes, Declared, Dimension, Element, Initial, Linkage, Name, Place, Value,
+    Variable as SyntaxVariable, VariableType,
+};
+use std::alloc::AllocError;
+use std::slice;
+use word86::Number;
+
+/// The first address of the screen, and its bytes.
+const SCREEN: u32 = 0xB_8000;
+
+const SCREEN_LENGTH: u64 = 4000;
+
+/// Where the next name of an element goes.
+#[derive(Debug, Clone, Copy)]
+enum Site {
+    /// Into an object of its own.
+    Own,
+    /// Into a RAM object, so many bytes behind its first.
+    Ram(usize, u64),
+    /// Onto the screen, so many bytes behind its first.
+    Screen(u64),
+    /// It takes no bytes.
+    Nowhere,
+    /// AT names no such place.
+    Outside,
+}
+
+/// What an element's names have in common besides their shape.
+#[derive(Debug, Clone, Copy)]
+struct Traits {
+    shape: Shape,
+    linkage: Linkage,
+    is_data: bool,
+    has_attribute: bool,
+}
+
+impl Site {
+    /// Where the name behind one of this size goes.
+    fn behind(self, size: u64) -> Site
+        ensures { result ≡ spec.site_behind self size }
+    {
+        match self {
+            Site::Ram(object, offset) => Site::Ram(object, offset.saturating_add(size)),
+            Site::Screen(offset) => Site::Screen(offset.saturating_add(size)),
+            other => other,
+        }
+    }
+}
+
+#[tactic(auto, using(crate::proofs::ListViews::variable_list_from))]
+fn declared_names<'d, 'a>(declared: &'d Declared<'a>) -> &'d [SyntaxVariable<'a>]
+    ensures { map variable_of result.now ≡ spec.declared_list (declared_of declared.now) }
+{
+    match declared {
+        Declared::One(variable) => slice::from_ref(variable),
+        Declared::List(variables) => variables.as_slice(),
+    }
+}
+
+/// The values of INITIAL or DATA.
+#[tactic(auto, using(crate::proofs::ListViews::value_list_from))]
+fn values<'v, 'a>(attributes: &'v Attributes<'a>) -> &'v [Value<'a>]
+    ensures { map value_of result.now ≡ spec.element_values (attributes_of attributes.now) }
+{
+    match attributes {
+        Attributes::External => &[],
+        Attributes::Own { initial, .. } => match initial {
+            Initial::None => &[],
+            Initial::Initial(values) => values.as_slice(),
+            Initial::Data(values) => values.as_slice(),
+        },
+    }
+}
+
+fn is_data(attributes: &Attributes<'_>) -> bool
+    ensures { result ≡ spec.is_data (attributes_of attributes.now) }
+{
+    matches!(
+        attributes,
+        Attributes::Own {
+            initial: Initial::Data(_),
+            ..
+        }
+    )
+}
+
+fn is_placed(attributes: &Attributes<'_>) -> bool
+    ensures { result ≡ spec.is_placed (attributes_of attributes.now) }
+{
+    match attributes {
+        Attributes::External => false,
+        Attributes::Own { at, .. } => !matches!(at, At::None),
+    }
+}
+
+fn linkage(attributes: &Attributes<'_>) -> Linkage
+    ensures { result ≡ spec.linkage_for (attributes_of attributes.now) }
+{
+    match attributes {
+        Attributes::External => Linkage::External,
+        Attributes::Own { public: true, .. } => Linkage::Public,
+        Attributes::Own { public: false, .. } => Linkage::None,
+    }
+}
+
+fn has_values(attributes: &Attributes<'_>) -> bool
+    ensures { result ≡ spec.has_values (attributes_of attributes.now) }
+{
+    match attributes {
+        Attributes::External => false,
+        Attributes::Own { initial, .. } => !matches!(initial, Initial::None),
+    }
+}
+
+/// What an element's names of this shape have in common.
+fn traits_with(shape: Shape, attributes: &Attributes<'_>) -> Traits
+    ensures { result ≡ fills.traits_for shape (attributes_of attributes.now) }
+{
+    let linkage = linkage(attributes);
+    Traits {
+        shape,
+        linkage,
+        is_data: is_data(attributes),
+        has_attribute: linkage != Linkage::None || is_placed(attributes) || has_values(attributes),
+    }
+}
+
+/// A subscript that is a number.
+fn number(e: &Expression) -> Option<u64>
+    ensures { result ≡ spec.number_in (view.expression_of e.now) }
+{
+    match e {
+        Expression::Number(number) => Some(u64::from(number.value)),
+        _ => None,
+    }
+}
+
+/// Whether all subscripts are numbers.
+fn are_numbers(subscripts: &[Expression]) -> bool
+    ensures { result ≡ spec.are_numbers (view.expressions_of subscripts.now) }
+{
+    for subscript in subscripts {
+        if number(subscript).is_none() {
+            return false;
+        }
+    }
+    true
+}
+
+/// The first of some subscripts, all of which are numbers; 0 where there is none.
+fn first_number(subscripts: &[Expression]) -> Option<u64>
+    ensures { result ≡ spec.first_number (view.expressions_of subscripts.now) }
+{
+    match subscripts {
+        [first, others @ ..] if are_numbers(others) => number(first),
+        [_, ..] => None,
+        [] => Some(0),
+    }
+}
+
+/// How many bytes of a structure stand before a member's element.
+fn member_distance(selector: &Selector) -> Option<u64>
+    ensures { result ≡ spec.member_distance (view.selector_of selector.now) }
+{
+    match selector {
+        Selector::None => Some(0),
+        Selector::Member(_, None) => Some(0),
+        Selector::Member(_, Some(member)) => Some(member.offset),
+        Selector::Element(_, None, subscript) => {
+            number(subscript)?;
+            Some(0)
+        }
+        Selector::Element(_, Some(member), subscript) => {
+            let value = number(subscript)?;
+            Some(
+                member
+                    .offset
+                    .saturating_add(value.saturating_mul(member.scalar.size())),
+            )
+        }
+    }
+}
+
+impl Resolver {
+    /// How many bytes behind the first of its variable a reference lies, where its subscripts are numbers.
+    pub fn distance(&self, reference: &Reference) -> Option<u64>
+        ensures { result ≡ spec.distance (known_of self.now) (view.reference_of reference.now) }
+    {
+        let Meaning::Variable(variable) = reference.meaning else {
+            return None;
+        };
+        let stride = self.variables.get(variable)?.stride;
+        let element = first_number(&reference.subscripts)?;
+        let inside = member_distance(&reference.selector)?;
+        Some(element.saturating_mul(stride).saturating_add(inside))
+    }
+
+    /// The place in a RAM object that a location names.
+    fn site_of(&self, reference: &Reference) -> Site
+        ensures { result ≡ spec.site_of (known_of self.now) (view.reference_of reference.now) }
+    {
+        let Meaning::Variable(variable) = reference.meaning else {
+            return if reference.meaning == Meaning::Nothing {
+                Site::Nowhere
+            } else {
+                Site::Outside
+            };
+        };
+        match (self.variables.get(variable), self.distance(reference)) {
+            (
+                Some(
+                    Variable {
+                        region: Region::Ram(object, offset),
+                        ..
+                    },
+                ),
+                Some(distance),
+            ) => Site::Ram(*object, offset.saturating_add(distance)),
+            _ => Site::Outside,
+        }
+    }
+
+    /// The place that a location of AT names.
+    fn location_site(
+        &mut self,
+        scope: &Scope<'_>,
+        location: &plm_syntax::Location<'_>,
+    ) -> Result<Site, AllocError>
+        ensures value { IfOk result (λ r. r ≡ (spec.location_site (levels_of scope.now) (location_of location.now) (known_of self.old)).0) }
+        ensures known { OnOk result (known_of self.new ≡ (spec.location_site (levels_of scope.now) (location_of location.now) (known_of self.old)).1) }
+    {
+        match location {
+            plm_syntax::Location::Constants(..) => Ok(Site::Outside),
+            plm_syntax::Location::Reference(place, form, reference) => {
+                let reference = self.reference(reference, scope)?;
+                let site = self.site_of(&reference);
+                let location = Location::Reference(*place, *form, reference);
+                self.locations.push(DeclaredLocation {
+                    module: self.module,
+                    location,
+                })?;
+                Ok(site)
+            }
+        }
+    }
+
+    /// Where an element's first name goes.
+    fn site(&mut self, scope: &Scope<'_>, attributes: &Attributes<'_>) -> Result<Site, AllocError>
+        ensures value { IfOk result (λ r. r ≡ (spec.first_site (levels_of scope.now) (attributes_of attributes.now) (known_of self.old)).0) }
+        ensures known { OnOk result (known_of self.new ≡ (spec.first_site (levels_of scope.now) (attributes_of attributes.now) (known_of self.old)).1) }
+    {
+        let Attributes::Own { at, .. } = attributes else {
+            return Ok(Site::Nowhere);
+        };
+        match at {
+            At::None => Ok(Site::Own),
+            At::Number(number) if number.value >= SCREEN => Ok(Site::Screen(u64::from(
+                number.value - SCREEN,
+            ))),
+            At::Number(_) => Ok(Site::Outside),
+            At::Location(location) => self.location_site(scope, location),
+        }
+    }
+
+    /// Whether a base may be this: a plain scalar, WORD or POINTER, that is not itself based.
+    fn is_base(&self, meaning: Meaning) -> bool
+        ensures { result ≡ spec.is_base (known_of self.now) meaning }
+    {
+        let Meaning::Variable(number) = meaning else {
+            return meaning == Meaning::Nothing;
+        };
+        match self.variables.get(number) {
+            Some(variable) => {
+                variable.dimension.is_none()
+                    && matches!(
+                        variable.form,
+                        Form::Scalar(ScalarType::Word | ScalarType::Pointer)
+                    )
+                    && !matches!(variable.region, Region::Based(_))
+            }
+            None => false,
+        }
+    }
+
+    /// The region of a based name, and the faults of its base.
+    fn base(
+        &mut self,
+        scope: &Scope<'_>,
+        name: &Name<'_>,
+        base: &Name<'_>,
+        has_attribute: bool,
+    ) -> Result<Region, AllocError>
+        ensures value { IfOk result (λ r. r ≡ (spec.base_for (levels_of scope.now) (name_of name.now) (name_of base.now) has_attribute (known_of self.old)).0) }
+        ensures known { OnOk result (known_of self.new ≡ (spec.base_for (levels_of scope.now) (name_of name.now) (name_of base.now) has_attribute (known_of self.old)).1) }
+    {
+        let meaning = self.used(scope, base)?;
+        let is_base = self.is_base(meaning);
+        self.note_unless(is_base && !has_attribute, Number::E304, name.place)?;
+        match meaning {
+            Meaning::Variable(variable) => Ok(Region::Based(variable)),
+            _ => Ok(Region::Nowhere),
+        }
+    }
+
+    /// Makes a RAM object for a name in normal form.
+    fn own_region(
+        &mut self,
+        scope: &Scope<'_>,
+        name: &[u8],
+        size: u64,
+    ) -> Result<Region, AllocError>
+        ensures value { IfOk result (λ r. r ≡ (spec.own_region (levels_of scope.now) name.now size (known_of self.old)).0) }
+        ensures known { OnOk result (known_of self.new ≡ (spec.own_region (levels_of scope.now) name.now size (known_of self.old)).1) }
+    {
+        if scope.is_external() {
+            return Ok(Region::Nowhere);
+        }
+        let object = self.objects.len();
+        let path = name_path(self.alloc, scope.path(), name)?;
+        self.objects.push(Object {
+            path,
+            size,
+            initial: Vec::new(self.alloc),
+        })?;
+        Ok(Region::Ram(object, 0))
+    }
+
+    /// The bytes of a RAM object.
+    fn object_size(&self, object: usize) -> u64
+        ensures { result ≡ spec.object_size (known_of self.now) object }
+    {
+        match self.objects.get(object) {
+            Some(object) => object.size,
+            None => 0,
+        }
+    }
+
+    /// Keeps a name on the screen, given in normal form. What an EXTERNAL procedure declares is none of the program's.
+    fn put_screen_name(
+        &mut self,
+        scope: &Scope<'_>,
+        name: &[u8],
+        size: u64,
+        offset: u64,
+    ) -> Result<(), AllocError>
+        ensures { OnOk result (known_of self.new ≡ spec.with_screen_name (levels_of scope.now) name.now size offset (known_of self.old)) }
+    {
+        if scope.is_external() {
+            return Ok(());
+        }
+        let path = name_path(self.alloc, scope.path(), name)?;
+        let objects_before = self.objects.len();
+        self.screen_names.push(ScreenName {
+            path,
+            size,
+            offset,
+            objects_before,
+        })?;
+        Ok(())
+    }
+
+    /// The region of a name that is not based, given in normal form too.
+    fn region(
+        &mut self,
+        scope: &Scope<'_>,
+        name: &Name<'_>,
+        key: &[u8],
+        size: u64,
+        site: Site,
+    ) -> Result<Region, AllocError>
+        ensures value { IfOk result (λ r. r ≡ (spec.region_for (levels_of scope.now) (name_of name.now) key.now size site (known_of self.old)).0) }
+        ensures known { OnOk result (known_of self.new ≡ (spec.region_for (levels_of scope.now) (name_of name.now) key.now size site (known_of self.old)).1) }
+    {
+        match site {
+            Site::Own => self.own_region(scope, key, size),
+            Site::Nowhere => Ok(Region::Nowhere),
+            Site::Outside => {
+                self.note(Number::E303, name.place)?;
+                Ok(Region::Nowhere)
+            }
+            Site::Ram(object, offset) => {
+                let room = self.object_size(object);
+                self.note_unless(
+                    offset.saturating_add(size) <= room,
+                    Number::E303,
+                    name.place,
+                )?;
+                Ok(Region::Ram(object, offset))
+            }
+            Site::Screen(offset) => {
+                self.note_unless(
+                    offset.saturating_add(size) <= SCREEN_LENGTH,
+                    Number::E303,
+                    name.place,
+                )?;
+                self.put_screen_name(scope, key, size, offset)?;
+                Ok(Region::Screen(offset))
+            }
+        }
+    }
+
+    /// The fault of this number at a declaration.
+    pub fn found_at(&self, item: Item, number: Number) -> Found
+        ensures { result ≡ spec.found_item (known_of self.now) item number }
+    {
+        let at = match item {
+            Item::Variable(variable) => self
+                .variables
+                .get(variable)
+                .map(|variable| (variable.module, variable.place)),
+            Item::Procedure(procedure) => self
+                .procedures
+                .get(procedure)
+                .map(|procedure| (procedure.module, procedure.place)),
+        };
+        let (module, place) = at.unwrap_or((0, Place { token: 0, line: 1 }));
+        Found {
+            module,
+            place,
+            number,
+        }
+    }
+
+    /// Keeps a PUBLIC name, given in normal form; a second one of its name is a fault at the first.
+    fn put_public(&mut self, name: &[u8], item: Item) -> Result<(), AllocError>
+        ensures { OnOk result (known_of self.new ≡ spec.with_public name.now item (found_in name.now (known_of self.old).publics) (known_of self.old)) }
+    {
+        if let Some(first) = self.publics.find(name) {
+            let found = self.found_at(first, Number::E307);
+            return self.note_whole(found);
+        }
+        let name = Vec::from_slice(self.alloc, name)?;
+        self.publics.add(name, item)?;
+        Ok(())
+    }
+
+    /// Joins a name, given in normal form, with those of other modules. What an EXTERNAL procedure declares is no PUBLIC.
+    pub fn link(
+        &mut self,
+        scope: &Scope<'_>,
+        linkage: Linkage,
+        name: &[u8],
+        item: Item,
+    ) -> Result<(), AllocError>
+        ensures { OnOk result (known_of self.new ≡ spec.linked (levels_of scope.now) linkage name.now item (known_of self.old)) }
+    {
+        match linkage {
+            Linkage::None => Ok(()),
+            Linkage::External => {
+                let name = Vec::from_slice(self.alloc, name)?;
+                self.externals.push(External { name, item })?;
+                Ok(())
+            }
+            Linkage::Public => {
+                if scope.is_external() {
+                    return Ok(());
+                }
+                self.put_public(name, item)
+            }
+        }
+    }
+
+    /// Declares a name for an item.
+    pub fn declare(
+        &mut self,
+        scope: &mut Scope<'_>,
+        name: &Name<'_>,
+        item: Item,
+    ) -> Result<(), AllocError>
+        ensures names { OnOk result (levels_of scope.new ≡ (spec.declared (name_of name.now) item (levels_of scope.old) (known_of self.old)).0) }
+        ensures known { OnOk result (known_of self.new ≡ (spec.declared (name_of name.now) item (levels_of scope.old) (known_of self.old)).1) }
+    {
+        let key = normal(self.alloc, name.text)?;
+        let is_fresh = scope.declare(key, item)?;
+        self.note_unless(is_fresh, Number::E302, name.place)
+    }
+
+    /// Declares a variable, and answers where the next name goes.
+    fn variable(
+        &mut self,
+        scope: &mut Scope<'_>,
+        variable: &SyntaxVariable<'_>,
+        traits: Traits,
+        site: Site,
+    ) -> Result<Site, AllocError>
+        ensures site { IfOk result (λ s. s ≡ spec.site_behind site (spec.size_of_traits traits)) }
+        ensures names { OnOk result (levels_of scope.new ≡ (spec.declared_variable (variable_of variable.now) traits site (levels_of scope.old) (known_of self.old)).0) }
+        ensures known { OnOk result (known_of self.new ≡ (spec.declared_variable (variable_of variable.now) traits site (levels_of scope.old) (known_of self.old)).1) }
+    {
+        let Traits {
+            shape,
+            linkage,
+            is_data,
+            has_attribute,
+        } = traits;
+        let name = &variable.name;
+        let key = normal(self.alloc, name.text)?;
+        let size = shape.size();
+        let region = match &variable.base {
+            Some(base) => self.base(scope, name, base, has_attribute)?,
+            None => self.region(scope, name, &key, size, site)?,
+        };
+        let item = Item::Variable(self.variables.len());
+        let Shape {
+            form,
+            dimension,
+            stride,
+        } = shape;
+        self.variables.push(Variable {
+            module: self.module,
+            place: name.place,
+            form,
+            dimension,
+            stride,
+            region,
+            is_data,
+        })?;
+        self.link(scope, linkage, &key, item)?;
+        self.declare(scope, name, item)?;
+        Ok(site.behind(size))
+    }
+
+    /// Declares names, one behind another from this site on.
+    fn declare_names(
+        &mut self,
+        scope: &mut Scope<'_>,
+        names: &[SyntaxVariable<'_>],
+        traits: Traits,
+        first: Site,
+    ) -> Result<(), AllocError>
+        ensures names { OnOk result (levels_of scope.new ≡ (spec.declared_variables (map variable_of names.now) traits first (levels_of scope.old) (known_of self.old)).1) }
+        ensures known { OnOk result (known_of self.new ≡ (spec.declared_variables (map variable_of names.now) traits first (levels_of scope.old) (known_of self.old)).2) }
+    {
+        let mut site = first;
+        for name in names {
+            site = self.variable(scope, name, traits, site)?;
+        }
+        Ok(())
+    }
+
+    /// Fills an element's names, of which the first stands at this place. Values beside AT fill nothing.
+    fn fill_element(
+        &mut self,
+        scope: &Scope<'_>,
+        filling: Filling<'_, '_>,
+        place: Place,
+        attributes: &Attributes<'_>,
+    ) -> Result<(), AllocError>
+        ensures { OnOk result (known_of self.new ≡ fills.filled_element (filling_of filling.entry) place (attributes_of attributes.now) (levels_of scope.now) (known_of self.old)) }
+    {
+        if is_placed(attributes) {
+            return self.note_unless(!has_values(attributes), Number::E305, place);
+        }
+        self.fill(scope, filling, values(attributes))
+    }
+
+    /// Declares the names of an element, of which the first stands at this place, and fills them.
+    fn names(
+        &mut self,
+        scope: &mut Scope<'_>,
+        place: Place,
+        names: &[SyntaxVariable<'_>],
+        dimension: &Dimension,
+        form: &VariableType<'_>,
+        attributes: &Attributes<'_>,
+    ) -> Result<(), AllocError>
+        ensures names { OnOk result (levels_of scope.new ≡ (fills.declared_at place (map variable_of names.now) (dimension_of dimension.now) (type_of form.now) (attributes_of attributes.now) (levels_of scope.old) (known_of self.old)).0) }
+        ensures known { OnOk result (known_of self.new ≡ (fills.declared_at place (map variable_of names.now) (dimension_of dimension.now) (type_of form.now) (attributes_of attributes.now) (levels_of scope.old) (known_of self.old)).1) }
+    {
+        let site = self.site(scope, attributes)?;
+        let shape = self.shape(place, names.len(), dimension, form, values(attributes))?;
+        let number = self.variables.len();
+        self.declare_names(scope, names, traits_with(shape, attributes), site)?;
+        let filling = Filling {
+            names,
+            shape,
+            number,
+        };
+        self.fill_element(scope, filling, place, attributes)?;
+        Ok(())
+    }
+
+    /// An element of a declaration. A literal's name is none of the program's.
+    pub fn element(
+        &mut self,
+        scope: &mut Scope<'_>,
+        element: &Element<'_>,
+    ) -> Result<(), AllocError>
+        ensures names { OnOk result (levels_of scope.new ≡ (fills.element (element_of element.now) (levels_of scope.old) (known_of self.old)).0) }
+        ensures known { OnOk result (known_of self.new ≡ (fills.element (element_of element.now) (levels_of scope.old) (known_of self.old)).1) }
+    {
+        match element {
+            Element::Literal(..) => Ok(()),
+            Element::Variable {
+                declared,
+                dimension,
+                form,
+                attributes,
+            } => {
+                let names = declared_names(declared);
+                match names.first() {
+                    Some(first) => {
+                        let place = first.name.place;
+                        self.names(scope, place, names, dimension, form, attributes)?;
+                        Ok(())
+                    }
+                    None => Ok(()),
+                }
+            }
+        }
+    }
+}

@@ -1,0 +1,179 @@
+//! The names of expressions.
+
+ghost use Rattle.std.specs.Prelude.{◌≡◌, IfOk, OnOk, option_map};
+ghost use Rattle.plm_syntax.specs.View.{name_of};
+ghost use Rattle.plm_syntax.specs.View as tree;
+ghost use Rattle.plm_decl.specs.Scopes.{levels_of};
+ghost use Rattle.plm_decl.specs.Layouts.{structure_of};
+ghost use Rattle.plm_decl.specs.Known.{known_of};
+ghost use Rattle.plm_decl.specs.ResolvedView as view;
+ghost use Rattle.plm_decl.specs.Expressions as spec;
+
+use crate::layout::{Form, Member, Structure};
+use crate::resolved::{Expression, Location, Meaning, Reference, Selector};
+use crate::resolver::Resolver;
+use crate::scope::Scope;
+use crate::spelling::normal;
+use plm_syntax::Name;
+use plm_token::string_value;
+use std::alloc::AllocError;
+use word86::Number;
+
+impl Resolver {
+    /// The structure of a variable that a name stands for.
+    fn structure(&self, meaning: Meaning) -> Option<&Structure>
+        ensures { option_map (λ s. structure_of s.now) result ≡ spec.structure_meant (known_of self.now) meaning }
+    {
+        let Meaning::Variable(variable) = meaning else {
+            return None;
+        };
+        match self.variables.get(variable)?.form {
+            Form::Structure(structure) => self.structures.get(structure),
+            Form::Scalar(_) => None,
+        }
+    }
+
+    /// A structure's member. What is no structure has none, which is no fault of names.
+    fn member(&mut self, meaning: Meaning, name: &Name<'_>) -> Result<Option<Member>, AllocError>
+        ensures member { IfOk result (λ m. m ≡ (spec.member_meant meaning (name_of name.now) (known_of self.old)).0) }
+        ensures known { OnOk result (known_of self.new ≡ (spec.member_meant meaning (name_of name.now) (known_of self.old)).1) }
+    {
+        let key = normal(self.alloc, name.text)?;
+        let Some(structure) = self.structure(meaning) else {
+            return Ok(None);
+        };
+        let member = structure.member(&key);
+        self.note_unless(member.is_some(), Number::E301, name.place)?;
+        Ok(member)
+    }
+
+    #[cycle(expression)]
+    #[tactic(auto, using(crate::proofs::ResolvedRows::expression_row, plm_syntax::proofs::Rows::expression_row))]
+    pub fn expression(
+        &mut self,
+        e: &plm_syntax::Expression<'_>,
+        scope: &Scope<'_>,
+    ) -> Result<Expression, AllocError>
+        ensures value { IfOk result (λ r. view.expression_of r ≡ (spec.expression (levels_of scope.now) (tree.expression_of e.now) (known_of self.old)).0) }
+        ensures known { OnOk result (known_of self.new ≡ (spec.expression (levels_of scope.now) (tree.expression_of e.now) (known_of self.old)).1) }
+    {
+        match e {
+            plm_syntax::Expression::Number(number) => Ok(Expression::Number(*number)),
+            plm_syntax::Expression::Text(text) => Ok(Expression::Text(
+                text.place,
+                string_value(self.alloc, text.text)?,
+            )),
+            plm_syntax::Expression::Reference(reference) => Ok(Expression::Reference(self.reference(
+                reference, scope,
+            )?)),
+            plm_syntax::Expression::Location(location) => Ok(Expression::Location(self.location(
+                location, scope,
+            )?)),
+            plm_syntax::Expression::Parenthesised(place, inner) => {
+                let inner = self.expression(inner, scope)?;
+                Ok(Expression::Parenthesised(*place, Box::new(self.alloc, inner)?))
+            }
+            plm_syntax::Expression::Embedded(place, target, value) => {
+                let target = self.reference(target, scope)?;
+                let value = self.expression(value, scope)?;
+                Ok(Expression::Embedded(*place, target, Box::new(self.alloc, value)?))
+            }
+            plm_syntax::Expression::Unary(place, operator, operand) => {
+                let operand = self.expression(operand, scope)?;
+                Ok(Expression::Unary(*place, *operator, Box::new(self.alloc, operand)?))
+            }
+            plm_syntax::Expression::Binary(place, operator, left, right) => {
+                let left = self.expression(left, scope)?;
+                let right = self.expression(right, scope)?;
+                Ok(Expression::Binary(
+                    *place,
+                    *operator,
+                    Box::new(self.alloc, left)?,
+                    Box::new(self.alloc, right)?,
+                ))
+            }
+        }
+    }
+
+    #[cycle(expression)]
+    pub fn reference(
+        &mut self,
+        reference: &plm_syntax::Reference<'_>,
+        scope: &Scope<'_>,
+    ) -> Result<Reference, AllocError>
+        ensures value { IfOk result (λ r. view.reference_of r ≡ (spec.reference (levels_of scope.now) (tree.reference_of reference.now) (known_of self.old)).0) }
+        ensures known { OnOk result (known_of self.new ≡ (spec.reference (levels_of scope.now) (tree.reference_of reference.now) (known_of self.old)).1) }
+    {
+        let meaning = self.used(scope, &reference.name)?;
+        let subscripts = self.subscripts(&reference.subscripts, scope)?;
+        let selector = self.selector(&reference.selector, scope, meaning)?;
+        Ok(Reference {
+            place: reference.name.place,
+            meaning,
+            subscripts,
+            selector,
+        })
+    }
+
+    #[cycle(expression)]
+    fn subscripts(
+        &mut self,
+        subscripts: &[plm_syntax::Expression<'_>],
+        scope: &Scope<'_>,
+    ) -> Result<Vec<Expression>, AllocError>
+        ensures value { IfOk result (λ r. view.expressions_of r.items ≡ (spec.subscripts (levels_of scope.now) (tree.expressions_of subscripts.now) (known_of self.old)).0) }
+        ensures known { OnOk result (known_of self.new ≡ (spec.subscripts (levels_of scope.now) (tree.expressions_of subscripts.now) (known_of self.old)).1) }
+    {
+        let mut resolved = Vec::new(self.alloc);
+        for subscript in subscripts {
+            resolved.push(self.expression(subscript, scope)?)?;
+        }
+        Ok(resolved)
+    }
+
+    #[cycle(expression)]
+    fn selector(
+        &mut self,
+        selector: &plm_syntax::Selector<'_>,
+        scope: &Scope<'_>,
+        meaning: Meaning,
+    ) -> Result<Selector, AllocError>
+        ensures value { IfOk result (λ r. view.selector_of r ≡ (spec.selector (levels_of scope.now) meaning (tree.selector_of selector.now) (known_of self.old)).0) }
+        ensures known { OnOk result (known_of self.new ≡ (spec.selector (levels_of scope.now) meaning (tree.selector_of selector.now) (known_of self.old)).1) }
+    {
+        match selector {
+            plm_syntax::Selector::None => Ok(Selector::None),
+            plm_syntax::Selector::Member(name) => {
+                let member = self.member(meaning, name)?;
+                Ok(Selector::Member(name.place, member))
+            }
+            plm_syntax::Selector::Element(name, subscript) => {
+                let member = self.member(meaning, name)?;
+                let subscript = self.expression(subscript, scope)?;
+                Ok(Selector::Element(name.place, member, Box::new(self.alloc, subscript)?))
+            }
+        }
+    }
+
+    #[cycle(expression)]
+    #[tactic(auto, using(crate::proofs::ResolvedRows::expression_row, plm_syntax::proofs::Rows::expression_row, plm_syntax::proofs::Rows::value_row, crate::proofs::ListViews::value_list_from))]
+    pub fn location(
+        &mut self,
+        location: &plm_syntax::Location<'_>,
+        scope: &Scope<'_>,
+    ) -> Result<Location, AllocError>
+        ensures value { IfOk result (λ r. view.location_of r ≡ (spec.location (levels_of scope.now) (tree.location_of location.now) (known_of self.old)).0) }
+        ensures known { OnOk result (known_of self.new ≡ (spec.location (levels_of scope.now) (tree.location_of location.now) (known_of self.old)).1) }
+    {
+        match location {
+            plm_syntax::Location::Reference(place, form, reference) => {
+                let reference = self.reference(reference, scope)?;
+                Ok(Location::Reference(*place, *form, reference))
+            }
+            plm_syntax::Location::Constants(place, form, values) => {
+                let object = self.constant_bytes(scope, *place, values)?;
+                Ok(Location::Constants(*place, *form, object))
+            }
+        }
+    }
+}

@@ -1,0 +1,229 @@
+//! Initial values.
+
+ghost use Rattle.std.specs.Prelude.{◌≡◌, IfOk, OnOk, map, slice_get};
+ghost use Rattle.plm_syntax.specs.View.{value_of, variable_of};
+ghost use Rattle.plm_syntax.specs.View as tree;
+ghost use Rattle.plm_decl.specs.Scopes.{levels_of};
+ghost use Rattle.plm_decl.specs.Known.{known_of};
+ghost use Rattle.plm_decl.specs.ResolvedView as view;
+ghost use Rattle.plm_decl.specs.Fills as spec;
+ghost use Rattle.plm_decl.specs.FillsView.{filling_of};
+
+use crate::datum::{character_datum, number_datum, takes, text_datum};
+use crate::layout::ScalarType;
+use crate::names::{Datum, DeclaredLocation, Region, Variable};
+use crate::resolved::{Location, Meaning};
+use crate::resolver::Resolver;
+use crate::scope::Scope;
+use crate::shape::{Shape, elements};
+use plm_syntax::{Value, Variable as SyntaxVariable};
+use plm_token::string_value;
+use std::alloc::AllocError;
+use word86::Number;
+
+/// What values fill: an element's names, their shape, and the number of the first one's variable.
+#[derive(Clone, Copy)]
+pub struct Filling<'f, 'a> {
+    pub names: &'f [SyntaxVariable<'a>],
+    pub shape: Shape,
+    pub number: usize,
+}
+
+/// The scalar that the next value fills: that of a name, so many behind its first.
+#[derive(Debug, Clone, Copy)]
+struct Cursor {
+    name: usize,
+    scalar: u64,
+}
+
+/// The address of a variable's byte; a based one has none.
+fn address_datum(variable: usize, region: Region, distance: Option<u64>) -> Option<Datum>
+    ensures { result ≡ spec.address_datum variable region distance }
+{
+    match (region, distance) {
+        (Region::Based(_), _) => None,
+        (_, Some(distance)) => Some(Datum::Variable(variable, (distance % 0x1_0000) as u16)),
+        (_, None) => None,
+    }
+}
+
+impl Resolver {
+    /// What a location stands for, if it is not based and its subscripts are numbers. What is no variable is no fault here.
+    fn location_datum(&self, location: &Location) -> Option<Datum>
+        ensures { result ≡ spec.location_datum (known_of self.now) (view.location_of location.now) }
+    {
+        let reference = match location {
+            Location::Constants(_, _, object) => return Some(Datum::Constants(*object)),
+            Location::Reference(_, _, reference) => reference,
+        };
+        let Meaning::Variable(number) = reference.meaning else {
+            return Some(Datum::Word(0));
+        };
+        match self.variables.get(number) {
+            Some(variable) => address_datum(number, variable.region, self.distance(reference)),
+            None => None,
+        }
+    }
+
+    /// What a location fills a scalar with.
+    fn location_in(
+        &mut self,
+        scope: &Scope<'_>,
+        scalar: ScalarType,
+        location: &plm_syntax::Location<'_>,
+    ) -> Result<Option<Datum>, AllocError>
+        ensures value { IfOk result (λ r. r ≡ (spec.location_in (levels_of scope.now) scalar (tree.location_of location.now) (known_of self.old)).0) }
+        ensures known { OnOk result (known_of self.new ≡ (spec.location_in (levels_of scope.now) scalar (tree.location_of location.now) (known_of self.old)).1) }
+    {
+        let form = match location {
+            plm_syntax::Location::Reference(_, form, _) => *form,
+            plm_syntax::Location::Constants(_, form, _) => *form,
+        };
+        let location = self.location(location, scope)?;
+        let datum = self.location_datum(&location);
+        self.locations.push(DeclaredLocation {
+            module: self.module,
+            location,
+        })?;
+        Ok(if takes(scalar, form) { datum } else { None })
+    }
+
+    /// What a value fills a scalar with, if it fits.
+    fn datum(
+        &mut self,
+        scope: &Scope<'_>,
+        scalar: ScalarType,
+        value: &Value<'_>,
+    ) -> Result<Option<Datum>, AllocError>
+        ensures value { IfOk result (λ r. r ≡ (spec.datum_for (levels_of scope.now) scalar (value_of value.now) (known_of self.old)).0) }
+        ensures known { OnOk result (known_of self.new ≡ (spec.datum_for (levels_of scope.now) scalar (value_of value.now) (known_of self.old)).1) }
+    {
+        match value {
+            Value::Number(number) => Ok(number_datum(scalar, number.value, false)),
+            Value::Negative(number) => Ok(number_datum(scalar, number.value, true)),
+            Value::Text(text) => Ok(text_datum(scalar, &string_value(self.alloc, text.text)?)),
+            Value::Location(location) => self.location_in(scope, scalar, location),
+        }
+    }
+
+    /// Gives an object one more initial value.
+    fn give_object(&mut self, object: usize, datum: Datum) -> Result<(), AllocError>
+        ensures { OnOk result (known_of self.new ≡ spec.given_at object datum (slice_get (known_of self.old).objects object) (known_of self.old)) }
+    {
+        if let Some(given) = self.objects.get_mut(object) {
+            given.initial.push(datum)?;
+        }
+        Ok(())
+    }
+
+    /// Gives a variable's object one more initial value.
+    fn give(&mut self, variable: usize, datum: Datum) -> Result<(), AllocError>
+        ensures { OnOk result (known_of self.new ≡ spec.given variable datum (known_of self.old)) }
+    {
+        let object = match self.variables.get(variable) {
+            Some(
+                Variable {
+                    region: Region::Ram(object, _),
+                    ..
+                },
+            ) => *object,
+            _ => return Ok(()),
+        };
+        self.give_object(object, datum)
+    }
+
+    /// Fills the scalar at the cursor, and answers the next one. A value too many does not fit the last name.
+    fn put(
+        &mut self,
+        filling: Filling<'_, '_>,
+        cursor: Cursor,
+        datum: Option<Datum>,
+    ) -> Result<Cursor, AllocError>
+        ensures value { IfOk result (λ r. r ≡ (spec.put_value (filling_of filling.entry) cursor datum (known_of self.old)).0) }
+        ensures known { OnOk result (known_of self.new ≡ (spec.put_value (filling_of filling.entry) cursor datum (known_of self.old)).1) }
+    {
+        let Some(name) = filling.names.get(cursor.name) else {
+            if let Some(last) = filling.names.last() {
+                self.note(Number::E305, last.name.place)?;
+            }
+            return Ok(cursor);
+        };
+        match datum {
+            Some(datum) => self.give(filling.number.saturating_add(cursor.name), datum)?,
+            None => self.note(Number::E305, name.name.place)?,
+        }
+        let scalars = self
+            .scalars(filling.shape.form)
+            .saturating_mul(elements(filling.shape.dimension));
+        let scalar = cursor.scalar.saturating_add(1);
+        Ok(if scalar < scalars {
+            Cursor {
+                name: cursor.name,
+                scalar,
+            }
+        } else {
+            Cursor {
+                name: cursor.name + 1,
+                scalar: 0,
+            }
+        })
+    }
+
+    /// Fills a BYTE with each character of a string.
+    fn put_characters(
+        &mut self,
+        filling: Filling<'_, '_>,
+        cursor: Cursor,
+        characters: &[u8],
+    ) -> Result<Cursor, AllocError>
+        ensures value { IfOk result (λ r. r ≡ (spec.put_characters (filling_of filling.entry) cursor characters.now (known_of self.old)).0) }
+        ensures known { OnOk result (known_of self.new ≡ (spec.put_characters (filling_of filling.entry) cursor characters.now (known_of self.old)).1) }
+    {
+        let mut cursor = cursor;
+        for character in characters {
+            let scalar = self.scalar_at(filling.shape.form, cursor.scalar);
+            cursor = self.put(filling, cursor, character_datum(scalar, *character))?;
+        }
+        Ok(cursor)
+    }
+
+    /// Fills with a value from the cursor on.
+    fn value(
+        &mut self,
+        scope: &Scope<'_>,
+        filling: Filling<'_, '_>,
+        cursor: Cursor,
+        value: &Value<'_>,
+    ) -> Result<Cursor, AllocError>
+        ensures value { IfOk result (λ r. r ≡ (spec.filled_with (levels_of scope.now) (filling_of filling.entry) cursor (value_of value.now) (known_of self.old)).0) }
+        ensures known { OnOk result (known_of self.new ≡ (spec.filled_with (levels_of scope.now) (filling_of filling.entry) cursor (value_of value.now) (known_of self.old)).1) }
+    {
+        let scalar = self.scalar_at(filling.shape.form, cursor.scalar);
+        match value {
+            Value::Text(text) if scalar == ScalarType::Byte => {
+                let characters = string_value(self.alloc, text.text)?;
+                self.put_characters(filling, cursor, &characters)
+            }
+            _ => {
+                let datum = self.datum(scope, scalar, value)?;
+                self.put(filling, cursor, datum)
+            }
+        }
+    }
+
+    /// Fills an element's names with values, in order.
+    pub fn fill(
+        &mut self,
+        scope: &Scope<'_>,
+        filling: Filling<'_, '_>,
+        values: &[Value<'_>],
+    ) -> Result<(), AllocError>
+        ensures { OnOk result (known_of self.new ≡ spec.filled (levels_of scope.now) (filling_of filling.entry) (map value_of values.now) (known_of self.old)) }
+    {
+        let mut cursor = Cursor { name: 0, scalar: 0 };
+        for value in values {
+            cursor = self.value(scope, filling, cursor, value)?;
+        }
+        Ok(())
+    }
+}

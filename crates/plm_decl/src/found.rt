@@ -1,0 +1,73 @@
+//! Faults where they stand, and the least of them.
+
+ghost use Rattle.std.specs.Prelude.{◌≡◌, min, None};
+ghost use Rattle.plm_decl.specs.Least.{code_of, precedes, least, fault_at};
+
+use plm_syntax::Place;
+use word86::{Fault, Number};
+
+/// A fault of a declaration, a name or the whole program.
+#[derive(Debug, Clone, Copy, PartialEq, Eq)]
+pub struct Found {
+    pub module: usize,
+    pub place: Place,
+    pub number: Number,
+}
+
+fn code(number: Number) -> u16
+    ensures { result ≡ code_of number }
+{
+    match number {
+        Number::E301 => 301,
+        Number::E302 => 302,
+        Number::E303 => 303,
+        Number::E304 => 304,
+        Number::E305 => 305,
+        Number::E306 => 306,
+        Number::E307 => 307,
+        Number::E308 => 308,
+        Number::E309 => 309,
+        Number::E310 => 310,
+        _ => 999,
+    }
+}
+
+impl Found {
+    /// Whether it is answered before the other: by module, token and number.
+    pub fn precedes(&self, other: &Found) -> bool
+        ensures { result ≡ precedes self.now other.now }
+    {
+        if self.module != other.module {
+            self.module < other.module
+        } else if self.place.token != other.place.token {
+            self.place.token < other.place.token
+        } else {
+            code(self.number) < code(other.number)
+        }
+    }
+
+    /// What is answered.
+    pub fn fault(&self) -> Fault
+        ensures { result ≡ fault_at self.now }
+    {
+        Fault::At(
+            u32::try_from(self.module).unwrap_or(u32::MAX),
+            self.place.line,
+            self.number,
+        )
+    }
+}
+
+/// The least of the faults, the first of equal ones.
+pub fn least(faults: &[Found]) -> Option<Found>
+    ensures { result ≡ least None faults.now }
+{
+    let mut first: Option<Found> = None;
+    for found in faults {
+        first = match first {
+            Some(other) if !found.precedes(&other) => Some(other),
+            _ => Some(*found),
+        };
+    }
+    first
+}

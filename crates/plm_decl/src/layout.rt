@@ -1,0 +1,95 @@
+//! What the bytes of a variable are.
+
+ghost use Rattle.std.specs.Prelude.{◌≡◌};
+ghost use Rattle.plm_decl.specs.Layouts.{scalar_of, width_of, size_of, structure_of, field_named};
+
+use plm_syntax::Scalar;
+use word86::Width;
+
+/// What a scalar's bytes are.
+#[derive(Debug, Clone, Copy, PartialEq, Eq)]
+pub enum ScalarType {
+    Byte,
+    Word,
+    /// An offset in the one data segment.
+    Pointer,
+}
+
+impl ScalarType {
+    /// The type that a declaration names: ADDRESS is another word for WORD.
+    pub fn of(scalar: Scalar) -> ScalarType
+        ensures { result ≡ scalar_of scalar }
+    {
+        match scalar {
+            Scalar::Byte => ScalarType::Byte,
+            Scalar::Word | Scalar::Address => ScalarType::Word,
+            Scalar::Pointer => ScalarType::Pointer,
+        }
+    }
+
+    /// The width of an access to it.
+    pub fn width(self) -> Width
+        ensures { result ≡ width_of self }
+    {
+        match self {
+            ScalarType::Byte => Width::Byte,
+            ScalarType::Word | ScalarType::Pointer => Width::Word,
+        }
+    }
+
+    /// How many bytes it has.
+    pub fn size(self) -> u64
+        ensures { result ≡ size_of self }
+    {
+        match self {
+            ScalarType::Byte => 1,
+            ScalarType::Word | ScalarType::Pointer => 2,
+        }
+    }
+}
+
+/// A member of a structure: its scalars' type, its dimension, and how many bytes of the structure stand before it.
+#[derive(Debug, Clone, Copy, PartialEq, Eq)]
+pub struct Member {
+    pub scalar: ScalarType,
+    pub dimension: Option<u32>,
+    pub offset: u64,
+}
+
+/// A member with its name, in normal form.
+#[derive(Drop)]
+pub struct Field {
+    pub name: Vec<u8>,
+    pub member: Member,
+}
+
+/// The members of a structure, which stand without gaps.
+#[derive(Drop)]
+pub struct Structure {
+    pub fields: Vec<Field>,
+    /// How many bytes they have together.
+    pub size: u64,
+    /// How many scalars they have together.
+    pub scalars: u64,
+}
+
+/// What an element is: a scalar, or a structure by its number.
+#[derive(Debug, Clone, Copy, PartialEq, Eq)]
+pub enum Form {
+    Scalar(ScalarType),
+    Structure(usize),
+}
+
+impl Structure {
+    /// The member of this name in normal form.
+    pub fn member(&self, name: &[u8]) -> Option<Member>
+        ensures { result ≡ field_named name.now (structure_of self.now).fields }
+    {
+        for field in &self.fields {
+            if field.name.as_slice() == name {
+                return Some(field.member);
+            }
+        }
+        None
+    }
+}

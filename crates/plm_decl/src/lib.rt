@@ -1,0 +1,35 @@
+//! What the modules of a program declare: objects in RAM, names on the screen, views of bytes, procedures, and the
+//! statements with all names resolved.
+#![tactic(auto)]
+
+mod builtin;
+mod constants;
+mod datum;
+mod elements;
+mod expressions;
+mod fill;
+mod found;
+mod joins;
+mod layout;
+mod modules;
+mod names;
+mod placement;
+mod resolved;
+mod resolver;
+mod scope;
+mod shape;
+mod spelling;
+mod statements;
+mod stray;
+mod table;
+#[cfg(test)]
+mod tests;
+
+pub use builtin::Builtin;
+pub use layout::{Field, Form, Member, ScalarType, Structure};
+pub use modules::resolve;
+pub use names::{
+    Datum, DeclaredLocation, Item, Main, Names, Object, Procedure, Region, ScreenName, Variable,
+};
+pub use placement::Placement;
+pub use resolved::{Expression, Location, Meaning, Reference, Selector, Statement};

@@ -1,0 +1,123 @@
+//! What a program declares.
+
+ghost use Rattle.std.specs.Prelude.{◌≡◌, ◌≤◌, map, true};
+ghost use Rattle.std.specs.List.{sum_by};
+ghost use Rattle.plm_decl.specs.Layouts.{structure_of};
+ghost use Rattle.plm_decl.specs.Known.{object_of, procedure_of, declared_location_of, main_of};
+ghost use Rattle.plm_decl.specs.Ranges.{names_within};
+
+use crate::layout::{Form, ScalarType, Structure};
+use crate::resolved::{Location, Statement};
+use plm_syntax::{Linkage, Place};
+
+/// Where a variable's bytes lie.
+#[derive(Debug, Clone, Copy, PartialEq, Eq)]
+pub enum Region {
+    /// In a RAM object, by its number, from so many bytes behind its first on.
+    Ram(usize, u64),
+    /// On the screen, so many bytes behind 0B8000H.
+    Screen(u64),
+    /// Where the variable of this number says.
+    Based(usize),
+    /// Nowhere: an EXTERNAL name before it is joined with its PUBLIC, or what an EXTERNAL procedure declares.
+    Nowhere,
+}
+
+/// A declared variable: a view of bytes as elements.
+#[derive(Debug, Clone, Copy, PartialEq, Eq)]
+pub struct Variable {
+    pub module: usize,
+    pub place: Place,
+    pub form: Form,
+    pub dimension: Option<u32>,
+    /// How many bytes an element has.
+    pub stride: u64,
+    pub region: Region,
+    /// Whether DATA declares it: it may not be assigned.
+    pub is_data: bool,
+}
+
+/// What a declared name stands for: a variable or a procedure, by its number.
+#[derive(Debug, Clone, Copy, PartialEq, Eq)]
+pub enum Item {
+    Variable(usize),
+    Procedure(usize),
+}
+
+/// An initial value.
+#[derive(Debug, Clone, Copy, PartialEq, Eq)]
+pub enum Datum {
+    Byte(u8),
+    Word(u16),
+    /// The address that lies so many bytes, modulo 65,536, behind the first of a variable.
+    Variable(usize, u16),
+    /// The address of constant bytes, by the number of their object.
+    Constants(usize),
+}
+
+/// An object in RAM: its name, its bytes, and the values that its first bytes have at start.
+#[derive(Drop)]
+pub struct Object {
+    /// The names of the blocks around it and its own, parted by dots, in capitals and without dollar signs.
+    pub path: Vec<u8>,
+    pub size: u64,
+    pub initial: Vec<Datum>,
+}
+
+/// A name that is placed on the screen: its bytes, and how many RAM objects are declared before it.
+#[derive(Drop)]
+pub struct ScreenName {
+    pub path: Vec<u8>,
+    pub size: u64,
+    pub offset: u64,
+    pub objects_before: usize,
+}
+
+/// A procedure.
+#[derive(Drop)]
+pub struct Procedure {
+    pub path: Vec<u8>,
+    pub module: usize,
+    pub place: Place,
+    /// The variables that get the arguments.
+    pub parameters: Vec<usize>,
+    pub returned: Option<ScalarType>,
+    /// The number of INTERRUPT.
+    pub interrupt: Option<u32>,
+    pub linkage: Linkage,
+    /// What stands first in an EXTERNAL procedure besides the declarations of its parameters.
+    pub stray: Option<Place>,
+    /// The procedure whose body a call runs: itself, or for an EXTERNAL procedure its PUBLIC one.
+    pub entry: usize,
+    pub body: Vec<Statement>,
+}
+
+/// A location of an AT, INITIAL or DATA, with its module.
+#[derive(Drop)]
+pub struct DeclaredLocation {
+    pub module: usize,
+    pub location: Location,
+}
+
+/// The statements of a module's outer level.
+#[derive(Drop)]
+pub struct Main {
+    pub module: usize,
+    pub statements: Vec<Statement>,
+}
+
+/// What a program declares, in order of declaration, and main's statements.
+#[derive(Drop)]
+pub struct Names {
+    pub variables: Vec<Variable>,
+    pub structures: Vec<Structure>,
+    pub objects: Vec<Object>,
+    pub screen_names: Vec<ScreenName>,
+    pub procedures: Vec<Procedure>,
+    pub locations: Vec<DeclaredLocation>,
+    pub main: Main,
+    // Each number that stands in the tables and in main's statements is below the length of the table that it is of.
+    ghost in_range: { names_within variables.items (map structure_of structures.items) (map object_of objects.items) (map procedure_of procedures.items) (map declared_location_of locations.items) (main_of main) ≡ true },
+    // The objects have together at most 61,438 bytes.
+    ghost has_room: { sum_by (λ o. o.size) objects.items ≤ 61438 },
+}

@@ -1,0 +1,86 @@
+//! Statements and expressions whose names are resolved.
+//!
+//! Each node keeps the places at which a fault of its types or a bad step may stand. The module is that of the procedure,
+//! or of main, that the statement belongs to.
+
+use crate::builtin::Builtin;
+use crate::layout::Member;
+use plm_syntax::{BinaryOperator, LocationForm, Number, Place, UnaryOperator};
+
+/// What a name stands for where it is used.
+#[derive(Debug, Clone, Copy, PartialEq, Eq)]
+pub enum Meaning {
+    /// A variable, by its number.
+    Variable(usize),
+    /// A procedure, by its number.
+    Procedure(usize),
+    Builtin(Builtin),
+    /// Nothing: the name is not declared. Names that are answered hold none of these.
+    Nothing,
+}
+
+/// An expression.
+#[derive(Drop)]
+#[cycle(resolved)]
+pub enum Expression {
+    Number(Number),
+    /// A string's characters.
+    Text(Place, Vec<u8>),
+    Reference(Reference),
+    Location(Location),
+    /// `( e )`, with the place of the parenthesis.
+    Parenthesised(Place, Box<Expression>),
+    /// `( x := e )`, with the place of the parenthesis.
+    Embedded(Place, Reference, Box<Expression>),
+    Unary(Place, UnaryOperator, Box<Expression>),
+    /// `a o b`, with the place of the operator.
+    Binary(Place, BinaryOperator, Box<Expression>, Box<Expression>),
+}
+
+/// A name that is used, with its subscripts or arguments, none where it has no parentheses, and its member.
+#[derive(Drop)]
+#[cycle(resolved)]
+pub struct Reference {
+    pub place: Place,
+    pub meaning: Meaning,
+    pub subscripts: Vec<Expression>,
+    pub selector: Selector,
+}
+
+/// The member behind a reference's period, and its place: none where the name stands for no structure.
+#[derive(Drop)]
+#[cycle(resolved)]
+pub enum Selector {
+    None,
+    Member(Place, Option<Member>),
+    Element(Place, Option<Member>, Box<Expression>),
+}
+
+/// A location, with the place of its `@` or `.`: of a reference, or of constant bytes, by the number of their object.
+#[derive(Drop)]
+#[cycle(resolved)]
+pub enum Location {
+    Reference(Place, LocationForm, Reference),
+    Constants(Place, LocationForm, usize),
+}
+
+/// A statement, with the place of its first token behind its labels (an assignment's is that of its first target).
+#[derive(Drop)]
+#[cycle(resolved_statement)]
+pub enum Statement {
+    Empty(Place),
+    Assign(Vec<Reference>, Expression),
+    Call(Place, Reference),
+    Return(Place),
+    ReturnValue(Place, Expression),
+    Enable(Place),
+    Disable(Place),
+    Halt(Place),
+    If(Place, Expression, Box<Statement>),
+    IfElse(Place, Expression, Box<Statement>, Box<Statement>),
+    Do(Place, Vec<Statement>),
+    While(Place, Expression, Vec<Statement>),
+    Case(Place, Expression, Vec<Statement>),
+    /// `DO i = a TO b [BY s]`, with the place of the index.
+    Iterate(Place, Place, Meaning, Expression, Expression, Option<Expression>, Vec<Statement>),
+}

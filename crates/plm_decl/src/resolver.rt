@@ -1,0 +1,127 @@
+//! What is known of a program while its trees are walked.
+
+ghost use Rattle.std.specs.Prelude.{◌≡◌, ◌+◌, IfOk, OnOk};
+ghost use Rattle.plm_syntax.specs.View.{name_of};
+ghost use Rattle.plm_decl.specs.Scopes.{levels_of};
+ghost use Rattle.plm_decl.specs.Known.{known_of, note, note_unless, note_whole};
+ghost use Rattle.plm_decl.specs.Uses.{item_meaning, meaning_for, used};
+ghost use Rattle.plm_decl.specs.Layouts.{counted};
+
+use crate::builtin::Builtin;
+use crate::found::Found;
+use crate::layout::Structure;
+use crate::names::{DeclaredLocation, Item, Main, Object, Procedure, ScreenName, Variable};
+use crate::resolved::Meaning;
+use crate::scope::Scope;
+use crate::spelling::normal;
+use crate::table::Table;
+use plm_syntax::{Name, Place};
+use std::alloc::{AllocError, Global};
+use word86::Number;
+
+/// What is known of the modules so far, and all faults that were met.
+#[derive(Drop)]
+pub struct Resolver {
+    pub alloc: Global,
+    /// The module that is walked, and its unnamed blocks and lists of constants so far.
+    pub module: usize,
+    pub blocks: usize,
+    pub constants: usize,
+    pub variables: Vec<Variable>,
+    pub structures: Vec<Structure>,
+    pub objects: Vec<Object>,
+    pub screen_names: Vec<ScreenName>,
+    pub procedures: Vec<Procedure>,
+    pub locations: Vec<DeclaredLocation>,
+    pub publics: Table,
+    pub externals: Vec<External>,
+    pub mains: Vec<Main>,
+    /// The faults of declarations and names, and those of the whole program.
+    pub faults: Vec<Found>,
+    pub whole: Vec<Found>,
+}
+
+/// A name that is declared EXTERNAL, in normal form.
+#[derive(Drop)]
+pub struct External {
+    pub name: Vec<u8>,
+    pub item: Item,
+}
+
+/// One more; a count that is full stays.
+pub fn next(count: usize) -> usize
+    ensures { result ≡ counted (count + 1) }
+{
+    count.saturating_add(1)
+}
+
+impl Item {
+    /// What a name that stands for it means.
+    pub fn meaning(self) -> Meaning
+        ensures { result ≡ item_meaning self }
+    {
+        match self {
+            Item::Variable(variable) => Meaning::Variable(variable),
+            Item::Procedure(procedure) => Meaning::Procedure(procedure),
+        }
+    }
+}
+
+/// What a name means: what it is declared as, else a built-in of that name.
+fn meaning(item: Option<Item>, builtin: Option<Builtin>) -> Meaning
+    ensures { result ≡ meaning_for item builtin }
+{
+    match (item, builtin) {
+        (Some(item), _) => item.meaning(),
+        (None, Some(builtin)) => Meaning::Builtin(builtin),
+        (None, None) => Meaning::Nothing,
+    }
+}
+
+impl Resolver {
+    /// Notes a fault.
+    pub fn note(&mut self, number: Number, place: Place) -> Result<(), AllocError>
+        ensures { OnOk result (known_of self.new ≡ note number place (known_of self.old)) }
+    {
+        self.faults.push(Found {
+            module: self.module,
+            place,
+            number,
+        })?;
+        Ok(())
+    }
+
+    /// Notes a fault where something does not hold.
+    pub fn note_unless(
+        &mut self,
+        holds: bool,
+        number: Number,
+        place: Place,
+    ) -> Result<(), AllocError>
+        ensures { OnOk result (known_of self.new ≡ note_unless holds number place (known_of self.old)) }
+    {
+        if holds {
+            return Ok(());
+        }
+        self.note(number, place)
+    }
+
+    /// Notes a fault of the whole program.
+    pub fn note_whole(&mut self, found: Found) -> Result<(), AllocError>
+        ensures { OnOk result (known_of self.new ≡ note_whole found (known_of self.old)) }
+    {
+        self.whole.push(found)?;
+        Ok(())
+    }
+
+    /// What a name that is used means.
+    pub fn used(&mut self, scope: &Scope<'_>, name: &Name<'_>) -> Result<Meaning, AllocError>
+        ensures meaning { IfOk result (λ m. m ≡ (used (levels_of scope.now) (name_of name.now) (known_of self.old)).0) }
+        ensures known { OnOk result (known_of self.new ≡ (used (levels_of scope.now) (name_of name.now) (known_of self.old)).1) }
+    {
+        let key = normal(self.alloc, name.text)?;
+        let meaning = meaning(scope.item(&key), Builtin::named(&key));
+        self.note_unless(meaning != Meaning::Nothing, Number::E301, name.place)?;
+        Ok(meaning)
+    }
+}

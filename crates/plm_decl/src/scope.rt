@@ -1,0 +1,90 @@
+//! The names in scope, block by block.
+
+ghost use Rattle.std.specs.Prelude.{◌≡◌, ◌∷◌, [], false, IfOk, OnOk};
+ghost use Rattle.plm_decl.specs.Scopes.{levels_of, level, meant, found_here, path_in, is_external, is_fresh, with_name};
+
+use crate::names::Item;
+use crate::table::Table;
+use std::alloc::{AllocError, Global};
+
+/// The names of a block, and of the blocks around it.
+#[derive(Drop)]
+pub struct Scope<'s> {
+    names: Table,
+    path: Vec<u8>,
+    external: bool,
+    outer: Option<&'s Scope<'s>>,
+}
+
+impl<'s> Scope<'s> {
+    /// A module's block, which has this path.
+    pub fn outermost(alloc: Global, path: Vec<u8>) -> Scope<'s>
+        ensures { levels_of result ≡ level path.items false ∷ [] }
+    {
+        Scope {
+            names: Table::new(alloc),
+            path,
+            external: false,
+            outer: None,
+        }
+    }
+
+    /// A block in another; or the block of an EXTERNAL procedure, in which nothing takes room.
+    pub fn inside<'r: 's>(
+        alloc: Global,
+        outer: &'s Scope<'r>,
+        path: Vec<u8>,
+        external: bool,
+    ) -> Scope<'s>
+        ensures { levels_of result ≡ level path.items external ∷ levels_of outer.now }
+    {
+        Scope {
+            names: Table::new(alloc),
+            path,
+            external,
+            outer: Some(outer),
+        }
+    }
+
+    /// What the name stands for: the innermost declaration counts.
+    pub fn item(&self, name: &[u8]) -> Option<Item>
+        ensures { result ≡ meant name.now (levels_of self.now) }
+    {
+        match self.names.find(name) {
+            Some(item) => Some(item),
+            None => match self.outer {
+                Some(outer) => outer.item(name),
+                None => None,
+            },
+        }
+    }
+
+    /// What the name stands for in this block.
+    pub fn here(&self, name: &[u8]) -> Option<Item>
+        ensures { result ≡ found_here name.now (levels_of self.now) }
+    {
+        self.names.find(name)
+    }
+
+    /// The names of the blocks around it and its own, parted by dots.
+    pub fn path(&self) -> &[u8]
+        ensures { result.now ≡ path_in (levels_of self.now) }
+    {
+        self.path.as_slice()
+    }
+
+    /// Whether it is the block of an EXTERNAL procedure.
+    pub fn is_external(&self) -> bool
+        ensures { result ≡ is_external (levels_of self.now) }
+    {
+        self.external
+    }
+
+    /// Gives the name a meaning in this block. False: it has one here, and keeps it.
+    pub fn declare(&mut self, name: Vec<u8>, item: Item) -> Result<bool, AllocError>
+        ensures fresh { IfOk result (λ fresh. fresh ≡ is_fresh name.items (levels_of self.old)) }
+        ensures names { OnOk result (levels_of self.new ≡ with_name name.items item (levels_of self.old)) }
+    {
+        self.names.add(name, item)
+    }
+}

@@ -1,0 +1,304 @@
+//! The types of declarations: structures, dimensions and sizes.
+
+ghost use Rattle.std.specs.Prelude.{◌≡◌, ◌+◌, ◌*◌, IfOk, OnOk, map, length, option_map, min};
+ghost use Rattle.plm_syntax.specs.View.{name_of, counted as number_view, member_of, type_of, dimension_of, value_of};
+ghost use Rattle.plm_decl.specs.Lists.{member_list};
+ghost use Rattle.plm_decl.specs.Layouts.{structure_of, counted, elements, is_dimension, scalar_in, with_field, has_field, scalar_of};
+ghost use Rattle.plm_decl.specs.Known.{known_of};
+ghost use Rattle.plm_decl.specs.Shapes as shape;
+
+use crate::layout::{Field, Form, Member, ScalarType, Structure};
+use crate::resolver::Resolver;
+use crate::spelling::normal;
+use plm_syntax::{
+    Dimension, Member as SyntaxMember, MemberNames, Name, Number as SyntaxNumber, Place, Value,
+    VariableType,
+};
+use plm_token::string_value;
+use std::alloc::AllocError;
+use std::slice;
+use word86::Number;
+
+/// The most elements that a dimension may give.
+const DIMENSION_LIMIT: u64 = 65_535;
+
+/// What an element's names have in common: the form and the number of their elements, and the bytes of one.
+#[derive(Debug, Clone, Copy)]
+pub struct Shape {
+    pub form: Form,
+    pub dimension: Option<u32>,
+    pub stride: u64,
+}
+
+/// How many elements there are.
+pub fn elements(dimension: Option<u32>) -> u64
+    ensures { result ≡ elements dimension }
+{
+    match dimension {
+        Some(count) => u64::from(count),
+        None => 1,
+    }
+}
+
+/// Whether a dimension may be this number.
+fn is_dimension(number: u64) -> bool
+    ensures { result ≡ is_dimension number }
+{
+    1 <= number && number <= DIMENSION_LIMIT
+}
+
+/// The names of a member.
+fn member_names<'m, 'a>(names: &'m MemberNames<'a>) -> &'m [Name<'a>]
+    ensures { map name_of result.now ≡ shape.names_of_member names.now }
+{
+    match names {
+        MemberNames::One(name) => slice::from_ref(name),
+        MemberNames::List(names) => names.as_slice(),
+    }
+}
+
+impl Shape {
+    /// How many bytes a variable has.
+    pub fn size(self) -> u64
+        ensures { result ≡ shape.size_of_shape self }
+    {
+        self.stride.saturating_mul(elements(self.dimension))
+    }
+}
+
+impl Structure {
+    /// The scalar that stands so many scalars behind the first.
+    fn scalar_at(&self, position: u64) -> ScalarType
+        ensures { result ≡ scalar_in (structure_of self.now).fields position }
+    {
+        let mut left = position;
+        for field in &self.fields {
+            let count = elements(field.member.dimension);
+            if left < count {
+                return field.member.scalar;
+            }
+            left -= count;
+        }
+        ScalarType::Byte
+    }
+
+    /// Puts a member behind the others.
+    fn add(
+        &mut self,
+        name: Vec<u8>,
+        scalar: ScalarType,
+        dimension: Option<u32>,
+    ) -> Result<(), AllocError>
+        ensures { OnOk result (structure_of self.new ≡ with_field name.items scalar dimension (structure_of self.old)) }
+    {
+        let offset = self.size;
+        let count = elements(dimension);
+        self.size = offset.saturating_add(count.saturating_mul(scalar.size()));
+        self.scalars = self.scalars.saturating_add(count);
+        self.fields.push(Field {
+            name,
+            member: Member {
+                scalar,
+                dimension,
+                offset,
+            },
+        })?;
+        Ok(())
+    }
+
+    /// Whether it has a member of this name.
+    fn has(&self, name: &[u8]) -> bool
+        ensures { result ≡ has_field name.now (structure_of self.now).fields }
+    {
+        for field in &self.fields {
+            if field.name.as_slice() == name {
+                return true;
+            }
+        }
+        false
+    }
+}
+
+impl Resolver {
+    /// A dimension that is a number; the fault stands at this place.
+    fn number_of_elements(
+        &mut self,
+        place: Place,
+        number: Option<SyntaxNumber>,
+    ) -> Result<Option<u32>, AllocError>
+        ensures value { IfOk result (λ r. r ≡ (shape.number_of_elements place (number_view number) (known_of self.old)).0) }
+        ensures known { OnOk result (known_of self.new ≡ (shape.number_of_elements place (number_view number) (known_of self.old)).1) }
+    {
+        let Some(number) = number else {
+            return Ok(None);
+        };
+        self.note_unless(is_dimension(u64::from(number.value)), Number::E305, place)?;
+        Ok(Some(number.value))
+    }
+
+    /// The names of one type among a structure's members.
+    #[tactic(auto, using(crate::proofs::ListViews::with_members_is))]
+    fn add_members(
+        &mut self,
+        place: Place,
+        member: &SyntaxMember<'_>,
+        structure: &mut Structure,
+    ) -> Result<(), AllocError>
+        ensures structure { OnOk result (structure_of structure.new ≡ (shape.with_members place (member_of member.now) (structure_of structure.old) (known_of self.old)).0) }
+        ensures known { OnOk result (known_of self.new ≡ (shape.with_members place (member_of member.now) (structure_of structure.old) (known_of self.old)).1) }
+    {
+        let dimension = self.number_of_elements(place, member.count)?;
+        for name in member_names(&member.names) {
+            let key = normal(self.alloc, name.text)?;
+            self.note_unless(!structure.has(&key), Number::E302, name.place)?;
+            structure.add(key, ScalarType::of(member.scalar), dimension)?;
+        }
+        Ok(())
+    }
+
+    /// What an element is; a fault of its dimensions stands at the first of its names.
+    #[tactic(auto, using(crate::proofs::ListViews::member_list_from))]
+    pub fn form(&mut self, place: Place, form: &VariableType<'_>) -> Result<Form, AllocError>
+        ensures value { IfOk result (λ r. r ≡ (shape.form_for place (type_of form.now) (known_of self.old)).0) }
+        ensures known { OnOk result (known_of self.new ≡ (shape.form_for place (type_of form.now) (known_of self.old)).1) }
+    {
+        match form {
+            VariableType::Scalar(scalar) => Ok(Form::Scalar(ScalarType::of(*scalar))),
+            VariableType::Structure(members) => {
+                let mut structure = Structure {
+                    fields: Vec::new(self.alloc),
+                    size: 0,
+                    scalars: 0,
+                };
+                for member in members {
+                    self.add_members(place, member, &mut structure)?;
+                }
+                let number = self.structures.len();
+                self.structures.push(structure)?;
+                Ok(Form::Structure(number))
+            }
+        }
+    }
+
+    /// How many bytes an element has.
+    pub fn stride(&self, form: Form) -> u64
+        ensures { result ≡ shape.stride_of (known_of self.now) form }
+    {
+        match form {
+            Form::Scalar(scalar) => scalar.size(),
+            Form::Structure(number) => match self.structures.get(number) {
+                Some(structure) => structure.size,
+                None => 0,
+            },
+        }
+    }
+
+    /// How many scalars an element has.
+    pub fn scalars(&self, form: Form) -> u64
+        ensures { result ≡ shape.scalars_of (known_of self.now) form }
+    {
+        match form {
+            Form::Scalar(_) => 1,
+            Form::Structure(number) => match self.structures.get(number) {
+                Some(structure) => structure.scalars,
+                None => 0,
+            },
+        }
+    }
+
+    /// The scalar that stands so many scalars behind the first of a variable.
+    pub fn scalar_at(&self, form: Form, position: u64) -> ScalarType
+        ensures { result ≡ shape.scalar_at (known_of self.now) form position }
+    {
+        match form {
+            Form::Scalar(scalar) => scalar,
+            Form::Structure(number) => match self.structures.get(number) {
+                Some(structure) if structure.scalars > 0 => structure.scalar_at(
+                    position % structure.scalars,
+                ),
+                _ => ScalarType::Byte,
+            },
+        }
+    }
+
+    /// How many scalars a value fills: a string fills a BYTE with each of its characters.
+    fn scalars_filled(
+        &self,
+        form: Form,
+        position: u64,
+        value: &Value<'_>,
+    ) -> Result<u64, AllocError>
+        ensures { IfOk result (λ n. n ≡ shape.scalars_filled (known_of self.now) form position (value_of value.now)) }
+    {
+        match value {
+            Value::Text(text) if self.scalar_at(form, position) == ScalarType::Byte => Ok(
+                string_value(self.alloc, text.text)?.len() as u64,
+            ),
+            _ => Ok(1),
+        }
+    }
+
+    /// How many elements values fill.
+    fn elements_filled(&self, form: Form, values: &[Value<'_>]) -> Result<u64, AllocError>
+        ensures { IfOk result (λ n. n ≡ shape.elements_filled (known_of self.now) form (map value_of values.now)) }
+    {
+        let mut filled: u64 = 0;
+        for value in values {
+            filled = filled.saturating_add(self.scalars_filled(form, filled, value)?);
+        }
+        let scalars = self.scalars(form);
+        if scalars == 0 {
+            return Ok(0);
+        }
+        let whole = filled / scalars;
+        Ok(if filled % scalars == 0 {
+            whole
+        } else {
+            whole + 1
+        })
+    }
+
+    /// The dimension of an element's names; a fault stands at the first of them. `(*)` is for one name, with values.
+    pub fn dimension(
+        &mut self,
+        place: Place,
+        names: usize,
+        dimension: &Dimension,
+        form: Form,
+        values: &[Value<'_>],
+    ) -> Result<Option<u32>, AllocError>
+        ensures value { IfOk result (λ r. r ≡ (shape.dimension_for place names (dimension_of dimension.now) form (map value_of values.now) (known_of self.old)).0) }
+        ensures known { OnOk result (known_of self.new ≡ (shape.dimension_for place names (dimension_of dimension.now) form (map value_of values.now) (known_of self.old)).1) }
+    {
+        match dimension {
+            Dimension::None => Ok(None),
+            Dimension::Number(number) => self.number_of_elements(place, Some(*number)),
+            Dimension::Implicit => {
+                let count = self.elements_filled(form, values)?;
+                self.note_unless(names == 1 && is_dimension(count), Number::E305, place)?;
+                Ok(Some(u32::try_from(count).unwrap_or(u32::MAX)))
+            }
+        }
+    }
+
+    /// What so many names of an element have in common; a fault stands at the first of them.
+    pub fn shape(
+        &mut self,
+        place: Place,
+        names: usize,
+        dimension: &Dimension,
+        form: &VariableType<'_>,
+        values: &[Value<'_>],
+    ) -> Result<Shape, AllocError>
+        ensures value { IfOk result (λ r. r ≡ (shape.shape_for place names (dimension_of dimension.now) (type_of form.now) (map value_of values.now) (known_of self.old)).0) }
+        ensures known { OnOk result (known_of self.new ≡ (shape.shape_for place names (dimension_of dimension.now) (type_of form.now) (map value_of values.now) (known_of self.old)).1) }
+    {
+        let form = self.form(place, form)?;
+        let dimension = self.dimension(place, names, dimension, form, values)?;
+        Ok(Shape {
+            form,
+            dimension,
+            stride: self.stride(form),
+        })
+    }
+}

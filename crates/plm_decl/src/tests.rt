@@ -1,0 +1,525 @@
+//! Small texts: what they declare, and where their names are refused.
+
+use crate::modules::resolve;
+use crate::names::Names;
+use crate::placement::Placement;
+use plm_syntax::parse;
+use plm_token::scan;
+use std::alloc::Global;
+use std::process::Abort;
+use std::test::Fail;
+use word86::{Fault, Number};
+
+/// How names resolve: fine, or the module, the line and the fault.
+type Outcome = Option<(u32, u32, Number)>;
+
+const UNPARSED: Outcome = Some((99, 99, Number::E201));
+
+fn outcome(resolved: Result<Names, Fault>) -> Outcome {
+    match resolved {
+        Ok(_) => None,
+        Err(Fault::At(module, line, number)) => Some((module, line, number)),
+        Err(Fault::Memory) => UNPARSED,
+    }
+}
+
+fn names_of(alloc: Global, text: &[u8]) -> Result<Names, Fault> {
+    let tree = parse(alloc, scan(alloc, text)?)?;
+    resolve(alloc, &[tree])
+}
+
+fn names_of_two(alloc: Global, first: &[u8], second: &[u8]) -> Result<Names, Fault> {
+    let tree = parse(alloc, scan(alloc, first)?)?;
+    let other = parse(alloc, scan(alloc, second)?)?;
+    resolve(alloc, &[tree, other])
+}
+
+static UNDECLARED: [(&[u8], Outcome); 24] = [
+    (b"M: DO; ; END M;", None),
+    (
+        b"M: DO; DECLARE B BYTE; B = 255; OUTPUT(300H) = B + 1; END M;",
+        None,
+    ),
+    (
+        b"M: DO; DECLARE B BYTE;\nB =\nC; END M;",
+        Some((0, 3, Number::E301)),
+    ),
+    (
+        b"M: DO; DECLARE B BYTE; B = C +\nD; END M;",
+        Some((0, 1, Number::E301)),
+    ),
+    (b"M: DO; DECLARE DE$F BYTE; def = 1; END M;", None),
+    (
+        b"M: DO; DECLARE B BYTE; P: PROCEDURE; DECLARE C BYTE; B = C; END P; CALL P;\nC = 1; END M;",
+        Some((0, 2, Number::E301)),
+    ),
+    (
+        b"M: DO; P: PROCEDURE; CALL Q; END P; Q: PROCEDURE; CALL Q; END Q; ; END M;",
+        Some((0, 1, Number::E301)),
+    ),
+    (b"M: DO; P: PROCEDURE; CALL P; END P; ; END M;", None),
+    (
+        b"M: DO; P: PROCEDURE (A,\nB); DECLARE A BYTE; END P; ; END M;",
+        Some((0, 2, Number::E301)),
+    ),
+    (
+        b"M: DO; P: PROCEDURE (A); A:\nPROCEDURE; END A; END P; ; END M;",
+        Some((0, 1, Number::E301)),
+    ),
+    (
+        b"M: DO; DECLARE S STRUCTURE (X BYTE);\nS.X = 1; S.\nY = 2; END M;",
+        Some((0, 3, Number::E301)),
+    ),
+    (b"M: DO; DECLARE S BYTE; S.X = 1; END M;", None),
+    (
+        b"M: DO; DECLARE B BYTE INITIAL (.B); ; END M;",
+        Some((0, 1, Number::E305)),
+    ),
+    (b"M: DO; DECLARE W WORD INITIAL (.W); ; END M;", None),
+    (
+        b"M: DO; DECLARE W WORD INITIAL (.\nV); ; END M;",
+        Some((0, 2, Number::E301)),
+    ),
+    (
+        b"M: DO; DECLARE W WORD AT (.\nV); ; END M;",
+        Some((0, 2, Number::E301)),
+    ),
+    (
+        b"M: DO; DECLARE W WORD AT (.W); ; END M;",
+        Some((0, 1, Number::E301)),
+    ),
+    (
+        b"M: DO; DECLARE B BASED\nP BYTE; ; END M;",
+        Some((0, 2, Number::E301)),
+    ),
+    (
+        b"M: DO; DO I = 1 TO 2; END; END M;",
+        Some((0, 1, Number::E301)),
+    ),
+    (
+        b"M: DO; DECLARE A BYTE; DO; DECLARE B BYTE; A = B; END;\nA = B; END M;",
+        Some((0, 2, Number::E301)),
+    ),
+    (b"M: DO; IF A THEN ; END M;", Some((0, 1, Number::E301))),
+    (
+        b"M: DO; DECLARE A BYTE; A = LENGTH(A) + LAST(A); END M;",
+        None,
+    ),
+    (b"M: DO; DECLARE LENGTH BYTE; LENGTH = 1; END M;", None),
+    (
+        b"M: DO; X = @('TEXT', 0) = .(1, 2); END M;",
+        Some((0, 1, Number::E301)),
+    ),
+];
+
+#[test]
+fn undeclared_names(rt: HostRuntime) {
+    let alloc = rt.alloc();
+    for (text, wanted) in &UNDECLARED {
+        assert_eq!(rt; outcome(names_of(alloc, text)), *wanted, "in {text:?}");
+    }
+}
+
+static DECLARATIONS: [(&[u8], Outcome); 56] = [
+    (
+        b"M: DO; DECLARE A BYTE,\nA WORD; ; END M;",
+        Some((0, 2, Number::E302)),
+    ),
+    (
+        b"M: DO; DECLARE A BYTE; DO; DECLARE A WORD; A = 1; END; END M;",
+        None,
+    ),
+    (
+        b"M: DO; DECLARE A BYTE;\nA: PROCEDURE; END A; ; END M;",
+        Some((0, 2, Number::E302)),
+    ),
+    (
+        b"M: DO; P: PROCEDURE (A,\nA); DECLARE A BYTE; END P; ; END M;",
+        Some((0, 2, Number::E302)),
+    ),
+    (
+        b"M: DO; P: PROCEDURE (A); DECLARE A BYTE;\nDECLARE A BYTE; END P; ; END M;",
+        Some((0, 2, Number::E302)),
+    ),
+    (
+        b"M: DO; DECLARE S STRUCTURE (X BYTE,\nX WORD); ; END M;",
+        Some((0, 2, Number::E302)),
+    ),
+    (
+        b"M: DO; DECLARE S STRUCTURE ((X, Y) BYTE,\n$\nx WORD); ; END M;",
+        Some((0, 3, Number::E302)),
+    ),
+    (
+        b"M: DO; DECLARE S WORD AT (0B8F9EH); S = 0741H; END M;",
+        None,
+    ),
+    (
+        b"M: DO; DECLARE S WORD AT (0B8F9FH); S = 0741H; END M;",
+        Some((0, 1, Number::E303)),
+    ),
+    (
+        b"M: DO; DECLARE S BYTE AT (0B7FFFH); ; END M;",
+        Some((0, 1, Number::E303)),
+    ),
+    (
+        b"M: DO; DECLARE S BYTE AT (5); ; END M;",
+        Some((0, 1, Number::E303)),
+    ),
+    (b"M: DO; DECLARE S (4000) BYTE AT (0B8000H); ; END M;", None),
+    (
+        b"M: DO; DECLARE S (4001) BYTE AT (0B8000H); ; END M;",
+        Some((0, 1, Number::E303)),
+    ),
+    (
+        b"M: DO; DECLARE (A, B,\nC) (2000) BYTE AT (0B8000H); ; END M;",
+        Some((0, 2, Number::E303)),
+    ),
+    (
+        b"M: DO; DECLARE V (4) BYTE, W WORD AT (@V(2)); ; END M;",
+        None,
+    ),
+    (
+        b"M: DO; DECLARE V (4) BYTE, W WORD AT (.V(3)); ; END M;",
+        Some((0, 1, Number::E303)),
+    ),
+    (
+        b"M: DO; DECLARE V (4) BYTE, A BYTE AT (.V), W WORD AT (@A(2)); ; END M;",
+        None,
+    ),
+    (
+        b"M: DO; DECLARE V (4) BYTE, I BYTE, W WORD AT (.V(I)); ; END M;",
+        Some((0, 1, Number::E303)),
+    ),
+    (
+        b"M: DO; DECLARE P WORD, B BASED P BYTE, W BYTE AT (.B); ; END M;",
+        Some((0, 1, Number::E303)),
+    ),
+    (
+        b"M: DO; DECLARE X BYTE EXTERNAL, W BYTE AT (.X); ; END M;",
+        Some((0, 1, Number::E303)),
+    ),
+    (
+        b"M: DO; DECLARE X BYTE AT (0B8000H), W BYTE AT (.X); ; END M;",
+        Some((0, 1, Number::E303)),
+    ),
+    (
+        b"M: DO; DECLARE W BYTE AT (@('X')); ; END M;",
+        Some((0, 1, Number::E303)),
+    ),
+    (
+        b"M: DO; P: PROCEDURE; END P; DECLARE W BYTE AT (@P); ; END M;",
+        Some((0, 1, Number::E303)),
+    ),
+    (
+        b"M: DO; DECLARE S STRUCTURE (X BYTE, Y (3) WORD), A WORD AT (.S.Y(2)); ; END M;",
+        None,
+    ),
+    (
+        b"M: DO; DECLARE S STRUCTURE (X BYTE, Y (3) WORD), A WORD AT (.S.Y(3)); ; END M;",
+        Some((0, 1, Number::E303)),
+    ),
+    (
+        b"M: DO; DECLARE P BYTE, B BASED P BYTE; ; END M;",
+        Some((0, 1, Number::E304)),
+    ),
+    (b"M: DO; DECLARE (P, B BASED P) WORD; ; END M;", None),
+    (
+        b"M: DO; DECLARE P (2) WORD, B BASED P BYTE; ; END M;",
+        Some((0, 1, Number::E304)),
+    ),
+    (
+        b"M: DO; DECLARE P POINTER, B BASED P BYTE, C BASED B BYTE; ; END M;",
+        Some((0, 1, Number::E304)),
+    ),
+    (b"M: DO; DECLARE P ADDRESS, B BASED P BYTE; ; END M;", None),
+    (
+        b"M: DO; DECLARE P WORD,\nB BASED P BYTE PUBLIC; ; END M;",
+        Some((0, 2, Number::E304)),
+    ),
+    (
+        b"M: DO; DECLARE P WORD, B BASED P BYTE EXTERNAL; ; END M;",
+        Some((0, 1, Number::E304)),
+    ),
+    (
+        b"M: DO; DECLARE P WORD, B BASED P BYTE INITIAL (1); ; END M;",
+        Some((0, 1, Number::E304)),
+    ),
+    (
+        b"M: DO; P: PROCEDURE; END P; DECLARE B BASED P BYTE; ; END M;",
+        Some((0, 1, Number::E304)),
+    ),
+    (
+        b"M: DO; DECLARE B BASED LENGTH BYTE; ; END M;",
+        Some((0, 1, Number::E304)),
+    ),
+    (
+        b"M: DO; DECLARE A (0) BYTE; ; END M;",
+        Some((0, 1, Number::E305)),
+    ),
+    (
+        b"M: DO; DECLARE A (65536) BYTE; ; END M;",
+        Some((0, 1, Number::E305)),
+    ),
+    (
+        b"M: DO; DECLARE A (*) BYTE; ; END M;",
+        Some((0, 1, Number::E305)),
+    ),
+    (
+        b"M: DO; DECLARE (A, B) (*) BYTE INITIAL (1, 2); ; END M;",
+        Some((0, 1, Number::E305)),
+    ),
+    (
+        b"M: DO; DECLARE A (*) BYTE INITIAL ('TEXT', 0); ; END M;",
+        None,
+    ),
+    (
+        b"M: DO; DECLARE A BYTE INITIAL (256); ; END M;",
+        Some((0, 1, Number::E305)),
+    ),
+    (b"M: DO; DECLARE A BYTE INITIAL (-1); ; END M;", None),
+    (
+        b"M: DO; DECLARE A WORD INITIAL (65536); ; END M;",
+        Some((0, 1, Number::E305)),
+    ),
+    (b"M: DO; DECLARE A WORD INITIAL ('AB'); ; END M;", None),
+    (
+        b"M: DO; DECLARE A WORD INITIAL ('ABC'); ; END M;",
+        Some((0, 1, Number::E305)),
+    ),
+    (
+        b"M: DO; DECLARE A BYTE INITIAL ('AB'); ; END M;",
+        Some((0, 1, Number::E305)),
+    ),
+    (
+        b"M: DO; DECLARE A POINTER INITIAL (1); ; END M;",
+        Some((0, 1, Number::E305)),
+    ),
+    (b"M: DO; DECLARE A POINTER INITIAL (@A); ; END M;", None),
+    (
+        b"M: DO; DECLARE A POINTER INITIAL (.A); ; END M;",
+        Some((0, 1, Number::E305)),
+    ),
+    (
+        b"M: DO; DECLARE (A,\nB) BYTE INITIAL (1, 2, 3); ; END M;",
+        Some((0, 2, Number::E305)),
+    ),
+    (
+        b"M: DO; DECLARE (A,\nB) BYTE INITIAL (1, 300); ; END M;",
+        Some((0, 2, Number::E305)),
+    ),
+    (
+        b"M: DO; DECLARE A (1) BYTE INITIAL (1,\n.NOSUCH); ; END M;",
+        Some((0, 1, Number::E305)),
+    ),
+    (
+        b"M: DO; DECLARE A BYTE AT (0B8000H) INITIAL (1); ; END M;",
+        Some((0, 1, Number::E305)),
+    ),
+    (
+        b"M: DO; DECLARE S (2) STRUCTURE (X BYTE, Y WORD) INITIAL (1, 2, 3, 0405H); ; END M;",
+        None,
+    ),
+    (
+        b"M: DO; DECLARE S STRUCTURE (X BYTE, Y WORD) INITIAL ('AB'); ; END M;",
+        Some((0, 1, Number::E305)),
+    ),
+    (
+        b"M: DO; DECLARE P POINTER; P = @(1,\n256); P =\n@(256); END M;",
+        Some((0, 1, Number::E305)),
+    ),
+];
+
+#[test]
+fn faults_of_declarations(rt: HostRuntime) {
+    let alloc = rt.alloc();
+    for (text, wanted) in &DECLARATIONS {
+        assert_eq!(rt; outcome(names_of(alloc, text)), *wanted, "in {text:?}");
+    }
+}
+
+static PROGRAMS: [(&[u8], Outcome); 14] = [
+    (b"M: DO; END M;", Some((0, 1, Number::E308))),
+    (b"\nM: DO; END M;", Some((0, 1, Number::E308))),
+    (
+        b"M: DO; X: PROCEDURE EXTERNAL; END X; CALL X; END M;",
+        Some((0, 1, Number::E306)),
+    ),
+    (
+        b"M: DO;\nDECLARE X BYTE EXTERNAL; ; END M;",
+        Some((0, 2, Number::E306)),
+    ),
+    (
+        b"M: DO; DECLARE X BYTE PUBLIC; DO; DECLARE X BYTE EXTERNAL; X = 1; END; END M;",
+        None,
+    ),
+    (
+        b"M: DO;\nDECLARE X BYTE PUBLIC; DO;\nDECLARE X WORD EXTERNAL; X = 1; END; END M;",
+        Some((0, 2, Number::E306)),
+    ),
+    (
+        b"M: DO;\nDECLARE X BYTE PUBLIC; DO;\nDECLARE X BYTE PUBLIC; X = 1; END; END M;",
+        Some((0, 2, Number::E307)),
+    ),
+    (
+        b"M: DO; H: PROCEDURE INTERRUPT 8; END H;\nI: PROCEDURE INTERRUPT 8; END I; ; END M;",
+        Some((0, 2, Number::E309)),
+    ),
+    (b"M: DO; DECLARE A (61438) BYTE; ; END M;", None),
+    (
+        b"M: DO;\nDECLARE A (61439) BYTE; ; END M;",
+        Some((0, 1, Number::E310)),
+    ),
+    (
+        b"M: DO; DECLARE A (61437) BYTE; A(0) = @('X') = @('Y'); END M;",
+        Some((0, 1, Number::E310)),
+    ),
+    (
+        b"M: DO; DECLARE P WORD, A BASED P (65535) STRUCTURE (X (65535) WORD); ; END M;",
+        None,
+    ),
+    (
+        b"M: DO; X: PROCEDURE EXTERNAL; END X;\nDECLARE A (61439) BYTE; ; END M;",
+        Some((0, 1, Number::E310)),
+    ),
+    (
+        b"M: DO; X: PROCEDURE EXTERNAL; END X; CALL X;\nY = 1; END M;",
+        Some((0, 2, Number::E301)),
+    ),
+];
+
+static PAIRS: [(&[u8], &[u8], Outcome); 12] = [
+    (
+        b"A: DO; DECLARE X BYTE EXTERNAL; P: PROCEDURE EXTERNAL; END P; CALL P; OUTPUT(300H) = X; END A;",
+        b"B: DO; DECLARE X BYTE PUBLIC; P: PROCEDURE PUBLIC; X = 9; END P; END B;",
+        None,
+    ),
+    (
+        b"A: DO; ; END A;",
+        b"B: DO; ; END B;",
+        Some((0, 1, Number::E308)),
+    ),
+    (
+        b"A: DO; DECLARE X BYTE PUBLIC; ; END A;",
+        b"B: DO;\nDECLARE X (1) BYTE EXTERNAL; END B;",
+        Some((0, 1, Number::E306)),
+    ),
+    (
+        b"A: DO; ; END A;",
+        b"B: DO;\nDECLARE X (1) BYTE EXTERNAL; END B;",
+        Some((1, 2, Number::E306)),
+    ),
+    (
+        b"A: DO; DECLARE X WORD PUBLIC; ; END A;",
+        b"B: DO;\nDECLARE X ADDRESS EXTERNAL; END B;",
+        None,
+    ),
+    (
+        b"A: DO; DECLARE X STRUCTURE (A BYTE, B (2) WORD) PUBLIC; ; END A;",
+        b"B: DO;\nDECLARE X STRUCTURE (C BYTE, D (2) WORD) EXTERNAL; END B;",
+        None,
+    ),
+    (
+        b"A: DO; DECLARE X STRUCTURE (A BYTE, B (2) WORD) PUBLIC; ; END A;",
+        b"B: DO;\nDECLARE X STRUCTURE (C BYTE, D (3) WORD) EXTERNAL; END B;",
+        Some((0, 1, Number::E306)),
+    ),
+    (
+        b"A: DO; P: PROCEDURE (X) EXTERNAL; DECLARE X BYTE; END P; CALL P(1); END A;",
+        b"B: DO; P: PROCEDURE (Y) PUBLIC; DECLARE Y WORD; END P; END B;",
+        Some((0, 1, Number::E306)),
+    ),
+    (
+        b"A: DO; P: PROCEDURE (X) BYTE EXTERNAL; DECLARE X BYTE; END P; ; END A;",
+        b"B: DO; P: PROCEDURE (Y) BYTE PUBLIC; DECLARE Y BYTE; RETURN Y; END P; END B;",
+        None,
+    ),
+    (
+        b"A: DO; P: PROCEDURE (X) EXTERNAL; DECLARE X BYTE PUBLIC; END P; CALL P(1); END A;",
+        b"B: DO;\nDECLARE X BYTE EXTERNAL; P: PROCEDURE (Y) PUBLIC; DECLARE Y BYTE; X = Y; END P; END B;",
+        Some((1, 2, Number::E306)),
+    ),
+    (
+        b"A: DO; X = 1; END A;",
+        b"B: DO; Y = 1; END B;",
+        Some((0, 1, Number::E301)),
+    ),
+    (
+        b"A: DO; DECLARE X BYTE EXTERNAL; ; END A;",
+        b"B: DO;\nY: PROCEDURE; Z = 1; END Y; END B;",
+        Some((1, 2, Number::E301)),
+    ),
+];
+
+#[test]
+fn faults_of_programs(rt: HostRuntime) {
+    let alloc = rt.alloc();
+    for (text, wanted) in &PROGRAMS {
+        assert_eq!(rt; outcome(names_of(alloc, text)), *wanted, "in {text:?}");
+    }
+    for (first, second, wanted) in &PAIRS {
+        assert_eq!(rt;
+            outcome(names_of_two(alloc, first, second)),
+            *wanted,
+            "in {first:?} {second:?}"
+        );
+    }
+}
+
+/// Whether the objects in RAM are these: each has a path and a number of bytes.
+fn has_objects(names: &Names, wanted: &[(&[u8], u64)]) -> bool {
+    if names.objects.len() != wanted.len() {
+        return false;
+    }
+    for (object, (path, size)) in names.objects.iter().zip(wanted) {
+        if object.path.as_slice() != *path || object.size != *size {
+            return false;
+        }
+    }
+    true
+}
+
+static OBJECTS: [(&[u8], u64); 11] = [
+    (b"M.W", 2),
+    (b"M.P", 2),
+    (b"M.#S1", 2),
+    (b"M.A", 3),
+    (b"M.B1", 3),
+    (b"M.Q.Y", 1),
+    (b"M.Q.X", 2),
+    (b"M.Q.#1.Z", 1),
+    (b"M.Q.L.V", 2),
+    (b"M.Q.L.#S2", 1),
+    (b"M.#2.E.J", 1),
+];
+
+#[test]
+fn objects_in_order_of_declaration(rt: HostRuntime) -> Result<(), Fail> {
+    let alloc = rt.alloc();
+    let text =
+        b"M: DO; DECLARE W WORD, S BYTE AT (0B8000H), P POINTER INITIAL (@('AB')), (A, b$1) (3) BYTE;
+        Q: PROCEDURE (X, Y); DECLARE Y BYTE, X WORD; DO; DECLARE Z BYTE; END; L: DO; DECLARE V WORD; V = .(1); END; END Q;
+        E: PROCEDURE (I) EXTERNAL; DECLARE I BYTE; END E; DO; E: PROCEDURE (J) PUBLIC; DECLARE J BYTE; END E; END; END M;";
+    let names = names_of(alloc, text)?;
+    assert!(rt; has_objects(&names, &OBJECTS));
+    Ok(())
+}
+
+#[test]
+fn placements(rt: HostRuntime) -> Result<(), Fail> {
+    let alloc = rt.alloc();
+    let names = names_of(alloc, b"M: DO; DECLARE (A, B) WORD; ; END M;")?;
+    let rows: [([u16; 2], bool); 6] = [
+        ([2, 4], true),
+        ([0xEFFE, 2], true),
+        ([2, 3], false),
+        ([4, 4], false),
+        ([1, 4], false),
+        ([2, 0xEFFF], false),
+    ];
+    for (offsets, wanted) in rows {
+        let placement = Placement::of(Vec::from_slice(alloc, &offsets)?);
+        assert_eq!(rt; placement.fits(&names), wanted, "at {offsets:?}");
+        assert_eq!(rt; placement.offsets(), offsets.as_slice());
+    }
+    Ok(())
+}
