@@ -16,3 +16,5 @@ pub mod RangesElements
 pub mod RangesFills
 pub mod RangesStatements
 pub mod RangesJoins
+pub mod Chains
+pub mod InRange

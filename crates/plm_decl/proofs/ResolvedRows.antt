@@ -1,13 +1,14 @@
 -- The lists of resolved trees: joined from their rows, and grown by a push.
 use Rattle.std.proofs.Common.{◌≡◌, List, [], ◌∷◌, ◌++◌, refl, ap, ◌∙◌}
 use Rattle.std.specs.Global.{Vec}
-use Rattle.plm_decl.specs.declared.resolved.Expression.{Expression, Row_of-Expression, end_of-Expression, more_of-Expression, items-the_row-Expression, items_hidden-the_row-Expression-0}
-use Rattle.plm_decl.specs.declared.resolved.Expression.TheBlock.{hidden-the_row-Expression-0}
+use Rattle.plm_decl.specs.declared.resolved.Expression.{Expression, Row_of-Expression, end_of-Expression, more_of-Expression, items-the_row-Expression, items_hidden-the_row-Expression-0, Row_of-Operation, end_of-Operation, more_of-Operation, items-the_row-Operation, items_hidden-the_row-Operation-1}
+use Rattle.plm_decl.specs.declared.resolved.Expression.TheBlock.{hidden-the_row-Expression-0, hidden-the_row-Operation-1}
+use Rattle.plm_decl.specs.declared.resolved.Operation.{Operation}
 use Rattle.plm_decl.specs.declared.resolved.Reference.{Reference}
 use Rattle.plm_decl.specs.declared.resolved.Statement.{Statement, Row_of-Statement, end_of-Statement, more_of-Statement, items-the_row-Statement, items_hidden-the_row-Statement-0}
 use Rattle.plm_decl.specs.declared.resolved.Statement.TheBlock.{hidden-the_row-Statement-0}
-use Rattle.plm_decl.specs.Resolved.{expressions, references, statements, and_expression, and_reference, and_statement}
-use Rattle.plm_decl.specs.ResolvedView.{expression_of, expressions_in, expressions_of, reference_of, references_of, statement_of, statements_in, statements_of}
+use Rattle.plm_decl.specs.Resolved.{ExpressionR, BinaryR, expressions, references, statements, and_expression, and_reference, and_statement}
+use Rattle.plm_decl.specs.ResolvedView.{expression_of, leaned_in, leaned, expressions_in, expressions_of, reference_of, references_of, statement_of, statements_in, statements_of}
 
 expression_rows : {m : _} (row : Row_of-Expression m) → expressions_in row ≡ expressions_of (items-the_row-Expression m row)
 expression_rows end_of-Expression = refl
@@ -15,6 +16,17 @@ expression_rows (more_of-Expression e es) = ap (expressions (expression_of e)) (
 
 pub expression_row : (v : Vec Expression) → expressions_in (hidden-the_row-Expression-0 v) ≡ expressions_of v.items
 expression_row v = expression_rows (hidden-the_row-Expression-0 v) ∙ ap expressions_of (items_hidden-the_row-Expression-0 v)
+
+operation_rows : {m : _} (left : ExpressionR) (row : Row_of-Operation m) → leaned_in left row ≡ leaned left (items-the_row-Operation m row)
+operation_rows left end_of-Operation = refl
+operation_rows left (more_of-Operation p o e os) = operation_rows (BinaryR p o left (expression_of e)) os
+
+pub operation_row : (left : ExpressionR) (v : Vec Operation) → leaned_in left (hidden-the_row-Operation-1 v) ≡ leaned left v.items
+operation_row left v = operation_rows left (hidden-the_row-Operation-1 v) ∙ ap (leaned left) (items_hidden-the_row-Operation-1 v)
+
+pub operation_pushed : (left : ExpressionR) (os : List Operation) (x : Operation) → leaned left (os ++ x ∷ []) ≡ BinaryR x.place x.operator (leaned left os) (expression_of x.operand)
+operation_pushed left [] x = refl
+operation_pushed left (o ∷ os) x = operation_pushed (BinaryR o.place o.operator left (expression_of o.operand)) os x
 
 pub expression_pushed : (es : List Expression) (e : Expression) → expressions_of (es ++ e ∷ []) ≡ and_expression (expressions_of es) (expression_of e)
 expression_pushed [] e = refl

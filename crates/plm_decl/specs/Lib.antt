@@ -10,6 +10,7 @@ pub mod Uses
 pub mod Values
 pub mod Lists
 pub mod Expressions
+pub mod ExpressionsView
 pub mod Shapes
 pub mod Elements
 pub mod Fills

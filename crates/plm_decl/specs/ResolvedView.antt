@@ -1,8 +1,9 @@
 -- The Rust trees of resolved statements as plain ones.
 use Rattle.std.specs.Prelude.{List, [], ◌∷◌, Option, Some, None}
 use Rattle.plm_syntax.specs.View.{number_of}
-use Rattle.plm_decl.specs.declared.resolved.Expression.{Expression, Row_of-Expression, end_of-Expression, more_of-Expression}
+use Rattle.plm_decl.specs.declared.resolved.Expression.{Expression, Row_of-Expression, end_of-Expression, more_of-Expression, Row_of-Operation, end_of-Operation, more_of-Operation}
 use Rattle.plm_decl.specs.declared.resolved.Expression.TheVariants as expression
+use Rattle.plm_decl.specs.declared.resolved.Operation.{Operation}
 use Rattle.plm_decl.specs.declared.resolved.Reference.{Reference}
 use Rattle.plm_decl.specs.declared.resolved.Selector.{Selector}
 use Rattle.plm_decl.specs.declared.resolved.Selector.TheVariants as selector
@@ -21,7 +22,7 @@ abbrev mutual
   expression_of (expression.Parenthesised' p q e) = ParenthesisedR p (expression_of e)
   expression_of (expression.Embedded' p r m shape es s q e) = EmbeddedR p (Use r m (expressions_in es) (selector_of s)) (expression_of e)
   expression_of (expression.Unary' p o q e) = UnaryR p o (expression_of e)
-  expression_of (expression.Binary' r o p a q b) = BinaryR r o (expression_of a) (expression_of b)
+  expression_of (expression.Chain' q e shape os) = leaned_in (expression_of e) os
 
   pub selector_of : Selector → SelectorR
   selector_of selector.None = no_member
@@ -35,6 +36,15 @@ abbrev mutual
   pub expressions_in : {m : _} → Row_of-Expression m → ExpressionsR
   expressions_in end_of-Expression = no_expressions
   expressions_in (more_of-Expression e es) = expressions (expression_of e) (expressions_in es)
+
+  pub leaned_in : {m : _} → ExpressionR → Row_of-Operation m → ExpressionR
+  leaned_in left end_of-Operation = left
+  leaned_in left (more_of-Operation p o e os) = leaned_in (BinaryR p o left (expression_of e)) os
+
+-- operators from left to right, behind what stands to their left
+abbrev pub leaned : ExpressionR → List Operation → ExpressionR
+leaned left [] = left
+leaned left (x ∷ xs) = leaned (BinaryR x.place x.operator left (expression_of x.operand)) xs
 
 abbrev pub expressions_of : List Expression → ExpressionsR
 expressions_of [] = no_expressions

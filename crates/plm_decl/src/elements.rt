@@ -146,12 +146,18 @@ fn traits_with(shape: Shape, attributes: &Attributes<'_>) -> Traits
     }
 }
 
-/// A subscript that is a number.
+/// A subscript that is a number. A chain without operators is what it begins with.
+#[tactic(auto, using(crate::proofs::Chains::chain_number))]
 fn number(e: &Expression) -> Option<u64>
     ensures { result ≡ spec.number_in (view.expression_of e.now) }
 {
     match e {
         Expression::Number(number) => Some(u64::from(number.value)),
+        Expression::Chain { first, others } => if others.is_empty() {
+            number(first)
+        } else {
+            None
+        },
         _ => None,
     }
 }

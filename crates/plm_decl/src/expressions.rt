@@ -6,11 +6,13 @@ ghost use Rattle.plm_syntax.specs.View as tree;
 ghost use Rattle.plm_decl.specs.Scopes.{levels_of};
 ghost use Rattle.plm_decl.specs.Layouts.{structure_of};
 ghost use Rattle.plm_decl.specs.Known.{known_of};
+ghost use Rattle.plm_decl.specs.Resolved.{ExpressionR};
 ghost use Rattle.plm_decl.specs.ResolvedView as view;
 ghost use Rattle.plm_decl.specs.Expressions as spec;
+ghost use Rattle.plm_decl.specs.ExpressionsView.{chained};
 
 use crate::layout::{Form, Member, Structure};
-use crate::resolved::{Expression, Location, Meaning, Reference, Selector};
+use crate::resolved::{Expression, Location, Meaning, Operation, Reference, Selector};
 use crate::resolver::Resolver;
 use crate::scope::Scope;
 use crate::spelling::normal;
@@ -82,17 +84,37 @@ impl Resolver {
                 let operand = self.expression(operand, scope)?;
                 Ok(Expression::Unary(*place, *operator, Box::new(self.alloc, operand)?))
             }
-            plm_syntax::Expression::Binary(place, operator, left, right) => {
-                let left = self.expression(left, scope)?;
-                let right = self.expression(right, scope)?;
-                Ok(Expression::Binary(
-                    *place,
-                    *operator,
-                    Box::new(self.alloc, left)?,
-                    Box::new(self.alloc, right)?,
-                ))
+            plm_syntax::Expression::Chain { first, others } => {
+                let first = self.expression(first, scope)?;
+                let others = self.operations(others, scope)?;
+                Ok(Expression::Chain {
+                    first: Box::new(self.alloc, first)?,
+                    others,
+                })
             }
         }
+    }
+
+    /// Operators of one level, whatever stands to their left.
+    #[cycle(expression)]
+    fn operations(
+        &mut self,
+        operations: &[plm_syntax::Operation<'_>],
+        scope: &Scope<'_>,
+    ) -> Result<Vec<Operation>, AllocError>
+        ensures value { IfOk result (λ r. (left : ExpressionR) → view.leaned left r.items ≡ (chained (levels_of scope.now) left operations.now (known_of self.old)).0) }
+        ensures known { OnOk result ((left : ExpressionR) → known_of self.new ≡ (chained (levels_of scope.now) left operations.now (known_of self.old)).1) }
+    {
+        let mut resolved = Vec::new(self.alloc);
+        for operation in operations {
+            let operand = self.expression(&operation.operand, scope)?;
+            resolved.push(Operation {
+                place: operation.place,
+                operator: operation.operator,
+                operand,
+            })?;
+        }
+        Ok(resolved)
     }
 
     #[cycle(expression)]

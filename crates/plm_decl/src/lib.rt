@@ -32,4 +32,4 @@ pub use names::{
     Datum, DeclaredLocation, Item, Main, Names, Object, Procedure, Region, ScreenName, Variable,
 };
 pub use placement::Placement;
-pub use resolved::{Expression, Location, Meaning, Reference, Selector, Statement};
+pub use resolved::{Expression, Location, Meaning, Operation, Reference, Selector, Statement};

@@ -33,8 +33,20 @@ pub enum Expression {
     /// `( x := e )`, with the place of the parenthesis.
     Embedded(Place, Reference, Box<Expression>),
     Unary(Place, UnaryOperator, Box<Expression>),
-    /// `a o b`, with the place of the operator.
-    Binary(Place, BinaryOperator, Box<Expression>, Box<Expression>),
+    /// `a + b - c`: operators of one level from left to right. They lean left, as `(a + b) - c` does.
+    Chain {
+        first: Box<Expression>,
+        others: Vec<Operation>,
+    },
+}
+
+/// An operator between operands, where it stands, and its right operand.
+#[derive(Drop)]
+#[cycle(resolved)]
+pub struct Operation {
+    pub place: Place,
+    pub operator: BinaryOperator,
+    pub operand: Expression,
 }
 
 /// A name that is used, with its subscripts or arguments, none where it has no parentheses, and its member.

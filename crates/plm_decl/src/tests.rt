@@ -5,7 +5,7 @@ use crate::names::Names;
 use crate::placement::Placement;
 use plm_syntax::parse;
 use plm_token::scan;
-use std::alloc::Global;
+use std::alloc::{AllocError, Global};
 use std::process::Abort;
 use std::test::Fail;
 use word86::{Fault, Number};
@@ -521,5 +521,23 @@ fn placements(rt: HostRuntime) -> Result<(), Fail> {
         assert_eq!(rt; placement.fits(&names), wanted, "at {offsets:?}");
         assert_eq!(rt; placement.offsets(), offsets.as_slice());
     }
+    Ok(())
+}
+
+/// A text with a sum of so many ones.
+fn long_sum(alloc: Global, operands: usize) -> Result<Vec<u8>, AllocError> {
+    let mut text = Vec::from_slice(alloc, b"M: DO; DECLARE A BYTE; A = 1")?;
+    for _ in 1..operands {
+        text.extend_from_slice(b"+1")?;
+    }
+    text.extend_from_slice(b"; END M;")?;
+    Ok(text)
+}
+
+#[test]
+fn long_sums(rt: HostRuntime) -> Result<(), Fail> {
+    let alloc = rt.alloc();
+    let text = long_sum(alloc, 30_000)?;
+    assert_eq!(rt; outcome(names_of(alloc, &text)), None);
     Ok(())
 }

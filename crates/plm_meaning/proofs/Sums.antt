@@ -1,5 +1,5 @@
 -- Statements and objects with one more, and statements as they are met.
-use Rattle.std.proofs.Common.{◌≡◌, ℕ, ◌+◌, ◌<◌, List, [], ◌∷◌, ◌++◌, map, refl, ap, sym, cond, ◌∙◌, arith}
+use Rattle.std.proofs.Common.{◌≡◌, ℕ, ◌+◌, ◌<◌, List, [], ◌∷◌, ◌++◌, map, refl, ap, sym, ◌∙◌, arith}
 use Rattle.std.specs.Prelude.{length, drop, sum_by}
 use Rattle.std.proofs.lemmas.List.{at_drop_more, append_assoc, map-append}
 use Rattle.std.proofs.lemmas.List.Elements.{All-push}
@@ -11,11 +11,7 @@ use Rattle.plm_meaning.specs.Known.{StatementIn, StatementsIn}
 use Rattle.plm_meaning.specs.Rest.{Then}
 use Rattle.plm_meaning.specs.Programs.{statement_of, statements_of}
 use Rattle.plm_meaning.specs.declared.program.Statement.{Statement}
-use Rattle.plm_meaning.specs.Forms.{IsNoSum}
-use Rattle.plm_meaning.specs.Reading.{all_of, fault_at, first_place, refused_sum, refused_operand, sum_meant, operand_meant}
-use Rattle.plm_syntax.specs.Terminal.{NameT}
-use Rattle.plm_syntax.specs.Tree.{ExpressionT, NumberE, TextE, ReferenceE, LocationE, ParenthesisedE, EmbeddedE, UnaryE, BinaryE}
-use Rattle.word86.specs.declared.number.Number.TheVariants.{E401}
+use Rattle.plm_meaning.specs.Reading.{all_of}
 
 pub statements_pushed : (count : ℕ) (ss : List Statement) (s : Statement) → StatementsIn count ss → StatementIn count s → StatementsIn count (ss ++ s ∷ [])
 statements_pushed count ss s all one = All-push (StatementIn count) ss s all one
@@ -44,27 +40,3 @@ object_pushed names i done o all one below so_far =
 
 pub bytes_pushed : (done : List Object) (o : Object) (n : ℕ) → o.size ≡ 1 → sum_by (λ x. x.size) done ≡ n → sum_by (λ x. x.size) (done ++ o ∷ []) ≡ n + 1
 bytes_pushed done o n one so_far = sum_by-append (λ x. x.size) done (o ∷ []) ∙ ap (λ z. z + (0 + o.size)) so_far ∙ ap (λ z. n + (0 + z)) one
-
--- what is no sum is its own leftmost operand
-pub no_sum_refused : (k : ℕ) (scalars : List NameT) (e : ExpressionT) → IsNoSum e → refused_sum k scalars e ≡ refused_operand k scalars e
-no_sum_refused k scalars (NumberE n) none = refl
-no_sum_refused k scalars (TextE t) none = refl
-no_sum_refused k scalars (ReferenceE r) none = refl
-no_sum_refused k scalars (LocationE l) none = refl
-no_sum_refused k scalars (ParenthesisedE p e) none = refl
-no_sum_refused k scalars (EmbeddedE p r e) none = refl
-no_sum_refused k scalars (UnaryE p o e) none = refl
-no_sum_refused k scalars (BinaryE p o a b) none = ap (λ z. cond z (refused_sum k scalars a ++ refused_operand k scalars b) (fault_at k E401 (first_place a))) none
-
-not_both : {P : Type 0} (n : ℕ) → n ≡ 1 → n ≡ 0 → P
-not_both n one none = absurd (omega arith)
-
-pub no_sum_meant : (k : ℕ) (scalars : List NameT) (e : ExpressionT) → IsNoSum e → refused_operand k scalars e ≡ [] → sum_meant scalars e ≡ operand_meant scalars e
-no_sum_meant k scalars (NumberE n) none fine = refl
-no_sum_meant k scalars (TextE t) none fine = refl
-no_sum_meant k scalars (ReferenceE r) none fine = refl
-no_sum_meant k scalars (LocationE l) none fine = refl
-no_sum_meant k scalars (ParenthesisedE p e) none fine = refl
-no_sum_meant k scalars (EmbeddedE p r e) none fine = refl
-no_sum_meant k scalars (UnaryE p o e) none fine = refl
-no_sum_meant k scalars (BinaryE p o a b) none fine = not_both (length (fault_at k E401 (first_place a))) refl (ap length fine)

@@ -1,8 +1,7 @@
 -- The forms of references and targets, as the code has them.
-use Rattle.std.specs.Prelude.{◌≡◌, ℕ, ◌<◌, false}
+use Rattle.std.specs.Prelude.{ℕ, ◌<◌}
 use Rattle.word86.specs.declared.width.Width.TheVariants as widths
 use Rattle.word86.specs.Access.{In}
-use Rattle.plm_syntax.specs.Tree.{ExpressionT, BinaryE}
 use Rattle.plm_syntax.specs.View.{expression_of}
 use Rattle.plm_meaning.specs.Rest as rest
 use Rattle.plm_meaning.specs.declared.reading.forms.Shape.{Shape}
@@ -10,16 +9,6 @@ use Rattle.plm_meaning.specs.declared.reading.forms.Shape.TheVariants as shapes
 use Rattle.plm_meaning.specs.declared.reading.forms.Target.{Target}
 use Rattle.plm_meaning.specs.declared.reading.forms.Target.TheVariants as targets
 use Rattle.plm_meaning.specs.Reading as reading
-
--- an expression with no operator between operands at its top
-abbrev pub HasNoLeft : ExpressionT → Type 0
-HasNoLeft (BinaryE p o a b) = ⊥
-HasNoLeft e = Unit {0}
-
--- an expression that is no sum
-abbrev pub IsNoSum : ExpressionT → Type 0
-IsNoSum (BinaryE p o a b) = reading.is_plus o ≡ false
-IsNoSum e = Unit {0}
 
 abbrev pub shape_view : Shape → reading.Shape
 shape_view shapes.Bare = reading.Bare

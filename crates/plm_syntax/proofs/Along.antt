@@ -149,6 +149,11 @@ pub failed : {A : Type 0} (part : A → List Value → List Value) (s : List Sym
 failed part s v (Ok y) f q e h = absurd q
 failed part s v (Err g) f {r} {r'} q e h = subst (λ (k : Failure). Fails k r) (sym q) (subst (Fails f) (sym e) h)
 
+-- where memory runs out nothing is promised
+pub out_of_memory : {A : Type 0} (part : A → List Value → List Value) (s : List Symbol) (v : List Value) (x : Result (A × Cursor) Failure) (r : Result Reading Stop) → IsErrAnd x (λ e. e ≡ failure.Memory) → Arrives part s v x r
+out_of_memory part s v (Ok y) r q = absurd q
+out_of_memory part s v (Err f) r q = subst (λ (k : Failure). Fails k r) (sym q) tt
+
 pub refusal : (f : Failure) (c : Cursor) {r : Result Reading Stop} → f ≡ failure.Refused (length c.tokens.now) → r ≡ Err (Refusal (length c.tokens.now)) → Fails f r
 refusal f c {r} q e = subst (λ (k : Failure). Fails k r) (sym q) e
 

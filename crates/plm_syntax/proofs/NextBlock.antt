@@ -11,7 +11,6 @@ use Rattle.plm_syntax.specs.Symbol.{Value, Symbol, depth, Rule, behind, otherwis
 use Rattle.plm_syntax.specs.Machine.{an_expression, subscripts_rule, selector_rule, make_simple, add_label, add_target, make_assign, make_call, make_return, join_arms, make_if, make_do, make_while, make_case, set_step, statement_rule, more_targets, assignment_rule, target, called, no_labels, no_statement_yet, arm, do_rule, end_rule, and_more, make_declare, set_returned, set_linkage, make_module, scalar_of, interrupt_number, items_rule, module_rule, start_rule, Move, feed, Trace, trace, Stop, Reading, run, start, Ended, Wrong, Then, Deep}
 use Rattle.plm_syntax.specs.declared.cursor.Cursor.{Cursor}
 use Rattle.plm_syntax.specs.declared.failure.Failure.{Failure}
-use Rattle.plm_syntax.specs.declared.failure.Failure.TheVariants as failure
 use Rattle.plm_syntax.specs.declared.tree.Item.{Item}
 use Rattle.plm_syntax.specs.declared.tree.Module.{Module}
 use Rattle.plm_token.specs.declared.token.Kind.{Kind}
@@ -20,7 +19,7 @@ use Rattle.plm_syntax.specs.Answers.{terminal_of}
 use Rattle.plm_token.specs.declared.token.Token.{Token}
 use Rattle.std.specs.Prelude.{◌&&◌, IsErrAnd}
 use Rattle.std.proofs.lemmas.Bool.{ltb-true, ltb-false, true≢false, false≢true}
-use Rattle.plm_syntax.specs.Parsed.{ahead, next_of, first_of, stream, place_at, is_name, is_number, Takes, Fails, Arrives}
+use Rattle.plm_syntax.specs.Parsed.{ahead, next_of, first_of, stream, place_at, is_name, is_number, Takes, Fails}
 use Rattle.plm_syntax.specs.Blocks.{items_part, statements_part, LeadsItem, WithinItem, Parses, begins, begins_second, is_label, is_heading, begins_statement, Labels}
 use Rattle.plm_syntax.specs.declared.tree.Name.{Name as NameTree}
 use Rattle.plm_syntax.proofs.Steps.{go, trace_step, same_trace, ruled, feed_want, IsDecided, ruled_behind, ruled_otherwise}
@@ -405,11 +404,6 @@ failed_item (Err g) f q c room h = λ l is s v d. subst (λ (k : Failure). Fails
 pub failed_module : (x : Result Module Failure) (f : Failure) → IsErrAnd x (λ e. e ≡ f) → (c : Cursor) → Fails f (run 64 start [] (ahead c)) → Parses c x
 failed_module (Ok m) f q c h = absurd q
 failed_module (Err g) f q c h = subst (λ (k : Failure). Fails k (run 64 start [] (ahead c))) (sym q) h
-
--- where memory runs out nothing is promised
-pub out_of_memory : {A : Type 0} (part : A → List Value → List Value) (s : List Symbol) (v : List Value) (x : Result (A × Cursor) Failure) (r : Result Reading Stop) → IsErrAnd x (λ e. e ≡ failure.Memory) → Arrives part s v x r
-out_of_memory part s v (Ok y) r q = absurd q
-out_of_memory part s v (Err f) r q = subst (λ (k : Failure). Fails k r) (sym q) tt
 
 no_finish : (k : Kind) (text : List ℕ) (p : Place) → is_finish (terminal_of k text p) ≡ false
 no_finish (Reserved w) text p = refl

@@ -1,11 +1,14 @@
 -- The trees of a `Vec`: joined from its row, and grown by a push.
-use Rattle.std.proofs.Common.{◌≡◌, List, [], ◌∷◌, ◌++◌, refl, ap, ◌∙◌}
+use Rattle.std.proofs.Common.{◌≡◌, ℕ, ◌+◌, ◌<◌, List, [], ◌∷◌, ◌++◌, length, get_or, take, refl, ap, ◌∙◌}
+use Rattle.std.proofs.Math.Numerals.{add-one}
+use Rattle.std.proofs.Math.Seq.{take-suc}
 use Rattle.std.specs.Global.{Vec}
 use Rattle.plm_syntax.specs.declared.tree.Name.{Name}
-use Rattle.plm_syntax.specs.declared.tree.Expression.{Expression, Row_of-Expression, end_of-Expression, more_of-Expression, items-the_row-Expression, items_hidden-the_row-Expression-0}
-use Rattle.plm_syntax.specs.declared.tree.Expression.TheBlock.{hidden-the_row-Expression-0, hidden-the_row-Value-1}
+use Rattle.plm_syntax.specs.declared.tree.Expression.{Expression, Row_of-Expression, end_of-Expression, more_of-Expression, items-the_row-Expression, items_hidden-the_row-Expression-0, Row_of-Operation, end_of-Operation, more_of-Operation, items-the_row-Operation, items_hidden-the_row-Operation-1}
+use Rattle.plm_syntax.specs.declared.tree.Expression.TheBlock.{hidden-the_row-Expression-0, hidden-the_row-Operation-1, hidden-the_row-Value-2}
+use Rattle.plm_syntax.specs.declared.tree.Operation.{Operation}
 use Rattle.plm_syntax.specs.declared.tree.Value.{Value}
-use Rattle.plm_syntax.specs.declared.tree.Location.{Row_of-Value, end_of-Value, more_of-Value, items-the_row-Value, items_hidden-the_row-Value-1}
+use Rattle.plm_syntax.specs.declared.tree.Location.{Row_of-Value, end_of-Value, more_of-Value, items-the_row-Value, items_hidden-the_row-Value-2}
 use Rattle.plm_syntax.specs.declared.tree.Reference.{Reference}
 use Rattle.plm_syntax.specs.declared.tree.Variable.{Variable}
 use Rattle.plm_syntax.specs.declared.tree.Member.{Member}
@@ -15,8 +18,8 @@ use Rattle.plm_syntax.specs.declared.tree.Item.{Item}
 use Rattle.plm_syntax.specs.declared.tree.Block.{Row_of-Item, end_of-Item, more_of-Item, items-the_row-Item, items_hidden-the_row-Item-1}
 use Rattle.plm_syntax.specs.declared.tree.Basic.{Row_of-Statement, end_of-Statement, more_of-Statement, items-the_row-Statement, items_hidden-the_row-Statement-0}
 use Rattle.plm_syntax.specs.declared.tree.Basic.TheBlock.{hidden-the_row-Item-1, hidden-the_row-Statement-0}
-use Rattle.plm_syntax.specs.Tree.{VariablesT, variables, MembersT, members, ElementsT, elements, StatementsT, no_statements, statements, ItemsT, no_items, items, ExpressionsT, no_expressions, expressions, ValuesT, no_values, values, NamesT, names, ReferencesT, references}
-use Rattle.plm_syntax.specs.View.{name_of, expression_of, expressions_in, expressions_from, expressions_of, value_of, values_in, values_from, values_of, names_from, reference_of, references_from, variable_of, variables_from, member_of, members_from, element_of, elements_from, statement_of, statements_in, statements_from, statements_of, item_of, items_in, items_from, items_of}
+use Rattle.plm_syntax.specs.Tree.{ExpressionT, BinaryE, VariablesT, variables, MembersT, members, ElementsT, elements, StatementsT, no_statements, statements, ItemsT, no_items, items, ExpressionsT, no_expressions, expressions, ValuesT, no_values, values, NamesT, names, ReferencesT, references}
+use Rattle.plm_syntax.specs.View.{name_of, expression_of, leaned_in, leaned, expressions_in, expressions_from, expressions_of, value_of, values_in, values_from, values_of, names_from, reference_of, references_from, variable_of, variables_from, member_of, members_from, element_of, elements_from, statement_of, statements_in, statements_from, statements_of, item_of, items_in, items_from, items_of}
 
 pub expression_rows : {m : _} (row : Row_of-Expression m) (before : ExpressionsT) → expressions_in row before ≡ expressions_from (items-the_row-Expression m row) before
 expression_rows end_of-Expression before = refl
@@ -25,16 +28,32 @@ expression_rows (more_of-Expression e es) before = expression_rows es (expressio
 pub expression_row : (v : Vec Expression) → expressions_in (hidden-the_row-Expression-0 v) no_expressions ≡ expressions_of v.items
 expression_row v = expression_rows (hidden-the_row-Expression-0 v) no_expressions ∙ ap (λ (es : List Expression). expressions_from es no_expressions) (items_hidden-the_row-Expression-0 v)
 
+pub operation_rows : {m : _} (left : ExpressionT) (row : Row_of-Operation m) → leaned_in left row ≡ leaned left (items-the_row-Operation m row)
+operation_rows left end_of-Operation = refl
+operation_rows left (more_of-Operation p o e os) = operation_rows (BinaryE p o left (expression_of e)) os
+
+pub operation_row : (left : ExpressionT) (v : Vec Operation) → leaned_in left (hidden-the_row-Operation-1 v) ≡ leaned left v.items
+operation_row left v = operation_rows left (hidden-the_row-Operation-1 v) ∙ ap (leaned left) (items_hidden-the_row-Operation-1 v)
+
 pub value_rows : {m : _} (row : Row_of-Value m) (before : ValuesT) → values_in row before ≡ values_from (items-the_row-Value m row) before
 value_rows end_of-Value before = refl
 value_rows (more_of-Value v vs) before = value_rows vs (values before (value_of v))
 
-pub value_row : (v : Vec Value) → values_in (hidden-the_row-Value-1 v) no_values ≡ values_of v.items
-value_row v = value_rows (hidden-the_row-Value-1 v) no_values ∙ ap (λ (vs : List Value). values_from vs no_values) (items_hidden-the_row-Value-1 v)
+pub value_row : (v : Vec Value) → values_in (hidden-the_row-Value-2 v) no_values ≡ values_of v.items
+value_row v = value_rows (hidden-the_row-Value-2 v) no_values ∙ ap (λ (vs : List Value). values_from vs no_values) (items_hidden-the_row-Value-2 v)
 
 pub expression_pushed : (es : List Expression) (e : Expression) (before : ExpressionsT) → expressions_from (es ++ e ∷ []) before ≡ expressions (expressions_from es before) (expression_of e)
 expression_pushed [] e before = refl
 expression_pushed (d ∷ es) e before = expression_pushed es e (expressions before (expression_of d))
+
+pub operation_pushed : (left : ExpressionT) (os : List Operation) (x : Operation) → leaned left (os ++ x ∷ []) ≡ BinaryE x.place x.operator (leaned left os) (expression_of x.operand)
+operation_pushed left [] x = refl
+operation_pushed left (o ∷ os) x = operation_pushed (BinaryE o.place o.operator left (expression_of o.operand)) os x
+
+-- one operation more: an invariant of a loop over a chain's operations
+pub leaned_more : (left : ExpressionT) (os : List Operation) (k : ℕ) (d : Operation) → k < length os
+    → leaned left (take (k + 1) os) ≡ BinaryE (get_or os k d).place (get_or os k d).operator (leaned left (take k os)) (expression_of (get_or os k d).operand)
+leaned_more left os k d h = rw add-one (ap (leaned left) (take-suc os k d h) ∙ operation_pushed left (take k os) (get_or os k d))
 
 pub value_pushed : (vs : List Value) (v : Value) (before : ValuesT) → values_from (vs ++ v ∷ []) before ≡ values (values_from vs before) (value_of v)
 value_pushed [] v before = refl

@@ -3,6 +3,8 @@ use Rattle.std.specs.Prelude.{◌≡◌, nat_eq, List, ◌∷◌, ◌++◌, Bool
 use Rattle.plm_syntax.specs.declared.tree.Place.{Place}
 use Rattle.plm_syntax.specs.declared.tree.BinaryOperator.{BinaryOperator}
 use Rattle.plm_syntax.specs.declared.tree.Expression.{Expression}
+use Rattle.std.specs.Global.{Box}
+use Rattle.plm_syntax.specs.declared.tree.Operation.{Operation}
 use Rattle.plm_syntax.specs.declared.tree.Reference.{Reference}
 use Rattle.plm_syntax.specs.declared.tree.Selector.{Selector}
 use Rattle.plm_syntax.specs.declared.tree.Location.{Location}
@@ -25,8 +27,8 @@ use Rattle.plm_syntax.specs.declared.tree.Initial.{Initial}
 use Rattle.plm_syntax.specs.declared.tree.Attributes.{Attributes as Extras}
 use Rattle.plm_syntax.specs.declared.tree.Element.{Element}
 use Rattle.plm_syntax.specs.Terminal.{NameT, is_sign}
-use Rattle.plm_syntax.specs.Tree.{ElementsT, elements, no_variables, no_members, no_linkage, no_initial, AtT, Attributes, LocationForm, ReferenceE, LocationE, ReferenceOf, ExpressionsT, no_expressions, no_member}
-use Rattle.plm_syntax.specs.View.{name_of, counted, names_of, variable_of, variables_from, dimension_of, member_of, members_from, type_of, at_of, initial_of, attributes_of, element_of, elements_of, expression_of, expressions_of, reference_of, selector_of, location_of, value_of, values_of}
+use Rattle.plm_syntax.specs.Tree.{ExpressionT, ElementsT, elements, no_variables, no_members, no_linkage, no_initial, AtT, Attributes, LocationForm, ReferenceE, LocationE, ReferenceOf, ExpressionsT, no_expressions, no_member}
+use Rattle.plm_syntax.specs.View.{name_of, counted, names_of, variable_of, variables_from, dimension_of, member_of, members_from, type_of, at_of, initial_of, attributes_of, element_of, elements_of, expression_of, leaned, expressions_of, reference_of, selector_of, location_of, value_of, values_of}
 use Rattle.plm_syntax.specs.Spelling.{binary_sign, form_sign, scalar_key}
 use Rattle.plm_syntax.specs.WellFormed.{level_of}
 use Rattle.plm_syntax.specs.Symbol.{NamesR, NameR, VariableR, VariablesR, DimensionR, CountR, MembersR, MemberR, TypeR, AttributesR, ElementsR, HeaderR, Value, Level, Symbol, Over, Want, MoreG, ExpressionR, ValueR, ValuesR, Products, Sums, Relations, Conjunctions, Disjunctions}
@@ -59,6 +61,14 @@ IsForm c (Some x) = Takes c (form_sign x.1) x.0 x.2
 
 abbrev pub read_expression : Expression → List Value → List Value
 read_expression e v = ExpressionR (expression_of e) ∷ v
+
+-- an expression in a box
+abbrev pub read_boxed : Box Expression → List Value → List Value
+read_boxed b v = ExpressionR (expression_of b.value) ∷ v
+
+-- operators with their right operands, behind what stands to their left
+abbrev pub read_operations : ExpressionT → List Operation → List Value → List Value
+read_operations left os v = ExpressionR (leaned left os) ∷ v
 
 abbrev pub read_reference : Reference → List Value → List Value
 read_reference x v = ExpressionR (ReferenceE (reference_of x)) ∷ v

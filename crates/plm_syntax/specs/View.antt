@@ -3,8 +3,9 @@ use Rattle.std.specs.Prelude.{List, [], ◌∷◌, Option, Some, None}
 use Rattle.plm_syntax.specs.declared.tree.Name.{Name}
 use Rattle.plm_syntax.specs.declared.tree.Number.{Number}
 use Rattle.plm_syntax.specs.declared.tree.Text.{Text}
-use Rattle.plm_syntax.specs.declared.tree.Expression.{Expression, Row_of-Expression, end_of-Expression, more_of-Expression}
+use Rattle.plm_syntax.specs.declared.tree.Expression.{Expression, Row_of-Expression, end_of-Expression, more_of-Expression, Row_of-Operation, end_of-Operation, more_of-Operation}
 use Rattle.plm_syntax.specs.declared.tree.Expression.TheVariants as expression
+use Rattle.plm_syntax.specs.declared.tree.Operation.{Operation}
 use Rattle.plm_syntax.specs.declared.tree.Reference.{Reference}
 use Rattle.plm_syntax.specs.declared.tree.Selector.{Selector}
 use Rattle.plm_syntax.specs.declared.tree.Selector.TheVariants as selector
@@ -62,7 +63,7 @@ abbrev mutual
   expression_of (expression.Parenthesised' p q e) = ParenthesisedE p (expression_of e)
   expression_of (expression.Embedded' p n shape es m q e) = EmbeddedE p (ReferenceOf (name_of n) (expressions_in es no_expressions) (selector_of m)) (expression_of e)
   expression_of (expression.Unary' p o q e) = UnaryE p o (expression_of e)
-  expression_of (expression.Binary' p o q a r b) = BinaryE p o (expression_of a) (expression_of b)
+  expression_of (expression.Chain' q e shape os) = leaned_in (expression_of e) os
 
   pub selector_of : Selector → SelectorT
   selector_of selector.None = no_member
@@ -83,6 +84,10 @@ abbrev mutual
   expressions_in end_of-Expression before = before
   expressions_in (more_of-Expression e es) before = expressions_in es (expressions before (expression_of e))
 
+  pub leaned_in : {m : _} → ExpressionT → Row_of-Operation m → ExpressionT
+  leaned_in left end_of-Operation = left
+  leaned_in left (more_of-Operation p o e os) = leaned_in (BinaryE p o left (expression_of e)) os
+
   pub values_in : {m : _} → Row_of-Value m → ValuesT → ValuesT
   values_in end_of-Value before = before
   values_in (more_of-Value v vs) before = values_in vs (values before (value_of v))
@@ -93,6 +98,11 @@ expressions_from (e ∷ es) before = expressions_from es (expressions before (ex
 
 abbrev pub expressions_of : List Expression → ExpressionsT
 expressions_of es = expressions_from es no_expressions
+
+-- operators from left to right, behind what stands to their left
+abbrev pub leaned : ExpressionT → List Operation → ExpressionT
+leaned left [] = left
+leaned left (x ∷ xs) = leaned (BinaryE x.place x.operator left (expression_of x.operand)) xs
 
 abbrev pub values_from : List Value → ValuesT → ValuesT
 values_from [] before = before

@@ -5,18 +5,20 @@
 
 ghost use Rattle.std.specs.Prelude.{◌≡◌, ◌∷◌, ◌++◌, [], ℕ, List};
 ghost use Rattle.plm_syntax.specs.Terminal.{NameT};
-ghost use Rattle.plm_syntax.specs.Tree.{ReferenceE, ReferenceOf, ExpressionsT, no_member};
+ghost use Rattle.plm_syntax.specs.Tree.{ExpressionT, ReferenceE, ReferenceOf, ExpressionsT, no_member};
 ghost use Rattle.plm_syntax.specs.View.{name_of, expression_of, reference_of};
-ghost use Rattle.plm_syntax.specs.Symbol.{ExpressionR, Want, PrimaryG, SignedG, NegationG, MoreG, InsideG, AfterReferenceG, SubscriptsG, SelectorG, LocatedG, ValueG};
+ghost use Rattle.plm_token.specs.declared.token.Mark.TheVariants.{RightParenthesis};
+ghost use Rattle.plm_syntax.specs.Symbol.{ExpressionR, need, Want, PrimaryG, SignedG, NegationG, MoreG, InsideG, AfterReferenceG, SubscriptsG, SelectorG, LocatedG, ValueG};
 ghost use Rattle.plm_syntax.specs.Machine.{operand, an_expression, a_value_list};
 ghost use Rattle.plm_syntax.specs.Parsed.{Leads, Within};
-ghost use Rattle.plm_syntax.specs.Parts.{level_view, read_expression, read_reference, read_subscripts, read_selector, read_location, read_value, read_values, reference_read, nothing_read, joined, all_levels, IsForm};
+ghost use Rattle.plm_syntax.specs.Parts.{level_view, read_expression, read_boxed, read_operations, read_reference, read_subscripts, read_selector, read_location, read_value, read_values, reference_read, nothing_read, joined, all_levels, IsForm};
 
 use crate::cursor::Cursor;
 use crate::failure::Failure;
 use crate::operator::{Level, operator_at};
 use crate::tree::{
-    Expression, Location, LocationForm, Name, Place, Reference, Selector, UnaryOperator, Value,
+    Expression, Location, LocationForm, Name, Operation, Place, Reference, Selector, UnaryOperator,
+    Value,
 };
 use plm_token::{Keyword, Mark};
 use std::alloc::Global;
@@ -48,7 +50,7 @@ fn binary<'t, 'a>(
     more(alloc, room, level, left, rest)
 }
 
-/// The operators of a level behind a left operand, and their right operands; there is one relation at most.
+/// The operators of a level behind their first operand, and their right operands; there is one relation at most.
 #[cycle(expression)]
 fn more<'t, 'a>(
     alloc: Global,
@@ -60,22 +62,40 @@ fn more<'t, 'a>(
     ensures leads { Leads read_expression (λ s. Want (MoreG (level_view level)) ∷ s) (read_expression first.entry) result cursor.entry room }
     ensures within { Within result cursor.entry }
 {
-    let mut left = first;
+    let (others, rest) = operations(alloc, room, level, cursor)?;
+    if others.is_empty() {
+        return Ok((first, rest));
+    }
+    let first = Box::new(alloc, first)?;
+    Ok((Expression::Chain { first, others }, rest))
+}
+
+/// The operators of a level with their right operands; there is one relation at most.
+#[cycle(expression)]
+fn operations<'t, 'a>(
+    alloc: Global,
+    room: u8,
+    level: Level,
+    cursor: Cursor<'t, 'a>,
+) -> Result<(Vec<Operation<'a>>, Cursor<'t, 'a>), Failure>
+    ensures leads { (left : ExpressionT) → Leads (λ os. read_operations left os.items) (λ s. Want (MoreG (level_view level)) ∷ s) (λ v. ExpressionR left ∷ v) result cursor.entry room }
+    ensures within { Within result cursor.entry }
+{
+    let mut list = Vec::new(alloc);
     let mut rest = cursor;
     while let Some((place, operator, after)) = operator_at(level, rest) {
-        let (right, behind) = operand(alloc, room, level, after)?;
-        left = Expression::Binary(
+        let (operand, behind) = operand(alloc, room, level, after)?;
+        list.push(Operation {
             place,
             operator,
-            Box::new(alloc, left)?,
-            Box::new(alloc, right)?,
-        );
+            operand,
+        })?;
         rest = behind;
         if level.is_relations() {
-            return Ok((left, rest));
+            return Ok((list, rest));
         }
     }
-    Ok((left, rest))
+    Ok((list, rest))
 }
 
 /// An operand of a level's operators.
@@ -205,12 +225,23 @@ fn parenthesised<'t, 'a>(
         let (reference, behind) = reference(alloc, room, name, rest)?;
         return behind_reference(alloc, room, place, reference, behind);
     }
+    let (inside, rest) = closed(alloc, room, cursor)?;
+    Ok((Expression::Parenthesised(place, inside), rest))
+}
+
+/// An expression, and the parenthesis behind it.
+#[cycle(expression)]
+fn closed<'t, 'a>(
+    alloc: Global,
+    room: u8,
+    cursor: Cursor<'t, 'a>,
+) -> Result<(Box<Expression<'a>>, Cursor<'t, 'a>), Failure>
+    ensures leads { Leads read_boxed (λ s. an_expression (need RightParenthesis ∷ s)) nothing_read result cursor.entry room }
+    ensures within { Within result cursor.entry }
+{
     let (inside, behind) = binary(alloc, room, Level::Disjunctions, cursor)?;
     let rest = behind.expect_mark(Mark::RightParenthesis)?;
-    Ok((
-        Expression::Parenthesised(place, Box::new(alloc, inside)?),
-        rest,
-    ))
+    Ok((Box::new(alloc, inside)?, rest))
 }
 
 /// What stands behind a parenthesis and a reference.
@@ -226,12 +257,8 @@ fn behind_reference<'t, 'a>(
     ensures within { Within result cursor.entry }
 {
     if let Some((_, after)) = cursor.mark(Mark::Assign) {
-        let (value, behind) = binary(alloc, room, Level::Disjunctions, after)?;
-        let rest = behind.expect_mark(Mark::RightParenthesis)?;
-        return Ok((
-            Expression::Embedded(place, first, Box::new(alloc, value)?),
-            rest,
-        ));
+        let (value, rest) = closed(alloc, room, after)?;
+        return Ok((Expression::Embedded(place, first, value), rest));
     }
     let (inside, behind) = climb(alloc, room, Expression::Reference(first), cursor)?;
     let rest = behind.expect_mark(Mark::RightParenthesis)?;
@@ -337,9 +364,8 @@ fn selector<'t, 'a>(
     let Some((_, inner)) = behind.mark(Mark::LeftParenthesis) else {
         return Ok((Selector::Member(name), behind));
     };
-    let (subscript, closing) = binary(alloc, inner.level_down(room)?, Level::Disjunctions, inner)?;
-    let rest = closing.expect_mark(Mark::RightParenthesis)?;
-    Ok((Selector::Element(name, Box::new(alloc, subscript)?), rest))
+    let (subscript, rest) = closed(alloc, inner.level_down(room)?, inner)?;
+    Ok((Selector::Element(name, subscript), rest))
 }
 
 /// A location behind its `@` or `.`.

@@ -27,6 +27,6 @@ pub use laws::spell_once;
 pub use tree::{
     At, Attributes, Basic, BinaryOperator, Block, Declared, Dimension, Element, Expression,
     Initial, Item, Linkage, Location, LocationForm, Member, MemberNames, Module, Name, Number,
-    Place, Procedure, Reference, Scalar, Selector, Statement, Text, UnaryOperator, Value, Variable,
-    VariableType,
+    Operation, Place, Procedure, Reference, Scalar, Selector, Statement, Text, UnaryOperator,
+    Value, Variable, VariableType,
 };

@@ -406,6 +406,18 @@ fn many_tokens(rt: HostRuntime) -> Result<(), Fault> {
     Ok(())
 }
 
+/// Thousands of operands are one chain, which is read and dropped in loops.
+#[test]
+fn long_chains(rt: HostRuntime) -> Result<(), Fault> {
+    let alloc = rt.alloc();
+    let parts: [&[u8]; 4] = [b" + 1", b" / 1", b" AND 1", b" XOR 1"];
+    for part in parts {
+        let text = repeated(alloc, b"M: DO; A = 1", part, 30_000, b"", b"", b"; END;")?;
+        assert_eq!(&rt; parsed(alloc, &text), Fine, "in {part:?}");
+    }
+    Ok(())
+}
+
 /// Each proper beginning of a text is refused at its end.
 #[test]
 fn beginnings(rt: HostRuntime) {

@@ -72,7 +72,7 @@ pub struct Text<'a> {
     pub place: Place,
 }
 
-/// An expression: operators stand at their level, equal levels lean left, parentheses are nodes.
+/// An expression: operators stand at their level, those of one level in a chain, parentheses are nodes.
 #[derive(Drop)]
 #[cycle(expression)]
 pub enum Expression<'a> {
@@ -85,8 +85,20 @@ pub enum Expression<'a> {
     /// `( x := e )`, with the place of the parenthesis.
     Embedded(Place, Reference<'a>, Box<Expression<'a>>),
     Unary(Place, UnaryOperator, Box<Expression<'a>>),
-    /// `a + b`, with the place of the operator.
-    Binary(Place, BinaryOperator, Box<Expression<'a>>, Box<Expression<'a>>),
+    /// `a + b - c`: operators of one level from left to right, one at least. They lean left, as `(a + b) - c` does.
+    Chain {
+        first: Box<Expression<'a>>,
+        others: Vec<Operation<'a>>,
+    },
+}
+
+/// An operator between operands, where it stands, and its right operand.
+#[derive(Drop)]
+#[cycle(expression)]
+pub struct Operation<'a> {
+    pub place: Place,
+    pub operator: BinaryOperator,
+    pub operand: Expression<'a>,
 }
 
 /// A name with its subscripts or arguments, none where it has no parentheses, and its member.

@@ -3,10 +3,11 @@
 ghost use Rattle.std.specs.Prelude.{◌≡◌, ◌<◌, ℕ, map, flat_map, length, All, IfOk};
 ghost use Rattle.plm_meaning.specs.Programs as meant;
 ghost use Rattle.plm_meaning.specs.Programs.{operand_of, sum_of};
-ghost use Rattle.plm_syntax.specs.View.{name_of, expression_of, expressions_of, selector_of, reference_of, statement_of, declared_of, element_of, item_of};
+ghost use Rattle.plm_syntax.specs.Tree.{ExpressionT, BinaryE};
+ghost use Rattle.plm_syntax.specs.View.{name_of, expression_of, leaned, expressions_of, selector_of, reference_of, statement_of, declared_of, element_of, item_of};
 ghost use Rattle.plm_meaning.specs.Reading.{Bare, place_of, first_place, shape_of, is_output, refused_name, refused_port, refused_operand, refused_sum, refused_target, refused_targets, refused_statement, first_refused, variable_names, refused_element, refused_item, operand_meant, sum_meant, port_meant, target_meant, targets_meant, statement_meant, Says};
 ghost use Rattle.plm_meaning.specs.Known.{OperandIn, SumIn, StatementIn, StatementsIn};
-ghost use Rattle.plm_meaning.specs.Forms.{HasNoLeft, IsNoSum, shape_view, target_view, TargetIn};
+ghost use Rattle.plm_meaning.specs.Forms.{shape_view, target_view, TargetIn};
 ghost use Rattle.word86.specs.Access.{In};
 ghost use Rattle.word86.specs.declared.fault.Fault.TheVariants as faults;
 ghost use Rattle.word86.specs.declared.number.Number.TheVariants.{E401};
@@ -15,8 +16,8 @@ ghost use Rattle.plm_meaning.specs.Rest.{Constant, Assign, Only};
 use super::scope::{Scope, are_scalars};
 use crate::program::{Operand, Statement as Meant, Sum};
 use plm_syntax::{
-    Basic, BinaryOperator, Declared, Element, Expression, Item, Location, Name, Place, Reference,
-    Selector, Statement,
+    Basic, BinaryOperator, Declared, Element, Expression, Item, Location, Name, Operation, Place,
+    Reference, Selector, Statement,
 };
 use plm_token::same_name;
 use std::alloc::Global;
@@ -38,19 +39,8 @@ pub(crate) enum Target {
 }
 
 // The place of an expression's first token.
+#[tactic(auto, using(crate::proofs::Chains::first_of_chain))]
 fn first_place(expression: &Expression<'_>) -> Place
-    ensures { result ≡ first_place (expression_of expression.now) }
-{
-    let mut first = expression;
-    while let Expression::Binary(_, _, left, _) = first {
-        first = left;
-    }
-    place_of(first)
-}
-
-// The place of the first token of an expression without operators between operands at its top.
-fn place_of(expression: &Expression<'_>) -> Place
-    requires { HasNoLeft (expression_of expression.now) }
     ensures { result ≡ first_place (expression_of expression.now) }
 {
     match expression {
@@ -62,7 +52,7 @@ fn place_of(expression: &Expression<'_>) -> Place
         Expression::Parenthesised(place, _)
         | Expression::Embedded(place, _, _)
         | Expression::Unary(place, _, _) => *place,
-        Expression::Binary(_, _, _, _) => unreachable!(),
+        Expression::Chain { first, .. } => first_place(first),
     }
 }
 
@@ -117,44 +107,74 @@ impl Scope<'_> {
                 Shape::Bare => Ok(Operand::Scalar(self.read_object(&reference.name)?)),
                 _ => Err(self.refused(reference.name.place)),
             },
+            Expression::Chain { first, others } => {
+                if others.is_empty() {
+                    self.read_operand(first)
+                } else {
+                    Err(self.refused(first_place(first)))
+                }
+            }
             other => Err(self.refused(first_place(other))),
         }
     }
 
-    // The leftmost operand of a sum.
-    #[tactic(auto, using(crate::proofs::Sums::no_sum_refused, crate::proofs::Sums::no_sum_meant))]
-    fn read_leftmost(&self, operand: &Expression<'_>) -> Result<Operand, Fault>
-        requires { IsNoSum (expression_of operand.now) }
-        ensures says { Says (refused_sum self.now.ordinal (map name_of self.now.scalars.items) (expression_of operand.now)) result }
-        ensures value { IfOk result (λ o. operand_of o ≡ sum_meant (map name_of self.now.scalars.items) (expression_of operand.now)) }
-        ensures known { IfOk result (λ o. OperandIn (length self.now.scalars.items) o) }
-    {
-        self.read_operand(operand)
-    }
-
-    // The left sides of a sum are gone down in a loop, so the operands are met from right to left.
-    #[tactic(auto, using(crate::proofs::Saying::first_left, crate::proofs::Saying::first_of_both, crate::proofs::Saying::second_says))]
+    // A sum of thousands of operands is one chain.
+    #[tactic(auto, using(crate::proofs::Chains::operations_are))]
     fn read_sum(&self, alloc: Global, sum: &Expression<'_>) -> Result<Sum, Fault>
         ensures says { Says (refused_sum self.now.ordinal (map name_of self.now.scalars.items) (expression_of sum.now)) result }
         ensures value { IfOk result (λ s. sum_of s ≡ sum_meant (map name_of self.now.scalars.items) (expression_of sum.now)) }
         ensures known { IfOk result (λ s. SumIn (length self.now.scalars.items) s) }
     {
-        let mut others = Vec::new(alloc);
-        let mut found = Ok(());
-        let mut left_side = sum;
-        while let Expression::Binary(_, BinaryOperator::Add, left, right) = left_side {
-            match self.read_operand(right) {
-                Ok(operand) => others.push(operand)?,
-                Err(fault) => found = Err(fault),
+        match sum {
+            Expression::Chain { first, others } => {
+                self.read_operations(self.read_sum(alloc, first), others, first_place(first))
             }
-            left_side = left;
+            operand => match self.read_operand(operand) {
+                Ok(first) => Ok(Sum {
+                    first,
+                    others: Vec::new(alloc),
+                }),
+                Err(fault) => Err(fault),
+            },
         }
-        match (self.read_leftmost(left_side), found) {
-            (Ok(first), Ok(())) => {
-                others.reverse();
-                Ok(Sum { first, others })
+    }
+
+    // What was read of a sum that begins at this place, and its other operations.
+    fn read_operations(
+        &self,
+        left: Result<Sum, Fault>,
+        others: &[Operation<'_>],
+        place: Place,
+    ) -> Result<Sum, Fault>
+        ensures says { (e : ExpressionT) → first_place e ≡ place → Says (refused_sum self.now.ordinal (map name_of self.now.scalars.items) e) left → Says (refused_sum self.now.ordinal (map name_of self.now.scalars.items) (leaned e others.now)) result }
+        ensures value { (e : ExpressionT) → IfOk left (λ s. sum_of s ≡ sum_meant (map name_of self.now.scalars.items) e) → IfOk result (λ s. sum_of s ≡ sum_meant (map name_of self.now.scalars.items) (leaned e others.now)) }
+        ensures known { IfOk left (λ s. SumIn (length self.now.scalars.items) s) → IfOk result (λ s. SumIn (length self.now.scalars.items) s) }
+    {
+        let mut read = left;
+        for operation in others {
+            read = self.read_operation(read, operation, place);
+        }
+        read
+    }
+
+    #[tactic(auto, using(crate::proofs::Saying::first_of_both, crate::proofs::Saying::second_says, crate::proofs::Chains::sum_pushed))]
+    fn read_operation(
+        &self,
+        left: Result<Sum, Fault>,
+        operation: &Operation<'_>,
+        place: Place,
+    ) -> Result<Sum, Fault>
+        ensures says { (e : ExpressionT) → first_place e ≡ place → Says (refused_sum self.now.ordinal (map name_of self.now.scalars.items) e) left → Says (refused_sum self.now.ordinal (map name_of self.now.scalars.items) (BinaryE operation.now.place operation.now.operator e (expression_of operation.now.operand))) result }
+        ensures value { (e : ExpressionT) → IfOk left (λ s. sum_of s ≡ sum_meant (map name_of self.now.scalars.items) e) → IfOk result (λ s. sum_of s ≡ sum_meant (map name_of self.now.scalars.items) (BinaryE operation.now.place operation.now.operator e (expression_of operation.now.operand))) }
+        ensures known { IfOk left (λ s. SumIn (length self.now.scalars.items) s) → IfOk result (λ s. SumIn (length self.now.scalars.items) s) }
+    {
+        match operation.operator {
+            BinaryOperator::Add => {
+                let mut sum = left?;
+                sum.others.push(self.read_operand(&operation.operand)?)?;
+                Ok(sum)
             }
-            (Err(fault), _) | (Ok(_), Err(fault)) => Err(fault),
+            _ => Err(self.refused(place)),
         }
     }
 
@@ -164,6 +184,13 @@ impl Scope<'_> {
     {
         match argument {
             Expression::Number(number) if number.value < 0x1_0000 => Ok(number.value as u16),
+            Expression::Chain { first, others } => {
+                if others.is_empty() {
+                    self.read_port(first)
+                } else {
+                    Err(self.refused(first_place(first)))
+                }
+            }
             other => Err(self.refused(first_place(other))),
         }
     }

@@ -1,37 +1,69 @@
 //! The first name that a module uses and does not declare.
 
 ghost use Rattle.std.specs.Prelude.{map, flat_map};
-ghost use Rattle.plm_syntax.specs.View.{name_of, expression_of, reference_of, statement_of};
+ghost use Rattle.plm_syntax.specs.Tree.{ExpressionT, BinaryE};
+ghost use Rattle.plm_syntax.specs.View.{name_of, expression_of, leaned, reference_of, statement_of};
 ghost use Rattle.plm_meaning.specs.Reading.{undeclared_operand, undeclared_sum, undeclared_target, undeclared_in, Says};
 
 use super::scope::Scope;
-use plm_syntax::{Basic, BinaryOperator, Expression, Reference, Statement};
+use plm_syntax::{Basic, BinaryOperator, Expression, Operation, Reference, Statement};
 use word86::Fault;
 
 impl Scope<'_> {
+    #[tactic(auto, using(crate::proofs::Chains::operations_are))]
     fn knows_operand(&self, operand: &Expression<'_>) -> Result<(), Fault>
         ensures { Says (undeclared_operand self.now.ordinal (map name_of self.now.names.items) (expression_of operand.now)) result }
     {
         match operand {
             Expression::Reference(reference) => self.knows(&reference.name),
+            Expression::Chain { first, others } if others.is_empty() => self.knows_operand(first),
             _ => Ok(()),
         }
     }
 
-    // A sum may have thousands of operands: its left sides are gone down in a loop, and the fault found last is the first.
+    // A sum of thousands of operands is one chain.
+    #[tactic(auto, using(crate::proofs::Chains::operations_are))]
     fn knows_sum(&self, sum: &Expression<'_>) -> Result<(), Fault>
         ensures { Says (undeclared_sum self.now.ordinal (map name_of self.now.names.items) (expression_of sum.now)) result }
     {
-        let mut found = Ok(());
-        let mut left_side = sum;
-        while let Expression::Binary(_, BinaryOperator::Add, left, right) = left_side {
-            if let Err(fault) = self.knows_operand(right) {
-                found = Err(fault);
+        match sum {
+            Expression::Chain { first, others } => {
+                self.knows_operations(self.knows_sum(first), others)
             }
-            left_side = left;
+            operand => self.knows_operand(operand),
         }
-        self.knows_operand(left_side)?;
-        found
+    }
+
+    fn knows_operations(
+        &self,
+        left: Result<(), Fault>,
+        others: &[Operation<'_>],
+    ) -> Result<(), Fault>
+        ensures { (e : ExpressionT) → Says (undeclared_sum self.now.ordinal (map name_of self.now.names.items) e) left → Says (undeclared_sum self.now.ordinal (map name_of self.now.names.items) (leaned e others.now)) result }
+    {
+        let mut known = left;
+        for operation in others {
+            known = self.knows_operation(known, operation);
+        }
+        known
+    }
+
+    // What is no sum is not looked into, and so what was said of its left side goes.
+    #[tactic(auto, using(crate::proofs::Saying::first_of_both, crate::proofs::Saying::second_says))]
+    fn knows_operation(
+        &self,
+        left: Result<(), Fault>,
+        operation: &Operation<'_>,
+    ) -> Result<(), Fault>
+        ensures { (e : ExpressionT) → Says (undeclared_sum self.now.ordinal (map name_of self.now.names.items) e) left → Says (undeclared_sum self.now.ordinal (map name_of self.now.names.items) (BinaryE operation.now.place operation.now.operator e (expression_of operation.now.operand))) result }
+    {
+        match operation.operator {
+            BinaryOperator::Add => match left {
+                Ok(()) => self.knows_operand(&operation.operand),
+                Err(fault) => Err(fault),
+            },
+            _ => Ok(()),
+        }
     }
 
     fn knows_targets(&self, targets: &[Reference<'_>]) -> Result<(), Fault>

@@ -1,34 +1,35 @@
 use Rattle.std.proofs.Common.{◌∷◌, ◌++◌, [], ℕ, List, ◌+◌, length, refl, sym, ap, ◌∙◌, arith}
 use Rattle.plm_token.specs.declared.token.Mark.TheVariants as mark
 use Rattle.plm_syntax.specs.declared.tree.UnaryOperator.TheVariants as unary
+use Rattle.std.specs.Global.{Vec}
+use Rattle.plm_syntax.specs.declared.tree.Place.{Place}
+use Rattle.plm_syntax.specs.declared.tree.BinaryOperator.{BinaryOperator}
+use Rattle.plm_syntax.specs.declared.tree.Operation.{Operation}
 use Rattle.plm_syntax.specs.declared.tree.Expression.{Expression}
 use Rattle.plm_syntax.specs.declared.tree.Value.{Value as ValueTree}
 use Rattle.plm_syntax.specs.Terminal.{Sign}
 use Rattle.plm_syntax.specs.Tree.{NumberE, TextE, ReferenceE, LocationE, ParenthesisedE, EmbeddedE, UnaryE, BinaryE, ReferenceOf, ExpressionsT, no_expressions, expressions, no_member, member, member_at, LocationOf, ConstantsOf, NumberV, NegativeV, TextV, LocationV, ValuesT, no_values, values}
-use Rattle.plm_syntax.specs.View.{name_of, number_of, text_of, expression_of, expressions_of, reference_of, location_of, value_of, values_of}
+use Rattle.plm_syntax.specs.View.{name_of, number_of, text_of, expression_of, leaned, expressions_of, reference_of, location_of, value_of, values_of}
 use Rattle.plm_syntax.specs.Symbol.{Symbol, depth, need, push, ExpressionR, ExpressionsR, ValueR, ValuesR, Want, Do, Leave, PrimaryG, SignedG, NegationG, MoreG, InsideG, AfterReferenceG, SubscriptsG, MoreSubscriptsG, SelectorG, MemberG, MemberSubscriptG, LocatedG, ValueG, NegativeG, MoreValuesG}
 use Rattle.plm_syntax.specs.Machine.{again, an_expression, a_value_list, reference_begun, closing, make_binary, make_unary, make_parenthesised, make_embedded, add_expression, set_subscripts, set_member, set_member_subscript, locate, locate_values, location_value, add_value, run}
 use Rattle.plm_syntax.specs.Parsed.{ahead, next_of}
-use Rattle.plm_syntax.specs.Parts.{level_view, read_expression, read_reference, read_subscripts, read_selector, read_location, read_value, read_values, reference_read, all_levels}
-use Rattle.plm_syntax.proofs.Rows.{expression_pushed, value_pushed}
-use Rattle.plm_syntax.proofs.Seen.{seen, reference_laid, embedded_laid, constants_laid, location_laid, binary_laid}
-use Rattle.plm_syntax.proofs.Along.{quiet, taken, refused, need_refused, entered, too_deep, deeper, failed, refusal, depth_failure, arrives_behind, arrives_left, operator_taken}
+use Rattle.plm_syntax.specs.Parts.{level_view, read_expression, read_boxed, read_operations, read_reference, read_subscripts, read_selector, read_location, read_value, read_values, reference_read, all_levels}
+use Rattle.plm_syntax.proofs.Rows.{expression_pushed, operation_pushed, value_pushed}
+use Rattle.plm_syntax.proofs.Seen.{seen, reference_laid, embedded_laid, constants_laid, location_laid, chain_laid}
+use Rattle.plm_syntax.proofs.Along.{out_of_memory, quiet, taken, refused, need_refused, entered, too_deep, deeper, failed, refusal, depth_failure, arrives_behind, arrives_left, operator_taken}
 use Rattle.plm_syntax.proofs.NextExpression.{negation_goes, inside_goes, reference_goes, signed_goes, primary_refused, value_refused, negative_refused, member_refused, located_refused, more_subscripts_refused, more_values_refused, located_value, again_relations, again_others, depth_again}
 use Rattle.plm_syntax.proofs.expression.+expression.Goals as goal
 
-pub behind_reference-returns-in_err-rest-clause-leads : goal.behind_reference-returns-in_err-rest-clause-leads
-behind_reference-returns-in_err-rest-clause-leads t c = λ s v d. failed read_expression s v c.from_residual-in_err-rest.result c.in_err-rest.field-0.0 c.from_residual-in_err-rest.ensures.1
-    (taken (Want (AfterReferenceG c.args.place) ∷ s) (read_reference c.args.first v) c.in-Some.ensures
-    ∙ c.in_ok-value.ensures.leads (need mark.RightParenthesis ∷ Do (make_embedded c.args.place) ∷ s) (read_reference c.args.first v) d
-    ∙ need_refused (Sign mark.RightParenthesis) c.in_ok-value.behind (Do (make_embedded c.args.place) ∷ s) _ c.in_err-rest.ensures.0)
-    (refusal c.in_err-rest.field-0.0 c.in_ok-value.behind c.in_err-rest.ensures.1 refl)
+pub behind_reference-returns-in_err-value-clause-leads : goal.behind_reference-returns-in_err-value-clause-leads
+behind_reference-returns-in_err-value-clause-leads t c = λ s v d. failed read_expression s v c.from_residual.result c.in_err-value.field-0.0 c.from_residual.ensures.1
+    (taken (Want (AfterReferenceG c.args.place) ∷ s) (read_reference c.args.first v) c.in-Some.ensures)
+    (c.in_err-value.ensures.leads (Do (make_embedded c.args.place) ∷ s) (read_reference c.args.first v) d)
 
 pub behind_reference-returns-in-Some-clause-leads : goal.behind_reference-returns-in-Some-clause-leads
 behind_reference-returns-in-Some-clause-leads t c = λ s v d. taken (Want (AfterReferenceG c.args.place) ∷ s) (read_reference c.args.first v) c.in-Some.ensures
-    ∙ c.in_ok-value.ensures.leads (need mark.RightParenthesis ∷ Do (make_embedded c.args.place) ∷ s) (read_reference c.args.first v) d
-    ∙ taken (need mark.RightParenthesis ∷ Do (make_embedded c.args.place) ∷ s) _ c.in_ok-rest.ensures.1
-    ∙ quiet c.in_ok-rest.rest (Do (make_embedded c.args.place) ∷ s) s (read_expression c.in_ok-value.value (read_reference c.args.first v)) (ExpressionR (EmbeddedE c.args.place (reference_of c.args.first) (expression_of c.in_ok-value.value)) ∷ v) (λ t q. refl)
-    ∙ seen s v c.in_ok-rest.rest (embedded_laid c.args.place c.args.first c.in_ok-new.ensures.ok)
+    ∙ c.in_ok-value.ensures.leads (Do (make_embedded c.args.place) ∷ s) (read_reference c.args.first v) d
+    ∙ quiet c.in_ok-value.rest (Do (make_embedded c.args.place) ∷ s) s (read_boxed c.in_ok-value.value (read_reference c.args.first v)) (ExpressionR (EmbeddedE c.args.place (reference_of c.args.first) (expression_of c.in_ok-value.value.value)) ∷ v) (λ t q. refl)
+    ∙ seen s v c.in_ok-value.rest (embedded_laid c.args.place c.args.first (expression_of c.in_ok-value.value.value))
 
 pub behind_reference-returns-in_err-inside-clause-leads : goal.behind_reference-returns-in_err-inside-clause-leads
 behind_reference-returns-in_err-inside-clause-leads t c = λ s v d. failed read_expression s v c.from_residual-in_err-inside.result c.in_err-inside.field-0.0 c.from_residual-in_err-inside.ensures.1
@@ -36,21 +37,21 @@ behind_reference-returns-in_err-inside-clause-leads t c = λ s v d. failed read_
     ∙ seen (all_levels (closing c.args.place ++ s)) v c.args.cursor (ap ReferenceE (reference_laid c.args.first)))
     (c.in_err-inside.ensures.leads (closing c.args.place ++ s) v d)
 
-pub behind_reference-returns-in_err-rest-2-clause-leads : goal.behind_reference-returns-in_err-rest-2-clause-leads
-behind_reference-returns-in_err-rest-2-clause-leads t c = λ s v d. failed read_expression s v c.from_residual-in_err-rest-2.result c.in_err-rest-2.field-0.0 c.from_residual-in_err-rest-2.ensures.1
+pub behind_reference-returns-in_err-rest-clause-leads : goal.behind_reference-returns-in_err-rest-clause-leads
+behind_reference-returns-in_err-rest-clause-leads t c = λ s v d. failed read_expression s v c.from_residual-in_err-rest.result c.in_err-rest.field-0.0 c.from_residual-in_err-rest.ensures.1
     (reference_goes c.args.place c.args.cursor s (read_reference c.args.first v) c.in_default.ensures
     ∙ seen (all_levels (closing c.args.place ++ s)) v c.args.cursor (ap ReferenceE (reference_laid c.args.first))
     ∙ c.in_ok-inside.ensures.leads (closing c.args.place ++ s) v d
-    ∙ need_refused (Sign mark.RightParenthesis) c.in_ok-inside.behind (Do (make_parenthesised c.args.place) ∷ s) _ c.in_err-rest-2.ensures.0)
-    (refusal c.in_err-rest-2.field-0.0 c.in_ok-inside.behind c.in_err-rest-2.ensures.1 refl)
+    ∙ need_refused (Sign mark.RightParenthesis) c.in_ok-inside.behind (Do (make_parenthesised c.args.place) ∷ s) _ c.in_err-rest.ensures.0)
+    (refusal c.in_err-rest.field-0.0 c.in_ok-inside.behind c.in_err-rest.ensures.1 refl)
 
 pub behind_reference-returns-clause-leads : goal.behind_reference-returns-clause-leads
 behind_reference-returns-clause-leads t c = λ s v d. reference_goes c.args.place c.args.cursor s (read_reference c.args.first v) c.in_default.ensures
     ∙ seen (all_levels (closing c.args.place ++ s)) v c.args.cursor (ap ReferenceE (reference_laid c.args.first))
     ∙ c.in_ok-inside.ensures.leads (closing c.args.place ++ s) v d
-    ∙ taken (closing c.args.place ++ s) _ c.in_ok-rest-2.ensures.1
-    ∙ quiet c.in_ok-rest-2.rest (Do (make_parenthesised c.args.place) ∷ s) s (read_expression c.in_ok-inside.inside v) (ExpressionR (ParenthesisedE c.args.place (expression_of c.in_ok-inside.inside)) ∷ v) (λ t q. refl)
-    ∙ seen s v c.in_ok-rest-2.rest (ap (λ (e : Expression). ParenthesisedE c.args.place (expression_of e)) (sym c.in_ok-new-2.ensures.ok))
+    ∙ taken (closing c.args.place ++ s) _ c.in_ok-rest.ensures.1
+    ∙ quiet c.in_ok-rest.rest (Do (make_parenthesised c.args.place) ∷ s) s (read_expression c.in_ok-inside.inside v) (ExpressionR (ParenthesisedE c.args.place (expression_of c.in_ok-inside.inside)) ∷ v) (λ t q. refl)
+    ∙ seen s v c.in_ok-rest.rest (ap (λ (e : Expression). ParenthesisedE c.args.place (expression_of e)) (sym c.in_ok-new.ensures.ok))
 
 pub location-returns-in-Some-clause-leads : goal.location-returns-in-Some-clause-leads
 location-returns-in-Some-clause-leads t c = λ s v d. taken (Want (LocatedG c.args.place c.args.form) ∷ s) v c.in-Some.ensures
@@ -76,25 +77,52 @@ location-returns-clause-leads t c = λ s v d. taken (Want (LocatedG c.args.place
     ∙ quiet c.in_ok-reference.rest (Do (locate c.args.place c.args.form) ∷ s) s (read_reference c.in_ok-reference.reference v) (ExpressionR (LocationE (LocationOf c.args.place c.args.form (reference_of c.in_ok-reference.reference))) ∷ v) (λ t q. refl)
     ∙ seen s v c.in_ok-reference.rest (ap LocationE (location_laid c.args.place c.args.form c.in_ok-reference.reference))
 
-pub more-returns-then-is_relations-clause-leads : goal.more-returns-then-is_relations-clause-leads
-more-returns-then-is_relations-clause-leads t c = λ s v d. c.loop-place.invariant.leads s v d
-    ∙ taken (Want (MoreG (level_view c.args.level)) ∷ s) (read_expression c.loop-place.left v) c.in-Some.ensures.0
-    ∙ operator_taken (level_view c.args.level) c.in-Some.operator c.in-Some.place s (read_expression c.loop-place.left v) (ahead c.in-Some.after) c.in-Some.ensures.1
-    ∙ c.in_ok-right.ensures.leads (Do (make_binary c.in-Some.place c.in-Some.operator) ∷ (again (level_view c.args.level) ++ s)) (read_expression c.loop-place.left v) (ap (λ (n : ℕ). n + c.args.room) (depth_again (level_view c.args.level) s) ∙ d)
-    ∙ quiet c.in_ok-right.behind (Do (make_binary c.in-Some.place c.in-Some.operator) ∷ (again (level_view c.args.level) ++ s)) (again (level_view c.args.level) ++ s) (read_expression c.in_ok-right.right (read_expression c.loop-place.left v)) (ExpressionR (BinaryE c.in-Some.place c.in-Some.operator (expression_of c.loop-place.left) (expression_of c.in_ok-right.right)) ∷ v) (λ t q. refl)
-    ∙ seen (again (level_view c.args.level) ++ s) v c.in_ok-right.behind (binary_laid c.in-Some.place c.in-Some.operator c.in_ok-new.ensures.ok c.in_ok-new-2.ensures.ok)
-    ∙ ap (λ (x : List Symbol). run 64 x (ExpressionR (BinaryE c.in-Some.place c.in-Some.operator (expression_of c.in_ok-new.field-0.value) (expression_of c.in_ok-new-2.field-0.value)) ∷ v) (ahead c.in_ok-right.behind)) (again_relations (level_view c.args.level) (sym c.is_relations.ensures ∙ c.if-is_relations.true) s)
+pub more-returns-in_err-others-clause-leads : goal.more-returns-in_err-others-clause-leads
+more-returns-in_err-others-clause-leads t c = λ s v d. failed read_expression s v c.from_residual.result c.in_err-others.field-0.0 c.from_residual.ensures.1 refl
+    (c.in_err-others.ensures.leads (expression_of c.args.first) s v d)
 
-pub more-loop-place-preserved : goal.more-loop-place-preserved
-more-loop-place-preserved t c = record {
-  leads = λ s v d. c.loop-place.invariant.leads s v d
-      ∙ taken (Want (MoreG (level_view c.args.level)) ∷ s) (read_expression c.loop-place.left v) c.in-Some.ensures.0
-      ∙ operator_taken (level_view c.args.level) c.in-Some.operator c.in-Some.place s (read_expression c.loop-place.left v) (ahead c.in-Some.after) c.in-Some.ensures.1
-      ∙ c.in_ok-right.ensures.leads (Do (make_binary c.in-Some.place c.in-Some.operator) ∷ (again (level_view c.args.level) ++ s)) (read_expression c.loop-place.left v) (ap (λ (n : ℕ). n + c.args.room) (depth_again (level_view c.args.level) s) ∙ d)
-      ∙ quiet c.in_ok-right.behind (Do (make_binary c.in-Some.place c.in-Some.operator) ∷ (again (level_view c.args.level) ++ s)) (again (level_view c.args.level) ++ s) (read_expression c.in_ok-right.right (read_expression c.loop-place.left v)) (ExpressionR (BinaryE c.in-Some.place c.in-Some.operator (expression_of c.loop-place.left) (expression_of c.in_ok-right.right)) ∷ v) (λ t q. refl)
-      ∙ seen (again (level_view c.args.level) ++ s) v c.in_ok-right.behind (binary_laid c.in-Some.place c.in-Some.operator c.in_ok-new.ensures.ok c.in_ok-new-2.ensures.ok)
-      ∙ ap (λ (x : List Symbol). run 64 x (ExpressionR (BinaryE c.in-Some.place c.in-Some.operator (expression_of c.in_ok-new.field-0.value) (expression_of c.in_ok-new-2.field-0.value)) ∷ v) (ahead c.in_ok-right.behind)) (again_others (level_view c.args.level) (sym c.is_relations.ensures ∙ c.if-is_relations.false) s);
-  shorter = omega (arith, c.loop-place.invariant.shorter, c.in-Some.ensures.0.shorter, c.in_ok-right.ensures.within);
+pub more-returns-in_err-first-clause-leads : goal.more-returns-in_err-first-clause-leads
+more-returns-in_err-first-clause-leads t c = λ s v d. out_of_memory read_expression s v c.from_residual-in_err-first.result (run 64 (Want (MoreG (level_view c.args.level)) ∷ s) (read_expression c.args.first v) (ahead c.args.cursor)) c.from_residual-in_err-first.ensures.1
+
+pub more-returns-clause-leads : goal.more-returns-clause-leads
+more-returns-clause-leads t c = λ s v d. c.in_ok-others.ensures.leads (expression_of c.args.first) s v d
+    ∙ seen s v c.in_ok-others.rest (chain_laid c.in_ok-others.others c.in_ok-first.ensures.ok)
+
+-- an operator and its right operand
+abbrev operation : Place → BinaryOperator → Expression → Operation
+operation p o e = record { place = p; operator = o; operand = e }
+
+pub operations-returns-in_err-operand-clause-leads : goal.operations-returns-in_err-operand-clause-leads
+operations-returns-in_err-operand-clause-leads t c = λ left s v d. failed (λ (os : Vec Operation). read_operations left os.items) s v c.from_residual.result c.in_err-operand.field-0.0 c.from_residual.ensures.1
+    (c.loop-place.invariant.leads left s v d
+    ∙ taken (Want (MoreG (level_view c.args.level)) ∷ s) (read_operations left c.loop-place.list.items v) c.in-Some.ensures.0
+    ∙ operator_taken (level_view c.args.level) c.in-Some.operator c.in-Some.place s (read_operations left c.loop-place.list.items v) (ahead c.in-Some.after) c.in-Some.ensures.1)
+    (c.in_err-operand.ensures.leads (Do (make_binary c.in-Some.place c.in-Some.operator) ∷ (again (level_view c.args.level) ++ s)) (read_operations left c.loop-place.list.items v) (ap (λ (n : ℕ). n + c.args.room) (depth_again (level_view c.args.level) s) ∙ d))
+
+pub operations-returns-then-is_relations-clause-leads : goal.operations-returns-then-is_relations-clause-leads
+operations-returns-then-is_relations-clause-leads t c = λ left s v d. c.loop-place.invariant.leads left s v d
+    ∙ taken (Want (MoreG (level_view c.args.level)) ∷ s) (read_operations left c.loop-place.list.items v) c.in-Some.ensures.0
+    ∙ operator_taken (level_view c.args.level) c.in-Some.operator c.in-Some.place s (read_operations left c.loop-place.list.items v) (ahead c.in-Some.after) c.in-Some.ensures.1
+    ∙ c.in_ok-operand.ensures.leads (Do (make_binary c.in-Some.place c.in-Some.operator) ∷ (again (level_view c.args.level) ++ s)) (read_operations left c.loop-place.list.items v) (ap (λ (n : ℕ). n + c.args.room) (depth_again (level_view c.args.level) s) ∙ d)
+    ∙ quiet c.in_ok-operand.behind (Do (make_binary c.in-Some.place c.in-Some.operator) ∷ (again (level_view c.args.level) ++ s)) (again (level_view c.args.level) ++ s) (read_expression c.in_ok-operand.operand (read_operations left c.loop-place.list.items v)) (ExpressionR (BinaryE c.in-Some.place c.in-Some.operator (leaned left c.loop-place.list.items) (expression_of c.in_ok-operand.operand)) ∷ v) (λ t q. refl)
+    ∙ seen (again (level_view c.args.level) ++ s) v c.in_ok-operand.behind (sym (operation_pushed left c.loop-place.list.items (operation c.in-Some.place c.in-Some.operator c.in_ok-operand.operand)))
+    ∙ ap (λ (x : List Symbol). run 64 x (read_operations left (c.loop-place.list.items ++ operation c.in-Some.place c.in-Some.operator c.in_ok-operand.operand ∷ []) v) (ahead c.in_ok-operand.behind)) (again_relations (level_view c.args.level) (sym c.is_relations.ensures ∙ c.if-is_relations.true) s)
+    ∙ ap (λ (os : List Operation). run 64 s (read_operations left os v) (ahead c.in_ok-operand.behind)) (sym c.in_ok-push.ensures.items)
+
+pub operations-loop-place-init : goal.operations-loop-place-init
+operations-loop-place-init t c = record { leads = λ left s v d. ap (λ (os : List Operation). run 64 (Want (MoreG (level_view c.args.level)) ∷ s) (read_operations left os v) (ahead c.args.cursor)) (sym c.new-list.ensures.items); shorter = omega arith }
+
+pub operations-loop-place-preserved : goal.operations-loop-place-preserved
+operations-loop-place-preserved t c = record {
+  leads = λ left s v d. c.loop-place.invariant.leads left s v d
+      ∙ taken (Want (MoreG (level_view c.args.level)) ∷ s) (read_operations left c.loop-place.list.items v) c.in-Some.ensures.0
+      ∙ operator_taken (level_view c.args.level) c.in-Some.operator c.in-Some.place s (read_operations left c.loop-place.list.items v) (ahead c.in-Some.after) c.in-Some.ensures.1
+      ∙ c.in_ok-operand.ensures.leads (Do (make_binary c.in-Some.place c.in-Some.operator) ∷ (again (level_view c.args.level) ++ s)) (read_operations left c.loop-place.list.items v) (ap (λ (n : ℕ). n + c.args.room) (depth_again (level_view c.args.level) s) ∙ d)
+      ∙ quiet c.in_ok-operand.behind (Do (make_binary c.in-Some.place c.in-Some.operator) ∷ (again (level_view c.args.level) ++ s)) (again (level_view c.args.level) ++ s) (read_expression c.in_ok-operand.operand (read_operations left c.loop-place.list.items v)) (ExpressionR (BinaryE c.in-Some.place c.in-Some.operator (leaned left c.loop-place.list.items) (expression_of c.in_ok-operand.operand)) ∷ v) (λ t q. refl)
+      ∙ seen (again (level_view c.args.level) ++ s) v c.in_ok-operand.behind (sym (operation_pushed left c.loop-place.list.items (operation c.in-Some.place c.in-Some.operator c.in_ok-operand.operand)))
+      ∙ ap (λ (x : List Symbol). run 64 x (read_operations left (c.loop-place.list.items ++ operation c.in-Some.place c.in-Some.operator c.in_ok-operand.operand ∷ []) v) (ahead c.in_ok-operand.behind)) (again_others (level_view c.args.level) (sym c.is_relations.ensures ∙ c.if-is_relations.false) s)
+      ∙ ap (λ (os : List Operation). run 64 (Want (MoreG (level_view c.args.level)) ∷ s) (read_operations left os v) (ahead c.in_ok-operand.behind)) (sym c.in_ok-push.ensures.items);
+  shorter = omega (arith, c.loop-place.invariant.shorter, c.in-Some.ensures.0.shorter, c.in_ok-operand.ensures.within);
 }
 
 pub negation-returns-in_err-level_down-in-Some-clause-leads : goal.negation-returns-in_err-level_down-in-Some-clause-leads
@@ -129,21 +157,26 @@ parenthesised-returns-in-Some-clause-leads t c = λ s v d. arrives_behind read_e
 pub parenthesised-returns-in_err-inside-clause-leads : goal.parenthesised-returns-in_err-inside-clause-leads
 parenthesised-returns-in_err-inside-clause-leads t c = λ s v d. failed read_expression s v c.from_residual-in_err-inside.result c.in_err-inside.field-0.0 c.from_residual-in_err-inside.ensures.1
     (inside_goes c.args.place c.args.cursor s v c.in_default.ensures)
-    (c.in_err-inside.ensures.leads (closing c.args.place ++ s) v d)
-
-pub parenthesised-returns-in_err-rest-clause-leads : goal.parenthesised-returns-in_err-rest-clause-leads
-parenthesised-returns-in_err-rest-clause-leads t c = λ s v d. failed read_expression s v c.from_residual-in_err-rest.result c.in_err-rest.field-0.0 c.from_residual-in_err-rest.ensures.1
-    (inside_goes c.args.place c.args.cursor s v c.in_default.ensures
-    ∙ c.in_ok-inside.ensures.leads (closing c.args.place ++ s) v d
-    ∙ need_refused (Sign mark.RightParenthesis) c.in_ok-inside.behind (Do (make_parenthesised c.args.place) ∷ s) _ c.in_err-rest.ensures.0)
-    (refusal c.in_err-rest.field-0.0 c.in_ok-inside.behind c.in_err-rest.ensures.1 refl)
+    (c.in_err-inside.ensures.leads (Do (make_parenthesised c.args.place) ∷ s) v d)
 
 pub parenthesised-returns-clause-leads : goal.parenthesised-returns-clause-leads
 parenthesised-returns-clause-leads t c = λ s v d. inside_goes c.args.place c.args.cursor s v c.in_default.ensures
-    ∙ c.in_ok-inside.ensures.leads (closing c.args.place ++ s) v d
-    ∙ taken (closing c.args.place ++ s) _ c.in_ok-rest.ensures.1
-    ∙ quiet c.in_ok-rest.rest (Do (make_parenthesised c.args.place) ∷ s) s (read_expression c.in_ok-inside.inside v) (ExpressionR (ParenthesisedE c.args.place (expression_of c.in_ok-inside.inside)) ∷ v) (λ t q. refl)
-    ∙ seen s v c.in_ok-rest.rest (ap (λ (e : Expression). ParenthesisedE c.args.place (expression_of e)) (sym c.in_ok-new.ensures.ok))
+    ∙ c.in_ok-inside.ensures.leads (Do (make_parenthesised c.args.place) ∷ s) v d
+    ∙ quiet c.in_ok-inside.rest (Do (make_parenthesised c.args.place) ∷ s) s (read_boxed c.in_ok-inside.inside v) (ExpressionR (ParenthesisedE c.args.place (expression_of c.in_ok-inside.inside.value)) ∷ v) (λ t q. refl)
+
+pub closed-returns-in_err-rest-clause-leads : goal.closed-returns-in_err-rest-clause-leads
+closed-returns-in_err-rest-clause-leads t c = λ s v d. failed read_boxed s v c.from_residual-in_err-rest.result c.in_err-rest.field-0.0 c.from_residual-in_err-rest.ensures.1
+    (c.in_ok-inside.ensures.leads (need mark.RightParenthesis ∷ s) v d
+    ∙ need_refused (Sign mark.RightParenthesis) c.in_ok-inside.behind s _ c.in_err-rest.ensures.0)
+    (refusal c.in_err-rest.field-0.0 c.in_ok-inside.behind c.in_err-rest.ensures.1 refl)
+
+pub closed-returns-in_err-new-clause-leads : goal.closed-returns-in_err-new-clause-leads
+closed-returns-in_err-new-clause-leads t c = λ s v d. out_of_memory read_boxed s v c.from_residual-in_err-new.result (run 64 (an_expression (need mark.RightParenthesis ∷ s)) v (ahead c.args.cursor)) c.from_residual-in_err-new.ensures.1
+
+pub closed-returns-clause-leads : goal.closed-returns-clause-leads
+closed-returns-clause-leads t c = λ s v d. c.in_ok-inside.ensures.leads (need mark.RightParenthesis ∷ s) v d
+    ∙ taken (need mark.RightParenthesis ∷ s) (read_expression c.in_ok-inside.inside v) c.in_ok-rest.ensures.1
+    ∙ seen s v c.in_ok-rest.rest (ap expression_of (sym c.in_ok-new.ensures.ok))
 
 pub primary-returns-in_err-reference-clause-leads : goal.primary-returns-in_err-reference-clause-leads
 primary-returns-in_err-reference-clause-leads t c = λ s v d. failed read_expression s v c.from_residual.result c.in_err-reference.field-0.0 c.from_residual.ensures.1
@@ -195,16 +228,14 @@ selector-returns-in_err-level_down-clause-leads t c = λ n es s v d. failed (rea
     ∙ too_deep (depth s) c.args.room c.in-Some-mark.inner (run 64 (an_expression (need mark.RightParenthesis ∷ Leave ∷ Do set_member_subscript ∷ s)) (ExpressionR (ReferenceE (ReferenceOf n es (member (name_of c.in_ok-name.name)))) ∷ v) (ahead c.in-Some-mark.inner)) d c.in_err-level_down.ensures.0)
     (depth_failure c.in_err-level_down.field-0.0 c.in-Some-mark.inner c.in_err-level_down.ensures.1 refl)
 
-pub selector-returns-in_err-rest-clause-leads : goal.selector-returns-in_err-rest-clause-leads
-selector-returns-in_err-rest-clause-leads t c = λ n es s v d. failed (read_selector n es) s v c.from_residual-in_err-rest.result c.in_err-rest.field-0.0 c.from_residual-in_err-rest.ensures.1
+pub selector-returns-in_err-subscript-clause-leads : goal.selector-returns-in_err-subscript-clause-leads
+selector-returns-in_err-subscript-clause-leads t c = λ n es s v d. failed (read_selector n es) s v c.from_residual-in_err-subscript.result c.in_err-subscript.field-0.0 c.from_residual-in_err-subscript.ensures.1
     (taken (Want SelectorG ∷ s) (ExpressionR (ReferenceE (ReferenceOf n es no_member)) ∷ v) c.in-Some.ensures
     ∙ taken (Want MemberG ∷ s) (ExpressionR (ReferenceE (ReferenceOf n es no_member)) ∷ v) c.in_ok-name.ensures
     ∙ quiet c.in_ok-name.behind (Do (set_member (name_of c.in_ok-name.name)) ∷ Want MemberSubscriptG ∷ s) (Want MemberSubscriptG ∷ s) (ExpressionR (ReferenceE (ReferenceOf n es no_member)) ∷ v) (ExpressionR (ReferenceE (ReferenceOf n es (member (name_of c.in_ok-name.name)))) ∷ v) (λ t q. refl)
     ∙ taken (Want MemberSubscriptG ∷ s) (ExpressionR (ReferenceE (ReferenceOf n es (member (name_of c.in_ok-name.name)))) ∷ v) c.in-Some-mark.ensures
-    ∙ entered (depth s) c.args.room c.in_ok-level_down.field-0 (length (ahead c.in-Some-mark.inner)) (run 64 (an_expression (need mark.RightParenthesis ∷ Leave ∷ Do set_member_subscript ∷ s)) (ExpressionR (ReferenceE (ReferenceOf n es (member (name_of c.in_ok-name.name)))) ∷ v) (ahead c.in-Some-mark.inner)) d c.in_ok-level_down.ensures
-    ∙ c.in_ok-subscript.ensures.leads (need mark.RightParenthesis ∷ Leave ∷ Do set_member_subscript ∷ s) (ExpressionR (ReferenceE (ReferenceOf n es (member (name_of c.in_ok-name.name)))) ∷ v) (deeper (depth s) c.args.room c.in_ok-level_down.field-0 d c.in_ok-level_down.ensures)
-    ∙ need_refused (Sign mark.RightParenthesis) c.in_ok-subscript.closing (Leave ∷ Do set_member_subscript ∷ s) _ c.in_err-rest.ensures.0)
-    (refusal c.in_err-rest.field-0.0 c.in_ok-subscript.closing c.in_err-rest.ensures.1 refl)
+    ∙ entered (depth s) c.args.room c.in_ok-level_down.field-0 (length (ahead c.in-Some-mark.inner)) (run 64 (an_expression (need mark.RightParenthesis ∷ Leave ∷ Do set_member_subscript ∷ s)) (ExpressionR (ReferenceE (ReferenceOf n es (member (name_of c.in_ok-name.name)))) ∷ v) (ahead c.in-Some-mark.inner)) d c.in_ok-level_down.ensures)
+    (c.in_err-subscript.ensures.leads (Leave ∷ Do set_member_subscript ∷ s) (ExpressionR (ReferenceE (ReferenceOf n es (member (name_of c.in_ok-name.name)))) ∷ v) (deeper (depth s) c.args.room c.in_ok-level_down.field-0 d c.in_ok-level_down.ensures))
 
 pub selector-returns-clause-leads : goal.selector-returns-clause-leads
 selector-returns-clause-leads t c = λ n es s v d. taken (Want SelectorG ∷ s) (ExpressionR (ReferenceE (ReferenceOf n es no_member)) ∷ v) c.in-Some.ensures
@@ -212,10 +243,8 @@ selector-returns-clause-leads t c = λ n es s v d. taken (Want SelectorG ∷ s) 
     ∙ quiet c.in_ok-name.behind (Do (set_member (name_of c.in_ok-name.name)) ∷ Want MemberSubscriptG ∷ s) (Want MemberSubscriptG ∷ s) (ExpressionR (ReferenceE (ReferenceOf n es no_member)) ∷ v) (ExpressionR (ReferenceE (ReferenceOf n es (member (name_of c.in_ok-name.name)))) ∷ v) (λ t q. refl)
     ∙ taken (Want MemberSubscriptG ∷ s) (ExpressionR (ReferenceE (ReferenceOf n es (member (name_of c.in_ok-name.name)))) ∷ v) c.in-Some-mark.ensures
     ∙ entered (depth s) c.args.room c.in_ok-level_down.field-0 (length (ahead c.in-Some-mark.inner)) (run 64 (an_expression (need mark.RightParenthesis ∷ Leave ∷ Do set_member_subscript ∷ s)) (ExpressionR (ReferenceE (ReferenceOf n es (member (name_of c.in_ok-name.name)))) ∷ v) (ahead c.in-Some-mark.inner)) d c.in_ok-level_down.ensures
-    ∙ c.in_ok-subscript.ensures.leads (need mark.RightParenthesis ∷ Leave ∷ Do set_member_subscript ∷ s) (ExpressionR (ReferenceE (ReferenceOf n es (member (name_of c.in_ok-name.name)))) ∷ v) (deeper (depth s) c.args.room c.in_ok-level_down.field-0 d c.in_ok-level_down.ensures)
-    ∙ taken (need mark.RightParenthesis ∷ Leave ∷ Do set_member_subscript ∷ s) _ c.in_ok-rest.ensures.1
-    ∙ quiet c.in_ok-rest.rest (Leave ∷ Do set_member_subscript ∷ s) s (read_expression c.in_ok-subscript.subscript (ExpressionR (ReferenceE (ReferenceOf n es (member (name_of c.in_ok-name.name)))) ∷ v)) (ExpressionR (ReferenceE (ReferenceOf n es (member_at (name_of c.in_ok-name.name) (expression_of c.in_ok-subscript.subscript)))) ∷ v) (λ t q. refl)
-    ∙ seen s v c.in_ok-rest.rest (ap (λ (e : Expression). ReferenceE (ReferenceOf n es (member_at (name_of c.in_ok-name.name) (expression_of e)))) (sym c.in_ok-new.ensures.ok))
+    ∙ c.in_ok-subscript.ensures.leads (Leave ∷ Do set_member_subscript ∷ s) (ExpressionR (ReferenceE (ReferenceOf n es (member (name_of c.in_ok-name.name)))) ∷ v) (deeper (depth s) c.args.room c.in_ok-level_down.field-0 d c.in_ok-level_down.ensures)
+    ∙ quiet c.in_ok-subscript.rest (Leave ∷ Do set_member_subscript ∷ s) s (read_boxed c.in_ok-subscript.subscript (ExpressionR (ReferenceE (ReferenceOf n es (member (name_of c.in_ok-name.name)))) ∷ v)) (ExpressionR (ReferenceE (ReferenceOf n es (member_at (name_of c.in_ok-name.name) (expression_of c.in_ok-subscript.subscript.value)))) ∷ v) (λ t q. refl)
 
 pub signed-returns-in_err-level_down-clause-leads : goal.signed-returns-in_err-level_down-clause-leads
 signed-returns-in_err-level_down-clause-leads t c = λ s v d. failed read_expression s v c.from_residual.result c.in_err-level_down.field-0.0 c.from_residual.ensures.1

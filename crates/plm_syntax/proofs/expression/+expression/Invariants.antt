@@ -1,10 +1,11 @@
 use Rattle.std.proofs.Common.{◌≡◌, ◌∷◌, ℕ, suc, List, ◌+◌, ◌*◌, ◌≤◌, length}
 use Rattle.plm_syntax.specs.Terminal.{NameT}
+use Rattle.plm_syntax.specs.Tree.{ExpressionT}
 use Rattle.plm_syntax.specs.View.{expressions_of, values_of}
-use Rattle.plm_syntax.specs.Symbol.{Value, Level, Symbol, depth, Products, Sums, Relations, Conjunctions, Disjunctions, ExpressionsR, ValuesR, Want, Do, Leave, MoreG, SubscriptsG, MoreSubscriptsG, MoreValuesG}
+use Rattle.plm_syntax.specs.Symbol.{Value, Level, Symbol, depth, Products, Sums, Relations, Conjunctions, Disjunctions, ExpressionR, ExpressionsR, ValuesR, Want, Do, Leave, MoreG, SubscriptsG, MoreSubscriptsG, MoreValuesG}
 use Rattle.plm_syntax.specs.Machine.{a_value_list, set_subscripts, run}
 use Rattle.plm_syntax.specs.Parsed.{ahead}
-use Rattle.plm_syntax.specs.Parts.{level_view, read_expression, reference_read}
+use Rattle.plm_syntax.specs.Parts.{level_view, read_operations, reference_read}
 use Rattle.plm_syntax.proofs.expression.+expression.Given as goal
 
 -- how many calls may follow one at the same token
@@ -16,13 +17,16 @@ rank Conjunctions = 9
 rank Disjunctions = 11
 
 abbrev pub decreases-more : goal.decreases-more
-decreases-more l = 16 * length l.cursor.tokens.now
+decreases-more l = 16 * length l.cursor.tokens.now + 1
+
+abbrev pub decreases-operations : goal.decreases-operations
+decreases-operations l = 16 * length l.cursor.tokens.now
 
 abbrev pub decreases-climb : goal.decreases-climb
-decreases-climb l = 16 * length l.cursor.tokens.now + 1
+decreases-climb l = 16 * length l.cursor.tokens.now + 2
 
 abbrev pub decreases-behind_reference : goal.decreases-behind_reference
-decreases-behind_reference l = 16 * length l.cursor.tokens.now + 2
+decreases-behind_reference l = 16 * length l.cursor.tokens.now + 3
 
 abbrev pub decreases-subscripts : goal.decreases-subscripts
 decreases-subscripts l = 16 * length l.cursor.tokens.now
@@ -58,18 +62,21 @@ abbrev pub decreases-negation : goal.decreases-negation
 decreases-negation l = 16 * length l.cursor.tokens.now + 8
 
 abbrev pub decreases-parenthesised : goal.decreases-parenthesised
-decreases-parenthesised l = 16 * length l.cursor.tokens.now + 13
+decreases-parenthesised l = 16 * length l.cursor.tokens.now + 14
 
-abbrev pub invariant-more-loop-place : goal.invariant-more-loop-place
-invariant-more-loop-place l = record {
-  leads : (s : List Symbol) (v : List Value) → depth s + l.room ≡ 64
-      → run 64 (Want (MoreG (level_view l.level)) ∷ s) (read_expression l.fn.first v) (ahead l.fn.cursor)
-      ≡ run 64 (Want (MoreG (level_view l.level)) ∷ s) (read_expression l.left v) (ahead l.rest);
+abbrev pub decreases-closed : goal.decreases-closed
+decreases-closed l = 16 * length l.cursor.tokens.now + 13
+
+abbrev pub invariant-operations-loop-place : goal.invariant-operations-loop-place
+invariant-operations-loop-place l = record {
+  leads : (left : ExpressionT) (s : List Symbol) (v : List Value) → depth s + l.room ≡ 64
+      → run 64 (Want (MoreG (level_view l.level)) ∷ s) (ExpressionR left ∷ v) (ahead l.fn.cursor)
+      ≡ run 64 (Want (MoreG (level_view l.level)) ∷ s) (read_operations left l.list.items v) (ahead l.rest);
   shorter : length l.rest.tokens.now ≤ length l.fn.cursor.tokens.now;
 }
 
-abbrev pub decreases-more-loop-place : goal.decreases-more-loop-place
-decreases-more-loop-place l = length l.rest.tokens.now
+abbrev pub decreases-operations-loop-place : goal.decreases-operations-loop-place
+decreases-operations-loop-place l = length l.rest.tokens.now
 
 abbrev pub invariant-subscripts-loop-after : goal.invariant-subscripts-loop-after
 invariant-subscripts-loop-after l = record {

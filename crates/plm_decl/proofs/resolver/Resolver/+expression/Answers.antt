@@ -1,15 +1,19 @@
-use Rattle.std.proofs.Common.{map, take, sym, ap, ◌∙◌}
+use Rattle.std.proofs.Common.{◌+◌, List, ◌∷◌, map, take, drop, drop-cons, add-one, sym, ap, ◌∙◌}
+use Rattle.std.proofs.lemmas.List.{at_drop_all}
+use Rattle.plm_syntax.specs.declared.tree.Operation.{Operation}
 use Rattle.plm_decl.proofs.ListViews.{value_list_from}
 use Rattle.plm_syntax.specs.Tree.{no_values, ExpressionT, ReferenceE, EmbeddedE, LocationT, ExpressionsT, LocationOf}
 use Rattle.plm_syntax.specs.View as tree
-use Rattle.plm_syntax.proofs.Rows.{value_row}
+use Rattle.plm_syntax.proofs.Rows.{value_row, operation_row}
 use Rattle.plm_decl.specs.Scopes.{levels_of}
 use Rattle.plm_decl.specs.Known.{Known, known_of}
 use Rattle.plm_decl.specs.Lists.{value_list}
-use Rattle.plm_decl.specs.Resolved.{ExpressionR, ReferenceR, and_expression}
+use Rattle.plm_decl.specs.Resolved.{ExpressionR, BinaryR, ReferenceR, and_expression}
 use Rattle.plm_decl.specs.Resolved as resolved
 use Rattle.plm_decl.specs.ResolvedView as view
 use Rattle.plm_decl.specs.Expressions.{expression, reference, subscripts, location, constant_bytes}
+use Rattle.plm_decl.specs.ExpressionsView.{chained}
+use Rattle.plm_decl.proofs.Chains.{chained_is}
 use Rattle.plm_decl.proofs.ResolvedRows as rows
 use Rattle.plm_decl.proofs.SyntaxLists.{expression_next}
 use Rattle.plm_decl.proofs.TreeViews.{reference_laid, reference_placed}
@@ -100,3 +104,75 @@ location-returns-in_ok-object-in-Constants-clause-known t c =
     ∙ ap (λ ws. (constant_bytes levels p ws k).1) (ap (map tree.value_of) c.deref.ensures.value ∙ sym (value_list_from vs.items no_values))
     ∙ ap (λ ws. (constant_bytes levels p (value_list ws) k).1) (sym (value_row vs))
     ∙ ap (λ (l : LocationT). (location levels l k).1) (sym (ap tree.location_of c.in-Constants.is))
+
+pub operations-loop-operation-preserved : goal.operations-loop-operation-preserved
+operations-loop-operation-preserved t c =
+    let here = c.loop-operation in
+    let levels = levels_of c.args.scope.now in
+    let all = c.args.operations.now in
+    let i = here.operation-index in
+    let x = c.operation-item.result in
+    let did = c.in_ok-operand.ensures in
+    let one = sym (add-one i) in
+    let is = sym c.operation-item.is in
+    let next = drop-cons all i x c.loop-operation-test.true ∙ (λ j. is j ∷ drop (one j) all) in
+    λ left.
+    let before = view.leaned left here.resolved.items in
+    let pushed = ap (view.leaned left) c.in_ok-push.ensures.items ∙ rows.operation_pushed left here.resolved.items _ ∙ ap (BinaryR x.place x.operator before) did.value in
+    (λ j. chained levels (pushed j) (drop (i + 1) all) (did.known j))
+    ∙ ap (λ (os : List Operation). chained levels before os (known_of here.self)) (sym next)
+    ∙ here.invariant left
+
+pub operations-returns-clause-value : goal.operations-returns-clause-value
+operations-returns-clause-value t c =
+    let here = c.loop-operation in
+    let levels = levels_of c.args.scope.now in
+    λ left.
+    ap (λ (r : ExpressionR × Known). r.0)
+    (sym (at_drop_all (λ (os : List Operation). chained levels (view.leaned left here.resolved.items) os (known_of here.self)) c.args.operations.now here.operation-index c.loop-operation-test.false)
+    ∙ here.invariant left)
+
+pub operations-returns-clause-known : goal.operations-returns-clause-known
+operations-returns-clause-known t c =
+    let here = c.loop-operation in
+    let levels = levels_of c.args.scope.now in
+    λ left.
+    ap (λ (r : ExpressionR × Known). r.1)
+    (sym (at_drop_all (λ (os : List Operation). chained levels (view.leaned left here.resolved.items) os (known_of here.self)) c.args.operations.now here.operation-index c.loop-operation-test.false)
+    ∙ here.invariant left)
+
+pub expression-returns-in_ok-new-in-Chain-clause-value : goal.expression-returns-in_ok-new-in-Chain-clause-value
+expression-returns-in_ok-new-in-Chain-clause-value t c =
+    let levels = levels_of c.args.scope.now in
+    let k = known_of c.args.self.now in
+    let at = c.in-Chain in
+    let left = tree.expression_of at.first.value in
+    let first = c.in_ok-first-in-Chain in
+    let made = c.in_ok-others-in-Chain in
+    let there = c.deref-in-Chain.ensures in
+    let value = first.ensures.value ∙ ap (λ e. (expression levels (tree.expression_of e) k).0) there in
+    let known = first.ensures.known ∙ ap (λ e. (expression levels (tree.expression_of e) k).1) there in
+    let done = expression levels left k in
+    rows.operation_row (view.expression_of c.in_ok-new-in-Chain.field-0.value) made.others
+    ∙ (λ j. view.leaned (view.expression_of (c.in_ok-new-in-Chain.ensures.ok j)) made.others.items)
+    ∙ (λ j. view.leaned (value j) made.others.items)
+    ∙ made.ensures.value done.0
+    ∙ (λ j. (chained levels done.0 (c.deref-in-Chain-2.ensures.value j) (known j)).0)
+    ∙ ap (λ (r : ExpressionR × Known). r.0) (chained_is levels left at.others.items k)
+    ∙ ap (λ (e : ExpressionT). (expression levels e k).0) (sym (operation_row left at.others))
+    ∙ ap (λ (e : ExpressionT). (expression levels e k).0) (sym (ap tree.expression_of at.is))
+
+pub expression-returns-in_ok-new-in-Chain-clause-known : goal.expression-returns-in_ok-new-in-Chain-clause-known
+expression-returns-in_ok-new-in-Chain-clause-known t c =
+    let levels = levels_of c.args.scope.now in
+    let k = known_of c.args.self.now in
+    let at = c.in-Chain in
+    let left = tree.expression_of at.first.value in
+    let there = c.deref-in-Chain.ensures in
+    let known = c.in_ok-first-in-Chain.ensures.known ∙ ap (λ e. (expression levels (tree.expression_of e) k).1) there in
+    let done = expression levels left k in
+    c.in_ok-others-in-Chain.ensures.known done.0
+    ∙ (λ j. (chained levels done.0 (c.deref-in-Chain-2.ensures.value j) (known j)).1)
+    ∙ ap (λ (r : ExpressionR × Known). r.1) (chained_is levels left at.others.items k)
+    ∙ ap (λ (e : ExpressionT). (expression levels e k).1) (sym (operation_row left at.others))
+    ∙ ap (λ (e : ExpressionT). (expression levels e k).1) (sym (ap tree.expression_of at.is))

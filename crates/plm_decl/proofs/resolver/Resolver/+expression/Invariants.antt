@@ -1,9 +1,11 @@
-use Rattle.std.proofs.Common.{◌≡◌, take}
+use Rattle.std.proofs.Common.{◌≡◌, take, drop}
 use Rattle.plm_syntax.specs.View.{expressions_of}
 use Rattle.plm_decl.specs.Scopes.{levels_of}
 use Rattle.plm_decl.specs.Known.{known_of}
+use Rattle.plm_decl.specs.Resolved.{ExpressionR}
 use Rattle.plm_decl.specs.ResolvedView as view
 use Rattle.plm_decl.specs.Expressions.{subscripts}
+use Rattle.plm_decl.specs.ExpressionsView.{chained}
 use Rattle.plm_decl.proofs.resolver.Resolver.+expression.Given as goal
 
 abbrev pub invariant-subscripts-loop-subscript : goal.invariant-subscripts-loop-subscript
@@ -13,3 +15,9 @@ invariant-subscripts-loop-subscript l =
       value : view.expressions_of l.resolved.items ≡ done.0;
       known : known_of l.self ≡ done.1;
     }
+
+abbrev pub invariant-operations-loop-operation : goal.invariant-operations-loop-operation
+invariant-operations-loop-operation l =
+    (left : ExpressionR)
+    → chained (levels_of l.scope) (view.leaned left l.resolved.items) (drop l.operation-index l.operations) (known_of l.self)
+    ≡ chained (levels_of l.scope) left l.operations (known_of l.initial.self)
