@@ -11,7 +11,7 @@ for crate in word86 i86_table i86_code cpu8086; do
     cp -r "$root/crates/$crate" "$work/crates/"
 done
 grep -E '^(word86|i86_table|i86_code|cpu8086):' "$root/crates.txt" > "$work/crates.txt"
-echo 'cpu_speed: cpu8086 word86 anyhow arrayvec' >> "$work/crates.txt"
+echo 'cpu_speed: cpu8086 i86_table word86 anyhow arrayvec' >> "$work/crates.txt"
 cp "$here/main.rt.txt" "$work/crates/cpu_speed/src/main.rt"
 cp "$here/ram.rt.txt" "$work/crates/cpu_speed/src/ram.rt"
 cp "$here/Ram.antt.txt" "$work/crates/cpu_speed/specs/Ram.antt"

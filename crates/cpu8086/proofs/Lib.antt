@@ -1,3 +1,4 @@
 pub mod Computing
 pub mod Fetching
 pub mod Windows
+pub mod Entries

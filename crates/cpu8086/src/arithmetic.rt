@@ -4,16 +4,16 @@ ghost use Rattle.std.specs.Prelude.{◌≡◌, not, ◌+◌, ◌*◌, ◌<◌, �
 ghost use Rattle.i86_table.specs.Arithmetic.{size_of};
 ghost use Rattle.arrayvec.specs.ArrayVec.{array_vec_len};
 ghost use Rattle.cpu8086.specs.Machine.{machine};
-ghost use Rattle.cpu8086.specs.Operands.{located, in_memory};
+ghost use Rattle.cpu8086.specs.Operands.{located, in_memory, held};
 ghost use Rattle.cpu8086.specs.Arithmetic.{computed, computed_at, register_computed, register_changed, is_compare, changed_in_place, tested_place, shift_count, shifted_place, multiplied_byte, multiplied_word, divided_byte, divided_word};
 
 use crate::bus::Bus;
 use crate::control::interrupt;
 use crate::memory::Labels;
-use crate::operand::{Operand, locate, locate_memory, read_mask, read_source};
+use crate::operand::{Operand, locate, locate_memory, read_mask, read_memory};
 use i86_table::{
     AluOperation, Count, Memory, Operands, Place, Register8, Register16, Regs, ShiftOperation,
-    Signedness, TestMask, UnaryOperation, change, divide, multiply, operate, shift, test,
+    Signedness, TestMask, UnaryOperation, divide,
 };
 use word86::Width;
 
@@ -26,8 +26,8 @@ fn is_stored(operation: AluOperation) -> bool
 }
 
 /// ADD, OR, ADC, SBB, AND, SUB, XOR; CMP stores nothing.
-#[tactic(auto, unfolding(crate::specs::Arithmetic::computed, crate::specs::Arithmetic::computed_at))]
-#[inline(always)]
+#[tactic(auto, using(crate::proofs::Computing::computed_register), unfolding(crate::specs::Arithmetic::computed, crate::specs::Arithmetic::computed_at))]
+#[inline(never)]
 pub(crate) fn compute<R: Operand, B: Bus>(
     registers: &mut Regs,
     bus: &mut B,
@@ -39,16 +39,33 @@ pub(crate) fn compute<R: Operand, B: Bus>(
     ensures { machine registers.new (B.world bus.new) labels.new.items
         ≡ computed B.meaning R.bank operation operands.now (machine registers.old (B.world bus.old) labels.old.items) }
 {
-    let second = read_source(registers, bus, operands);
     match operands {
-        Operands::FromRegister(place, _) | Operands::Immediate(place, _) => {
+        Operands::FromRegister(place, source) => {
+            let second = source.value(registers);
             compute_place(registers, bus, labels, operation, place, second);
         }
-        Operands::FromMemory(register, _) => {
-            let place = Place::Register(*register);
-            compute_place(registers, bus, labels, operation, &place, second);
+        Operands::Immediate(place, number) => {
+            let second = R::number(*number);
+            compute_place(registers, bus, labels, operation, place, second);
+        }
+        Operands::FromMemory(register, memory) => {
+            compute_from_memory(registers, bus, operation, *register, memory);
         }
     }
+}
+
+#[inline(never)]
+fn compute_from_memory<R: Operand, B: Bus>(
+    registers: &mut Regs,
+    bus: &B,
+    operation: AluOperation,
+    register: R,
+    memory: &Memory,
+)
+    ensures { registers.new ≡ register_computed R.bank operation register (held B.meaning R.bank registers.old (B.world bus.now) (in_memory registers.old memory.now)) registers.old }
+{
+    let second = read_memory::<R, B>(registers, bus, memory);
+    compute_register(registers, operation, register, second);
 }
 
 #[tactic(auto, using(crate::proofs::Computing::computed_register))]
@@ -75,7 +92,7 @@ fn compute_place<R: Operand, B: Bus>(
 }
 
 #[tactic(auto, unfolding(crate::specs::Arithmetic::register_computed))]
-#[inline(never)]
+#[inline(always)]
 fn compute_register<R: Operand>(
     registers: &mut Regs,
     operation: AluOperation,
@@ -86,10 +103,9 @@ fn compute_register<R: Operand>(
     ensures { registers.new ≡ register_computed R.bank operation register second registers.old }
 {
     let first = register.value(registers);
-    let outcome = operate(operation, R::width(), first, second, registers.flags);
-    registers.flags = outcome.flags;
+    let result = registers.operate(operation, R::width(), first, second);
     if is_stored(operation) {
-        register.set(registers, outcome.value);
+        register.set(registers, result);
     }
 }
 
@@ -110,16 +126,15 @@ fn compute_memory<R: Operand, B: Bus>(
 {
     let target = locate_memory::<R>(registers, memory);
     let first = target.read(registers, bus);
-    let outcome = operate(operation, R::width(), first, second, registers.flags);
-    registers.flags = outcome.flags;
+    let result = registers.operate(operation, R::width(), first, second);
     if is_stored(operation) {
-        target.write(registers, bus, labels, outcome.value);
+        target.write(registers, bus, labels, result);
     }
 }
 
 /// NOT, NEG, INC, DEC.
 #[tactic(auto, unfolding(crate::specs::Arithmetic::changed_in_place))]
-#[inline(always)]
+#[inline(never)]
 pub(crate) fn change_in_place<R: Operand, B: Bus>(
     registers: &mut Regs,
     bus: &mut B,
@@ -137,14 +152,13 @@ pub(crate) fn change_in_place<R: Operand, B: Bus>(
     }
 }
 
-#[inline(never)]
+#[inline(always)]
 fn change_register<R: Operand>(registers: &mut Regs, operation: UnaryOperation, register: R)
     ensures { registers.new ≡ register_changed R.bank operation register registers.old }
 {
     let value = register.value(registers);
-    let outcome = change(operation, R::width(), value, registers.flags);
-    registers.flags = outcome.flags;
-    register.set(registers, outcome.value);
+    let result = registers.change(operation, R::width(), value);
+    register.set(registers, result);
 }
 
 #[tactic(auto, unfolding(crate::specs::Arithmetic::changed_in_place))]
@@ -162,9 +176,8 @@ fn change_located<R: Operand, B: Bus>(
 {
     let target = locate(registers, place);
     let value = target.read(registers, bus);
-    let outcome = change(operation, R::width(), value, registers.flags);
-    registers.flags = outcome.flags;
-    target.write(registers, bus, labels, outcome.value);
+    let result = registers.change(operation, R::width(), value);
+    target.write(registers, bus, labels, result);
 }
 
 /// TEST: the flags alone.
@@ -180,7 +193,7 @@ pub(crate) fn test_place<R: Operand, B: Bus>(
 {
     let first = locate(registers, place).read(registers, bus);
     let second = read_mask(registers, mask);
-    registers.flags = test(R::width(), first, second, registers.flags);
+    registers.test(R::width(), first, second);
 }
 
 #[inline(always)]
@@ -211,9 +224,8 @@ pub(crate) fn shift_place<R: Operand, B: Bus>(
     let target = locate(registers, place);
     let value = target.read(registers, bus);
     let count = shift_count(registers, count);
-    let outcome = shift(operation, R::width(), value, count, registers.flags);
-    registers.flags = outcome.flags;
-    target.write(registers, bus, labels, outcome.value);
+    let result = registers.shift(operation, R::width(), value, count);
+    target.write(registers, bus, labels, result);
 }
 
 /// MUL, IMUL of bytes.
@@ -229,15 +241,8 @@ pub(crate) fn multiply_byte<B: Bus>(
 {
     let factor = locate(registers, place).read(registers, bus);
     let accumulator = u16::from(registers.byte(Register8::Al));
-    let product = multiply(
-        signedness,
-        Width::Byte,
-        accumulator,
-        factor,
-        registers.flags,
-    );
-    registers.ax = product.value as u16;
-    registers.flags = product.flags;
+    let product = registers.multiply(signedness, Width::Byte, accumulator, factor);
+    registers.set_word(Register16::Ax, product as u16);
 }
 
 /// MUL, IMUL of words.
@@ -252,16 +257,10 @@ pub(crate) fn multiply_word<B: Bus>(
     ensures { registers.new ≡ multiplied_word B.meaning signedness place.now (B.world bus.now) registers.old }
 {
     let factor = locate(registers, place).read(registers, bus);
-    let product = multiply(
-        signedness,
-        Width::Word,
-        registers.ax,
-        factor,
-        registers.flags,
-    );
-    registers.ax = (product.value % 65536) as u16;
-    registers.dx = (product.value / 65536) as u16;
-    registers.flags = product.flags;
+    let accumulator = registers.word(Register16::Ax);
+    let product = registers.multiply(signedness, Width::Word, accumulator, factor);
+    registers.set_word(Register16::Ax, (product % 65536) as u16);
+    registers.set_word(Register16::Dx, (product / 65536) as u16);
 }
 
 /// DIV, IDIV of bytes: the fault enters vector 0.
@@ -279,11 +278,11 @@ pub(crate) fn divide_byte<B: Bus>(
         ≡ divided_byte B.meaning signedness place.now (machine registers.old (B.world bus.old) labels.old.items) }
 {
     let divisor = locate(registers, place).read(registers, bus);
-    let dividend = u32::from(registers.ax);
+    let dividend = u32::from(registers.word(Register16::Ax));
     match divide(signedness, Width::Byte, dividend, divisor) {
         None => interrupt(registers, bus, labels, 0),
         Some(division) => {
-            registers.ax = division.remainder * 256 + division.quotient;
+            registers.set_word(Register16::Ax, division.remainder * 256 + division.quotient);
         }
     }
 }
@@ -310,12 +309,15 @@ pub(crate) fn divide_word<B: Bus>(
         ≡ divided_word B.meaning signedness place.now (machine registers.old (B.world bus.old) labels.old.items) }
 {
     let divisor = locate(registers, place).read(registers, bus);
-    let dividend = two_words(registers.dx, registers.ax);
+    let dividend = two_words(
+        registers.word(Register16::Dx),
+        registers.word(Register16::Ax),
+    );
     match divide(signedness, Width::Word, dividend, divisor) {
         None => interrupt(registers, bus, labels, 0),
         Some(division) => {
-            registers.ax = division.quotient;
-            registers.dx = division.remainder;
+            registers.set_word(Register16::Ax, division.quotient);
+            registers.set_word(Register16::Dx, division.remainder);
         }
     }
 }

@@ -4,13 +4,13 @@ ghost use Rattle.std.specs.Prelude.{◌≡◌, ◌<◌, ◌≤◌};
 ghost use Rattle.i86_table.specs.Conditions.{holds};
 ghost use Rattle.arrayvec.specs.ArrayVec.{array_vec_len};
 ghost use Rattle.cpu8086.specs.Machine.{machine};
-ghost use Rattle.cpu8086.specs.Control.{flag_word, closed, jumped_if, looped, called_at, called, called_to, returned, returned_dropping, flags_popped, returned_from_interrupt, interrupted};
+ghost use Rattle.cpu8086.specs.Control.{flag_word, closed, jumped, jumped_if, looped, called_at, called, called_to, returned, returned_dropping, flags_popped, returned_from_interrupt, interrupted};
 
 use crate::bus::Bus;
 use crate::memory::{Labels, load_word, pop, push};
 use crate::operand::locate;
 use bitflags::Flags as _;
-use i86_table::{Condition, Flags, Place, Register16, Regs, sign_extended};
+use i86_table::{Condition, Flags, Place, Register16, Regs, Segment, sign_extended};
 
 /// The flags as they are pushed: a bit without a name is 0.
 #[inline(always)]
@@ -27,13 +27,21 @@ fn close(flags: Flags) -> Flags
     flags.with(Flags::TRAP, false).with(Flags::INTERRUPT, false)
 }
 
+/// A jump by a distance of one word.
+#[inline(always)]
+pub(crate) fn jump(registers: &mut Regs, distance: u16)
+    ensures { registers.new ≡ jumped distance registers.old }
+{
+    registers.set_ip(registers.ip().wrapping_add(distance));
+}
+
 /// A conditional jump by a distance of one byte.
 #[inline(always)]
 pub(crate) fn jump_if(registers: &mut Regs, taken: bool, distance: u8)
     ensures { registers.new ≡ jumped_if taken distance registers.old }
 {
     if taken {
-        registers.ip = registers.ip.wrapping_add(sign_extended(distance));
+        jump(registers, sign_extended(distance));
     }
 }
 
@@ -42,7 +50,7 @@ pub(crate) fn jump_if(registers: &mut Regs, taken: bool, distance: u8)
 pub(crate) fn jump_on(registers: &mut Regs, condition: Condition, distance: u8)
     ensures { registers.new ≡ jumped_if (holds condition registers.old.flags) distance registers.old }
 {
-    jump_if(registers, condition.holds(registers.flags), distance);
+    jump_if(registers, registers.holds(condition), distance);
 }
 
 /// LOOP.
@@ -50,8 +58,9 @@ pub(crate) fn jump_on(registers: &mut Regs, condition: Condition, distance: u8)
 pub(crate) fn count_and_jump(registers: &mut Regs, distance: u8)
     ensures { registers.new ≡ looped distance registers.old }
 {
-    registers.cx = registers.cx.wrapping_sub(1);
-    jump_if(registers, registers.cx != 0, distance);
+    let count = registers.word(Register16::Cx).wrapping_sub(1);
+    registers.set_word(Register16::Cx, count);
+    jump_if(registers, count != 0, distance);
 }
 
 #[tactic(auto, unfolding(crate::specs::Control::called_at))]
@@ -61,8 +70,8 @@ fn call_at<B: Bus>(registers: &mut Regs, bus: &mut B, labels: &mut Labels, ip: u
     ensures { machine registers.new (B.world bus.new) labels.new.items
         ≡ called_at B.meaning ip (machine registers.old (B.world bus.old) labels.old.items) }
 {
-    push(registers, bus, labels, registers.ip);
-    registers.ip = ip;
+    push(registers, bus, labels, registers.ip());
+    registers.set_ip(ip);
 }
 
 /// CALL by a distance.
@@ -73,7 +82,7 @@ pub(crate) fn call<B: Bus>(registers: &mut Regs, bus: &mut B, labels: &mut Label
     ensures { machine registers.new (B.world bus.new) labels.new.items
         ≡ called B.meaning distance (machine registers.old (B.world bus.old) labels.old.items) }
 {
-    let ip = registers.ip.wrapping_add(distance);
+    let ip = registers.ip().wrapping_add(distance);
     call_at(registers, bus, labels, ip);
 }
 
@@ -100,7 +109,8 @@ pub(crate) fn call_to<B: Bus>(
 pub(crate) fn return_near<B: Bus>(registers: &mut Regs, bus: &B)
     ensures { registers.new ≡ returned B.meaning (B.world bus.now) registers.old }
 {
-    registers.ip = pop(registers, bus);
+    let ip = pop(registers, bus);
+    registers.set_ip(ip);
 }
 
 /// RET that drops so many bytes more.
@@ -110,7 +120,8 @@ pub(crate) fn return_dropping<B: Bus>(registers: &mut Regs, bus: &B, count: u16)
     ensures { registers.new ≡ returned_dropping B.meaning count (B.world bus.now) registers.old }
 {
     return_near(registers, bus);
-    registers.sp = registers.sp.wrapping_add(count);
+    let sp = registers.word(Register16::Sp).wrapping_add(count);
+    registers.set_word(Register16::Sp, sp);
 }
 
 /// POPF: a bit without a name is dropped.
@@ -120,7 +131,7 @@ pub(crate) fn pop_flags<B: Bus>(registers: &mut Regs, bus: &B)
     ensures { registers.new ≡ flags_popped B.meaning (B.world bus.now) registers.old }
 {
     let word = pop(registers, bus);
-    registers.flags = Flags::of_word(word);
+    registers.set_flags(Flags::of_word(word));
 }
 
 /// IRET.
@@ -130,7 +141,8 @@ pub(crate) fn return_from_interrupt<B: Bus>(registers: &mut Regs, bus: &B)
     ensures { registers.new ≡ returned_from_interrupt B.meaning (B.world bus.now) registers.old }
 {
     return_near(registers, bus);
-    registers.cs = pop(registers, bus);
+    let segment = pop(registers, bus);
+    registers.set_code_segment(segment);
     pop_flags(registers, bus);
 }
 
@@ -142,12 +154,12 @@ pub(crate) fn interrupt<B: Bus>(registers: &mut Regs, bus: &mut B, labels: &mut 
     ensures { machine registers.new (B.world bus.new) labels.new.items
         ≡ interrupted B.meaning number (machine registers.old (B.world bus.old) labels.old.items) }
 {
-    let flags = flag_word(registers.flags);
+    let flags = flag_word(registers.flags());
     push(registers, bus, labels, flags);
-    registers.flags = close(registers.flags);
-    push(registers, bus, labels, registers.cs);
-    push(registers, bus, labels, registers.ip);
+    registers.set_flags(close(registers.flags()));
+    push(registers, bus, labels, registers.segment(Segment::Cs));
+    push(registers, bus, labels, registers.ip());
     let vector = 4 * u16::from(number);
-    registers.ip = load_word(bus, 0, vector);
-    registers.cs = load_word(bus, 0, vector + 2);
+    registers.set_ip(load_word(bus, 0, vector));
+    registers.set_code_segment(load_word(bus, 0, vector + 2));
 }

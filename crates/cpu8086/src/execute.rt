@@ -15,7 +15,7 @@ use crate::arithmetic::{
 };
 use crate::bus::Bus;
 use crate::control::{
-    call, call_to, count_and_jump, flag_word, jump_if, jump_on, pop_flags, return_dropping,
+    call, call_to, count_and_jump, flag_word, jump, jump_if, jump_on, pop_flags, return_dropping,
     return_from_interrupt, return_near,
 };
 use crate::memory::{Labels, push};
@@ -26,13 +26,13 @@ use crate::moves::{
 use crate::operand::locate;
 use crate::strings::{move_string, store_string};
 use bitflags::Flags as _;
-use i86_table::{Flags, Instr, Regs};
+use i86_table::{Flags, Instr, Register16, Regs};
 
 #[inline(always)]
 fn set_flag(registers: &mut Regs, flag: Flags, value: bool)
     ensures { registers.new ≡ set_flag flag.0 value registers.old }
 {
-    registers.flags = registers.flags.with(flag, value);
+    registers.set_flag(flag, value);
 }
 
 /// Does an instruction that began at `start`; the instruction pointer is past it.
@@ -102,7 +102,7 @@ pub(crate) fn execute<B: Bus>(
         Instr::Pop(place) => pop_to(registers, bus, labels, place),
         Instr::PushSegment(segment) => push(registers, bus, labels, registers.segment(*segment)),
         Instr::PopSegment(segment) => pop_to_segment(registers, bus, *segment),
-        Instr::PushFlags => push(registers, bus, labels, flag_word(registers.flags)),
+        Instr::PushFlags => push(registers, bus, labels, flag_word(registers.flags())),
         Instr::PopFlags => pop_flags(registers, bus),
         Instr::MoveString {
             width,
@@ -118,13 +118,15 @@ pub(crate) fn execute<B: Bus>(
             jump_on(registers, *condition, *distance);
         }
         Instr::Loop(distance) => count_and_jump(registers, *distance),
-        Instr::JumpIfCxZero(distance) => jump_if(registers, registers.cx == 0, *distance),
+        Instr::JumpIfCxZero(distance) => {
+            jump_if(registers, registers.word(Register16::Cx) == 0, *distance);
+        }
         Instr::JumpShort(distance) => jump_if(registers, true, *distance),
-        Instr::Jump(distance) => registers.ip = registers.ip.wrapping_add(*distance),
-        Instr::JumpTo(place) => registers.ip = locate(registers, place).read(registers, bus),
+        Instr::Jump(distance) => jump(registers, *distance),
+        Instr::JumpTo(place) => registers.set_ip(locate(registers, place).read(registers, bus)),
         Instr::JumpFar { offset, segment } => {
-            registers.ip = *offset;
-            registers.cs = *segment;
+            registers.set_ip(*offset);
+            registers.set_code_segment(*segment);
         }
         Instr::Call(distance) => call(registers, bus, labels, *distance),
         Instr::CallTo(place) => call_to(registers, bus, labels, place),
@@ -132,7 +134,7 @@ pub(crate) fn execute<B: Bus>(
         Instr::ReturnDropping(count) => return_dropping(registers, bus, *count),
         Instr::InterruptReturn => return_from_interrupt(registers, bus),
         Instr::ComplementCarry => {
-            let carry = registers.flags.contains(Flags::CARRY);
+            let carry = registers.flags().contains(Flags::CARRY);
             set_flag(registers, Flags::CARRY, !carry);
         }
         Instr::ClearCarry => set_flag(registers, Flags::CARRY, false),

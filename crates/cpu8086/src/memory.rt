@@ -7,7 +7,7 @@ ghost use Rattle.cpu8086.specs.Machine.{machine, physical, next_offset, access_a
 
 use crate::bus::{Bus, Store};
 use arrayvec::ArrayVec;
-use i86_table::Regs;
+use i86_table::{Register16, Regs, Segment};
 use word86::{Label, Width};
 
 /// The labels of a turn.
@@ -100,8 +100,9 @@ pub(crate) fn push<B: Bus>(registers: &mut Regs, bus: &mut B, labels: &mut Label
         ≡ pushed B.meaning value (machine registers.old (B.world bus.old) labels.old.items) }
     ensures room { array_vec_len labels.new ≤ array_vec_len labels.old + 1 }
 {
-    registers.sp = registers.sp.wrapping_sub(2);
-    let access = access_at(Width::Word, registers.ss, registers.sp, value);
+    let sp = registers.word(Register16::Sp).wrapping_sub(2);
+    registers.set_word(Register16::Sp, sp);
+    let access = access_at(Width::Word, registers.segment(Segment::Ss), sp, value);
     store(bus, labels, access);
 }
 
@@ -112,7 +113,8 @@ pub(crate) fn pop<B: Bus>(registers: &mut Regs, bus: &B) -> u16
     ensures value { result ≡ (popped B.meaning (B.world bus.now) registers.old).0 }
     ensures after { registers.new ≡ (popped B.meaning (B.world bus.now) registers.old).1 }
 {
-    let value = load_word(bus, registers.ss, registers.sp);
-    registers.sp = registers.sp.wrapping_add(2);
+    let sp = registers.word(Register16::Sp);
+    let value = load_word(bus, registers.segment(Segment::Ss), sp);
+    registers.set_word(Register16::Sp, sp.wrapping_add(2));
     value
 }

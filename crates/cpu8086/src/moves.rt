@@ -85,7 +85,7 @@ pub(crate) fn exchange_words(registers: &mut Regs, pair: &WordPair)
 pub(crate) fn convert_byte(registers: &mut Regs)
     ensures { registers.new ≡ byte_converted registers.old }
 {
-    registers.ax = sign_extended(registers.byte(Register8::Al));
+    registers.set_word(Register16::Ax, sign_extended(registers.byte(Register8::Al)));
 }
 
 /// CWD.
@@ -93,7 +93,7 @@ pub(crate) fn convert_byte(registers: &mut Regs)
 pub(crate) fn convert_word(registers: &mut Regs)
     ensures { registers.new ≡ word_converted registers.old }
 {
-    registers.dx = sign_word(registers.ax);
+    registers.set_word(Register16::Dx, sign_word(registers.word(Register16::Ax)));
 }
 
 /// MOV from a segment register.
@@ -134,7 +134,7 @@ fn pushed_value<B: Bus>(registers: &Regs, bus: &B, place: &Place<Register16>) ->
     ensures { result ≡ pushed_value B.meaning place.now (B.world bus.now) registers.now }
 {
     match place {
-        Place::Register(Register16::Sp) => registers.sp.wrapping_sub(2),
+        Place::Register(Register16::Sp) => registers.word(Register16::Sp).wrapping_sub(2),
         _ => locate(registers, place).read(registers, bus),
     }
 }
@@ -202,7 +202,7 @@ fn set_accumulator(width: Width, registers: &mut Regs, value: u16)
 {
     match width {
         Width::Byte => registers.set_byte(Register8::Al, value as u8),
-        Width::Word => registers.ax = value,
+        Width::Word => registers.set_word(Register16::Ax, value),
     }
 }
 

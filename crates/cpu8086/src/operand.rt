@@ -143,7 +143,7 @@ impl<R: Operand> Spot<R> {
 }
 
 #[inline(never)]
-fn read_memory<R: Operand, B: Bus>(registers: &Regs, bus: &B, memory: &Memory) -> u16
+pub(crate) fn read_memory<R: Operand, B: Bus>(registers: &Regs, bus: &B, memory: &Memory) -> u16
     ensures value { result ≡ held B.meaning R.bank registers.now (B.world bus.now) (in_memory registers.now memory.now) }
     ensures fits { result < size_of R.bank.width }
 {

@@ -1,6 +1,7 @@
 //! MOVS and STOS, alone and repeated.
 
 ghost use Rattle.std.specs.Prelude.{◌≡◌, ◌<◌, ◌≤◌, ◌+◌};
+ghost use Rattle.i86_table.specs.State.{word_of, with_word};
 ghost use Rattle.arrayvec.specs.ArrayVec.{array_vec_len};
 ghost use Rattle.cpu8086.specs.Machine.{machine};
 ghost use Rattle.cpu8086.specs.Strings.{stepped, unit_moved, unit_stored, is_due, counted_down, string_moved, string_stored};
@@ -9,7 +10,7 @@ use crate::bus::Bus;
 use crate::memory::{Labels, access_at, load, store};
 use crate::moves::accumulator;
 use bitflags::Flags as _;
-use i86_table::{Flags, Regs, Repeat, Segment};
+use i86_table::{Flags, Register16, Regs, Repeat, Segment};
 use word86::Width;
 
 fn stepped(flags: Flags, width: Width, offset: u16) -> u16
@@ -26,6 +27,14 @@ fn stepped(flags: Flags, width: Width, offset: u16) -> u16
     }
 }
 
+/// Steps an index register past the unit.
+fn step(registers: &mut Regs, width: Width, index: Register16)
+    ensures { registers.new ≡ with_word registers.old index (stepped registers.old.flags width (word_of registers.old index)) }
+{
+    let offset = stepped(registers.flags(), width, registers.word(index));
+    registers.set_word(index, offset);
+}
+
 #[tactic(auto, unfolding(crate::specs::Strings::unit_moved, crate::specs::Machine::stored_access))]
 fn move_unit<B: Bus>(
     registers: &mut Regs,
@@ -38,14 +47,24 @@ fn move_unit<B: Bus>(
     ensures { machine registers.new (B.world bus.new) labels.new.items
         ≡ unit_moved B.meaning width source (machine registers.old (B.world bus.old) labels.old.items) }
 {
-    let value = load(bus, width, registers.segment(source), registers.si);
+    let value = load(
+        bus,
+        width,
+        registers.segment(source),
+        registers.word(Register16::Si),
+    );
     store(
         bus,
         labels,
-        access_at(width, registers.es, registers.di, value),
+        access_at(
+            width,
+            registers.segment(Segment::Es),
+            registers.word(Register16::Di),
+            value,
+        ),
     );
-    registers.si = stepped(registers.flags, width, registers.si);
-    registers.di = stepped(registers.flags, width, registers.di);
+    step(registers, width, Register16::Si);
+    step(registers, width, Register16::Di);
 }
 
 #[tactic(auto, unfolding(crate::specs::Strings::unit_stored, crate::specs::Machine::stored_access))]
@@ -58,9 +77,14 @@ fn store_unit<B: Bus>(registers: &mut Regs, bus: &mut B, labels: &mut Labels, wi
     store(
         bus,
         labels,
-        access_at(width, registers.es, registers.di, value),
+        access_at(
+            width,
+            registers.segment(Segment::Es),
+            registers.word(Register16::Di),
+            value,
+        ),
     );
-    registers.di = stepped(registers.flags, width, registers.di);
+    step(registers, width, Register16::Di);
 }
 
 fn is_due(repeat: Repeat, registers: &Regs) -> bool
@@ -68,7 +92,7 @@ fn is_due(repeat: Repeat, registers: &Regs) -> bool
 {
     match repeat {
         Repeat::Once => true,
-        Repeat::WhileCx => registers.cx != 0,
+        Repeat::WhileCx => registers.word(Register16::Cx) != 0,
     }
 }
 
@@ -76,9 +100,10 @@ fn count_down(repeat: Repeat, start: u16, registers: &mut Regs)
     ensures { registers.new ≡ counted_down repeat start registers.old }
 {
     if matches!(repeat, Repeat::WhileCx) {
-        registers.cx = registers.cx.wrapping_sub(1);
-        if registers.cx != 0 {
-            registers.ip = start;
+        let count = registers.word(Register16::Cx).wrapping_sub(1);
+        registers.set_word(Register16::Cx, count);
+        if count != 0 {
+            registers.set_ip(start);
         }
     }
 }

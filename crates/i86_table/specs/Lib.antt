@@ -1,7 +1,10 @@
+pub mod Registers
+pub mod RegisterFile
 pub mod Numbers
 pub mod State
 pub mod Arithmetic
 pub mod Conditions
+pub mod LateFlags
 pub mod FlagLaws
 pub mod Pairs
 pub mod PairLaws

@@ -4,6 +4,8 @@ use Rattle.i86_table.specs.declared.registers.Register8.{Register8}
 use Rattle.i86_table.specs.declared.registers.Register8.TheVariants.{Al, Cl, Dl, Bl, Ah, Ch, Dh, Bh}
 use Rattle.i86_table.specs.declared.registers.Register16.{Register16}
 use Rattle.i86_table.specs.declared.registers.Register16.TheVariants.{Ax, Cx, Dx, Bx, Sp, Bp, Si, Di}
+use Rattle.i86_table.specs.declared.registers.Segment.{Segment}
+use Rattle.i86_table.specs.declared.registers.Segment.TheVariants.{Es, Cs, Ss, Ds}
 
 abbrev pub byte_register_code : Register8 → ℕ
 byte_register_code Al = 0
@@ -24,3 +26,9 @@ word_register_code Sp = 4
 word_register_code Bp = 5
 word_register_code Si = 6
 word_register_code Di = 7
+
+abbrev pub segment_code : Segment → ℕ
+segment_code Es = 0
+segment_code Cs = 1
+segment_code Ss = 2
+segment_code Ds = 3

@@ -1,18 +1,18 @@
 //! Sums, differences and bitwise operations on bytes and words, with their flags.
 
 ghost use Rattle.std.specs.Prelude.{◌≡◌, ◌<◌};
-ghost use Rattle.i86_table.specs.Arithmetic.{size_of, added, subtracted, combined, operated, tested, changed, keeping_carry, is_carry};
+ghost use Rattle.i86_table.specs.Arithmetic.{size_of, added, subtracted, operated, tested, changed};
 
 use crate::flags::Flags;
 use crate::instruction::{AluOperation, UnaryOperation};
+use crate::late_flags::LateFlags;
 use crate::outcome::Outcome;
 use crate::width::{sign, size, wrap};
-use bitflags::Flags as _;
 use word86::Width;
 
 /// The sum with a carry that comes in.
 #[tactic(auto, unfolding(crate::specs::Arithmetic::added))]
-fn add(width: Width, a: u16, b: u16, carry: bool, flags: Flags) -> Outcome
+pub(crate) fn add(width: Width, a: u16, b: u16, carry: bool, flags: Flags) -> Outcome
     ensures value { result ≡ added width a b carry flags }
     ensures fits { result.value < size_of width }
 {
@@ -33,7 +33,7 @@ fn add(width: Width, a: u16, b: u16, carry: bool, flags: Flags) -> Outcome
 
 /// The difference with a borrow that comes in.
 #[tactic(auto, unfolding(crate::specs::Arithmetic::subtracted))]
-fn subtract(width: Width, a: u16, b: u16, borrow: bool, flags: Flags) -> Outcome
+pub(crate) fn subtract(width: Width, a: u16, b: u16, borrow: bool, flags: Flags) -> Outcome
     requires left { a < size_of width }
     requires right { b < size_of width }
     ensures value { result ≡ subtracted width a b borrow flags }
@@ -53,76 +53,60 @@ fn subtract(width: Width, a: u16, b: u16, borrow: bool, flags: Flags) -> Outcome
     Outcome { value, flags }
 }
 
-/// The flags of a bitwise operation.
-#[tactic(auto, unfolding(crate::specs::Arithmetic::combined))]
-fn combine(width: Width, value: u16, flags: Flags) -> Outcome
-    ensures value { result ≡ combined width value flags }
-    ensures same { result.value ≡ value }
-{
-    let flags = flags
-        .with(Flags::CARRY, false)
-        .with(Flags::OVERFLOW, false)
-        .with_result(width, value);
-    Outcome { value, flags }
-}
-
-/// The result of ADD, OR, ADC, SBB, AND, SUB or XOR and its flags; CMP leaves its first operand as it is.
-#[tactic(auto, using(std::proofs::lemmas::Nat::and_le_l, std::proofs::lemmas::Nat::widths), unfolding(crate::specs::Arithmetic::operated))]
-#[inline(always)]
-pub fn operate(operation: AluOperation, width: Width, a: u16, b: u16, flags: Flags) -> Outcome
-    requires left { a < size_of width }
-    requires right { b < size_of width }
-    ensures value { result ≡ operated operation width a b flags }
-    ensures fits { result.value < size_of width }
-{
-    match operation {
-        AluOperation::Add => add(width, a, b, false, flags),
-        AluOperation::Or => combine(width, a | b, flags),
-        AluOperation::Adc => add(width, a, b, flags.contains(Flags::CARRY), flags),
-        AluOperation::Sbb => subtract(width, a, b, flags.contains(Flags::CARRY), flags),
-        AluOperation::And => combine(width, a & b, flags),
-        AluOperation::Sub => subtract(width, a, b, false, flags),
-        AluOperation::Xor => combine(width, a ^ b, flags),
-        AluOperation::Cmp => Outcome {
-            value: a,
-            flags: subtract(width, a, b, false, flags).flags,
-        },
+impl LateFlags {
+    /// The result of ADD, OR, ADC, SBB, AND, SUB or XOR; CMP answers its first operand.
+    #[tactic(auto, using(std::proofs::lemmas::Nat::and_le_l, std::proofs::lemmas::Nat::widths, crate::proofs::LateLaws::combined_value), unfolding(crate::specs::Arithmetic::operated))]
+    #[inline(always)]
+    pub(crate) fn operate(&mut self, operation: AluOperation, width: Width, a: u16, b: u16) -> u16
+        requires left { a < size_of width }
+        requires right { b < size_of width }
+        ensures value { result ≡ (operated operation width a b self.old).value }
+        ensures flags { self.new ≡ (operated operation width a b self.old).flags }
+        ensures fits { result < size_of width }
+    {
+        match operation {
+            AluOperation::Add => self.add(width, a, b, false),
+            AluOperation::Or => self.combine(width, a | b),
+            AluOperation::Adc => {
+                let carry = self.carry();
+                self.add(width, a, b, carry)
+            }
+            AluOperation::Sbb => {
+                let carry = self.carry();
+                self.subtract(width, a, b, carry)
+            }
+            AluOperation::And => self.combine(width, a & b),
+            AluOperation::Sub => self.subtract(width, a, b, false),
+            AluOperation::Xor => self.combine(width, a ^ b),
+            AluOperation::Cmp => {
+                self.subtract(width, a, b, false);
+                a
+            }
+        }
     }
-}
 
-/// The flags that TEST sets: those of AND.
-pub fn test(width: Width, a: u16, b: u16, flags: Flags) -> Flags
-    ensures { result ≡ tested width a b flags }
-{
-    combine(width, a & b, flags).flags
-}
-
-/// The outcome with the carry of the flags before.
-fn keep_carry(before: Flags, outcome: Outcome) -> Outcome
-    ensures { result ≡ keeping_carry before outcome }
-{
-    let carry = before.contains(Flags::CARRY);
-    Outcome {
-        value: outcome.value,
-        flags: outcome.flags.with(Flags::CARRY, carry),
+    /// Sets the flags of TEST: those of AND.
+    #[inline(always)]
+    pub(crate) fn test(&mut self, width: Width, a: u16, b: u16)
+        ensures { self.new ≡ tested width a b self.old }
+    {
+        self.combine(width, a & b);
     }
-}
 
-/// The result of NOT, NEG, INC or DEC and its flags.
-#[tactic(auto, unfolding(crate::specs::Arithmetic::changed))]
-#[inline(always)]
-pub fn change(operation: UnaryOperation, width: Width, a: u16, flags: Flags) -> Outcome
-    requires { a < size_of width }
-    ensures value { result ≡ changed operation width a flags }
-    ensures fits { result.value < size_of width }
-{
-    match operation {
-        UnaryOperation::Not => Outcome {
-            value: (size(width) - 1 - u32::from(a)) as u16,
-            flags,
-        },
-        UnaryOperation::Neg => subtract(width, 0, a, false, flags),
-        UnaryOperation::Inc => keep_carry(flags, add(width, a, 1, false, flags)),
-        UnaryOperation::Dec => keep_carry(flags, subtract(width, a, 1, false, flags)),
+    /// The result of NOT, NEG, INC or DEC.
+    #[tactic(auto, unfolding(crate::specs::Arithmetic::changed))]
+    #[inline(always)]
+    pub(crate) fn change(&mut self, operation: UnaryOperation, width: Width, a: u16) -> u16
+        requires { a < size_of width }
+        ensures value { result ≡ (changed operation width a self.old).value }
+        ensures flags { self.new ≡ (changed operation width a self.old).flags }
+        ensures fits { result < size_of width }
+    {
+        match operation {
+            UnaryOperation::Not => (size(width) - 1 - u32::from(a)) as u16,
+            UnaryOperation::Neg => self.subtract(width, 0, a, false),
+            UnaryOperation::Inc => self.increment(width, a),
+            UnaryOperation::Dec => self.decrement(width, a),
+        }
     }
 }

@@ -3,37 +3,32 @@
 ghost use Rattle.std.specs.Prelude.{◌≡◌};
 ghost use Rattle.i86_table.specs.Conditions.{holds};
 
-use crate::flags::Flags;
 use crate::instruction::Condition;
-use bitflags::Flags as _;
+use crate::late_flags::LateFlags;
 
-impl Condition {
-    /// Whether the flags let the jump be taken.
-    pub fn holds(self, flags: Flags) -> bool
-        ensures { result ≡ holds self flags }
+impl LateFlags {
+    /// Whether a conditional jump is taken.
+    #[inline(always)]
+    pub(crate) fn holds(&self, condition: Condition) -> bool
+        ensures { result ≡ holds condition self.now }
     {
-        let carry = flags.contains(Flags::CARRY);
-        let zero = flags.contains(Flags::ZERO);
-        let sign = flags.contains(Flags::SIGN);
-        let overflow = flags.contains(Flags::OVERFLOW);
-        let parity = flags.contains(Flags::PARITY);
-        match self {
-            Condition::Overflow => overflow,
-            Condition::NotOverflow => !overflow,
-            Condition::Below => carry,
-            Condition::NotBelow => !carry,
-            Condition::Equal => zero,
-            Condition::NotEqual => !zero,
-            Condition::BelowOrEqual => carry || zero,
-            Condition::Above => !(carry || zero),
-            Condition::Sign => sign,
-            Condition::NotSign => !sign,
-            Condition::ParityEven => parity,
-            Condition::ParityOdd => !parity,
-            Condition::Less => sign != overflow,
-            Condition::NotLess => sign == overflow,
-            Condition::LessOrEqual => zero || sign != overflow,
-            Condition::Greater => !(zero || sign != overflow),
+        match condition {
+            Condition::Overflow => self.overflow(),
+            Condition::NotOverflow => !self.overflow(),
+            Condition::Below => self.carry(),
+            Condition::NotBelow => !self.carry(),
+            Condition::Equal => self.zero(),
+            Condition::NotEqual => !self.zero(),
+            Condition::BelowOrEqual => self.carry() || self.zero(),
+            Condition::Above => !(self.carry() || self.zero()),
+            Condition::Sign => self.sign(),
+            Condition::NotSign => !self.sign(),
+            Condition::ParityEven => self.parity(),
+            Condition::ParityOdd => !self.parity(),
+            Condition::Less => self.sign() != self.overflow(),
+            Condition::NotLess => self.sign() == self.overflow(),
+            Condition::LessOrEqual => self.zero() || self.sign() != self.overflow(),
+            Condition::Greater => !(self.zero() || self.sign() != self.overflow()),
         }
     }
 }

@@ -2,9 +2,11 @@
 #![tactic(auto)]
 
 mod alu;
+mod computing;
 mod condition;
 mod flags;
 mod instruction;
+mod late_flags;
 mod multiplication;
 mod operands;
 mod outcome;
@@ -14,18 +16,16 @@ mod registers;
 mod shifts;
 mod width;
 
-pub use alu::{change, operate, test};
 pub use flags::{Flags, flag_laws};
 pub use instruction::{
     Address, AluOperation, Base, Condition, Count, Instr, Memory, Operands, Place, Port, Repeat,
     ShiftOperation, Signedness, TestMask, UnaryOperation,
 };
-pub use multiplication::{divide, multiply, sign_extended, sign_word};
+pub use multiplication::{divide, sign_extended, sign_word};
 pub use outcome::{Division, Outcome, Product};
 pub use pair_law::pair_laws;
 pub use pairs::{BytePair, WordPair};
 pub use registers::{LoadableSegment, Register8, Register16, Regs, Segment};
-pub use shifts::shift;
 
 #[cfg(test)]
 mod tests;

@@ -98,7 +98,13 @@ fn multiply_signed(width: Width, a: u16, b: u16, flags: Flags) -> Product
 }
 
 /// The product of MUL or IMUL, of twice the width; CF and OF tell whether its upper half is needed to hold it.
-pub fn multiply(signedness: Signedness, width: Width, a: u16, b: u16, flags: Flags) -> Product
+pub(crate) fn multiply(
+    signedness: Signedness,
+    width: Width,
+    a: u16,
+    b: u16,
+    flags: Flags,
+) -> Product
     requires left { a < size_of width }
     requires right { b < size_of width }
     ensures value { result ≡ multiplied signedness width a b flags }

@@ -1,25 +1,33 @@
 //! What operands name.
 
-ghost use Rattle.std.specs.Prelude.{◌≡◌};
-ghost use Rattle.i86_table.specs.State.{start_of, offset_of, port_of, target};
+ghost use Rattle.std.specs.Prelude.{◌≡◌, ◌+◌, ◌%◌};
+ghost use Rattle.i86_table.specs.State.{word_of, start_of, offset_of, port_of, target};
 
 use crate::instruction::{Address, Base, Operands, Place, Port};
-use crate::registers::Regs;
+use crate::registers::{Register16, Regs};
 
 impl Regs {
+    /// The sum of two word registers, modulo 65,536.
+    #[inline(always)]
+    fn sum(&self, first: Register16, second: Register16) -> u16
+        ensures { result ≡ (word_of self.now first + word_of self.now second) % 65536 }
+    {
+        self.word(first).wrapping_add(self.word(second))
+    }
+
     /// The sum of base registers that an address begins with, modulo 65,536.
     fn start(&self, base: Base) -> u16
         ensures { result ≡ start_of self.now base }
     {
         match base {
-            Base::BxSi => self.bx.wrapping_add(self.si),
-            Base::BxDi => self.bx.wrapping_add(self.di),
-            Base::BpSi => self.bp.wrapping_add(self.si),
-            Base::BpDi => self.bp.wrapping_add(self.di),
-            Base::Si => self.si,
-            Base::Di => self.di,
-            Base::Bp => self.bp,
-            Base::Bx => self.bx,
+            Base::BxSi => self.sum(Register16::Bx, Register16::Si),
+            Base::BxDi => self.sum(Register16::Bx, Register16::Di),
+            Base::BpSi => self.sum(Register16::Bp, Register16::Si),
+            Base::BpDi => self.sum(Register16::Bp, Register16::Di),
+            Base::Si => self.word(Register16::Si),
+            Base::Di => self.word(Register16::Di),
+            Base::Bp => self.word(Register16::Bp),
+            Base::Bx => self.word(Register16::Bx),
         }
     }
 
@@ -39,7 +47,7 @@ impl Regs {
     {
         match port {
             Port::Fixed(number) => u16::from(number),
-            Port::Dx => self.dx,
+            Port::Dx => self.word(Register16::Dx),
         }
     }
 }

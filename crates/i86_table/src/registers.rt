@@ -1,10 +1,13 @@
 //! The registers of the 8086.
 
 ghost use Rattle.std.specs.Prelude.{◌≡◌, ◌<◌, ◌+◌, ◌*◌, ◌/◌, ◌%◌};
-ghost use Rattle.i86_table.specs.Numbers.{byte_register_code, word_register_code};
-ghost use Rattle.i86_table.specs.State.{word_of, with_word, byte_of, with_byte, segment_of, with_segment, loadable};
+ghost use Rattle.i86_table.specs.Numbers.{byte_register_code, word_register_code, segment_code};
+ghost use Rattle.i86_table.specs.State.{word_of, with_word, byte_of, with_byte, segment_of, with_segment, loadable, whole, is_low, cleared, with_code_segment, with_ip, with_flags};
 
 use crate::flags::Flags;
+use crate::late_flags::LateFlags;
+use bitflags::Flags as _;
+use std::marker::Model;
 
 /// A word register, in the order of its number in an encoding.
 #[derive(Clone, Copy, PartialEq, Eq, Debug)]
@@ -49,27 +52,32 @@ pub enum LoadableSegment {
     Ds,
 }
 
-/// All registers of the processor.
-#[derive(Clone, Copy, PartialEq, Eq, Debug)]
+/// All registers of the processor: contracts see them by their names.
+///
+/// The word registers stand in the order of their numbers, so that an instruction finds its own by one load.
+#[derive(Debug, Drop)]
 pub struct Regs {
-    pub ax: u16,
-    pub cx: u16,
-    pub dx: u16,
-    pub bx: u16,
-    pub sp: u16,
-    pub bp: u16,
-    pub si: u16,
-    pub di: u16,
-    pub es: u16,
-    pub cs: u16,
-    pub ss: u16,
-    pub ds: u16,
-    pub ip: u16,
-    pub flags: Flags,
+    words: [u16; 8],
+    segments: [u16; 4],
+    ip: u16,
+    pub(crate) status: LateFlags,
+}
+
+impl Model for Regs {
+    ghost use Rattle.i86_table.specs.Registers.{Registers};
+
+    ghost Value = { Registers };
+
+    ghost use Rattle.i86_table.specs.RegisterFile.{named, IsWhole};
+
+    ghost view = { named };
+
+    ghost invariant = { IsWhole };
 }
 
 impl Register16 {
     /// Its number in an encoding, AX being 0 and DI 7.
+    #[inline(always)]
     pub fn number(self) -> u8
         ensures value { result ≡ word_register_code self }
         ensures fits { result < 8 }
@@ -83,6 +91,43 @@ impl Register8 {
     pub fn number(self) -> u8
         ensures value { result ≡ byte_register_code self }
         ensures fits { result < 8 }
+    {
+        self as u8
+    }
+}
+
+impl Register8 {
+    /// The word register that it lies in.
+    #[inline(always)]
+    pub(crate) fn whole(self) -> Register16
+        ensures { result ≡ whole self }
+    {
+        match self {
+            Register8::Al | Register8::Ah => Register16::Ax,
+            Register8::Cl | Register8::Ch => Register16::Cx,
+            Register8::Dl | Register8::Dh => Register16::Dx,
+            Register8::Bl | Register8::Bh => Register16::Bx,
+        }
+    }
+
+    /// Whether it is the low half.
+    #[inline(always)]
+    fn is_low(self) -> bool
+        ensures { result ≡ is_low self }
+    {
+        match self {
+            Register8::Al | Register8::Cl | Register8::Dl | Register8::Bl => true,
+            Register8::Ah | Register8::Ch | Register8::Dh | Register8::Bh => false,
+        }
+    }
+}
+
+impl Segment {
+    /// Its number in an encoding, ES being 0 and DS 3.
+    #[inline(always)]
+    fn number(self) -> u8
+        ensures value { result ≡ segment_code self }
+        ensures fits { result < 4 }
     {
         self as u8
     }
@@ -114,90 +159,112 @@ fn with_high(word: u16, byte: u8) -> u16
 }
 
 impl Regs {
+    /// All registers 0, and no flag set.
+    pub fn cleared() -> Regs
+        ensures { result ≡ cleared }
+    {
+        Regs {
+            words: [0; 8],
+            segments: [0; 4],
+            ip: 0,
+            status: LateFlags::of(Flags::from_bits_retain(0)),
+        }
+    }
+
     /// What a word register holds.
+    #[inline(always)]
     pub fn word(&self, register: Register16) -> u16
         ensures { result ≡ word_of self.now register }
     {
-        match register {
-            Register16::Ax => self.ax,
-            Register16::Cx => self.cx,
-            Register16::Dx => self.dx,
-            Register16::Bx => self.bx,
-            Register16::Sp => self.sp,
-            Register16::Bp => self.bp,
-            Register16::Si => self.si,
-            Register16::Di => self.di,
-        }
+        self.words[usize::from(register.number())]
     }
 
     /// Puts a value into a word register.
+    #[inline(always)]
     pub fn set_word(&mut self, register: Register16, value: u16)
         ensures { self.new ≡ with_word self.old register value }
     {
-        match register {
-            Register16::Ax => self.ax = value,
-            Register16::Cx => self.cx = value,
-            Register16::Dx => self.dx = value,
-            Register16::Bx => self.bx = value,
-            Register16::Sp => self.sp = value,
-            Register16::Bp => self.bp = value,
-            Register16::Si => self.si = value,
-            Register16::Di => self.di = value,
-        }
+        let place = usize::from(register.number());
+        self.words[place] = value;
     }
 
     /// What a byte register holds: the low or the high half of its word register.
+    #[inline(always)]
     pub fn byte(&self, register: Register8) -> u8
         ensures { result ≡ byte_of self.now register }
     {
-        match register {
-            Register8::Al => (self.ax % 256) as u8,
-            Register8::Cl => (self.cx % 256) as u8,
-            Register8::Dl => (self.dx % 256) as u8,
-            Register8::Bl => (self.bx % 256) as u8,
-            Register8::Ah => (self.ax / 256) as u8,
-            Register8::Ch => (self.cx / 256) as u8,
-            Register8::Dh => (self.dx / 256) as u8,
-            Register8::Bh => (self.bx / 256) as u8,
+        let word = self.word(register.whole());
+        if register.is_low() {
+            (word % 256) as u8
+        } else {
+            (word / 256) as u8
         }
     }
 
     /// Puts a value into a byte register; the other half of its word register stays.
+    #[inline(always)]
     pub fn set_byte(&mut self, register: Register8, value: u8)
         ensures { self.new ≡ with_byte self.old register value }
     {
-        match register {
-            Register8::Al => self.ax = with_low(self.ax, value),
-            Register8::Cl => self.cx = with_low(self.cx, value),
-            Register8::Dl => self.dx = with_low(self.dx, value),
-            Register8::Bl => self.bx = with_low(self.bx, value),
-            Register8::Ah => self.ax = with_high(self.ax, value),
-            Register8::Ch => self.cx = with_high(self.cx, value),
-            Register8::Dh => self.dx = with_high(self.dx, value),
-            Register8::Bh => self.bx = with_high(self.bx, value),
-        }
+        let whole = register.whole();
+        let word = self.word(whole);
+        let word = if register.is_low() {
+            with_low(word, value)
+        } else {
+            with_high(word, value)
+        };
+        self.set_word(whole, word);
     }
 
     /// What a segment register holds.
+    #[inline(always)]
     pub fn segment(&self, segment: Segment) -> u16
         ensures { result ≡ segment_of self.now segment }
     {
-        match segment {
-            Segment::Es => self.es,
-            Segment::Cs => self.cs,
-            Segment::Ss => self.ss,
-            Segment::Ds => self.ds,
-        }
+        self.segments[usize::from(segment.number())]
     }
 
     /// Puts a value into a segment register.
     pub fn set_segment(&mut self, segment: LoadableSegment, value: u16)
         ensures { self.new ≡ with_segment self.old segment value }
     {
-        match segment {
-            LoadableSegment::Es => self.es = value,
-            LoadableSegment::Ss => self.ss = value,
-            LoadableSegment::Ds => self.ds = value,
-        }
+        self.segments[usize::from(segment.segment().number())] = value;
+    }
+
+    /// Puts a value into CS, as jumps to another segment and interrupts do.
+    pub fn set_code_segment(&mut self, value: u16)
+        ensures { self.new ≡ with_code_segment value self.old }
+    {
+        self.segments[1] = value;
+    }
+
+    /// The instruction pointer.
+    #[inline(always)]
+    pub fn ip(&self) -> u16
+        ensures { result ≡ self.now.ip }
+    {
+        self.ip
+    }
+
+    /// Puts a value into the instruction pointer.
+    #[inline(always)]
+    pub fn set_ip(&mut self, value: u16)
+        ensures { self.new ≡ with_ip value self.old }
+    {
+        self.ip = value;
+    }
+
+    /// The flags.
+    pub fn flags(&self) -> Flags
+        ensures { result ≡ self.now.flags }
+    {
+        self.status.flags()
+    }
+
+    /// Puts other flags in place of these.
+    pub fn set_flags(&mut self, flags: Flags)
+        ensures { self.new ≡ with_flags flags self.old }
+    {
+        self.status = LateFlags::of(flags);
     }
 }

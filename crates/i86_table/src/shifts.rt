@@ -2,9 +2,11 @@
 
 ghost use Rattle.std.specs.Prelude.{◌≡◌, ◌<◌};
 ghost use Rattle.i86_table.specs.Arithmetic.{size_of, moved_once, moved, with_shift_result, shift_overflow, shifted};
+ghost use Rattle.i86_table.specs.LateFlags.{once_flags};
 
 use crate::flags::Flags;
 use crate::instruction::ShiftOperation;
+use crate::late_flags::LateFlags;
 use crate::outcome::Outcome;
 use crate::width::{half, sign, size, wrap};
 use bitflags::Flags as _;
@@ -71,8 +73,13 @@ fn overflow(operation: ShiftOperation, width: Width, a: u16, value: u16, out: bo
 /// A shift or rotation by a count that is not masked: CF is the bit that went out last; OF is set for the count 1 alone;
 /// a count of 0 changes nothing.
 #[tactic(auto, unfolding(crate::specs::Arithmetic::shifted))]
-#[inline(always)]
-pub fn shift(operation: ShiftOperation, width: Width, a: u16, count: u8, flags: Flags) -> Outcome
+pub(crate) fn shift(
+    operation: ShiftOperation,
+    width: Width,
+    a: u16,
+    count: u8,
+    flags: Flags,
+) -> Outcome
     requires { a < size_of width }
     ensures value { result ≡ shifted operation width a count flags }
     ensures fits { result.value < size_of width }
@@ -92,4 +99,47 @@ pub fn shift(operation: ShiftOperation, width: Width, a: u16, count: u8, flags: 
         return Outcome { value, flags };
     }
     Outcome { value, flags }
+}
+
+impl LateFlags {
+    /// A shift by one place.
+    #[inline(always)]
+    fn set_shifted(&mut self, operation: ShiftOperation, width: Width, a: u16) -> u16
+        requires { a < size_of width }
+        ensures value { result ≡ (moved_once operation width a).0 }
+        ensures flags { self.new ≡ once_flags operation width a self.old }
+        ensures fits { result < size_of width }
+    {
+        let (value, out) = move_once(operation, width, a);
+        let overflow = overflow(operation, width, a, value, out);
+        self.set_result(width, value, out, overflow);
+        value
+    }
+
+    /// The result of a shift or rotation.
+    #[tactic(auto, using(crate::proofs::LateLaws::shifted_value, crate::proofs::LateLaws::shl_flags, crate::proofs::LateLaws::shr_flags, crate::proofs::LateLaws::sar_flags))]
+    #[inline(always)]
+    pub(crate) fn shift(
+        &mut self,
+        operation: ShiftOperation,
+        width: Width,
+        a: u16,
+        count: u8,
+    ) -> u16
+        requires { a < size_of width }
+        ensures value { result ≡ (shifted operation width a count self.old).value }
+        ensures flags { self.new ≡ (shifted operation width a count self.old).flags }
+        ensures fits { result < size_of width }
+    {
+        match operation {
+            ShiftOperation::Shl | ShiftOperation::Shr | ShiftOperation::Sar if count == 1 => {
+                self.set_shifted(operation, width, a)
+            }
+            _ => {
+                let outcome = shift(operation, width, a, count, self.flags());
+                *self = LateFlags::of(outcome.flags);
+                outcome.value
+            }
+        }
+    }
 }

@@ -6,10 +6,9 @@
 
 use crate::{
     Address, AluOperation, AluOperation as Alu, Base, BytePair, Condition, Division, Flags,
-    LoadableSegment, Operands, Place, Port, Register8, Register16, Regs, ShiftOperation,
+    LoadableSegment, Operands, Place, Port, Register8, Register16, Regs, Segment, ShiftOperation,
     ShiftOperation as Shift, Signedness, Signedness as Sign, UnaryOperation,
-    UnaryOperation as Unary, WordPair, change, divide, multiply, operate, shift, sign_extended,
-    sign_word, test,
+    UnaryOperation as Unary, WordPair, divide, sign_extended, sign_word,
 };
 use bitflags::Flags as _;
 use std::process::Abort;
@@ -436,13 +435,21 @@ fn fits_twice(width: Width, number: u32) -> bool
     }
 }
 
+/// Registers with these flags.
+fn with_flags(flags: u16) -> Regs {
+    let mut registers = Regs::cleared();
+    registers.set_flags(Flags::of_word(flags));
+    registers
+}
+
 #[test]
 fn two_operands(rt: HostRuntime) {
     for (operation, width, a, b, before, value, after) in TWO_OPERANDS {
         assert!(rt; fits(width, a) && fits(width, b));
-        let outcome = operate(operation, width, a, b, Flags::of_word(before));
+        let mut registers = with_flags(before);
+        let result = registers.operate(operation, width, a, b);
         assert_eq!(rt;
-            (outcome.value, outcome.flags.bits()),
+            (result, registers.flags().bits()),
             (value, after),
             "{operation:?} {width:?} {a} {b}"
         );
@@ -453,9 +460,10 @@ fn two_operands(rt: HostRuntime) {
 fn one_operand(rt: HostRuntime) {
     for (operation, width, a, before, value, after) in ONE_OPERAND {
         assert!(rt; fits(width, a));
-        let outcome = change(operation, width, a, Flags::of_word(before));
+        let mut registers = with_flags(before);
+        let result = registers.change(operation, width, a);
         assert_eq!(rt;
-            (outcome.value, outcome.flags.bits()),
+            (result, registers.flags().bits()),
             (value, after),
             "{operation:?} {width:?} {a}"
         );
@@ -466,9 +474,10 @@ fn one_operand(rt: HostRuntime) {
 fn shifts(rt: HostRuntime) {
     for (operation, width, a, count, before, value, after) in SHIFTS {
         assert!(rt; fits(width, a));
-        let outcome = shift(operation, width, a, count, Flags::of_word(before));
+        let mut registers = with_flags(before);
+        let result = registers.shift(operation, width, a, count);
         assert_eq!(rt;
-            (outcome.value, outcome.flags.bits()),
+            (result, registers.flags().bits()),
             (value, after),
             "{operation:?} {width:?} {a} {count}"
         );
@@ -478,18 +487,19 @@ fn shifts(rt: HostRuntime) {
 /// The count of the 8086 is not masked to five bits, as later processors have it: 33 places leave nothing of a word.
 #[test]
 fn long_shift(rt: HostRuntime) {
-    let before = Flags::of_word(0);
-    let outcome = shift(ShiftOperation::Shl, Width::Word, 0xFFFF, 33, before);
-    assert_eq!(rt; (outcome.value, outcome.flags.bits()), (0, 0x44));
+    let mut registers = with_flags(0);
+    let result = registers.shift(ShiftOperation::Shl, Width::Word, 0xFFFF, 33);
+    assert_eq!(rt; (result, registers.flags().bits()), (0, 0x44));
 }
 
 #[test]
 fn products(rt: HostRuntime) {
     for (signedness, width, a, b, before, value, after) in PRODUCTS {
         assert!(rt; fits(width, a) && fits(width, b));
-        let product = multiply(signedness, width, a, b, Flags::of_word(before));
+        let mut registers = with_flags(before);
+        let product = registers.multiply(signedness, width, a, b);
         assert_eq!(rt;
-            (product.value, product.flags.bits()),
+            (product, registers.flags().bits()),
             (value, after),
             "{signedness:?} {width:?} {a} {b}"
         );
@@ -512,22 +522,14 @@ fn divisions(rt: HostRuntime) {
 /// Each other public call once.
 #[test]
 fn registers(rt: HostRuntime) {
-    let mut regs = Regs {
-        ax: 0x1234,
-        cx: 0,
-        dx: 0x3F8,
-        bx: 0xFFF0,
-        sp: 0,
-        bp: 0,
-        si: 0x20,
-        di: 0,
-        es: 0,
-        cs: 0,
-        ss: 0,
-        ds: 0,
-        ip: 0,
-        flags: Flags::of_word(0xFFFF),
-    };
+    let mut regs = with_flags(0xFFFF);
+    regs.set_word(Register16::Ax, 0x1234);
+    regs.set_word(Register16::Dx, 0x3F8);
+    regs.set_word(Register16::Bx, 0xFFF0);
+    regs.set_word(Register16::Si, 0x20);
+    regs.set_code_segment(0xF000);
+    regs.set_ip(0x100);
+    assert_eq!(rt; (regs.segment(Segment::Cs), regs.ip()), (0xF000, 0x100));
     regs.set_byte(Register8::Ah, 0x56);
     regs.set_word(Register16::Di, 7);
     regs.set_segment(LoadableSegment::Es, 0xB000);
@@ -536,7 +538,10 @@ fn registers(rt: HostRuntime) {
         (0x5634, 0x34)
     );
     assert_eq!(rt;
-        (regs.di, regs.segment(LoadableSegment::Es.segment())),
+        (
+            regs.word(Register16::Di),
+            regs.segment(LoadableSegment::Es.segment())
+        ),
         (7, 0xB000)
     );
     let address = Address::Based {
@@ -547,10 +552,12 @@ fn registers(rt: HostRuntime) {
         (regs.offset(address), regs.port(Port::Dx)),
         (0x000E, 0x3F8)
     );
-    assert_eq!(rt; regs.flags.bits(), 0xFD5);
-    let flags = regs.flags.with(Flags::ZERO, false);
-    assert!(rt; Condition::Below.holds(flags) && !Condition::Equal.holds(flags));
-    assert_eq!(rt; test(Width::Byte, 0x80, 0x80, flags).bits(), 0x790);
+    assert_eq!(rt; regs.flags().bits(), 0xFD5);
+    regs.set_flag(Flags::ZERO, false);
+    assert!(rt; regs.holds(Condition::Below) && !regs.holds(Condition::Equal));
+    assert!(rt; regs.lets_interrupts_in());
+    regs.test(Width::Byte, 0x80, 0x80);
+    assert_eq!(rt; regs.flags().bits(), 0x790);
     assert_eq!(rt; (sign_extended(0x80), sign_word(0x7FFF)), (0xFF80, 0));
     let operands: Operands<Register8, u8> = Operands::Immediate(Place::Register(Register8::Cl), 1);
     assert!(rt; operands.target() == Place::Register(Register8::Cl));

@@ -1,6 +1,6 @@
 //! The lines of a trace, and of a fault or a warning.
 
-ghost use Rattle.std.specs.Prelude.{◌≡◌, IfErr};
+ghost use Rattle.std.specs.Prelude.{◌≡◌, ◌∷◌, [], IfErr};
 ghost use Rattle.word86.specs.Taking.{Writes};
 ghost use Rattle.word86.specs.declared.fault.Fault.TheVariants.{At};
 ghost use Rattle.word86.specs.declared.number.Number.TheVariants.{E704};
@@ -9,7 +9,7 @@ ghost use Rattle.listing_map.specs.Lines.{byte_line, word_line, short_line, deci
 use crate::numerals::{hex_byte, hex_word};
 use crate::pieces::{put_six, put_three, put_two};
 use itoa::Buffer;
-use word86::{Fault, Label, Number, Sink, SinkFault};
+use word86::{Fault, Label, Number, Sink, SinkFault, put_all};
 
 const CANNOT_WRITE: Fault = Fault::At(0, 1, Number::E704);
 
@@ -43,9 +43,9 @@ fn put_label<S: Sink>(label: &Label, sink: &mut S) -> Result<(), SinkFault>
     match *label {
         Label::In(port, v) => put_byte_line(sink, b"IN ", port, v),
         Label::InW(port, v) => put_word_line(sink, b"INW ", port, v),
-        Label::Out(port, v) => put_byte_line(sink, b"OUT ", port, v),
+        Label::Out(port, v) => put_whole_line(sink, b'O', b'U', b'T', port, v),
         Label::OutW(port, v) => put_word_line(sink, b"OUTW ", port, v),
-        Label::Scr(place, v) => put_byte_line(sink, b"SCR ", place, v),
+        Label::Scr(place, v) => put_whole_line(sink, b'S', b'C', b'R', place, v),
         Label::ScrW(place, v) => put_word_line(sink, b"SCRW ", place, v),
         Label::Ack(n) => put_short_line(sink, b"ACK ", n),
         Label::Tick(k) => put_decimal_line(sink, b"TICK ", u32::from(k)),
@@ -72,6 +72,23 @@ fn put_located_line<S: Sink>(
         number.text().as_bytes(),
         b"\n",
     )
+}
+
+/// A line of a word of three letters, a place and a byte, as one piece: the most frequent ones.
+fn put_whole_line<S: Sink>(
+    sink: &mut S,
+    first: u8,
+    second: u8,
+    third: u8,
+    place: u16,
+    v: u8,
+) -> Result<(), SinkFault>
+    ensures { Writes (S.taken sink.old) (S.taken sink.new) (S.failures sink.old) (S.failures sink.new) (byte_line (first ∷ second ∷ third ∷ 32 ∷ []) place v) result }
+{
+    let [a, b, c, d] = hex_word(place);
+    let [e, f] = hex_byte(v);
+    let line = [first, second, third, b' ', a, b, c, d, b' ', e, f, b'\n'];
+    put_all(sink, &line)
 }
 
 fn put_byte_line<S: Sink>(sink: &mut S, word: &[u8], place: u16, v: u8) -> Result<(), SinkFault>
