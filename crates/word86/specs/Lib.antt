@@ -7,3 +7,4 @@ pub mod Arithmetic
 pub mod Bytes
 pub mod Taking
 pub mod Events
+pub mod Operators
