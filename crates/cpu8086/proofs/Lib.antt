@@ -1,4 +1,3 @@
 pub mod Computing
 pub mod Fetching
-pub mod Windows
 pub mod Entries

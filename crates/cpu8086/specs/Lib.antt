@@ -7,4 +7,3 @@ pub mod Moves
 pub mod Strings
 pub mod Effect
 pub mod Turn
-pub mod TestBus

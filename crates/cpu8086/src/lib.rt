@@ -12,8 +12,6 @@ mod memory;
 mod moves;
 mod operand;
 mod strings;
-#[cfg(test)]
-mod tests;
 
 pub use bus::{Bus, Store};
 pub use cache::DecodeCache;

@@ -15,6 +15,3 @@ pub use coding::{decode, encode, one_form, round_trip};
 pub use form::{Fields, Form, Layout, Opcode, Prefixes, RegisterOrMemory};
 pub use numbers::Numbered;
 pub use ranges::instruction_fits;
-
-#[cfg(test)]
-mod tests;

@@ -26,6 +26,3 @@ pub use outcome::{Division, Outcome, Product};
 pub use pair_law::pair_laws;
 pub use pairs::{BytePair, WordPair};
 pub use registers::{LoadableSegment, Register8, Register16, Regs, Segment};
-
-#[cfg(test)]
-mod tests;

@@ -1,12 +1,12 @@
 -- The fault that is answered: the least by module, token and number.
-use Rattle.std.specs.Prelude.{◌≡◌, ℕ, ◌-◌, ◌^◌, List, [], ◌∷◌, Bool, false, cond, min, nat_eq, nat_lt, Option, Some, None, Contains, All, ◌⊎◌}
+use Rattle.std.specs.Prelude.{◌≡◌, ℕ, ◌-◌, ◌^◌, List, [], ◌∷◌, Bool, true, false, not, cond, if◌then◌else◌, min, nat_eq, nat_lt, Option, Some, None, Contains, All, ◌⊎◌}
 use Rattle.word86.specs.declared.number.Number.{Number}
-use Rattle.word86.specs.declared.number.Number.TheVariants.{E301, E302, E303, E304, E305, E306, E307, E308, E309, E310}
+use Rattle.word86.specs.declared.number.Number.TheVariants.{E301, E302, E303, E304, E305, E306, E307, E308, E309, E310, E401, E402, E403, E404, E405, E406}
 use Rattle.word86.specs.declared.fault.Fault.{Fault}
 use Rattle.word86.specs.declared.fault.Fault.TheVariants.{Memory, At}
 use Rattle.plm_decl.specs.declared.found.Found.{Found}
 
--- faults of names by number; there are no others here
+-- faults of names and types by number; there are no others here
 abbrev pub code_of : Number → ℕ
 code_of E301 = 301
 code_of E302 = 302
@@ -18,6 +18,12 @@ code_of E307 = 307
 code_of E308 = 308
 code_of E309 = 309
 code_of E310 = 310
+code_of E401 = 401
+code_of E402 = 402
+code_of E403 = 403
+code_of E404 = 404
+code_of E405 = 405
+code_of E406 = 406
 code_of n = 999
 
 abbrev pub precedes : Found → Found → Bool

@@ -6,7 +6,7 @@ ghost use Rattle.plm_decl.specs.Least.{code_of, precedes, least, fault_at};
 use plm_syntax::Place;
 use word86::{Fault, Number};
 
-/// A fault of a declaration, a name or the whole program.
+/// A fault of a declaration, a name, a type or the whole program, where it stands.
 #[derive(Debug, Clone, Copy, PartialEq, Eq)]
 pub struct Found {
     pub module: usize,
@@ -28,6 +28,12 @@ fn code(number: Number) -> u16
         Number::E308 => 308,
         Number::E309 => 309,
         Number::E310 => 310,
+        Number::E401 => 401,
+        Number::E402 => 402,
+        Number::E403 => 403,
+        Number::E404 => 404,
+        Number::E405 => 405,
+        Number::E406 => 406,
         _ => 999,
     }
 }

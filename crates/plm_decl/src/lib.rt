@@ -8,7 +8,7 @@ mod datum;
 mod elements;
 mod expressions;
 mod fill;
-mod found;
+pub mod found;
 mod joins;
 mod layout;
 mod modules;
@@ -22,8 +22,6 @@ mod spelling;
 mod statements;
 mod stray;
 mod table;
-#[cfg(test)]
-mod tests;
 
 pub use builtin::Builtin;
 pub use layout::{Field, Form, Member, ScalarType, Structure};

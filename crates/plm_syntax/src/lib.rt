@@ -11,19 +11,16 @@ mod declaration;
 mod expression;
 mod failure;
 mod laws;
-#[cfg(test)]
-mod literal_tests;
 mod literals;
 mod open_blocks;
 mod operator;
 mod reading;
 mod statement;
-#[cfg(test)]
-mod tests;
 mod tree;
 
 pub use answer::parse;
 pub use laws::spell_once;
+pub use literals::{Expansion, expand};
 pub use tree::{
     At, Attributes, Basic, BinaryOperator, Block, Declared, Dimension, Element, Expression,
     Initial, Item, Linkage, Location, LocationForm, Member, MemberNames, Module, Name, Number,

@@ -10,8 +10,6 @@ mod numbers;
 mod piece;
 mod scanner;
 mod strings;
-#[cfg(test)]
-mod tests;
 mod token;
 
 pub use laws::{front_is_longest, pieces_cover, pieces_in_order};

@@ -1,6 +1,8 @@
 //! Small texts, and what the rules of the language say of each.
 
-use crate::{Keyword, Kind, Mark, SOURCE_LIMIT, same_name, scan, scan_literal, string_value};
+use plm_token::{
+    Keyword, Kind, Mark, SOURCE_LIMIT, Token, same_name, scan, scan_literal, string_value,
+};
 use std::alloc::Global;
 use std::process::Abort;
 use std::test::Fail;
@@ -371,14 +373,20 @@ fn literals(rt: HostRuntime) -> Result<(), Fault> {
     let alloc = rt.alloc();
     let tokens = scan_literal(alloc, b"WHILE /* it''s */ 1", 7)?;
     assert_eq!(rt; tokens.len(), 2);
-    for (token, (kind, slice)) in tokens.iter().zip(&[
-        (Kind::Reserved(Keyword::While), b"WHILE".as_slice()),
-        (Kind::Numeral(1), b"1".as_slice()),
-    ]) {
-        assert!(rt; token.kind == *kind && token.text == *slice);
-        assert_eq!(rt; token.line, 7);
-    }
+    assert!(rt; is(&tokens[0], Kind::Reserved(Keyword::While), b"WHILE"));
+    assert!(rt; is(&tokens[1], Kind::Numeral(1), b"1"));
     assert!(rt; scan_literal(alloc, b"", 1)?.is_empty());
+    Ok(())
+}
+
+/// Whether a token of line 7 is of this kind and text.
+fn is(token: &Token<'_>, kind: Kind, text: &[u8]) -> bool {
+    token.kind == kind && token.text == text && token.line == 7
+}
+
+#[test]
+fn faults_of_literals(rt: HostRuntime) {
+    let alloc = rt.alloc();
     let table: &[(&[u8], Number)] = &[
         (b"a''#'''", Number::E101),
         (b"$LIST", Number::E101),
@@ -390,10 +398,7 @@ fn literals(rt: HostRuntime) -> Result<(), Fault> {
         (b"A '' B", Number::E204),
     ];
     for (text, number) in table {
-        match scan_literal(alloc, text, 9) {
-            Ok(_) => assert!(rt; false, "no fault in {text:?}"),
-            Err(fault) => assert_eq!(rt; fault, Fault::At(0, 9, *number), "in {text:?}"),
-        }
+        let refused = scan_literal(alloc, text, 9).err();
+        assert!(rt; refused == Some(Fault::At(0, 9, *number)), "in {text:?}");
     }
-    Ok(())
 }

@@ -5,8 +5,8 @@ mod vectors;
 
 use self::text::Text;
 use self::vectors::{READ, REFUSED, WRITTEN};
-use crate::{Form, decode, encode, instruction_fits, one_form, round_trip};
 use arrayvec::ArrayVec;
+use i86_code::{Form, decode, encode, instruction_fits, one_form, round_trip};
 use i86_table::Instr;
 use std::alloc::Global;
 use std::process::Abort;

@@ -1,6 +1,6 @@
 //! Small sources with literals, and what comes out.
 
-use crate::literals::expand;
+use plm_syntax::expand;
 use plm_token::scan;
 use std::alloc::Global;
 use std::process::Abort;

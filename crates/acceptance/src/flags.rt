@@ -4,13 +4,13 @@
 //! the operands in AL or AX, DL or DX, CL or CX (`gcc -O1`, GNU assembler, AT&T syntax, as `"push %3\n\tpopfq\n\tadc %%dl, %%al\n\tpushfq\n\tpop %3"`).
 //! Of the flags after it those were kept that the manual defines for the instruction; the undefined ones are those of before. SIGFPE is `None`.
 
-use crate::{
-    Address, AluOperation, AluOperation as Alu, Base, BytePair, Condition, Division, Flags,
-    LoadableSegment, Operands, Place, Port, Register8, Register16, Regs, Segment, ShiftOperation,
+use bitflags::Flags as _;
+use i86_table::{
+    Address, AluOperation, AluOperation as Alu, Base, BytePair, Condition, Flags, LoadableSegment,
+    Operands, Place, Port, Register8, Register16, Regs, Segment, ShiftOperation,
     ShiftOperation as Shift, Signedness, Signedness as Sign, UnaryOperation,
     UnaryOperation as Unary, WordPair, divide, sign_extended, sign_word,
 };
-use bitflags::Flags as _;
 use std::process::Abort;
 use word86::{Width, Width as W};
 
@@ -444,43 +444,34 @@ fn with_flags(flags: u16) -> Regs {
 
 #[test]
 fn two_operands(rt: HostRuntime) {
-    for (operation, width, a, b, before, value, after) in TWO_OPERANDS {
-        assert!(rt; fits(width, a) && fits(width, b));
-        let mut registers = with_flags(before);
-        let result = registers.operate(operation, width, a, b);
-        assert_eq!(rt;
-            (result, registers.flags().bits()),
-            (value, after),
-            "{operation:?} {width:?} {a} {b}"
-        );
+    for (row, (operation, width, a, b, before, value, after)) in TWO_OPERANDS.iter().enumerate() {
+        assert!(rt; fits(*width, *a) && fits(*width, *b), "row {row}");
+        let mut registers = with_flags(*before);
+        let result = registers.operate(*operation, *width, *a, *b);
+        let found = (result, registers.flags().bits());
+        assert!(rt; found == (*value, *after), "row {row}");
     }
 }
 
 #[test]
 fn one_operand(rt: HostRuntime) {
-    for (operation, width, a, before, value, after) in ONE_OPERAND {
-        assert!(rt; fits(width, a));
-        let mut registers = with_flags(before);
-        let result = registers.change(operation, width, a);
-        assert_eq!(rt;
-            (result, registers.flags().bits()),
-            (value, after),
-            "{operation:?} {width:?} {a}"
-        );
+    for (row, (operation, width, a, before, value, after)) in ONE_OPERAND.iter().enumerate() {
+        assert!(rt; fits(*width, *a), "row {row}");
+        let mut registers = with_flags(*before);
+        let result = registers.change(*operation, *width, *a);
+        let found = (result, registers.flags().bits());
+        assert!(rt; found == (*value, *after), "row {row}");
     }
 }
 
 #[test]
 fn shifts(rt: HostRuntime) {
-    for (operation, width, a, count, before, value, after) in SHIFTS {
-        assert!(rt; fits(width, a));
-        let mut registers = with_flags(before);
-        let result = registers.shift(operation, width, a, count);
-        assert_eq!(rt;
-            (result, registers.flags().bits()),
-            (value, after),
-            "{operation:?} {width:?} {a} {count}"
-        );
+    for (row, (operation, width, a, count, before, value, after)) in SHIFTS.iter().enumerate() {
+        assert!(rt; fits(*width, *a), "row {row}");
+        let mut registers = with_flags(*before);
+        let result = registers.shift(*operation, *width, *a, *count);
+        let found = (result, registers.flags().bits());
+        assert!(rt; found == (*value, *after), "row {row}");
     }
 }
 
@@ -494,28 +485,36 @@ fn long_shift(rt: HostRuntime) {
 
 #[test]
 fn products(rt: HostRuntime) {
-    for (signedness, width, a, b, before, value, after) in PRODUCTS {
-        assert!(rt; fits(width, a) && fits(width, b));
-        let mut registers = with_flags(before);
-        let product = registers.multiply(signedness, width, a, b);
-        assert_eq!(rt;
-            (product, registers.flags().bits()),
-            (value, after),
-            "{signedness:?} {width:?} {a} {b}"
-        );
+    for (row, (signedness, width, a, b, before, value, after)) in PRODUCTS.iter().enumerate() {
+        assert!(rt; fits(*width, *a) && fits(*width, *b), "row {row}");
+        let mut registers = with_flags(*before);
+        let result = registers.multiply(*signedness, *width, *a, *b);
+        let found = (result, registers.flags().bits());
+        assert!(rt; found == (*value, *after), "row {row}");
     }
+}
+
+/// Quotient and remainder; nothing where the numbers are not of the width.
+fn divided(
+    signedness: Signedness,
+    width: Width,
+    dividend: u32,
+    divisor: u16,
+) -> Option<(u16, u16)> {
+    if !fits(width, divisor) || !fits_twice(width, dividend) {
+        return None;
+    }
+    let division = divide(signedness, width, dividend, divisor)?;
+    Some((division.quotient, division.remainder))
 }
 
 #[test]
 fn divisions(rt: HostRuntime) {
-    for (signedness, width, dividend, divisor, want) in DIVISIONS {
-        assert!(rt; fits(width, divisor) && fits_twice(width, dividend));
-        let result = divide(signedness, width, dividend, divisor);
-        let got = result.map(|Division {
-            quotient,
-            remainder,
-        }| (quotient, remainder));
-        assert_eq!(rt; got, want, "{signedness:?} {width:?} {dividend} {divisor}");
+    for (row, (signedness, width, dividend, divisor, want)) in DIVISIONS.iter().enumerate() {
+        assert!(rt;
+            divided(*signedness, *width, *dividend, *divisor) == *want,
+            "row {row}"
+        );
     }
 }
 

@@ -1,10 +1,10 @@
 //! ROMs and short programs whose outcome the manual tells, over memory in a `Vec`.
 
 ghost use Rattle.std.specs.Prelude.{◌≡◌};
-ghost use Rattle.cpu8086.specs.TestBus.{TestWorld, test_bus, put, load_after_store_law, ports_law};
+ghost use Rattle.acceptance.specs.TestBus.{TestWorld, test_bus, put, load_after_store_law, ports_law};
 
-use crate::{Bus, Cpu, DecodeCache, Kind, Phase, Store};
 use bitflags::Flags as _;
+use cpu8086::{Bus, Cpu, DecodeCache, Kind, Phase, Store};
 use i86_table::{LoadableSegment, Register16, Segment};
 use std::alloc::{AllocError, Global};
 use std::process::Abort;

@@ -1,7 +1,6 @@
 //! Small texts, and what becomes of them.
 
-use crate::answer::parse;
-use crate::tree::Basic;
+use plm_syntax::{Basic, parse};
 use plm_token::scan;
 use std::alloc::Global;
 use std::process::Abort;

@@ -1,8 +1,6 @@
 //! Small texts: what they declare, and where their names are refused.
 
-use crate::modules::resolve;
-use crate::names::Names;
-use crate::placement::Placement;
+use plm_decl::{Names, Placement, resolve};
 use plm_syntax::parse;
 use plm_token::scan;
 use std::alloc::{AllocError, Global};
@@ -516,10 +514,10 @@ fn placements(rt: HostRuntime) -> Result<(), Fail> {
         ([1, 4], false),
         ([2, 0xEFFF], false),
     ];
-    for (offsets, wanted) in rows {
-        let placement = Placement::of(Vec::from_slice(alloc, &offsets)?);
-        assert_eq!(rt; placement.fits(&names), wanted, "at {offsets:?}");
-        assert_eq!(rt; placement.offsets(), offsets.as_slice());
+    for (row, (offsets, wanted)) in rows.iter().enumerate() {
+        let placement = Placement::of(Vec::from_slice(alloc, offsets)?);
+        assert!(rt; placement.fits(&names) == *wanted, "row {row}");
+        assert!(rt; placement.offsets() == offsets.as_slice(), "row {row}");
     }
     Ok(())
 }

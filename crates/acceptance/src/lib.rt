@@ -1,0 +1,17 @@
+//! The tests that cross crates: what becomes of texts, and of encodings, instructions and ROMs that others made, by public calls alone.
+#![tactic(auto)]
+
+#[cfg(test)]
+mod codec;
+#[cfg(test)]
+mod flags;
+#[cfg(test)]
+mod literals;
+#[cfg(test)]
+mod names;
+#[cfg(test)]
+mod processor;
+#[cfg(test)]
+mod syntax;
+#[cfg(test)]
+mod tokens;
