@@ -15,3 +15,7 @@ mod processor;
 mod syntax;
 #[cfg(test)]
 mod tokens;
+#[cfg(test)]
+mod types;
+#[cfg(test)]
+mod warnings;

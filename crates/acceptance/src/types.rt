@@ -1,0 +1,861 @@
+//! Small texts: where their types are refused, what they are typed as, and what they warn of.
+
+use plm_decl::resolve;
+use plm_syntax::parse;
+use plm_token::scan;
+use plm_type::{Anchor, Expression, Place, Program, Statement, Target, check};
+use std::alloc::Global;
+use std::process::Abort;
+use word86::{BinaryOperation, Fault, Number, UnaryOperation, Width};
+
+/// How a program is typed: fine, or the module, the line and the fault.
+type Outcome = Option<(u32, u32, Number)>;
+
+const NO_MEMORY: Outcome = Some((99, 99, Number::E201));
+
+fn outcome(checked: Result<Program, Fault>) -> Outcome {
+    match checked {
+        Ok(_) => None,
+        Err(Fault::At(module, line, number)) => Some((module, line, number)),
+        Err(Fault::Memory) => NO_MEMORY,
+    }
+}
+
+fn program_of(alloc: Global, text: &[u8]) -> Result<Program, Fault> {
+    let tree = parse(alloc, scan(alloc, text)?)?;
+    check(alloc, resolve(alloc, &[tree])?)
+}
+
+fn program_of_two(alloc: Global, first: &[u8], second: &[u8]) -> Result<Program, Fault> {
+    let tree = parse(alloc, scan(alloc, first)?)?;
+    let other = parse(alloc, scan(alloc, second)?)?;
+    check(alloc, resolve(alloc, &[tree, other])?)
+}
+
+const fn at(line: u32, number: Number) -> Outcome {
+    Some((0, line, number))
+}
+
+#[test]
+fn numbers_and_strings(rt: HostRuntime) {
+    let alloc = rt.alloc();
+    let rows: [(&[u8], Outcome); 14] = [
+        (b"M: DO; ; END M;", None),
+        (b"M: DO; DECLARE W WORD; W = 65535; END M;", None),
+        (
+            b"M: DO; DECLARE W WORD;\nW = 1 +\n65536; END M;",
+            at(3, Number::E401),
+        ),
+        (
+            b"M: DO; DECLARE W WORD; W = 'A'; W = 'AB'; W = 'A''B'; END M;",
+            at(1, Number::E401),
+        ),
+        (b"M: DO; DECLARE W WORD; W = 'A'; W = 'AB'; END M;", None),
+        (
+            b"M: DO; DECLARE W WORD;\nW =\n''; END M;",
+            at(3, Number::E401),
+        ),
+        (
+            b"M: DO; DECLARE W WORD;\nW =\n'ABC'; END M;",
+            at(3, Number::E401),
+        ),
+        (b"M: DO; DECLARE W WORD; W = '''' + ''''''; END M;", None),
+        (
+            b"M: DO; DECLARE A(2) BYTE;\nA(\n70000) = 1; END M;",
+            at(3, Number::E401),
+        ),
+        (
+            b"M: DO; DECLARE W WORD;\nIF\n0FFFFFH THEN ; END M;",
+            at(3, Number::E401),
+        ),
+        (
+            b"M: DO; DECLARE A(2) BYTE, W WORD INITIAL (.A(\n70000)); ; END M;",
+            at(2, Number::E401),
+        ),
+        (b"M: DO; P: PROCEDURE INTERRUPT 255; END P; ; END M;", None),
+        (
+            b"M: DO;\nP:\nPROCEDURE INTERRUPT 256; END P; ; END M;",
+            at(2, Number::E401),
+        ),
+        (
+            b"M: DO;\nP:\nPROCEDURE INTERRUPT 70000; END P; ; END M;",
+            at(2, Number::E401),
+        ),
+    ];
+    for (text, wanted) in rows {
+        assert_eq!(rt; outcome(program_of(alloc, text)), wanted, "in {text:?}");
+    }
+}
+
+#[test]
+fn pointers(rt: HostRuntime) {
+    let alloc = rt.alloc();
+    let rows: [(&[u8], Outcome); 26] = [
+        (
+            b"M: DO; DECLARE (P, Q) POINTER, B BYTE; P = @B; Q = P; IF P = Q THEN ; IF P <> @B THEN ; END M;",
+            None,
+        ),
+        (
+            b"M: DO; DECLARE P POINTER, B BYTE, W WORD; W = .B;\nP =\n.B; END M;",
+            at(2, Number::E401),
+        ),
+        (
+            b"M: DO; DECLARE W WORD, B BYTE;\nW =\n@B; END M;",
+            at(2, Number::E401),
+        ),
+        (
+            b"M: DO; DECLARE P POINTER, W WORD;\nP\n= W; END M;",
+            at(2, Number::E401),
+        ),
+        (
+            b"M: DO; DECLARE P POINTER, W WORD; W,\nP\n= W; END M;",
+            at(1, Number::E401),
+        ),
+        (
+            b"M: DO; DECLARE P POINTER, W WORD; L:\nW, P\n= W; END M;",
+            at(2, Number::E401),
+        ),
+        (
+            b"M: DO; DECLARE P POINTER, W WORD; W = 1 +\n(P\n= W); END M;",
+            at(2, Number::E401),
+        ),
+        (
+            b"M: DO; DECLARE P POINTER, W WORD; W =\nP\n+ 1; END M;",
+            at(2, Number::E401),
+        ),
+        (
+            b"M: DO; DECLARE P POINTER, W WORD; W =\n1\n+ P; END M;",
+            at(2, Number::E401),
+        ),
+        (
+            b"M: DO; DECLARE P POINTER, W WORD; W = P\n< P; END M;",
+            at(1, Number::E401),
+        ),
+        (
+            b"M: DO; DECLARE P POINTER, W WORD; W =\n- \nP; END M;",
+            at(2, Number::E401),
+        ),
+        (
+            b"M: DO; DECLARE P POINTER, W WORD; W =\nNOT\nP; END M;",
+            at(2, Number::E401),
+        ),
+        (
+            b"M: DO; DECLARE P POINTER, W WORD; W = W AND\nP\nAND 1; END M;",
+            at(1, Number::E401),
+        ),
+        (
+            b"M: DO; DECLARE P POINTER; ;\nIF\nP THEN ; END M;",
+            at(2, Number::E401),
+        ),
+        (
+            b"M: DO; DECLARE P POINTER; ;\nDO WHILE\nP; END; END M;",
+            at(2, Number::E401),
+        ),
+        (
+            b"M: DO; DECLARE P POINTER; ;\nDO CASE\nP; END; END M;",
+            at(2, Number::E401),
+        ),
+        (
+            b"M: DO; DECLARE P POINTER, I BYTE;\nDO I =\n1 TO\nP; END; END M;",
+            at(2, Number::E401),
+        ),
+        (
+            b"M: DO; DECLARE P POINTER, I BYTE;\nDO I = 1 TO 2 BY\nP; END; END M;",
+            at(2, Number::E401),
+        ),
+        (
+            b"M: DO; DECLARE P POINTER, I BYTE;\nDO I =\nP TO 2; END; END M;",
+            at(2, Number::E401),
+        ),
+        (
+            b"M: DO; DECLARE P POINTER, A(2) BYTE, B BYTE; B = 1 +\nA(\nP); END M;",
+            at(2, Number::E401),
+        ),
+        (
+            b"M: DO; DECLARE P POINTER, A(2) BYTE;\nOUTPUT(\nP) = 1; END M;",
+            at(2, Number::E401),
+        ),
+        (
+            b"M: DO; DECLARE P POINTER, B BYTE; B = 1 +\nINPUT(\nP); END M;",
+            at(2, Number::E401),
+        ),
+        (
+            b"M: DO; DECLARE P POINTER, B BYTE; B = 1 +\nLOW(\nP); END M;",
+            at(2, Number::E401),
+        ),
+        (
+            b"M: DO; DECLARE P POINTER, B BYTE; B = 1 +\nSHL(1,\nP); END M;",
+            at(2, Number::E401),
+        ),
+        (
+            b"M: DO; DECLARE P POINTER, W WORD; W =\n(\nP := W); END M;",
+            at(2, Number::E401),
+        ),
+        (
+            b"M: DO; DECLARE (P, Q) POINTER, B BYTE; Q = (P := @B); END M;",
+            None,
+        ),
+    ];
+    for (text, wanted) in rows {
+        assert_eq!(rt; outcome(program_of(alloc, text)), wanted, "in {text:?}");
+    }
+}
+
+#[test]
+fn shapes(rt: HostRuntime) {
+    let alloc = rt.alloc();
+    let rows: [(&[u8], Outcome); 24] = [
+        (
+            b"M: DO; DECLARE A(3) BYTE, B BYTE; B = A(0); A(2) = B; END M;",
+            None,
+        ),
+        (
+            b"M: DO; DECLARE A(3) BYTE, B BYTE; B =\nA; END M;",
+            at(2, Number::E401),
+        ),
+        (
+            b"M: DO; DECLARE A(3) BYTE, B BYTE; B =\nA(0,\n1); END M;",
+            at(2, Number::E401),
+        ),
+        (
+            b"M: DO; DECLARE B BYTE; B = 1 +\nB(\n0); END M;",
+            at(2, Number::E401),
+        ),
+        (
+            b"M: DO; DECLARE S STRUCTURE (X BYTE, Y(2) WORD), W WORD; S.X = 1; S.Y(1) = S.X; W = S.Y(0); END M;",
+            None,
+        ),
+        (
+            b"M: DO; DECLARE S STRUCTURE (X BYTE, Y(2) WORD), W WORD; W =\nS.\nY; END M;",
+            at(2, Number::E401),
+        ),
+        (
+            b"M: DO; DECLARE S STRUCTURE (X BYTE), W WORD; W =\nS.\nX(0); END M;",
+            at(2, Number::E401),
+        ),
+        (
+            b"M: DO; DECLARE S STRUCTURE (X BYTE), W WORD; W =\nS\n; END M;",
+            at(2, Number::E401),
+        ),
+        (
+            b"M: DO; DECLARE S(2) STRUCTURE (X BYTE), W WORD; W =\nS\n.X; END M;",
+            at(2, Number::E401),
+        ),
+        (
+            b"M: DO; DECLARE S(2) STRUCTURE (X BYTE), W WORD; W = S(1).X; END M;",
+            None,
+        ),
+        (
+            b"M: DO; DECLARE B BYTE, W WORD; W =\nB\n.X; END M;",
+            at(2, Number::E401),
+        ),
+        (
+            b"M: DO; DECLARE S(2) STRUCTURE (X(3) BYTE), W WORD; W = .S; W = .S.X; W = .S(1).X; W = .S.X(2); W = .S(1).X(2); END M;",
+            None,
+        ),
+        (
+            b"M: DO; DECLARE A(3) BYTE, P POINTER; P = @A; P = @A(1); P = @('X', 1); END M;",
+            None,
+        ),
+        (
+            b"M: DO; DECLARE A(3) BYTE, W WORD; W =\n.\nA(1, 2); END M;",
+            at(3, Number::E401),
+        ),
+        (
+            b"M: DO; DECLARE A(3) BYTE, W WORD; W =\n.\nA.X; END M;",
+            at(3, Number::E401),
+        ),
+        (
+            b"M: DO; DECLARE S BYTE AT (0B8000H), W WORD; W = 1 +\n.\nS; END M;",
+            at(2, Number::E401),
+        ),
+        (
+            b"M: DO; DECLARE W WORD; P: PROCEDURE; END P; W = 1 +\n.\nP; END M;",
+            at(2, Number::E401),
+        ),
+        (
+            b"M: DO; DECLARE W WORD; W = 1 +\n@\nINPUT; END M;",
+            at(2, Number::E401),
+        ),
+        (
+            b"M: DO; DECLARE S BYTE AT (0B8000H), W WORD INITIAL (\n.\nS); ; END M;",
+            at(2, Number::E401),
+        ),
+        (
+            b"M: DO; P: PROCEDURE; END P; DECLARE W POINTER INITIAL (\n@\nP); ; END M;",
+            at(2, Number::E401),
+        ),
+        (
+            b"M: DO; DECLARE W WORD, S STRUCTURE (A BYTE, B BYTE), P WORD INITIAL (.S.B), Q WORD INITIAL (.S); ; END M;",
+            None,
+        ),
+        (
+            b"M: DO; DECLARE W WORD, P WORD INITIAL (.\nW.B); ; END M;",
+            at(2, Number::E401),
+        ),
+        (
+            b"M: DO; DECLARE P WORD, B BASED P BYTE, A BASED P (3) WORD; B = A(B); P = .B; END M;",
+            None,
+        ),
+        (
+            b"M: DO; DECLARE P WORD, A BASED P (3) WORD; P =\nA; END M;",
+            at(2, Number::E401),
+        ),
+    ];
+    for (text, wanted) in rows {
+        assert_eq!(rt; outcome(program_of(alloc, text)), wanted, "in {text:?}");
+    }
+}
+
+#[test]
+fn measures(rt: HostRuntime) {
+    let alloc = rt.alloc();
+    let rows: [(&[u8], Outcome); 18] = [
+        (
+            b"M: DO; DECLARE A(3) WORD, W WORD; W = LENGTH(A) + LAST(A) + SIZE(A) + LENGTH(A(1)) + LENGTH(W); END M;",
+            None,
+        ),
+        (
+            b"M: DO; DECLARE S(3) STRUCTURE (X(2) WORD), W WORD; W = LENGTH(S) + LENGTH(S.X) + SIZE(S(1).X) + SIZE(S(1)); END M;",
+            None,
+        ),
+        (
+            b"M: DO; DECLARE W WORD; W =\nLENGTH; END M;",
+            at(2, Number::E402),
+        ),
+        (
+            b"M: DO; DECLARE W WORD; W =\nLENGTH(W,\nW); END M;",
+            at(2, Number::E402),
+        ),
+        (
+            b"M: DO; DECLARE W WORD; W =\nLENGTH(\n(W)); END M;",
+            at(2, Number::E401),
+        ),
+        (
+            b"M: DO; DECLARE W WORD; W =\nLAST(\n1); END M;",
+            at(2, Number::E401),
+        ),
+        (
+            b"M: DO; DECLARE W WORD; F: PROCEDURE BYTE; END F; W =\nSIZE(\nF); END M;",
+            at(2, Number::E401),
+        ),
+        (
+            b"M: DO; DECLARE W WORD; W =\nSIZE(\nW(1)); END M;",
+            at(3, Number::E401),
+        ),
+        (
+            b"M: DO; DECLARE W WORD; W =\nSIZE(W)\n.X; END M;",
+            at(2, Number::E401),
+        ),
+        (
+            b"M: DO; DECLARE P WORD, A BASED P (32768) WORD, W WORD; W = LENGTH(A) + 1; W = 1 +\nSIZE(\nA); END M;",
+            at(2, Number::E401),
+        ),
+        (
+            b"M: DO; DECLARE P WORD, A BASED P (32767) WORD, W WORD; W = SIZE(A) + LAST(A); END M;",
+            None,
+        ),
+        (
+            b"M: DO; DECLARE P WORD, A BASED P (40000) WORD, W WORD; W = SIZE(A(1)); END M;",
+            None,
+        ),
+        (
+            b"M: DO; DECLARE P WORD, V BASED P STRUCTURE (X(40000) WORD), W WORD; W = SIZE(\nV(1).X); END M;",
+            at(2, Number::E401),
+        ),
+        (
+            b"M: DO; DECLARE P WORD, V BASED P STRUCTURE (X(40000) WORD), W WORD; W = SIZE(\nV.X); END M;",
+            at(1, Number::E401),
+        ),
+        (
+            b"M: DO; DECLARE A(3) BYTE, W WORD; W = LENGTH(\nA(@W)); END M;",
+            at(2, Number::E401),
+        ),
+        (
+            b"M: DO; DECLARE A(3) BYTE, W WORD; W = LENGTH(A(\n70000)); END M;",
+            at(2, Number::E401),
+        ),
+        (
+            b"M: DO; DECLARE A(3) BYTE;\nLENGTH(A) = 1; END M;",
+            at(2, Number::E401),
+        ),
+        (
+            b"M: DO; DECLARE S BYTE AT (0B8000H), W WORD; W = LENGTH(S) + SIZE(S); END M;",
+            None,
+        ),
+    ];
+    for (text, wanted) in rows {
+        assert_eq!(rt; outcome(program_of(alloc, text)), wanted, "in {text:?}");
+    }
+}
+
+#[test]
+fn procedures(rt: HostRuntime) {
+    let alloc = rt.alloc();
+    let rows: [(&[u8], Outcome); 30] = [
+        (
+            b"M: DO; F: PROCEDURE (A, B) BYTE; DECLARE (A, B) WORD; RETURN A; END F; CALL F(1, 2); A: DO; DECLARE B BYTE; B = F(B, B) + 1; END A; END M;",
+            None,
+        ),
+        (
+            b"M: DO; F: PROCEDURE (A); DECLARE A BYTE; END F; CALL\nF; END M;",
+            at(2, Number::E402),
+        ),
+        (
+            b"M: DO; F: PROCEDURE (A); DECLARE A BYTE; END F; CALL\nF(1,\n2); END M;",
+            at(2, Number::E402),
+        ),
+        (
+            b"M: DO; F: PROCEDURE; END F; CALL\nF(1); END M;",
+            at(2, Number::E402),
+        ),
+        (
+            b"M: DO; DECLARE B BYTE; F: PROCEDURE; END F; B =\nF; END M;",
+            at(2, Number::E401),
+        ),
+        (
+            b"M: DO; DECLARE B BYTE; F: PROCEDURE; END F; B =\nF(1); END M;",
+            at(2, Number::E401),
+        ),
+        (
+            b"M: DO; DECLARE B BYTE; F: PROCEDURE BYTE; END F; B =\nF(1); END M;",
+            at(2, Number::E402),
+        ),
+        (
+            b"M: DO; DECLARE B BYTE;\nCALL\nB; END M;",
+            at(2, Number::E401),
+        ),
+        (b"M: DO;\nCALL\nINPUT(1); END M;", at(2, Number::E401)),
+        (
+            b"M: DO; F: PROCEDURE; END F;\nCALL\nF.X; END M;",
+            at(3, Number::E401),
+        ),
+        (
+            b"M: DO; DECLARE P POINTER; F: PROCEDURE (A); DECLARE A BYTE; END F; CALL\nF(\nP); END M;",
+            at(2, Number::E401),
+        ),
+        (
+            b"M: DO; DECLARE P POINTER; F: PROCEDURE (A); DECLARE A POINTER; END F; CALL F(P); CALL\nF(\n1); END M;",
+            at(2, Number::E401),
+        ),
+        (
+            b"M: DO; F: PROCEDURE (A);\nDECLARE A (2) BYTE; END F; ; END M;",
+            at(2, Number::E401),
+        ),
+        (
+            b"M: DO; F: PROCEDURE (A);\nDECLARE A STRUCTURE (X BYTE); END F; ; END M;",
+            at(2, Number::E401),
+        ),
+        (
+            b"M: DO; F: PROCEDURE (A); DECLARE P WORD,\nA BASED P BYTE; END F; ; END M;",
+            at(2, Number::E401),
+        ),
+        (
+            b"M: DO; F: PROCEDURE;\nRETURN 1; END F; ; END M;",
+            at(2, Number::E401),
+        ),
+        (
+            b"M: DO; F: PROCEDURE BYTE; DECLARE B BYTE;\nRETURN; END F; ; END M;",
+            at(2, Number::E401),
+        ),
+        (
+            b"M: DO; F: PROCEDURE BYTE; DECLARE B BYTE;\nRETURN\n@B; END F; ; END M;",
+            at(2, Number::E401),
+        ),
+        (
+            b"M: DO; F: PROCEDURE POINTER; DECLARE B BYTE; RETURN @B; END F; ; END M;",
+            None,
+        ),
+        (
+            b"M: DO; F: PROCEDURE POINTER; DECLARE B BYTE; IF B THEN\nRETURN\n.B; END F; ; END M;",
+            at(2, Number::E401),
+        ),
+        (b"M: DO; ;\nRETURN; END M;", at(2, Number::E401)),
+        (b"M: DO; ;\nRETURN\n1; END M;", at(2, Number::E401)),
+        (
+            b"M: DO; DECLARE B BYTE; B =\nOUTPUT(1); END M;",
+            at(2, Number::E401),
+        ),
+        (
+            b"M: DO; DECLARE B BYTE; B =\nINPUT; END M;",
+            at(2, Number::E402),
+        ),
+        (
+            b"M: DO; DECLARE B BYTE; B =\nSHL(1); END M;",
+            at(2, Number::E402),
+        ),
+        (b"M: DO;\nOUTPUT = 1; END M;", at(2, Number::E402)),
+        (b"M: DO;\nINPUT(1) = 1; END M;", at(2, Number::E401)),
+        (
+            b"M: DO; F: PROCEDURE BYTE; END F;\nF = 1; END M;",
+            at(2, Number::E401),
+        ),
+        (
+            b"M: DO; DECLARE B BYTE; B =\nINPUT(1)\n.X; END M;",
+            at(2, Number::E401),
+        ),
+        (
+            b"M: DO; DECLARE B BYTE, W WORD; W = ROL(W, 1) + ROR(B, W) + SHR(1, B) + DOUBLE(B) + HIGH(W) + INWORD(W) + INPUT(B); OUTWORD(B) = W; OUTPUT(W), B = W; END M;",
+            None,
+        ),
+    ];
+    for (text, wanted) in rows {
+        assert_eq!(rt; outcome(program_of(alloc, text)), wanted, "in {text:?}");
+    }
+}
+
+#[test]
+fn indices_and_data(rt: HostRuntime) {
+    let alloc = rt.alloc();
+    let rows: [(&[u8], Outcome); 16] = [
+        (
+            b"M: DO; DECLARE I BYTE, J WORD; DO I = 1 TO 2; END; DO J = 1 TO 2 BY I; END; END M;",
+            None,
+        ),
+        (
+            b"M: DO; DECLARE I(2) BYTE;\nDO\nI = 1 TO 2; END; END M;",
+            at(2, Number::E401),
+        ),
+        (
+            b"M: DO; DECLARE I POINTER;\nDO\nI = 1 TO 2; END; END M;",
+            at(2, Number::E401),
+        ),
+        (
+            b"M: DO; DECLARE P WORD, I BASED P BYTE;\nDO\nI = 1 TO 2; END; END M;",
+            at(2, Number::E401),
+        ),
+        (
+            b"M: DO; DECLARE S STRUCTURE (X BYTE);\nDO\nS = 1 TO 2; END; END M;",
+            at(2, Number::E401),
+        ),
+        (
+            b"M: DO; F: PROCEDURE; END F;\nDO\nF = 1 TO 2; END; END M;",
+            at(2, Number::E401),
+        ),
+        (
+            b"M: DO; DECLARE I BYTE DATA (1);\nDO\nI = 1 TO 2; END; END M;",
+            at(3, Number::E403),
+        ),
+        (
+            b"M: DO; DECLARE I BYTE AT (0B8000H); DO I = 1 TO 2; END; END M;",
+            None,
+        ),
+        (
+            b"M: DO; DECLARE D BYTE DATA (1), B BYTE; B = D;\nB,\nD = 1; END M;",
+            at(3, Number::E403),
+        ),
+        (
+            b"M: DO; DECLARE D BYTE DATA (1), B BYTE; B = (\nD := 1); END M;",
+            at(2, Number::E403),
+        ),
+        (
+            b"M: DO; DECLARE D(2) BYTE DATA (1, 2);\nD = 1; END M;",
+            at(2, Number::E401),
+        ),
+        (
+            b"M: DO; DECLARE D(2) BYTE DATA (1, 2);\nD(1) = 1; END M;",
+            at(2, Number::E403),
+        ),
+        (
+            b"M: DO; DECLARE D(2) BYTE DATA (1, 2), E BYTE AT (@D), P WORD, B BASED P BYTE; E = 1; P = .D; B = 1; END M;",
+            None,
+        ),
+        (
+            b"M: DO; DECLARE B BYTE; B = @B; B =\n1 + @B; END M;",
+            at(1, Number::E401),
+        ),
+        (
+            b"M: DO; DECLARE B BYTE; IF @B\n= B THEN ; END M;",
+            at(1, Number::E401),
+        ),
+        (
+            b"M: DO; DECLARE (B, W) BYTE; F: PROCEDURE; END F; W =\n@B + B(\n@W); END M;",
+            at(2, Number::E401),
+        ),
+    ];
+    for (text, wanted) in rows {
+        assert_eq!(rt; outcome(program_of(alloc, text)), wanted, "in {text:?}");
+    }
+}
+
+#[test]
+fn external_procedures_have_parameters_alone(rt: HostRuntime) {
+    let alloc = rt.alloc();
+    let other: &[u8] = b"N: DO; P: PROCEDURE (A) PUBLIC; DECLARE A BYTE; END P; END N;";
+    let rows: [(&[u8], Outcome); 7] = [
+        (
+            b"M: DO; P: PROCEDURE (A) EXTERNAL; DECLARE A BYTE; END P; CALL P(1); END M;",
+            None,
+        ),
+        (
+            b"M: DO; P: PROCEDURE (A) EXTERNAL; DECLARE A BYTE;\n; END P; CALL P(1); END M;",
+            at(2, Number::E401),
+        ),
+        (
+            b"M: DO; P: PROCEDURE (A) EXTERNAL; DECLARE A BYTE,\nB BYTE; END P; CALL P(1); END M;",
+            at(2, Number::E401),
+        ),
+        (
+            b"M: DO; P: PROCEDURE (A) EXTERNAL; DECLARE A BYTE;\nQ: PROCEDURE;\nRETURN 1; END Q; END P; CALL P(1); END M;",
+            at(2, Number::E401),
+        ),
+        (
+            b"M: DO; P: PROCEDURE (A) EXTERNAL; DECLARE\nL LITERALLY 'X', A BYTE; END P; CALL P(1); END M;",
+            at(2, Number::E401),
+        ),
+        (
+            b"M: DO; P: PROCEDURE (A) EXTERNAL; DECLARE A BYTE; L:\nL: A = @A; END P; CALL P(1); END M;",
+            at(2, Number::E401),
+        ),
+        (
+            b"M: DO; P: PROCEDURE (A) EXTERNAL; DECLARE A BYTE; END P; CALL\nP; END M;",
+            at(2, Number::E402),
+        ),
+    ];
+    for (text, wanted) in rows {
+        assert_eq!(rt;
+            outcome(program_of_two(alloc, text, other)),
+            wanted,
+            "in {text:?}"
+        );
+    }
+}
+
+#[test]
+fn recursion(rt: HostRuntime) {
+    let alloc = rt.alloc();
+    let rows: [(&[u8], Outcome); 13] = [
+        (
+            b"M: DO; A: PROCEDURE; B: PROCEDURE; CALL A; END B; CALL B; END A; CALL A; END M;",
+            at(1, Number::E404),
+        ),
+        (
+            b"M: DO;\nA: PROCEDURE; CALL A; END A; ; END M;",
+            at(2, Number::E404),
+        ),
+        (
+            b"M: DO; A: PROCEDURE; END A; B: PROCEDURE; CALL A; CALL A; END B; CALL B; CALL A; END M;",
+            None,
+        ),
+        (
+            b"M: DO; F: PROCEDURE BYTE;\nG: PROCEDURE BYTE; RETURN G + 1; END G; RETURN G; END F; ; END M;",
+            at(2, Number::E404),
+        ),
+        (
+            b"M: DO; DECLARE A(2) BYTE;\nF: PROCEDURE BYTE; A(F) = 1; END F; ; END M;",
+            at(2, Number::E404),
+        ),
+        (
+            b"M: DO; DECLARE A(2) BYTE;\nF: PROCEDURE BYTE; A(0) = LENGTH(A(F)); END F; ; END M;",
+            None,
+        ),
+        (
+            b"M: DO; DECLARE W WORD, A(2) BYTE;\nF: PROCEDURE BYTE; W = .A(F); END F; ; END M;",
+            at(2, Number::E404),
+        ),
+        (
+            b"M: DO;\nF: PROCEDURE BYTE; OUTPUT(F) = 1; END F; ; END M;",
+            at(2, Number::E404),
+        ),
+        (
+            b"M: DO; DECLARE I BYTE;\nF: PROCEDURE BYTE; DO I = 1 TO F; END; END F; ; END M;",
+            at(2, Number::E404),
+        ),
+        (
+            b"M: DO;\nF: PROCEDURE (A) BYTE; DECLARE A BYTE; RETURN SHL(F(1), 1); END F; ; END M;",
+            at(2, Number::E404),
+        ),
+        // a fault of the whole program comes after the others
+        (
+            b"M: DO;\nA: PROCEDURE; CALL A; END A;\nRETURN; END M;",
+            at(3, Number::E401),
+        ),
+        (
+            b"M: DO; DECLARE B BYTE;\nA: PROCEDURE; IF 0 THEN ; ELSE CALL A; END A; B = 1; END M;",
+            at(2, Number::E404),
+        ),
+        (
+            b"M: DO; H: PROCEDURE INTERRUPT 8;\nA: PROCEDURE; DO CASE 1; ; CALL A; END; END A; DO; DO WHILE 0; END; END; END H; ; END M;",
+            at(2, Number::E404),
+        ),
+    ];
+    for (text, wanted) in rows {
+        assert_eq!(rt; outcome(program_of(alloc, text)), wanted, "in {text:?}");
+    }
+}
+
+#[test]
+fn least_fault(rt: HostRuntime) {
+    let alloc = rt.alloc();
+    let first: &[u8] = b"M: DO; P: PROCEDURE EXTERNAL; END P; CALL P;\nRETURN; END M;";
+    let second: &[u8] = b"N: DO;\nP: PROCEDURE PUBLIC; RETURN 1; END P; END N;";
+    assert_eq!(rt;
+        outcome(program_of_two(alloc, first, second)),
+        at(2, Number::E401)
+    );
+    let fine: &[u8] = b"M: DO; P: PROCEDURE EXTERNAL; END P; CALL P; END M;";
+    assert_eq!(rt;
+        outcome(program_of_two(alloc, fine, second)),
+        Some((1, 2, Number::E401))
+    );
+    // of two faults at one token the lower number
+    let both: &[u8] =
+        b"M: DO; DECLARE D(2) BYTE DATA (1), B BYTE;\nF: PROCEDURE; END F; B = F(1); D = 1; END M;";
+    assert_eq!(rt; outcome(program_of(alloc, both)), at(2, Number::E401));
+    // a fault within does not make what holds it faulty
+    let within: &[u8] = b"M: DO; DECLARE B BYTE; B = 1 +\n(B(1)\n+ 2); END M;";
+    assert_eq!(rt; outcome(program_of(alloc, within)), at(2, Number::E401));
+    // a call through two modules comes back
+    let there: &[u8] =
+        b"M: DO; P: PROCEDURE EXTERNAL; END P;\nQ: PROCEDURE PUBLIC; CALL P; END Q; ; END M;";
+    let back: &[u8] =
+        b"N: DO; Q: PROCEDURE EXTERNAL; END Q;\n\nP: PROCEDURE PUBLIC; CALL Q; END P; END N;";
+    assert_eq!(rt;
+        outcome(program_of_two(alloc, there, back)),
+        at(2, Number::E404)
+    );
+}
+
+/// Main's only statement.
+fn only(program: &Program) -> Option<&Statement> {
+    match program.main() {
+        [statement] => Some(statement.as_ref()),
+        _ => None,
+    }
+}
+
+#[test]
+fn trees_show_types(rt: HostRuntime) {
+    let alloc = rt.alloc();
+    let sum: &[u8] = b"M: DO; DECLARE B BYTE, W WORD; OUTPUT(1) = B + B * 2 - W = 3; END M;";
+    let Ok(program) = program_of(alloc, sum) else {
+        panic!(rt; "it is typed");
+    };
+    let Some(Statement::Assign(Target::Port(Width::Byte, Expression::Constant(1)), others, value)) =
+        only(&program) else {
+        panic!(rt; "one assignment to a port");
+    };
+    assert!(rt; others.is_empty());
+    let Expression::Chain(first, operations) = value else {
+        panic!(rt; "a chain of operators");
+    };
+    assert!(rt;
+        matches!(
+            first.as_ref(),
+            Expression::Plain(Width::Byte, Place::Ram(0, 0))
+        )
+    );
+    let [add, subtract, equal] = operations.as_slice() else {
+        panic!(rt; "three operators");
+    };
+    assert_eq!(rt; add.operation, BinaryOperation::Add);
+    assert_eq!(rt; add.width, Width::Word);
+    assert_eq!(rt; subtract.width, Width::Word);
+    assert_eq!(rt; equal.operation, BinaryOperation::Equal);
+    assert_eq!(rt; equal.width, Width::Byte);
+}
+
+#[test]
+fn trees_show_widths(rt: HostRuntime) {
+    let alloc = rt.alloc();
+    let rows: [(&[u8], Option<Width>); 9] = [
+        (
+            b"M: DO; DECLARE (A, B) BYTE; A = A + B; END M;",
+            Some(Width::Byte),
+        ),
+        (
+            b"M: DO; DECLARE (A, B) BYTE; A = A * B; END M;",
+            Some(Width::Word),
+        ),
+        (
+            b"M: DO; DECLARE (A, B) BYTE; A = A / B; END M;",
+            Some(Width::Byte),
+        ),
+        (
+            b"M: DO; DECLARE (A, B) BYTE; A = A MOD 256; END M;",
+            Some(Width::Word),
+        ),
+        (
+            b"M: DO; DECLARE (A, B) WORD; A = A < B; END M;",
+            Some(Width::Byte),
+        ),
+        (
+            b"M: DO; DECLARE (A, B) BYTE; A = SHL(A, 256); END M;",
+            Some(Width::Byte),
+        ),
+        (
+            b"M: DO; DECLARE (A, B) WORD; A = ROR(A, 1); END M;",
+            Some(Width::Word),
+        ),
+        (
+            b"M: DO; DECLARE A (256) BYTE, W WORD; W = LENGTH(A) + 1; END M;",
+            Some(Width::Word),
+        ),
+        (
+            b"M: DO; DECLARE A (256) BYTE, W WORD; W = LAST(A) + 1; END M;",
+            Some(Width::Byte),
+        ),
+    ];
+    for (text, wanted) in rows {
+        let Ok(program) = program_of(alloc, text) else {
+            panic!(rt; "it is typed");
+        };
+        let width = match only(&program) {
+            Some(Statement::Assign(_, _, Expression::Chain(_, operations))) => {
+                operations.first().map(|operation| operation.width)
+            }
+            _ => None,
+        };
+        assert_eq!(rt; width, wanted, "in {text:?}");
+    }
+}
+
+#[test]
+fn trees_show_places(rt: HostRuntime) {
+    let alloc = rt.alloc();
+    let text: &[u8] =
+        b"M: DO; DECLARE X WORD, S(3) STRUCTURE (A BYTE, B(2) WORD), P WORD, V BASED P BYTE;\n\nV = S(X).B(1); END M;";
+    let Ok(program) = program_of(alloc, text) else {
+        panic!(rt; "it is typed");
+    };
+    let Some(
+        Statement::Assign(
+            Target::Variable(Width::Byte, stored),
+            _,
+            Expression::Variable(Width::Word, read),
+        ),
+    ) = only(&program) else {
+        panic!(rt; "an assignment of a variable to a variable");
+    };
+    assert_eq!(rt; stored.anchor, Anchor::Based(Place::Ram(2, 0)));
+    assert_eq!(rt; stored.line.line, 3);
+    assert_eq!(rt; read.anchor, Anchor::Ram(1, 0, 15));
+    assert_eq!(rt; read.offset, 1);
+    let [outer, inner] = read.subscripts.as_slice() else {
+        panic!(rt; "two subscripts");
+    };
+    assert_eq!(rt; outer.stride, 5);
+    assert!(rt;
+        matches!(
+            &outer.index,
+            Expression::Plain(Width::Word, Place::Ram(0, 0))
+        )
+    );
+    assert_eq!(rt; inner.stride, 2);
+    assert!(rt; matches!(&inner.index, Expression::Constant(1)));
+}
+
+#[test]
+fn handlers(rt: HostRuntime) {
+    let alloc = rt.alloc();
+    let text: &[u8] =
+        b"M: DO; H: PROCEDURE INTERRUPT 8; HALT; ; END H; K: PROCEDURE INTERRUPT 255; RETURN; END K; ; END M;";
+    let Ok(program) = program_of(alloc, text) else {
+        panic!(rt; "it is typed");
+    };
+    assert_eq!(rt; program.handler(7).len(), 0);
+    assert_eq!(rt; program.handler(8).len(), 2);
+    assert_eq!(rt; program.handler(255).len(), 1);
+    assert_eq!(rt; program.procedures().len(), 2);
+    assert_eq!(rt; program.names().procedures.len(), 2);
+}

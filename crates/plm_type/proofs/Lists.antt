@@ -1,0 +1,138 @@
+-- Lists as the code goes over them, and as it builds them.
+use Rattle.std.proofs.Common.{◌≡◌, ℕ, ◌+◌, ◌<◌, ◌≤◌, arith, List, [], ◌∷◌, ◌++◌, length, get_or, take, drop, None, drop-cons, add-one, map, Bool, true, false, ◌&&◌, Option, refl, sym, ap, ◌∙◌}
+use Rattle.std.specs.Global.{Box}
+use Rattle.plm_decl.specs.declared.resolved.Expression as declared_resolved
+use Rattle.plm_decl.specs.declared.resolved.Reference as resolved_reference
+use Rattle.plm_decl.specs.declared.resolved.Statement as resolved_statement
+use Rattle.plm_decl.specs.Resolved.{expressions, references, statements}
+use Rattle.plm_decl.specs.ResolvedView as resolved
+use Rattle.plm_type.specs.declared.program.Expression.{Expression}
+use Rattle.plm_type.specs.declared.program.Subscript.{Subscript}
+use Rattle.plm_type.specs.declared.program.Target.{Target}
+use Rattle.plm_type.specs.declared.program.Statement.{Statement}
+use Rattle.plm_type.specs.Rest as rest
+use Rattle.plm_type.specs.View as view
+use Rattle.plm_decl.specs.declared.layout.ScalarType.{ScalarType}
+use Rattle.plm_type.specs.Types.{may_be_number, may_be_numbers, is_known_number, are_known_numbers}
+use Rattle.plm_type.specs.Trees.{strided, measured_value}
+use Rattle.plm_type.specs.Typers.{with_stride}
+use Rattle.plm_type.specs.Statements.{targets, assignment}
+use Rattle.word86.specs.declared.number.Number.TheVariants.{E402}
+use Rattle.plm_syntax.specs.declared.tree.Place.{Place}
+use Rattle.plm_decl.specs.declared.builtin.Builtin.{Builtin}
+use Rattle.plm_decl.specs.declared.names.Variable.{Variable}
+use Rattle.plm_decl.specs.Known.{ProcedureR}
+use Rattle.plm_type.specs.Typing.{measured_type}
+use Rattle.plm_type.specs.Faults.{fault_unless, measured_faults}
+
+pub drop_at : {X : Type 0} → (xs : List X) (i : ℕ) (x : X) → i < length xs → x ≡ get_or xs i x → drop i xs ≡ x ∷ drop (i + 1) xs
+drop_at xs i x h e = drop-cons xs i x h ∙ (λ j. sym e j ∷ drop (sym (add-one i) j) xs)
+
+pub expressions_at : (es : List declared_resolved.Expression) (i : ℕ) (x : declared_resolved.Expression) → i < length es → x ≡ get_or es i x
+    → resolved.expressions_of (drop i es) ≡ expressions (resolved.expression_of x) (resolved.expressions_of (drop (i + 1) es))
+expressions_at es i x h e = ap resolved.expressions_of (drop_at es i x h e)
+
+pub references_at : (es : List resolved_reference.Reference) (i : ℕ) (x : resolved_reference.Reference) → i < length es → x ≡ get_or es i x
+    → resolved.references_of (drop i es) ≡ references (resolved.reference_of x) (resolved.references_of (drop (i + 1) es))
+references_at es i x h e = ap resolved.references_of (drop_at es i x h e)
+
+pub statements_at : (es : List resolved_statement.Statement) (i : ℕ) (x : resolved_statement.Statement) → i < length es → x ≡ get_or es i x
+    → resolved.statements_of (drop i es) ≡ statements (resolved.statement_of x) (resolved.statements_of (drop (i + 1) es))
+statements_at es i x h e = ap resolved.statements_of (drop_at es i x h e)
+
+-- ---- trees so far, before others
+
+abbrev pub trees_before : List Expression → rest.Expressions → rest.Expressions
+trees_before [] others = others
+trees_before (e ∷ es) others = rest.More (view.expression_of e) (trees_before es others)
+
+pub trees_pushed : (es : List Expression) (e : Expression) (others : rest.Expressions) → trees_before (es ++ e ∷ []) others ≡ trees_before es (rest.More (view.expression_of e) others)
+trees_pushed [] e others = refl
+trees_pushed (d ∷ es) e others = ap (rest.More (view.expression_of d)) (trees_pushed es e others)
+
+pub trees_all : (es : List Expression) → trees_before es rest.NoMore ≡ view.expressions_of es
+trees_all [] = refl
+trees_all (d ∷ es) = ap (rest.More (view.expression_of d)) (trees_all es)
+
+abbrev pub statements_before : List (Box Statement) → rest.Statements → rest.Statements
+statements_before [] others = others
+statements_before (s ∷ ss) others = rest.Then (view.statement_of s.value) (statements_before ss others)
+
+pub statements_pushed : (ss : List (Box Statement)) (s : Box Statement) (others : rest.Statements) → statements_before (ss ++ s ∷ []) others ≡ statements_before ss (rest.Then (view.statement_of s.value) others)
+statements_pushed [] s others = refl
+statements_pushed (t ∷ ss) s others = ap (rest.Then (view.statement_of t.value)) (statements_pushed ss s others)
+
+pub statements_all : (ss : List (Box Statement)) → statements_before ss rest.End ≡ view.statements_of ss
+statements_all [] = refl
+statements_all (t ∷ ss) = ap (rest.Then (view.statement_of t.value)) (statements_all ss)
+
+-- ---- subscripts
+
+pub strided_are : (n m : ℕ) (es fs : List Expression)
+    → view.subscripts_of (map (with_stride n) es ++ map (with_stride m) fs) ≡ strided n (view.expressions_of es) (strided m (view.expressions_of fs) rest.NoSubscripts)
+strided_are n m [] [] = refl
+strided_are n m [] (f ∷ fs) = ap (rest.Subscript m (view.expression_of f)) (strided_are n m [] fs)
+strided_are n m (e ∷ es) fs = ap (rest.Subscript n (view.expression_of e)) (strided_are n m es fs)
+
+-- ---- targets
+
+pub targets_are : (t : Target) (ts : List Target) → view.targets_of (view.target_of t) ts ≡ targets (view.target_of t) (map view.target_of ts)
+targets_are t [] = refl
+targets_are t (u ∷ us) = ap (rest.Also (view.target_of t)) (targets_are u us)
+
+-- ---- types of two lists
+
+pub may_be_numbers_both : (ts us : List (Option ScalarType)) → may_be_numbers (ts ++ us) ≡ (may_be_numbers ts && may_be_numbers us)
+may_be_numbers_both [] us = refl
+may_be_numbers_both (t ∷ ts) us = and_more (may_be_number t) _ _ _ (may_be_numbers_both ts us)
+  where
+    and_more : (p a b c : Bool) → a ≡ (b && c) → (p && a) ≡ ((p && b) && c)
+    and_more true a b c e = e
+    and_more false a b c e = refl
+
+pub known_numbers_both : (ts us : List (Option ScalarType)) → are_known_numbers (ts ++ us) ≡ (are_known_numbers ts && are_known_numbers us)
+known_numbers_both [] us = refl
+known_numbers_both (t ∷ ts) us = and_more (is_known_number t) _ _ _ (known_numbers_both ts us)
+  where
+    and_more : (p a b c : Bool) → a ≡ (b && c) → (p && a) ≡ ((p && b) && c)
+    and_more true a b c e = e
+    and_more false a b c e = refl
+
+-- ---- a list of one
+
+pub one_is : {X : Type 0} → (xs : List X) (x : X) → 1 ≤ length xs → length xs < 2 → x ≡ get_or xs 0 x → xs ≡ x ∷ []
+one_is [] x h l e = absurd (omega arith)
+one_is (y ∷ []) x h l e = ap (λ z. z ∷ []) (sym e)
+one_is (y ∷ z ∷ zs) x h l e = absurd (omega arith)
+
+-- ---- LENGTH, LAST and SIZE of several arguments
+
+pub many_values : (vs : List Variable) (ps : List ProcedureR) (b : Builtin) (es : List declared_resolved.Expression) → 2 ≤ length es
+    → rest.Constant 0 ≡ measured_value vs ps b (resolved.expressions_of es)
+many_values vs ps b [] h = absurd (omega arith)
+many_values vs ps b (e ∷ []) h = absurd (omega arith)
+many_values vs ps b (e ∷ d ∷ es) h = refl
+
+pub many_types : (vs : List Variable) (ps : List ProcedureR) (b : Builtin) (es : List declared_resolved.Expression) → 2 ≤ length es
+    → None ≡ measured_type vs ps b (resolved.expressions_of es)
+many_types vs ps b [] h = absurd (omega arith)
+many_types vs ps b (e ∷ []) h = absurd (omega arith)
+many_types vs ps b (e ∷ d ∷ es) h = refl
+
+pub many_faults : (vs : List Variable) (ps : List ProcedureR) (file : ℕ) (p : Place) (b : Builtin) (es : List declared_resolved.Expression) → 2 ≤ length es
+    → fault_unless file false E402 p ≡ measured_faults vs ps file p b (resolved.expressions_of es)
+many_faults vs ps file p b [] h = absurd (omega arith)
+many_faults vs ps file p b (e ∷ []) h = absurd (omega arith)
+many_faults vs ps file p b (e ∷ d ∷ es) h = refl
+
+-- ---- targets
+
+pub assigned : (ts : List Target) (e : rest.Expression) (first : Target) (others : List Target) → (length ts ≡ 0 → ⊥) → first ≡ get_or ts 0 first → others ≡ take 0 ts ++ drop 1 ts
+    → rest.Assign (view.targets_of (view.target_of first) others) e ≡ assignment (map view.target_of ts) e
+assigned [] e first others h f r = absurd (h refl)
+assigned (t ∷ ts) e first others h f r =
+    (λ j. rest.Assign (view.targets_of (view.target_of (f j)) (r j)) e) ∙ ap (λ (x : rest.Targets). rest.Assign x e) (targets_are t ts)
+
+pub targets_pushed : (ts : List Target) (t : Target) (others : List rest.Target) → map view.target_of (ts ++ t ∷ []) ++ others ≡ map view.target_of ts ++ view.target_of t ∷ others
+targets_pushed [] t others = refl
+targets_pushed (u ∷ us) t others = ap (λ (l : List rest.Target). view.target_of u ∷ l) (targets_pushed us t others)

@@ -1,0 +1,40 @@
+-- What `check` answers.
+use Rattle.std.specs.Prelude.{◌≡◌, ℕ, ◌<◌, ◌⊎◌, List, [], map, Option, Some, None, slice_get}
+use Rattle.word86.specs.declared.number.Number.TheVariants.{E404}
+use Rattle.word86.specs.declared.fault.Fault.{Fault}
+use Rattle.word86.specs.declared.fault.Fault.TheVariants.{Memory, At}
+use Rattle.plm_decl.specs.declared.names.Names.{Names}
+use Rattle.plm_decl.specs.declared.names.Procedure as declared
+use Rattle.plm_decl.specs.declared.found.Found.{Found}
+use Rattle.plm_decl.specs.Least.{IsLeast, fault_at}
+use Rattle.plm_type.specs.declared.checked.Program.{Program}
+use Rattle.plm_type.specs.Rest.{Procedure}
+use Rattle.plm_type.specs.Programs.{faults, main_tree, procedures_of}
+use Rattle.plm_type.specs.Calls.{IsRecursive}
+use Rattle.plm_type.specs.View as view
+
+-- ---- a program: names without fault, their trees, and no procedure that reaches itself
+pub record AreTyped (program : Program) (names : Names) : Type 0 where
+  pub kept : program.names ≡ names
+  pub main : view.statements_of program.main.items ≡ main_tree names
+  pub procedures : map view.procedure_of program.procedures.items ≡ procedures_of names
+  pub no_fault : faults names ≡ []
+  pub no_recursion : (p : ℕ) → ¬ IsRecursive (procedures_of names) p
+
+-- ---- a refusal: the least of the faults, or, where there is none, the first procedure that reaches itself
+
+-- the fault stands at the procedure's name
+abbrev pub StandsAt : Option declared.Procedure → Found → Type 0
+StandsAt None f = ⊥
+StandsAt (Some p) f = f ≡ record { «module» = p.module; place = p.place; number = E404 }
+
+pub record IsRecursion (ps : List Procedure) (names : Names) (f : Found) : Type 0 where
+  pub procedure : ℕ
+  pub recursive : IsRecursive ps procedure
+  pub first : (q : ℕ) → q < procedure → ¬ IsRecursive ps q
+  pub stands : StandsAt (slice_get names.procedures.items procedure) f
+
+abbrev pub IsRefusal : Fault → Names → Type 0
+IsRefusal Memory names = Unit {0}
+IsRefusal (At m line number) names =
+    (f : Found) × (IsLeast (faults names) f ⊎ ((faults names ≡ []) × IsRecursion (procedures_of names) names f)) × (fault_at f ≡ At m line number)

@@ -1,0 +1,144 @@
+-- Expressions: the faults of their types.
+use Rattle.std.specs.Prelude.{ℕ, ◌+◌, ◌-◌, ◌*◌, Bool, true, false, not, ◌&&◌, ◌||◌, nat_eq, nat_le, cond, List, [], ◌∷◌, ◌++◌, map, length, slice_get, slice_index, Option, Some, None, is_some}
+use Rattle.word86.specs.declared.number.Number.{Number}
+use Rattle.word86.specs.declared.number.Number.TheVariants.{E401, E402, E403}
+use Rattle.word86.specs.declared.width.Width.{Width}
+use Rattle.word86.specs.declared.width.Width.TheVariants as width
+use Rattle.word86.specs.declared.operation.UnaryOperation.{UnaryOperation}
+use Rattle.word86.specs.declared.operation.UnaryOperation.TheVariants as unary
+use Rattle.word86.specs.declared.operation.BinaryOperation.{BinaryOperation}
+use Rattle.word86.specs.declared.operation.BinaryOperation.TheVariants as binary
+use Rattle.plm_syntax.specs.declared.tree.Place.{Place}
+use Rattle.plm_syntax.specs.declared.tree.LocationForm.{LocationForm}
+use Rattle.plm_syntax.specs.declared.tree.LocationForm.TheVariants as locating
+use Rattle.plm_decl.specs.declared.builtin.Builtin.{Builtin}
+use Rattle.plm_decl.specs.declared.builtin.Builtin.TheVariants as builtin
+use Rattle.plm_decl.specs.declared.layout.ScalarType.{ScalarType}
+use Rattle.plm_decl.specs.declared.layout.ScalarType.TheVariants.{Byte, Word, Pointer}
+use Rattle.plm_decl.specs.declared.names.Variable.{Variable}
+use Rattle.plm_decl.specs.declared.resolved.Meaning.{Meaning}
+use Rattle.plm_decl.specs.declared.resolved.Meaning.TheVariants as meaning
+use Rattle.plm_decl.specs.declared.found.Found.{Found}
+use Rattle.plm_decl.specs.Known.{ProcedureR}
+use Rattle.plm_decl.specs.Layouts.{size_of}
+use Rattle.plm_decl.specs.Resolved.{ExpressionR, NumberR, TextR, ReferenceR, LocationR, ParenthesisedR, EmbeddedR, UnaryR, BinaryR, ReferenceR', Use, ExpressionsR, no_expressions, expressions, SelectorR, no_member, member, member_at, LocationR', LocationOf, ConstantsOf}
+use Rattle.plm_type.specs.Rest.{Expression, Constant, Location, Unary, Binary, Embedded, Input, Call, Expressions, NoMore, More, Reference, Refer, Subscripts, NoSubscripts, Subscript, Target, ToPort, InObject}
+use Rattle.plm_type.specs.Types.{width_of, may_be_number, is_known_number, are_known_numbers, may_be_numbers, are_known, takes, operands_fit, number_type, text_type, binary_type, unary_type, unary_operation, binary_operation}
+use Rattle.plm_type.specs.Shapes.{shape_fits, designated, form_type, element_count, element_size, member_offset, member_stride, anchor_for, is_on_screen, read_of, store_to}
+use Rattle.plm_type.specs.Typing.{is_plain, arity, is_measure, is_target, measured, take_all, parameter_types, returned_type, may_be_located, may_be_assigned, type_of, types_of, selector_types, target_type}
+
+-- ---- where an expression begins
+
+abbrev pub first_place : ExpressionR → Place
+first_place (NumberR n) = n.place
+first_place (TextR p cs) = p
+first_place (ReferenceR (Use p m es s)) = p
+first_place (LocationR (LocationOf p f x)) = p
+first_place (LocationR (ConstantsOf p f k)) = p
+first_place (ParenthesisedR p e) = p
+first_place (EmbeddedR p x e) = p
+first_place (UnaryR p o e) = p
+first_place (BinaryR p o a b) = first_place a
+
+-- what is measured is of its shape, and not above 65,535
+abbrev pub measure_fits : Builtin → Option Variable → ℕ → SelectorR → Bool
+measure_fits b None n s = true
+measure_fits b (Some v) n s = not (shape_fits true v n s) || nat_le (measured b (element_count v n s) (element_size v s)) 65535
+
+-- a reference to a variable is of its shape, and no subscript is a POINTER
+abbrev pub may_be_used : (part : Bool) → Option Variable → SelectorR → List (Option ScalarType) → List (Option ScalarType) → Bool
+may_be_used part None s ts us = false
+may_be_used part (Some v) s ts us = shape_fits part v (length ts) s && may_be_numbers (ts ++ us)
+
+-- ---- faults in the module of this number
+module _ (file : ℕ) where
+  abbrev pub fault_unless : Bool → Number → Place → List Found
+  fault_unless holds number place = cond holds [] (record { «module» = file; place = place; number = number } ∷ [])
+
+  abbrev pub use_faults : (part : Bool) → Place → Option Variable → SelectorR → List (Option ScalarType) → List (Option ScalarType) → List Found
+  use_faults part p v s ts us = fault_unless (may_be_used part v s ts us) E401 p
+
+  abbrev pub builtin_faults : Place → Builtin → SelectorR → List (Option ScalarType) → List Found
+  builtin_faults p b s ts =
+      fault_unless (is_plain s) E401 p
+      ++ cond (nat_eq (length ts) (arity b)) (fault_unless (may_be_numbers ts) E401 p) (fault_unless false E402 p)
+
+  -- ports are targets, and no other built-in is one
+  abbrev pub port_faults : Place → Builtin → SelectorR → List (Option ScalarType) → List Found
+  port_faults p b s ts = fault_unless (is_target b) E401 p ++ builtin_faults p b s ts
+
+module _ (variables : List Variable) (file : ℕ) where
+  abbrev pub call_faults : Place → Option ProcedureR → SelectorR → List (Option ScalarType) → List Found
+  call_faults p None s ts = fault_unless file false E401 p
+  call_faults p (Some q) s ts =
+      fault_unless file (is_plain s) E401 p
+      ++ cond (nat_eq (length q.parameters) (length ts)) (fault_unless file (take_all (parameter_types variables q.parameters) ts) E401 p) (fault_unless file false E402 p)
+
+  -- a procedure as a value is typed
+  abbrev pub called_faults : Place → Option ProcedureR → SelectorR → List (Option ScalarType) → List Found
+  called_faults p q s ts = call_faults p q s ts ++ fault_unless file (is_some (returned_type q)) E401 p
+
+module _ (variables : List Variable) (procedures : List ProcedureR) (file : ℕ) where
+  abbrev mutual
+    pub faults_of : ExpressionR → List Found
+    faults_of (NumberR n) = fault_unless file (nat_le n.value 65535) E401 n.place
+    faults_of (TextR p cs) = fault_unless file (is_some (text_type cs)) E401 p
+    faults_of (ReferenceR x) = value_faults x
+    faults_of (LocationR l) = location_faults l
+    faults_of (ParenthesisedR p e) = faults_of e
+    faults_of (EmbeddedR p x e) =
+        target_faults x ++ (faults_of e ++ fault_unless file (takes (target_type variables procedures x) (type_of variables procedures e)) E401 p)
+    faults_of (UnaryR p o e) = faults_of e ++ fault_unless file (may_be_number (type_of variables procedures e)) E401 p
+    faults_of (BinaryR p o a b) =
+        faults_of a ++ (faults_of b ++ fault_unless file (operands_fit o (type_of variables procedures a) (type_of variables procedures b)) E401 (first_place a))
+
+    pub faults_in : ExpressionsR → List Found
+    faults_in no_expressions = []
+    faults_in (expressions e es) = faults_of e ++ faults_in es
+
+    pub selector_faults : SelectorR → List Found
+    selector_faults no_member = []
+    selector_faults (member p m) = []
+    selector_faults (member_at p m e) = faults_of e
+
+    pub value_faults : ReferenceR' → List Found
+    value_faults (Use p (meaning.Variable v) es s) =
+        (faults_in es ++ selector_faults s) ++ use_faults file false p (slice_get variables v) s (types_of variables procedures es) (selector_types variables procedures s)
+    value_faults (Use p (meaning.Procedure q) es s) =
+        faults_in es ++ called_faults variables file p (slice_get procedures q) s (types_of variables procedures es)
+    value_faults (Use p (meaning.Builtin b) es s) =
+        fault_unless file (not (is_target b)) E401 p
+        ++ cond (is_measure b) (fault_unless file (is_plain s) E401 p ++ measured_faults p b es) (faults_in es ++ builtin_faults file p b s (types_of variables procedures es))
+    value_faults (Use p meaning.Nothing es s) = fault_unless file false E401 p
+
+    -- of one plain reference to a variable, whose subscripts may be missing
+    pub measured_faults : Place → Builtin → ExpressionsR → List Found
+    measured_faults p b no_expressions = fault_unless file false E402 p
+    measured_faults p b (expressions e no_expressions) = argument_faults p b e
+    measured_faults p b (expressions e (expressions d es)) = fault_unless file false E402 p
+
+    pub argument_faults : Place → Builtin → ExpressionR → List Found
+    argument_faults p b (ReferenceR x) = reference_faults p b x
+    argument_faults p b _ = fault_unless file false E401 p
+
+    pub reference_faults : Place → Builtin → ReferenceR' → List Found
+    reference_faults p b (Use q (meaning.Variable v) es s) =
+        (faults_in es ++ selector_faults s)
+        ++ (use_faults file true q (slice_get variables v) s (types_of variables procedures es) (selector_types variables procedures s)
+        ++ fault_unless file (measure_fits b (slice_get variables v) (length (types_of variables procedures es)) s) E401 p)
+    reference_faults p b (Use q _ es s) = fault_unless file false E401 p
+
+    pub location_faults : LocationR' → List Found
+    location_faults (LocationOf p f (Use q (meaning.Variable v) es s)) =
+        (faults_in es ++ selector_faults s)
+        ++ (fault_unless file (may_be_located (slice_get variables v)) E401 p ++ use_faults file true q (slice_get variables v) s (types_of variables procedures es) (selector_types variables procedures s))
+    location_faults (LocationOf p f (Use q _ es s)) = fault_unless file false E401 p
+    location_faults (ConstantsOf p f k) = []
+
+    pub target_faults : ReferenceR' → List Found
+    target_faults (Use p (meaning.Variable v) es s) =
+        (faults_in es ++ selector_faults s)
+        ++ (use_faults file false p (slice_get variables v) s (types_of variables procedures es) (selector_types variables procedures s)
+        ++ fault_unless file (may_be_assigned (slice_get variables v)) E403 p)
+    target_faults (Use p (meaning.Builtin b) es s) = faults_in es ++ port_faults file p b s (types_of variables procedures es)
+    target_faults (Use p _ es s) = fault_unless file false E401 p

@@ -1,0 +1,24 @@
+-- What is known while statements are typed, and what of a Rust tree is typed.
+use Rattle.std.specs.Prelude.{ℕ, List, map, Option}
+use Rattle.plm_decl.specs.declared.layout.ScalarType.{ScalarType}
+use Rattle.plm_decl.specs.declared.names.Names.{Names}
+use Rattle.plm_decl.specs.declared.names.Variable.{Variable}
+use Rattle.plm_decl.specs.declared.found.Found.{Found}
+use Rattle.plm_decl.specs.Known.{ProcedureR, procedure_of}
+use Rattle.plm_decl.specs.Placed.{sizes_of}
+use Rattle.plm_type.specs.declared.typer.Typer.{Typer}
+use Rattle.plm_type.specs.declared.program.Expression.{Expression}
+use Rattle.plm_type.specs.declared.program.Subscript.{Subscript}
+
+abbrev pub variables : Typer → List Variable
+variables t = t.names.now.variables.items
+
+abbrev pub procedures : Typer → List ProcedureR
+procedures t = map procedure_of t.names.now.procedures.items
+
+abbrev pub sizes : Typer → List ℕ
+sizes t = sizes_of t.names.now
+
+-- a subscript over elements of so many bytes
+abbrev pub with_stride : ℕ → Expression → Subscript
+with_stride stride e = record { stride = stride; index = e }

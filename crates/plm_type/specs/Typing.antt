@@ -1,0 +1,206 @@
+-- Expressions: their types.
+use Rattle.std.specs.Prelude.{ℕ, ◌+◌, ◌-◌, ◌*◌, Bool, true, false, not, ◌&&◌, ◌||◌, nat_eq, nat_le, cond, List, [], ◌∷◌, ◌++◌, map, length, slice_get, slice_index, Option, Some, None, is_some}
+use Rattle.word86.specs.declared.number.Number.{Number}
+use Rattle.word86.specs.declared.number.Number.TheVariants.{E401, E402, E403}
+use Rattle.word86.specs.declared.width.Width.{Width}
+use Rattle.word86.specs.declared.width.Width.TheVariants as width
+use Rattle.word86.specs.declared.operation.UnaryOperation.{UnaryOperation}
+use Rattle.word86.specs.declared.operation.UnaryOperation.TheVariants as unary
+use Rattle.word86.specs.declared.operation.BinaryOperation.{BinaryOperation}
+use Rattle.word86.specs.declared.operation.BinaryOperation.TheVariants as binary
+use Rattle.plm_syntax.specs.declared.tree.Place.{Place}
+use Rattle.plm_syntax.specs.declared.tree.LocationForm.{LocationForm}
+use Rattle.plm_syntax.specs.declared.tree.LocationForm.TheVariants as locating
+use Rattle.plm_decl.specs.declared.builtin.Builtin.{Builtin}
+use Rattle.plm_decl.specs.declared.builtin.Builtin.TheVariants as builtin
+use Rattle.plm_decl.specs.declared.layout.ScalarType.{ScalarType}
+use Rattle.plm_decl.specs.declared.layout.ScalarType.TheVariants.{Byte, Word, Pointer}
+use Rattle.plm_decl.specs.declared.names.Variable.{Variable}
+use Rattle.plm_decl.specs.declared.resolved.Meaning.{Meaning}
+use Rattle.plm_decl.specs.declared.resolved.Meaning.TheVariants as meaning
+use Rattle.plm_decl.specs.declared.found.Found.{Found}
+use Rattle.plm_decl.specs.Known.{ProcedureR}
+use Rattle.plm_decl.specs.Layouts.{size_of, counted}
+use Rattle.plm_decl.specs.Resolved.{ExpressionR, NumberR, TextR, ReferenceR, LocationR, ParenthesisedR, EmbeddedR, UnaryR, BinaryR, ReferenceR', Use, ExpressionsR, no_expressions, expressions, SelectorR, no_member, member, member_at, LocationR', LocationOf, ConstantsOf}
+use Rattle.plm_type.specs.Rest.{Expression, Constant, Location, Unary, Binary, Embedded, Input, Call, Expressions, NoMore, More, Reference, Refer, Subscripts, NoSubscripts, Subscript, Target, ToPort, InObject}
+use Rattle.plm_type.specs.Types.{width_of, may_be_number, is_known_number, are_known_numbers, may_be_numbers, are_known, takes, operands_fit, number_type, text_type, binary_type, unary_type, unary_operation, binary_operation}
+use Rattle.plm_type.specs.Shapes.{shape_fits, designated, form_type, element_count, element_size, member_offset, member_stride, anchor_for, is_on_screen, read_of, store_to}
+
+-- ---- types
+
+-- arguments of the right number are taken by their parameters
+abbrev pub take_all : List (Option ScalarType) → List (Option ScalarType) → Bool
+take_all [] [] = true
+take_all (p ∷ ps) (t ∷ ts) = takes p t && take_all ps ts
+take_all _ _ = true
+
+abbrev pub location_type : LocationForm → ScalarType
+location_type locating.Pointer = Pointer
+location_type locating.Offset = Word
+
+-- how many arguments a built-in takes
+abbrev pub arity : Builtin → ℕ
+arity builtin.ShiftLeft = 2
+arity builtin.ShiftRight = 2
+arity builtin.RotateLeft = 2
+arity builtin.RotateRight = 2
+arity _ = 1
+
+-- LENGTH, LAST and SIZE of a reference: elements, elements less one, bytes
+abbrev pub measured : Builtin → (elements size : ℕ) → ℕ
+measured builtin.Length elements size = elements
+measured builtin.Last elements size = elements - 1
+measured _ elements size = counted (elements * size)
+
+abbrev pub is_measure : Builtin → Bool
+is_measure builtin.Length = true
+is_measure builtin.Last = true
+is_measure builtin.Size = true
+is_measure _ = false
+
+-- OUTPUT and OUTWORD are targets alone
+abbrev pub is_target : Builtin → Bool
+is_target builtin.Output = true
+is_target builtin.OutputWord = true
+is_target _ = false
+
+abbrev pub first_type : List (Option ScalarType) → Option ScalarType
+first_type [] = None
+first_type (t ∷ ts) = t
+
+abbrev pub builtin_type : Builtin → List (Option ScalarType) → Option ScalarType
+builtin_type builtin.Low ts = Some Byte
+builtin_type builtin.High ts = Some Byte
+builtin_type builtin.Double ts = Some Word
+builtin_type builtin.Input ts = Some Byte
+builtin_type builtin.InputWord ts = Some Word
+builtin_type builtin.ShiftLeft ts = first_type ts
+builtin_type builtin.ShiftRight ts = first_type ts
+builtin_type builtin.RotateLeft ts = first_type ts
+builtin_type builtin.RotateRight ts = first_type ts
+builtin_type _ ts = None
+
+abbrev pub port_type : Builtin → Option ScalarType
+port_type builtin.Output = Some Byte
+port_type builtin.OutputWord = Some Word
+port_type _ = None
+
+abbrev pub is_plain : SelectorR → Bool
+is_plain no_member = true
+is_plain _ = false
+
+abbrev pub variable_type : Option Variable → Option ScalarType
+variable_type (Some v) = form_type v.form
+variable_type None = None
+
+abbrev pub given_if : {A : Type 0} → Bool → Option A → Option A
+given_if holds t = cond holds t None
+
+abbrev pub returned_type : Option ProcedureR → Option ScalarType
+returned_type None = None
+returned_type (Some p) = p.returned
+
+-- a reference to a variable is of its shape; its subscripts, and that of its member, are numbers
+abbrev pub use_fits : (part : Bool) → Option Variable → SelectorR → List (Option ScalarType) → List (Option ScalarType) → Bool
+use_fits part None s ts us = false
+use_fits part (Some v) s ts us = shape_fits part v (length ts) s && are_known_numbers (ts ++ us)
+
+abbrev pub designated_in : Option Variable → SelectorR → Option ScalarType
+designated_in None s = None
+designated_in (Some v) s = designated v s
+
+abbrev pub use_type : Option Variable → SelectorR → List (Option ScalarType) → List (Option ScalarType) → Option ScalarType
+use_type v s ts us = given_if (use_fits false v s ts us) (designated_in v s)
+
+-- LENGTH, LAST and SIZE of one plain reference to a variable
+abbrev pub measure : Builtin → Option Variable → ℕ → SelectorR → ℕ
+measure b None n s = 0
+measure b (Some v) n s = measured b (element_count v n s) (element_size v s)
+
+abbrev pub measure_type : Builtin → Option Variable → SelectorR → List (Option ScalarType) → List (Option ScalarType) → Option ScalarType
+measure_type b v s ts us = given_if (use_fits true v s ts us) (number_type (measure b v (length ts) s))
+
+abbrev pub builtin_fits : Builtin → SelectorR → List (Option ScalarType) → Bool
+builtin_fits b s ts = is_plain s && (nat_eq (length ts) (arity b) && are_known_numbers ts)
+
+-- a location of what is on the screen is refused
+abbrev pub may_be_located : Option Variable → Bool
+may_be_located None = true
+may_be_located (Some v) = not (is_on_screen v.region)
+
+-- DATA may not be assigned
+abbrev pub may_be_assigned : Option Variable → Bool
+may_be_assigned None = true
+may_be_assigned (Some v) = not v.is_data
+
+abbrev pub located_type : LocationForm → Option Variable → SelectorR → List (Option ScalarType) → List (Option ScalarType) → Option ScalarType
+located_type f v s ts us = given_if (may_be_located v && use_fits true v s ts us) (Some (location_type f))
+
+abbrev pub stored_type : Option Variable → SelectorR → List (Option ScalarType) → List (Option ScalarType) → Option ScalarType
+stored_type v s ts us = given_if (may_be_assigned v) (use_type v s ts us)
+
+-- ---- the types of expressions, in a program that declares these
+module _ (variables : List Variable) where
+  abbrev pub parameter_types : List ℕ → List (Option ScalarType)
+  parameter_types [] = []
+  parameter_types (x ∷ xs) = variable_type (slice_get variables x) ∷ parameter_types xs
+
+  -- a call gives its procedure's type, where its arguments are as many as the parameters and are taken by them
+  abbrev pub call_fits : Option ProcedureR → List (Option ScalarType) → Bool
+  call_fits None ts = false
+  call_fits (Some p) ts = nat_eq (length p.parameters) (length ts) && take_all (parameter_types p.parameters) ts
+
+  abbrev pub called_type : Option ProcedureR → SelectorR → List (Option ScalarType) → Option ScalarType
+  called_type q s ts = given_if (is_plain s && (call_fits q ts && are_known ts)) (returned_type q)
+
+module _ (variables : List Variable) (procedures : List ProcedureR) where
+  abbrev mutual
+    pub type_of : ExpressionR → Option ScalarType
+    type_of (NumberR n) = number_type n.value
+    type_of (TextR p cs) = text_type cs
+    type_of (ReferenceR x) = value_type x
+    type_of (LocationR l) = address_type l
+    type_of (ParenthesisedR p e) = type_of e
+    type_of (EmbeddedR p x e) = given_if (is_some (target_type x) && takes (target_type x) (type_of e)) (type_of e)
+    type_of (UnaryR p o e) = unary_type (type_of e)
+    type_of (BinaryR p o a b) = binary_type o (type_of a) (type_of b)
+
+    pub types_of : ExpressionsR → List (Option ScalarType)
+    types_of no_expressions = []
+    types_of (expressions e es) = type_of e ∷ types_of es
+
+    -- of a member's subscript
+    pub selector_types : SelectorR → List (Option ScalarType)
+    selector_types no_member = []
+    selector_types (member p m) = []
+    selector_types (member_at p m e) = type_of e ∷ []
+
+    pub value_type : ReferenceR' → Option ScalarType
+    value_type (Use p (meaning.Variable v) es s) = use_type (slice_get variables v) s (types_of es) (selector_types s)
+    value_type (Use p (meaning.Procedure q) es s) = called_type variables (slice_get procedures q) s (types_of es)
+    value_type (Use p (meaning.Builtin b) es s) = cond (is_measure b) (given_if (is_plain s) (measured_type b es)) (given_if (builtin_fits b s (types_of es)) (builtin_type b (types_of es)))
+    value_type (Use p meaning.Nothing es s) = None
+
+    pub measured_type : Builtin → ExpressionsR → Option ScalarType
+    measured_type b no_expressions = None
+    measured_type b (expressions e no_expressions) = argument_type b e
+    measured_type b (expressions e (expressions d es)) = None
+
+    -- of what LENGTH, LAST and SIZE take: a plain reference to a variable
+    pub argument_type : Builtin → ExpressionR → Option ScalarType
+    argument_type b (ReferenceR x) = reference_type b x
+    argument_type b _ = None
+
+    pub reference_type : Builtin → ReferenceR' → Option ScalarType
+    reference_type b (Use p (meaning.Variable v) es s) = measure_type b (slice_get variables v) s (types_of es) (selector_types s)
+    reference_type b (Use p _ es s) = None
+
+    pub address_type : LocationR' → Option ScalarType
+    address_type (LocationOf p f (Use q (meaning.Variable v) es s)) = located_type f (slice_get variables v) s (types_of es) (selector_types s)
+    address_type (LocationOf p f (Use q _ es s)) = None
+    address_type (ConstantsOf p f k) = Some (location_type f)
+
+    pub target_type : ReferenceR' → Option ScalarType
+    target_type (Use p (meaning.Variable v) es s) = stored_type (slice_get variables v) s (types_of es) (selector_types s)
+    target_type (Use p (meaning.Builtin b) es s) = given_if (builtin_fits b s (types_of es)) (port_type b)
+    target_type (Use p _ es s) = None

@@ -1,0 +1,241 @@
+//! Built-in procedures: what they take and answer.
+
+ghost use Rattle.std.specs.Prelude.{◌≡◌, ◌∷◌, [], IfOk, option_map};
+ghost use Rattle.plm_decl.specs.ResolvedView.{selector_of};
+ghost use Rattle.plm_type.specs.Types as scalars;
+ghost use Rattle.plm_type.specs.Typing as typing;
+ghost use Rattle.plm_type.specs.Trees as spec;
+ghost use Rattle.plm_type.specs.View as view;
+
+use crate::program::{Expression, Line, Operation, Target};
+use crate::types::{are_known_numbers, width_of};
+use plm_decl::{Builtin, ScalarType, Selector};
+use std::alloc::{AllocError, Global};
+use word86::{BinaryOperation, UnaryOperation, Width};
+
+/// How many arguments it takes.
+pub fn arity(builtin: Builtin) -> usize
+    ensures { result ≡ typing.arity builtin }
+{
+    match builtin {
+        Builtin::ShiftLeft | Builtin::ShiftRight | Builtin::RotateLeft | Builtin::RotateRight => 2,
+        _ => 1,
+    }
+}
+
+/// What LENGTH, LAST and SIZE answer of so many elements of so many bytes.
+pub fn measured(builtin: Builtin, elements: u64, size: u64) -> u64
+    ensures { result ≡ typing.measured builtin elements size }
+{
+    match builtin {
+        Builtin::Length => elements,
+        Builtin::Last => elements.saturating_sub(1),
+        _ => elements.saturating_mul(size),
+    }
+}
+
+/// Whether it is LENGTH, LAST or SIZE.
+pub fn is_measure(builtin: Builtin) -> bool
+    ensures { result ≡ typing.is_measure builtin }
+{
+    match builtin {
+        Builtin::Length | Builtin::Last | Builtin::Size => true,
+        _ => false,
+    }
+}
+
+/// Whether it is a target alone.
+pub fn is_target(builtin: Builtin) -> bool
+    ensures { result ≡ typing.is_target builtin }
+{
+    match builtin {
+        Builtin::Output | Builtin::OutputWord => true,
+        _ => false,
+    }
+}
+
+fn first_type(types: &[Option<ScalarType>]) -> Option<ScalarType>
+    ensures { result ≡ typing.first_type types.now }
+{
+    match types.first() {
+        Some(scalar) => *scalar,
+        None => None,
+    }
+}
+
+/// The type of its value.
+pub fn builtin_type(builtin: Builtin, types: &[Option<ScalarType>]) -> Option<ScalarType>
+    ensures { result ≡ typing.builtin_type builtin types.now }
+{
+    match builtin {
+        Builtin::Low | Builtin::High | Builtin::Input => Some(ScalarType::Byte),
+        Builtin::Double | Builtin::InputWord => Some(ScalarType::Word),
+        Builtin::ShiftLeft | Builtin::ShiftRight | Builtin::RotateLeft | Builtin::RotateRight =>
+            first_type(types),
+        _ => None,
+    }
+}
+
+/// The type of a port as a target.
+pub fn port_type(builtin: Builtin) -> Option<ScalarType>
+    ensures { result ≡ typing.port_type builtin }
+{
+    match builtin {
+        Builtin::Output => Some(ScalarType::Byte),
+        Builtin::OutputWord => Some(ScalarType::Word),
+        _ => None,
+    }
+}
+
+/// Whether a name has no member behind it.
+pub fn is_plain(selector: &Selector) -> bool
+    ensures { result ≡ typing.is_plain (selector_of selector.now) }
+{
+    match selector {
+        Selector::None => true,
+        _ => false,
+    }
+}
+
+/// Whether it takes arguments of these types.
+pub fn builtin_fits(builtin: Builtin, selector: &Selector, types: &[Option<ScalarType>]) -> bool
+    ensures { result ≡ typing.builtin_fits builtin (selector_of selector.now) types.now }
+{
+    is_plain(selector) && types.len() == arity(builtin) && are_known_numbers(types)
+}
+
+/// A number as a constant; numbers above 65,535 are refused.
+pub fn constant(value: u64) -> Expression
+    ensures { view.expression_of result ≡ spec.constant value }
+{
+    match u16::try_from(value) {
+        Ok(value) => Expression::Constant(value),
+        Err(_) => Expression::Constant(0),
+    }
+}
+
+/// A string's value: its first character is the high byte.
+pub fn text_value(characters: &[u8]) -> u64
+    ensures { result ≡ spec.text_value characters.now }
+{
+    match characters {
+        [only] => u64::from(*only),
+        [high, low] => u64::from(*high) * 0x100 + u64::from(*low),
+        _ => 0,
+    }
+}
+
+/// The one expression of a list.
+fn only(mut trees: Vec<Expression>) -> Option<Expression>
+    ensures { option_map view.expression_of result ≡ spec.the_only (view.expressions_of trees.items) }
+{
+    if trees.len() == 1 { trees.pop() } else { None }
+}
+
+fn operated(
+    alloc: Global,
+    operation: UnaryOperation,
+    width: Width,
+    trees: Vec<Expression>,
+) -> Result<Expression, AllocError>
+    ensures { IfOk result (λ r. view.expression_of r ≡ spec.operated operation width (view.expressions_of trees.items)) }
+{
+    match only(trees) {
+        Some(tree) => Ok(Expression::Unary(operation, width, Box::new(alloc, tree)?)),
+        None => Ok(Expression::Constant(0)),
+    }
+}
+
+fn read_port(alloc: Global, width: Width, trees: Vec<Expression>) -> Result<Expression, AllocError>
+    ensures { IfOk result (λ r. view.expression_of r ≡ spec.read_port width (view.expressions_of trees.items)) }
+{
+    match only(trees) {
+        Some(tree) => Ok(Expression::Input(width, Box::new(alloc, tree)?)),
+        None => Ok(Expression::Constant(0)),
+    }
+}
+
+/// A port as a target.
+pub fn to_port(builtin: Builtin, trees: Vec<Expression>) -> Target
+    ensures { view.target_of result ≡ spec.to_port builtin (view.expressions_of trees.items) }
+{
+    match only(trees) {
+        Some(tree) => Target::Port(width_of(port_type(builtin)), tree),
+        None => Target::Port(Width::Word, Expression::Constant(0)),
+    }
+}
+
+/// A left operand, and one more operator with its right operand.
+pub fn operation(
+    alloc: Global,
+    left: Expression,
+    operation: Operation,
+) -> Result<Expression, AllocError>
+    ensures { IfOk result (λ r. view.expression_of r ≡ view.chained (view.expression_of left) (operation ∷ [])) }
+{
+    if let Expression::Chain(first, mut others) = left {
+        others.push(operation)?;
+        return Ok(Expression::Chain(first, others));
+    }
+    let mut others = Vec::new(alloc);
+    others.push(operation)?;
+    Ok(Expression::Chain(Box::new(alloc, left)?, others))
+}
+
+fn shifted(
+    alloc: Global,
+    line: Line,
+    operator: BinaryOperation,
+    width: Width,
+    mut trees: Vec<Expression>,
+) -> Result<Expression, AllocError>
+    ensures { IfOk result (λ r. view.expression_of r ≡ spec.shifted line.module (line.line) operator width (view.expressions_of trees.items)) }
+{
+    if trees.len() != 2 {
+        return Ok(Expression::Constant(0));
+    }
+    match (trees.pop(), trees.pop()) {
+        (Some(count), Some(shifted)) => operation(
+            alloc,
+            shifted,
+            Operation {
+                line,
+                operation: operator,
+                width,
+                operand: count,
+            },
+        ),
+        _ => Ok(Expression::Constant(0)),
+    }
+}
+
+/// What it does with arguments, the first of which has this width.
+pub fn builtin_value(
+    alloc: Global,
+    line: Line,
+    builtin: Builtin,
+    width: Width,
+    trees: Vec<Expression>,
+) -> Result<Expression, AllocError>
+    ensures { IfOk result (λ r. view.expression_of r ≡ spec.builtin_value line.module line.line builtin width (view.expressions_of trees.items)) }
+{
+    match builtin {
+        Builtin::Low => operated(alloc, UnaryOperation::Low, width, trees),
+        Builtin::High => operated(alloc, UnaryOperation::High, width, trees),
+        Builtin::Double => operated(alloc, UnaryOperation::Double, width, trees),
+        Builtin::ShiftLeft => shifted(alloc, line, BinaryOperation::ShiftLeft, width, trees),
+        Builtin::ShiftRight => shifted(alloc, line, BinaryOperation::ShiftRight, width, trees),
+        Builtin::RotateLeft => shifted(alloc, line, BinaryOperation::RotateLeft, width, trees),
+        Builtin::RotateRight => shifted(alloc, line, BinaryOperation::RotateRight, width, trees),
+        Builtin::Input => read_port(alloc, Width::Byte, trees),
+        Builtin::InputWord => read_port(alloc, Width::Word, trees),
+        _ => Ok(Expression::Constant(0)),
+    }
+}
+
+/// The width of a list's first value.
+pub fn first_width(types: &[Option<ScalarType>]) -> Width
+    ensures { result ≡ scalars.width_of (typing.first_type types.now) }
+{
+    width_of(first_type(types))
+}

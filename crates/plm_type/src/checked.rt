@@ -1,0 +1,86 @@
+//! A program that is typed.
+
+ghost use Rattle.std.specs.Prelude.{◌≡◌, ℕ, [], slice_get};
+ghost use Rattle.plm_decl.specs.Known.{procedure_of};
+ghost use Rattle.plm_decl.specs.Statements as declared;
+ghost use Rattle.plm_type.specs.Sets.{Statements-set, Procedures-set};
+ghost use Rattle.plm_type.specs.Programs as spec;
+ghost use Rattle.plm_type.specs.Programs.{faults, main_tree, handler_tree, procedures_of};
+ghost use Rattle.plm_type.specs.Calls.{IsRecursive};
+ghost use Rattle.plm_type.specs.View as view;
+
+use crate::program::{Procedure, Statement};
+use plm_decl::Names;
+use plm_syntax::Linkage;
+
+/// A program that is typed, and whose procedures do not reach themselves: what its modules declare, and what main and each
+/// procedure do.
+#[derive(Drop)]
+pub struct Program {
+    pub(crate) names: Names,
+    pub(crate) main: Vec<Box<Statement>>,
+    pub(crate) procedures: Vec<Procedure>,
+    // Main does what the names say, and so does each procedure.
+    ghost main_is: { view.statements_of main.items ≡ main_tree names } by { Statements-set (view.statements_of main.items) (main_tree names) },
+    ghost procedures_are: { view.procedures_of procedures.items ≡ procedures_of names } by { Procedures-set (view.procedures_of procedures.items) (procedures_of names) },
+    // The names have no fault of types.
+    ghost no_fault: { faults names ≡ [] },
+    // No procedure reaches itself.
+    ghost no_recursion: { (p : ℕ) → ¬ IsRecursive (procedures_of names) p },
+}
+
+/// Whether an interrupt of this vector enters the procedure.
+fn handles(procedure: &plm_decl::Procedure, vector: u8) -> bool
+    ensures { result ≡ declared.handles vector (procedure_of procedure.now) }
+{
+    procedure.linkage != Linkage::External && procedure.interrupt == Some(u32::from(vector))
+}
+
+/// The statements of the procedure of this number, none where there is no such procedure.
+fn body_at(procedures: &[Procedure], number: usize) -> &[Box<Statement>]
+    ensures { view.statements_of result.now ≡ spec.body_at (slice_get (view.procedures_of procedures.now) number) }
+{
+    match procedures.get(number) {
+        Some(procedure) => procedure.body.as_slice(),
+        None => &[],
+    }
+}
+
+impl Program {
+    ghost use Rattle.plm_type.specs.Checked.{AreTyped};
+
+    /// What the modules declare. The program is what these names say, its types have no fault, and no procedure reaches
+    /// itself.
+    pub fn names(&self) -> &Names
+        ensures names { result.now ≡ self.now.names }
+        ensures typed { AreTyped self.now result.now }
+    {
+        &self.names
+    }
+
+    /// Main's statements.
+    pub fn main(&self) -> &[Box<Statement>]
+        ensures { result.now ≡ self.now.main.items }
+    {
+        self.main.as_slice()
+    }
+
+    /// Each procedure, in order of declaration.
+    pub fn procedures(&self) -> &[Procedure]
+        ensures { result.now ≡ self.now.procedures.items }
+    {
+        self.procedures.as_slice()
+    }
+
+    /// The statements of the procedure that an interrupt of this vector enters: none where it has no procedure.
+    pub fn handler(&self, vector: u8) -> &[Box<Statement>]
+        ensures { view.statements_of result.now ≡ handler_tree self.now.names vector }
+    {
+        for (number, procedure) in self.names.procedures.iter().enumerate() {
+            if handles(procedure, vector) {
+                return body_at(&self.procedures, number);
+            }
+        }
+        &[]
+    }
+}

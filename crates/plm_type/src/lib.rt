@@ -1,0 +1,27 @@
+//! Types: which programs are typed, and what they do with types known and names as places.
+#![tactic(auto)]
+
+mod applications;
+mod builtins;
+mod calls;
+mod checked;
+mod checking;
+mod expressions;
+mod order;
+mod procedures;
+mod program;
+mod reach;
+mod references;
+mod shapes;
+mod sharing;
+mod statements;
+mod typer;
+mod types;
+
+pub use checked::Program;
+pub use checking::check;
+pub use program::{
+    Anchor, Expression, Line, Loop, Operation, Place, Procedure, Reference, Scalar, Statement,
+    Subscript, Target,
+};
+pub use sharing::{Warning, warnings};

@@ -1,0 +1,164 @@
+//! Procedures, main, and the locations of declarations.
+
+ghost use Rattle.std.specs.Prelude.{◌≡◌, ◌++◌, IfOk, OnOk, map, slice_get};
+ghost use Rattle.plm_decl.specs.Known.{procedure_of, declared_location_of, main_of};
+ghost use Rattle.plm_type.specs.Typers.{variables, procedures, sizes};
+ghost use Rattle.plm_type.specs.Statements as spec;
+ghost use Rattle.plm_type.specs.View as view;
+
+use crate::program::{Procedure, Scalar, Statement};
+use crate::statements::{Around, index_for, is_plain_scalar};
+use crate::typer::Typer;
+use plm_decl::DeclaredLocation;
+use plm_decl::found::Found;
+use plm_syntax::{Linkage, Place};
+use std::alloc::AllocError;
+use word86::Number;
+
+/// Whether the number of INTERRUPT is 0 to 255.
+fn interrupt_fits(interrupt: Option<u32>) -> bool
+    ensures { result ≡ spec.interrupt_fits interrupt }
+{
+    match interrupt {
+        Some(number) => number <= 0xFF,
+        None => true,
+    }
+}
+
+impl Typer<'_> {
+    /// Notes a parameter that is no scalar, or is based.
+    fn note_parameter(&self, parameter: usize, faults: &mut Vec<Found>) -> Result<(), AllocError>
+        ensures { OnOk result (faults.new.items ≡ faults.old.items ++ spec.of_parameter (variables self.now) self.now.module (slice_get (variables self.now) parameter)) }
+    {
+        match self.variable(parameter) {
+            Some(variable) => self.note_unless(
+                is_plain_scalar(&variable),
+                Number::E401,
+                variable.place,
+                faults,
+            ),
+            None => Ok(()),
+        }
+    }
+
+    fn parameters(
+        &self,
+        parameters: &[usize],
+        faults: &mut Vec<Found>,
+    ) -> Result<Vec<Scalar>, AllocError>
+        ensures tree { IfOk result (λ r. map view.scalar_of r.items ≡ spec.parameters_for (variables self.now) parameters.now) }
+        ensures faults { OnOk result (faults.new.items ≡ faults.old.items ++ spec.of_parameters (variables self.now) self.now.module parameters.now) }
+    {
+        let mut scalars = Vec::new(self.alloc);
+        for parameter in parameters {
+            self.note_parameter(*parameter, faults)?;
+            scalars.push(index_for(self.variable(*parameter)))?;
+        }
+        Ok(scalars)
+    }
+
+    /// Notes what stands first in an EXTERNAL procedure besides the declarations of its parameters.
+    fn note_stray(&self, stray: Option<Place>, faults: &mut Vec<Found>) -> Result<(), AllocError>
+        ensures { OnOk result (faults.new.items ≡ faults.old.items ++ spec.of_stray self.now.module stray) }
+    {
+        match stray {
+            Some(place) => self.note_unless(false, Number::E401, place, faults),
+            None => Ok(()),
+        }
+    }
+
+    /// A procedure's body: an EXTERNAL one has none.
+    fn body(
+        &self,
+        procedure: &plm_decl::Procedure,
+        faults: &mut Vec<Found>,
+    ) -> Result<Vec<Box<Statement>>, AllocError>
+        requires { procedure.now.module ≡ self.now.module }
+        ensures tree { IfOk result (λ r. view.statements_of r.items ≡ spec.body_for (variables self.now) (procedures self.now) (sizes self.now) (procedure_of procedure.now)) }
+        ensures faults { OnOk result (faults.new.items ≡ faults.old.items ++ spec.of_body (variables self.now) (procedures self.now) (procedure_of procedure.now)) }
+    {
+        if procedure.linkage == Linkage::External {
+            return Ok(Vec::new(self.alloc));
+        }
+        self.statements(
+            Around::Procedure(procedure.returned),
+            &procedure.body,
+            faults,
+        )
+    }
+
+    /// A procedure of its module.
+    fn procedure_in(
+        &self,
+        procedure: &plm_decl::Procedure,
+        faults: &mut Vec<Found>,
+    ) -> Result<Procedure, AllocError>
+        requires { procedure.now.module ≡ self.now.module }
+        ensures tree { IfOk result (λ r. view.procedure_of r ≡ spec.procedure_for (variables self.now) (procedures self.now) (sizes self.now) (procedure_of procedure.now)) }
+        ensures faults { OnOk result (faults.new.items ≡ faults.old.items ++ spec.of_procedure (variables self.now) (procedures self.now) (procedure_of procedure.now)) }
+    {
+        let parameters = self.parameters(&procedure.parameters, faults)?;
+        let fits = interrupt_fits(procedure.interrupt);
+        self.note_unless(fits, Number::E401, procedure.place, faults)?;
+        self.note_stray(procedure.stray, faults)?;
+        let body = self.body(procedure, faults)?;
+        Ok(Procedure { parameters, body })
+    }
+
+    /// The same names, for statements of another module.
+    fn of_module(&self, number: usize) -> Typer<'_>
+        ensures names { result.names.now ≡ self.now.names.now }
+        ensures module { result.module ≡ number }
+    {
+        Typer {
+            alloc: self.alloc,
+            names: self.names,
+            module: number,
+        }
+    }
+
+    /// All procedures, in order of declaration.
+    pub fn procedures(&self, faults: &mut Vec<Found>) -> Result<Vec<Procedure>, AllocError>
+        ensures tree { IfOk result (λ r. map view.procedure_of r.items ≡ map (spec.procedure_for (variables self.now) (procedures self.now) (sizes self.now)) (procedures self.now)) }
+        ensures faults { OnOk result (faults.new.items ≡ faults.old.items ++ spec.of_procedures (variables self.now) (procedures self.now) (procedures self.now)) }
+    {
+        let mut typed = Vec::new(self.alloc);
+        for procedure in &self.names.procedures {
+            let typer = self.of_module(procedure.module);
+            typed.push(typer.procedure_in(procedure, faults)?)?;
+        }
+        Ok(typed)
+    }
+
+    /// Notes the faults of the locations of AT, INITIAL and DATA.
+    pub fn locations(&self, faults: &mut Vec<Found>) -> Result<(), AllocError>
+        ensures { OnOk result (faults.new.items ≡ faults.old.items ++ spec.of_locations (variables self.now) (procedures self.now) (map declared_location_of self.now.names.now.locations.items)) }
+    {
+        for declared in &self.names.locations {
+            self.declared_location(declared, faults)?;
+        }
+        Ok(())
+    }
+
+    fn declared_location(
+        &self,
+        declared: &DeclaredLocation,
+        faults: &mut Vec<Found>,
+    ) -> Result<(), AllocError>
+        ensures { OnOk result (faults.new.items ≡ faults.old.items ++ spec.of_location (variables self.now) (procedures self.now) (declared_location_of declared.now)) }
+    {
+        self.of_module(declared.module)
+            .location(&declared.location, faults)?;
+        Ok(())
+    }
+
+    /// Main's statements.
+    pub fn main(&self, faults: &mut Vec<Found>) -> Result<Vec<Box<Statement>>, AllocError>
+        ensures tree { IfOk result (λ r. view.statements_of r.items ≡ spec.main_for (variables self.now) (procedures self.now) (sizes self.now) (main_of self.now.names.now.main)) }
+        ensures faults { OnOk result (faults.new.items ≡ faults.old.items ++ spec.of_main (variables self.now) (procedures self.now) (main_of self.now.names.now.main)) }
+    {
+        let main = &self.names.main;
+        self.of_module(main.module)
+            .statements(Around::Main, &main.statements, faults)
+    }
+}

@@ -1,0 +1,394 @@
+//! References whose subscripts are typed.
+
+ghost use Rattle.std.specs.Prelude.{◌≡◌, ◌++◌, true, false, IfOk, OnOk, length, map, option_map};
+ghost use Rattle.plm_decl.specs.ResolvedView as resolved;
+ghost use Rattle.word86.specs.declared.number.Number.TheVariants.{E401, E403};
+ghost use Rattle.plm_type.specs.Rest.{Location};
+ghost use Rattle.plm_type.specs.Typers.{variables, with_stride};
+ghost use Rattle.plm_type.specs.Types as scalars;
+ghost use Rattle.plm_type.specs.Typing as typing;
+ghost use Rattle.plm_type.specs.Faults as found;
+ghost use Rattle.plm_type.specs.Trees as spec;
+ghost use Rattle.plm_type.specs.View as view;
+
+use crate::builtins::{constant, measured};
+use crate::program::{Anchor, Expression, Reference, Subscript, Target};
+use crate::shapes::{
+    anchor, designated, element_count, element_size, is_on_screen, member_offset, member_stride,
+    read_of, shape_fits, store_to,
+};
+use crate::typer::{Typed, TypedList, Typer};
+use crate::types::{are_known_numbers, may_be_numbers, number_type};
+use plm_decl::found::Found;
+use plm_decl::{Builtin, ScalarType, Selector, Variable};
+use plm_syntax::{LocationForm, Place};
+use std::alloc::AllocError;
+use word86::Number;
+
+/// A reference's subscripts, and that of its member.
+#[derive(Drop)]
+pub struct Parts {
+    pub subscripts: TypedList,
+    pub member: TypedList,
+}
+
+/// A target's tree, and its type: none where it has a fault.
+#[derive(Drop)]
+pub struct TypedTarget {
+    pub tree: Target,
+    pub scalar: Option<ScalarType>,
+}
+
+impl Parts {
+    /// Whether no subscript is a POINTER.
+    #[tactic(auto, using(crate::proofs::Lists::may_be_numbers_both))]
+    fn may_be_numbers(&self) -> bool
+        ensures { result ≡ scalars.may_be_numbers (self.now.subscripts.types.items ++ self.now.member.types.items) }
+    {
+        may_be_numbers(&self.subscripts.types) && may_be_numbers(&self.member.types)
+    }
+
+    /// Whether each subscript is known to be BYTE or WORD.
+    #[tactic(auto, using(crate::proofs::Lists::known_numbers_both))]
+    fn are_known_numbers(&self) -> bool
+        ensures { result ≡ scalars.are_known_numbers (self.now.subscripts.types.items ++ self.now.member.types.items) }
+    {
+        are_known_numbers(&self.subscripts.types) && are_known_numbers(&self.member.types)
+    }
+}
+
+/// Puts a subscript over elements of so many bytes for each of these behind the others.
+fn strided(
+    stride: u64,
+    trees: Vec<Expression>,
+    subscripts: &mut Vec<Subscript>,
+) -> Result<(), AllocError>
+    ensures { OnOk result (subscripts.new.items ≡ subscripts.old.items ++ map (with_stride stride) trees.items) }
+{
+    for index in trees {
+        subscripts.push(Subscript { stride, index })?;
+    }
+    Ok(())
+}
+
+/// Whether a reference to a variable may have its shape, and subscripts that are no POINTER.
+fn may_be_used(part: bool, variable: Option<Variable>, selector: &Selector, parts: &Parts) -> bool
+    ensures { result ≡ found.may_be_used part variable (resolved.selector_of selector.now) parts.now.subscripts.types.items parts.now.member.types.items }
+{
+    match variable {
+        Some(variable) => {
+            shape_fits(part, &variable, parts.subscripts.types.len(), selector)
+                && parts.may_be_numbers()
+        }
+        None => false,
+    }
+}
+
+/// Whether a reference to a variable has its shape, and subscripts that are numbers.
+fn use_fits(part: bool, variable: Option<Variable>, selector: &Selector, parts: &Parts) -> bool
+    ensures { result ≡ typing.use_fits part variable (resolved.selector_of selector.now) parts.now.subscripts.types.items parts.now.member.types.items }
+{
+    match variable {
+        Some(variable) => {
+            shape_fits(part, &variable, parts.subscripts.types.len(), selector)
+                && parts.are_known_numbers()
+        }
+        None => false,
+    }
+}
+
+fn designated_in(variable: Option<Variable>, selector: &Selector) -> Option<ScalarType>
+    ensures { result ≡ typing.designated_in variable (resolved.selector_of selector.now) }
+{
+    match variable {
+        Some(variable) => designated(&variable, selector),
+        None => None,
+    }
+}
+
+/// The type of a variable's scalar as a value.
+pub fn use_type(
+    variable: Option<Variable>,
+    selector: &Selector,
+    parts: &Parts,
+) -> Option<ScalarType>
+    ensures { result ≡ typing.use_type variable (resolved.selector_of selector.now) parts.now.subscripts.types.items parts.now.member.types.items }
+{
+    if use_fits(false, variable, selector, parts) {
+        designated_in(variable, selector)
+    } else {
+        None
+    }
+}
+
+/// Whether the variable may be assigned: DATA declares it not.
+pub fn may_be_assigned(variable: Option<Variable>) -> bool
+    ensures { result ≡ typing.may_be_assigned variable }
+{
+    match variable {
+        Some(variable) => !variable.is_data,
+        None => true,
+    }
+}
+
+fn may_be_located(variable: Option<Variable>) -> bool
+    ensures { result ≡ typing.may_be_located variable }
+{
+    match variable {
+        Some(variable) => !is_on_screen(variable.region),
+        None => true,
+    }
+}
+
+fn stored_type(variable: Option<Variable>, selector: &Selector, parts: &Parts) -> Option<ScalarType>
+    ensures { result ≡ typing.stored_type variable (resolved.selector_of selector.now) parts.now.subscripts.types.items parts.now.member.types.items }
+{
+    if may_be_assigned(variable) {
+        use_type(variable, selector, parts)
+    } else {
+        None
+    }
+}
+
+/// The type of a location.
+pub fn location_type(form: LocationForm) -> ScalarType
+    ensures { result ≡ typing.location_type form }
+{
+    match form {
+        LocationForm::Pointer => ScalarType::Pointer,
+        LocationForm::Offset => ScalarType::Word,
+    }
+}
+
+fn located_type(
+    form: LocationForm,
+    variable: Option<Variable>,
+    selector: &Selector,
+    parts: &Parts,
+) -> Option<ScalarType>
+    ensures { result ≡ typing.located_type form variable (resolved.selector_of selector.now) parts.now.subscripts.types.items parts.now.member.types.items }
+{
+    if may_be_located(variable) && use_fits(true, variable, selector, parts) {
+        Some(location_type(form))
+    } else {
+        None
+    }
+}
+
+/// What LENGTH, LAST or SIZE answers.
+fn measure(builtin: Builtin, variable: Option<Variable>, count: usize, selector: &Selector) -> u64
+    ensures { result ≡ typing.measure builtin variable count (resolved.selector_of selector.now) }
+{
+    match variable {
+        Some(variable) => measured(
+            builtin,
+            element_count(&variable, count, selector),
+            element_size(&variable, selector),
+        ),
+        None => 0,
+    }
+}
+
+/// Whether what is measured is not above 65,535, where it has its shape.
+fn measure_fits(
+    builtin: Builtin,
+    variable: Option<Variable>,
+    count: usize,
+    selector: &Selector,
+) -> bool
+    ensures { result ≡ found.measure_fits builtin variable count (resolved.selector_of selector.now) }
+{
+    match variable {
+        Some(shaped) => {
+            !shape_fits(true, &shaped, count, selector)
+                || measure(builtin, variable, count, selector) <= 0xFFFF
+        }
+        None => true,
+    }
+}
+
+/// A read of what a reference designates.
+fn use_read(variable: Option<Variable>, selector: &Selector, reference: Reference) -> Expression
+    ensures { view.expression_of result ≡ spec.use_read variable (resolved.selector_of selector.now) (view.reference_of reference) }
+{
+    match designated_in(variable, selector) {
+        Some(scalar) => read_of(scalar, reference),
+        None => Expression::Constant(0),
+    }
+}
+
+/// A store to what a reference designates.
+fn use_stored(variable: Option<Variable>, selector: &Selector, reference: Reference) -> Target
+    ensures { view.target_of result ≡ spec.use_stored variable (resolved.selector_of selector.now) (view.reference_of reference) }
+{
+    match designated_in(variable, selector) {
+        Some(scalar) => store_to(scalar, reference),
+        None => store_to(ScalarType::Word, reference),
+    }
+}
+
+impl Typer<'_> {
+    /// A reference, with its subscripts.
+    fn refer(
+        &self,
+        place: Place,
+        variable: Option<Variable>,
+        selector: &Selector,
+        parts: Parts,
+    ) -> Result<Reference, AllocError>
+        ensures { IfOk result (λ r. view.reference_of r ≡ spec.refer (variables self.now) self.now.module place.line variable (resolved.selector_of selector.now) (view.expressions_of parts.subscripts.trees.items) (view.expressions_of parts.member.trees.items)) }
+    {
+        let mut subscripts = Vec::new(self.alloc);
+        let line = self.line(place);
+        let Some(variable) = variable else {
+            return Ok(Reference {
+                line,
+                anchor: Anchor::Ram(0, 0, 0),
+                offset: 0,
+                subscripts,
+            });
+        };
+        let Parts {
+            subscripts: outer,
+            member: inner,
+        } = parts;
+        strided(variable.stride, outer.into_trees(), &mut subscripts)?;
+        strided(member_stride(selector), inner.into_trees(), &mut subscripts)?;
+        Ok(Reference {
+            line,
+            anchor: anchor(&self.names.variables, &variable),
+            offset: member_offset(selector),
+            subscripts,
+        })
+    }
+
+    /// A variable as a value.
+    pub fn read(
+        &self,
+        reference: &plm_decl::Reference,
+        variable: Option<Variable>,
+        parts: Parts,
+        faults: &mut Vec<Found>,
+    ) -> Result<Typed, AllocError>
+        ensures tree { IfOk result (λ r. view.expression_of r.tree ≡ spec.use_read variable (resolved.selector_of reference.now.selector) (spec.refer (variables self.now) self.now.module reference.now.place.line variable (resolved.selector_of reference.now.selector) (view.expressions_of parts.subscripts.trees.items) (view.expressions_of parts.member.trees.items))) }
+        ensures scalar { IfOk result (λ r. r.scalar ≡ typing.use_type variable (resolved.selector_of reference.now.selector) parts.subscripts.types.items parts.member.types.items) }
+        ensures faults { OnOk result (faults.new.items ≡ faults.old.items ++ found.use_faults self.now.module false reference.now.place variable (resolved.selector_of reference.now.selector) parts.subscripts.types.items parts.member.types.items) }
+    {
+        let selector = &reference.selector;
+        self.note_unless(
+            may_be_used(false, variable, selector, &parts),
+            Number::E401,
+            reference.place,
+            faults,
+        )?;
+        let scalar = use_type(variable, selector, &parts);
+        let place = self.refer(reference.place, variable, selector, parts)?;
+        Ok(Typed {
+            tree: use_read(variable, selector, place),
+            scalar,
+        })
+    }
+
+    /// A variable as a target.
+    pub fn stored(
+        &self,
+        reference: &plm_decl::Reference,
+        variable: Option<Variable>,
+        parts: Parts,
+        faults: &mut Vec<Found>,
+    ) -> Result<TypedTarget, AllocError>
+        ensures tree { IfOk result (λ r. view.target_of r.tree ≡ spec.use_stored variable (resolved.selector_of reference.now.selector) (spec.refer (variables self.now) self.now.module reference.now.place.line variable (resolved.selector_of reference.now.selector) (view.expressions_of parts.subscripts.trees.items) (view.expressions_of parts.member.trees.items))) }
+        ensures scalar { IfOk result (λ r. r.scalar ≡ typing.stored_type variable (resolved.selector_of reference.now.selector) parts.subscripts.types.items parts.member.types.items) }
+        ensures faults { OnOk result (faults.new.items ≡ faults.old.items ++ (found.use_faults self.now.module false reference.now.place variable (resolved.selector_of reference.now.selector) parts.subscripts.types.items parts.member.types.items ++ found.fault_unless self.now.module (typing.may_be_assigned variable) E403 reference.now.place)) }
+    {
+        let selector = &reference.selector;
+        self.note_unless(
+            may_be_used(false, variable, selector, &parts),
+            Number::E401,
+            reference.place,
+            faults,
+        )?;
+        self.note_unless(
+            may_be_assigned(variable),
+            Number::E403,
+            reference.place,
+            faults,
+        )?;
+        let scalar = stored_type(variable, selector, &parts);
+        let place = self.refer(reference.place, variable, selector, parts)?;
+        Ok(TypedTarget {
+            tree: use_stored(variable, selector, place),
+            scalar,
+        })
+    }
+
+    /// The location of a variable.
+    pub fn located(
+        &self,
+        place: Place,
+        form: LocationForm,
+        reference: &plm_decl::Reference,
+        variable: Option<Variable>,
+        parts: Parts,
+        faults: &mut Vec<Found>,
+    ) -> Result<Typed, AllocError>
+        ensures tree { IfOk result (λ r. view.expression_of r.tree ≡ Location (spec.refer (variables self.now) self.now.module reference.now.place.line variable (resolved.selector_of reference.now.selector) (view.expressions_of parts.subscripts.trees.items) (view.expressions_of parts.member.trees.items))) }
+        ensures scalar { IfOk result (λ r. r.scalar ≡ typing.located_type form variable (resolved.selector_of reference.now.selector) parts.subscripts.types.items parts.member.types.items) }
+        ensures faults { OnOk result (faults.new.items ≡ faults.old.items ++ (found.fault_unless self.now.module (typing.may_be_located variable) E401 place ++ found.use_faults self.now.module true reference.now.place variable (resolved.selector_of reference.now.selector) parts.subscripts.types.items parts.member.types.items)) }
+    {
+        let selector = &reference.selector;
+        self.note_unless(may_be_located(variable), Number::E401, place, faults)?;
+        self.note_unless(
+            may_be_used(true, variable, selector, &parts),
+            Number::E401,
+            reference.place,
+            faults,
+        )?;
+        let scalar = located_type(form, variable, selector, &parts);
+        let reference = self.refer(reference.place, variable, selector, parts)?;
+        Ok(Typed {
+            tree: Expression::Location(reference),
+            scalar,
+        })
+    }
+
+    /// LENGTH, LAST or SIZE of a variable.
+    pub fn measured(
+        &self,
+        place: Place,
+        builtin: Builtin,
+        reference: &plm_decl::Reference,
+        variable: Option<Variable>,
+        parts: &Parts,
+        faults: &mut Vec<Found>,
+    ) -> Result<Typed, AllocError>
+        ensures tree { IfOk result (λ r. view.expression_of r.tree ≡ spec.constant (typing.measure builtin variable (length parts.now.subscripts.types.items) (resolved.selector_of reference.now.selector))) }
+        ensures scalar { IfOk result (λ r. r.scalar ≡ typing.measure_type builtin variable (resolved.selector_of reference.now.selector) parts.now.subscripts.types.items parts.now.member.types.items) }
+        ensures faults { OnOk result (faults.new.items ≡ faults.old.items ++ (found.use_faults self.now.module true reference.now.place variable (resolved.selector_of reference.now.selector) parts.now.subscripts.types.items parts.now.member.types.items ++ found.fault_unless self.now.module (found.measure_fits builtin variable (length parts.now.subscripts.types.items) (resolved.selector_of reference.now.selector)) E401 place)) }
+    {
+        let selector = &reference.selector;
+        let count = parts.subscripts.types.len();
+        self.note_unless(
+            may_be_used(true, variable, selector, parts),
+            Number::E401,
+            reference.place,
+            faults,
+        )?;
+        self.note_unless(
+            measure_fits(builtin, variable, count, selector),
+            Number::E401,
+            place,
+            faults,
+        )?;
+        let value = measure(builtin, variable, count, selector);
+        let scalar = if use_fits(true, variable, selector, parts) {
+            number_type(value)
+        } else {
+            None
+        };
+        Ok(Typed {
+            tree: constant(value),
+            scalar,
+        })
+    }
+}

@@ -1,0 +1,238 @@
+//! What a reference to a variable designates.
+
+ghost use Rattle.std.specs.Prelude.{◌≡◌, option_map};
+ghost use Rattle.plm_decl.specs.Layouts as layout;
+ghost use Rattle.plm_decl.specs.ResolvedView.{selector_of};
+ghost use Rattle.plm_type.specs.Shapes as spec;
+ghost use Rattle.plm_type.specs.View as view;
+
+use crate::program::{Anchor, Expression, Place, Reference, Scalar, Target};
+use crate::types::width_of;
+use plm_decl::{Form, Region, ScalarType, Selector, Variable};
+
+/// What has a dimension wants one subscript, which may be missing in a part.
+fn subscripts_fit(part: bool, dimension: Option<u32>, count: usize) -> bool
+    ensures { result ≡ spec.subscripts_fit part dimension count }
+{
+    match dimension {
+        None => count == 0,
+        Some(_) => count == 1 || (part && count == 0),
+    }
+}
+
+/// A structure wants one of its members, which may be missing in a part; a scalar has none.
+fn selector_fits(part: bool, form: Form, selector: &Selector) -> bool
+    ensures { result ≡ spec.selector_fits part form (selector_of selector.now) }
+{
+    match (form, selector) {
+        (Form::Scalar(_), Selector::None) => true,
+        (Form::Scalar(_), _) => false,
+        (Form::Structure(_), Selector::None) => part,
+        (Form::Structure(_), Selector::Member(_, Some(member))) => {
+            subscripts_fit(part, member.dimension, 0)
+        }
+        (Form::Structure(_), Selector::Element(_, Some(member), _)) => {
+            subscripts_fit(part, member.dimension, 1)
+        }
+        _ => false,
+    }
+}
+
+/// Whether a reference with so many subscripts and this selector has the shape of the variable: of a whole one, or of a
+/// part that a location, LENGTH, LAST or SIZE may name.
+pub fn shape_fits(part: bool, variable: &Variable, count: usize, selector: &Selector) -> bool
+    ensures { result ≡ spec.shape_fits part variable.now count (selector_of selector.now) }
+{
+    subscripts_fit(part, variable.dimension, count) && selector_fits(part, variable.form, selector)
+}
+
+/// The scalar's type; a structure has none.
+pub fn form_type(form: Form) -> Option<ScalarType>
+    ensures { result ≡ spec.form_type form }
+{
+    match form {
+        Form::Scalar(scalar) => Some(scalar),
+        Form::Structure(_) => None,
+    }
+}
+
+/// The type of the scalar that is designated.
+pub fn designated(variable: &Variable, selector: &Selector) -> Option<ScalarType>
+    ensures { result ≡ spec.designated variable.now (selector_of selector.now) }
+{
+    match selector {
+        Selector::None => form_type(variable.form),
+        Selector::Member(_, Some(member)) => Some(member.scalar),
+        Selector::Element(_, Some(member), _) => Some(member.scalar),
+        _ => None,
+    }
+}
+
+/// How many elements there are.
+fn elements(dimension: Option<u32>) -> u64
+    ensures { result ≡ layout.elements dimension }
+{
+    match dimension {
+        Some(count) => u64::from(count),
+        None => 1,
+    }
+}
+
+/// How many bytes the variable's declaration takes.
+fn span(variable: &Variable) -> u64
+    ensures { result ≡ spec.span variable.now }
+{
+    variable.stride.saturating_mul(elements(variable.dimension))
+}
+
+/// How many elements a reference stands for.
+pub fn element_count(variable: &Variable, count: usize, selector: &Selector) -> u64
+    ensures { result ≡ spec.element_count variable.now count (selector_of selector.now) }
+{
+    match selector {
+        Selector::None if count == 0 => elements(variable.dimension),
+        Selector::Member(_, Some(member)) => elements(member.dimension),
+        _ => 1,
+    }
+}
+
+/// How many bytes each of these elements has.
+pub fn element_size(variable: &Variable, selector: &Selector) -> u64
+    ensures { result ≡ spec.element_size variable.now (selector_of selector.now) }
+{
+    match selector {
+        Selector::None => variable.stride,
+        Selector::Member(_, Some(member)) => member.scalar.size(),
+        Selector::Element(_, Some(member), _) => member.scalar.size(),
+        _ => 0,
+    }
+}
+
+/// How many bytes of its structure stand before a member.
+pub fn member_offset(selector: &Selector) -> u64
+    ensures { result ≡ spec.member_offset (selector_of selector.now) }
+{
+    match selector {
+        Selector::Member(_, Some(member)) => member.offset,
+        Selector::Element(_, Some(member), _) => member.offset,
+        _ => 0,
+    }
+}
+
+/// How many bytes an element of a member has.
+pub fn member_stride(selector: &Selector) -> u64
+    ensures { result ≡ spec.member_stride (selector_of selector.now) }
+{
+    match selector {
+        Selector::Element(_, Some(member), _) => member.scalar.size(),
+        _ => 0,
+    }
+}
+
+/// The index of a byte. An object and the screen have fewer bytes than that: no accepted program has a greater index.
+fn capped(index: u64) -> u16
+    ensures { result ≡ spec.capped index }
+{
+    u16::try_from(index).unwrap_or(u16::MAX)
+}
+
+/// Where a scalar lies that is not based.
+fn place_at(region: Region) -> Place
+    ensures { view.where_of result ≡ spec.where_at region }
+{
+    match region {
+        Region::Ram(object, start) => Place::Ram(object, capped(start)),
+        Region::Screen(start) => Place::Screen(capped(start)),
+        Region::Based(_) | Region::Nowhere => Place::Ram(0, 0),
+    }
+}
+
+fn base_place(base: Option<Variable>) -> Place
+    ensures { view.where_of result ≡ spec.base_place base }
+{
+    match base {
+        Some(base) => place_at(base.region),
+        None => Place::Ram(0, 0),
+    }
+}
+
+/// Where a variable's bytes begin, and how many they are.
+pub fn anchor(variables: &[Variable], variable: &Variable) -> Anchor
+    ensures { view.anchor_of result ≡ spec.anchor_for variables.now variable.now }
+{
+    match variable.region {
+        Region::Ram(object, start) => Anchor::Ram(object, start, span(variable)),
+        Region::Screen(start) => Anchor::Screen(start, span(variable)),
+        Region::Based(base) => Anchor::Based(base_place(variables.get(base).copied())),
+        Region::Nowhere => Anchor::Ram(0, 0, 0),
+    }
+}
+
+/// A variable that is a scalar at a fixed place.
+pub fn scalar(variable: &Variable) -> Scalar
+    ensures { view.scalar_of result ≡ spec.scalar_for variable.now }
+{
+    Scalar {
+        width: width_of(form_type(variable.form)),
+        place: place_at(variable.region),
+    }
+}
+
+/// Whether it is on the screen.
+pub fn is_on_screen(region: Region) -> bool
+    ensures { result ≡ spec.is_on_screen region }
+{
+    match region {
+        Region::Screen(_) => true,
+        _ => false,
+    }
+}
+
+/// Whether a base says where it lies.
+pub fn is_based(region: Region) -> bool
+    ensures { result ≡ spec.is_based region }
+{
+    match region {
+        Region::Based(_) => true,
+        _ => false,
+    }
+}
+
+/// A place that no subscript and no base moves.
+fn fixed_place(reference: &Reference) -> Option<Place>
+    ensures { option_map view.where_of result ≡ spec.fixed_place (view.reference_of reference.now) }
+{
+    if !reference.subscripts.is_empty() {
+        return None;
+    }
+    match reference.anchor {
+        Anchor::Ram(object, start, _) => Some(Place::Ram(
+            object,
+            capped(start.saturating_add(reference.offset)),
+        )),
+        Anchor::Screen(start, _) => Some(Place::Screen(capped(start.saturating_add(
+            reference.offset,
+        )))),
+        Anchor::Based(_) => None,
+    }
+}
+
+/// A read of a variable of this type.
+pub fn read_of(scalar: ScalarType, reference: Reference) -> Expression
+    ensures { view.expression_of result ≡ spec.read_of scalar (view.reference_of reference) }
+{
+    match fixed_place(&reference) {
+        Some(place) => Expression::Plain(width_of(Some(scalar)), place),
+        None => Expression::Variable(width_of(Some(scalar)), reference),
+    }
+}
+
+/// A store to a variable of this type.
+pub fn store_to(scalar: ScalarType, reference: Reference) -> Target
+    ensures { view.target_of result ≡ spec.store_to scalar (view.reference_of reference) }
+{
+    match fixed_place(&reference) {
+        Some(place) => Target::Plain(width_of(Some(scalar)), place),
+        None => Target::Variable(width_of(Some(scalar)), reference),
+    }
+}

@@ -1,0 +1,372 @@
+//! Statements: the faults of their types, and what they do with names as places.
+
+ghost use Rattle.std.specs.Prelude.{◌≡◌, ◌++◌, IfOk, OnOk, map, option_map};
+ghost use Rattle.plm_decl.specs.ResolvedView as resolved;
+ghost use Rattle.plm_type.specs.Typers.{variables, procedures, sizes};
+ghost use Rattle.plm_type.specs.Rest.{Then, End};
+ghost use Rattle.plm_type.specs.Trees as trees;
+ghost use Rattle.plm_type.specs.Statements as spec;
+ghost use Rattle.plm_type.specs.View as view;
+
+use crate::applications::entry_of;
+use crate::expressions::first_place;
+use crate::program::{Expression, Loop, Place as StoragePlace, Scalar, Statement, Target};
+use crate::references::may_be_assigned;
+use crate::shapes::{form_type, is_based, scalar};
+use crate::typer::Typer;
+use crate::types::{may_be_number, takes, width_of};
+use plm_decl::found::Found;
+use plm_decl::{Meaning, ScalarType, Variable};
+use plm_syntax::Place;
+use std::alloc::AllocError;
+use word86::{Number, Width};
+
+/// What a statement stands in: main, or a procedure with the type of its value.
+#[derive(Debug, Clone, Copy, PartialEq, Eq)]
+pub enum Around {
+    Main,
+    Procedure(Option<ScalarType>),
+}
+
+impl Around {
+    /// Whether RETURN without a value may stand there.
+    fn may_return(self) -> bool
+        ensures { result ≡ spec.may_return self }
+    {
+        match self {
+            Around::Main => false,
+            Around::Procedure(returned) => returned.is_none(),
+        }
+    }
+
+    /// Whether RETURN with a value of this type may stand there.
+    fn may_return_value(self, value: Option<ScalarType>) -> bool
+        ensures { result ≡ spec.may_return_value self value }
+    {
+        match self {
+            Around::Procedure(Some(returned)) => takes(Some(returned), value),
+            _ => false,
+        }
+    }
+
+    /// The width of what is returned.
+    fn returned_width(self) -> Width
+        ensures { result ≡ spec.returned_width self }
+    {
+        match self {
+            Around::Main => Width::Word,
+            Around::Procedure(returned) => width_of(returned),
+        }
+    }
+}
+
+/// The targets of an assignment: their trees and their types.
+#[derive(Drop)]
+struct TypedTargets {
+    trees: Vec<Target>,
+    types: Vec<Option<ScalarType>>,
+}
+
+/// Whether it is a scalar that is not based.
+pub fn is_plain_scalar(variable: &Variable) -> bool
+    ensures { result ≡ spec.is_plain_scalar variable.now }
+{
+    form_type(variable.form).is_some() && variable.dimension.is_none() && !is_based(variable.region)
+}
+
+/// Whether it is a BYTE or WORD scalar that is not based.
+fn is_index(variable: Option<Variable>) -> bool
+    ensures { result ≡ spec.is_index variable }
+{
+    match variable {
+        Some(variable) => is_plain_scalar(&variable) && may_be_number(form_type(variable.form)),
+        None => false,
+    }
+}
+
+/// A parameter or an index, where it lies.
+pub fn index_for(variable: Option<Variable>) -> Scalar
+    ensures { view.scalar_of result ≡ spec.index_for variable }
+{
+    match variable {
+        Some(variable) => scalar(&variable),
+        None => Scalar {
+            width: Width::Word,
+            place: StoragePlace::Ram(0, 0),
+        },
+    }
+}
+
+/// Whether each target takes the value.
+fn all_take(targets: &[Option<ScalarType>], value: Option<ScalarType>) -> bool
+    ensures { result ≡ spec.all_take targets.now value }
+{
+    for target in targets {
+        if !takes(*target, value) {
+            return false;
+        }
+    }
+    true
+}
+
+/// Where an assignment begins.
+fn first_target(targets: &[plm_decl::Reference], value: &plm_decl::Expression) -> Place
+    ensures { result ≡ spec.first_target (resolved.references_of targets.now) (resolved.expression_of value.now) }
+{
+    match targets.first() {
+        Some(target) => target.place,
+        None => first_place(value),
+    }
+}
+
+/// The value goes to the targets.
+fn assignment(mut targets: Vec<Target>, value: Expression) -> Statement
+    ensures { view.statement_of result ≡ spec.assignment (map view.target_of targets.items) (view.expression_of value) }
+{
+    if targets.is_empty() {
+        return Statement::Evaluate(value);
+    }
+    let first = targets.remove(0);
+    Statement::Assign(first, targets, value)
+}
+
+impl Typer<'_> {
+    /// The variable that a name stands for.
+    fn variable_meant(&self, meaning: Meaning) -> Option<Variable>
+        ensures { result ≡ spec.variable_meant (variables self.now) meaning }
+    {
+        match meaning {
+            Meaning::Variable(variable) => self.variable(variable),
+            _ => None,
+        }
+    }
+
+    /// A condition, a bound, or the value of DO CASE.
+    fn number_in(
+        &self,
+        place: Place,
+        e: &plm_decl::Expression,
+        faults: &mut Vec<Found>,
+    ) -> Result<Expression, AllocError>
+        ensures tree { IfOk result (λ r. view.expression_of r ≡ trees.tree_of (variables self.now) (procedures self.now) (sizes self.now) self.now.module (resolved.expression_of e.now)) }
+        ensures faults { OnOk result (faults.new.items ≡ faults.old.items ++ spec.of_number (variables self.now) (procedures self.now) self.now.module place (resolved.expression_of e.now)) }
+    {
+        let typed = self.expression(e, faults)?;
+        self.note_unless(may_be_number(typed.scalar), Number::E401, place, faults)?;
+        Ok(typed.tree)
+    }
+
+    fn targets(
+        &self,
+        references: &[plm_decl::Reference],
+        faults: &mut Vec<Found>,
+    ) -> Result<TypedTargets, AllocError>
+        ensures trees { IfOk result (λ r. map view.target_of r.trees.items ≡ spec.target_trees (variables self.now) (procedures self.now) (sizes self.now) self.now.module (resolved.references_of references.now)) }
+        ensures types { IfOk result (λ r. r.types.items ≡ spec.target_types (variables self.now) (procedures self.now) (resolved.references_of references.now)) }
+        ensures faults { OnOk result (faults.new.items ≡ faults.old.items ++ spec.of_targets (variables self.now) (procedures self.now) self.now.module (resolved.references_of references.now)) }
+    {
+        let mut trees = Vec::new(self.alloc);
+        let mut types = Vec::new(self.alloc);
+        for reference in references {
+            let typed = self.target(reference, faults)?;
+            types.push(typed.scalar)?;
+            trees.push(typed.tree)?;
+        }
+        Ok(TypedTargets { trees, types })
+    }
+
+    fn assign(
+        &self,
+        references: &[plm_decl::Reference],
+        e: &plm_decl::Expression,
+        faults: &mut Vec<Found>,
+    ) -> Result<Statement, AllocError>
+        ensures tree { IfOk result (λ r. view.statement_of r ≡ spec.assignment (spec.target_trees (variables self.now) (procedures self.now) (sizes self.now) self.now.module (resolved.references_of references.now)) (trees.tree_of (variables self.now) (procedures self.now) (sizes self.now) self.now.module (resolved.expression_of e.now))) }
+        ensures faults { OnOk result (faults.new.items ≡ faults.old.items ++ spec.of_assignment (variables self.now) (procedures self.now) self.now.module (resolved.references_of references.now) (resolved.expression_of e.now)) }
+    {
+        let targets = self.targets(references, faults)?;
+        let value = self.expression(e, faults)?;
+        let are_taken = all_take(&targets.types, value.scalar);
+        self.note_unless(are_taken, Number::E401, first_target(references, e), faults)?;
+        Ok(assignment(targets.trees, value.tree))
+    }
+
+    /// CALL of a procedure.
+    fn call(
+        &self,
+        place: Place,
+        reference: &plm_decl::Reference,
+        faults: &mut Vec<Found>,
+    ) -> Result<Expression, AllocError>
+        ensures tree { IfOk result (λ r. view.expression_of r ≡ spec.called (variables self.now) (procedures self.now) (sizes self.now) self.now.module (resolved.reference_of reference.now)) }
+        ensures faults { OnOk result (faults.new.items ≡ faults.old.items ++ spec.of_call (variables self.now) (procedures self.now) self.now.module place (resolved.reference_of reference.now)) }
+    {
+        let Meaning::Procedure(number) = reference.meaning else {
+            self.note_unless(false, Number::E401, place, faults)?;
+            return Ok(Expression::Constant(0));
+        };
+        let arguments = self.list(&reference.subscripts, faults)?;
+        let procedure = self.procedure(number);
+        let selector = &reference.selector;
+        self.note_call(
+            reference.place,
+            procedure,
+            selector,
+            &arguments.types,
+            faults,
+        )?;
+        Ok(Expression::Call(entry_of(procedure), arguments.trees))
+    }
+
+    fn returned(
+        &self,
+        around: Around,
+        place: Place,
+        e: &plm_decl::Expression,
+        faults: &mut Vec<Found>,
+    ) -> Result<Expression, AllocError>
+        ensures tree { IfOk result (λ r. view.expression_of r ≡ trees.tree_of (variables self.now) (procedures self.now) (sizes self.now) self.now.module (resolved.expression_of e.now)) }
+        ensures faults { OnOk result (faults.new.items ≡ faults.old.items ++ spec.of_returned (variables self.now) (procedures self.now) self.now.module around place (resolved.expression_of e.now)) }
+    {
+        let typed = self.expression(e, faults)?;
+        let is_taken = around.may_return_value(typed.scalar);
+        self.note_unless(is_taken, Number::E401, place, faults)?;
+        Ok(typed.tree)
+    }
+
+    /// The index of an iterative DO.
+    fn index(
+        &self,
+        place: Place,
+        name: Place,
+        meaning: Meaning,
+        faults: &mut Vec<Found>,
+    ) -> Result<Scalar, AllocError>
+        ensures tree { IfOk result (λ r. view.scalar_of r ≡ spec.index_for (spec.variable_meant (variables self.now) meaning)) }
+        ensures faults { OnOk result (faults.new.items ≡ faults.old.items ++ spec.of_index (variables self.now) (procedures self.now) self.now.module place name meaning) }
+    {
+        let variable = self.variable_meant(meaning);
+        self.note_unless(is_index(variable), Number::E401, place, faults)?;
+        self.note_unless(may_be_assigned(variable), Number::E403, name, faults)?;
+        Ok(index_for(variable))
+    }
+
+    /// The step of an iterative DO: 1 if it is missing.
+    fn step(
+        &self,
+        place: Place,
+        step: &Option<plm_decl::Expression>,
+        faults: &mut Vec<Found>,
+    ) -> Result<Expression, AllocError>
+        ensures tree { IfOk result (λ r. view.expression_of r ≡ spec.step_for (variables self.now) (procedures self.now) (sizes self.now) self.now.module (resolved.step_of step.now)) }
+        ensures faults { OnOk result (faults.new.items ≡ faults.old.items ++ spec.of_step (variables self.now) (procedures self.now) self.now.module place (resolved.step_of step.now)) }
+    {
+        match step {
+            Some(step) => self.number_in(place, step, faults),
+            None => Ok(Expression::Constant(1)),
+        }
+    }
+
+    #[cycle(statement)]
+    pub fn statement(
+        &self,
+        around: Around,
+        statement: &plm_decl::Statement,
+        faults: &mut Vec<Found>,
+    ) -> Result<Statement, AllocError>
+        ensures tree { IfOk result (λ r. view.statement_of r ≡ spec.statement_for (variables self.now) (procedures self.now) (sizes self.now) self.now.module around (resolved.statement_of statement.now)) }
+        ensures faults { OnOk result (faults.new.items ≡ faults.old.items ++ spec.of_statement (variables self.now) (procedures self.now) self.now.module around (resolved.statement_of statement.now)) }
+    {
+        match statement {
+            plm_decl::Statement::Empty(_) => Ok(Statement::Empty),
+            plm_decl::Statement::Assign(targets, value) => self.assign(targets, value, faults),
+            plm_decl::Statement::Call(place, reference) => {
+                Ok(Statement::Evaluate(self.call(*place, reference, faults)?))
+            }
+            plm_decl::Statement::Return(place) => {
+                self.note_unless(around.may_return(), Number::E401, *place, faults)?;
+                Ok(Statement::Return)
+            }
+            plm_decl::Statement::ReturnValue(place, value) => Ok(Statement::ReturnValue(
+                around.returned_width(),
+                self.returned(around, *place, value, faults)?,
+            )),
+            plm_decl::Statement::Enable(_) => Ok(Statement::Enable),
+            plm_decl::Statement::Disable(_) => Ok(Statement::Disable),
+            plm_decl::Statement::Halt(_) => Ok(Statement::Halt),
+            plm_decl::Statement::If(place, test, then) => {
+                let test = self.number_in(*place, test, faults)?;
+                let then = self.arm(around, then, faults)?;
+                Ok(Statement::If(test, then, Vec::new(self.alloc)))
+            }
+            plm_decl::Statement::IfElse(place, test, then, other) => {
+                let test = self.number_in(*place, test, faults)?;
+                let then = self.arm(around, then, faults)?;
+                let other = self.arm(around, other, faults)?;
+                Ok(Statement::If(test, then, other))
+            }
+            plm_decl::Statement::Do(_, body) => {
+                Ok(Statement::Block(self.statements(around, body, faults)?))
+            }
+            plm_decl::Statement::While(place, test, body) => {
+                let test = self.number_in(*place, test, faults)?;
+                Ok(Statement::While(test, self.statements(around, body, faults)?))
+            }
+            plm_decl::Statement::Case(place, value, cases) => {
+                let value = self.number_in(*place, value, faults)?;
+                Ok(Statement::Case(value, self.statements(around, cases, faults)?))
+            }
+            plm_decl::Statement::Iterate(place, name, index, from, to, by, body) => {
+                let index = self.index(*place, *name, *index, faults)?;
+                let from = self.number_in(*place, from, faults)?;
+                let bound = self.number_in(*place, to, faults)?;
+                let step = self.step(*place, by, faults)?;
+                let body = self.statements(around, body, faults)?;
+                Ok(Statement::Iterate(
+                    from,
+                    Loop {
+                        index,
+                        bound,
+                        step,
+                        body,
+                    },
+                ))
+            }
+        }
+    }
+
+    /// An arm of IF: a list of one statement.
+    #[cycle(statement)]
+    fn arm(
+        &self,
+        around: Around,
+        statement: &plm_decl::Statement,
+        faults: &mut Vec<Found>,
+    ) -> Result<Vec<Box<Statement>>, AllocError>
+        ensures tree { IfOk result (λ r. view.statements_of r.items ≡ Then (spec.statement_for (variables self.now) (procedures self.now) (sizes self.now) self.now.module around (resolved.statement_of statement.now)) End) }
+        ensures faults { OnOk result (faults.new.items ≡ faults.old.items ++ spec.of_statement (variables self.now) (procedures self.now) self.now.module around (resolved.statement_of statement.now)) }
+    {
+        let statement = self.statement(around, statement, faults)?;
+        let mut arm = Vec::new(self.alloc);
+        arm.push(Box::new(self.alloc, statement)?)?;
+        Ok(arm)
+    }
+
+    #[cycle(statement)]
+    pub fn statements(
+        &self,
+        around: Around,
+        statements: &[plm_decl::Statement],
+        faults: &mut Vec<Found>,
+    ) -> Result<Vec<Box<Statement>>, AllocError>
+        ensures tree { IfOk result (λ r. view.statements_of r.items ≡ spec.statements_for (variables self.now) (procedures self.now) (sizes self.now) self.now.module around (resolved.statements_of statements.now)) }
+        ensures faults { OnOk result (faults.new.items ≡ faults.old.items ++ spec.of_statements (variables self.now) (procedures self.now) self.now.module around (resolved.statements_of statements.now)) }
+    {
+        let mut typed = Vec::new(self.alloc);
+        for statement in statements {
+            let tree = self.statement(around, statement, faults)?;
+            typed.push(Box::new(self.alloc, tree)?)?;
+        }
+        Ok(typed)
+    }
+}

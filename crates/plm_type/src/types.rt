@@ -1,0 +1,204 @@
+//! Which types operators, stores and arguments take, and which types values have.
+
+ghost use Rattle.std.specs.Prelude.{◌≡◌};
+ghost use Rattle.plm_type.specs.Types as spec;
+
+use plm_decl::ScalarType;
+use plm_syntax::{BinaryOperator, UnaryOperator};
+use word86::{BinaryOperation, UnaryOperation, Width};
+
+/// The width of a value.
+pub fn width_of(scalar: Option<ScalarType>) -> Width
+    ensures { result ≡ spec.width_of scalar }
+{
+    match scalar {
+        Some(ScalarType::Byte) => Width::Byte,
+        _ => Width::Word,
+    }
+}
+
+/// Whether it is BYTE or WORD, or not known.
+pub fn may_be_number(scalar: Option<ScalarType>) -> bool
+    ensures { result ≡ spec.may_be_number scalar }
+{
+    match scalar {
+        Some(ScalarType::Pointer) => false,
+        _ => true,
+    }
+}
+
+fn may_be_pointer(scalar: Option<ScalarType>) -> bool
+    ensures { result ≡ spec.may_be_pointer scalar }
+{
+    match scalar {
+        Some(ScalarType::Pointer) | None => true,
+        _ => false,
+    }
+}
+
+/// Whether a value of the second type may go into the first.
+pub fn takes(into: Option<ScalarType>, value: Option<ScalarType>) -> bool
+    ensures { result ≡ spec.takes into value }
+{
+    (may_be_number(into) && may_be_number(value)) || (may_be_pointer(into) && may_be_pointer(value))
+}
+
+/// Whether an operator may take operands of these types.
+pub fn operands_fit(
+    operator: BinaryOperator,
+    left: Option<ScalarType>,
+    right: Option<ScalarType>,
+) -> bool
+    ensures { result ≡ spec.operands_fit operator left right }
+{
+    match operator {
+        BinaryOperator::Equal | BinaryOperator::NotEqual => takes(left, right),
+        _ => may_be_number(left) && may_be_number(right),
+    }
+}
+
+/// The type of a number.
+pub fn number_type(value: u64) -> Option<ScalarType>
+    ensures { result ≡ spec.number_type value }
+{
+    if value <= 0xFF {
+        Some(ScalarType::Byte)
+    } else if value <= 0xFFFF {
+        Some(ScalarType::Word)
+    } else {
+        None
+    }
+}
+
+/// The type of a string as a value.
+pub fn text_type(characters: &[u8]) -> Option<ScalarType>
+    ensures { result ≡ spec.text_type characters.now }
+{
+    match characters {
+        [_] => Some(ScalarType::Byte),
+        [_, _] => Some(ScalarType::Word),
+        _ => None,
+    }
+}
+
+fn wider(left: ScalarType, right: ScalarType) -> ScalarType
+    ensures { result ≡ spec.wider left right }
+{
+    match (left, right) {
+        (ScalarType::Byte, ScalarType::Byte) => ScalarType::Byte,
+        _ => ScalarType::Word,
+    }
+}
+
+fn result_type(operator: BinaryOperator, left: ScalarType, right: ScalarType) -> ScalarType
+    ensures { result ≡ spec.result_type operator left right }
+{
+    match operator {
+        BinaryOperator::Multiply => ScalarType::Word,
+        BinaryOperator::Divide
+        | BinaryOperator::Modulo
+        | BinaryOperator::Add
+        | BinaryOperator::Subtract
+        | BinaryOperator::And
+        | BinaryOperator::Or
+        | BinaryOperator::ExclusiveOr => wider(left, right),
+        _ => ScalarType::Byte,
+    }
+}
+
+/// The type of an operator's value; none where it does not take its operands.
+pub fn binary_type(
+    operator: BinaryOperator,
+    left: Option<ScalarType>,
+    right: Option<ScalarType>,
+) -> Option<ScalarType>
+    ensures { result ≡ spec.binary_type operator left right }
+{
+    if !operands_fit(operator, left, right) {
+        return None;
+    }
+    match (left, right) {
+        (Some(left), Some(right)) => Some(result_type(operator, left, right)),
+        _ => None,
+    }
+}
+
+/// The type of a unary operator's value.
+pub fn unary_type(operand: Option<ScalarType>) -> Option<ScalarType>
+    ensures { result ≡ spec.unary_type operand }
+{
+    if may_be_number(operand) {
+        operand
+    } else {
+        None
+    }
+}
+
+/// What a unary operator does.
+pub fn unary_operation(operator: UnaryOperator) -> UnaryOperation
+    ensures { result ≡ spec.unary_operation operator }
+{
+    match operator {
+        UnaryOperator::Plus => UnaryOperation::Plus,
+        UnaryOperator::Minus => UnaryOperation::Minus,
+        UnaryOperator::Not => UnaryOperation::Not,
+    }
+}
+
+/// What an operator between operands does.
+pub fn binary_operation(operator: BinaryOperator) -> BinaryOperation
+    ensures { result ≡ spec.binary_operation operator }
+{
+    match operator {
+        BinaryOperator::Multiply => BinaryOperation::Multiply,
+        BinaryOperator::Divide => BinaryOperation::Divide,
+        BinaryOperator::Modulo => BinaryOperation::Modulo,
+        BinaryOperator::Add => BinaryOperation::Add,
+        BinaryOperator::Subtract => BinaryOperation::Subtract,
+        BinaryOperator::Equal => BinaryOperation::Equal,
+        BinaryOperator::NotEqual => BinaryOperation::NotEqual,
+        BinaryOperator::Less => BinaryOperation::Less,
+        BinaryOperator::LessEqual => BinaryOperation::LessEqual,
+        BinaryOperator::Greater => BinaryOperation::Greater,
+        BinaryOperator::GreaterEqual => BinaryOperation::GreaterEqual,
+        BinaryOperator::And => BinaryOperation::And,
+        BinaryOperator::Or => BinaryOperation::Or,
+        BinaryOperator::ExclusiveOr => BinaryOperation::ExclusiveOr,
+    }
+}
+
+/// Whether each of the types is known, and BYTE or WORD.
+pub fn are_known_numbers(types: &[Option<ScalarType>]) -> bool
+    ensures { result ≡ spec.are_known_numbers types.now }
+{
+    for scalar in types {
+        if scalar.is_none() || !may_be_number(*scalar) {
+            return false;
+        }
+    }
+    true
+}
+
+/// Whether none of the types is POINTER.
+pub fn may_be_numbers(types: &[Option<ScalarType>]) -> bool
+    ensures { result ≡ spec.may_be_numbers types.now }
+{
+    for scalar in types {
+        if !may_be_number(*scalar) {
+            return false;
+        }
+    }
+    true
+}
+
+/// Whether each of the types is known.
+pub fn are_known(types: &[Option<ScalarType>]) -> bool
+    ensures { result ≡ spec.are_known types.now }
+{
+    for scalar in types {
+        if scalar.is_none() {
+            return false;
+        }
+    }
+    true
+}
