@@ -3,26 +3,28 @@ use Rattle.std.proofs.Common.{◌≡◌, ℕ, zero, suc, ◌+◌, ◌<◌, ◌�
 use Rattle.std.specs.Prelude.{slice_index}
 use Rattle.word86.specs.Access.{Access, answers}
 use Rattle.word86.specs.Chips.{Chips}
-use Rattle.plm_meaning.specs.declared.program.Program.{Program}
-use Rattle.plm_meaning.specs.Rest.{Rest}
-use Rattle.plm_meaning.specs.Next.{next}
-use Rattle.plm_meaning.specs.Programs.{main_of, body_of, sizes_of}
-use Rattle.plm_meaning.specs.Placed.{first_store, IsPlacement}
-use Rattle.plm_meaning.specs.declared.program.Operand.{Operand}
-use Rattle.plm_meaning.specs.declared.program.Operand.TheVariants as operands
-use Rattle.plm_meaning.specs.declared.program.Sum.{Sum}
-use Rattle.plm_meaning.specs.declared.program.Statement.{Statement}
-use Rattle.plm_meaning.specs.declared.program.Statement.TheVariants as statements
+use Rattle.plm86.specs.declared.first.Program.{Program}
+use Rattle.plm_type.specs.Rest.{Rest, Procedure}
+use Rattle.plm_type.specs.Next.{next}
+use Rattle.plm86.specs.Programs.{main_of, body_of, sizes_of}
+use Rattle.plm_decl.specs.Placed.{IsPlacement}
+use Rattle.plm86.specs.FirstObjects.{first_store}
+use Rattle.plm86.specs.declared.first.Operand.{Operand}
+use Rattle.plm86.specs.declared.first.Operand.TheVariants as operands
+use Rattle.plm86.specs.declared.first.Addend.{Addend}
+use Rattle.plm86.specs.declared.first.Sum.{Sum}
+use Rattle.plm86.specs.declared.first.Statement.{Statement}
+use Rattle.plm86.specs.declared.first.Statement.TheVariants as statements
 use Rattle.i86_table.specs.declared.instruction.Instr.TheVariants as i
 use Rattle.i86_table.specs.Contexts.{Context, Working, start}
 use Rattle.i86_code.specs.Decoding.{IsOneForm, IsShort}
 use Rattle.plm86.specs.declared.lower.Op.{Op}
 use Rattle.plm86.specs.declared.lower.Op.TheVariants as ops
-use Rattle.plm86.specs.Code.{first_code, others_code, sum_code, statement_code, statements_code, program_code, entry_of}
+use Rattle.plm86.specs.Code.{first_code, other_code, others_code, sum_code, statement_code, statements_code, program_code, entry_of}
 use Rattle.plm86.specs.Intermediate.{Icode, At, does}
 use Rattle.plm86.specs.Selected.{Selected}
 use Rattle.plm86.specs.Linked.{length_of, place_in, total_of, instructions_from, start_up, start_up_length, main_at, op_places, entry_at, rom_instructions, rom_bytes, rom_code, IsCoded, AreCoded, all_bytes}
-use Rattle.plm_meaning.specs.Known.{StatementsIn}
+use Rattle.plm86.specs.Known.{StatementsIn}
 use Rattle.plm86.specs.Found.{object_at}
 use Rattle.plm86.specs.Headline.{Layout, IsSound, Lowered, Compiled, offers_of, starts_of}
 use Rattle.plm86.specs.Faithful.{IsFaithful}
@@ -54,10 +56,13 @@ plain_first : (o : Operand) → IsPlain (first_code o)
 plain_first (operands.Number k) = tt
 plain_first (operands.Scalar x) = tt
 
-plain_others : (os : List Operand) → ArePlain (others_code os)
+plain_other : (o : Operand) → IsPlain (other_code o)
+plain_other (operands.Number k) = tt
+plain_other (operands.Scalar x) = tt
+
+plain_others : (os : List Addend) → ArePlain (others_code os)
 plain_others [] = tt
-plain_others (operands.Number k ∷ os) = (tt, plain_others os)
-plain_others (operands.Scalar x ∷ os) = (tt, plain_others os)
+plain_others (o ∷ os) = (plain_other o.operand, plain_others os)
 
 plain_sum : (s : Sum) → ArePlain (sum_code s)
 plain_sum s = (plain_first s.first, plain_others s.others.items)
@@ -142,7 +147,7 @@ module _ (only : IsOneForm) (short : IsShort) (p : Program) (base size : ℕ) (o
     (fits : start_up_length + total_of (program_code p) + 16 ≤ size)
     (is : IsPlacement offsets (sizes_of p.names)) (some : (k : ℕ) → k < length (sizes_of p.names) → 1 ≤ slice_index (sizes_of p.names) k)
     (within : StatementsIn (length (sizes_of p.names)) p.main.items)
-    (coded : AreCoded (rom_instructions base (slice_index offsets) (program_code p))) (jump_coded : IsCoded (i.JumpFar base 0xF000)) where
+    (coded : AreCoded (rom_instructions base (slice_index offsets) (program_code p))) (jump_coded : IsCoded (i.JumpFar base 0xF000)) (procedures : List Procedure) where
   abbrev icode : List Op
   icode = program_code p
 
@@ -171,13 +176,13 @@ module _ (only : IsOneForm) (short : IsShort) (p : Program) (base size : ℕ) (o
   is_selected : Selected (rom_code base placed icode) (object_at 0 offsets sizes) placed (op_places base placed icode) icode
   is_selected = selected (rom_code base placed icode) placed (object_at 0 offsets sizes) (base + start_up_length) icode (omega (arith, fits, whole)) code_sequence (known offsets sizes is some p within)
 
-  is_lowered : Lowered Access answers Rest next (main_of p) (body_of p) Icode (does icode) (At 0 0 []) (λ v. At (entry_of p) 0 []) 2 5
-  is_lowered = record { tracks = λ n. main_tracks p 5 (omega arith) n 0; bodies = λ n v. handler_tracks p v 5 (omega arith) n 0 }
+  is_lowered : Lowered Access answers Rest (next offsets sizes procedures) (main_of p) (body_of p) Icode (does icode) (At 0 0 []) (λ v. At (entry_of p) 0 []) 2 5
+  is_lowered = record { tracks = λ n. main_tracks offsets sizes procedures p 5 (omega arith) n 0; bodies = λ n v. handler_tracks offsets sizes procedures p v 5 (omega arith) n 0 }
 
   is_compiled : Compiled Access answers Icode (does icode) (At 0 0 []) (λ v. At (entry_of p) 0 []) Context Working (offers_of x) (Rattle.plm86.specs.Headline.main_of x) (starts_of x) 2 1
   is_compiled = record {
     follows = λ n g. selecting.begins (rom_code base placed icode) (object_at 0 offsets sizes) (λ v. op_places base placed icode (entry_of p)) 0 0 icode placed (op_places base placed icode) is_selected (entry_of p) (stays p) refl (omega arith) n g;
-    serves = λ n v c. selecting.serves (rom_code base placed icode) (object_at 0 offsets sizes) 0 0 icode (op_places base placed icode) (entry_of p) (finish_at p) ((is_selected.stand (entry_of p) ops.Finish (finish_at p)).1) n v c;
+    serves = λ n v c. selecting.serves (rom_code base placed icode) (object_at 0 offsets sizes) 0 0 icode (op_places base placed icode) (entry_of p) (finish_at offsets sizes procedures p) ((is_selected.stand (entry_of p) ops.Finish (finish_at offsets sizes procedures p)).1) n v c;
   }
 
   is_sound : IsSound x
@@ -189,11 +194,11 @@ module _ (only : IsOneForm) (short : IsShort) (p : Program) (base size : ℕ) (o
   }
 
   -- the ROM does what the program means
-  pub faithful : {P : Type 0} (c : Chips P) (chips : P) → IsFaithful c chips p x offsets 1291
+  pub faithful : {P : Type 0} (c : Chips P) (chips : P) → IsFaithful c chips p procedures x offsets 1291
   faithful {P = P} c chips =
       from_rom only short P Rest Icode c x is_sound
       (in_rom base size placed icode whole (omega (arith, fits)) (omega (arith, long, fits)) coded jump_coded (omega (arith, jump_length base)))
       (entry_at base placed icode) [] (starts_up base placed icode (omega (arith, fits, whole)) (sequence_front (rom_code base placed icode) base (start_up (entry_at base placed icode)) (instructions_from placed (op_places base placed icode) 0 icode) sequence))
-      next (main_of p) (body_of p) (does icode) (At 0 0 []) (λ v. At (entry_of p) 0 []) 2 5 2 1 is_lowered is_compiled (omega arith) chips
+      (next offsets sizes procedures) (main_of p) (body_of p) (does icode) (At 0 0 []) (λ v. At (entry_of p) 0 []) 2 5 2 1 is_lowered is_compiled (omega arith) chips
       (λ ram screen. first_store ram screen offsets sizes chips)
       (λ ram screen e1 e2. (holds x (entry_at base placed icode) offsets sizes is (rom_bytes base placed icode size) ram screen chips e1 e2 (omega (arith, fits, whole)) (λ v. entry_lies base placed p) (λ k. refl) (λ k. refl), refl))

@@ -4,17 +4,18 @@ use Rattle.std.specs.Prelude.{if◌then◌else◌, slice_index, ◌&&◌, nat_le
 use Rattle.std.proofs.lemmas.Bool.{leb-true, le-leb}
 use Rattle.std.proofs.lemmas.List.Elements.{All-head, All-tail}
 use Rattle.std.specs.List.{All}
-use Rattle.plm_meaning.specs.declared.program.Operand.{Operand}
-use Rattle.plm_meaning.specs.declared.program.Operand.TheVariants as operands
-use Rattle.plm_meaning.specs.declared.program.Sum.{Sum}
-use Rattle.plm_meaning.specs.declared.program.Statement.{Statement}
-use Rattle.plm_meaning.specs.declared.program.Statement.TheVariants as statements
-use Rattle.plm_meaning.specs.declared.program.Program.{Program}
-use Rattle.plm_meaning.specs.Placed.{Has, IsPlacement}
+use Rattle.plm86.specs.declared.first.Operand.{Operand}
+use Rattle.plm86.specs.declared.first.Operand.TheVariants as operands
+use Rattle.plm86.specs.declared.first.Addend.{Addend}
+use Rattle.plm86.specs.declared.first.Sum.{Sum}
+use Rattle.plm86.specs.declared.first.Statement.{Statement}
+use Rattle.plm86.specs.declared.first.Statement.TheVariants as statements
+use Rattle.plm86.specs.declared.first.Program.{Program}
+use Rattle.plm_decl.specs.Placed.{Has, IsPlacement}
 use Rattle.plm86.specs.declared.lower.Op.{Op}
 use Rattle.plm86.specs.declared.lower.Op.TheVariants as ops
 use Rattle.plm86.specs.Code.{first_code, other_code, others_code, sum_code, statement_code, statements_code, program_code, end_of}
-use Rattle.plm_meaning.specs.Known.{OperandIn, SumIn, StatementIn, StatementsIn}
+use Rattle.plm86.specs.Known.{OperandIn, SumIn, StatementIn, StatementsIn}
 use Rattle.plm86.specs.Found.{object_at}
 use Rattle.plm86.specs.Relation.{Finds}
 use Rattle.plm86.specs.Selected.{Known}
@@ -111,9 +112,11 @@ module _ (offsets sizes : List ℕ) (is : IsPlacement offsets sizes) (some : (k 
   of_other (operands.Number k) h = tt
   of_other (operands.Scalar x) h = known_one x h
 
-  of_others : (os : List Operand) → All (OperandIn (length sizes)) os → AllKnown (others_code os)
+  of_others : (os : List Addend) → All (λ (a : Addend). OperandIn (length sizes) a.operand) os → AllKnown (others_code os)
   of_others [] h = tt
-  of_others (o ∷ os) h = (of_other o (All-head (OperandIn (length sizes)) o os h), of_others os (All-tail (OperandIn (length sizes)) o os h))
+  of_others (o ∷ os) h =
+      let P : Addend → Type 0 = λ a. OperandIn (length sizes) a.operand in
+      (of_other o.operand (All-head P o os h), of_others os (All-tail P o os h))
 
   of_sum : (s : Sum) → SumIn (length sizes) s → AllKnown (sum_code s)
   of_sum s h = (of_first s.first h.0, of_others s.others.items h.1)

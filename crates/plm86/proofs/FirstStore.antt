@@ -4,7 +4,8 @@ use Rattle.std.specs.Prelude.{if◌then◌else◌, slice_index, slice_index_or, 
 use Rattle.std.proofs.lemmas.Bool.{cases_lt}
 use Rattle.std.proofs.lemmas.List.{get_or-drop, get_or-take, length-take-le, length-drop, get_or_past}
 use Rattle.plm_meaning.specs.Store.{object}
-use Rattle.plm_meaning.specs.Placed.{IsPlacement, bytes_at, objects_at, first_store}
+use Rattle.plm_decl.specs.Placed.{IsPlacement}
+use Rattle.plm86.specs.FirstObjects.{bytes_at, objects_at, first_store}
 use Rattle.board.specs.World.{region, screen_at}
 use Rattle.plm86.specs.Headline.{Layout}
 use Rattle.plm86.specs.FromRom.{power_on_memory, HoldsStore}

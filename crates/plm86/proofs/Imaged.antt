@@ -7,11 +7,11 @@ use Rattle.i86_code.specs.Decoding.{IsOneForm, IsShort}
 use Rattle.i86_code.specs.Writing.{bytes_of}
 use Rattle.ppi_kbd.specs.Chips.{reset}
 use Rattle.ppi_kbd.specs.BoardChips.{board_chips}
-use Rattle.plm_meaning.specs.declared.names.Object.{Object}
-use Rattle.plm_meaning.specs.declared.program.Program.{Program}
-use Rattle.plm_meaning.specs.Known.{StatementsIn}
-use Rattle.plm_meaning.specs.Placed.{IsPlacement}
-use Rattle.plm_meaning.specs.Programs.{sizes_of}
+use Rattle.plm86.specs.declared.first.Object.{Object}
+use Rattle.plm86.specs.declared.first.Program.{Program}
+use Rattle.plm86.specs.Known.{StatementsIn}
+use Rattle.plm_decl.specs.Placed.{IsPlacement}
+use Rattle.plm86.specs.Programs.{sizes_of}
 use Rattle.plm86.specs.declared.lower.Op.{Op}
 use Rattle.plm86.specs.declared.image.RomSize.{RomSize}
 use Rattle.plm86.specs.Code.{program_code}
@@ -60,5 +60,5 @@ module _ (p : Program) (s : RomSize) (icode : List Op) (offsets rom : List ℕ) 
         layout = layout_of base size offsets (sizes_of p.names) p;
         rom_is = sym (rom_is ∙ ap (λ l. rom_bytes base (slice_index offsets) l size) icode_is);
         stack_is = refl;
-        faithful = faithful only short p base size offsets whole fits_code is_placed (sized p.names) within coded_code jump_coded board_chips reset;
+        faithful = λ procedures. faithful only short p base size offsets whole fits_code is_placed (sized p.names) within coded_code jump_coded procedures board_chips reset;
       }

@@ -24,6 +24,7 @@ mod Rom
 mod InRom
 mod FirstStore
 mod Finding
+mod Forming
 mod Coded
 mod Emitting
 mod Assembled
@@ -31,5 +32,7 @@ mod Nodes
 mod Offsets
 mod Imaged
 pub mod Meets
+mod FirstForms
+mod MainForms
 mod Phases
 mod BuiltRuns

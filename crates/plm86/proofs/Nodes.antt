@@ -1,16 +1,17 @@
 -- A small program fits its ROM.
 use Rattle.std.proofs.Common.{◌≡◌, ◌+◌, ◌*◌, ◌≤◌, List, [], ◌∷◌, ◌++◌, length, arith}
-use Rattle.plm_meaning.specs.declared.program.Operand.{Operand}
-use Rattle.plm_meaning.specs.declared.program.Operand.TheVariants as operands
-use Rattle.plm_meaning.specs.declared.program.Sum.{Sum}
-use Rattle.plm_meaning.specs.declared.program.Statement.{Statement}
-use Rattle.plm_meaning.specs.declared.program.Statement.TheVariants as statements
-use Rattle.plm_meaning.specs.declared.program.Program.{Program}
+use Rattle.plm86.specs.declared.first.Operand.{Operand}
+use Rattle.plm86.specs.declared.first.Operand.TheVariants as operands
+use Rattle.plm86.specs.declared.first.Addend.{Addend}
+use Rattle.plm86.specs.declared.first.Sum.{Sum}
+use Rattle.plm86.specs.declared.first.Statement.{Statement}
+use Rattle.plm86.specs.declared.first.Statement.TheVariants as statements
+use Rattle.plm86.specs.declared.first.Program.{Program}
 use Rattle.plm86.specs.declared.lower.Op.{Op}
 use Rattle.plm86.specs.declared.lower.Op.TheVariants as ops
 use Rattle.plm86.specs.declared.image.RomSize.{RomSize}
 use Rattle.plm86.specs.declared.image.RomSize.TheVariants as sizes
-use Rattle.plm86.specs.Code.{first_code, others_code, sum_code, statement_code, statements_code, end_of}
+use Rattle.plm86.specs.Code.{first_code, other_code, others_code, sum_code, statement_code, statements_code, end_of}
 use Rattle.plm86.specs.Linked.{length_of, total_of}
 use Rattle.plm86.specs.Sizes.{kib_of, bytes_in, room_of, statement_nodes, statements_nodes, nodes_of}
 
@@ -18,10 +19,13 @@ total_append : (a b : List Op) → total_of (a ++ b) ≡ total_of a + total_of b
 total_append [] b = omega arith
 total_append (o ∷ a) b = let r = total_append a b in omega (arith, r)
 
-others_total : (os : List Operand) → total_of (others_code os) ≤ 6 * length os
+other_total : (o : Operand) → length_of (other_code o) ≤ 6
+other_total (operands.Number k) = omega arith
+other_total (operands.Scalar x) = omega arith
+
+others_total : (os : List Addend) → total_of (others_code os) ≤ 6 * length os
 others_total [] = omega arith
-others_total (operands.Number k ∷ os) = let r = others_total os in omega (arith, r)
-others_total (operands.Scalar x ∷ os) = let r = others_total os in omega (arith, r)
+others_total (o ∷ os) = let r = others_total os in let a = other_total o.operand in omega (arith, a, r)
 
 first_total : (o : Operand) → length_of (first_code o) ≤ 5
 first_total (operands.Number k) = omega arith

@@ -2,10 +2,10 @@
 use Rattle.std.proofs.Common.{◌≡◌, ℕ, zero, suc, ◌+◌, ◌<◌, ◌≤◌, List, [], ◌∷◌, map, length, arith}
 use Rattle.std.specs.Prelude.{slice_index, sum}
 use Rattle.std.proofs.lemmas.List.Sums.{sum_by-cons, sum-map}
-use Rattle.plm_meaning.specs.declared.names.Object.{Object}
-use Rattle.plm_meaning.specs.declared.names.Names.{Names}
-use Rattle.plm_meaning.specs.Placed.{IsPlacement}
-use Rattle.plm_meaning.specs.Programs.{sizes_of}
+use Rattle.plm86.specs.declared.first.Object.{Object}
+use Rattle.plm86.specs.declared.first.Objects.{Objects}
+use Rattle.plm_decl.specs.Placed.{IsPlacement}
+use Rattle.plm86.specs.Programs.{sizes_of}
 use Rattle.plm86.specs.Offsets.{offsets_from}
 
 length_offsets : (from : ℕ) (sizes : List ℕ) → length (offsets_from from sizes) ≡ length sizes
@@ -29,7 +29,7 @@ in_order from (size ∷ sizes) j zero less lt = absurd (omega (arith, less))
 in_order from (size ∷ sizes) zero (suc k) less lt = let r = above (from + size) sizes k (omega (arith, lt)) in omega (arith, r)
 in_order from (size ∷ sizes) (suc j) (suc k) less lt = let r = in_order (from + size) sizes j k (omega (arith, less)) (omega (arith, lt)) in omega (arith, r)
 
-pub offsets_placed : (names : Names) → IsPlacement (offsets_from 2 (sizes_of names)) (sizes_of names)
+pub offsets_placed : (names : Objects) → IsPlacement (offsets_from 2 (sizes_of names)) (sizes_of names)
 offsets_placed names =
     let sizes = sizes_of names in
     let all = sum-map (λ (o : Object). o.size) names.objects.items in
@@ -46,5 +46,5 @@ sized_in [] k lt = absurd (omega (arith, lt))
 sized_in (o ∷ os) zero lt = o.some
 sized_in (o ∷ os) (suc k) lt = sized_in os k (omega (arith, lt))
 
-pub sized : (names : Names) (k : ℕ) → k < length (sizes_of names) → 1 ≤ slice_index (sizes_of names) k
+pub sized : (names : Objects) (k : ℕ) → k < length (sizes_of names) → 1 ≤ slice_index (sizes_of names) k
 sized names k lt = sized_in names.objects.items k lt

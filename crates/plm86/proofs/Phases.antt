@@ -14,23 +14,32 @@ use Rattle.plm_syntax.specs.Tree.{ModuleT}
 use Rattle.plm_syntax.specs.Expand.{expanded}
 use Rattle.plm_syntax.specs.Answers as tree
 use Rattle.plm_syntax.specs.View.{module_of}
-use Rattle.plm_meaning.specs.declared.program.Program.{Program}
-use Rattle.plm_meaning.specs.Placed.{IsPlacement, first_store}
-use Rattle.plm_meaning.specs.Next.{next}
-use Rattle.plm_meaning.specs.Programs as programs
-use Rattle.plm_meaning.specs.Reading.{module_number, faults_in, main_meant, sizes_meant, IsFirst}
-use Rattle.plm_meaning.specs.Rest.{Rest, Handler, End}
+use Rattle.plm_decl.specs.declared.names.Names.{Names}
+use Rattle.plm_decl.specs.Answers.{faults_of, whole_faults_of}
+use Rattle.plm_decl.specs.Least.{IsRefusal as IsLeastOf}
+use Rattle.plm_decl.specs.Placed.{IsPlacement, sizes_of}
+use Rattle.plm_type.specs.declared.checked.Program as typed
+use Rattle.plm_type.specs.Checked as types
+use Rattle.plm_type.specs.Next.{next}
+use Rattle.plm_type.specs.Programs.{main_rest, handler_rest, procedures_of}
+use Rattle.plm_type.specs.Rest.{Rest}
 use Rattle.ppi_kbd.specs.Chips.{reset}
 use Rattle.ppi_kbd.specs.BoardChips.{board_chips}
 use Rattle.plm86.specs.declared.build.Source.{Source}
 use Rattle.plm86.specs.declared.image.Image.{Image}
 use Rattle.plm86.specs.declared.image.RomSize.{RomSize}
-use Rattle.plm86.specs.Builds.{text_of, in_module, fault_in, scan_faults, tokens_of, IsTree, AreTrees, IsFirstUnparsed, AreModules, IsProgramOf, IsTooLarge, MeansModules, IsBuilt, IsRefusal, unread, too_large, Refuses}
+use Rattle.plm86.specs.declared.first.Program.{Program}
+use Rattle.plm86.specs.Builds.{text_of, IsFirst, module_number, in_module, fault_in, scan_faults, tokens_of, IsTree, AreTrees, IsFirstUnparsed, AreModules, AreDeclared, AreAccepted, IsTooLarge, MeansNames, IsBuilt, unresolved, untyped, unformed, too_large, Refuses}
 use Rattle.plm86.specs.Built.{offsets_of, rom_of}
 use Rattle.plm86.specs.Faithful.{MeansProgram}
+use Rattle.plm86.specs.FirstObjects as first
+use Rattle.plm86.specs.Forms.{HasFirstForms, refused_forms, refused_program}
+use Rattle.plm86.specs.FormsView.{IsProgramOf}
 use Rattle.plm86.specs.Headline.{RomIsCorrect}
+use Rattle.plm86.specs.Programs as programs
 use Rattle.plm86.specs.Parsed.{ParsesAll}
 use Rattle.plm86.specs.Sizes.{bytes_in, kib_of, room_of, nodes_of}
+use Rattle.plm86.proofs.FirstForms.{handlers_are, stores_are}
 use Rattle.plm86.proofs.Nodes.{room_small}
 
 -- ---- scanning
@@ -86,22 +95,25 @@ parsed_all all old mods none so_far = subst (λ ms. AreTrees all ms) (append-nil
 
 -- ---- the image
 
-pub means_modules : (trees : List ModuleT) (p : Program) (rom offsets : List ℕ) (stack_bytes start_turns : ℕ) → IsProgramOf trees p → MeansProgram p rom offsets stack_bytes start_turns → MeansModules trees rom offsets stack_bytes start_turns
-means_modules trees p rom offsets stack_bytes start_turns is means = record {
+pub means_names : (names : Names) (p : Program) (rom offsets : List ℕ) (stack_bytes start_turns : ℕ) → HasFirstForms names → IsProgramOf names p → MeansProgram p rom offsets stack_bytes start_turns → MeansNames names rom offsets stack_bytes start_turns
+means_names names p rom offsets stack_bytes start_turns forms is means = record {
   layout = means.layout;
   rom_is = means.rom_is;
   stack_is = means.stack_is;
   faithful =
-      subst (λ first. RomIsCorrect board_chips means.layout Rest next first (λ vector. Handler End) start_turns reset (λ ram screen. first_store ram screen offsets (sizes_meant trees) reset)) is.main
-      (subst (λ sizes. RomIsCorrect board_chips means.layout Rest next (programs.main_of p) (λ vector. Handler End) start_turns reset (λ ram screen. first_store ram screen offsets sizes reset)) is.sizes means.faithful);
+      subst (λ store. RomIsCorrect board_chips means.layout Rest (next offsets (sizes_of names) (procedures_of names)) (main_rest names) (handler_rest names) start_turns reset store) (stores_are names offsets reset forms)
+      (subst (λ handler. RomIsCorrect board_chips means.layout Rest (next offsets (sizes_of names) (procedures_of names)) (main_rest names) handler start_turns reset (λ ram screen. first.first_store ram screen offsets (sizes_of names) reset)) (handlers_are names forms)
+      (subst (λ main. RomIsCorrect board_chips means.layout Rest (next offsets (sizes_of names) (procedures_of names)) main (programs.body_of p) start_turns reset (λ ram screen. first.first_store ram screen offsets (sizes_of names) reset)) is.main
+      (subst (λ sizes. RomIsCorrect board_chips means.layout Rest (next offsets sizes (procedures_of names)) (programs.main_of p) (programs.body_of p) start_turns reset (λ ram screen. first.first_store ram screen offsets sizes reset)) is.sizes
+      (means.faithful (procedures_of names)))));
 }
 
 many_nodes : (p : Program) (size : RomSize) → bytes_in size < room_of p → (16 * kib_of size < nodes_of p) ⊎ (nodes_of p ≤ 16 * kib_of size) → 16 * kib_of size < nodes_of p
 many_nodes p size large (inl more) = more
 many_nodes p size large (inr few) = absurd (omega (arith, large, room_small p size few))
 
-too_large_program : (trees : List ModuleT) (p : Program) (size : RomSize) → IsProgramOf trees p → bytes_in size < room_of p → IsTooLarge trees size
-too_large_program trees p size is large = record {
+too_large_program : (names : Names) (p : Program) (size : RomSize) → IsProgramOf names p → bytes_in size < room_of p → IsTooLarge names size
+too_large_program names p size is large = record {
   program = p;
   program_is = is;
   large = large;
@@ -116,47 +128,63 @@ modules_are texts scanned mods lent none tokens parsed same = record {
   parsed = subst (λ ms. AreTrees (map tokens_of texts) (map module_of ms)) (sym same) (subst (λ ts. AreTrees ts (map module_of mods)) tokens parsed);
 }
 
-module _ (texts : List (List ℕ)) (size : RomSize) (trees : List ModuleT) (are : AreModules texts trees) where
-  pub unread_refused : (f : Fault) → IsFirst (faults_in trees) f → Refuses texts size f
-  unread_refused Memory said = tt
-  unread_refused (At which line number) said = unread trees are said
+-- what one phase refuses
+pub unresolved_refused : (texts : List (List ℕ)) (size : RomSize) (trees : List ModuleT) → AreModules texts trees → (f : Fault) → IsLeastOf f (faults_of trees) (whole_faults_of trees) → Refuses texts size f
+unresolved_refused texts size trees are Memory said = tt
+unresolved_refused texts size trees are (At which line number) said = unresolved trees are said
 
-  module _ (accepted : faults_in trees ≡ []) (p : Program) (is : IsProgramOf trees p) where
-    abbrev IsAt : Fault → Type 0
-    IsAt Memory = ⊥
-    IsAt (At which line number) = Unit {0}
+module _ (texts : List (List ℕ)) (size : RomSize) (names : Names) where
+  pub untyped_refused : AreDeclared texts names → (f : Fault) → types.IsRefusal f names → Refuses texts size f
+  untyped_refused are Memory said = tt
+  untyped_refused are (At which line number) said = untyped names are said
 
-    full_refused : (f : Fault) → (f ≡ Memory) ⊎ (f ≡ At 0 1 E601) → (f ≡ At 0 1 E601 → bytes_in size < room_of p) → Refuses texts size f
-    full_refused Memory known full = tt
-    full_refused (At which line number) (inl memory) full = elim (subst IsAt memory tt) [ ]
-    full_refused (At which line number) (inr e) full = too_large trees are accepted (too_large_program trees p size is (full e)) e
+  are_accepted : (p : typed.Program) → AreDeclared texts names → types.AreTyped p names → AreAccepted texts names
+  are_accepted p are said = record { modules = are; no_fault = said.no_fault; no_recursion = said.no_recursion }
 
-    pub compile_refused : (r : Result Image Fault) → IfErr r (λ e. (e ≡ Memory) ⊎ (e ≡ At 0 1 E601)) → (IsErrOf r (At 0 1 E601) → bytes_in size < room_of p) → IfErr r (Refuses texts size)
-    compile_refused (Ok image) known full = tt
-    compile_refused (Err f) known full = full_refused f known (λ e. full (ap (λ z. Err z) e))
+  pub program_accepted : (p : typed.Program) → AreDeclared texts names → types.AreTyped p names → AreAccepted texts p.names
+  program_accepted p are said = subst (λ n. AreAccepted texts n) (sym said.kept) (are_accepted p are said)
 
-    pub compile_built :
-        (r : Result Image Fault)
-        → IfOk r (λ image. MeansProgram p image.rom.items image.placement.offsets.items (image.stack.main + image.stack.handler) image.start_turns)
-        → IfOk r (λ image. IsPlacement image.placement.offsets.items (programs.sizes_of p.names))
-        → IfOk r (λ image. length image.rom.items ≡ bytes_in size)
-        → IfOk r (λ image. image.start_turns ≤ 4096)
-        → IfOk r (λ image. image.rom.items ≡ rom_of p size)
-        → IfOk r (λ image. image.placement.offsets.items ≡ offsets_of p)
-        → OnOk r (room_of p ≤ bytes_in size)
-        → IfOk r (IsBuilt texts size)
-    compile_built (Err f) means placement sized start rom offsets fits = tt
-    compile_built (Ok image) means placement sized start rom offsets fits = record {
-      trees = trees;
-      modules = are;
-      accepted = accepted;
-      means = means_modules trees p image.rom.items image.placement.offsets.items (image.stack.main + image.stack.handler) image.start_turns is means;
-      placement = subst (λ sizes. IsPlacement image.placement.offsets.items sizes) is.sizes placement;
-      size_is = sized;
-      start = start;
-      program = p;
-      program_is = is;
-      rom_is = rom;
-      offsets_are = offsets;
-      fits = fits;
-    }
+  module _ (are : AreAccepted texts names) where
+    pub unformed_refused : (f : Fault) → IsLeastOf f (refused_forms names) (refused_program names) → Refuses texts size f
+    unformed_refused Memory said = tt
+    unformed_refused (At which line number) said = unformed names are said
+
+    module _ (forms : HasFirstForms names) (p : Program) (is : IsProgramOf names p) where
+      abbrev IsAt : Fault → Type 0
+      IsAt Memory = ⊥
+      IsAt (At which line number) = Unit {0}
+
+      full_refused : (f : Fault) → (f ≡ Memory) ⊎ (f ≡ At 0 1 E601) → (f ≡ At 0 1 E601 → bytes_in size < room_of p) → Refuses texts size f
+      full_refused Memory known full = tt
+      full_refused (At which line number) (inl memory) full = elim (subst IsAt memory tt) [ ]
+      full_refused (At which line number) (inr e) full = too_large names are forms (too_large_program names p size is (full e)) e
+
+      pub compile_refused : (r : Result Image Fault) → IfErr r (λ e. (e ≡ Memory) ⊎ (e ≡ At 0 1 E601)) → (IsErrOf r (At 0 1 E601) → bytes_in size < room_of p) → IfErr r (Refuses texts size)
+      compile_refused (Ok image) known full = tt
+      compile_refused (Err f) known full = full_refused f known (λ e. full (ap (λ z. Err z) e))
+
+      pub compile_built :
+          (r : Result Image Fault)
+          → IfOk r (λ image. MeansProgram p image.rom.items image.placement.offsets.items (image.stack.main + image.stack.handler) image.start_turns)
+          → IfOk r (λ image. IsPlacement image.placement.offsets.items (programs.sizes_of p.names))
+          → IfOk r (λ image. length image.rom.items ≡ bytes_in size)
+          → IfOk r (λ image. image.start_turns ≤ 4096)
+          → IfOk r (λ image. image.rom.items ≡ rom_of p size)
+          → IfOk r (λ image. image.placement.offsets.items ≡ offsets_of p)
+          → OnOk r (room_of p ≤ bytes_in size)
+          → IfOk r (IsBuilt texts size)
+      compile_built (Err f) means placement sized start rom offsets fits = tt
+      compile_built (Ok image) means placement sized start rom offsets fits = record {
+        names = names;
+        accepted = are;
+        forms = forms;
+        means = means_names names p image.rom.items image.placement.offsets.items (image.stack.main + image.stack.handler) image.start_turns forms is means;
+        placement = subst (λ sizes. IsPlacement image.placement.offsets.items sizes) is.sizes placement;
+        size_is = sized;
+        start = start;
+        program = p;
+        program_is = is;
+        rom_is = rom;
+        offsets_are = offsets;
+        fits = fits;
+      }

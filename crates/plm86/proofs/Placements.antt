@@ -3,7 +3,7 @@ use Rattle.std.proofs.Common.{ℕ, ◌+◌, ◌<◌, inl, inr, List, length, ari
 use Rattle.std.specs.Prelude.{slice_index}
 use Rattle.std.proofs.lemmas.Bool.{cases_lt, cases_eq}
 use Rattle.std.proofs.lemmas.List.{get_or_past}
-use Rattle.plm_meaning.specs.Placed.{IsPlacement}
+use Rattle.plm_decl.specs.Placed.{IsPlacement}
 use Rattle.plm86.specs.Relation.{Placed}
 
 -- an object with a byte is one of the list

@@ -1,5 +1,5 @@
 -- What is built from texts, and what is refused in them.
-use Rattle.std.specs.Prelude.{◌≡◌, ℕ, ◌+◌, ◌*◌, ◌<◌, ◌≤◌, ◌⊎◌, List, [], ◌∷◌, ◌++◌, map, length, Option, None, Result, Ok, Err, ⊤}
+use Rattle.std.specs.Prelude.{◌≡◌, ℕ, ◌+◌, ◌*◌, ◌<◌, ◌≤◌, ◌⊎◌, List, [], ◌∷◌, ◌++◌, map, length, min, None, Result, Ok, Err, ⊤}
 use Rattle.word86.specs.declared.fault.Fault.{Fault}
 use Rattle.word86.specs.declared.fault.Fault.TheVariants.{Memory, At}
 use Rattle.word86.specs.declared.number.Number.{Number}
@@ -11,23 +11,46 @@ use Rattle.plm_syntax.specs.Answers.{FaultIs, text_tokens}
 use Rattle.plm_syntax.specs.Sentence.{Spells, AllWithin}
 use Rattle.plm_syntax.specs.Spelling.{levels_of}
 use Rattle.plm_syntax.specs.WellFormed.{WellModule}
-use Rattle.plm_meaning.specs.declared.program.Program.{Program}
-use Rattle.plm_meaning.specs.Placed.{IsPlacement, first_store}
-use Rattle.plm_meaning.specs.Programs as programs
-use Rattle.plm_meaning.specs.Reading.{module_number, faults_in, main_meant, sizes_meant, IsFirst}
-use Rattle.plm_meaning.specs.Rest.{Rest, Handler, End}
-use Rattle.plm_meaning.specs.Next.{next}
+use Rattle.plm_decl.specs.declared.names.Names.{Names}
+use Rattle.plm_decl.specs.Answers.{AreNames, faults_of, whole_faults_of}
+use Rattle.plm_decl.specs.Known.{object_of}
+use Rattle.plm_decl.specs.Least.{IsRefusal as IsLeastOf}
+use Rattle.plm_decl.specs.Placed.{IsPlacement, sizes_of}
+use Rattle.plm_type.specs.Calls.{IsRecursive}
+use Rattle.plm_type.specs.Checked.{IsRefusal as IsRefusedFor}
+use Rattle.plm_type.specs.Next.{next}
+use Rattle.plm_type.specs.Programs.{faults as type_faults, main_rest, handler_rest, procedures_of}
+use Rattle.plm_type.specs.Rest.{Rest}
+use Rattle.plm_meaning.specs.First.{first_store}
 use Rattle.ppi_kbd.specs.Chips.{reset}
 use Rattle.ppi_kbd.specs.BoardChips.{board_chips}
 use Rattle.plm86.specs.declared.build.Source.{Source}
 use Rattle.plm86.specs.declared.image.Image.{Image}
 use Rattle.plm86.specs.declared.image.RomSize.{RomSize}
+use Rattle.plm86.specs.declared.first.Program.{Program}
 use Rattle.plm86.specs.Built.{offsets_of, rom_of}
+use Rattle.plm86.specs.Forms.{HasFirstForms, refused_forms, refused_program}
+use Rattle.plm86.specs.FormsView.{IsProgramOf}
 use Rattle.plm86.specs.Headline.{Layout, RomIsCorrect, stack_bytes_of}
 use Rattle.plm86.specs.Sizes.{bytes_in, kib_of, room_of, nodes_of}
 
 abbrev pub text_of : Source → List ℕ
 text_of s = s.text.now
+
+-- the first of these faults, or want of memory, which may come before
+abbrev pub IsFirst : List Fault → Fault → Type 0
+IsFirst faults Memory = ⊤
+IsFirst [] (At k line number) = ⊥
+IsFirst (f ∷ fs) (At k line number) = f ≡ At k line number
+
+-- the first of these faults is answered where there is one
+abbrev pub Says : {A : Type 0} → List Fault → Result A Fault → Type 0
+Says faults (Ok value) = faults ≡ []
+Says faults (Err f) = IsFirst faults f
+
+-- faults count modules in 32 bits
+abbrev pub module_number : ℕ → ℕ
+module_number k = min k 4294967295
 
 -- ---- scanning
 
@@ -83,49 +106,61 @@ pub record AreModules (texts : List (List ℕ)) (trees : List ModuleT) : Type 0 
   pub scanned : scan_faults 0 texts ≡ []
   pub parsed : AreTrees (map tokens_of texts) trees
 
--- the program has nothing more than its names and what main does
-pub record IsProgramOf (trees : List ModuleT) (p : Program) : Type 0 where
-  pub main : programs.main_of p ≡ main_meant trees
-  pub sizes : programs.sizes_of p.names ≡ sizes_meant trees
+-- the texts are modules, and these are the names that they declare, without a fault
+pub record AreDeclared (texts : List (List ℕ)) (names : Names) : Type 0 where
+  pub trees : List ModuleT
+  pub modules : AreModules texts trees
+  pub declared : AreNames names trees
+
+-- nor is there a fault of types, and no procedure reaches itself
+pub record AreAccepted (texts : List (List ℕ)) (names : Names) : Type 0 where
+  pub modules : AreDeclared texts names
+  pub no_fault : type_faults names ≡ []
+  pub no_recursion : (p : ℕ) → ¬ IsRecursive (procedures_of names) p
 
 -- ---- the image
 
--- For every power-on memory and schedule the ROM, on the board with its chips from their reset on, does what the modules mean, in
--- some layout of this ROM, with the objects at these offsets; its contexts push at most so many bytes.
-pub record MeansModules (trees : List ModuleT) (rom offsets : List ℕ) (stack_bytes start_turns : ℕ) : Type 0 where
+-- For every power-on memory and schedule the ROM, on the board with its chips from their reset on, does what the modules mean that
+-- declare these names, in some layout of this ROM, with the objects at these offsets; its contexts push at most so many bytes.
+pub record MeansNames (names : Names) (rom offsets : List ℕ) (stack_bytes start_turns : ℕ) : Type 0 where
   pub layout : Layout
   pub rom_is : layout.rom ≡ rom
   pub stack_is : stack_bytes_of layout ≡ stack_bytes
-  pub faithful : RomIsCorrect board_chips layout Rest next (main_meant trees) (λ vector. Handler End) start_turns reset (λ ram screen. first_store ram screen offsets (sizes_meant trees) reset)
+  pub faithful :
+      RomIsCorrect board_chips layout Rest (next offsets (sizes_of names) (procedures_of names)) (main_rest names) (handler_rest names) start_turns reset
+      (λ ram screen. first_store ram screen offsets names.variables.items (map object_of names.objects.items) reset)
 
 -- The image of texts: they are modules in which nothing is refused, and the ROM does what these mean.
 pub record IsBuilt (texts : List (List ℕ)) (size : RomSize) (image : Image) : Type 0 where
-  pub trees : List ModuleT
-  pub modules : AreModules texts trees
-  pub accepted : faults_in trees ≡ []
-  pub means : MeansModules trees image.rom.items image.placement.offsets.items (image.stack.main + image.stack.handler) image.start_turns
-  pub placement : IsPlacement image.placement.offsets.items (sizes_meant trees)
+  pub names : Names
+  pub accepted : AreAccepted texts names
+  pub forms : HasFirstForms names
+  pub means : MeansNames names image.rom.items image.placement.offsets.items (image.stack.main + image.stack.handler) image.start_turns
+  pub placement : IsPlacement image.placement.offsets.items (sizes_of names)
   pub size_is : length image.rom.items ≡ bytes_in size
   pub start : image.start_turns ≤ 4096
   pub program : Program
-  pub program_is : IsProgramOf trees program
+  pub program_is : IsProgramOf names program
   pub rom_is : image.rom.items ≡ rom_of program size
   pub offsets_are : image.placement.offsets.items ≡ offsets_of program
   pub fits : room_of program ≤ bytes_in size
 
 -- what does not fit the ROM has more than 16 nodes for each KiB
-pub record IsTooLarge (trees : List ModuleT) (size : RomSize) : Type 0 where
+pub record IsTooLarge (names : Names) (size : RomSize) : Type 0 where
   pub program : Program
-  pub program_is : IsProgramOf trees program
+  pub program_is : IsProgramOf names program
   pub large : bytes_in size < room_of program
   pub nodes : 16 * kib_of size < nodes_of program
 
--- The first fault of the phases, each over all texts: scanning, parsing, names and forms, the ROM's room.
+-- The first fault of the phases, each over all texts: scanning; parsing; names, where the least is answered, and those of the whole
+-- program come last; types, likewise; forms that a ROM cannot have yet, likewise; and the ROM's room.
 pub data IsRefusal (texts : List (List ℕ)) (size : RomSize) (f : Fault) : Type 0 where
   unscanned : IsFirst (scan_faults 0 texts) f → IsRefusal texts size f
   unparsed : scan_faults 0 texts ≡ [] → IsFirstUnparsed 0 (map tokens_of texts) f → IsRefusal texts size f
-  unread : (trees : List ModuleT) → AreModules texts trees → IsFirst (faults_in trees) f → IsRefusal texts size f
-  too_large : (trees : List ModuleT) → AreModules texts trees → faults_in trees ≡ [] → IsTooLarge trees size → f ≡ At 0 1 E601 → IsRefusal texts size f
+  unresolved : (trees : List ModuleT) → AreModules texts trees → IsLeastOf f (faults_of trees) (whole_faults_of trees) → IsRefusal texts size f
+  untyped : (names : Names) → AreDeclared texts names → IsRefusedFor f names → IsRefusal texts size f
+  unformed : (names : Names) → AreAccepted texts names → IsLeastOf f (refused_forms names) (refused_program names) → IsRefusal texts size f
+  too_large : (names : Names) → AreAccepted texts names → HasFirstForms names → IsTooLarge names size → f ≡ At 0 1 E601 → IsRefusal texts size f
 
 -- want of memory may come at any point
 abbrev pub Refuses : List (List ℕ) → RomSize → Fault → Type 0

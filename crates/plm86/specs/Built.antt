@@ -1,7 +1,7 @@
 -- The image of a program.
 use Rattle.std.specs.Prelude.{ℕ, List, slice_index}
-use Rattle.plm_meaning.specs.declared.program.Program.{Program}
-use Rattle.plm_meaning.specs.Programs.{sizes_of}
+use Rattle.plm86.specs.declared.first.Program.{Program}
+use Rattle.plm86.specs.Programs.{sizes_of}
 use Rattle.plm86.specs.declared.image.RomSize.{RomSize}
 use Rattle.plm86.specs.Code.{program_code}
 use Rattle.plm86.specs.Linked.{rom_bytes}

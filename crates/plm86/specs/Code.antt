@@ -1,11 +1,12 @@
 -- The intermediate code of a program.
 use Rattle.std.specs.Prelude.{ℕ, ◌+◌, List, [], ◌∷◌, ◌++◌, length}
-use Rattle.plm_meaning.specs.declared.program.Operand.{Operand}
-use Rattle.plm_meaning.specs.declared.program.Operand.TheVariants as operands
-use Rattle.plm_meaning.specs.declared.program.Sum.{Sum}
-use Rattle.plm_meaning.specs.declared.program.Statement.{Statement}
-use Rattle.plm_meaning.specs.declared.program.Statement.TheVariants as statements
-use Rattle.plm_meaning.specs.declared.program.Program.{Program}
+use Rattle.plm86.specs.declared.first.Operand.{Operand}
+use Rattle.plm86.specs.declared.first.Operand.TheVariants as operands
+use Rattle.plm86.specs.declared.first.Addend.{Addend}
+use Rattle.plm86.specs.declared.first.Sum.{Sum}
+use Rattle.plm86.specs.declared.first.Statement.{Statement}
+use Rattle.plm86.specs.declared.first.Statement.TheVariants as statements
+use Rattle.plm86.specs.declared.first.Program.{Program}
 use Rattle.plm86.specs.declared.lower.Op.{Op}
 use Rattle.plm86.specs.declared.lower.Op.TheVariants as ops
 
@@ -17,9 +18,9 @@ abbrev pub other_code : Operand → Op
 other_code (operands.Number k) = ops.AddConstant k
 other_code (operands.Scalar object) = ops.AddName object
 
-abbrev pub others_code : List Operand → List Op
+abbrev pub others_code : List Addend → List Op
 others_code [] = []
-others_code (o ∷ os) = other_code o ∷ others_code os
+others_code (a ∷ more) = other_code a.operand ∷ others_code more
 
 abbrev pub sum_code : Sum → List Op
 sum_code s = first_code s.first ∷ others_code s.others.items

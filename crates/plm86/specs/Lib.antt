@@ -1,3 +1,8 @@
+pub mod Known
+pub mod Programs
+pub mod FirstObjects
+pub mod Forms
+pub mod FormsView
 pub mod Laws
 pub mod Duo
 pub mod Boots

@@ -1,5 +1,5 @@
 -- What parsing all modules answers.
-use Rattle.std.specs.Prelude.{ℕ, List, map, Result, Ok, Err, ⊤}
+use Rattle.std.specs.Prelude.{List, map, Result, Ok, Err, ⊤}
 use Rattle.std.specs.Global.{Vec}
 use Rattle.word86.specs.declared.fault.Fault.{Fault}
 use Rattle.word86.specs.declared.fault.Fault.TheVariants.{Memory, At}

@@ -1,9 +1,9 @@
 -- How large a ROM is, and how large a program.
 use Rattle.std.specs.Prelude.{ℕ, ◌+◌, ◌-◌, ◌*◌, List, [], ◌∷◌, length}
-use Rattle.plm_meaning.specs.declared.program.Sum.{Sum}
-use Rattle.plm_meaning.specs.declared.program.Statement.{Statement}
-use Rattle.plm_meaning.specs.declared.program.Statement.TheVariants as statements
-use Rattle.plm_meaning.specs.declared.program.Program.{Program}
+use Rattle.plm86.specs.declared.first.Sum.{Sum}
+use Rattle.plm86.specs.declared.first.Statement.{Statement}
+use Rattle.plm86.specs.declared.first.Statement.TheVariants as statements
+use Rattle.plm86.specs.declared.first.Program.{Program}
 use Rattle.plm86.specs.declared.image.RomSize.{RomSize}
 use Rattle.plm86.specs.declared.image.RomSize.TheVariants as sizes
 use Rattle.plm86.specs.Code.{program_code}

@@ -3,18 +3,19 @@
 ghost use Rattle.std.specs.Prelude.{◌≡◌, [], ◌∷◌, map, IfOk, IfErr};
 ghost use Rattle.plm_token.specs.Scanning.{lexemes};
 ghost use Rattle.plm_syntax.specs.View.{module_of};
-ghost use Rattle.plm_meaning.specs.Reading.{Says};
 ghost use Rattle.board.specs.Runs.{due_of};
 ghost use Rattle.plm86.specs.BuildsAndRuns.{HasRun, HasNotRun};
-ghost use Rattle.plm86.specs.Builds.{text_of, in_module, scan_faults, tokens_of, IsBuilt, Refuses};
+ghost use Rattle.plm86.specs.Builds.{text_of, module_number, in_module, Says, scan_faults, tokens_of, IsBuilt, Refuses};
 ghost use Rattle.plm86.specs.Parsed.{ParsesAll};
 
 use crate::compile::compile;
+use crate::first_program::first_program;
 use crate::image::{Image, RomSize};
 use board::{Board, End, Schedule};
-use plm_meaning::{module_number, read_program};
+use plm_decl::resolve;
 use plm_syntax::{Module, parse};
 use plm_token::{Token, scan};
+use plm_type::check;
 use std::alloc::Global;
 use word86::{Fault, PowerOn, Sink};
 
@@ -23,6 +24,13 @@ use word86::{Fault, PowerOn, Sink};
 pub struct Source<'a> {
     pub name: &'a str,
     pub text: &'a [u8],
+}
+
+// The number of a module, from 0, as faults count it: above 4,294,967,295 it stays there.
+fn module_number(ordinal: usize) -> u32
+    ensures { result ≡ module_number ordinal }
+{
+    ordinal.min(u32::MAX as usize) as u32
 }
 
 // The fault of a text as that of its module, counted from 0.
@@ -69,16 +77,20 @@ fn parse_all<'a>(alloc: Global, scanned: Vec<Vec<Token<'a>>>) -> Result<Vec<Modu
 /// # Errors
 ///
 /// The first fault of the phases, each over all sources: scanning (E101 to E107), parsing with literals replaced (E101, E103
-/// to E105 of a literal's text, E201 to E205), names (E301, E302, E308, E310) and forms (E401), the ROM's room (E601, never
-/// where the program has at most 16 nodes for each KiB). Modules count from 0. The one other refusal is want of memory.
+/// to E105 of a literal's text, E201 to E205), names (E301 to E305, the least of them; else E306 to E310, of the whole program),
+/// types (E401 to E403, the least; else E404), forms that a ROM cannot have yet (E401 at the least first token of one), the ROM's
+/// room (E601, never where the program has at most 16 nodes for each KiB). Modules count from 0. The one other refusal is want of
+/// memory.
 pub fn build(alloc: Global, sources: &[Source<'_>], size: RomSize) -> Result<Image, Fault>
     ensures built { IfOk result (IsBuilt (map text_of sources.now) size) }
     ensures refused { IfErr result (Refuses (map text_of sources.now) size) }
 {
     let scanned = scan_all(alloc, sources)?;
     let modules = parse_all(alloc, scanned)?;
-    let program = read_program(alloc, &modules)?;
-    compile(alloc, &program, size)
+    let names = resolve(alloc, &modules)?;
+    let program = check(alloc, names)?;
+    let forms = first_program(alloc, &program)?;
+    compile(alloc, &forms, size)
 }
 
 /// Builds sources, and runs the ROM on the board from its reset on under a schedule, with this power-on memory: the trace goes

@@ -1,18 +1,19 @@
 //! From a program to its ROM.
 
 ghost use Rattle.std.specs.Prelude.{◌≡◌, ◌+◌, ◌*◌, ◌<◌, ◌≤◌, ◌⊎◌, OnOk, IfOk, IfErr, IsErrOf, length};
-ghost use Rattle.plm_meaning.specs.Placed.{IsPlacement};
-ghost use Rattle.plm_meaning.specs.Programs.{sizes_of};
+ghost use Rattle.plm_decl.specs.Placed.{IsPlacement};
+ghost use Rattle.plm86.specs.Programs.{sizes_of};
 ghost use Rattle.plm86.specs.Sizes.{bytes_in, kib_of, room_of, nodes_of};
 ghost use Rattle.plm86.specs.Built.{offsets_of, rom_of};
 ghost use Rattle.plm86.specs.Faithful.{MeansProgram};
 
+use crate::first::Program;
 use crate::image::{Image, RomSize, Stack};
 use crate::link::link;
 use crate::lower::lower;
 use crate::objects::place;
 use i86_code::one_form;
-use plm_meaning::{Placement, Program};
+use plm_decl::Placement;
 use std::alloc::Global;
 use word86::{Fault, Number};
 

@@ -3,7 +3,7 @@
 ghost use Rattle.std.specs.Prelude.{◌≡◌};
 ghost use Rattle.plm86.specs.Sizes.{bytes_in};
 
-use plm_meaning::Placement;
+use plm_decl::Placement;
 
 /// How large a ROM is.
 #[derive(Debug, Clone, Copy, PartialEq, Eq)]

@@ -1,10 +1,10 @@
 //! From a program to its intermediate code.
 
 ghost use Rattle.std.specs.Prelude.{◌≡◌, ◌++◌, [], ◌∷◌, OnOk, IfOk, IsOkUnless, map};
-ghost use Rattle.plm_meaning.specs.Programs.{main_of, body_of};
+ghost use Rattle.plm86.specs.Programs.{main_of, body_of};
 ghost use Rattle.plm86.specs.Code.{first_code, other_code, others_code, sum_code, statement_code, statements_code, program_code};
 
-use plm_meaning::{Operand, Program, Statement, Sum};
+use crate::first::{Addend, Operand, Program, Statement, Sum};
 use std::alloc::Global;
 use word86::Fault;
 
@@ -69,12 +69,12 @@ fn lower_sum(code: &mut Vec<Op>, sum: &Sum) -> Result<(), Fault>
     lower_others(code, &sum.others)
 }
 
-fn lower_others(code: &mut Vec<Op>, operands: &[Operand]) -> Result<(), Fault>
-    ensures code { OnOk result (code.new.items ≡ code.old.items ++ others_code operands.now) }
+fn lower_others(code: &mut Vec<Op>, addends: &[Addend]) -> Result<(), Fault>
+    ensures code { OnOk result (code.new.items ≡ code.old.items ++ others_code addends.now) }
     ensures memory { IsOkUnless result Fault.Memory }
 {
-    for operand in operands {
-        put(code, other_op(*operand))?;
+    for addend in addends {
+        put(code, other_op(addend.operand))?;
     }
     Ok(())
 }

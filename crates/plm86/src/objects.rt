@@ -1,15 +1,15 @@
 //! Where the objects of a program lie.
 
 ghost use Rattle.std.specs.Prelude.{◌≡◌, IfOk, IsOkUnless};
-ghost use Rattle.plm_meaning.specs.Programs.{sizes_of};
+ghost use Rattle.plm86.specs.Programs.{sizes_of};
 ghost use Rattle.plm86.specs.Offsets.{offsets_from};
 
-use plm_meaning::Names;
+use crate::first::Objects;
 use std::alloc::Global;
 use word86::Fault;
 
 /// An offset in the data segment for each object, one after another from 0002H on.
-pub(crate) fn place(alloc: Global, names: &Names) -> Result<Vec<u16>, Fault>
+pub(crate) fn place(alloc: Global, names: &Objects) -> Result<Vec<u16>, Fault>
     ensures offsets { IfOk result (λ v. v.items ≡ offsets_from 2 (sizes_of names.now)) }
     ensures memory { IsOkUnless result Fault.Memory }
 {

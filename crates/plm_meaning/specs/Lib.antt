@@ -1,9 +1,7 @@
 pub mod Store
+pub mod First
 pub mod System
-pub mod Rest
-pub mod Next
-pub mod Placed
-pub mod Programs
-pub mod Known
-pub mod Reading
-pub mod Forms
+pub mod Parts
+pub mod Steps
+pub mod Shown
+pub mod Run

@@ -1,15 +1,13 @@
-//! The meaning of a program: what its main and its interrupt procedures do, step by step, with the board around them.
+//! The runnable meaning of a program: its main, its interrupt procedures, its store and the chips, step by step.
 #![tactic(auto)]
 
-mod names;
-mod placement;
-mod program;
-mod reading;
+mod access;
+mod around;
+mod context;
+mod meaning;
+mod opening;
+mod redex;
+mod settle;
+mod store;
 
-pub use names::{Names, Object};
-pub use placement::Placement;
-pub use program::{Operand, Program, Statement, Sum};
-pub use reading::{module_number, read_program};
-
-#[cfg(test)]
-mod tests;
+pub use meaning::{Choice, Meaning, Step, Stop};

@@ -1,14 +1,25 @@
 //! ROMs against those of an assembler (nasm, `cpu 8086`), and what is refused.
 
-ghost use Rattle.std.specs.Prelude.{◌≤◌, vec_len};
-ghost use Rattle.plm_meaning.specs.Known.{StatementIn};
+ghost use Rattle.std.specs.Prelude.{◌≡◌, ◌≤◌, vec_len};
+ghost use Rattle.plm86.specs.Known.{StatementIn};
 
 use super::compile;
+use crate::first::{Addend, Object, Objects, Operand, Program, Statement, Sum};
 use crate::image::RomSize;
-use plm_meaning::{Names, Object, Operand, Program, Statement, Sum};
+use plm_type::Line;
 use std::alloc::Global;
 use std::test::Fail;
 use word86::{Fault, Number};
+
+/// An operand behind a plus sign.
+fn addend(operand: Operand) -> Addend
+    ensures { result.operand ≡ operand }
+{
+    Addend {
+        line: Line { module: 0, line: 1 },
+        operand,
+    }
+}
 
 /// Two BYTE scalars, A and B, and these statements.
 fn program(alloc: Global, first: Statement, second: Statement) -> Result<Program, Fail>
@@ -22,7 +33,7 @@ fn program(alloc: Global, first: Statement, second: Statement) -> Result<Program
     main.push(first)?;
     main.push(second)?;
     Ok(Program {
-        names: Names { objects },
+        names: Objects { objects },
         main,
     })
 }
@@ -35,7 +46,7 @@ fn first_example(alloc: Global) -> Result<Program, Fail> {
     };
     let second = Sum {
         first: Operand::Scalar(0),
-        others: [Operand::Number(1)].to_vec(alloc)?,
+        others: [addend(Operand::Number(1))].to_vec(alloc)?,
     };
     program(
         alloc,
@@ -48,11 +59,11 @@ fn first_example(alloc: Global) -> Result<Program, Fail> {
 fn second_example(alloc: Global) -> Result<Program, Fail> {
     let first = Sum {
         first: Operand::Scalar(1),
-        others: [Operand::Scalar(0)].to_vec(alloc)?,
+        others: [addend(Operand::Scalar(0))].to_vec(alloc)?,
     };
     let second = Sum {
         first: Operand::Scalar(0),
-        others: [Operand::Number(3), Operand::Scalar(1)].to_vec(alloc)?,
+        others: [addend(Operand::Number(3)), addend(Operand::Scalar(1))].to_vec(alloc)?,
     };
     program(
         alloc,
@@ -114,7 +125,7 @@ fn refuses_what_does_not_fit(rt: HostRuntime) -> Result<(), Fail> {
     for _ in 0..9000 {
         main.push(Statement::Empty)?;
     }
-    let names = Names {
+    let names = Objects {
         objects: Vec::new(rt.alloc()),
     };
     let program = Program { names, main };

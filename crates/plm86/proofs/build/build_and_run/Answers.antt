@@ -1,4 +1,4 @@
-use Rattle.std.proofs.Common.{ap, subst, sym, ◌∙◌, rules}
+use Rattle.std.proofs.Common.{ap, subst, ◌∙◌, rules}
 use Rattle.std.specs.Prelude.{map, length}
 use Rattle.ppi_kbd.specs.Chips.{reset}
 use Rattle.board.specs.Machine.{power_on as powered_on}

@@ -1,4 +1,4 @@
-use Rattle.std.specs.Prelude.{◌≡◌, ◌++◌, List, map, length}
+use Rattle.std.specs.Prelude.{◌++◌, List, map, length}
 use Rattle.word86.specs.declared.fault.Fault.{Fault}
 use Rattle.plm_token.specs.Scanning.{lexemes}
 use Rattle.plm_syntax.specs.Tree.{ModuleT}

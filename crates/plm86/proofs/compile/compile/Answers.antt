@@ -3,8 +3,8 @@ use Rattle.std.specs.Prelude.{IsErrOf}
 use Rattle.std.proofs.lemmas.Grind.{common_steps}
 use Rattle.word86.specs.declared.fault.Fault.TheVariants as faults
 use Rattle.word86.specs.declared.number.Number.TheVariants as numbers
-use Rattle.plm_meaning.specs.Placed.{IsPlacement}
-use Rattle.plm_meaning.specs.Programs.{sizes_of}
+use Rattle.plm_decl.specs.Placed.{IsPlacement}
+use Rattle.plm86.specs.Programs.{sizes_of}
 use Rattle.plm86.specs.Sizes.{bytes_in, room_of}
 use Rattle.plm86.specs.Faithful.{MeansProgram}
 use Rattle.plm86.proofs.Imaged.{is_placed, is_sized, means}

@@ -1,4 +1,4 @@
-use Rattle.plm_meaning.specs.Known.{StatementsIn}
+use Rattle.plm86.specs.Known.{StatementsIn}
 use Rattle.plm86.proofs.compile.tests.refuses_what_does_not_fit.Given as goal
 
 abbrev pub invariant-loop : goal.invariant-loop

@@ -1,0 +1,38 @@
+use Rattle.std.proofs.Common.{sym, ap, ◌∙◌, ◌≡◌, Some, None, refl}
+use Rattle.word86.specs.Access.{Write, Output}
+use Rattle.word86.specs.Action.{Action, Touch, map_action}
+use Rattle.word86.specs.Arithmetic.{low}
+use Rattle.plm_type.specs.Rest as rest
+use Rattle.plm_type.specs.Rest.{Refer, NoSubscripts, Value}
+use Rattle.plm_type.specs.View.{where_of}
+use Rattle.plm_meaning.specs.Parts.{Expr, origin_of, redex_part, part_of, purposed, todo_in}
+use Rattle.plm_meaning.specs.Steps.{action_of, next_part, procedures_in, offsets_of, sizes_of, stored, value_in}
+use Rattle.plm_meaning.proofs.Steps as steps
+use Rattle.plm_meaning.proofs.redex.refer.Goals as goal
+
+pub returns-in-None-place-clause-step : goal.returns-in-None-place-clause-step
+returns-in-None-place-clause-step c f =
+    let s = c.args.around in
+    let l = c.args.line in
+    let a = origin_of c.args.origin in
+    let d = c.in-Store.destination in
+    let w = c.in-Store.width in
+    let r = Refer l.module l.line a c.args.offset NoSubscripts in
+    steps.bad_step s d (rest.ToVariable w r) l.module l.line
+    (steps.written s w l.module l.line a c.args.offset c.address-address.result (value_in d) None c.address-address.ensures c.in-None-place.ensures)
+    ∙ ap (λ x. next_part s (purposed x r)) (sym c.in-Store.is)
+
+pub returns-in-Some-place-clause-step : goal.returns-in-Some-place-clause-step
+returns-in-Some-place-clause-step c f =
+    let s = c.args.around in
+    let l = c.args.line in
+    let a = origin_of c.args.origin in
+    let d = c.in-Store.destination in
+    let w = c.in-Store.width in
+    let r = Refer l.module l.line a c.args.offset NoSubscripts in
+    let x = where_of c.in-Some-place.place in
+    ap (action_of (procedures_in s) f) c.write.ensures.write
+    ∙ ap (λ n. Touch (Write w x (low w n)) (λ _. stored d)) (c.from.ensures ∙ c.value.ensures)
+    ∙ steps.stored_step s d (rest.ToVariable w r) (Write w x (low w (value_in d)))
+    (steps.written s w l.module l.line a c.args.offset c.address-address.result (value_in d) (Some x) c.address-address.ensures c.in-Some-place.ensures)
+    ∙ ap (λ p. next_part s (purposed p r)) (sym c.in-Store.is)

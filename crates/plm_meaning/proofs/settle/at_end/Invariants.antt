@@ -1,0 +1,11 @@
+use Rattle.std.proofs.Common.{◌≡◌, vec_len}
+use Rattle.plm_type.specs.Rest.{End}
+use Rattle.plm_meaning.specs.Parts.{Todo, todo_in}
+use Rattle.plm_meaning.proofs.settle.at_end.Given as goal
+
+-- what is left behind the frames taken off so far is what was to do
+abbrev pub invariant-loop-frame : goal.invariant-loop-frame
+invariant-loop-frame l = todo_in l.context.frames.items (Todo End) ≡ todo_in l.initial.context.frames.items (Todo End)
+
+abbrev pub decreases-loop-frame : goal.decreases-loop-frame
+decreases-loop-frame l = vec_len l.context.frames

@@ -1,0 +1,139 @@
+//! The accesses of a program's steps, and where a reference's bytes lie.
+
+ghost use Rattle.std.specs.Prelude.{◌≡◌, Some, slice_index, option_map};
+ghost use Rattle.plm_type.specs.Places.{bytes, covers, held, placed, anchored};
+ghost use Rattle.plm_type.specs.Next.{address_at};
+ghost use Rattle.plm_type.specs.View.{where_of};
+ghost use Rattle.plm_meaning.specs.Parts.{origin_of};
+ghost use Rattle.plm_meaning.specs.Steps.{sizes_in};
+
+use plm_decl::Object;
+use plm_type::Place;
+use word86::Width;
+
+/// One access: of a variable, of the screen, or of a port; a write has its value.
+#[derive(Debug, Clone, Copy, PartialEq, Eq)]
+pub enum Access {
+    Read(Width, Place),
+    Write(Width, Place, u16),
+    Input(Width, u16),
+    Output(Width, u16, u16),
+}
+
+/// Where a reference's bytes begin, once its base is read.
+#[derive(Debug, Clone, Copy, PartialEq, Eq)]
+pub enum Origin {
+    /// In a RAM object, by its number: so many bytes behind its first; the size in bytes of what the name declares.
+    Ram(usize, u64, u64),
+    /// On the screen: so many bytes behind 0B8000H; the size in bytes.
+    Screen(u64, u64),
+    /// At the address that the base held.
+    There(u16),
+}
+
+/// The RAM objects and their offsets.
+#[derive(Clone, Copy)]
+pub struct Layout<'a> {
+    pub offsets: &'a [u16],
+    pub objects: &'a [Object],
+}
+
+// How many bytes an access has.
+fn bytes(width: Width) -> u64
+    ensures { result ≡ bytes width }
+{
+    match width {
+        Width::Byte => 1,
+        Width::Word => 2,
+    }
+}
+
+// Whether so many bytes from the address on are among the size bytes from the first on.
+fn covers(first: u128, size: u64, address: u16, count: u64) -> bool
+    ensures { result ≡ covers first size address count }
+{
+    first <= u128::from(address)
+        && u128::from(address) + u128::from(count) <= first + u128::from(size)
+}
+
+impl Layout<'_> {
+    // The RAM object that holds all the bytes, and the index of the first.
+    fn held(self, address: u16, count: u64) -> Option<Place>
+        ensures { option_map where_of result ≡ held 0 self.entry.offsets.now (sizes_in self.entry) address count }
+    {
+        for (k, object) in self.objects.iter().enumerate() {
+            if self.offsets.len() <= k {
+                return None;
+            }
+            let offset = self.offsets[k];
+            if covers(u128::from(offset), object.size, address, count) {
+                return Some(Place::Ram(k, address - offset));
+            }
+        }
+        None
+    }
+
+    /// The offset of a RAM object: 0 where there is no such object.
+    pub fn offset(self, object: usize) -> u16
+        ensures { result ≡ slice_index self.entry.offsets.now object }
+    {
+        match self.offsets.get(object) {
+            None => 0,
+            Some(offset) => *offset,
+        }
+    }
+
+    /// The address of a reference whose bytes begin so many behind its origin, modulo 65,536.
+    pub fn address(self, origin: Origin, offset: u64) -> u16
+        ensures { Some result ≡ address_at (anchored self.entry.offsets.now (sizes_in self.entry) (origin_of origin)) offset }
+    {
+        let begin = match origin {
+            Origin::Ram(object, start, _) => u128::from(self.offset(object)) + u128::from(start),
+            Origin::Screen(start, _) => 0x8000 + u128::from(start),
+            Origin::There(address) => u128::from(address),
+        };
+        ((begin + u128::from(offset)) % 0x1_0000) as u16
+    }
+
+    // The place in a RAM object that begins at this offset.
+    fn in_object(
+        self,
+        width: Width,
+        object: usize,
+        start: u64,
+        size: u64,
+        address: u16,
+    ) -> Option<Place>
+        ensures { option_map where_of result ≡ placed self.entry.offsets.now (sizes_in self.entry) width (origin_of (Origin.Ram object start size)) address }
+    {
+        let offset = self.offset(object);
+        if covers(
+            u128::from(offset) + u128::from(start),
+            size,
+            address,
+            bytes(width),
+        ) {
+            Some(Place::Ram(object, address - offset))
+        } else {
+            None
+        }
+    }
+
+    /// The place of an access at an address: none where its bytes do not all lie in what the name declares, or for a based
+    /// name in one RAM object.
+    pub fn place(self, width: Width, origin: Origin, address: u16) -> Option<Place>
+        ensures { option_map where_of result ≡ placed self.entry.offsets.now (sizes_in self.entry) width (origin_of origin) address }
+    {
+        match origin {
+            Origin::Ram(object, start, size) => self.in_object(width, object, start, size, address),
+            Origin::Screen(start, size) => {
+                if covers(0x8000 + u128::from(start), size, address, bytes(width)) {
+                    Some(Place::Screen(address - 0x8000))
+                } else {
+                    None
+                }
+            }
+            Origin::There(_) => self.held(address, bytes(width)),
+        }
+    }
+}

@@ -1,0 +1,129 @@
+//! What a context (main, or an interrupt procedure) has still to do: a focus, and the frames around it.
+
+use crate::access::Origin;
+use plm_type::{Expression, Line, Loop, Operation, Place, Scalar, Statement, Subscript, Target};
+use word86::{BinaryOperation, UnaryOperation, Width};
+
+/// What a value is stored for: the rest of an assignment, or an embedded one.
+#[derive(Clone, Copy)]
+pub enum Destination<'a> {
+    /// The value, and the targets that come next.
+    Assigned(u16, &'a [Target]),
+    Embedded(u16),
+}
+
+/// What a reference is evaluated for.
+#[derive(Clone, Copy)]
+pub enum Purpose<'a> {
+    Read(Width),
+    Locate,
+    Store(Width, Destination<'a>),
+}
+
+/// What comes behind statements.
+#[derive(Clone, Copy)]
+pub enum Later<'a> {
+    Behind(&'a [Box<Statement>]),
+    /// The end of a block.
+    Leaving,
+    /// A DO WHILE begins its test again.
+    Repeat(&'a Expression, &'a [Box<Statement>]),
+    /// A DO with an index goes on to its step.
+    Next(&'a Loop),
+}
+
+/// What stands around a part that is evaluated first.
+#[derive(Drop)]
+pub enum Frame<'a> {
+    Unary(UnaryOperation, Width),
+    /// The left operand of an operation, before others of its level.
+    Left(&'a Operation, &'a [Operation]),
+    /// The right operand, with the value of the left one.
+    Right(u16, &'a Operation, &'a [Operation]),
+    Embedded(&'a Target),
+    Input(Width),
+    /// An argument, with the values of those before it.
+    Argument(usize, Vec<u16>, &'a [Expression]),
+    /// A subscript of a reference: its element's size, and those behind it.
+    Subscript(Purpose<'a>, Line, plm_type::Anchor, u64, u64, &'a [Subscript]),
+    Port(Width, Destination<'a>),
+    Assign(&'a Target, &'a [Target]),
+    Evaluate,
+    /// The body of a call.
+    Running,
+    ReturnValue(Width),
+    If(&'a [Box<Statement>], &'a [Box<Statement>]),
+    While(&'a Expression, &'a [Box<Statement>]),
+    Case(&'a [Box<Statement>]),
+    Iterate(&'a Loop),
+    Comparing(u16, &'a Loop),
+    Stepping(&'a Loop),
+    Later(Later<'a>),
+}
+
+/// The part that is rewritten next: all that it needs has its value.
+#[derive(Clone, Copy)]
+pub enum Redex<'a> {
+    Constant(u16),
+    Plain(Width, Place),
+    /// A based reference whose base has not been read.
+    Base(Purpose<'a>, Line, Place, u64),
+    Refer(Purpose<'a>, Line, Origin, u64),
+    Unary(UnaryOperation, Width, u16),
+    Binary(Line, BinaryOperation, Width, u16, u16),
+    Store(Width, Place, Destination<'a>),
+    Input(Width, u16),
+    Output(Width, u16, Destination<'a>),
+    /// A call whose body is at its end, or has returned a value.
+    Ended,
+    Given(u16),
+    Empty,
+    Return,
+    ReturnValue(Width, u16),
+    Enable,
+    Disable,
+    Halt,
+    If(u16, &'a [Box<Statement>], &'a [Box<Statement>]),
+    Block(&'a [Box<Statement>]),
+    Leaving,
+    While(u16, &'a Expression, &'a [Box<Statement>]),
+    Case(u16, &'a [Box<Statement>]),
+    Iterate(u16, &'a Loop),
+    Round(&'a Loop),
+    Comparing(u16, u16, &'a Loop),
+    Stepping(u16, &'a Loop),
+    Adding(u16, u16, &'a Loop),
+    Storing(u32, &'a Loop),
+    Ending(u32, &'a Loop),
+}
+
+/// The innermost part.
+#[derive(Drop)]
+pub enum Focus<'a> {
+    Expression(&'a Expression),
+    Value(u16),
+    Statements(&'a [Box<Statement>]),
+    Statement(&'a Statement),
+    /// What a RETURN leaves.
+    Returned(u16),
+    /// Statements, and what comes behind them.
+    Within(Later<'a>, &'a [Box<Statement>]),
+    /// The body of a call begins.
+    Entering(&'a [Box<Statement>]),
+    /// An index that is compared with a bound.
+    Bound(u16, &'a Loop),
+    /// A target of a value.
+    Aim(&'a Target, Destination<'a>),
+    /// A call whose arguments have their values.
+    Call(usize, Vec<u16>),
+    /// The parameters that are left, the values, and how many of them are stored.
+    Passing(usize, &'a [Scalar], Vec<u16>, usize),
+    Ready(Redex<'a>),
+}
+
+/// What a context has still to do.
+#[derive(Drop)]
+pub struct Context<'a> {
+    pub focus: Focus<'a>,
+    pub frames: Vec<Frame<'a>>,
+}

@@ -1,0 +1,394 @@
+//! The step of the part that is rewritten next.
+
+ghost use Rattle.std.specs.Prelude.{◌≡◌, ℕ, List, ◌+◌, ◌<◌, Bool, if◌then◌else◌, nat_lt, Some, None, map, slice_get, drop, length};
+ghost use Rattle.word86.specs.Access.{Write, Access as Accessed, values};
+ghost use Rattle.word86.specs.Action.{Touch, Over, map_action, Silent as Quiet};
+ghost use Rattle.word86.specs.Arithmetic.{low};
+ghost use Rattle.plm_type.specs.Rest.{Expression as Tree, Passing as Stored, Refer, NoSubscripts, Round, While, Then, End, Stepping as Steps, Procedure as Blocks, Main, Handler};
+ghost use Rattle.plm_type.specs.Next.{is_odd, operated, next, next_case, next_passing, next_statements, behind, rounds_of, step_of, parameters_of, body_of};
+ghost use Rattle.plm_type.specs.View.{where_of, scalar_of, expression_of, statements_of, loop_of, procedures_of};
+ghost use Rattle.plm_meaning.specs.Parts.{Part, Expr, Todo, purposed, origin_of, part_of, redex_part, todo_in, todo_of, IsSettled};
+ghost use Rattle.plm_meaning.specs.Steps.{offsets_of, sizes_of, procedures_in, next_part, stored, passed as passed_part, after_part, action_of, context_action, value_in, IsStep, SaysEnd, HasHalted, FitsIn};
+
+use crate::access::{Access, Origin};
+use crate::around::Surroundings;
+use crate::context::{Context, Destination, Focus, Later, Purpose, Redex};
+use plm_type::{Expression, Line, Loop, Place, Scalar, Statement};
+use std::mem;
+use word86::Width;
+
+/// What goes on with the answer of an access.
+#[derive(Clone, Copy)]
+pub enum After<'a> {
+    /// The answer is a value.
+    Value,
+    /// The answer is the base of a reference.
+    Based(Purpose<'a>, Line, u64),
+    /// A value is stored.
+    Stored(Destination<'a>),
+    /// A round begins.
+    Round(&'a Loop),
+    /// The answer is the index, which is compared with the bound.
+    Compare(&'a Loop),
+    /// The answer is the index, to which the step is added.
+    Add(u16, &'a Loop),
+    /// The sum is stored.
+    End(u32, &'a Loop),
+    /// A parameter has its value.
+    Passed,
+}
+
+/// What a context does next, and what it goes on with.
+#[derive(Drop)]
+pub enum Action<'a> {
+    Silent(Focus<'a>),
+    Touch(Access, After<'a>),
+    Enable,
+    Disable,
+    Halt,
+    /// At its end.
+    Ended,
+    /// By a RETURN.
+    Returned,
+    /// A Bad step.
+    Bad(Line),
+}
+
+impl<'a> Destination<'a> {
+    // The value that is stored.
+    fn value(self) -> u16
+        ensures { result ≡ value_in self.entry }
+    {
+        match self {
+            Destination::Assigned(v, _) | Destination::Embedded(v) => v,
+        }
+    }
+
+    // What comes once it is stored.
+    fn stored(self) -> Focus<'a>
+        ensures { part_of result ≡ stored self.entry }
+    {
+        match self {
+            Destination::Embedded(v) => Focus::Value(v),
+            Destination::Assigned(v, targets) => match targets.split_first() {
+                None => Focus::Statements(&[]),
+                Some((target, others)) => Focus::Aim(target, Destination::Assigned(v, others)),
+            },
+        }
+    }
+}
+
+// A store of a value of which the low bits are kept.
+fn write<'a>(width: Width, place: Place, v: u32, after: After<'a>) -> Action<'a>
+    ensures write { result ≡ Action.Touch (Access.Write width place (low width v)) after.entry }
+    ensures going { IsStep result }
+{
+    Action::Touch(Access::Write(width, place, width.low(v)), after)
+}
+
+fn is_odd(v: u16) -> bool
+    ensures { result ≡ is_odd v }
+{
+    v % 2 == 1
+}
+
+// A reference whose address is known.
+fn refer<'a>(
+    around: Surroundings<'_>,
+    purpose: Purpose<'a>,
+    line: Line,
+    origin: Origin,
+    offset: u64,
+) -> Action<'a>
+    ensures step { (f : Focus) → action_of (procedures_in around.entry) f result ≡ next_part around.entry (purposed purpose.entry (Refer line.module line.line (origin_of origin) offset NoSubscripts)) }
+    ensures going { IsStep result }
+{
+    let address = around.address(origin, offset);
+    match purpose {
+        Purpose::Locate => Action::Silent(Focus::Value(address)),
+        Purpose::Read(width) => match around.place(width, origin, address) {
+            None => Action::Bad(line),
+            Some(place) => Action::Touch(Access::Read(width, place), After::Value),
+        },
+        Purpose::Store(width, destination) => match around.place(width, origin, address) {
+            None => Action::Bad(line),
+            Some(place) => write(
+                width,
+                place,
+                u32::from(destination.value()),
+                After::Stored(destination),
+            ),
+        },
+    }
+}
+
+// A DO CASE: a case is dropped, or taken.
+fn choose<'a>(v: u16, cases: &'a [Box<Statement>]) -> Focus<'a>
+    ensures { Quiet (part_of result) ≡ map_action Todo (next_case (Some v) (statements_of cases.now) End Over) }
+{
+    match cases.split_first() {
+        None => Focus::Statements(&[]),
+        Some((case, others)) => {
+            if v == 0 {
+                Focus::Statement(case)
+            } else {
+                Focus::Ready(Redex::Case(v - 1, others))
+            }
+        }
+    }
+}
+
+// An arm of IF.
+#[tactic(auto, using(crate::proofs::Plug::behind_end))]
+fn arm<'a>(v: u16, arm: &'a [Box<Statement>], other: &'a [Box<Statement>]) -> Focus<'a>
+    ensures { part_of result ≡ Todo (behind (if is_odd v then statements_of arm.now else statements_of other.now) End) }
+{
+    if is_odd(v) {
+        Focus::Statements(arm)
+    } else {
+        Focus::Statements(other)
+    }
+}
+
+// A DO WHILE behind its test.
+fn repeat<'a>(v: u16, condition: &'a Expression, body: &'a [Box<Statement>]) -> Focus<'a>
+    ensures { part_of result ≡ Todo (if is_odd v then behind (statements_of body.now) (Then (While (expression_of condition.now) (expression_of condition.now) (statements_of body.now)) End) else End) }
+{
+    if is_odd(v) {
+        Focus::Within(Later::Repeat(condition, body), body)
+    } else {
+        Focus::Statements(&[])
+    }
+}
+
+// A DO with an index, behind the comparison with its bound.
+fn compare<'a>(index: u16, bound: u16, rounds: &'a Loop) -> Focus<'a>
+    ensures { part_of result ≡ Todo (if nat_lt bound index then End else behind (rounds_of (loop_of rounds.now)) (Then (Steps (step_of (loop_of rounds.now)) (loop_of rounds.now)) End)) }
+{
+    if bound < index {
+        Focus::Statements(&[])
+    } else {
+        Focus::Within(Later::Next(rounds), &rounds.body)
+    }
+}
+
+// How many values there are of a width.
+fn values(width: Width) -> u32
+    ensures { result ≡ values width }
+{
+    match width {
+        Width::Byte => 0x100,
+        Width::Word => 0x1_0000,
+    }
+}
+
+// A DO with an index, behind its store: the next round, unless the sum does not fit the index.
+fn end_round<'a>(sum: u32, rounds: &'a Loop) -> Focus<'a>
+    ensures { part_of result ≡ Todo (if nat_lt sum (values rounds.now.index.width) then Then (Round (loop_of rounds.now)) End else End) }
+{
+    if sum < values(rounds.index.width) {
+        Focus::Ready(Redex::Round(rounds))
+    } else {
+        Focus::Statements(&[])
+    }
+}
+
+// The value of an operator, or a Bad step.
+fn operate<'a>(line: Line, value: Option<u16>) -> Action<'a>
+    ensures step { (ps : List Blocks) (f : Focus) → action_of ps f result ≡ map_action Expr (operated line.module line.line value) }
+    ensures going { IsStep result }
+{
+    match value {
+        None => Action::Bad(line),
+        Some(v) => Action::Silent(Focus::Value(v)),
+    }
+}
+
+// The step of the part that is rewritten next.
+fn redex_step<'a>(around: Surroundings<'_>, redex: Redex<'a>) -> Action<'a>
+    ensures step { (f : Focus) → action_of (procedures_in around.entry) f result ≡ next_part around.entry (redex_part redex.entry) }
+    ensures going { IsStep result }
+{
+    match redex {
+        Redex::Constant(k) => Action::Silent(Focus::Value(k)),
+        Redex::Plain(width, place) => Action::Touch(Access::Read(width, place), After::Value),
+        Redex::Base(purpose, line, base, offset) => Action::Touch(
+            Access::Read(Width::Word, base),
+            After::Based(purpose, line, offset),
+        ),
+        Redex::Refer(purpose, line, origin, offset) => refer(around, purpose, line, origin, offset),
+        Redex::Unary(operation, width, v) => Action::Silent(Focus::Value(operation.value(
+            width, v,
+        ))),
+        Redex::Binary(line, operation, width, x, y) => operate(line, operation.value(width, x, y)),
+        Redex::Store(width, place, destination) => write(
+            width,
+            place,
+            u32::from(destination.value()),
+            After::Stored(destination),
+        ),
+        Redex::Input(width, port) => Action::Touch(Access::Input(width, port), After::Value),
+        Redex::Output(width, port, destination) => {
+            Action::Touch(
+                Access::Output(width, port, width.low(u32::from(destination.value()))),
+                After::Stored(destination),
+            )
+        }
+        Redex::Ended => Action::Silent(Focus::Value(0)),
+        Redex::Given(v) => Action::Silent(Focus::Value(v)),
+        Redex::Empty | Redex::Leaving => Action::Silent(Focus::Statements(&[])),
+        Redex::Return => Action::Silent(Focus::Returned(0)),
+        Redex::ReturnValue(width, v) => Action::Silent(Focus::Returned(width.low(u32::from(v)))),
+        Redex::Enable => Action::Enable,
+        Redex::Disable => Action::Disable,
+        Redex::Halt => Action::Halt,
+        Redex::If(v, taken, other) => Action::Silent(arm(v, taken, other)),
+        Redex::Block(body) => Action::Silent(Focus::Within(Later::Leaving, body)),
+        Redex::While(v, condition, body) => Action::Silent(repeat(v, condition, body)),
+        Redex::Case(v, cases) => Action::Silent(choose(v, cases)),
+        Redex::Iterate(v, rounds) => write(
+            rounds.index.width,
+            rounds.index.place,
+            u32::from(v),
+            After::Round(rounds),
+        ),
+        Redex::Round(rounds) => Action::Touch(
+            Access::Read(rounds.index.width, rounds.index.place),
+            After::Compare(rounds),
+        ),
+        Redex::Comparing(index, bound, rounds) => Action::Silent(compare(index, bound, rounds)),
+        Redex::Stepping(step, rounds) => Action::Touch(
+            Access::Read(rounds.index.width, rounds.index.place),
+            After::Add(step, rounds),
+        ),
+        Redex::Adding(index, step, rounds) => Action::Silent(Focus::Ready(Redex::Storing(
+            u32::from(index) + u32::from(step),
+            rounds,
+        ))),
+        Redex::Storing(sum, rounds) => write(
+            rounds.index.width,
+            rounds.index.place,
+            sum,
+            After::End(sum, rounds),
+        ),
+        Redex::Ending(sum, rounds) => Action::Silent(end_round(sum, rounds)),
+    }
+}
+
+// The next parameter gets its value, or the body begins.
+fn pass<'a>(
+    parameters: &[Scalar],
+    values: &[u16],
+    done: usize,
+    body: &'a [Box<Statement>],
+) -> Action<'a>
+    ensures step { (n : ℕ) (ps : List Blocks) (f : Focus) → passed_part ps f ≡ Expr (Stored n (drop 1 (map scalar_of parameters.now)) (drop (done + 1) values.now)) → action_of ps f result ≡ map_action Expr (next_passing n (map scalar_of parameters.now) (drop done values.now) (statements_of body.now)) }
+    ensures going { IsStep result }
+{
+    match parameters.split_first() {
+        None => Action::Silent(Focus::Entering(body)),
+        Some((x, _)) => match values.get(done) {
+            None => Action::Silent(Focus::Entering(body)),
+            Some(v) => write(x.width, x.place, u32::from(*v), After::Passed),
+        },
+    }
+}
+
+/// What a settled context does next.
+#[tactic(auto, using(crate::proofs::Steps::whole_step))]
+pub fn next_action<'a>(context: &Context<'a>, around: Surroundings<'a>) -> Action<'a>
+    requires { IsSettled context.now.focus context.now.frames.items }
+    ensures action { map_action (todo_in context.now.frames.items) (action_of (procedures_in around.entry) context.now.focus result) ≡ next_statements (offsets_of around.entry) (sizes_of around.entry) (procedures_in around.entry) (todo_of context.now) }
+    ensures end { SaysEnd result (todo_of context.now) }
+    ensures halts { HasHalted result context.now.frames.items }
+    ensures fits { FitsIn result }
+{
+    match &context.focus {
+        Focus::Ready(redex) => redex_step(around, *redex),
+        Focus::Call(p, values) => {
+            let (parameters, body) = around.procedure(*p);
+            pass(parameters, values, 0, body)
+        }
+        Focus::Passing(p, parameters, values, done) => pass(
+            parameters,
+            values,
+            *done,
+            around.procedure(*p).1,
+        ),
+        Focus::Returned(_) => Action::Returned,
+        _ => Action::Ended,
+    }
+}
+
+/// What main does next, once it is settled: at its end it halts again and again.
+pub fn main_action<'a>(context: &Context<'a>, around: Surroundings<'a>) -> Action<'a>
+    requires { IsSettled context.now.focus context.now.frames.items }
+    ensures action { next (offsets_of around.entry) (sizes_of around.entry) (procedures_in around.entry) (Main (todo_of context.now)) ≡ map_action Main (context_action around.entry context.now result) }
+    ensures fits { FitsIn result }
+{
+    match next_action(context, around) {
+        Action::Ended => Action::Halt,
+        other => other,
+    }
+}
+
+/// What an interrupt procedure does next, once it is settled: it is used up at its end, or by RETURN.
+pub fn handler_action<'a>(context: &Context<'a>, around: Surroundings<'a>) -> Action<'a>
+    requires { IsSettled context.now.focus context.now.frames.items }
+    ensures action { next (offsets_of around.entry) (sizes_of around.entry) (procedures_in around.entry) (Handler (todo_of context.now)) ≡ map_action Handler (context_action around.entry context.now result) }
+    ensures fits { FitsIn result }
+{
+    next_action(context, around)
+}
+
+// A parameter has its value.
+fn passed<'a>(focus: Focus<'a>, around: Surroundings<'a>) -> Focus<'a>
+    ensures { part_of result ≡ passed_part (procedures_in around.entry) focus.entry }
+{
+    match focus {
+        Focus::Call(p, values) => {
+            let (parameters, _) = around.procedure(p);
+            let others = match parameters.split_first() {
+                None => parameters,
+                Some((_, others)) => others,
+            };
+            Focus::Passing(p, others, values, 1)
+        }
+        Focus::Passing(p, parameters, values, done) => match parameters.split_first() {
+            None => Focus::Passing(p, parameters, values, done.saturating_add(1)),
+            Some((_, others)) => Focus::Passing(p, others, values, done.saturating_add(1)),
+        },
+        other => other,
+    }
+}
+
+/// Goes on with the answer of an access.
+pub fn answered<'a>(
+    context: &mut Context<'a>,
+    around: Surroundings<'a>,
+    after: After<'a>,
+    answer: u16,
+)
+    ensures { todo_of context.new ≡ todo_in context.old.frames.items (after_part (procedures_in around.entry) context.old.focus after.entry answer) }
+{
+    match after {
+        After::Value => context.focus = Focus::Value(answer),
+        After::Based(purpose, line, offset) => context.focus = Focus::Ready(Redex::Refer(
+            purpose,
+            line,
+            Origin::There(answer),
+            offset,
+        )),
+        After::Stored(destination) => context.focus = destination.stored(),
+        After::Round(rounds) => context.focus = Focus::Ready(Redex::Round(rounds)),
+        After::Compare(rounds) => context.focus = Focus::Bound(answer, rounds),
+        After::Add(step, rounds) => context.focus = Focus::Ready(Redex::Adding(
+            answer, step, rounds,
+        )),
+        After::End(sum, rounds) => context.focus = Focus::Ready(Redex::Ending(sum, rounds)),
+        After::Passed => {
+            let focus = mem::replace(&mut context.focus, Focus::Value(0));
+            context.focus = passed(focus, around);
+        }
+    }
+}
