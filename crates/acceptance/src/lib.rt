@@ -8,6 +8,8 @@ mod flags;
 #[cfg(test)]
 mod literals;
 #[cfg(test)]
+mod meaning;
+#[cfg(test)]
 mod names;
 #[cfg(test)]
 mod processor;
