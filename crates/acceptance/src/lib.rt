@@ -18,6 +18,8 @@ mod syntax;
 #[cfg(test)]
 mod tokens;
 #[cfg(test)]
+mod typed_trees;
+#[cfg(test)]
 mod types;
 #[cfg(test)]
 mod warnings;

@@ -1,12 +1,12 @@
-//! Small texts: where their types are refused, what they are typed as, and what they warn of.
+//! Small texts: where their types are refused.
 
 use plm_decl::resolve;
 use plm_syntax::parse;
 use plm_token::scan;
-use plm_type::{Anchor, Expression, Place, Program, Statement, Target, check};
+use plm_type::{Program, check};
 use std::alloc::Global;
 use std::process::Abort;
-use word86::{BinaryOperation, Fault, Number, UnaryOperation, Width};
+use word86::{Fault, Number};
 
 /// How a program is typed: fine, or the module, the line and the fault.
 type Outcome = Option<(u32, u32, Number)>;
@@ -21,7 +21,8 @@ fn outcome(checked: Result<Program, Fault>) -> Outcome {
     }
 }
 
-fn program_of(alloc: Global, text: &[u8]) -> Result<Program, Fault> {
+/// The program of one module.
+pub fn program_of(alloc: Global, text: &[u8]) -> Result<Program, Fault> {
     let tree = parse(alloc, scan(alloc, text)?)?;
     check(alloc, resolve(alloc, &[tree])?)
 }
@@ -714,148 +715,4 @@ fn least_fault(rt: HostRuntime) {
         outcome(program_of_two(alloc, there, back)),
         at(2, Number::E404)
     );
-}
-
-/// Main's only statement.
-fn only(program: &Program) -> Option<&Statement> {
-    match program.main() {
-        [statement] => Some(statement.as_ref()),
-        _ => None,
-    }
-}
-
-#[test]
-fn trees_show_types(rt: HostRuntime) {
-    let alloc = rt.alloc();
-    let sum: &[u8] = b"M: DO; DECLARE B BYTE, W WORD; OUTPUT(1) = B + B * 2 - W = 3; END M;";
-    let Ok(program) = program_of(alloc, sum) else {
-        panic!(rt; "it is typed");
-    };
-    let Some(Statement::Assign(Target::Port(Width::Byte, Expression::Constant(1)), others, value)) =
-        only(&program) else {
-        panic!(rt; "one assignment to a port");
-    };
-    assert!(rt; others.is_empty());
-    let Expression::Chain(first, operations) = value else {
-        panic!(rt; "a chain of operators");
-    };
-    assert!(rt;
-        matches!(
-            first.as_ref(),
-            Expression::Plain(Width::Byte, Place::Ram(0, 0))
-        )
-    );
-    let [add, subtract, equal] = operations.as_slice() else {
-        panic!(rt; "three operators");
-    };
-    assert_eq!(rt; add.operation, BinaryOperation::Add);
-    assert_eq!(rt; add.width, Width::Word);
-    assert_eq!(rt; subtract.width, Width::Word);
-    assert_eq!(rt; equal.operation, BinaryOperation::Equal);
-    assert_eq!(rt; equal.width, Width::Byte);
-}
-
-#[test]
-fn trees_show_widths(rt: HostRuntime) {
-    let alloc = rt.alloc();
-    let rows: [(&[u8], Option<Width>); 9] = [
-        (
-            b"M: DO; DECLARE (A, B) BYTE; A = A + B; END M;",
-            Some(Width::Byte),
-        ),
-        (
-            b"M: DO; DECLARE (A, B) BYTE; A = A * B; END M;",
-            Some(Width::Word),
-        ),
-        (
-            b"M: DO; DECLARE (A, B) BYTE; A = A / B; END M;",
-            Some(Width::Byte),
-        ),
-        (
-            b"M: DO; DECLARE (A, B) BYTE; A = A MOD 256; END M;",
-            Some(Width::Word),
-        ),
-        (
-            b"M: DO; DECLARE (A, B) WORD; A = A < B; END M;",
-            Some(Width::Byte),
-        ),
-        (
-            b"M: DO; DECLARE (A, B) BYTE; A = SHL(A, 256); END M;",
-            Some(Width::Byte),
-        ),
-        (
-            b"M: DO; DECLARE (A, B) WORD; A = ROR(A, 1); END M;",
-            Some(Width::Word),
-        ),
-        (
-            b"M: DO; DECLARE A (256) BYTE, W WORD; W = LENGTH(A) + 1; END M;",
-            Some(Width::Word),
-        ),
-        (
-            b"M: DO; DECLARE A (256) BYTE, W WORD; W = LAST(A) + 1; END M;",
-            Some(Width::Byte),
-        ),
-    ];
-    for (text, wanted) in rows {
-        let Ok(program) = program_of(alloc, text) else {
-            panic!(rt; "it is typed");
-        };
-        let width = match only(&program) {
-            Some(Statement::Assign(_, _, Expression::Chain(_, operations))) => {
-                operations.first().map(|operation| operation.width)
-            }
-            _ => None,
-        };
-        assert_eq!(rt; width, wanted, "in {text:?}");
-    }
-}
-
-#[test]
-fn trees_show_places(rt: HostRuntime) {
-    let alloc = rt.alloc();
-    let text: &[u8] =
-        b"M: DO; DECLARE X WORD, S(3) STRUCTURE (A BYTE, B(2) WORD), P WORD, V BASED P BYTE;\n\nV = S(X).B(1); END M;";
-    let Ok(program) = program_of(alloc, text) else {
-        panic!(rt; "it is typed");
-    };
-    let Some(
-        Statement::Assign(
-            Target::Variable(Width::Byte, stored),
-            _,
-            Expression::Variable(Width::Word, read),
-        ),
-    ) = only(&program) else {
-        panic!(rt; "an assignment of a variable to a variable");
-    };
-    assert_eq!(rt; stored.anchor, Anchor::Based(Place::Ram(2, 0)));
-    assert_eq!(rt; stored.line.line, 3);
-    assert_eq!(rt; read.anchor, Anchor::Ram(1, 0, 15));
-    assert_eq!(rt; read.offset, 1);
-    let [outer, inner] = read.subscripts.as_slice() else {
-        panic!(rt; "two subscripts");
-    };
-    assert_eq!(rt; outer.stride, 5);
-    assert!(rt;
-        matches!(
-            &outer.index,
-            Expression::Plain(Width::Word, Place::Ram(0, 0))
-        )
-    );
-    assert_eq!(rt; inner.stride, 2);
-    assert!(rt; matches!(&inner.index, Expression::Constant(1)));
-}
-
-#[test]
-fn handlers(rt: HostRuntime) {
-    let alloc = rt.alloc();
-    let text: &[u8] =
-        b"M: DO; H: PROCEDURE INTERRUPT 8; HALT; ; END H; K: PROCEDURE INTERRUPT 255; RETURN; END K; ; END M;";
-    let Ok(program) = program_of(alloc, text) else {
-        panic!(rt; "it is typed");
-    };
-    assert_eq!(rt; program.handler(7).len(), 0);
-    assert_eq!(rt; program.handler(8).len(), 2);
-    assert_eq!(rt; program.handler(255).len(), 1);
-    assert_eq!(rt; program.procedures().len(), 2);
-    assert_eq!(rt; program.names().procedures.len(), 2);
 }
