@@ -1,5 +1,5 @@
 -- One text after another, for a sink that may fail.
-use Rattle.std.proofs.Common.{◌≡◌, ◌∙◌, ◌++◌, [], ℕ, List, Option, Result, Ok, Err, ap, sym, refl, append_assoc, append-nil, subst, drop, drop-cons, get_or, suc, length, ◌<◌, ◌+◌, arith}
+use Rattle.std.proofs.Common.{◌≡◌, ◌∙◌, ◌++◌, [], ℕ, List, Option, Result, Ok, Err, ap, sym, refl, append_assoc, append-nil, subst, drop, drop-cons, get_or, suc, length, ◌<◌, ◌+◌, ◌∷◌, arith}
 use Rattle.std.specs.Prelude.{map}
 use Rattle.std.proofs.KnownBytes.{Appends-trans, Appends-nil}
 use Rattle.word86.specs.declared.label.Label.{Label}
@@ -21,6 +21,12 @@ pub writes_after : {T E : Type 0} (a b c : Option (List ℕ)) (m n k : ℕ) (s t
     → Appends a b s × (n ≡ m) → Writes b c n k t r → Writes a c m k (s ++ t) r
 writes_after a b c m n k s t (Ok x) first h = (Appends-trans a b c s t first.0 h.0, h.1 ∙ first.1)
 writes_after a b c m n k s t (Err x) first h = (cut_after a b c s t first.0 h.0, rw (sym first.1) h.1)
+
+-- no events and no labels have no lines
+pub nothing_written : (a : Option (List ℕ)) (es : List Event) (ls : List Label) → length es ≡ 0 → length ls ≡ 0 → Appends a a (lines (map event_label es) ++ lines ls ++ [])
+nothing_written a [] [] e f = Appends-nil a
+nothing_written a (x ∷ es) ls e f = absurd (omega (arith, e))
+nothing_written a [] (x ∷ ls) e f = absurd (omega (arith, f))
 
 -- what was taken of a list of texts, so far: so many of them, whole
 pub record Took (old new : Option (List ℕ)) (before after : ℕ) (whole left : List ℕ) : Type 0 where

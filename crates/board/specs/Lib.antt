@@ -9,4 +9,5 @@ pub mod ShownBoard
 pub mod Text
 pub mod Runs
 pub mod ShownRuns
+pub mod Steps
 pub mod Spelling

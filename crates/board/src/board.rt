@@ -40,6 +40,7 @@ fn is_rom_length(length: usize) -> bool
     length == 8192 || length == 16384 || length == 32768 || length == 65536
 }
 
+#[inline(always)]
 fn befall_all(attached: &mut Attached, events: &[Event])
     ensures { world_of attached.new ≡ befalls (board_meaning settled_chips) (befall settled_chips) events.now (world_of attached.old) }
 {
@@ -91,6 +92,7 @@ impl Board {
     }
 
     /// The same turn, with the processor's labels left in `labels`, in place of those that were there.
+    #[inline(always)]
     pub(crate) fn turn_into(&mut self, events: &[Event], labels: &mut ArrayVec<Label, 4>) -> Kind
         ensures state { (b : State (World ChipState)) → Shows self.old b → Shows self.new (turn (board_meaning board_chips) (befall board_chips) events.now b).0 }
         ensures labels { (b : State (World ChipState)) → Shows self.old b → map event_label events.now ++ labels.new.items ≡ (turn (board_meaning board_chips) (befall board_chips) events.now b).1 }

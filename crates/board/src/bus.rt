@@ -1,15 +1,15 @@
 //! What the processor sees of the board.
 
-ghost use Rattle.std.specs.Prelude.{◌≡◌, ◌++◌};
+ghost use Rattle.std.specs.Prelude.{◌≡◌, ◌++◌, ◌<◌};
 ghost use Rattle.ppi_kbd.specs.Chips.{ChipState};
-ghost use Rattle.board.specs.World.{World, board_meaning, put};
+ghost use Rattle.board.specs.World.{World, board_meaning, put, shown_store};
 ghost use Rattle.board.specs.Settled.{chips_of, settled_chips};
 ghost use Rattle.board.specs.ShownBoard.{world_of};
 ghost use Rattle.board.specs.MemoryLaws.{load_after_store_law, ports_law};
 
 use crate::attached::Attached;
 use crate::chips::{acknowledge, is_requested, read_port, write_port};
-use crate::regions::{SCREEN_START, byte_in, put, shown_store};
+use crate::regions::{RAM_SIZE, SCREEN_START, byte_in, put, shown_store};
 use cpu8086::{Bus, Store};
 use word86::{Label, Width};
 
@@ -23,6 +23,35 @@ impl Attached {
     {
         put(self.ram.as_mut_slice(), 0, address, value);
         put(self.screen.as_mut_slice(), SCREEN_START, address, value);
+    }
+
+    /// Stores a byte in RAM, as most stores do: the screen is not looked at.
+    #[tactic(auto, using(crate::proofs::Stores::below_screen))]
+    #[inline(always)]
+    fn put_in_ram(&mut self, address: u32, value: u8)
+        requires { address < 131072 }
+        ensures ram { self.new.ram.items ≡ put 0 self.old.ram.items address value }
+        ensures screen { self.new.screen.items ≡ put 0xB8000 self.old.screen.items address value }
+        ensures rom { self.new.rom ≡ self.old.rom }
+        ensures ports { self.new.ports ≡ self.old.ports }
+    {
+        put(self.ram.as_mut_slice(), 0, address, value);
+    }
+
+    /// A store anywhere, and the label that shows it.
+    #[inline(never)]
+    fn store_anywhere(&mut self, store: Store) -> Option<Label>
+        ensures label { result ≡ shown_store store }
+        ensures after { world_of self.new ≡ (board_meaning settled_chips).store (world_of self.old) store }
+    {
+        match store {
+            Store::Byte { address, value } => self.put(address, value),
+            Store::Word { low, high, value } => {
+                self.put(low, (value % 256) as u8);
+                self.put(high, (value / 256) as u8);
+            }
+        }
+        shown_store(store)
     }
 }
 
@@ -47,26 +76,32 @@ impl Bus for Attached {
     }
 
     fn window(&self, address: u32) -> Option<&[u8]> {
-        let place = address as usize;
-        if place + 8 <= self.ram.len() {
-            return Some(&self.ram[place..place + 8]);
-        }
         if self.rom_start <= address {
             let place = (address - self.rom_start) as usize;
             return Some(&self.rom[place..place + 8]);
         }
+        let place = address as usize;
+        if place + 8 <= self.ram.len() {
+            return Some(&self.ram[place..place + 8]);
+        }
         None
     }
 
+    #[tactic(auto, using(crate::proofs::Stores::unseen_byte, crate::proofs::Stores::unseen_word))]
+    #[inline(always)]
     fn store(&mut self, store: Store) -> Option<Label> {
         match store {
-            Store::Byte { address, value } => self.put(address, value),
-            Store::Word { low, high, value } => {
-                self.put(low, (value % 256) as u8);
-                self.put(high, (value / 256) as u8);
+            Store::Byte { address, value } if address < RAM_SIZE => {
+                self.put_in_ram(address, value);
+                None
             }
+            Store::Word { low, high, value } if low < RAM_SIZE && high < RAM_SIZE => {
+                self.put_in_ram(low, (value % 256) as u8);
+                self.put_in_ram(high, (value / 256) as u8);
+                None
+            }
+            _ => self.store_anywhere(store),
         }
-        shown_store(store)
     }
 
     fn port_in(&mut self, width: Width, port: u16) -> u16 {

@@ -18,6 +18,3 @@ pub use board::Board;
 pub use laws::schedule_law;
 pub use run::End;
 pub use schedule::{Schedule, read_schedule};
-
-#[cfg(test)]
-mod tests;

@@ -6,6 +6,9 @@ ghost use Rattle.board.specs.World.{lies_in, put, shown_store, screen_at, is_on_
 use cpu8086::Store;
 use word86::Label;
 
+/// How many bytes RAM has, from address 0 on.
+pub(crate) const RAM_SIZE: u32 = 0x2_0000;
+
 /// The address of the screen's first byte.
 pub(crate) const SCREEN_START: u32 = 0xB_8000;
 

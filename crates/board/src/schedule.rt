@@ -1,6 +1,6 @@
 //! Schedules: what comes from outside at which turn, and when the run stops.
 
-ghost use Rattle.std.specs.Prelude.{◌≡◌, ◌≢◌, ◌<◌, ◌≤◌, ℕ, [], IfOk, IfErr, Some};
+ghost use Rattle.std.specs.Prelude.{◌≡◌, ◌≢◌, ◌<◌, ℕ, [], IfOk, IfErr, Some};
 ghost use Rattle.word86.specs.declared.fault.Fault.TheVariants.{Memory};
 ghost use Rattle.board.specs.Due.{due_at};
 ghost use Rattle.board.specs.Schedules.{read_lines, IsRead, fault_of};
@@ -40,18 +40,11 @@ impl Schedule {
         self.timetable.due(turn)
     }
 
-    /// The events of this turn, for turns one after another: below `quiet` no turn from this one on has any, and so no search
-    /// is made. It is moved on.
-    pub(crate) fn due_next(&self, turn: u32, quiet: &mut u32) -> &[Event]
-        requires { (t : ℕ) → turn ≤ t → t < quiet.old → due_at t self.now.timetable.turns.items self.now.timetable.events.items ≡ [] }
-        ensures due { result.now ≡ due_at turn self.now.timetable.turns.items self.now.timetable.events.items }
-        ensures quiet { (t : ℕ) → turn < t → t < quiet.new → due_at t self.now.timetable.turns.items self.now.timetable.events.items ≡ [] }
+    /// The first turn behind this one that has events, or the greatest number: between the two no turn has any.
+    pub(crate) fn next_turn(&self, turn: u32) -> u32
+        ensures { (t : ℕ) → turn < t → t < result → due_at t self.now.timetable.turns.items self.now.timetable.events.items ≡ [] }
     {
-        if turn < *quiet {
-            return &[];
-        }
-        *quiet = self.timetable.next_turn(turn);
-        self.timetable.due(turn)
+        self.timetable.next_turn(turn)
     }
 }
 

@@ -6,6 +6,3 @@ mod numerals;
 mod pieces;
 
 pub use lines::{fault_line, trace_line};
-
-#[cfg(test)]
-mod tests;

@@ -44,9 +44,9 @@ fn put_label<S: Sink>(label: &Label, sink: &mut S) -> Result<(), SinkFault>
         Label::In(port, v) => put_byte_line(sink, b"IN ", port, v),
         Label::InW(port, v) => put_word_line(sink, b"INW ", port, v),
         Label::Out(port, v) => put_whole_line(sink, b'O', b'U', b'T', port, v),
-        Label::OutW(port, v) => put_word_line(sink, b"OUTW ", port, v),
+        Label::OutW(port, v) => put_whole_word_line(sink, b'O', b'U', b'T', b'W', port, v),
         Label::Scr(place, v) => put_whole_line(sink, b'S', b'C', b'R', place, v),
-        Label::ScrW(place, v) => put_word_line(sink, b"SCRW ", place, v),
+        Label::ScrW(place, v) => put_whole_word_line(sink, b'S', b'C', b'R', b'W', place, v),
         Label::Ack(n) => put_short_line(sink, b"ACK ", n),
         Label::Tick(k) => put_decimal_line(sink, b"TICK ", u32::from(k)),
         Label::Key(h) => put_short_line(sink, b"KEY ", h),
@@ -88,6 +88,26 @@ fn put_whole_line<S: Sink>(
     let [a, b, c, d] = hex_word(place);
     let [e, f] = hex_byte(v);
     let line = [first, second, third, b' ', a, b, c, d, b' ', e, f, b'\n'];
+    put_all(sink, &line)
+}
+
+/// The same of a word of four letters and a value of a word.
+fn put_whole_word_line<S: Sink>(
+    sink: &mut S,
+    first: u8,
+    second: u8,
+    third: u8,
+    fourth: u8,
+    place: u16,
+    v: u16,
+) -> Result<(), SinkFault>
+    ensures { Writes (S.taken sink.old) (S.taken sink.new) (S.failures sink.old) (S.failures sink.new) (word_line (first ∷ second ∷ third ∷ fourth ∷ 32 ∷ []) place v) result }
+{
+    let [a, b, c, d] = hex_word(place);
+    let [e, f, g, h] = hex_word(v);
+    let line = [
+        first, second, third, fourth, b' ', a, b, c, d, b' ', e, f, g, h, b'\n',
+    ];
     put_all(sink, &line)
 }
 

@@ -12,6 +12,3 @@ mod registers;
 
 pub use calls::{Call, Reply, highest_law, next_law, replay, sets_law};
 pub use pic::Pic;
-
-#[cfg(test)]
-mod tests;

@@ -16,6 +16,3 @@ mod pit;
 pub use calls::{Call, Reply, pulse_agrees, replay};
 pub use channel::{Channel, Segments};
 pub use pit::Pit;
-
-#[cfg(test)]
-mod tests;

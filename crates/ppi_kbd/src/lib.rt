@@ -12,6 +12,3 @@ mod ppi;
 
 pub use calls::{Call, Reply, bounds_law, replay};
 pub use ports::Ports;
-
-#[cfg(test)]
-mod tests;

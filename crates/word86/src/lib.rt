@@ -23,6 +23,3 @@ pub use operation::{BinaryOperation, UnaryOperation};
 pub use power_on::{PowerOn, RAM_LENGTH, SCREEN_LENGTH};
 pub use sink::{CutSink, Sink, SinkFault, WriterSink, put_all};
 pub use width::Width;
-
-#[cfg(test)]
-mod tests;

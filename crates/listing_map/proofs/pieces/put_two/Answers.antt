@@ -1,5 +1,4 @@
-use Rattle.std.proofs.Common.{◌≡◌, ◌∙◌, ◌++◌, ℕ, List, ap, sym, rules, append_assoc, decimal}
-use Rattle.listing_map.proofs.Writing.{cut_longer, writes_after}
+use Rattle.listing_map.proofs.Writing.{writes_after}
 use Rattle.listing_map.proofs.pieces.put_two.Goals as goal
 
 pub returns : goal.returns

@@ -6,12 +6,12 @@ use Rattle.board.proofs.bus.AttachedBus.window.Goals as goal
 
 pub returns-then-place-len : goal.returns-then-place-len
 returns-then-place-len c =
-    rw c.deref.ensures.value (ram_window settled_chips (world_of c.args.self.now) c.args.address (omega (arith, c.if-place-len.true, c.len.ensures)))
+    rw c.deref-then-place-len.ensures.value (ram_window settled_chips (world_of c.args.self.now) c.args.address (omega (arith, c.if-place-len.true, c.len.ensures)))
 
 pub returns-then-self-address : goal.returns-then-self-address
 returns-then-self-address c =
     let a = c.args.self.now in
-    rw c.deref-then-self-address.ensures.value
+    rw c.deref.ensures.value
     (rom_window settled_chips (world_of a) c.args.address (c.args.address - a.rom_start) a.rom_start (omega (arith, c.if-self-address.true)) (omega (arith, a.rom_ends))
     (omega (arith, a.ram_is_whole, a.rom_is_high, c.if-self-address.true))
     (omega (arith, a.screen_is_whole, a.rom_is_high, c.if-self-address.true))

@@ -1,9 +1,6 @@
 //! Schedules whose answers the format's rules give.
 
-mod machine;
-mod roms;
-
-use super::*;
+use board::read_schedule;
 use std::test::Fail;
 use word86::{Event, Fault, Number};
 

@@ -1,6 +1,6 @@
 //! Rows from the data sheets, worked by hand.
 
-use super::*;
+use ppi_kbd::{Call, Ports, Reply, replay};
 use std::test::Fail;
 use word86::Event;
 

@@ -1,6 +1,6 @@
 //! Rows from the data sheet, worked by hand.
 
-use super::*;
+use pit8253::{Call, Pit, Reply, Segments, pulse_agrees, replay};
 use std::test::Fail;
 
 /// A chip at reset after these writes.

@@ -1,7 +1,7 @@
 //! ROMs made by hand, with the traces that the manuals and the formats give.
 
-use super::roms::*;
-use crate::{Board, End, read_schedule};
+use crate::board_roms::*;
+use board::{Board, End, read_schedule};
 use bstr::ByteSlice;
 use std::alloc::Global;
 use std::process::Abort;

@@ -1,7 +1,10 @@
 //! What no clause says: that calls succeed, and values from the language manual's own examples.
 
-use super::*;
 use std::test::Fail;
+use word86::{
+    CutSink, Event, Fault, Label, Number, PowerOn, RAM_LENGTH, SCREEN_LENGTH, SinkFault, Width,
+    WriterSink, add8, add16, div16, mul16, put_all, put_word, rol, ror, shl, shr, sub16, word_at,
+};
 
 #[test]
 fn wraps_to_the_width(rt: HostRuntime) {

@@ -1,6 +1,6 @@
 //! Rows from the data sheet, worked by hand.
 
-use super::*;
+use pic8259::{Call, Pic, Reply, replay};
 use std::test::Fail;
 
 /// A chip in 8086 mode with vectors from 8 on; `automatic` chooses the end of interrupt.

@@ -1,6 +1,6 @@
 //! The printed texts, whose forms users rely on.
 
-use super::*;
+use listing_map::{fault_line, trace_line};
 use std::test::Fail;
 use word86::{CutSink, Fault, Label, Number};
 
