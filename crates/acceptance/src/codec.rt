@@ -96,6 +96,6 @@ fn forms(rt: HostRuntime) {
     one_form();
     instruction_fits(Instr::Nop);
     let form = Form::of(Instr::Return);
-    assert!(rt; form.instruction() == Some(Instr::Return));
+    assert!(rt; matches!(form.instruction(), Some(Instr::Return)));
     assert!(rt; form.opcode.byte() == 0xC3);
 }

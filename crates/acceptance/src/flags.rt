@@ -559,13 +559,9 @@ fn registers(rt: HostRuntime) {
     assert_eq!(rt; regs.flags().bits(), 0x790);
     assert_eq!(rt; (sign_extended(0x80), sign_word(0x7FFF)), (0xFF80, 0));
     let operands: Operands<Register8, u8> = Operands::Immediate(Place::Register(Register8::Cl), 1);
-    assert!(rt; operands.target() == Place::Register(Register8::Cl));
+    assert!(rt; matches!(operands.target(), Place::Register(Register8::Cl)));
     let words = WordPair::of(Register16::Dx, Register16::Ax);
-    assert!(rt;
-        words == WordPair::of(Register16::Ax, Register16::Dx) && words.first == Register16::Ax
-    );
+    assert!(rt; words.first == Register16::Ax && words.second == Register16::Dx);
     let bytes = BytePair::of(Register8::Al, Register8::Bh);
-    assert!(rt;
-        bytes == BytePair::of(Register8::Bh, Register8::Al) && bytes.second == Register8::Bh
-    );
+    assert!(rt; bytes.first == Register8::Al && bytes.second == Register8::Bh);
 }

@@ -1,4 +1,5 @@
-//! The tests that cross crates: what becomes of texts, and of encodings, instructions and ROMs that others made, by public calls alone.
+//! The tests, by public calls alone: what becomes of texts, encodings, instructions, ROMs and schedules that others made, and rows from
+//! the data sheets worked by hand. They stand in a crate on top, so that each crate below is checked once.
 #![tactic(auto)]
 
 #[cfg(test)]

@@ -1,6 +1,6 @@
 //! The board: a processor with memory and chips, and its turns.
 
-ghost use Rattle.std.specs.Prelude.{◌≡◌, ◌++◌, true, false, length, map, IfOk, IfErr, Err};
+ghost use Rattle.std.specs.Prelude.{◌≡◌, ◌++◌, [], true, false, length, map, IfOk, IfErr, Err};
 ghost use Rattle.word86.specs.declared.fault.Fault.TheVariants.{Memory, At};
 ghost use Rattle.word86.specs.declared.number.Number.TheVariants.{E705};
 ghost use Rattle.word86.specs.Events.{event_label};
@@ -87,19 +87,20 @@ impl Board {
         ensures kind { (b : State (World ChipState)) → Shows self.old b → result.kind ≡ turn_kind (board_meaning board_chips) (befall board_chips) events.now b }
     {
         let mut labels = ArrayVec::new();
-        let kind = self.turn_into(events, &mut labels);
+        let kind = self.turn_onto(events, &mut labels);
         Turn { labels, kind }
     }
 
-    /// The same turn, with the processor's labels left in `labels`, in place of those that were there.
+    /// The same turn, with the processor's labels left in `labels`, which is handed in empty.
     #[inline(always)]
-    pub(crate) fn turn_into(&mut self, events: &[Event], labels: &mut ArrayVec<Label, 4>) -> Kind
+    pub(crate) fn turn_onto(&mut self, events: &[Event], labels: &mut ArrayVec<Label, 4>) -> Kind
+        requires { labels.old.items ≡ [] }
         ensures state { (b : State (World ChipState)) → Shows self.old b → Shows self.new (turn (board_meaning board_chips) (befall board_chips) events.now b).0 }
         ensures labels { (b : State (World ChipState)) → Shows self.old b → map event_label events.now ++ labels.new.items ≡ (turn (board_meaning board_chips) (befall board_chips) events.now b).1 }
         ensures kind { (b : State (World ChipState)) → Shows self.old b → result ≡ turn_kind (board_meaning board_chips) (befall board_chips) events.now b }
     {
         let attached = &mut self.attached;
         befall_all(attached, events);
-        self.cpu.turn_into(attached, &mut self.cache, labels)
+        self.cpu.turn_onto(attached, &mut self.cache, labels)
     }
 }

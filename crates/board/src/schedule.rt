@@ -42,7 +42,8 @@ impl Schedule {
 
     /// The first turn behind this one that has events, or the greatest number: between the two no turn has any.
     pub(crate) fn next_turn(&self, turn: u32) -> u32
-        ensures { (t : ℕ) → turn < t → t < result → due_at t self.now.timetable.turns.items self.now.timetable.events.items ≡ [] }
+        ensures later { turn < 4294967295 → turn < result }
+        ensures quiet { (t : ℕ) → turn < t → t < result → due_at t self.now.timetable.turns.items self.now.timetable.events.items ≡ [] }
     {
         self.timetable.next_turn(turn)
     }

@@ -67,7 +67,8 @@ impl Timetable {
     /// The first turn behind this one that has events, or the greatest number, found in logarithmic time. Between the two no
     /// turn has any.
     pub(crate) fn next_turn(&self, turn: u32) -> u32
-        ensures { (t : ℕ) → turn < t → t < result → due_at t self.now.turns.items self.now.events.items ≡ [] }
+        ensures later { turn < 4294967295 → turn < result }
+        ensures quiet { (t : ℕ) → turn < t → t < result → due_at t self.now.turns.items self.now.events.items ≡ [] }
     {
         next_in(&self.turns, turn)
     }
@@ -76,7 +77,8 @@ impl Timetable {
 // The first of the turns that is above `turn`, or the greatest number.
 fn next_in(turns: &[u32], turn: u32) -> u32
     requires { IsNonDecreasingBy (λ n. n) turns.now }
-    ensures { (t : ℕ) → turn < t → t < result → (i : ℕ) → i < length turns.now → slice_index turns.now i ≢ t }
+    ensures later { turn < 4294967295 → turn < result }
+    ensures none { (t : ℕ) → turn < t → t < result → (i : ℕ) → i < length turns.now → slice_index turns.now i ≢ t }
 {
     let next = turns.partition_point(|n| *n <= turn);
     if next < turns.len() {

@@ -10,7 +10,7 @@ use word86::{Label, Width};
 /// One access that stores, whole, with its one or two physical addresses.
 ///
 /// The second byte of a word need not be at the next address: it is at the next offset of its segment.
-#[derive(Clone, Copy, PartialEq, Eq, Debug)]
+#[derive(Clone, Copy)]
 pub enum Store {
     Byte { address: u32, value: u8 },
     Word { low: u32, high: u32, value: u16 },

@@ -8,6 +8,8 @@ ghost use Rattle.arrayvec.specs.ArrayVec.{array_vec_len};
 ghost use Rattle.cpu8086.specs.Machine.{machine};
 ghost use Rattle.cpu8086.specs.Control.{set_flag};
 ghost use Rattle.cpu8086.specs.Effect.{effect};
+ghost use Rattle.cpu8086.specs.declared.cpu.Phase.TheVariants.{Running};
+ghost use Rattle.cpu8086.specs.Turn.{phase_after};
 
 use crate::arithmetic::{
     change_in_place, compute, divide_byte, divide_word, multiply_byte, multiply_word, shift_place,
@@ -18,6 +20,7 @@ use crate::control::{
     call, call_to, count_and_jump, flag_word, jump, jump_if, jump_on, pop_flags, return_dropping,
     return_from_interrupt, return_near,
 };
+use crate::cpu::Phase;
 use crate::memory::{Labels, push};
 use crate::moves::{
     convert_byte, convert_word, exchange_bytes, exchange_with, exchange_words, input,
@@ -35,22 +38,25 @@ fn set_flag(registers: &mut Regs, flag: Flags, value: bool)
     registers.set_flag(flag, value);
 }
 
-/// Does an instruction that began at `start`; the instruction pointer is past it.
+/// Does an instruction that began at `start`, and leaves its phase; the instruction pointer is past it.
 #[tactic(auto, unfolding(crate::specs::Effect::effect))]
 #[inline(always)]
 pub(crate) fn execute<B: Bus>(
     registers: &mut Regs,
+    phase: &mut Phase,
     bus: &mut B,
     labels: &mut Labels,
     instruction: &Instr,
     start: u16,
 )
-    requires { array_vec_len labels.old ≤ 1 }
-    ensures { machine registers.new (B.world bus.new) labels.new.items
+    requires room { array_vec_len labels.old ≤ 1 }
+    requires running { phase.old ≡ Running }
+    ensures phase { phase.new ≡ phase_after instruction.now }
+    ensures after { machine registers.new (B.world bus.new) labels.new.items
         ≡ effect B.meaning instruction.now start (machine registers.old (B.world bus.old) labels.old.items) }
 {
     match instruction {
-        Instr::Nop | Instr::Halt => {}
+        Instr::Nop => {}
         Instr::AluByte(operation, operands) => compute(
             registers, bus, labels, *operation, operands,
         ),
@@ -140,8 +146,12 @@ pub(crate) fn execute<B: Bus>(
         Instr::ClearCarry => set_flag(registers, Flags::CARRY, false),
         Instr::SetCarry => set_flag(registers, Flags::CARRY, true),
         Instr::DisableInterrupts => set_flag(registers, Flags::INTERRUPT, false),
-        Instr::EnableInterrupts => set_flag(registers, Flags::INTERRUPT, true),
+        Instr::EnableInterrupts => {
+            set_flag(registers, Flags::INTERRUPT, true);
+            *phase = Phase::AfterSti;
+        }
         Instr::ClearDirection => set_flag(registers, Flags::DIRECTION, false),
         Instr::SetDirection => set_flag(registers, Flags::DIRECTION, true),
+        Instr::Halt => *phase = Phase::Halted,
     }
 }

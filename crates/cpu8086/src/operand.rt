@@ -12,7 +12,7 @@ use i86_table::{Memory, Operands, Place, Register8, Register16, Regs, TestMask};
 use word86::Width;
 
 /// Where an operand lies: in a register, or at a segment's value and an offset.
-#[derive(Clone, Copy, PartialEq, Eq, Debug)]
+#[derive(Clone, Copy)]
 pub(crate) enum Spot<R> {
     Register(R),
     Memory { segment: u16, offset: u16 },

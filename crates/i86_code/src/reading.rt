@@ -1,7 +1,7 @@
 //! Reading a form from the front of bytes.
 
-ghost use Rattle.std.specs.Prelude.{◌≡◌, ◌<◌, option_map, List, ℕ};
-ghost use Rattle.i86_code.specs.Reading.{base_at, byte_at, word_at, place_at, test_then, fields_at, segment_at, prefixes_at, form_at};
+ghost use Rattle.std.specs.Prelude.{◌≡◌, ◌<◌, option_map, true, List, ℕ};
+ghost use Rattle.i86_code.specs.Reading.{base_at, byte_at, word_at, place_at, test_then, is_addressed, fields_at, segment_at, prefixes_at, form_at};
 
 use crate::form::{Fields, Form, Layout, Opcode, Prefixes, RegisterOrMemory};
 use byteorder::{ByteOrder, LittleEndian};
@@ -129,6 +129,28 @@ fn test(width: Width, place: RegisterOrMemory, bytes: &[u8]) -> Option<(Fields, 
     }
 }
 
+/// The fields that begin with an address byte.
+#[tactic(auto, unfolding(crate::specs::Reading::fields_at))]
+fn addressed_fields(layout: Layout, bytes: &[u8]) -> Option<(Fields, &[u8])>
+    requires { is_addressed layout ≡ true }
+    ensures { option_map (λ x. (x.0, x.1.now)) result ≡ fields_at layout bytes.now }
+{
+    let (register, place, rest) = place(bytes)?;
+    match layout {
+        Layout::AddressByte => {
+            let (number, rest) = byte(rest)?;
+            Some((Fields::AddressByte(register, place, number), rest))
+        }
+        Layout::AddressWord => {
+            let (number, rest) = word(rest)?;
+            Some((Fields::AddressWord(register, place, number), rest))
+        }
+        Layout::Group(width) if register == 0 => test(width, place, rest),
+        Layout::Group(width) => Some((Fields::Unary(width, register, place), rest)),
+        _ => Some((Fields::Address(register, place), rest)),
+    }
+}
+
 #[tactic(auto, unfolding(crate::specs::Reading::fields_at))]
 fn fields(layout: Layout, bytes: &[u8]) -> Option<(Fields, &[u8])>
     ensures { option_map (λ x. (x.0, x.1.now)) result ≡ fields_at layout bytes.now }
@@ -148,27 +170,7 @@ fn fields(layout: Layout, bytes: &[u8]) -> Option<(Fields, &[u8])>
             let (second, rest) = word(rest)?;
             Some((Fields::TwoWords(first, second), rest))
         }
-        Layout::Address => {
-            let (register, place, rest) = place(bytes)?;
-            Some((Fields::Address(register, place), rest))
-        }
-        Layout::AddressByte => {
-            let (register, place, rest) = place(bytes)?;
-            let (number, rest) = byte(rest)?;
-            Some((Fields::AddressByte(register, place, number), rest))
-        }
-        Layout::AddressWord => {
-            let (register, place, rest) = place(bytes)?;
-            let (number, rest) = word(rest)?;
-            Some((Fields::AddressWord(register, place, number), rest))
-        }
-        Layout::Group(width) => {
-            let (register, place, rest) = place(bytes)?;
-            if register == 0 {
-                return test(width, place, rest);
-            }
-            Some((Fields::Unary(width, register, place), rest))
-        }
+        _ => addressed_fields(layout, bytes),
     }
 }
 

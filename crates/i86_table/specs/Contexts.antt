@@ -5,7 +5,7 @@ use Rattle.std.specs.Prelude.{ℕ, Bool, true, false, not, ◌==◌, ◌+◌, �
 use Rattle.word86.specs.declared.width.Width.{Width}
 use Rattle.word86.specs.declared.width.Width.TheVariants as widths
 use Rattle.word86.specs.Access.{Access, Where, In, Screen, Read, Write, Input, Output}
-use Rattle.word86.specs.Action.{Action, Silent, Touch, Enable, Disable, Halt, Over, Bad}
+use Rattle.word86.specs.Action.{Silent, Touch, Enable, Disable, Halt, Over, Bad}
 use Rattle.word86.specs.Following.{Offer, Does, Arms}
 use Rattle.i86_table.specs.declared.registers.Regs.{Regs}
 use Rattle.i86_table.specs.declared.registers.Register16.{Register16}

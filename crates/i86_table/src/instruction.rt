@@ -1,11 +1,14 @@
 //! The instructions, as the 8086 Family User's Manual names them: one value for each thing that a row of the table says.
 
+ghost use Rattle.std.specs.Prelude.{⊤, ◌≡◌};
+
 use crate::pairs::{BytePair, WordPair};
 use crate::registers::{LoadableSegment, Register8, Register16, Segment};
+use std::alloc::AllocError;
 use word86::Width;
 
 /// An operation on two operands, in the order of its number in an encoding.
-#[derive(Clone, Copy, PartialEq, Eq, Debug)]
+#[derive(Clone, Copy, PartialEq, Eq)]
 pub enum AluOperation {
     Add,
     Or,
@@ -18,7 +21,7 @@ pub enum AluOperation {
 }
 
 /// An operation that changes its one operand in place.
-#[derive(Clone, Copy, PartialEq, Eq, Debug)]
+#[derive(Clone, Copy, PartialEq, Eq)]
 pub enum UnaryOperation {
     Not,
     Neg,
@@ -27,7 +30,7 @@ pub enum UnaryOperation {
 }
 
 /// A shift or a rotation.
-#[derive(Clone, Copy, PartialEq, Eq, Debug)]
+#[derive(Clone, Copy, PartialEq, Eq)]
 pub enum ShiftOperation {
     Rol,
     Ror,
@@ -37,21 +40,21 @@ pub enum ShiftOperation {
 }
 
 /// How often a shift goes by one place: once, or as often as CL says.
-#[derive(Clone, Copy, PartialEq, Eq, Debug)]
+#[derive(Clone, Copy, PartialEq, Eq)]
 pub enum Count {
     One,
     Cl,
 }
 
 /// Whether a multiplication or division reads its operands as two's complement.
-#[derive(Clone, Copy, PartialEq, Eq, Debug)]
+#[derive(Clone, Copy, PartialEq, Eq)]
 pub enum Signedness {
     Unsigned,
     Signed,
 }
 
 /// When a conditional jump is taken, in the order of its number in an encoding.
-#[derive(Clone, Copy, PartialEq, Eq, Debug)]
+#[derive(Clone, Copy, PartialEq, Eq)]
 pub enum Condition {
     Overflow,
     NotOverflow,
@@ -72,7 +75,7 @@ pub enum Condition {
 }
 
 /// The registers whose sum an effective address begins with.
-#[derive(Clone, Copy, PartialEq, Eq, Debug)]
+#[derive(Clone, Copy, PartialEq, Eq)]
 pub enum Base {
     BxSi,
     BxDi,
@@ -85,7 +88,7 @@ pub enum Base {
 }
 
 /// Where an operand in memory lies in its segment.
-#[derive(Clone, Copy, PartialEq, Eq, Debug)]
+#[derive(Clone, Copy)]
 pub enum Address {
     /// A fixed offset.
     Direct(u16),
@@ -94,50 +97,80 @@ pub enum Address {
 }
 
 /// An operand in memory: its segment, an override counted in, and its place there.
-#[derive(Clone, Copy, PartialEq, Eq, Debug)]
+#[derive(Clone, Copy)]
 pub struct Memory {
     pub segment: Segment,
     pub address: Address,
 }
 
 /// A register or an operand in memory.
-#[derive(Clone, Copy, PartialEq, Eq, Debug)]
+#[derive(Copy)]
 pub enum Place<R> {
     Register(R),
     Memory(Memory),
 }
 
+impl<R: Copy> Clone for Place<R> {
+    ghost is_clone = { λ of copy. copy ≡ of };
+
+    ghost is_infallible = { λ _. ⊤ };
+
+    fn clone(&self) -> Result<Place<R>, AllocError> {
+        Ok(*self)
+    }
+}
+
 /// A target and a source, not both in memory.
-#[derive(Clone, Copy, PartialEq, Eq, Debug)]
+#[derive(Copy)]
 pub enum Operands<R, I> {
     FromRegister(Place<R>, R),
     FromMemory(R, Memory),
     Immediate(Place<R>, I),
 }
 
+impl<R: Copy, I: Copy> Clone for Operands<R, I> {
+    ghost is_clone = { λ of copy. copy ≡ of };
+
+    ghost is_infallible = { λ _. ⊤ };
+
+    fn clone(&self) -> Result<Operands<R, I>, AllocError> {
+        Ok(*self)
+    }
+}
+
 /// What TEST compares a place with.
-#[derive(Clone, Copy, PartialEq, Eq, Debug)]
+#[derive(Copy)]
 pub enum TestMask<R, I> {
     Register(R),
     Immediate(I),
 }
 
+impl<R: Copy, I: Copy> Clone for TestMask<R, I> {
+    ghost is_clone = { λ of copy. copy ≡ of };
+
+    ghost is_infallible = { λ _. ⊤ };
+
+    fn clone(&self) -> Result<TestMask<R, I>, AllocError> {
+        Ok(*self)
+    }
+}
+
 /// A port named by the instruction or by DX.
-#[derive(Clone, Copy, PartialEq, Eq, Debug)]
+#[derive(Clone, Copy)]
 pub enum Port {
     Fixed(u8),
     Dx,
 }
 
 /// Whether a string instruction stands alone or is repeated as often as CX says.
-#[derive(Clone, Copy, PartialEq, Eq, Debug)]
+#[derive(Clone, Copy, PartialEq, Eq)]
 pub enum Repeat {
     Once,
     WhileCx,
 }
 
 /// An instruction. Distances and displacements are numbers modulo 256 or 65,536, counted from the next instruction.
-#[derive(Clone, Copy, PartialEq, Eq, Debug)]
+#[derive(Clone, Copy)]
 pub enum Instr {
     /// NOP.
     Nop,

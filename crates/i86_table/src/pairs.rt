@@ -6,7 +6,7 @@ ghost use Rattle.i86_table.specs.Numbers.{byte_register_code, word_register_code
 use crate::registers::{Register8, Register16};
 
 /// Two byte registers, or one twice, the one of the lower number first.
-#[derive(Clone, Copy, PartialEq, Eq, Debug)]
+#[derive(Clone, Copy)]
 pub struct BytePair {
     pub first: Register8,
     pub second: Register8,
@@ -14,7 +14,7 @@ pub struct BytePair {
 }
 
 /// Two word registers, or one twice, the one of the lower number first.
-#[derive(Clone, Copy, PartialEq, Eq, Debug)]
+#[derive(Clone, Copy)]
 pub struct WordPair {
     pub first: Register16,
     pub second: Register16,

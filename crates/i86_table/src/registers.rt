@@ -10,7 +10,7 @@ use bitflags::Flags as _;
 use std::marker::Model;
 
 /// A word register, in the order of its number in an encoding.
-#[derive(Clone, Copy, PartialEq, Eq, Debug)]
+#[derive(Clone, Copy, PartialEq, Eq)]
 pub enum Register16 {
     Ax,
     Cx,
@@ -23,7 +23,7 @@ pub enum Register16 {
 }
 
 /// A byte register, in the order of its number in an encoding.
-#[derive(Clone, Copy, PartialEq, Eq, Debug)]
+#[derive(Clone, Copy, PartialEq, Eq)]
 pub enum Register8 {
     Al,
     Cl,
@@ -36,7 +36,7 @@ pub enum Register8 {
 }
 
 /// A segment register, in the order of its number in an encoding.
-#[derive(Clone, Copy, PartialEq, Eq, Debug)]
+#[derive(Clone, Copy, PartialEq, Eq)]
 pub enum Segment {
     Es,
     Cs,
@@ -45,7 +45,7 @@ pub enum Segment {
 }
 
 /// A segment register that MOV and POP may load: CS is loaded by jumps alone.
-#[derive(Clone, Copy, PartialEq, Eq, Debug)]
+#[derive(Clone, Copy, PartialEq, Eq)]
 pub enum LoadableSegment {
     Es,
     Ss,
@@ -55,7 +55,7 @@ pub enum LoadableSegment {
 /// All registers of the processor: contracts see them by their names.
 ///
 /// The word registers stand in the order of their numbers, so that an instruction finds its own by one load.
-#[derive(Debug, Drop)]
+#[derive(Drop)]
 pub struct Regs {
     words: [u16; 8],
     segments: [u16; 4],

@@ -16,6 +16,7 @@ pub mod Rows
 pub mod Turned
 pub mod Replaced
 pub mod Along
+pub mod Joined
 pub mod Seen
 pub mod NextExpression
 pub mod NextDeclaration

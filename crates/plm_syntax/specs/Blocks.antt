@@ -123,8 +123,8 @@ statements_part (BlockOf is ss) = ss
 abbrev pub read_block : Block × Option NameTree → List Value → List Value
 read_block x v = EndR (base_of x.1) ∷ StatementsR (statements_part (block_of x.0)) ∷ ItemsR (items_part (block_of x.0)) ∷ v
 
-abbrev pub read_governed : Expression × Vec Statement × Option NameTree → List Value → List Value
-read_governed x v = EndR (base_of x.2) ∷ StatementsR (statements_of x.1.items) ∷ ExpressionR (expression_of x.0) ∷ v
+abbrev pub read_governed : Expression × (Vec Statement × Option NameTree) → List Value → List Value
+read_governed x v = EndR (base_of x.1.1) ∷ StatementsR (statements_of x.1.0.items) ∷ ExpressionR (expression_of x.0) ∷ v
 
 abbrev pub read_step : Option Expression → List Value → List Value
 read_step s v = StepR (step_of s) ∷ v

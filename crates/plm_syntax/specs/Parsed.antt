@@ -1,5 +1,5 @@
 -- What a function of the parser returns: where it leads a run.
-use Rattle.std.specs.Prelude.{◌≡◌, ℕ, suc, ◌+◌, ◌≤◌, List, [], ◌∷◌, length, Bool, true, false, nat_eq, Option, Some, None, Result, Ok, Err}
+use Rattle.std.specs.Prelude.{◌≡◌, ℕ, suc, ◌+◌, ◌≤◌, List, [], ◌∷◌, ◌++◌, length, Bool, true, false, nat_eq, Option, Some, None, Result, Ok, Err}
 use Rattle.plm_token.specs.declared.token.Keyword.{Keyword}
 use Rattle.plm_token.specs.declared.token.Mark.{Mark}
 use Rattle.plm_token.specs.declared.token.Kind.{Kind}
@@ -12,6 +12,7 @@ use Rattle.plm_syntax.specs.declared.tree.Text.{Text as TextTree}
 use Rattle.plm_syntax.specs.declared.cursor.Cursor.{Cursor}
 use Rattle.plm_syntax.specs.declared.failure.Failure.{Failure}
 use Rattle.plm_syntax.specs.declared.failure.Failure.TheVariants as failure
+use Rattle.std.specs.Global.{Box}
 use Rattle.plm_syntax.specs.Terminal.{Terminal, Name, Number, Text, Key, Sign, Finish, Leaf, leaf, leaf_at, key_number, sign_number, is_key, is_sign}
 use Rattle.plm_syntax.specs.View.{name_of, number_of, text_of}
 use Rattle.plm_syntax.specs.Answers.{terminal_of}
@@ -125,6 +126,38 @@ PassesName c (Err f) = (is_name (next_of c) ≡ false) × Refuses c f
 abbrev pub PassesNumber : Cursor → Result (NumberTree × Cursor) Failure → Type 0
 PassesNumber c (Ok x) = Takes c (Number (number_of x.0)) x.0.place x.1
 PassesNumber c (Err f) = (is_number (next_of c) ≡ false) × Refuses c f
+
+-- what was read, and the special token that has to come behind it
+abbrev pub Closes : {A : Type 0} → Mark → Result (A × Cursor) Failure → Result (A × Cursor) Failure → Type 0
+Closes m (Ok x) (Ok y) = (y.0 ≡ x.0) × PassesMark m x.1 (Ok y.1)
+Closes m (Ok x) (Err f) = PassesMark m x.1 (Err f)
+Closes m (Err e) r = r ≡ Err e
+
+-- the same of a reserved word
+abbrev pub ClosesWord : {A : Type 0} → Keyword → A → Cursor → Result (A × Cursor) Failure → Type 0
+ClosesWord k a c (Ok y) = (y.0 ≡ a) × PassesKeyword k c (Ok y.1)
+ClosesWord k a c (Err f) = PassesKeyword k c (Err f)
+
+-- what was read, in a box
+abbrev pub IsBoxed : {A : Type 0} → Result (A × Cursor) Failure → Result (Box A × Cursor) Failure → Type 0
+IsBoxed (Ok x) (Ok y) = (y.0.value ≡ x.0) × (y.1 ≡ x.1)
+IsBoxed (Ok x) (Err f) = f ≡ failure.Memory
+IsBoxed (Err e) r = r ≡ Err e
+
+-- what was read before, beside what was read behind it
+abbrev pub IsBeside : {A B : Type 0} → A → Result (B × Cursor) Failure → Result ((A × B) × Cursor) Failure → Type 0
+IsBeside a r (Ok y) = (y.0.0 ≡ a) × (r ≡ Ok (y.0.1, y.1))
+IsBeside a r (Err f) = r ≡ Err f
+
+-- why what was read is not kept
+abbrev pub IsLost : {A : Type 0} → Result (A × Cursor) Failure → Failure → Type 0
+IsLost (Ok x) f = f ≡ failure.Memory
+IsLost (Err e) f = f ≡ e
+
+-- a list, and what was read behind it
+abbrev pub IsPushed : {A : Type 0} → List A → List A → Result (A × Cursor) Failure → Result Cursor Failure → Type 0
+IsPushed {A} old new r (Ok rest) = (x : A) × ((r ≡ Ok (x, rest)) × (new ≡ old ++ (x ∷ [])))
+IsPushed old new r (Err f) = IsLost r f
 
 -- one level less may be opened behind the token that stands before this place
 abbrev pub IsDown : ℕ → Cursor → Result ℕ Failure → Type 0

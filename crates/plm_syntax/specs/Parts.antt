@@ -1,8 +1,11 @@
 -- What the parser's functions read.
-use Rattle.std.specs.Prelude.{◌≡◌, nat_eq, List, ◌∷◌, ◌++◌, Bool, true, false, Option, Some, None}
+use Rattle.std.specs.Prelude.{◌≡◌, nat_eq, List, ◌∷◌, ◌++◌, Bool, true, false, Option, Some, None, Result, Ok, Err}
 use Rattle.plm_syntax.specs.declared.tree.Place.{Place}
 use Rattle.plm_syntax.specs.declared.tree.BinaryOperator.{BinaryOperator}
+use Rattle.plm_syntax.specs.declared.tree.UnaryOperator.{UnaryOperator}
 use Rattle.plm_syntax.specs.declared.tree.Expression.{Expression}
+use Rattle.plm_syntax.specs.declared.failure.Failure.{Failure}
+use Rattle.plm_syntax.specs.declared.failure.Failure.TheVariants as failure
 use Rattle.std.specs.Global.{Box}
 use Rattle.plm_syntax.specs.declared.tree.Operation.{Operation}
 use Rattle.plm_syntax.specs.declared.tree.Reference.{Reference}
@@ -27,7 +30,7 @@ use Rattle.plm_syntax.specs.declared.tree.Initial.{Initial}
 use Rattle.plm_syntax.specs.declared.tree.Attributes.{Attributes as Extras}
 use Rattle.plm_syntax.specs.declared.tree.Element.{Element}
 use Rattle.plm_syntax.specs.Terminal.{NameT, is_sign}
-use Rattle.plm_syntax.specs.Tree.{ExpressionT, ElementsT, elements, no_variables, no_members, no_linkage, no_initial, AtT, Attributes, LocationForm, ReferenceE, LocationE, ReferenceOf, ExpressionsT, no_expressions, no_member}
+use Rattle.plm_syntax.specs.Tree.{ExpressionT, ElementsT, elements, no_variables, no_members, no_linkage, no_initial, AtT, Attributes, LocationForm, ReferenceE, LocationE, UnaryE, ReferenceOf, ExpressionsT, no_expressions, no_member}
 use Rattle.plm_syntax.specs.View.{name_of, counted, names_of, variable_of, variables_from, dimension_of, member_of, members_from, type_of, at_of, initial_of, attributes_of, element_of, elements_of, expression_of, leaned, expressions_of, reference_of, selector_of, location_of, value_of, values_of}
 use Rattle.plm_syntax.specs.Spelling.{binary_sign, form_sign, scalar_key}
 use Rattle.plm_syntax.specs.WellFormed.{level_of}
@@ -69,6 +72,12 @@ read_boxed b v = ExpressionR (expression_of b.value) ∷ v
 -- operators with their right operands, behind what stands to their left
 abbrev pub read_operations : ExpressionT → List Operation → List Value → List Value
 read_operations left os v = ExpressionR (leaned left os) ∷ v
+
+-- an operator before the operand that was read
+abbrev pub IsUnary : Place → UnaryOperator → Result (Expression × Cursor) Failure → Result (Expression × Cursor) Failure → Type 0
+IsUnary p o (Ok x) (Ok y) = (expression_of y.0 ≡ UnaryE p o (expression_of x.0)) × (y.1 ≡ x.1)
+IsUnary p o (Ok x) (Err f) = f ≡ failure.Memory
+IsUnary p o (Err e) r = r ≡ Err e
 
 abbrev pub read_reference : Reference → List Value → List Value
 read_reference x v = ExpressionR (ReferenceE (reference_of x)) ∷ v

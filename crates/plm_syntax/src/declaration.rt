@@ -12,6 +12,7 @@ ghost use Rattle.plm_syntax.specs.Parts.{IsScalar, read_element, read_elements, 
 use crate::cursor::Cursor;
 use crate::expression::{form_at, location, values};
 use crate::failure::Failure;
+use crate::parts::pushed;
 use crate::tree::{
     At, Attributes, Declared, Dimension, Element, Initial, Member, MemberNames, Name, Number,
     Scalar, Variable, VariableType,
@@ -29,15 +30,11 @@ pub(crate) fn elements<'t, 'a>(
     ensures within { Within result cursor.entry }
 {
     let mut list = Vec::new(alloc);
-    let (first, mut rest) = element(alloc, room, cursor)?;
-    list.push(first)?;
+    let mut rest = pushed(&mut list, element(alloc, room, cursor))?;
     while let Some((_, after)) = rest.mark(Mark::Comma) {
-        let (next, behind) = element(alloc, room, after)?;
-        list.push(next)?;
-        rest = behind;
+        rest = pushed(&mut list, element(alloc, room, after))?;
     }
-    let behind = rest.expect_mark(Mark::Semicolon)?;
-    Ok((list, behind))
+    rest.close(list, Mark::Semicolon)
 }
 
 /// An element: a literal, or variables.
@@ -73,15 +70,11 @@ fn variables<'t, 'a>(
     ensures within { Within result cursor.entry }
 {
     let mut list = Vec::new(alloc);
-    let (first, mut rest) = variable(cursor)?;
-    list.push(first)?;
+    let mut rest = pushed(&mut list, variable(cursor))?;
     while let Some((_, after)) = rest.mark(Mark::Comma) {
-        let (next, behind) = variable(after)?;
-        list.push(next)?;
-        rest = behind;
+        rest = pushed(&mut list, variable(after))?;
     }
-    let behind = rest.expect_mark(Mark::RightParenthesis)?;
-    Ok((list, behind))
+    rest.close(list, Mark::RightParenthesis)
 }
 
 /// A variable and its base, if it has one.
@@ -198,15 +191,11 @@ fn members<'t, 'a>(
     ensures within { Within result cursor.entry }
 {
     let mut list = Vec::new(alloc);
-    let (first, mut rest) = member(alloc, cursor)?;
-    list.push(first)?;
+    let mut rest = pushed(&mut list, member(alloc, cursor))?;
     while let Some((_, after)) = rest.mark(Mark::Comma) {
-        let (next, behind) = member(alloc, after)?;
-        list.push(next)?;
-        rest = behind;
+        rest = pushed(&mut list, member(alloc, after))?;
     }
-    let behind = rest.expect_mark(Mark::RightParenthesis)?;
-    Ok((list, behind))
+    rest.close(list, Mark::RightParenthesis)
 }
 
 /// A member of a structure, or some of one type.
@@ -264,8 +253,7 @@ pub(crate) fn names<'t, 'a>(
         list.push(next)?;
         rest = behind;
     }
-    let behind = rest.expect_mark(Mark::RightParenthesis)?;
-    Ok((list, behind))
+    rest.close(list, Mark::RightParenthesis)
 }
 
 /// How many elements a member has, where a parenthesis comes next.

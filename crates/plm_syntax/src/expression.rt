@@ -11,11 +11,12 @@ ghost use Rattle.plm_token.specs.declared.token.Mark.TheVariants.{RightParenthes
 ghost use Rattle.plm_syntax.specs.Symbol.{ExpressionR, need, Want, PrimaryG, SignedG, NegationG, MoreG, InsideG, AfterReferenceG, SubscriptsG, SelectorG, LocatedG, ValueG};
 ghost use Rattle.plm_syntax.specs.Machine.{operand, an_expression, a_value_list};
 ghost use Rattle.plm_syntax.specs.Parsed.{Leads, Within};
-ghost use Rattle.plm_syntax.specs.Parts.{level_view, read_expression, read_boxed, read_operations, read_reference, read_subscripts, read_selector, read_location, read_value, read_values, reference_read, nothing_read, joined, all_levels, IsForm};
+ghost use Rattle.plm_syntax.specs.Parts.{level_view, read_expression, read_boxed, read_operations, read_reference, read_subscripts, read_selector, read_location, read_value, read_values, reference_read, nothing_read, joined, all_levels, IsForm, IsUnary};
 
 use crate::cursor::Cursor;
 use crate::failure::Failure;
 use crate::operator::{Level, operator_at};
+use crate::parts::{beside, boxed, closing, pushed};
 use crate::tree::{
     Expression, Location, LocationForm, Name, Operation, Place, Reference, Selector, UnaryOperator,
     Value,
@@ -130,14 +131,24 @@ fn negation<'t, 'a>(
 {
     match cursor.keyword(Keyword::Not) {
         Some((place, inner)) => {
-            let (operand, rest) = negation(alloc, inner.level_down(room)?, inner)?;
-            Ok((
-                Expression::Unary(place, UnaryOperator::Not, Box::new(alloc, operand)?),
-                rest,
-            ))
+            let operand = negation(alloc, inner.level_down(room)?, inner);
+            unary(alloc, place, UnaryOperator::Not, operand)
         }
         None => binary(alloc, room, Level::Relations, cursor),
     }
+}
+
+/// A sign or NOT, and the operand that was read behind it.
+fn unary<'t, 'a>(
+    alloc: Global,
+    place: Place,
+    operator: UnaryOperator,
+    operand: Result<(Expression<'a>, Cursor<'t, 'a>), Failure>,
+) -> Result<(Expression<'a>, Cursor<'t, 'a>), Failure>
+    ensures { IsUnary place operator operand.entry result }
+{
+    let (operand, rest) = boxed(alloc, operand)?;
+    Ok((Expression::Unary(place, operator, operand), rest))
 }
 
 /// A primary, with a sign before it or none.
@@ -151,18 +162,12 @@ fn signed<'t, 'a>(
     ensures within { Within result cursor.entry }
 {
     if let Some((place, inner)) = cursor.mark(Mark::Plus) {
-        let (operand, rest) = primary(alloc, inner.level_down(room)?, inner)?;
-        return Ok((
-            Expression::Unary(place, UnaryOperator::Plus, Box::new(alloc, operand)?),
-            rest,
-        ));
+        let operand = primary(alloc, inner.level_down(room)?, inner);
+        return unary(alloc, place, UnaryOperator::Plus, operand);
     }
     if let Some((place, inner)) = cursor.mark(Mark::Minus) {
-        let (operand, rest) = primary(alloc, inner.level_down(room)?, inner)?;
-        return Ok((
-            Expression::Unary(place, UnaryOperator::Minus, Box::new(alloc, operand)?),
-            rest,
-        ));
+        let operand = primary(alloc, inner.level_down(room)?, inner);
+        return unary(alloc, place, UnaryOperator::Minus, operand);
     }
     primary(alloc, room, cursor)
 }
@@ -239,9 +244,8 @@ fn closed<'t, 'a>(
     ensures leads { Leads read_boxed (λ s. an_expression (need RightParenthesis ∷ s)) nothing_read result cursor.entry room }
     ensures within { Within result cursor.entry }
 {
-    let (inside, behind) = binary(alloc, room, Level::Disjunctions, cursor)?;
-    let rest = behind.expect_mark(Mark::RightParenthesis)?;
-    Ok((Box::new(alloc, inside)?, rest))
+    let inside = binary(alloc, room, Level::Disjunctions, cursor);
+    boxed(alloc, closing(inside, Mark::RightParenthesis))
 }
 
 /// What stands behind a parenthesis and a reference.
@@ -257,15 +261,12 @@ fn behind_reference<'t, 'a>(
     ensures within { Within result cursor.entry }
 {
     if let Some((_, after)) = cursor.mark(Mark::Assign) {
-        let (value, rest) = closed(alloc, room, after)?;
-        return Ok((Expression::Embedded(place, first, value), rest));
+        let ((target, value), rest) = beside(first, closed(alloc, room, after))?;
+        return Ok((Expression::Embedded(place, target, value), rest));
     }
-    let (inside, behind) = climb(alloc, room, Expression::Reference(first), cursor)?;
-    let rest = behind.expect_mark(Mark::RightParenthesis)?;
-    Ok((
-        Expression::Parenthesised(place, Box::new(alloc, inside)?),
-        rest,
-    ))
+    let begun = climb(alloc, room, Expression::Reference(first), cursor);
+    let (inside, rest) = boxed(alloc, closing(begun, Mark::RightParenthesis))?;
+    Ok((Expression::Parenthesised(place, inside), rest))
 }
 
 /// An expression of which the first primary was read.
@@ -336,15 +337,11 @@ fn subscripts<'t, 'a>(
         return Ok((list, cursor));
     };
     let inside = inner.level_down(room)?;
-    let (first, mut rest) = binary(alloc, inside, Level::Disjunctions, inner)?;
-    list.push(first)?;
+    let mut rest = pushed(&mut list, binary(alloc, inside, Level::Disjunctions, inner))?;
     while let Some((_, after)) = rest.mark(Mark::Comma) {
-        let (next, behind) = binary(alloc, inside, Level::Disjunctions, after)?;
-        list.push(next)?;
-        rest = behind;
+        rest = pushed(&mut list, binary(alloc, inside, Level::Disjunctions, after))?;
     }
-    let behind = rest.expect_mark(Mark::RightParenthesis)?;
-    Ok((list, behind))
+    rest.close(list, Mark::RightParenthesis)
 }
 
 /// A member, where there is one.
@@ -400,15 +397,11 @@ pub(crate) fn values<'t, 'a>(
     ensures within { Within result cursor.entry }
 {
     let mut list = Vec::new(alloc);
-    let (first, mut rest) = value(alloc, room, cursor)?;
-    list.push(first)?;
+    let mut rest = pushed(&mut list, value(alloc, room, cursor))?;
     while let Some((_, after)) = rest.mark(Mark::Comma) {
-        let (next, behind) = value(alloc, room, after)?;
-        list.push(next)?;
-        rest = behind;
+        rest = pushed(&mut list, value(alloc, room, after))?;
     }
-    let behind = rest.expect_mark(Mark::RightParenthesis)?;
-    Ok((list, behind))
+    rest.close(list, Mark::RightParenthesis)
 }
 
 /// A value of INITIAL, DATA or a list of constants.

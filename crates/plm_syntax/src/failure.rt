@@ -6,7 +6,7 @@ ghost use Rattle.plm_syntax.specs.declared.failure.Failure.TheVariants.{Memory};
 use std::alloc::{AllocError, AllocFailed};
 
 /// Why there is no tree.
-#[derive(Debug, Clone, Copy, PartialEq, Eq)]
+#[derive(Clone, Copy)]
 pub(crate) enum Failure {
     Memory,
     /// How many tokens are left behind the first with which no module begins, the end of the text counted.

@@ -14,6 +14,7 @@ mod laws;
 mod literals;
 mod open_blocks;
 mod operator;
+mod parts;
 mod reading;
 mod statement;
 mod tree;

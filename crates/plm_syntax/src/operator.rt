@@ -12,7 +12,7 @@ use crate::tree::{BinaryOperator, Place};
 use plm_token::{Keyword, Kind, Mark};
 
 /// The levels of binary operators, the tightest first.
-#[derive(Debug, Clone, Copy, PartialEq, Eq)]
+#[derive(Clone, Copy)]
 pub(crate) enum Level {
     Products,
     Sums,

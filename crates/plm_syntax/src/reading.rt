@@ -1,9 +1,9 @@
 //! The tokens that come next.
 
-ghost use Rattle.std.specs.Prelude.{◌≡◌, length};
+ghost use Rattle.std.specs.Prelude.{◌≡◌, length, Ok};
 ghost use Rattle.plm_syntax.specs.declared.failure.Failure.TheVariants.{Refused};
 ghost use Rattle.plm_syntax.specs.Terminal.{key_number};
-ghost use Rattle.plm_syntax.specs.Parsed.{has_mark, has_keyword, IsNext, IsMark, IsKeyword, IsName, IsNumber, IsText, PassesMark, PassesKeyword, PassesName, PassesNumber, IsDown};
+ghost use Rattle.plm_syntax.specs.Parsed.{has_mark, has_keyword, IsNext, IsMark, IsKeyword, IsName, IsNumber, IsText, PassesMark, PassesKeyword, PassesName, PassesNumber, Closes, ClosesWord, IsDown};
 
 use crate::cursor::Cursor;
 use crate::failure::Failure;
@@ -150,6 +150,26 @@ impl<'t, 'a> Cursor<'t, 'a> {
             Some((_, rest)) => Ok(rest),
             None => Err(self.refuse()),
         }
+    }
+
+    /// A value, and what is left behind the special token that has to come next.
+    pub fn close<T: Drop>(self, value: T, mark: Mark) -> Result<(T, Cursor<'t, 'a>), Failure>
+        ensures { Closes mark (Ok (value, self.entry)) result }
+    {
+        let rest = self.expect_mark(mark)?;
+        Ok((value, rest))
+    }
+
+    /// A value, and what is left behind the reserved word that has to come next.
+    pub fn close_word<T: Drop>(
+        self,
+        value: T,
+        keyword: Keyword,
+    ) -> Result<(T, Cursor<'t, 'a>), Failure>
+        ensures { ClosesWord keyword value self.entry result }
+    {
+        let rest = self.expect_keyword(keyword)?;
+        Ok((value, rest))
     }
 
     /// A name that has to come next, and what is left behind it.

@@ -20,6 +20,7 @@ use crate::cursor::Cursor;
 use crate::declaration::{elements, names, scalar_at};
 use crate::expression::{expression, reference};
 use crate::failure::Failure;
+use crate::parts::{beside, boxed, closing, pushed};
 use crate::tree::{
     Basic, Block, Expression, Item, Linkage, Module, Name, Number, Place, Procedure, Scalar,
     Statement,
@@ -228,9 +229,7 @@ fn statements<'t, 'a>(
             let (end, behind) = end(label, after)?;
             return Ok(((list, end), behind));
         }
-        let (statement, behind) = statement(alloc, room, rest)?;
-        list.push(statement)?;
-        rest = behind;
+        rest = pushed(&mut list, statement(alloc, room, rest))?;
     }
 }
 
@@ -371,16 +370,13 @@ fn plain<'t, 'a>(
         return return_from(alloc, room, place, after);
     }
     if let Some((place, after)) = cursor.keyword(Keyword::Enable) {
-        let rest = after.expect_mark(Mark::Semicolon)?;
-        return Ok((Basic::Enable(place), rest));
+        return after.close(Basic::Enable(place), Mark::Semicolon);
     }
     if let Some((place, after)) = cursor.keyword(Keyword::Disable) {
-        let rest = after.expect_mark(Mark::Semicolon)?;
-        return Ok((Basic::Disable(place), rest));
+        return after.close(Basic::Disable(place), Mark::Semicolon);
     }
     if let Some((place, after)) = cursor.keyword(Keyword::Halt) {
-        let rest = after.expect_mark(Mark::Semicolon)?;
-        return Ok((Basic::Halt(place), rest));
+        return after.close(Basic::Halt(place), Mark::Semicolon);
     }
     Err(cursor.refuse())
 }
@@ -396,8 +392,7 @@ fn call<'t, 'a>(
     ensures within { Within result cursor.entry }
 {
     let (name, begun) = cursor.expect_name()?;
-    let (called, behind) = reference(alloc, room, name, begun)?;
-    let rest = behind.expect_mark(Mark::Semicolon)?;
+    let (called, rest) = closing(reference(alloc, room, name, begun), Mark::Semicolon)?;
     Ok((Basic::Call(place, called), rest))
 }
 
@@ -427,9 +422,7 @@ fn closing_expression<'t, 'a>(
     ensures leads { Leads read_expression (λ s. an_expression (need Semicolon ∷ s)) nothing_read result cursor.entry room }
     ensures within { Shrinks result cursor.entry }
 {
-    let (value, behind) = expression(alloc, room, cursor)?;
-    let rest = behind.expect_mark(Mark::Semicolon)?;
-    Ok((value, rest))
+    closing(expression(alloc, room, cursor), Mark::Semicolon)
 }
 
 /// An expression, and the reserved word behind it.
@@ -443,8 +436,7 @@ fn expression_before<'t, 'a>(
     ensures within { Shrinks result cursor.entry }
 {
     let (value, behind) = expression(alloc, room, cursor)?;
-    let rest = behind.expect_keyword(word)?;
-    Ok((value, rest))
+    behind.close_word(value, word)
 }
 
 /// An IF behind its first word.
@@ -458,12 +450,12 @@ fn condition<'t, 'a>(
     ensures leads { (ls : NamesT) → Leads (read_basic ls) (condition_goals place) (λ v. NamesR ls ∷ v) result cursor.entry room }
     ensures within { Within result cursor.entry }
 {
-    let (test, start) = expression_before(alloc, room, Keyword::Then, cursor)?;
-    let (then, behind) = arm(alloc, room, start)?;
+    let (asked, start) = expression_before(alloc, room, Keyword::Then, cursor)?;
+    let (choice, behind) = beside(asked, arm(alloc, room, start))?;
     let Some((_, after)) = behind.keyword(Keyword::Else) else {
-        return Ok((Basic::If(place, test, then), behind));
+        return Ok((Basic::If(place, choice.0, choice.1), behind));
     };
-    let (other, rest) = arm(alloc, room, after)?;
+    let (((test, then), other), rest) = beside(choice, arm(alloc, room, after))?;
     Ok((Basic::IfElse(place, test, then, other), rest))
 }
 
@@ -481,8 +473,7 @@ fn arm<'t, 'a>(
         return Err(cursor.refuse());
     };
     let inside = behind.level_down(room)?;
-    let (statement, rest) = statement(alloc, inside, cursor)?;
-    Ok((Box::new(alloc, statement)?, rest))
+    boxed(alloc, statement(alloc, inside, cursor))
 }
 
 /// A token that can begin a statement where one comes next, and what is left behind it.
@@ -537,11 +528,11 @@ fn group<'t, 'a>(
         return Ok((Basic::Do(place, block, end), rest));
     }
     if let Some((_, after)) = cursor.keyword(Keyword::While) {
-        let ((test, body, end), rest) = governed(alloc, room, label, after)?;
+        let ((test, (body, end)), rest) = governed(alloc, room, label, after)?;
         return Ok((Basic::While(place, test, body, end), rest));
     }
     if let Some((_, after)) = cursor.keyword(Keyword::Case) {
-        let ((selected, cases, end), rest) = governed(alloc, room, label, after)?;
+        let ((selected, (cases, end)), rest) = governed(alloc, room, label, after)?;
         return Ok((Basic::Case(place, selected, cases, end), rest));
     }
     Err(cursor.refuse())
@@ -556,7 +547,7 @@ fn governed<'t, 'a>(
     cursor: Cursor<'t, 'a>,
 ) -> Result<
     (
-        (Expression<'a>, Vec<Statement<'a>>, Option<Name<'a>>),
+        (Expression<'a>, (Vec<Statement<'a>>, Option<Name<'a>>)),
         Cursor<'t, 'a>,
     ),
     Failure,
@@ -565,8 +556,7 @@ fn governed<'t, 'a>(
     ensures within { Within result cursor.entry }
 {
     let (value, start) = closing_expression(alloc, room, cursor)?;
-    let ((list, end), rest) = statements(alloc, room, label, start)?;
-    Ok(((value, list, end), rest))
+    beside(value, statements(alloc, room, label, start))
 }
 
 /// `DO i = a TO b [BY s]` behind its index.
@@ -582,8 +572,8 @@ fn iteration<'t, 'a>(
     ensures leads { (ls : NamesT) → Leads (read_basic ls) (iteration_goals place (base_of label.entry)) (λ v. NameR (name_of index.entry) ∷ NamesR ls ∷ v) result cursor.entry room }
     ensures within { Within result cursor.entry }
 {
-    let (bounds, start) = range(alloc, room, cursor)?;
-    let ((body, end), rest) = statements(alloc, room, label, start)?;
+    let (header, start) = range(alloc, room, cursor)?;
+    let ((bounds, (body, end)), rest) = beside(header, statements(alloc, room, label, start))?;
     Ok((
         Basic::Iterate(
             place,
@@ -616,9 +606,9 @@ fn range<'t, 'a>(
     ensures within { Shrinks result cursor.entry }
 {
     let begun = cursor.expect_mark(Mark::Equal)?;
-    let (first, bound) = expression_before(alloc, room, Keyword::To, begun)?;
-    let (last, behind) = expression(alloc, room, bound)?;
-    let (step, rest) = step(alloc, room, behind)?;
+    let (start, bound) = expression_before(alloc, room, Keyword::To, begun)?;
+    let (ends, behind) = beside(start, expression(alloc, room, bound))?;
+    let (((first, last), step), rest) = beside(ends, step(alloc, room, behind))?;
     Ok((Bounds { first, last, step }, rest))
 }
 
@@ -632,10 +622,8 @@ fn step<'t, 'a>(
     ensures within { Shrinks result cursor.entry }
 {
     let Some((_, after)) = cursor.keyword(Keyword::By) else {
-        let rest = cursor.expect_mark(Mark::Semicolon)?;
-        return Ok((None, rest));
+        return cursor.close(None, Mark::Semicolon);
     };
     let (value, behind) = expression(alloc, room, after)?;
-    let rest = behind.expect_mark(Mark::Semicolon)?;
-    Ok((Some(value), rest))
+    behind.close(Some(value), Mark::Semicolon)
 }

@@ -1,5 +1,3 @@
-use Rattle.std.proofs.Common.{◌≡◌, ap}
-use Rattle.cpu8086.specs.Machine.{machine}
 use Rattle.cpu8086.proofs.Computing.{computed_from_memory}
 use Rattle.cpu8086.proofs.arithmetic.compute.Goals as goal
 

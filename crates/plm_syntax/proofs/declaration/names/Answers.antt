@@ -1,4 +1,4 @@
-use Rattle.std.proofs.Common.{◌∷◌, ◌++◌, [], List, None, refl, sym, ap, ◌∙◌, arith}
+use Rattle.std.proofs.Common.{◌∷◌, ◌++◌, [], List, None, refl, sym, ap, ◌∙◌, arith, Ok}
 use Rattle.plm_syntax.specs.declared.tree.Name.{Name as NameTree}
 use Rattle.plm_syntax.specs.Tree.{NamesT, names, no_names, no_linkage}
 use Rattle.plm_syntax.specs.View.{name_of, names_of}
@@ -8,6 +8,8 @@ use Rattle.plm_syntax.specs.Parsed.{ahead, next_of}
 use Rattle.plm_syntax.specs.Parts.{read_names, read_parameters}
 use Rattle.plm_syntax.proofs.Rows.{name_pushed}
 use Rattle.plm_syntax.proofs.Along.{quiet, taken, refused, failed, refusal}
+use Rattle.plm_syntax.proofs.Joined.{closes_by, closes_within}
+use Rattle.plm_token.specs.declared.token.Mark.TheVariants as mark
 use Rattle.plm_syntax.proofs.NextDeclaration.{more_member_names_refused, more_parameters_refused, member_name_refused, parameter_refused}
 use Rattle.plm_syntax.proofs.declaration.names.Goals as goal
 
@@ -23,11 +25,12 @@ returns-in_err-next-clause-members c = λ s v. failed (λ ns. read_names ns.item
     ∙ refused MemberNameG c.in-Some.after (Want MoreMemberNamesG ∷ s) (NamesR (names_of c.loop-after.list.items) ∷ v) (member_name_refused (next_of c.in-Some.after) c.in_err-next.ensures.0))
     (refusal c.in_err-next.field-0.0 c.in-Some.after c.in_err-next.ensures.1 refl)
 
-pub returns-in_err-behind-clause-members : goal.returns-in_err-behind-clause-members
-returns-in_err-behind-clause-members c = λ s v. failed (λ ns. read_names ns.items) s v c.from_residual-in_err-behind.result c.in_err-behind.field-0.0 c.from_residual-in_err-behind.ensures.1
-    (c.loop-after.invariant.members s v
-    ∙ refused MoreMemberNamesG c.loop-after.rest s (NamesR (names_of c.loop-after.list.items) ∷ v) (more_member_names_refused (next_of c.loop-after.rest) c.in_default.ensures c.in_err-behind.ensures.0))
-    (refusal c.in_err-behind.field-0.0 c.loop-after.rest c.in_err-behind.ensures.1 refl)
+pub returns-clause-members : goal.returns-clause-members
+returns-clause-members c = λ s v. closes_by (λ ns. read_names ns.items) mark.RightParenthesis s v c.loop-after.list c.loop-after.rest c.close.result c.close.ensures
+    (λ q. c.loop-after.invariant.members s v
+    ∙ refused MoreMemberNamesG c.loop-after.rest s (NamesR (names_of c.loop-after.list.items) ∷ v) (more_member_names_refused (next_of c.loop-after.rest) c.in_default.ensures q))
+    (λ p b h. c.loop-after.invariant.members s v
+    ∙ taken (Want MoreMemberNamesG ∷ s) (NamesR (names_of c.loop-after.list.items) ∷ v) h)
 
 pub returns-in_err-first-clause-parameters : goal.returns-in_err-first-clause-parameters
 returns-in_err-first-clause-parameters c = λ n s v. failed (λ ns. read_parameters n ns.items) s v c.from_residual.result c.in_err-first.field-0.0 c.from_residual.ensures.1
@@ -41,11 +44,15 @@ returns-in_err-next-clause-parameters c = λ n s v. failed (λ ns. read_paramete
     ∙ refused ParameterG c.in-Some.after (Want MoreParametersG ∷ s) (read_parameters n c.loop-after.list.items v) (parameter_refused (next_of c.in-Some.after) c.in_err-next.ensures.0))
     (refusal c.in_err-next.field-0.0 c.in-Some.after c.in_err-next.ensures.1 refl)
 
-pub returns-in_err-behind-clause-parameters : goal.returns-in_err-behind-clause-parameters
-returns-in_err-behind-clause-parameters c = λ n s v. failed (λ ns. read_parameters n ns.items) s v c.from_residual-in_err-behind.result c.in_err-behind.field-0.0 c.from_residual-in_err-behind.ensures.1
-    (c.loop-after.invariant.parameters n s v
-    ∙ refused MoreParametersG c.loop-after.rest s (read_parameters n c.loop-after.list.items v) (more_parameters_refused (next_of c.loop-after.rest) c.in_default.ensures c.in_err-behind.ensures.0))
-    (refusal c.in_err-behind.field-0.0 c.loop-after.rest c.in_err-behind.ensures.1 refl)
+pub returns-clause-parameters : goal.returns-clause-parameters
+returns-clause-parameters c = λ n s v. closes_by (λ ns. read_parameters n ns.items) mark.RightParenthesis s v c.loop-after.list c.loop-after.rest c.close.result c.close.ensures
+    (λ q. c.loop-after.invariant.parameters n s v
+    ∙ refused MoreParametersG c.loop-after.rest s (read_parameters n c.loop-after.list.items v) (more_parameters_refused (next_of c.loop-after.rest) c.in_default.ensures q))
+    (λ p b h. c.loop-after.invariant.parameters n s v
+    ∙ taken (Want MoreParametersG ∷ s) (read_parameters n c.loop-after.list.items v) h)
+
+pub returns-clause-within : goal.returns-clause-within
+returns-clause-within c = closes_within mark.RightParenthesis c.args.cursor (Ok (c.loop-after.list, c.loop-after.rest)) c.close.result c.close.ensures c.loop-after.invariant.shorter
 
 pub loop-after-init : goal.loop-after-init
 loop-after-init c = record {

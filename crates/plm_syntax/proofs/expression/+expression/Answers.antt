@@ -1,4 +1,4 @@
-use Rattle.std.proofs.Common.{◌∷◌, ◌++◌, [], ℕ, List, ◌+◌, length, refl, sym, ap, ◌∙◌, arith}
+use Rattle.std.proofs.Common.{◌∷◌, ◌++◌, [], ℕ, List, ◌+◌, length, Result, Ok, Err, refl, sym, ap, ◌∙◌, arith}
 use Rattle.plm_token.specs.declared.token.Mark.TheVariants as mark
 use Rattle.plm_syntax.specs.declared.tree.UnaryOperator.TheVariants as unary
 use Rattle.std.specs.Global.{Vec}
@@ -6,52 +6,47 @@ use Rattle.plm_syntax.specs.declared.tree.Place.{Place}
 use Rattle.plm_syntax.specs.declared.tree.BinaryOperator.{BinaryOperator}
 use Rattle.plm_syntax.specs.declared.tree.Operation.{Operation}
 use Rattle.plm_syntax.specs.declared.tree.Expression.{Expression}
+use Rattle.plm_syntax.specs.declared.tree.Expression.TheVariants as expression
+use Rattle.plm_syntax.specs.declared.tree.Reference.{Reference}
 use Rattle.plm_syntax.specs.declared.tree.Value.{Value as ValueTree}
 use Rattle.plm_syntax.specs.Terminal.{Sign}
 use Rattle.plm_syntax.specs.Tree.{NumberE, TextE, ReferenceE, LocationE, ParenthesisedE, EmbeddedE, UnaryE, BinaryE, ReferenceOf, ExpressionsT, no_expressions, expressions, no_member, member, member_at, LocationOf, ConstantsOf, NumberV, NegativeV, TextV, LocationV, ValuesT, no_values, values}
 use Rattle.plm_syntax.specs.View.{name_of, number_of, text_of, expression_of, leaned, expressions_of, reference_of, location_of, value_of, values_of}
 use Rattle.plm_syntax.specs.Symbol.{Symbol, depth, need, push, ExpressionR, ExpressionsR, ValueR, ValuesR, Want, Do, Leave, PrimaryG, SignedG, NegationG, MoreG, InsideG, AfterReferenceG, SubscriptsG, MoreSubscriptsG, SelectorG, MemberG, MemberSubscriptG, LocatedG, ValueG, NegativeG, MoreValuesG}
-use Rattle.plm_syntax.specs.Machine.{again, an_expression, a_value_list, reference_begun, closing, make_binary, make_unary, make_parenthesised, make_embedded, add_expression, set_subscripts, set_member, set_member_subscript, locate, locate_values, location_value, add_value, run}
+use Rattle.plm_syntax.specs.Machine.{again, an_expression, a_value_list, reference_begun, closing, make_binary, make_unary, make_parenthesised, make_embedded, add_expression, set_subscripts, set_member, set_member_subscript, locate, locate_values, location_value, add_value, Stop, Reading, run}
 use Rattle.plm_syntax.specs.Parsed.{ahead, next_of}
 use Rattle.plm_syntax.specs.Parts.{level_view, read_expression, read_boxed, read_operations, read_reference, read_subscripts, read_selector, read_location, read_value, read_values, reference_read, all_levels}
 use Rattle.plm_syntax.proofs.Rows.{expression_pushed, operation_pushed, value_pushed}
 use Rattle.plm_syntax.proofs.Seen.{seen, reference_laid, embedded_laid, constants_laid, location_laid, chain_laid}
 use Rattle.plm_syntax.proofs.Along.{out_of_memory, quiet, taken, refused, need_refused, entered, too_deep, deeper, failed, refusal, depth_failure, arrives_behind, arrives_left, operator_taken}
+use Rattle.plm_syntax.proofs.Joined.{arrived, ended, lost, stays_within, closes, closes_by, closes_within, boxes, operated}
 use Rattle.plm_syntax.proofs.NextExpression.{negation_goes, inside_goes, reference_goes, signed_goes, primary_refused, value_refused, negative_refused, member_refused, located_refused, more_subscripts_refused, more_values_refused, located_value, again_relations, again_others, depth_again}
 use Rattle.plm_syntax.proofs.expression.+expression.Goals as goal
 
-pub behind_reference-returns-in_err-value-clause-leads : goal.behind_reference-returns-in_err-value-clause-leads
-behind_reference-returns-in_err-value-clause-leads t c = λ s v d. failed read_expression s v c.from_residual.result c.in_err-value.field-0.0 c.from_residual.ensures.1
+pub behind_reference-returns-in_err-target-clause-leads : goal.behind_reference-returns-in_err-target-clause-leads
+behind_reference-returns-in_err-target-clause-leads t c = λ s v d. failed read_expression s v c.from_residual.result c.in_err-target.field-0.0 c.from_residual.ensures.1
     (taken (Want (AfterReferenceG c.args.place) ∷ s) (read_reference c.args.first v) c.in-Some.ensures)
-    (c.in_err-value.ensures.leads (Do (make_embedded c.args.place) ∷ s) (read_reference c.args.first v) d)
+    (ended read_boxed (Do (make_embedded c.args.place) ∷ s) (read_reference c.args.first v) (run 64 (an_expression (need mark.RightParenthesis ∷ Do (make_embedded c.args.place) ∷ s)) (read_reference c.args.first v) (ahead c.in-Some.after)) c.in_err-target.ensures
+    (c.closed.ensures.leads (Do (make_embedded c.args.place) ∷ s) (read_reference c.args.first v) d))
 
 pub behind_reference-returns-in-Some-clause-leads : goal.behind_reference-returns-in-Some-clause-leads
 behind_reference-returns-in-Some-clause-leads t c = λ s v d. taken (Want (AfterReferenceG c.args.place) ∷ s) (read_reference c.args.first v) c.in-Some.ensures
-    ∙ c.in_ok-value.ensures.leads (Do (make_embedded c.args.place) ∷ s) (read_reference c.args.first v) d
-    ∙ quiet c.in_ok-value.rest (Do (make_embedded c.args.place) ∷ s) s (read_boxed c.in_ok-value.value (read_reference c.args.first v)) (ExpressionR (EmbeddedE c.args.place (reference_of c.args.first) (expression_of c.in_ok-value.value.value)) ∷ v) (λ t q. refl)
-    ∙ seen s v c.in_ok-value.rest (embedded_laid c.args.place c.args.first (expression_of c.in_ok-value.value.value))
+    ∙ arrived read_boxed (Do (make_embedded c.args.place) ∷ s) (read_reference c.args.first v) c.in_ok-target.ensures.1 (c.closed.ensures.leads (Do (make_embedded c.args.place) ∷ s) (read_reference c.args.first v) d)
+    ∙ quiet c.in_ok-target.rest (Do (make_embedded c.args.place) ∷ s) s (read_boxed c.in_ok-target.value (read_reference c.args.first v)) (ExpressionR (EmbeddedE c.args.place (reference_of c.args.first) (expression_of c.in_ok-target.value.value)) ∷ v) (λ t q. refl)
+    ∙ seen s v c.in_ok-target.rest (ap (λ (x : Reference). EmbeddedE c.args.place (reference_of x) (expression_of c.in_ok-target.value.value)) (sym c.in_ok-target.ensures.0))
+    ∙ seen s v c.in_ok-target.rest (embedded_laid c.args.place c.in_ok-target.target (expression_of c.in_ok-target.value.value))
 
 pub behind_reference-returns-in_err-inside-clause-leads : goal.behind_reference-returns-in_err-inside-clause-leads
 behind_reference-returns-in_err-inside-clause-leads t c = λ s v d. failed read_expression s v c.from_residual-in_err-inside.result c.in_err-inside.field-0.0 c.from_residual-in_err-inside.ensures.1
     (reference_goes c.args.place c.args.cursor s (read_reference c.args.first v) c.in_default.ensures
     ∙ seen (all_levels (closing c.args.place ++ s)) v c.args.cursor (ap ReferenceE (reference_laid c.args.first)))
-    (c.in_err-inside.ensures.leads (closing c.args.place ++ s) v d)
-
-pub behind_reference-returns-in_err-rest-clause-leads : goal.behind_reference-returns-in_err-rest-clause-leads
-behind_reference-returns-in_err-rest-clause-leads t c = λ s v d. failed read_expression s v c.from_residual-in_err-rest.result c.in_err-rest.field-0.0 c.from_residual-in_err-rest.ensures.1
-    (reference_goes c.args.place c.args.cursor s (read_reference c.args.first v) c.in_default.ensures
-    ∙ seen (all_levels (closing c.args.place ++ s)) v c.args.cursor (ap ReferenceE (reference_laid c.args.first))
-    ∙ c.in_ok-inside.ensures.leads (closing c.args.place ++ s) v d
-    ∙ need_refused (Sign mark.RightParenthesis) c.in_ok-inside.behind (Do (make_parenthesised c.args.place) ∷ s) _ c.in_err-rest.ensures.0)
-    (refusal c.in_err-rest.field-0.0 c.in_ok-inside.behind c.in_err-rest.ensures.1 refl)
+    (boxes read_expression (Do (make_parenthesised c.args.place) ∷ s) v c.closing.result (Err c.in_err-inside.field-0.0) (run 64 (all_levels (closing c.args.place ++ s)) (read_expression (expression.Reference c.args.first) v) (ahead c.args.cursor)) c.in_err-inside.ensures (closes read_expression mark.RightParenthesis (Do (make_parenthesised c.args.place) ∷ s) v c.climb-begun.result c.closing.result (run 64 (all_levels (closing c.args.place ++ s)) (read_expression (expression.Reference c.args.first) v) (ahead c.args.cursor)) c.closing.ensures (c.climb-begun.ensures.leads (closing c.args.place ++ s) v d)))
 
 pub behind_reference-returns-clause-leads : goal.behind_reference-returns-clause-leads
 behind_reference-returns-clause-leads t c = λ s v d. reference_goes c.args.place c.args.cursor s (read_reference c.args.first v) c.in_default.ensures
     ∙ seen (all_levels (closing c.args.place ++ s)) v c.args.cursor (ap ReferenceE (reference_laid c.args.first))
-    ∙ c.in_ok-inside.ensures.leads (closing c.args.place ++ s) v d
-    ∙ taken (closing c.args.place ++ s) _ c.in_ok-rest.ensures.1
-    ∙ quiet c.in_ok-rest.rest (Do (make_parenthesised c.args.place) ∷ s) s (read_expression c.in_ok-inside.inside v) (ExpressionR (ParenthesisedE c.args.place (expression_of c.in_ok-inside.inside)) ∷ v) (λ t q. refl)
-    ∙ seen s v c.in_ok-rest.rest (ap (λ (e : Expression). ParenthesisedE c.args.place (expression_of e)) (sym c.in_ok-new.ensures.ok))
+    ∙ boxes read_expression (Do (make_parenthesised c.args.place) ∷ s) v c.closing.result (Ok (c.in_ok-inside.inside, c.in_ok-inside.rest)) (run 64 (all_levels (closing c.args.place ++ s)) (read_expression (expression.Reference c.args.first) v) (ahead c.args.cursor)) c.in_ok-inside.ensures (closes read_expression mark.RightParenthesis (Do (make_parenthesised c.args.place) ∷ s) v c.climb-begun.result c.closing.result (run 64 (all_levels (closing c.args.place ++ s)) (read_expression (expression.Reference c.args.first) v) (ahead c.args.cursor)) c.closing.ensures (c.climb-begun.ensures.leads (closing c.args.place ++ s) v d))
+    ∙ quiet c.in_ok-inside.rest (Do (make_parenthesised c.args.place) ∷ s) s (read_boxed c.in_ok-inside.inside v) (ExpressionR (ParenthesisedE c.args.place (expression_of c.in_ok-inside.inside.value)) ∷ v) (λ t q. refl)
 
 pub location-returns-in-Some-clause-leads : goal.location-returns-in-Some-clause-leads
 location-returns-in-Some-clause-leads t c = λ s v d. taken (Want (LocatedG c.args.place c.args.form) ∷ s) v c.in-Some.ensures
@@ -131,12 +126,13 @@ negation-returns-in_err-level_down-in-Some-clause-leads t c = λ s v d. failed r
     ∙ too_deep (depth s) c.args.room c.in-Some.inner (run 64 (Want NegationG ∷ Leave ∷ Do (make_unary c.in-Some.place unary.Not) ∷ s) v (ahead c.in-Some.inner)) d c.in_err-level_down-in-Some.ensures.0)
     (depth_failure c.in_err-level_down-in-Some.field-0.0 c.in-Some.inner c.in_err-level_down-in-Some.ensures.1 refl)
 
-pub negation-returns-in_ok-new-in-Some-clause-leads : goal.negation-returns-in_ok-new-in-Some-clause-leads
-negation-returns-in_ok-new-in-Some-clause-leads t c = λ s v d. taken (Want NegationG ∷ s) v c.in-Some.ensures
-    ∙ entered (depth s) c.args.room c.in_ok-level_down-in-Some.field-0 (length (ahead c.in-Some.inner)) (run 64 (Want NegationG ∷ Leave ∷ Do (make_unary c.in-Some.place unary.Not) ∷ s) v (ahead c.in-Some.inner)) d c.in_ok-level_down-in-Some.ensures
-    ∙ c.in_ok-operand-in-Some.ensures.leads (Leave ∷ Do (make_unary c.in-Some.place unary.Not) ∷ s) v (deeper (depth s) c.args.room c.in_ok-level_down-in-Some.field-0 d c.in_ok-level_down-in-Some.ensures)
-    ∙ quiet c.in_ok-operand-in-Some.rest (Leave ∷ Do (make_unary c.in-Some.place unary.Not) ∷ s) s (read_expression c.in_ok-operand-in-Some.operand v) (ExpressionR (UnaryE c.in-Some.place unary.Not (expression_of c.in_ok-operand-in-Some.operand)) ∷ v) (λ t q. refl)
-    ∙ seen s v c.in_ok-operand-in-Some.rest (ap (λ (e : Expression). UnaryE c.in-Some.place unary.Not (expression_of e)) (sym c.in_ok-new-in-Some.ensures.ok))
+pub negation-returns-in_ok-level_down-in-Some-clause-leads : goal.negation-returns-in_ok-level_down-in-Some-clause-leads
+negation-returns-in_ok-level_down-in-Some-clause-leads t c = λ s v d. arrives_behind read_expression s v c.unary.result
+    (taken (Want NegationG ∷ s) v c.in-Some.ensures
+    ∙ entered (depth s) c.args.room c.in_ok-level_down-in-Some.field-0 (length (ahead c.in-Some.inner)) (run 64 (Want NegationG ∷ Leave ∷ Do (make_unary c.in-Some.place unary.Not) ∷ s) v (ahead c.in-Some.inner)) d c.in_ok-level_down-in-Some.ensures)
+    (operated c.in-Some.place unary.Not s (Leave ∷ Do (make_unary c.in-Some.place unary.Not) ∷ s) v c.negation-operand.result c.unary.result (run 64 (Want NegationG ∷ Leave ∷ Do (make_unary c.in-Some.place unary.Not) ∷ s) v (ahead c.in-Some.inner)) c.unary.ensures
+    (λ y b. quiet b (Leave ∷ Do (make_unary c.in-Some.place unary.Not) ∷ s) s (read_expression y v) (ExpressionR (UnaryE c.in-Some.place unary.Not (expression_of y)) ∷ v) (λ t q. refl))
+    (c.negation-operand.ensures.leads (Leave ∷ Do (make_unary c.in-Some.place unary.Not) ∷ s) v (deeper (depth s) c.args.room c.in_ok-level_down-in-Some.field-0 d c.in_ok-level_down-in-Some.ensures)))
 
 pub negation-returns-in-None-clause-leads : goal.negation-returns-in-None-clause-leads
 negation-returns-in-None-clause-leads t c = λ s v d. arrives_behind read_expression s v c.binary.result (negation_goes c.args.cursor s v c.in-None.ensures) (c.binary.ensures.leads s v d)
@@ -164,19 +160,9 @@ parenthesised-returns-clause-leads t c = λ s v d. inside_goes c.args.place c.ar
     ∙ c.in_ok-inside.ensures.leads (Do (make_parenthesised c.args.place) ∷ s) v d
     ∙ quiet c.in_ok-inside.rest (Do (make_parenthesised c.args.place) ∷ s) s (read_boxed c.in_ok-inside.inside v) (ExpressionR (ParenthesisedE c.args.place (expression_of c.in_ok-inside.inside.value)) ∷ v) (λ t q. refl)
 
-pub closed-returns-in_err-rest-clause-leads : goal.closed-returns-in_err-rest-clause-leads
-closed-returns-in_err-rest-clause-leads t c = λ s v d. failed read_boxed s v c.from_residual-in_err-rest.result c.in_err-rest.field-0.0 c.from_residual-in_err-rest.ensures.1
-    (c.in_ok-inside.ensures.leads (need mark.RightParenthesis ∷ s) v d
-    ∙ need_refused (Sign mark.RightParenthesis) c.in_ok-inside.behind s _ c.in_err-rest.ensures.0)
-    (refusal c.in_err-rest.field-0.0 c.in_ok-inside.behind c.in_err-rest.ensures.1 refl)
-
-pub closed-returns-in_err-new-clause-leads : goal.closed-returns-in_err-new-clause-leads
-closed-returns-in_err-new-clause-leads t c = λ s v d. out_of_memory read_boxed s v c.from_residual-in_err-new.result (run 64 (an_expression (need mark.RightParenthesis ∷ s)) v (ahead c.args.cursor)) c.from_residual-in_err-new.ensures.1
-
 pub closed-returns-clause-leads : goal.closed-returns-clause-leads
-closed-returns-clause-leads t c = λ s v d. c.in_ok-inside.ensures.leads (need mark.RightParenthesis ∷ s) v d
-    ∙ taken (need mark.RightParenthesis ∷ s) (read_expression c.in_ok-inside.inside v) c.in_ok-rest.ensures.1
-    ∙ seen s v c.in_ok-rest.rest (ap expression_of (sym c.in_ok-new.ensures.ok))
+closed-returns-clause-leads t c = λ s v d. let o : Result Reading Stop = run 64 (an_expression (need mark.RightParenthesis ∷ s)) v (ahead c.args.cursor) in boxes read_expression s v c.closing.result c.boxed.result o c.boxed.ensures
+    (closes read_expression mark.RightParenthesis s v c.binary-inside.result c.closing.result o c.closing.ensures (c.binary-inside.ensures.leads (need mark.RightParenthesis ∷ s) v d))
 
 pub primary-returns-in_err-reference-clause-leads : goal.primary-returns-in_err-reference-clause-leads
 primary-returns-in_err-reference-clause-leads t c = λ s v d. failed read_expression s v c.from_residual.result c.in_err-reference.field-0.0 c.from_residual.ensures.1
@@ -253,11 +239,12 @@ signed-returns-in_err-level_down-clause-leads t c = λ s v d. failed read_expres
     (depth_failure c.in_err-level_down.field-0.0 c.in-Some.inner c.in_err-level_down.ensures.1 refl)
 
 pub signed-returns-in-Some-clause-leads : goal.signed-returns-in-Some-clause-leads
-signed-returns-in-Some-clause-leads t c = λ s v d. taken (Want SignedG ∷ s) v c.in-Some.ensures
-    ∙ entered (depth s) c.args.room c.in_ok-level_down.field-0 (length (ahead c.in-Some.inner)) (run 64 (Want PrimaryG ∷ Leave ∷ Do (make_unary c.in-Some.place unary.Plus) ∷ s) v (ahead c.in-Some.inner)) d c.in_ok-level_down.ensures
-    ∙ c.in_ok-operand.ensures.leads (Leave ∷ Do (make_unary c.in-Some.place unary.Plus) ∷ s) v (deeper (depth s) c.args.room c.in_ok-level_down.field-0 d c.in_ok-level_down.ensures)
-    ∙ quiet c.in_ok-operand.rest (Leave ∷ Do (make_unary c.in-Some.place unary.Plus) ∷ s) s (read_expression c.in_ok-operand.operand v) (ExpressionR (UnaryE c.in-Some.place unary.Plus (expression_of c.in_ok-operand.operand)) ∷ v) (λ t q. refl)
-    ∙ seen s v c.in_ok-operand.rest (ap (λ (e : Expression). UnaryE c.in-Some.place unary.Plus (expression_of e)) (sym c.in_ok-new.ensures.ok))
+signed-returns-in-Some-clause-leads t c = λ s v d. arrives_behind read_expression s v c.unary.result
+    (taken (Want SignedG ∷ s) v c.in-Some.ensures
+    ∙ entered (depth s) c.args.room c.in_ok-level_down.field-0 (length (ahead c.in-Some.inner)) (run 64 (Want PrimaryG ∷ Leave ∷ Do (make_unary c.in-Some.place unary.Plus) ∷ s) v (ahead c.in-Some.inner)) d c.in_ok-level_down.ensures)
+    (operated c.in-Some.place unary.Plus s (Leave ∷ Do (make_unary c.in-Some.place unary.Plus) ∷ s) v c.primary-operand.result c.unary.result (run 64 (Want PrimaryG ∷ Leave ∷ Do (make_unary c.in-Some.place unary.Plus) ∷ s) v (ahead c.in-Some.inner)) c.unary.ensures
+    (λ y b. quiet b (Leave ∷ Do (make_unary c.in-Some.place unary.Plus) ∷ s) s (read_expression y v) (ExpressionR (UnaryE c.in-Some.place unary.Plus (expression_of y)) ∷ v) (λ t q. refl))
+    (c.primary-operand.ensures.leads (Leave ∷ Do (make_unary c.in-Some.place unary.Plus) ∷ s) v (deeper (depth s) c.args.room c.in_ok-level_down.field-0 d c.in_ok-level_down.ensures)))
 
 pub signed-returns-in_err-level_down-2-clause-leads : goal.signed-returns-in_err-level_down-2-clause-leads
 signed-returns-in_err-level_down-2-clause-leads t c = λ s v d. failed read_expression s v c.from_residual-in_err-level_down-2.result c.in_err-level_down-2.field-0.0 c.from_residual-in_err-level_down-2.ensures.1
@@ -266,14 +253,15 @@ signed-returns-in_err-level_down-2-clause-leads t c = λ s v d. failed read_expr
     (depth_failure c.in_err-level_down-2.field-0.0 c.in-Some-mark.inner c.in_err-level_down-2.ensures.1 refl)
 
 pub signed-returns-in-Some-mark-clause-leads : goal.signed-returns-in-Some-mark-clause-leads
-signed-returns-in-Some-mark-clause-leads t c = λ s v d. taken (Want SignedG ∷ s) v c.in-Some-mark.ensures
-    ∙ entered (depth s) c.args.room c.in_ok-level_down-2.field-0 (length (ahead c.in-Some-mark.inner)) (run 64 (Want PrimaryG ∷ Leave ∷ Do (make_unary c.in-Some-mark.place unary.Minus) ∷ s) v (ahead c.in-Some-mark.inner)) d c.in_ok-level_down-2.ensures
-    ∙ c.in_ok-operand-2.ensures.leads (Leave ∷ Do (make_unary c.in-Some-mark.place unary.Minus) ∷ s) v (deeper (depth s) c.args.room c.in_ok-level_down-2.field-0 d c.in_ok-level_down-2.ensures)
-    ∙ quiet c.in_ok-operand-2.rest (Leave ∷ Do (make_unary c.in-Some-mark.place unary.Minus) ∷ s) s (read_expression c.in_ok-operand-2.operand v) (ExpressionR (UnaryE c.in-Some-mark.place unary.Minus (expression_of c.in_ok-operand-2.operand)) ∷ v) (λ t q. refl)
-    ∙ seen s v c.in_ok-operand-2.rest (ap (λ (e : Expression). UnaryE c.in-Some-mark.place unary.Minus (expression_of e)) (sym c.in_ok-new-2.ensures.ok))
+signed-returns-in-Some-mark-clause-leads t c = λ s v d. arrives_behind read_expression s v c.unary-in-Some-mark.result
+    (taken (Want SignedG ∷ s) v c.in-Some-mark.ensures
+    ∙ entered (depth s) c.args.room c.in_ok-level_down-2.field-0 (length (ahead c.in-Some-mark.inner)) (run 64 (Want PrimaryG ∷ Leave ∷ Do (make_unary c.in-Some-mark.place unary.Minus) ∷ s) v (ahead c.in-Some-mark.inner)) d c.in_ok-level_down-2.ensures)
+    (operated c.in-Some-mark.place unary.Minus s (Leave ∷ Do (make_unary c.in-Some-mark.place unary.Minus) ∷ s) v c.primary-operand-in-Some-mark.result c.unary-in-Some-mark.result (run 64 (Want PrimaryG ∷ Leave ∷ Do (make_unary c.in-Some-mark.place unary.Minus) ∷ s) v (ahead c.in-Some-mark.inner)) c.unary-in-Some-mark.ensures
+    (λ y b. quiet b (Leave ∷ Do (make_unary c.in-Some-mark.place unary.Minus) ∷ s) s (read_expression y v) (ExpressionR (UnaryE c.in-Some-mark.place unary.Minus (expression_of y)) ∷ v) (λ t q. refl))
+    (c.primary-operand-in-Some-mark.ensures.leads (Leave ∷ Do (make_unary c.in-Some-mark.place unary.Minus) ∷ s) v (deeper (depth s) c.args.room c.in_ok-level_down-2.field-0 d c.in_ok-level_down-2.ensures)))
 
 pub signed-returns-clause-leads : goal.signed-returns-clause-leads
-signed-returns-clause-leads t c = λ s v d. arrives_behind read_expression s v c.primary-2.result (signed_goes c.args.cursor s v c.in_default.ensures c.in_default-mark.ensures) (c.primary-2.ensures.leads s v d)
+signed-returns-clause-leads t c = λ s v d. arrives_behind read_expression s v c.primary.result (signed_goes c.args.cursor s v c.in_default.ensures c.in_default-mark.ensures) (c.primary.ensures.leads s v d)
 
 pub subscripts-returns-in_err-inside-clause-leads : goal.subscripts-returns-in_err-inside-clause-leads
 subscripts-returns-in_err-inside-clause-leads t c = λ n s v d. failed (λ es. read_subscripts n es.items) s v c.from_residual.result c.in_err-inside.field-0.0 c.from_residual.ensures.1
@@ -281,47 +269,53 @@ subscripts-returns-in_err-inside-clause-leads t c = λ n s v d. failed (λ es. r
     ∙ too_deep (depth s) c.args.room c.in-Some.inner (run 64 (push (ExpressionsR no_expressions) ∷ an_expression (Do add_expression ∷ Want MoreSubscriptsG ∷ Leave ∷ Do set_subscripts ∷ s)) (reference_read n v) (ahead c.in-Some.inner)) d c.in_err-inside.ensures.0)
     (depth_failure c.in_err-inside.field-0.0 c.in-Some.inner c.in_err-inside.ensures.1 refl)
 
-pub subscripts-returns-in_err-first-clause-leads : goal.subscripts-returns-in_err-first-clause-leads
-subscripts-returns-in_err-first-clause-leads t c = λ n s v d. failed (λ es. read_subscripts n es.items) s v c.from_residual-in_err-first.result c.in_err-first.field-0.0 c.from_residual-in_err-first.ensures.1
+pub subscripts-returns-in_err-rest-clause-leads : goal.subscripts-returns-in_err-rest-clause-leads
+subscripts-returns-in_err-rest-clause-leads t c = λ n s v d. failed (λ es. read_subscripts n es.items) s v c.from_residual-in_err-rest.result c.in_err-rest.field-0.0 c.from_residual-in_err-rest.ensures.1
     (taken (Want SubscriptsG ∷ s) (reference_read n v) c.in-Some.ensures
     ∙ entered (depth s) c.args.room c.in_ok-inside.inside (length (ahead c.in-Some.inner)) (run 64 (push (ExpressionsR no_expressions) ∷ an_expression (Do add_expression ∷ Want MoreSubscriptsG ∷ Leave ∷ Do set_subscripts ∷ s)) (reference_read n v) (ahead c.in-Some.inner)) d c.in_ok-inside.ensures
     ∙ quiet c.in-Some.inner (push (ExpressionsR no_expressions) ∷ an_expression (Do add_expression ∷ Want MoreSubscriptsG ∷ Leave ∷ Do set_subscripts ∷ s)) (an_expression (Do add_expression ∷ Want MoreSubscriptsG ∷ Leave ∷ Do set_subscripts ∷ s)) (reference_read n v) (ExpressionsR no_expressions ∷ reference_read n v) (λ t q. refl))
-    (c.in_err-first.ensures.leads (Do add_expression ∷ Want MoreSubscriptsG ∷ Leave ∷ Do set_subscripts ∷ s) (ExpressionsR no_expressions ∷ reference_read n v) (deeper (depth s) c.args.room c.in_ok-inside.inside d c.in_ok-inside.ensures))
+    (lost read_expression (Do add_expression ∷ Want MoreSubscriptsG ∷ Leave ∷ Do set_subscripts ∷ s) (ExpressionsR no_expressions ∷ reference_read n v) c.binary.result c.in_err-rest.field-0.0 (run 64 (an_expression (Do add_expression ∷ Want MoreSubscriptsG ∷ Leave ∷ Do set_subscripts ∷ s)) (ExpressionsR no_expressions ∷ reference_read n v) (ahead c.in-Some.inner)) c.in_err-rest.ensures (c.binary.ensures.leads (Do add_expression ∷ Want MoreSubscriptsG ∷ Leave ∷ Do set_subscripts ∷ s) (ExpressionsR no_expressions ∷ reference_read n v) (deeper (depth s) c.args.room c.in_ok-inside.inside d c.in_ok-inside.ensures)))
 
 pub subscripts-loop-after-init : goal.subscripts-loop-after-init
 subscripts-loop-after-init t c = record {
   leads = λ n s v d. taken (Want SubscriptsG ∷ s) (reference_read n v) c.in-Some.ensures
       ∙ entered (depth s) c.args.room c.in_ok-inside.inside (length (ahead c.in-Some.inner)) (run 64 (push (ExpressionsR no_expressions) ∷ an_expression (Do add_expression ∷ Want MoreSubscriptsG ∷ Leave ∷ Do set_subscripts ∷ s)) (reference_read n v) (ahead c.in-Some.inner)) d c.in_ok-inside.ensures
       ∙ quiet c.in-Some.inner (push (ExpressionsR no_expressions) ∷ an_expression (Do add_expression ∷ Want MoreSubscriptsG ∷ Leave ∷ Do set_subscripts ∷ s)) (an_expression (Do add_expression ∷ Want MoreSubscriptsG ∷ Leave ∷ Do set_subscripts ∷ s)) (reference_read n v) (ExpressionsR no_expressions ∷ reference_read n v) (λ t q. refl)
-      ∙ c.in_ok-first.ensures.leads (Do add_expression ∷ Want MoreSubscriptsG ∷ Leave ∷ Do set_subscripts ∷ s) (ExpressionsR no_expressions ∷ reference_read n v) (deeper (depth s) c.args.room c.in_ok-inside.inside d c.in_ok-inside.ensures)
-      ∙ quiet c.in_ok-first.rest (Do add_expression ∷ Want MoreSubscriptsG ∷ Leave ∷ Do set_subscripts ∷ s) (Want MoreSubscriptsG ∷ Leave ∷ Do set_subscripts ∷ s) (read_expression c.in_ok-first.first (ExpressionsR no_expressions ∷ reference_read n v)) (ExpressionsR (expressions no_expressions (expression_of c.in_ok-first.first)) ∷ (reference_read n v)) (λ t q. refl)
-      ∙ ap (λ (es : List Expression). run 64 (Want MoreSubscriptsG ∷ Leave ∷ Do set_subscripts ∷ s) (ExpressionsR (expressions_of es) ∷ (reference_read n v)) (ahead c.in_ok-first.rest)) (sym (c.in_ok-push.ensures.items ∙ ap (λ (es : List Expression). es ++ c.in_ok-first.first ∷ []) c.new-list.ensures.items));
+      ∙ arrived read_expression (Do add_expression ∷ Want MoreSubscriptsG ∷ Leave ∷ Do set_subscripts ∷ s) (ExpressionsR no_expressions ∷ reference_read n v) c.in_ok-rest.ensures.1.0 (c.binary.ensures.leads (Do add_expression ∷ Want MoreSubscriptsG ∷ Leave ∷ Do set_subscripts ∷ s) (ExpressionsR no_expressions ∷ reference_read n v) (deeper (depth s) c.args.room c.in_ok-inside.inside d c.in_ok-inside.ensures))
+      ∙ quiet c.in_ok-rest.rest (Do add_expression ∷ Want MoreSubscriptsG ∷ Leave ∷ Do set_subscripts ∷ s) (Want MoreSubscriptsG ∷ Leave ∷ Do set_subscripts ∷ s) (read_expression c.in_ok-rest.ensures.0 (ExpressionsR no_expressions ∷ reference_read n v)) (ExpressionsR (expressions no_expressions (expression_of c.in_ok-rest.ensures.0)) ∷ (reference_read n v)) (λ t q. refl)
+      ∙ ap (λ (es : List Expression). run 64 (Want MoreSubscriptsG ∷ Leave ∷ Do set_subscripts ∷ s) (ExpressionsR (expressions_of es) ∷ (reference_read n v)) (ahead c.in_ok-rest.rest)) (sym (c.in_ok-rest.ensures.1.1 ∙ ap (λ (es : List Expression). es ++ c.in_ok-rest.ensures.0 ∷ []) c.new-list.ensures.items));
   inside = c.in_ok-inside.ensures;
-  shorter = omega (arith, c.in-Some.ensures.shorter, c.in_ok-first.ensures.within);
+  shorter = omega (arith, c.in-Some.ensures.shorter, stays_within c.in-Some.inner c.in_ok-rest.ensures.1.0 c.binary.ensures.within);
 }
 
 pub subscripts-loop-after-preserved : goal.subscripts-loop-after-preserved
 subscripts-loop-after-preserved t c = record {
   leads = λ n s v d. c.loop-after.invariant.leads n s v d
       ∙ taken (Want MoreSubscriptsG ∷ Leave ∷ Do set_subscripts ∷ s) (ExpressionsR (expressions_of c.loop-after.list.items) ∷ reference_read n v) c.in-Some-mark.ensures
-      ∙ c.in_ok-next.ensures.leads (Do add_expression ∷ Want MoreSubscriptsG ∷ Leave ∷ Do set_subscripts ∷ s) (ExpressionsR (expressions_of c.loop-after.list.items) ∷ reference_read n v) (deeper (depth s) c.args.room c.in_ok-inside.inside d c.in_ok-inside.ensures)
-      ∙ quiet c.in_ok-next.behind (Do add_expression ∷ Want MoreSubscriptsG ∷ Leave ∷ Do set_subscripts ∷ s) (Want MoreSubscriptsG ∷ Leave ∷ Do set_subscripts ∷ s) (read_expression c.in_ok-next.next (ExpressionsR (expressions_of c.loop-after.list.items) ∷ reference_read n v)) (ExpressionsR (expressions (expressions_of c.loop-after.list.items) (expression_of c.in_ok-next.next)) ∷ (reference_read n v)) (λ t q. refl)
-      ∙ ap (λ (es : ExpressionsT). run 64 (Want MoreSubscriptsG ∷ Leave ∷ Do set_subscripts ∷ s) (ExpressionsR es ∷ (reference_read n v)) (ahead c.in_ok-next.behind)) (sym (expression_pushed c.loop-after.list.items c.in_ok-next.next no_expressions))
-      ∙ ap (λ (es : List Expression). run 64 (Want MoreSubscriptsG ∷ Leave ∷ Do set_subscripts ∷ s) (ExpressionsR (expressions_of es) ∷ (reference_read n v)) (ahead c.in_ok-next.behind)) (sym c.in_ok-push-2.ensures.items);
+      ∙ arrived read_expression (Do add_expression ∷ Want MoreSubscriptsG ∷ Leave ∷ Do set_subscripts ∷ s) (ExpressionsR (expressions_of c.loop-after.list.items) ∷ reference_read n v) c.in_ok-rest-2.ensures.1.0 (c.binary-in-Some-mark.ensures.leads (Do add_expression ∷ Want MoreSubscriptsG ∷ Leave ∷ Do set_subscripts ∷ s) (ExpressionsR (expressions_of c.loop-after.list.items) ∷ reference_read n v) (deeper (depth s) c.args.room c.in_ok-inside.inside d c.in_ok-inside.ensures))
+      ∙ quiet c.in_ok-rest-2.rest (Do add_expression ∷ Want MoreSubscriptsG ∷ Leave ∷ Do set_subscripts ∷ s) (Want MoreSubscriptsG ∷ Leave ∷ Do set_subscripts ∷ s) (read_expression c.in_ok-rest-2.ensures.0 (ExpressionsR (expressions_of c.loop-after.list.items) ∷ reference_read n v)) (ExpressionsR (expressions (expressions_of c.loop-after.list.items) (expression_of c.in_ok-rest-2.ensures.0)) ∷ (reference_read n v)) (λ t q. refl)
+      ∙ ap (λ (es : ExpressionsT). run 64 (Want MoreSubscriptsG ∷ Leave ∷ Do set_subscripts ∷ s) (ExpressionsR es ∷ (reference_read n v)) (ahead c.in_ok-rest-2.rest)) (sym (expression_pushed c.loop-after.list.items c.in_ok-rest-2.ensures.0 no_expressions))
+      ∙ ap (λ (es : List Expression). run 64 (Want MoreSubscriptsG ∷ Leave ∷ Do set_subscripts ∷ s) (ExpressionsR (expressions_of es) ∷ (reference_read n v)) (ahead c.in_ok-rest-2.rest)) (sym c.in_ok-rest-2.ensures.1.1);
   inside = c.loop-after.invariant.inside;
-  shorter = omega (arith, c.loop-after.invariant.shorter, c.in-Some-mark.ensures.shorter, c.in_ok-next.ensures.within);
+  shorter = omega (arith, c.loop-after.invariant.shorter, c.in-Some-mark.ensures.shorter, stays_within c.in-Some-mark.after c.in_ok-rest-2.ensures.1.0 c.binary-in-Some-mark.ensures.within);
 }
 
-pub subscripts-returns-in_err-behind-clause-leads : goal.subscripts-returns-in_err-behind-clause-leads
-subscripts-returns-in_err-behind-clause-leads t c = λ n s v d. failed (λ es. read_subscripts n es.items) s v c.from_residual-in_err-behind.result c.in_err-behind.field-0.0 c.from_residual-in_err-behind.ensures.1
+pub subscripts-returns-in_err-rest-2-clause-leads : goal.subscripts-returns-in_err-rest-2-clause-leads
+subscripts-returns-in_err-rest-2-clause-leads t c = λ n s v d. failed (λ es. read_subscripts n es.items) s v c.from_residual-in_err-rest-2.result c.in_err-rest-2.field-0.0 c.from_residual-in_err-rest-2.ensures.1
     (c.loop-after.invariant.leads n s v d
-    ∙ refused MoreSubscriptsG c.loop-after.rest (Leave ∷ Do set_subscripts ∷ s) (ExpressionsR (expressions_of c.loop-after.list.items) ∷ reference_read n v) (more_subscripts_refused (next_of c.loop-after.rest) c.in_default-mark.ensures c.in_err-behind.ensures.0))
-    (refusal c.in_err-behind.field-0.0 c.loop-after.rest c.in_err-behind.ensures.1 refl)
+    ∙ taken (Want MoreSubscriptsG ∷ Leave ∷ Do set_subscripts ∷ s) (ExpressionsR (expressions_of c.loop-after.list.items) ∷ reference_read n v) c.in-Some-mark.ensures)
+    (lost read_expression (Do add_expression ∷ Want MoreSubscriptsG ∷ Leave ∷ Do set_subscripts ∷ s) (ExpressionsR (expressions_of c.loop-after.list.items) ∷ reference_read n v) c.binary-in-Some-mark.result c.in_err-rest-2.field-0.0 (run 64 (an_expression (Do add_expression ∷ Want MoreSubscriptsG ∷ Leave ∷ Do set_subscripts ∷ s)) (ExpressionsR (expressions_of c.loop-after.list.items) ∷ reference_read n v) (ahead c.in-Some-mark.after)) c.in_err-rest-2.ensures (c.binary-in-Some-mark.ensures.leads (Do add_expression ∷ Want MoreSubscriptsG ∷ Leave ∷ Do set_subscripts ∷ s) (ExpressionsR (expressions_of c.loop-after.list.items) ∷ reference_read n v) (deeper (depth s) c.args.room c.in_ok-inside.inside d c.in_ok-inside.ensures)))
 
 pub subscripts-returns-clause-leads : goal.subscripts-returns-clause-leads
-subscripts-returns-clause-leads t c = λ n s v d. c.loop-after.invariant.leads n s v d
-    ∙ taken (Want MoreSubscriptsG ∷ Leave ∷ Do set_subscripts ∷ s) (ExpressionsR (expressions_of c.loop-after.list.items) ∷ reference_read n v) c.in_ok-behind.ensures.1
-    ∙ quiet c.in_ok-behind.behind (Leave ∷ Do set_subscripts ∷ s) s (ExpressionsR (expressions_of c.loop-after.list.items) ∷ reference_read n v) (read_subscripts n c.loop-after.list.items v) (λ t q. refl)
+subscripts-returns-clause-leads t c = λ n s v d. closes_by (λ es. read_subscripts n es.items) mark.RightParenthesis s v c.loop-after.list c.loop-after.rest c.close.result c.close.ensures
+    (λ q. c.loop-after.invariant.leads n s v d
+    ∙ refused MoreSubscriptsG c.loop-after.rest (Leave ∷ Do set_subscripts ∷ s) (ExpressionsR (expressions_of c.loop-after.list.items) ∷ reference_read n v) (more_subscripts_refused (next_of c.loop-after.rest) c.in_default-mark.ensures q))
+    (λ p b h. c.loop-after.invariant.leads n s v d
+    ∙ taken (Want MoreSubscriptsG ∷ Leave ∷ Do set_subscripts ∷ s) (ExpressionsR (expressions_of c.loop-after.list.items) ∷ reference_read n v) h
+    ∙ quiet b (Leave ∷ Do set_subscripts ∷ s) s (ExpressionsR (expressions_of c.loop-after.list.items) ∷ reference_read n v) (read_subscripts n c.loop-after.list.items v) (λ t q. refl))
+
+pub subscripts-returns-clause-within : goal.subscripts-returns-clause-within
+subscripts-returns-clause-within t c = closes_within mark.RightParenthesis c.args.cursor (Ok (c.loop-after.list, c.loop-after.rest)) c.close.result c.close.ensures (omega (arith, c.loop-after.invariant.shorter))
 
 pub value-returns-in-Some-clause-leads : goal.value-returns-in-Some-clause-leads
 value-returns-in-Some-clause-leads t c = λ s v d. taken (Want ValueG ∷ s) v c.in-Some.ensures
@@ -351,33 +345,43 @@ value-returns-in-Some-form_at-clause-leads t c = λ s v d. taken (Want ValueG �
 pub value-returns-clause-leads : goal.value-returns-clause-leads
 value-returns-clause-leads t c = λ s v d. refusal c.refuse.result c.args.cursor c.refuse.ensures (refused ValueG c.args.cursor s v (value_refused (next_of c.args.cursor) c.in_default.ensures c.in_default-text.ensures c.in_default-mark.ensures c.in_default-form_at.ensures.0 c.in_default-form_at.ensures.1))
 
-pub values-returns-in_err-first-clause-leads : goal.values-returns-in_err-first-clause-leads
-values-returns-in_err-first-clause-leads t c = λ s v d. failed (λ ws. read_values ws.items) s v c.from_residual.result c.in_err-first.field-0.0 c.from_residual.ensures.1
+pub values-returns-in_err-rest-clause-leads : goal.values-returns-in_err-rest-clause-leads
+values-returns-in_err-rest-clause-leads t c = λ s v d. failed (λ ws. read_values ws.items) s v c.from_residual.result c.in_err-rest.field-0.0 c.from_residual.ensures.1
     (quiet c.args.cursor (a_value_list s) (Want ValueG ∷ Do add_value ∷ Want MoreValuesG ∷ s) v (ValuesR no_values ∷ v) (λ t q. refl))
-    (c.in_err-first.ensures.leads (Do add_value ∷ Want MoreValuesG ∷ s) (ValuesR no_values ∷ v) d)
+    (lost read_value (Do add_value ∷ Want MoreValuesG ∷ s) (ValuesR no_values ∷ v) c.value.result c.in_err-rest.field-0.0 (run 64 (Want ValueG ∷ Do add_value ∷ Want MoreValuesG ∷ s) (ValuesR no_values ∷ v) (ahead c.args.cursor)) c.in_err-rest.ensures (c.value.ensures.leads (Do add_value ∷ Want MoreValuesG ∷ s) (ValuesR no_values ∷ v) d))
 
 pub values-loop-after-init : goal.values-loop-after-init
 values-loop-after-init t c = record {
   leads = λ s v d. quiet c.args.cursor (a_value_list s) (Want ValueG ∷ Do add_value ∷ Want MoreValuesG ∷ s) v (ValuesR no_values ∷ v) (λ t q. refl)
-      ∙ c.in_ok-first.ensures.leads (Do add_value ∷ Want MoreValuesG ∷ s) (ValuesR no_values ∷ v) d
-      ∙ quiet c.in_ok-first.rest (Do add_value ∷ Want MoreValuesG ∷ s) (Want MoreValuesG ∷ s) (read_value c.in_ok-first.first (ValuesR no_values ∷ v)) (ValuesR (values no_values (value_of c.in_ok-first.first)) ∷ v) (λ t q. refl)
-      ∙ ap (λ (ws : List ValueTree). run 64 (Want MoreValuesG ∷ s) (ValuesR (values_of ws) ∷ v) (ahead c.in_ok-first.rest)) (sym (c.in_ok-push.ensures.items ∙ ap (λ (ws : List ValueTree). ws ++ c.in_ok-first.first ∷ []) c.new-list.ensures.items));
-  shorter = c.in_ok-first.ensures.within;
+      ∙ arrived read_value (Do add_value ∷ Want MoreValuesG ∷ s) (ValuesR no_values ∷ v) c.in_ok-rest.ensures.1.0 (c.value.ensures.leads (Do add_value ∷ Want MoreValuesG ∷ s) (ValuesR no_values ∷ v) d)
+      ∙ quiet c.in_ok-rest.rest (Do add_value ∷ Want MoreValuesG ∷ s) (Want MoreValuesG ∷ s) (read_value c.in_ok-rest.ensures.0 (ValuesR no_values ∷ v)) (ValuesR (values no_values (value_of c.in_ok-rest.ensures.0)) ∷ v) (λ t q. refl)
+      ∙ ap (λ (ws : List ValueTree). run 64 (Want MoreValuesG ∷ s) (ValuesR (values_of ws) ∷ v) (ahead c.in_ok-rest.rest)) (sym (c.in_ok-rest.ensures.1.1 ∙ ap (λ (ws : List ValueTree). ws ++ c.in_ok-rest.ensures.0 ∷ []) c.new-list.ensures.items));
+  shorter = stays_within c.args.cursor c.in_ok-rest.ensures.1.0 c.value.ensures.within;
 }
 
 pub values-loop-after-preserved : goal.values-loop-after-preserved
 values-loop-after-preserved t c = record {
   leads = λ s v d. c.loop-after.invariant.leads s v d
       ∙ taken (Want MoreValuesG ∷ s) (ValuesR (values_of c.loop-after.list.items) ∷ v) c.in-Some.ensures
-      ∙ c.in_ok-next.ensures.leads (Do add_value ∷ Want MoreValuesG ∷ s) (ValuesR (values_of c.loop-after.list.items) ∷ v) d
-      ∙ quiet c.in_ok-next.behind (Do add_value ∷ Want MoreValuesG ∷ s) (Want MoreValuesG ∷ s) (read_value c.in_ok-next.next (ValuesR (values_of c.loop-after.list.items) ∷ v)) (ValuesR (values (values_of c.loop-after.list.items) (value_of c.in_ok-next.next)) ∷ v) (λ t q. refl)
-      ∙ ap (λ (ws : ValuesT). run 64 (Want MoreValuesG ∷ s) (ValuesR ws ∷ v) (ahead c.in_ok-next.behind)) (sym (value_pushed c.loop-after.list.items c.in_ok-next.next no_values))
-      ∙ ap (λ (ws : List ValueTree). run 64 (Want MoreValuesG ∷ s) (ValuesR (values_of ws) ∷ v) (ahead c.in_ok-next.behind)) (sym c.in_ok-push-2.ensures.items);
-  shorter = omega (arith, c.loop-after.invariant.shorter, c.in-Some.ensures.shorter, c.in_ok-next.ensures.within);
+      ∙ arrived read_value (Do add_value ∷ Want MoreValuesG ∷ s) (ValuesR (values_of c.loop-after.list.items) ∷ v) c.in_ok-rest-2.ensures.1.0 (c.value-in-Some.ensures.leads (Do add_value ∷ Want MoreValuesG ∷ s) (ValuesR (values_of c.loop-after.list.items) ∷ v) d)
+      ∙ quiet c.in_ok-rest-2.rest (Do add_value ∷ Want MoreValuesG ∷ s) (Want MoreValuesG ∷ s) (read_value c.in_ok-rest-2.ensures.0 (ValuesR (values_of c.loop-after.list.items) ∷ v)) (ValuesR (values (values_of c.loop-after.list.items) (value_of c.in_ok-rest-2.ensures.0)) ∷ v) (λ t q. refl)
+      ∙ ap (λ (ws : ValuesT). run 64 (Want MoreValuesG ∷ s) (ValuesR ws ∷ v) (ahead c.in_ok-rest-2.rest)) (sym (value_pushed c.loop-after.list.items c.in_ok-rest-2.ensures.0 no_values))
+      ∙ ap (λ (ws : List ValueTree). run 64 (Want MoreValuesG ∷ s) (ValuesR (values_of ws) ∷ v) (ahead c.in_ok-rest-2.rest)) (sym c.in_ok-rest-2.ensures.1.1);
+  shorter = omega (arith, c.loop-after.invariant.shorter, c.in-Some.ensures.shorter, stays_within c.in-Some.after c.in_ok-rest-2.ensures.1.0 c.value-in-Some.ensures.within);
 }
 
-pub values-returns-in_err-behind-clause-leads : goal.values-returns-in_err-behind-clause-leads
-values-returns-in_err-behind-clause-leads t c = λ s v d. failed (λ ws. read_values ws.items) s v c.from_residual-in_err-behind.result c.in_err-behind.field-0.0 c.from_residual-in_err-behind.ensures.1
+pub values-returns-in_err-rest-2-clause-leads : goal.values-returns-in_err-rest-2-clause-leads
+values-returns-in_err-rest-2-clause-leads t c = λ s v d. failed (λ ws. read_values ws.items) s v c.from_residual-in_err-rest-2.result c.in_err-rest-2.field-0.0 c.from_residual-in_err-rest-2.ensures.1
     (c.loop-after.invariant.leads s v d
-    ∙ refused MoreValuesG c.loop-after.rest s (ValuesR (values_of c.loop-after.list.items) ∷ v) (more_values_refused (next_of c.loop-after.rest) c.in_default.ensures c.in_err-behind.ensures.0))
-    (refusal c.in_err-behind.field-0.0 c.loop-after.rest c.in_err-behind.ensures.1 refl)
+    ∙ taken (Want MoreValuesG ∷ s) (ValuesR (values_of c.loop-after.list.items) ∷ v) c.in-Some.ensures)
+    (lost read_value (Do add_value ∷ Want MoreValuesG ∷ s) (ValuesR (values_of c.loop-after.list.items) ∷ v) c.value-in-Some.result c.in_err-rest-2.field-0.0 (run 64 (Want ValueG ∷ Do add_value ∷ Want MoreValuesG ∷ s) (ValuesR (values_of c.loop-after.list.items) ∷ v) (ahead c.in-Some.after)) c.in_err-rest-2.ensures (c.value-in-Some.ensures.leads (Do add_value ∷ Want MoreValuesG ∷ s) (ValuesR (values_of c.loop-after.list.items) ∷ v) d))
+
+pub values-returns-clause-leads : goal.values-returns-clause-leads
+values-returns-clause-leads t c = λ s v d. closes_by (λ ws. read_values ws.items) mark.RightParenthesis s v c.loop-after.list c.loop-after.rest c.close.result c.close.ensures
+    (λ q. c.loop-after.invariant.leads s v d
+    ∙ refused MoreValuesG c.loop-after.rest s (ValuesR (values_of c.loop-after.list.items) ∷ v) (more_values_refused (next_of c.loop-after.rest) c.in_default.ensures q))
+    (λ p b h. c.loop-after.invariant.leads s v d
+    ∙ taken (Want MoreValuesG ∷ s) (ValuesR (values_of c.loop-after.list.items) ∷ v) h)
+
+pub values-returns-clause-within : goal.values-returns-clause-within
+values-returns-clause-within t c = closes_within mark.RightParenthesis c.args.cursor (Ok (c.loop-after.list, c.loop-after.rest)) c.close.result c.close.ensures c.loop-after.invariant.shorter

@@ -2,6 +2,9 @@ use Rattle.std.proofs.Common.{◌∷◌, ◌++◌, List, length, Some, None, ref
 use Rattle.plm_syntax.specs.declared.tree.Place.{Place}
 use Rattle.plm_syntax.specs.declared.tree.Name.{Name as NameTree}
 use Rattle.plm_syntax.specs.declared.tree.Statement.{Statement}
+use Rattle.std.specs.Global.{Box}
+use Rattle.plm_syntax.specs.declared.tree.Expression.{Expression}
+use Rattle.plm_syntax.specs.declared.statement.Bounds.{Bounds}
 use Rattle.plm_syntax.specs.declared.tree.Item.{Item}
 use Rattle.plm_syntax.specs.Tree.{BlockT, ProcedureI, NamesT, names, no_names, ReferenceE, no_references, StatementsT, statements, no_statements, ItemsT, items, no_items, no_elements, DeclareI, Labelled, IfS, IfElseS, DoS, WhileS, CaseS, IterateS, BlockOf}
 use Rattle.plm_syntax.specs.View.{block_of, name_of, base_of, names_of, expression_of, elements_of, statement_of, statements_of, items_of, step_of, counted, linkage_of}
@@ -13,6 +16,7 @@ use Rattle.plm_syntax.specs.Blocks.{items_part, statements_part, read_statement,
 use Rattle.plm_syntax.specs.Parts.{read_expression, reference_read, read_elements}
 use Rattle.plm_syntax.proofs.Rows.{name_pushed, statement_pushed, item_pushed, statement_row}
 use Rattle.plm_syntax.proofs.Along.{out_of_memory, quiet, taken, refused, entered, too_deep, deeper, failed, refusal, depth_failure, arrives_behind, arrives_left, fails_behind, ahead_length}
+use Rattle.plm_syntax.proofs.Joined.{arrived, ended, lost, stays_less, boxes, besides}
 use Rattle.plm_syntax.proofs.NextBlock.{no_colon, do_refused, no_else, target_goes, statements_go, arm_goes, arm_too_deep, arm_refused, statements_begin, block_parts, failed_item, deep_at_length, item_there, no_item, item_within}
 use Rattle.plm_syntax.proofs.Built.{block_there, procedure_there}
 use Rattle.plm_syntax.proofs.statement.+statement.Goals as goal
@@ -49,48 +53,42 @@ arm-returns-in_err-inside-clause-leads t c = λ s v d. failed read_arm s v c.fro
     ∙ ap deep_at_length (ahead_length c.in-Some.behind.number c.in-Some.behind.tokens.now))
     (depth_failure c.in_err-inside.field-0.0 c.in-Some.behind c.in_err-inside.ensures.1 refl)
 
-pub arm-returns-in_err-statement-clause-leads : goal.arm-returns-in_err-statement-clause-leads
-arm-returns-in_err-statement-clause-leads t c = λ s v d. failed read_arm s v c.from_residual-in_err-statement.result c.in_err-statement.field-0.0 c.from_residual-in_err-statement.ensures.1
-    (arm_goes c.args.cursor s v c.args.room c.in_ok-inside.inside d c.in_ok-inside.ensures)
-    (c.in_err-statement.ensures.leads (Leave ∷ s) v (deeper (depth s) c.args.room c.in_ok-inside.inside d c.in_ok-inside.ensures))
-
-pub arm-returns-in_err-new-clause-leads : goal.arm-returns-in_err-new-clause-leads
-arm-returns-in_err-new-clause-leads t c = λ s v d. out_of_memory read_arm s v c.from_residual-in_err-new.result (run 64 (Want ArmG ∷ s) v (ahead c.args.cursor)) c.from_residual-in_err-new.ensures.1
-
 pub arm-returns-clause-leads : goal.arm-returns-clause-leads
-arm-returns-clause-leads t c = λ s v d. arm_goes c.args.cursor s v c.args.room c.in_ok-inside.inside d c.in_ok-inside.ensures
-    ∙ c.in_ok-statement.ensures.leads (Leave ∷ s) v (deeper (depth s) c.args.room c.in_ok-inside.inside d c.in_ok-inside.ensures)
-    ∙ quiet c.in_ok-statement.rest (Leave ∷ s) s (read_statement c.in_ok-statement.statement v) (read_statement c.in_ok-statement.statement v) (λ t q. refl)
-    ∙ ap (λ (x : Statement). run 64 s (read_statement x v) (ahead c.in_ok-statement.rest)) (sym c.in_ok-new.ensures.ok)
+arm-returns-clause-leads t c = λ s v d. arrives_left read_arm s v c.boxed.result
+    (arm_goes c.args.cursor s v c.args.room c.in_ok-inside.inside d c.in_ok-inside.ensures)
+    (boxes read_statement (Leave ∷ s) v c.statement.result c.boxed.result (run 64 (Want (StatementG None) ∷ Leave ∷ s) (NamesR no_names ∷ v) (ahead c.args.cursor)) c.boxed.ensures (c.statement.ensures.leads (Leave ∷ s) v (deeper (depth s) c.args.room c.in_ok-inside.inside d c.in_ok-inside.ensures)))
 
 -- what is awaited behind the word THEN, and behind its arm
 abbrev to_arms : Place → List Symbol → List Symbol
 to_arms p s = Want ArmG ∷ Want OtherwiseG ∷ Do (make_if p) ∷ s
 
-pub condition-returns-in_err-then-clause-leads : goal.condition-returns-in_err-then-clause-leads
-condition-returns-in_err-then-clause-leads t c = λ ls s v d. failed (read_basic ls) s v c.from_residual-in_err-then.result c.in_err-then.field-0.0 c.from_residual-in_err-then.ensures.1
-    (c.in_ok-test.ensures.leads (to_arms c.args.place s) (NamesR ls ∷ v) d)
-    (c.in_err-then.ensures.leads (Want OtherwiseG ∷ Do (make_if c.args.place) ∷ s) (read_expression c.in_ok-test.test (NamesR ls ∷ v)) d)
+pub condition-returns-in_err-choice-clause-leads : goal.condition-returns-in_err-choice-clause-leads
+condition-returns-in_err-choice-clause-leads t c = λ ls s v d. failed (read_basic ls) s v c.from_residual-in_err-choice.result c.in_err-choice.field-0.0 c.from_residual-in_err-choice.ensures.1
+    (c.in_ok-asked.ensures.leads (to_arms c.args.place s) (NamesR ls ∷ v) d)
+    (ended read_arm (Want OtherwiseG ∷ Do (make_if c.args.place) ∷ s) (read_expression c.in_ok-asked.asked (NamesR ls ∷ v)) (run 64 (to_arms c.args.place s) (read_expression c.in_ok-asked.asked (NamesR ls ∷ v)) (ahead c.in_ok-asked.start)) c.in_err-choice.ensures (c.arm.ensures.leads (Want OtherwiseG ∷ Do (make_if c.args.place) ∷ s) (read_expression c.in_ok-asked.asked (NamesR ls ∷ v)) d))
 
 pub condition-returns-in_default-clause-leads : goal.condition-returns-in_default-clause-leads
-condition-returns-in_default-clause-leads t c = λ ls s v d. c.in_ok-test.ensures.leads (to_arms c.args.place s) (NamesR ls ∷ v) d
-    ∙ c.in_ok-then.ensures.leads (Want OtherwiseG ∷ Do (make_if c.args.place) ∷ s) (read_expression c.in_ok-test.test (NamesR ls ∷ v)) d
-    ∙ no_else c.in_ok-then.behind (Do (make_if c.args.place) ∷ s) (read_arm c.in_ok-then.then (read_expression c.in_ok-test.test (NamesR ls ∷ v))) c.in_default.ensures
-    ∙ quiet c.in_ok-then.behind (Do (make_if c.args.place) ∷ s) s (read_arm c.in_ok-then.then (read_expression c.in_ok-test.test (NamesR ls ∷ v))) (StatementR (Labelled ls (IfS c.args.place (expression_of c.in_ok-test.test) (statement_of c.in_ok-then.then.value))) ∷ v) (λ t q. refl)
+condition-returns-in_default-clause-leads t c = λ ls s v d. c.in_ok-asked.ensures.leads (to_arms c.args.place s) (NamesR ls ∷ v) d
+    ∙ arrived read_arm (Want OtherwiseG ∷ Do (make_if c.args.place) ∷ s) (read_expression c.in_ok-asked.asked (NamesR ls ∷ v)) c.in_ok-choice.ensures.1 (c.arm.ensures.leads (Want OtherwiseG ∷ Do (make_if c.args.place) ∷ s) (read_expression c.in_ok-asked.asked (NamesR ls ∷ v)) d)
+    ∙ no_else c.in_ok-choice.behind (Do (make_if c.args.place) ∷ s) (read_arm c.in_ok-choice.choice.1 (read_expression c.in_ok-asked.asked (NamesR ls ∷ v))) c.in_default.ensures
+    ∙ quiet c.in_ok-choice.behind (Do (make_if c.args.place) ∷ s) s (read_arm c.in_ok-choice.choice.1 (read_expression c.in_ok-asked.asked (NamesR ls ∷ v))) (StatementR (Labelled ls (IfS c.args.place (expression_of c.in_ok-asked.asked) (statement_of c.in_ok-choice.choice.1.value))) ∷ v) (λ t q. refl)
+    ∙ ap (λ (x : Expression). run 64 s (StatementR (Labelled ls (IfS c.args.place (expression_of x) (statement_of c.in_ok-choice.choice.1.value))) ∷ v) (ahead c.in_ok-choice.behind)) (sym c.in_ok-choice.ensures.0)
 
-pub condition-returns-in_err-other-clause-leads : goal.condition-returns-in_err-other-clause-leads
-condition-returns-in_err-other-clause-leads t c = λ ls s v d. failed (read_basic ls) s v c.from_residual-in_err-other.result c.in_err-other.field-0.0 c.from_residual-in_err-other.ensures.1
-    (c.in_ok-test.ensures.leads (to_arms c.args.place s) (NamesR ls ∷ v) d
-    ∙ c.in_ok-then.ensures.leads (Want OtherwiseG ∷ Do (make_if c.args.place) ∷ s) (read_expression c.in_ok-test.test (NamesR ls ∷ v)) d
-    ∙ taken (Want OtherwiseG ∷ Do (make_if c.args.place) ∷ s) (read_arm c.in_ok-then.then (read_expression c.in_ok-test.test (NamesR ls ∷ v))) c.in-Some.ensures)
-    (c.in_err-other.ensures.leads (Do join_arms ∷ Do (make_if c.args.place) ∷ s) (read_arm c.in_ok-then.then (read_expression c.in_ok-test.test (NamesR ls ∷ v))) d)
+pub condition-returns-in_err-test-clause-leads : goal.condition-returns-in_err-test-clause-leads
+condition-returns-in_err-test-clause-leads t c = λ ls s v d. failed (read_basic ls) s v c.from_residual-in_err-test.result c.in_err-test.field-0.0 c.from_residual-in_err-test.ensures.1
+    (c.in_ok-asked.ensures.leads (to_arms c.args.place s) (NamesR ls ∷ v) d
+    ∙ arrived read_arm (Want OtherwiseG ∷ Do (make_if c.args.place) ∷ s) (read_expression c.in_ok-asked.asked (NamesR ls ∷ v)) c.in_ok-choice.ensures.1 (c.arm.ensures.leads (Want OtherwiseG ∷ Do (make_if c.args.place) ∷ s) (read_expression c.in_ok-asked.asked (NamesR ls ∷ v)) d)
+    ∙ taken (Want OtherwiseG ∷ Do (make_if c.args.place) ∷ s) (read_arm c.in_ok-choice.choice.1 (read_expression c.in_ok-asked.asked (NamesR ls ∷ v))) c.in-Some.ensures)
+    (ended read_arm (Do join_arms ∷ Do (make_if c.args.place) ∷ s) (read_arm c.in_ok-choice.choice.1 (read_expression c.in_ok-asked.asked (NamesR ls ∷ v))) (run 64 (Want ArmG ∷ Do join_arms ∷ Do (make_if c.args.place) ∷ s) (read_arm c.in_ok-choice.choice.1 (read_expression c.in_ok-asked.asked (NamesR ls ∷ v))) (ahead c.in-Some.after)) c.in_err-test.ensures (c.arm-2.ensures.leads (Do join_arms ∷ Do (make_if c.args.place) ∷ s) (read_arm c.in_ok-choice.choice.1 (read_expression c.in_ok-asked.asked (NamesR ls ∷ v))) d))
 
 pub condition-returns-clause-leads : goal.condition-returns-clause-leads
-condition-returns-clause-leads t c = λ ls s v d. c.in_ok-test.ensures.leads (to_arms c.args.place s) (NamesR ls ∷ v) d
-    ∙ c.in_ok-then.ensures.leads (Want OtherwiseG ∷ Do (make_if c.args.place) ∷ s) (read_expression c.in_ok-test.test (NamesR ls ∷ v)) d
-    ∙ taken (Want OtherwiseG ∷ Do (make_if c.args.place) ∷ s) (read_arm c.in_ok-then.then (read_expression c.in_ok-test.test (NamesR ls ∷ v))) c.in-Some.ensures
-    ∙ c.in_ok-other.ensures.leads (Do join_arms ∷ Do (make_if c.args.place) ∷ s) (read_arm c.in_ok-then.then (read_expression c.in_ok-test.test (NamesR ls ∷ v))) d
-    ∙ quiet c.in_ok-other.rest (Do join_arms ∷ Do (make_if c.args.place) ∷ s) s (read_arm c.in_ok-other.other (read_arm c.in_ok-then.then (read_expression c.in_ok-test.test (NamesR ls ∷ v)))) (StatementR (Labelled ls (IfElseS c.args.place (expression_of c.in_ok-test.test) (statement_of c.in_ok-then.then.value) (statement_of c.in_ok-other.other.value))) ∷ v) (λ t q. refl)
+condition-returns-clause-leads t c = λ ls s v d. c.in_ok-asked.ensures.leads (to_arms c.args.place s) (NamesR ls ∷ v) d
+    ∙ arrived read_arm (Want OtherwiseG ∷ Do (make_if c.args.place) ∷ s) (read_expression c.in_ok-asked.asked (NamesR ls ∷ v)) c.in_ok-choice.ensures.1 (c.arm.ensures.leads (Want OtherwiseG ∷ Do (make_if c.args.place) ∷ s) (read_expression c.in_ok-asked.asked (NamesR ls ∷ v)) d)
+    ∙ taken (Want OtherwiseG ∷ Do (make_if c.args.place) ∷ s) (read_arm c.in_ok-choice.choice.1 (read_expression c.in_ok-asked.asked (NamesR ls ∷ v))) c.in-Some.ensures
+    ∙ arrived read_arm (Do join_arms ∷ Do (make_if c.args.place) ∷ s) (read_arm c.in_ok-choice.choice.1 (read_expression c.in_ok-asked.asked (NamesR ls ∷ v))) c.in_ok-test.ensures.1 (c.arm-2.ensures.leads (Do join_arms ∷ Do (make_if c.args.place) ∷ s) (read_arm c.in_ok-choice.choice.1 (read_expression c.in_ok-asked.asked (NamesR ls ∷ v))) d)
+    ∙ quiet c.in_ok-test.rest (Do join_arms ∷ Do (make_if c.args.place) ∷ s) s (read_arm c.in_ok-test.other (read_arm c.in_ok-choice.choice.1 (read_expression c.in_ok-asked.asked (NamesR ls ∷ v)))) (StatementR (Labelled ls (IfElseS c.args.place (expression_of c.in_ok-asked.asked) (statement_of c.in_ok-choice.choice.1.value) (statement_of c.in_ok-test.other.value))) ∷ v) (λ t q. refl)
+    ∙ ap (λ (x : Expression). run 64 s (StatementR (Labelled ls (IfElseS c.args.place (expression_of x) (statement_of c.in_ok-choice.choice.1.value) (statement_of c.in_ok-test.other.value))) ∷ v) (ahead c.in_ok-test.rest)) (sym c.in_ok-choice.ensures.0)
+    ∙ ap (λ (x : Expression × Box Statement). run 64 s (StatementR (Labelled ls (IfElseS c.args.place (expression_of x.0) (statement_of x.1.value) (statement_of c.in_ok-test.other.value))) ∷ v) (ahead c.in_ok-test.rest)) (sym c.in_ok-test.ensures.0)
 
 pub group-returns-in-Some-clause-leads : goal.group-returns-in-Some-clause-leads
 group-returns-in-Some-clause-leads t c = λ ls s v d. arrives_behind (read_basic ls) s v c.iteration.result
@@ -119,7 +117,7 @@ group-returns-in_err-test-clause-leads t c = λ ls s v d. failed (read_basic ls)
 pub group-returns-in-Some-keyword-clause-leads : goal.group-returns-in-Some-keyword-clause-leads
 group-returns-in-Some-keyword-clause-leads t c = λ ls s v d. taken (Want (DoG c.args.place (base_of c.args.label)) ∷ s) (NamesR ls ∷ v) c.in-Some-keyword.ensures
     ∙ c.in_ok-test.ensures.leads (Do (make_while c.args.place) ∷ s) (NamesR ls ∷ v) d
-    ∙ quiet c.in_ok-test.rest (Do (make_while c.args.place) ∷ s) s (read_governed (c.in_ok-test.test, c.in_ok-test.body, c.in_ok-test.end) (NamesR ls ∷ v)) (StatementR (Labelled ls (WhileS c.args.place (expression_of c.in_ok-test.test) (statements_of c.in_ok-test.body.items) (base_of c.in_ok-test.end))) ∷ v) (λ t q. refl)
+    ∙ quiet c.in_ok-test.rest (Do (make_while c.args.place) ∷ s) s (read_governed (c.in_ok-test.test, (c.in_ok-test.body, c.in_ok-test.end)) (NamesR ls ∷ v)) (StatementR (Labelled ls (WhileS c.args.place (expression_of c.in_ok-test.test) (statements_of c.in_ok-test.body.items) (base_of c.in_ok-test.end))) ∷ v) (λ t q. refl)
     ∙ ap (λ (x : StatementsT). run 64 s (StatementR (Labelled ls (WhileS c.args.place (expression_of c.in_ok-test.test) x (base_of c.in_ok-test.end))) ∷ v) (ahead c.in_ok-test.rest)) (sym (statement_row c.in_ok-test.body))
 
 pub group-returns-in_err-selected-clause-leads : goal.group-returns-in_err-selected-clause-leads
@@ -130,39 +128,36 @@ group-returns-in_err-selected-clause-leads t c = λ ls s v d. failed (read_basic
 pub group-returns-in-Some-keyword-2-clause-leads : goal.group-returns-in-Some-keyword-2-clause-leads
 group-returns-in-Some-keyword-2-clause-leads t c = λ ls s v d. taken (Want (DoG c.args.place (base_of c.args.label)) ∷ s) (NamesR ls ∷ v) c.in-Some-keyword-2.ensures
     ∙ c.in_ok-selected.ensures.leads (Do (make_case c.args.place) ∷ s) (NamesR ls ∷ v) d
-    ∙ quiet c.in_ok-selected.rest (Do (make_case c.args.place) ∷ s) s (read_governed (c.in_ok-selected.selected, c.in_ok-selected.cases, c.in_ok-selected.end) (NamesR ls ∷ v)) (StatementR (Labelled ls (CaseS c.args.place (expression_of c.in_ok-selected.selected) (statements_of c.in_ok-selected.cases.items) (base_of c.in_ok-selected.end))) ∷ v) (λ t q. refl)
+    ∙ quiet c.in_ok-selected.rest (Do (make_case c.args.place) ∷ s) s (read_governed (c.in_ok-selected.selected, (c.in_ok-selected.cases, c.in_ok-selected.end)) (NamesR ls ∷ v)) (StatementR (Labelled ls (CaseS c.args.place (expression_of c.in_ok-selected.selected) (statements_of c.in_ok-selected.cases.items) (base_of c.in_ok-selected.end))) ∷ v) (λ t q. refl)
     ∙ ap (λ (x : StatementsT). run 64 s (StatementR (Labelled ls (CaseS c.args.place (expression_of c.in_ok-selected.selected) x (base_of c.in_ok-selected.end))) ∷ v) (ahead c.in_ok-selected.rest)) (sym (statement_row c.in_ok-selected.cases))
 
 pub group-returns-clause-leads : goal.group-returns-clause-leads
 group-returns-clause-leads t c = λ ls s v d. refusal c.refuse.result c.args.cursor c.refuse.ensures (refused (DoG c.args.place (base_of c.args.label)) c.args.cursor s (NamesR ls ∷ v) (do_refused c.args.place (base_of c.args.label) (next_of c.args.cursor) c.in_default.ensures c.in_default-mark.ensures c.in_default-keyword.ensures c.in_default-keyword-2.ensures))
 
-pub governed-returns-in_err-list-clause-leads : goal.governed-returns-in_err-list-clause-leads
-governed-returns-in_err-list-clause-leads t c = λ s v d. failed read_governed s v c.from_residual-in_err-list.result c.in_err-list.field-0.0 c.from_residual-in_err-list.ensures.1
+pub governed-returns-clause-leads : goal.governed-returns-clause-leads
+governed-returns-clause-leads t c = λ s v d. arrives_behind read_governed s v c.beside.result
     (c.in_ok-value.ensures.leads (no_statement_yet ∷ Want (StatementsG (base_of c.args.label)) ∷ s) v d
     ∙ quiet c.in_ok-value.start (no_statement_yet ∷ Want (StatementsG (base_of c.args.label)) ∷ s) (Want (StatementsG (base_of c.args.label)) ∷ s) (read_expression c.in_ok-value.value v) (StatementsR no_statements ∷ read_expression c.in_ok-value.value v) (λ t q. refl))
-    (c.in_err-list.ensures.leads s (read_expression c.in_ok-value.value v) d)
+    (besides read_body read_governed c.in_ok-value.value s (read_expression c.in_ok-value.value v) v c.statements.result c.beside.result (run 64 (Want (StatementsG (base_of c.args.label)) ∷ s) (StatementsR no_statements ∷ read_expression c.in_ok-value.value v) (ahead c.in_ok-value.start)) c.beside.ensures (λ b. refl)
+    (c.statements.ensures.leads s (read_expression c.in_ok-value.value v) d))
 
-pub governed-returns-clause-leads : goal.governed-returns-clause-leads
-governed-returns-clause-leads t c = λ s v d. c.in_ok-value.ensures.leads (no_statement_yet ∷ Want (StatementsG (base_of c.args.label)) ∷ s) v d
-    ∙ quiet c.in_ok-value.start (no_statement_yet ∷ Want (StatementsG (base_of c.args.label)) ∷ s) (Want (StatementsG (base_of c.args.label)) ∷ s) (read_expression c.in_ok-value.value v) (StatementsR no_statements ∷ read_expression c.in_ok-value.value v) (λ t q. refl)
-    ∙ c.in_ok-list.ensures.leads s (read_expression c.in_ok-value.value v) d
+pub iteration-returns-in_err-header-clause-leads : goal.iteration-returns-in_err-header-clause-leads
+iteration-returns-in_err-header-clause-leads t c = λ ls s v d. failed (read_basic ls) s v c.from_residual.result c.in_err-header.field-0.0 c.from_residual.ensures.1 refl
+    (c.in_err-header.ensures.leads (name_of c.args.index) (no_statement_yet ∷ Want (StatementsG (base_of c.args.label)) ∷ Do (make_iterate c.args.place) ∷ s) (NamesR ls ∷ v) d)
 
 pub iteration-returns-in_err-bounds-clause-leads : goal.iteration-returns-in_err-bounds-clause-leads
-iteration-returns-in_err-bounds-clause-leads t c = λ ls s v d. failed (read_basic ls) s v c.from_residual.result c.in_err-bounds.field-0.0 c.from_residual.ensures.1 refl
-    (c.in_err-bounds.ensures.leads (name_of c.args.index) (no_statement_yet ∷ Want (StatementsG (base_of c.args.label)) ∷ Do (make_iterate c.args.place) ∷ s) (NamesR ls ∷ v) d)
-
-pub iteration-returns-in_err-body-clause-leads : goal.iteration-returns-in_err-body-clause-leads
-iteration-returns-in_err-body-clause-leads t c = λ ls s v d. failed (read_basic ls) s v c.from_residual-in_err-body.result c.in_err-body.field-0.0 c.from_residual-in_err-body.ensures.1
-    (c.in_ok-bounds.ensures.leads (name_of c.args.index) (no_statement_yet ∷ Want (StatementsG (base_of c.args.label)) ∷ Do (make_iterate c.args.place) ∷ s) (NamesR ls ∷ v) d
-    ∙ quiet c.in_ok-bounds.start (no_statement_yet ∷ Want (StatementsG (base_of c.args.label)) ∷ Do (make_iterate c.args.place) ∷ s) (Want (StatementsG (base_of c.args.label)) ∷ Do (make_iterate c.args.place) ∷ s) (read_range (name_of c.args.index) c.in_ok-bounds.bounds (NamesR ls ∷ v)) (StatementsR no_statements ∷ read_range (name_of c.args.index) c.in_ok-bounds.bounds (NamesR ls ∷ v)) (λ t q. refl))
-    (c.in_err-body.ensures.leads (Do (make_iterate c.args.place) ∷ s) (read_range (name_of c.args.index) c.in_ok-bounds.bounds (NamesR ls ∷ v)) d)
+iteration-returns-in_err-bounds-clause-leads t c = λ ls s v d. failed (read_basic ls) s v c.from_residual-in_err-bounds.result c.in_err-bounds.field-0.0 c.from_residual-in_err-bounds.ensures.1
+    (c.in_ok-header.ensures.leads (name_of c.args.index) (no_statement_yet ∷ Want (StatementsG (base_of c.args.label)) ∷ Do (make_iterate c.args.place) ∷ s) (NamesR ls ∷ v) d
+    ∙ quiet c.in_ok-header.start (no_statement_yet ∷ Want (StatementsG (base_of c.args.label)) ∷ Do (make_iterate c.args.place) ∷ s) (Want (StatementsG (base_of c.args.label)) ∷ Do (make_iterate c.args.place) ∷ s) (read_range (name_of c.args.index) c.in_ok-header.header (NamesR ls ∷ v)) (StatementsR no_statements ∷ read_range (name_of c.args.index) c.in_ok-header.header (NamesR ls ∷ v)) (λ t q. refl))
+    (ended read_body (Do (make_iterate c.args.place) ∷ s) (read_range (name_of c.args.index) c.in_ok-header.header (NamesR ls ∷ v)) (run 64 (Want (StatementsG (base_of c.args.label)) ∷ Do (make_iterate c.args.place) ∷ s) (StatementsR no_statements ∷ read_range (name_of c.args.index) c.in_ok-header.header (NamesR ls ∷ v)) (ahead c.in_ok-header.start)) c.in_err-bounds.ensures (c.statements.ensures.leads (Do (make_iterate c.args.place) ∷ s) (read_range (name_of c.args.index) c.in_ok-header.header (NamesR ls ∷ v)) d))
 
 pub iteration-returns-clause-leads : goal.iteration-returns-clause-leads
-iteration-returns-clause-leads t c = λ ls s v d. c.in_ok-bounds.ensures.leads (name_of c.args.index) (no_statement_yet ∷ Want (StatementsG (base_of c.args.label)) ∷ Do (make_iterate c.args.place) ∷ s) (NamesR ls ∷ v) d
-    ∙ quiet c.in_ok-bounds.start (no_statement_yet ∷ Want (StatementsG (base_of c.args.label)) ∷ Do (make_iterate c.args.place) ∷ s) (Want (StatementsG (base_of c.args.label)) ∷ Do (make_iterate c.args.place) ∷ s) (read_range (name_of c.args.index) c.in_ok-bounds.bounds (NamesR ls ∷ v)) (StatementsR no_statements ∷ read_range (name_of c.args.index) c.in_ok-bounds.bounds (NamesR ls ∷ v)) (λ t q. refl)
-    ∙ c.in_ok-body.ensures.leads (Do (make_iterate c.args.place) ∷ s) (read_range (name_of c.args.index) c.in_ok-bounds.bounds (NamesR ls ∷ v)) d
-    ∙ quiet c.in_ok-body.rest (Do (make_iterate c.args.place) ∷ s) s (read_body (c.in_ok-body.body, c.in_ok-body.end) (read_range (name_of c.args.index) c.in_ok-bounds.bounds (NamesR ls ∷ v))) (StatementR (Labelled ls (IterateS c.args.place (name_of c.args.index) (expression_of c.in_ok-bounds.bounds.first) (expression_of c.in_ok-bounds.bounds.last) (step_of c.in_ok-bounds.bounds.step) (statements_of c.in_ok-body.body.items) (base_of c.in_ok-body.end))) ∷ v) (λ t q. refl)
-    ∙ ap (λ (x : StatementsT). run 64 s (StatementR (Labelled ls (IterateS c.args.place (name_of c.args.index) (expression_of c.in_ok-bounds.bounds.first) (expression_of c.in_ok-bounds.bounds.last) (step_of c.in_ok-bounds.bounds.step) x (base_of c.in_ok-body.end))) ∷ v) (ahead c.in_ok-body.rest)) (sym (statement_row c.in_ok-body.body))
+iteration-returns-clause-leads t c = λ ls s v d. c.in_ok-header.ensures.leads (name_of c.args.index) (no_statement_yet ∷ Want (StatementsG (base_of c.args.label)) ∷ Do (make_iterate c.args.place) ∷ s) (NamesR ls ∷ v) d
+    ∙ quiet c.in_ok-header.start (no_statement_yet ∷ Want (StatementsG (base_of c.args.label)) ∷ Do (make_iterate c.args.place) ∷ s) (Want (StatementsG (base_of c.args.label)) ∷ Do (make_iterate c.args.place) ∷ s) (read_range (name_of c.args.index) c.in_ok-header.header (NamesR ls ∷ v)) (StatementsR no_statements ∷ read_range (name_of c.args.index) c.in_ok-header.header (NamesR ls ∷ v)) (λ t q. refl)
+    ∙ arrived read_body (Do (make_iterate c.args.place) ∷ s) (read_range (name_of c.args.index) c.in_ok-header.header (NamesR ls ∷ v)) c.in_ok-bounds.ensures.1 (c.statements.ensures.leads (Do (make_iterate c.args.place) ∷ s) (read_range (name_of c.args.index) c.in_ok-header.header (NamesR ls ∷ v)) d)
+    ∙ ap (λ (x : Bounds). run 64 (Do (make_iterate c.args.place) ∷ s) (read_body (c.in_ok-bounds.body, c.in_ok-bounds.end) (read_range (name_of c.args.index) x (NamesR ls ∷ v))) (ahead c.in_ok-bounds.rest)) (sym c.in_ok-bounds.ensures.0)
+    ∙ quiet c.in_ok-bounds.rest (Do (make_iterate c.args.place) ∷ s) s (read_body (c.in_ok-bounds.body, c.in_ok-bounds.end) (read_range (name_of c.args.index) c.in_ok-bounds.bounds (NamesR ls ∷ v))) (StatementR (Labelled ls (IterateS c.args.place (name_of c.args.index) (expression_of c.in_ok-bounds.bounds.first) (expression_of c.in_ok-bounds.bounds.last) (step_of c.in_ok-bounds.bounds.step) (statements_of c.in_ok-bounds.body.items) (base_of c.in_ok-bounds.end))) ∷ v) (λ t q. refl)
+    ∙ ap (λ (x : StatementsT). run 64 s (StatementR (Labelled ls (IterateS c.args.place (name_of c.args.index) (expression_of c.in_ok-bounds.bounds.first) (expression_of c.in_ok-bounds.bounds.last) (step_of c.in_ok-bounds.bounds.step) x (base_of c.in_ok-bounds.end))) ∷ v) (ahead c.in_ok-bounds.rest)) (sym (statement_row c.in_ok-bounds.body))
 
 pub statements-returns-in_err-end-clause-leads : goal.statements-returns-in_err-end-clause-leads
 statements-returns-in_err-end-clause-leads t c = λ s v d. failed read_body s v c.from_residual.result c.in_err-end.field-0.0 c.from_residual.ensures.1
@@ -175,11 +170,11 @@ statements-returns-in-Some-clause-leads t c = λ s v d. c.loop-after.invariant.l
     ∙ taken (Want (StatementsG (base_of c.args.label)) ∷ s) (StatementsR (statements_of c.loop-after.list.items) ∷ v) c.in-Some.ensures
     ∙ c.in_ok-end.ensures.leads s (StatementsR (statements_of c.loop-after.list.items) ∷ v)
 
-pub statements-returns-in_err-statement-clause-leads : goal.statements-returns-in_err-statement-clause-leads
-statements-returns-in_err-statement-clause-leads t c = λ s v d. failed read_body s v c.from_residual-in_err-statement.result c.in_err-statement.field-0.0 c.from_residual-in_err-statement.ensures.1
+pub statements-returns-in_err-rest-clause-leads : goal.statements-returns-in_err-rest-clause-leads
+statements-returns-in_err-rest-clause-leads t c = λ s v d. failed read_body s v c.from_residual-in_err-rest.result c.in_err-rest.field-0.0 c.from_residual-in_err-rest.ensures.1
     (c.loop-after.invariant.leads s v d
     ∙ statements_go (base_of c.args.label) c.loop-after.rest s (StatementsR (statements_of c.loop-after.list.items) ∷ v) c.in_default.ensures)
-    (c.in_err-statement.ensures.leads (and_more (base_of c.args.label) ++ s) (StatementsR (statements_of c.loop-after.list.items) ∷ v) d)
+    (lost read_statement (and_more (base_of c.args.label) ++ s) (StatementsR (statements_of c.loop-after.list.items) ∷ v) c.statement.result c.in_err-rest.field-0.0 (run 64 (Want (StatementG None) ∷ and_more (base_of c.args.label) ++ s) (NamesR no_names ∷ StatementsR (statements_of c.loop-after.list.items) ∷ v) (ahead c.loop-after.rest)) c.in_err-rest.ensures (c.statement.ensures.leads (and_more (base_of c.args.label) ++ s) (StatementsR (statements_of c.loop-after.list.items) ∷ v) d))
 
 pub statements-loop-after-init : goal.statements-loop-after-init
 statements-loop-after-init t c = record { leads = λ s v d. ap (λ (xs : List Statement). run 64 (Want (StatementsG (base_of c.args.label)) ∷ s) (StatementsR (statements_of xs) ∷ v) (ahead c.args.cursor)) (sym c.new-list.ensures.items); shorter = omega arith }
@@ -188,11 +183,11 @@ pub statements-loop-after-preserved : goal.statements-loop-after-preserved
 statements-loop-after-preserved t c = record {
   leads = λ s v d. c.loop-after.invariant.leads s v d
       ∙ statements_go (base_of c.args.label) c.loop-after.rest s (StatementsR (statements_of c.loop-after.list.items) ∷ v) c.in_default.ensures
-      ∙ c.in_ok-statement.ensures.leads (and_more (base_of c.args.label) ++ s) (StatementsR (statements_of c.loop-after.list.items) ∷ v) d
-      ∙ quiet c.in_ok-statement.behind (and_more (base_of c.args.label) ++ s) (Want (StatementsG (base_of c.args.label)) ∷ s) (read_statement c.in_ok-statement.statement (StatementsR (statements_of c.loop-after.list.items) ∷ v)) (StatementsR (statements (statements_of c.loop-after.list.items) (statement_of c.in_ok-statement.statement)) ∷ v) (λ t q. refl)
-      ∙ ap (λ (xs : StatementsT). run 64 (Want (StatementsG (base_of c.args.label)) ∷ s) (StatementsR xs ∷ v) (ahead c.in_ok-statement.behind)) (sym (statement_pushed c.loop-after.list.items c.in_ok-statement.statement no_statements))
-      ∙ ap (λ (xs : List Statement). run 64 (Want (StatementsG (base_of c.args.label)) ∷ s) (StatementsR (statements_of xs) ∷ v) (ahead c.in_ok-statement.behind)) (sym c.in_ok-push.ensures.items);
-  shorter = omega (arith, c.loop-after.invariant.shorter, c.in_ok-statement.ensures.within);
+      ∙ arrived read_statement (and_more (base_of c.args.label) ++ s) (StatementsR (statements_of c.loop-after.list.items) ∷ v) c.in_ok-rest.ensures.1.0 (c.statement.ensures.leads (and_more (base_of c.args.label) ++ s) (StatementsR (statements_of c.loop-after.list.items) ∷ v) d)
+      ∙ quiet c.in_ok-rest.rest (and_more (base_of c.args.label) ++ s) (Want (StatementsG (base_of c.args.label)) ∷ s) (read_statement c.in_ok-rest.ensures.0 (StatementsR (statements_of c.loop-after.list.items) ∷ v)) (StatementsR (statements (statements_of c.loop-after.list.items) (statement_of c.in_ok-rest.ensures.0)) ∷ v) (λ t q. refl)
+      ∙ ap (λ (xs : StatementsT). run 64 (Want (StatementsG (base_of c.args.label)) ∷ s) (StatementsR xs ∷ v) (ahead c.in_ok-rest.rest)) (sym (statement_pushed c.loop-after.list.items c.in_ok-rest.ensures.0 no_statements))
+      ∙ ap (λ (xs : List Statement). run 64 (Want (StatementsG (base_of c.args.label)) ∷ s) (StatementsR (statements_of xs) ∷ v) (ahead c.in_ok-rest.rest)) (sym c.in_ok-rest.ensures.1.1);
+  shorter = omega (arith, c.loop-after.invariant.shorter, stays_less c.loop-after.rest c.in_ok-rest.ensures.1.0 c.statement.ensures.within);
 }
 
 pub statement-loop-label-preserved : goal.statement-loop-label-preserved

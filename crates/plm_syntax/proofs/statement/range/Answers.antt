@@ -1,13 +1,16 @@
-use Rattle.std.proofs.Common.{◌∷◌, List, None, refl, ◌∙◌}
+use Rattle.std.proofs.Common.{◌∷◌, List, None, refl, sym, ap, ◌∙◌, arith}
 use Rattle.plm_token.specs.declared.token.Mark.TheVariants as mark
 use Rattle.plm_token.specs.declared.token.Keyword.TheVariants as key
+use Rattle.plm_syntax.specs.declared.tree.Expression.{Expression}
 use Rattle.plm_syntax.specs.Terminal.{Sign, Key}
-use Rattle.plm_syntax.specs.View.{expression_of}
+use Rattle.plm_syntax.specs.View.{expression_of, step_of}
 use Rattle.plm_syntax.specs.Symbol.{Symbol, need, push, Need, Want, Do, NameR, StepR, RangeR, StepG}
-use Rattle.plm_syntax.specs.Machine.{an_expression, make_range}
-use Rattle.plm_syntax.specs.Blocks.{read_range}
+use Rattle.plm_syntax.specs.Machine.{an_expression, make_range, run}
+use Rattle.plm_syntax.specs.Parsed.{ahead}
+use Rattle.plm_syntax.specs.Blocks.{read_range, read_step, range_goals}
 use Rattle.plm_syntax.specs.Parts.{read_expression}
 use Rattle.plm_syntax.proofs.Along.{quiet, taken, need_refused, failed, refusal}
+use Rattle.plm_syntax.proofs.Joined.{arrived, ended, stays_within, stays_less}
 use Rattle.plm_syntax.proofs.statement.range.Goals as goal
 
 -- what is awaited behind an iteration's bounds
@@ -19,28 +22,35 @@ returns-in_err-begun-clause-leads c = λ i s v d. failed (read_range i) s v c.fr
     (need_refused (Sign mark.Equal) c.args.cursor (an_expression (Need (Key key.To) ∷ an_expression (to_step s))) (NameR i ∷ v) c.in_err-begun.ensures.0)
     (refusal c.in_err-begun.field-0.0 c.args.cursor c.in_err-begun.ensures.1 refl)
 
+pub returns-in_err-start-clause-leads : goal.returns-in_err-start-clause-leads
+returns-in_err-start-clause-leads c = λ i s v d. failed (read_range i) s v c.from_residual-in_err-start.result c.in_err-start.field-0.0 c.from_residual-in_err-start.ensures.1
+    (taken (need mark.Equal ∷ an_expression (Need (Key key.To) ∷ an_expression (to_step s))) (NameR i ∷ v) c.in_ok-begun.ensures.1)
+    (c.in_err-start.ensures.leads (an_expression (to_step s)) (NameR i ∷ v) d)
+
+pub returns-in_err-ends-clause-leads : goal.returns-in_err-ends-clause-leads
+returns-in_err-ends-clause-leads c = λ i s v d. failed (read_range i) s v c.from_residual-in_err-ends.result c.in_err-ends.field-0.0 c.from_residual-in_err-ends.ensures.1
+    (taken (need mark.Equal ∷ an_expression (Need (Key key.To) ∷ an_expression (to_step s))) (NameR i ∷ v) c.in_ok-begun.ensures.1
+    ∙ c.in_ok-start.ensures.leads (an_expression (to_step s)) (NameR i ∷ v) d)
+    (ended read_expression (to_step s) (read_expression c.in_ok-start.start (NameR i ∷ v)) (run 64 (an_expression (to_step s)) (read_expression c.in_ok-start.start (NameR i ∷ v)) (ahead c.in_ok-start.bound)) c.in_err-ends.ensures
+    (c.expression.ensures.leads (to_step s) (read_expression c.in_ok-start.start (NameR i ∷ v)) d))
+
 pub returns-in_err-first-clause-leads : goal.returns-in_err-first-clause-leads
 returns-in_err-first-clause-leads c = λ i s v d. failed (read_range i) s v c.from_residual-in_err-first.result c.in_err-first.field-0.0 c.from_residual-in_err-first.ensures.1
-    (taken (need mark.Equal ∷ an_expression (Need (Key key.To) ∷ an_expression (to_step s))) (NameR i ∷ v) c.in_ok-begun.ensures.1)
-    (c.in_err-first.ensures.leads (an_expression (to_step s)) (NameR i ∷ v) d)
-
-pub returns-in_err-last-clause-leads : goal.returns-in_err-last-clause-leads
-returns-in_err-last-clause-leads c = λ i s v d. failed (read_range i) s v c.from_residual-in_err-last.result c.in_err-last.field-0.0 c.from_residual-in_err-last.ensures.1
     (taken (need mark.Equal ∷ an_expression (Need (Key key.To) ∷ an_expression (to_step s))) (NameR i ∷ v) c.in_ok-begun.ensures.1
-    ∙ c.in_ok-first.ensures.leads (an_expression (to_step s)) (NameR i ∷ v) d)
-    (c.in_err-last.ensures.leads (to_step s) (read_expression c.in_ok-first.first (NameR i ∷ v)) d)
-
-pub returns-in_err-step-clause-leads : goal.returns-in_err-step-clause-leads
-returns-in_err-step-clause-leads c = λ i s v d. failed (read_range i) s v c.from_residual-in_err-step.result c.in_err-step.field-0.0 c.from_residual-in_err-step.ensures.1
-    (taken (need mark.Equal ∷ an_expression (Need (Key key.To) ∷ an_expression (to_step s))) (NameR i ∷ v) c.in_ok-begun.ensures.1
-    ∙ c.in_ok-first.ensures.leads (an_expression (to_step s)) (NameR i ∷ v) d
-    ∙ c.in_ok-last.ensures.leads (to_step s) (read_expression c.in_ok-first.first (NameR i ∷ v)) d
-    ∙ quiet c.in_ok-last.behind (to_step s) (Want StepG ∷ need mark.Semicolon ∷ s) (read_expression c.in_ok-last.last (read_expression c.in_ok-first.first (NameR i ∷ v))) (StepR None ∷ RangeR i (expression_of c.in_ok-first.first) (expression_of c.in_ok-last.last) ∷ v) (λ t q. refl))
-    (c.in_err-step.ensures.leads s (RangeR i (expression_of c.in_ok-first.first) (expression_of c.in_ok-last.last) ∷ v) d)
+    ∙ c.in_ok-start.ensures.leads (an_expression (to_step s)) (NameR i ∷ v) d
+    ∙ arrived read_expression (to_step s) (read_expression c.in_ok-start.start (NameR i ∷ v)) c.in_ok-ends.ensures.1 (c.expression.ensures.leads (to_step s) (read_expression c.in_ok-start.start (NameR i ∷ v)) d)
+    ∙ quiet c.in_ok-ends.behind (to_step s) (Want StepG ∷ need mark.Semicolon ∷ s) (read_expression c.in_ok-ends.ends.1 (read_expression c.in_ok-start.start (NameR i ∷ v))) (StepR None ∷ RangeR i (expression_of c.in_ok-start.start) (expression_of c.in_ok-ends.ends.1) ∷ v) (λ t q. refl))
+    (ended read_step s (RangeR i (expression_of c.in_ok-start.start) (expression_of c.in_ok-ends.ends.1) ∷ v) (run 64 (Want StepG ∷ need mark.Semicolon ∷ s) (StepR None ∷ RangeR i (expression_of c.in_ok-start.start) (expression_of c.in_ok-ends.ends.1) ∷ v) (ahead c.in_ok-ends.behind)) c.in_err-first.ensures
+    (c.step.ensures.leads s (RangeR i (expression_of c.in_ok-start.start) (expression_of c.in_ok-ends.ends.1) ∷ v) d))
 
 pub returns-clause-leads : goal.returns-clause-leads
 returns-clause-leads c = λ i s v d. taken (need mark.Equal ∷ an_expression (Need (Key key.To) ∷ an_expression (to_step s))) (NameR i ∷ v) c.in_ok-begun.ensures.1
-    ∙ c.in_ok-first.ensures.leads (an_expression (to_step s)) (NameR i ∷ v) d
-    ∙ c.in_ok-last.ensures.leads (to_step s) (read_expression c.in_ok-first.first (NameR i ∷ v)) d
-    ∙ quiet c.in_ok-last.behind (to_step s) (Want StepG ∷ need mark.Semicolon ∷ s) (read_expression c.in_ok-last.last (read_expression c.in_ok-first.first (NameR i ∷ v))) (StepR None ∷ RangeR i (expression_of c.in_ok-first.first) (expression_of c.in_ok-last.last) ∷ v) (λ t q. refl)
-    ∙ c.in_ok-step.ensures.leads s (RangeR i (expression_of c.in_ok-first.first) (expression_of c.in_ok-last.last) ∷ v) d
+    ∙ c.in_ok-start.ensures.leads (an_expression (to_step s)) (NameR i ∷ v) d
+    ∙ arrived read_expression (to_step s) (read_expression c.in_ok-start.start (NameR i ∷ v)) c.in_ok-ends.ensures.1 (c.expression.ensures.leads (to_step s) (read_expression c.in_ok-start.start (NameR i ∷ v)) d)
+    ∙ quiet c.in_ok-ends.behind (to_step s) (Want StepG ∷ need mark.Semicolon ∷ s) (read_expression c.in_ok-ends.ends.1 (read_expression c.in_ok-start.start (NameR i ∷ v))) (StepR None ∷ RangeR i (expression_of c.in_ok-start.start) (expression_of c.in_ok-ends.ends.1) ∷ v) (λ t q. refl)
+    ∙ arrived read_step s (RangeR i (expression_of c.in_ok-start.start) (expression_of c.in_ok-ends.ends.1) ∷ v) c.in_ok-first.ensures.1 (c.step.ensures.leads s (RangeR i (expression_of c.in_ok-start.start) (expression_of c.in_ok-ends.ends.1) ∷ v) d)
+    ∙ ap (λ (x : Expression). run 64 s (StepR (step_of c.in_ok-first.step) ∷ RangeR i (expression_of x) (expression_of c.in_ok-ends.ends.1) ∷ v) (ahead c.in_ok-first.rest)) (sym c.in_ok-ends.ensures.0)
+    ∙ ap (λ (x : Expression × Expression). run 64 s (StepR (step_of c.in_ok-first.step) ∷ RangeR i (expression_of x.0) (expression_of x.1) ∷ v) (ahead c.in_ok-first.rest)) (sym c.in_ok-first.ensures.0)
+
+pub returns-clause-within : goal.returns-clause-within
+returns-clause-within c = omega (arith, c.in_ok-begun.ensures.1.shorter, c.in_ok-start.ensures.within, stays_within c.in_ok-start.bound c.in_ok-ends.ensures.1 c.expression.ensures.within, stays_less c.in_ok-ends.behind c.in_ok-first.ensures.1 c.step.ensures.within)

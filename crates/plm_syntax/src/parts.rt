@@ -1,0 +1,55 @@
+//! What was read, with what stands around it.
+//!
+//! These hold a value over a step that may fail, for values of any type: so what then becomes of the value is proved here alone.
+
+ghost use Rattle.plm_syntax.specs.Parsed.{Closes, IsBoxed, IsBeside, IsPushed};
+
+use crate::cursor::Cursor;
+use crate::failure::Failure;
+use plm_token::Mark;
+use std::alloc::Global;
+
+/// What was read, and what is left behind the special token that has to come next.
+pub(crate) fn closing<'t, 'a, T: Drop>(
+    read: Result<(T, Cursor<'t, 'a>), Failure>,
+    mark: Mark,
+) -> Result<(T, Cursor<'t, 'a>), Failure>
+    ensures { Closes mark read.entry result }
+{
+    let (value, rest) = read?;
+    rest.close(value, mark)
+}
+
+/// What was read, in a box.
+pub(crate) fn boxed<'t, 'a, T: Drop>(
+    alloc: Global,
+    read: Result<(T, Cursor<'t, 'a>), Failure>,
+) -> Result<(Box<T>, Cursor<'t, 'a>), Failure>
+    ensures { IsBoxed read.entry result }
+{
+    let (value, rest) = read?;
+    Ok((Box::new(alloc, value)?, rest))
+}
+
+/// What was read before, beside what was read behind it.
+pub(crate) fn beside<'t, 'a, T: Drop, U>(
+    first: T,
+    read: Result<(U, Cursor<'t, 'a>), Failure>,
+) -> Result<((T, U), Cursor<'t, 'a>), Failure>
+    ensures { IsBeside first read.entry result }
+{
+    let (second, rest) = read?;
+    Ok(((first, second), rest))
+}
+
+/// What is left behind what was read, which goes to the end of a list.
+pub(crate) fn pushed<'t, 'a, T: Drop>(
+    list: &mut Vec<T>,
+    read: Result<(T, Cursor<'t, 'a>), Failure>,
+) -> Result<Cursor<'t, 'a>, Failure>
+    ensures { IsPushed list.old.items list.new.items read.entry result }
+{
+    let (value, rest) = read?;
+    list.push(value)?;
+    Ok(rest)
+}
