@@ -287,14 +287,12 @@ impl Typer<'_> {
         ensures types { IfOk result (λ r. r.types.items ≡ typing.types_of (variables self.now) (procedures self.now) (resolved.expressions_of es.now)) }
         ensures faults { OnOk result (faults.new.items ≡ faults.old.items ++ found.faults_in (variables self.now) (procedures self.now) self.now.module (resolved.expressions_of es.now)) }
     {
-        let mut trees = Vec::new(self.alloc);
-        let mut types = Vec::new(self.alloc);
+        let mut all = TypedList::new(self.alloc);
         for e in es {
             let typed = self.expression(e, faults)?;
-            types.push(typed.scalar)?;
-            trees.push(typed.tree)?;
+            all.push(typed)?;
         }
-        Ok(TypedList { trees, types })
+        Ok(all)
     }
 
     /// A member's subscript.
@@ -308,14 +306,15 @@ impl Typer<'_> {
         ensures types { IfOk result (λ r. r.types.items ≡ typing.selector_types (variables self.now) (procedures self.now) (resolved.selector_of selector.now)) }
         ensures faults { OnOk result (faults.new.items ≡ faults.old.items ++ found.selector_faults (variables self.now) (procedures self.now) self.now.module (resolved.selector_of selector.now)) }
     {
-        let mut trees = Vec::new(self.alloc);
-        let mut types = Vec::new(self.alloc);
-        if let Selector::Element(_, _, subscript) = selector {
-            let typed = self.expression(subscript, faults)?;
-            types.push(typed.scalar)?;
-            trees.push(typed.tree)?;
+        let mut all = TypedList::new(self.alloc);
+        match selector {
+            Selector::None | Selector::Member(_, _) => Ok(all),
+            Selector::Element(_, _, subscript) => {
+                let typed = self.expression(subscript, faults)?;
+                all.push(typed)?;
+                Ok(all)
+            }
         }
-        Ok(TypedList { trees, types })
     }
 
     /// The subscripts of a reference to a variable.

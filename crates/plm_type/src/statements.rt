@@ -1,9 +1,11 @@
 //! Statements: the faults of their types, and what they do with names as places.
 
 ghost use Rattle.std.specs.Prelude.{◌≡◌, ◌++◌, IfOk, OnOk, map, option_map};
+ghost use Rattle.word86.specs.declared.number.Number.TheVariants.{E401};
 ghost use Rattle.plm_decl.specs.ResolvedView as resolved;
 ghost use Rattle.plm_type.specs.Typers.{variables, procedures, sizes};
-ghost use Rattle.plm_type.specs.Rest.{Then, End};
+ghost use Rattle.plm_type.specs.Rest as rest;
+ghost use Rattle.plm_type.specs.Faults.{fault_unless};
 ghost use Rattle.plm_type.specs.Trees as trees;
 ghost use Rattle.plm_type.specs.Statements as spec;
 ghost use Rattle.plm_type.specs.View as view;
@@ -16,13 +18,13 @@ use crate::shapes::{form_type, is_based, scalar};
 use crate::typer::Typer;
 use crate::types::{may_be_number, takes, width_of};
 use plm_decl::found::Found;
-use plm_decl::{Meaning, ScalarType, Variable};
+use plm_decl::{Meaning, ScalarType, Statement as Resolved, Variable};
 use plm_syntax::Place;
 use std::alloc::AllocError;
 use word86::{Number, Width};
 
 /// What a statement stands in: main, or a procedure with the type of its value.
-#[derive(Debug, Clone, Copy, PartialEq, Eq)]
+#[derive(Clone, Copy)]
 pub enum Around {
     Main,
     Procedure(Option<ScalarType>),
@@ -65,6 +67,30 @@ impl Around {
 struct TypedTargets {
     trees: Vec<Target>,
     types: Vec<Option<ScalarType>>,
+}
+
+/// IF with its condition and its first arm.
+#[derive(Drop)]
+struct Condition {
+    test: Expression,
+    then: Vec<Box<Statement>>,
+}
+
+impl Condition {
+    /// With the statements of the other arm.
+    fn with_else(self, other: Vec<Box<Statement>>) -> Statement
+        ensures { view.statement_of result ≡ rest.If (view.expression_of self.test) (view.statements_of self.then.items) (view.statements_of other.items) }
+    {
+        Statement::If(self.test, self.then, other)
+    }
+}
+
+/// The values of an iterative DO: the first, the bound and the step.
+#[derive(Drop)]
+struct Range {
+    from: Expression,
+    bound: Expression,
+    step: Expression,
 }
 
 /// Whether it is a scalar that is not based.
@@ -267,72 +293,220 @@ impl Typer<'_> {
         }
     }
 
+    /// The first value of an iterative DO, its bound and its step.
+    fn range(
+        &self,
+        place: Place,
+        from: &plm_decl::Expression,
+        to: &plm_decl::Expression,
+        by: &Option<plm_decl::Expression>,
+        faults: &mut Vec<Found>,
+    ) -> Result<Range, AllocError>
+        ensures from { IfOk result (λ r. view.expression_of r.from ≡ trees.tree_of (variables self.now) (procedures self.now) (sizes self.now) self.now.module (resolved.expression_of from.now)) }
+        ensures bound { IfOk result (λ r. view.expression_of r.bound ≡ trees.tree_of (variables self.now) (procedures self.now) (sizes self.now) self.now.module (resolved.expression_of to.now)) }
+        ensures step { IfOk result (λ r. view.expression_of r.step ≡ spec.step_for (variables self.now) (procedures self.now) (sizes self.now) self.now.module (resolved.step_of by.now)) }
+        ensures faults { OnOk result (faults.new.items ≡ faults.old.items ++ (spec.of_number (variables self.now) (procedures self.now) self.now.module place (resolved.expression_of from.now) ++ (spec.of_number (variables self.now) (procedures self.now) self.now.module place (resolved.expression_of to.now) ++ spec.of_step (variables self.now) (procedures self.now) self.now.module place (resolved.step_of by.now)))) }
+    {
+        let from = self.number_in(place, from, faults)?;
+        let bound = self.number_in(place, to, faults)?;
+        let step = self.step(place, by, faults)?;
+        Ok(Range { from, bound, step })
+    }
+
+    /// CALL as a statement: a value is dropped.
+    fn call_statement(
+        &self,
+        place: Place,
+        reference: &plm_decl::Reference,
+        faults: &mut Vec<Found>,
+    ) -> Result<Statement, AllocError>
+        ensures tree { IfOk result (λ r. view.statement_of r ≡ rest.Evaluate (spec.called (variables self.now) (procedures self.now) (sizes self.now) self.now.module (resolved.reference_of reference.now))) }
+        ensures faults { OnOk result (faults.new.items ≡ faults.old.items ++ spec.of_call (variables self.now) (procedures self.now) self.now.module place (resolved.reference_of reference.now)) }
+    {
+        let value = self.call(place, reference, faults)?;
+        Ok(Statement::Evaluate(value))
+    }
+
+    /// RETURN without a value.
+    fn return_alone(
+        &self,
+        around: Around,
+        place: Place,
+        faults: &mut Vec<Found>,
+    ) -> Result<Statement, AllocError>
+        ensures tree { IfOk result (λ r. view.statement_of r ≡ rest.Return) }
+        ensures faults { OnOk result (faults.new.items ≡ faults.old.items ++ fault_unless self.now.module (spec.may_return around) E401 place) }
+    {
+        self.note_unless(around.may_return(), Number::E401, place, faults)?;
+        Ok(Statement::Return)
+    }
+
+    /// RETURN with a value.
+    fn return_value(
+        &self,
+        around: Around,
+        place: Place,
+        value: &plm_decl::Expression,
+        faults: &mut Vec<Found>,
+    ) -> Result<Statement, AllocError>
+        ensures tree { IfOk result (λ r. view.statement_of r ≡ rest.ReturnValue (spec.returned_width around) (trees.tree_of (variables self.now) (procedures self.now) (sizes self.now) self.now.module (resolved.expression_of value.now))) }
+        ensures faults { OnOk result (faults.new.items ≡ faults.old.items ++ spec.of_returned (variables self.now) (procedures self.now) self.now.module around place (resolved.expression_of value.now)) }
+    {
+        let value = self.returned(around, place, value, faults)?;
+        Ok(Statement::ReturnValue(around.returned_width(), value))
+    }
+
     #[cycle(statement)]
     pub fn statement(
         &self,
         around: Around,
-        statement: &plm_decl::Statement,
+        statement: &Resolved,
         faults: &mut Vec<Found>,
     ) -> Result<Statement, AllocError>
         ensures tree { IfOk result (λ r. view.statement_of r ≡ spec.statement_for (variables self.now) (procedures self.now) (sizes self.now) self.now.module around (resolved.statement_of statement.now)) }
         ensures faults { OnOk result (faults.new.items ≡ faults.old.items ++ spec.of_statement (variables self.now) (procedures self.now) self.now.module around (resolved.statement_of statement.now)) }
     {
         match statement {
-            plm_decl::Statement::Empty(_) => Ok(Statement::Empty),
-            plm_decl::Statement::Assign(targets, value) => self.assign(targets, value, faults),
-            plm_decl::Statement::Call(place, reference) => {
-                Ok(Statement::Evaluate(self.call(*place, reference, faults)?))
+            Resolved::Empty(_) => Ok(Statement::Empty),
+            Resolved::Assign(targets, value) => self.assign(targets, value, faults),
+            Resolved::Call(place, reference) => self.call_statement(*place, reference, faults),
+            Resolved::Return(place) => self.return_alone(around, *place, faults),
+            Resolved::ReturnValue(place, value) => self.return_value(around, *place, value, faults),
+            Resolved::Enable(_) => Ok(Statement::Enable),
+            Resolved::Disable(_) => Ok(Statement::Disable),
+            Resolved::Halt(_) => Ok(Statement::Halt),
+            Resolved::If(place, test, then) => {
+                let condition = self.condition(around, then, *place, test, faults)?;
+                Ok(condition.with_else(Vec::new(self.alloc)))
             }
-            plm_decl::Statement::Return(place) => {
-                self.note_unless(around.may_return(), Number::E401, *place, faults)?;
-                Ok(Statement::Return)
+            Resolved::IfElse(place, test, then, other) => {
+                let condition = self.condition(around, then, *place, test, faults)?;
+                self.choice(around, other, condition, faults)
             }
-            plm_decl::Statement::ReturnValue(place, value) => Ok(Statement::ReturnValue(
-                around.returned_width(),
-                self.returned(around, *place, value, faults)?,
-            )),
-            plm_decl::Statement::Enable(_) => Ok(Statement::Enable),
-            plm_decl::Statement::Disable(_) => Ok(Statement::Disable),
-            plm_decl::Statement::Halt(_) => Ok(Statement::Halt),
-            plm_decl::Statement::If(place, test, then) => {
-                let test = self.number_in(*place, test, faults)?;
-                let then = self.arm(around, then, faults)?;
-                Ok(Statement::If(test, then, Vec::new(self.alloc)))
+            Resolved::Do(_, body) => self.block(around, body, faults),
+            Resolved::While(place, test, body) => {
+                self.while_loop(around, body, *place, test, faults)
             }
-            plm_decl::Statement::IfElse(place, test, then, other) => {
-                let test = self.number_in(*place, test, faults)?;
-                let then = self.arm(around, then, faults)?;
-                let other = self.arm(around, other, faults)?;
-                Ok(Statement::If(test, then, other))
+            Resolved::Case(place, value, cases) => {
+                self.case(around, cases, *place, value, faults)
             }
-            plm_decl::Statement::Do(_, body) => {
-                Ok(Statement::Block(self.statements(around, body, faults)?))
-            }
-            plm_decl::Statement::While(place, test, body) => {
-                let test = self.number_in(*place, test, faults)?;
-                Ok(Statement::While(test, self.statements(around, body, faults)?))
-            }
-            plm_decl::Statement::Case(place, value, cases) => {
-                let value = self.number_in(*place, value, faults)?;
-                Ok(Statement::Case(value, self.statements(around, cases, faults)?))
-            }
-            plm_decl::Statement::Iterate(place, name, index, from, to, by, body) => {
+            Resolved::Iterate(place, name, index, from, to, by, body) => {
                 let index = self.index(*place, *name, *index, faults)?;
-                let from = self.number_in(*place, from, faults)?;
-                let bound = self.number_in(*place, to, faults)?;
-                let step = self.step(*place, by, faults)?;
-                let body = self.statements(around, body, faults)?;
-                Ok(Statement::Iterate(
-                    from,
-                    Loop {
-                        index,
-                        bound,
-                        step,
-                        body,
-                    },
-                ))
+                let range = self.range(*place, from, to, by, faults)?;
+                self.rounds(around, index, range, body, faults)
             }
         }
+    }
+
+    /// IF with its first arm.
+    #[cycle(statement)]
+    fn condition(
+        &self,
+        around: Around,
+        then: &Resolved,
+        place: Place,
+        test: &plm_decl::Expression,
+        faults: &mut Vec<Found>,
+    ) -> Result<Condition, AllocError>
+        ensures test { IfOk result (λ r. view.expression_of r.test ≡ trees.tree_of (variables self.now) (procedures self.now) (sizes self.now) self.now.module (resolved.expression_of test.now)) }
+        ensures then { IfOk result (λ r. view.statements_of r.then.items ≡ rest.Then (spec.statement_for (variables self.now) (procedures self.now) (sizes self.now) self.now.module around (resolved.statement_of then.now)) rest.End) }
+        ensures faults { OnOk result (faults.new.items ≡ faults.old.items ++ (spec.of_number (variables self.now) (procedures self.now) self.now.module place (resolved.expression_of test.now) ++ spec.of_statement (variables self.now) (procedures self.now) self.now.module around (resolved.statement_of then.now))) }
+    {
+        let test = self.number_in(place, test, faults)?;
+        let then = self.arm(around, then, faults)?;
+        Ok(Condition { test, then })
+    }
+
+    /// IF with ELSE.
+    #[cycle(statement)]
+    fn choice(
+        &self,
+        around: Around,
+        other: &Resolved,
+        condition: Condition,
+        faults: &mut Vec<Found>,
+    ) -> Result<Statement, AllocError>
+        ensures tree { IfOk result (λ r. view.statement_of r ≡ rest.If (view.expression_of condition.test) (view.statements_of condition.then.items) (rest.Then (spec.statement_for (variables self.now) (procedures self.now) (sizes self.now) self.now.module around (resolved.statement_of other.now)) rest.End)) }
+        ensures faults { OnOk result (faults.new.items ≡ faults.old.items ++ spec.of_statement (variables self.now) (procedures self.now) self.now.module around (resolved.statement_of other.now)) }
+    {
+        let other = self.arm(around, other, faults)?;
+        Ok(condition.with_else(other))
+    }
+
+    #[cycle(statement)]
+    fn block(
+        &self,
+        around: Around,
+        body: &[Resolved],
+        faults: &mut Vec<Found>,
+    ) -> Result<Statement, AllocError>
+        ensures tree { IfOk result (λ r. view.statement_of r ≡ rest.Block (spec.statements_for (variables self.now) (procedures self.now) (sizes self.now) self.now.module around (resolved.statements_of body.now))) }
+        ensures faults { OnOk result (faults.new.items ≡ faults.old.items ++ spec.of_statements (variables self.now) (procedures self.now) self.now.module around (resolved.statements_of body.now)) }
+    {
+        let body = self.statements(around, body, faults)?;
+        Ok(Statement::Block(body))
+    }
+
+    /// DO WHILE.
+    #[cycle(statement)]
+    fn while_loop(
+        &self,
+        around: Around,
+        body: &[Resolved],
+        place: Place,
+        test: &plm_decl::Expression,
+        faults: &mut Vec<Found>,
+    ) -> Result<Statement, AllocError>
+        ensures tree { IfOk result (λ r. view.statement_of r ≡ rest.While (trees.tree_of (variables self.now) (procedures self.now) (sizes self.now) self.now.module (resolved.expression_of test.now)) (trees.tree_of (variables self.now) (procedures self.now) (sizes self.now) self.now.module (resolved.expression_of test.now)) (spec.statements_for (variables self.now) (procedures self.now) (sizes self.now) self.now.module around (resolved.statements_of body.now))) }
+        ensures faults { OnOk result (faults.new.items ≡ faults.old.items ++ (spec.of_number (variables self.now) (procedures self.now) self.now.module place (resolved.expression_of test.now) ++ spec.of_statements (variables self.now) (procedures self.now) self.now.module around (resolved.statements_of body.now))) }
+    {
+        let test = self.number_in(place, test, faults)?;
+        let body = self.statements(around, body, faults)?;
+        Ok(Statement::While(test, body))
+    }
+
+    /// DO CASE.
+    #[cycle(statement)]
+    fn case(
+        &self,
+        around: Around,
+        cases: &[Resolved],
+        place: Place,
+        value: &plm_decl::Expression,
+        faults: &mut Vec<Found>,
+    ) -> Result<Statement, AllocError>
+        ensures tree { IfOk result (λ r. view.statement_of r ≡ rest.Case (trees.tree_of (variables self.now) (procedures self.now) (sizes self.now) self.now.module (resolved.expression_of value.now)) (spec.statements_for (variables self.now) (procedures self.now) (sizes self.now) self.now.module around (resolved.statements_of cases.now))) }
+        ensures faults { OnOk result (faults.new.items ≡ faults.old.items ++ (spec.of_number (variables self.now) (procedures self.now) self.now.module place (resolved.expression_of value.now) ++ spec.of_statements (variables self.now) (procedures self.now) self.now.module around (resolved.statements_of cases.now))) }
+    {
+        let value = self.number_in(place, value, faults)?;
+        let cases = self.statements(around, cases, faults)?;
+        Ok(Statement::Case(value, cases))
+    }
+
+    /// An iterative DO with an index and values that are typed.
+    #[cycle(statement)]
+    fn rounds(
+        &self,
+        around: Around,
+        index: Scalar,
+        range: Range,
+        body: &[Resolved],
+        faults: &mut Vec<Found>,
+    ) -> Result<Statement, AllocError>
+        ensures tree { IfOk result (λ r. view.statement_of r ≡ rest.Iterate (view.expression_of range.from) (rest.Count (view.scalar_of index) (view.expression_of range.bound) (view.expression_of range.step) (spec.statements_for (variables self.now) (procedures self.now) (sizes self.now) self.now.module around (resolved.statements_of body.now)))) }
+        ensures faults { OnOk result (faults.new.items ≡ faults.old.items ++ spec.of_statements (variables self.now) (procedures self.now) self.now.module around (resolved.statements_of body.now)) }
+    {
+        let Range { from, bound, step } = range;
+        let body = self.statements(around, body, faults)?;
+        Ok(Statement::Iterate(
+            from,
+            Loop {
+                index,
+                bound,
+                step,
+                body,
+            },
+        ))
     }
 
     /// An arm of IF: a list of one statement.
@@ -340,10 +514,10 @@ impl Typer<'_> {
     fn arm(
         &self,
         around: Around,
-        statement: &plm_decl::Statement,
+        statement: &Resolved,
         faults: &mut Vec<Found>,
     ) -> Result<Vec<Box<Statement>>, AllocError>
-        ensures tree { IfOk result (λ r. view.statements_of r.items ≡ Then (spec.statement_for (variables self.now) (procedures self.now) (sizes self.now) self.now.module around (resolved.statement_of statement.now)) End) }
+        ensures tree { IfOk result (λ r. view.statements_of r.items ≡ rest.Then (spec.statement_for (variables self.now) (procedures self.now) (sizes self.now) self.now.module around (resolved.statement_of statement.now)) rest.End) }
         ensures faults { OnOk result (faults.new.items ≡ faults.old.items ++ spec.of_statement (variables self.now) (procedures self.now) self.now.module around (resolved.statement_of statement.now)) }
     {
         let statement = self.statement(around, statement, faults)?;
@@ -356,7 +530,7 @@ impl Typer<'_> {
     pub fn statements(
         &self,
         around: Around,
-        statements: &[plm_decl::Statement],
+        statements: &[Resolved],
         faults: &mut Vec<Found>,
     ) -> Result<Vec<Box<Statement>>, AllocError>
         ensures tree { IfOk result (λ r. view.statements_of r.items ≡ spec.statements_for (variables self.now) (procedures self.now) (sizes self.now) self.now.module around (resolved.statements_of statements.now)) }

@@ -1,6 +1,6 @@
 //! What is known while statements are typed.
 
-ghost use Rattle.std.specs.Prelude.{◌≡◌, ◌++◌, OnOk, option_map, slice_get};
+ghost use Rattle.std.specs.Prelude.{◌≡◌, ◌∷◌, [], ◌++◌, OnOk, option_map, slice_get};
 ghost use Rattle.plm_decl.specs.Known as known;
 ghost use Rattle.plm_type.specs.Typers.{variables, procedures};
 ghost use Rattle.plm_type.specs.Typing.{given_if};
@@ -49,6 +49,27 @@ impl Typed {
 }
 
 impl TypedList {
+    /// None yet.
+    pub fn new(alloc: Global) -> TypedList
+        ensures trees { result.trees.items ≡ [] }
+        ensures types { result.types.items ≡ [] }
+    {
+        TypedList {
+            trees: Vec::new(alloc),
+            types: Vec::new(alloc),
+        }
+    }
+
+    /// One more, behind the others.
+    pub fn push(&mut self, typed: Typed) -> Result<(), AllocError>
+        ensures trees { OnOk result (self.new.trees.items ≡ self.old.trees.items ++ typed.tree ∷ []) }
+        ensures types { OnOk result (self.new.types.items ≡ self.old.types.items ++ typed.scalar ∷ []) }
+    {
+        self.types.push(typed.scalar)?;
+        self.trees.push(typed.tree)?;
+        Ok(())
+    }
+
     /// The trees alone.
     pub fn into_trees(self) -> Vec<Expression>
         ensures { result ≡ self.trees }

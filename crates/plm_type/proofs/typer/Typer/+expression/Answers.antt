@@ -1,11 +1,17 @@
-use Rattle.std.proofs.Common.{◌≡◌, ◌+◌, ◌∷◌, [], ◌++◌, ◌&&◌, is_some, true, List, Option, IfOk, OnOk, length, drop, append_assoc, subst, sym, ap, ◌∙◌}
+use Rattle.std.proofs.Common.{◌≡◌, ℕ, inl, inr, ◌+◌, ◌∷◌, [], ◌++◌, ◌&&◌, is_some, true, false, List, Option, None, IfOk, OnOk, length, drop, append_assoc, subst, cond, not, refl, sym, ap, ◌∙◌}
 use Rattle.std.proofs.lemmas.List.{drop_all}
-use Rattle.word86.specs.declared.number.Number.TheVariants.{E401}
+use Rattle.word86.specs.declared.number.Number.TheVariants.{E401, E403}
+use Rattle.plm_syntax.specs.declared.tree.Place.{Place}
 use Rattle.plm_decl.specs.declared.layout.ScalarType.{ScalarType}
+use Rattle.plm_decl.specs.declared.names.Variable.{Variable}
+use Rattle.plm_decl.specs.Known.{ProcedureR}
 use Rattle.plm_decl.specs.declared.found.Found.{Found}
+use Rattle.plm_decl.specs.declared.builtin.Builtin.{Builtin}
 use Rattle.plm_decl.specs.declared.resolved.Meaning.{Meaning}
+use Rattle.plm_decl.specs.declared.resolved.Meaning.TheVariants as meaning
 use Rattle.plm_decl.specs.declared.resolved.Expression as declared_resolved
-use Rattle.plm_decl.specs.Resolved.{ExpressionR, ReferenceR, EmbeddedR, ReferenceR', Use, ExpressionsR, LocationR', LocationOf}
+use Rattle.plm_decl.specs.declared.resolved.Operation.{Operation}
+use Rattle.plm_decl.specs.Resolved.{ExpressionR, TextR, ReferenceR, ParenthesisedR, EmbeddedR, ReferenceR', Use, ExpressionsR, LocationR', LocationOf}
 use Rattle.plm_decl.specs.ResolvedView as resolved
 use Rattle.plm_decl.proofs.TreeViews.{reference_placed}
 use Rattle.plm_decl.proofs.ResolvedRows.{operation_row}
@@ -18,10 +24,21 @@ use Rattle.plm_type.specs.Faults as found
 use Rattle.plm_type.specs.Trees as spec
 use Rattle.plm_type.specs.Chains as chains
 use Rattle.plm_type.specs.View as view
-use Rattle.plm_type.proofs.Lists.{one_is, many_values, many_types, many_faults, expressions_at, trees_before, trees_pushed, trees_all}
+use Rattle.plm_type.proofs.Lists.{drop_at, one_is, many_values, many_types, many_faults, expressions_at, trees_before, trees_pushed, trees_all}
 use Rattle.plm_type.proofs.Leaning.{leaned_tree, leaned_type, leaned_faults, leaned_alone, leaned_joined}
 use Rattle.plm_type.proofs.Parts.{is_zero, not_zero}
 use Rattle.plm_type.proofs.typer.Typer.+expression.Goals as goal
+
+-- what LENGTH, LAST and SIZE are not of: no value, no type, and a fault
+abbrev IsRefused : List Variable → List ProcedureR → ℕ → Place → Builtin → ExpressionR → Type 0
+IsRefused vs ps file p b e =
+    (rest.Constant 0 ≡ spec.argument_value vs ps b e) × (None ≡ typing.argument_type vs ps b e) × (found.fault_unless file false E401 p ≡ found.argument_faults vs ps file p b e)
+
+unless_variable : (P : Meaning → Type 0) (m : Meaning) → ((x : ℕ) → m ≡ meaning.Variable x → ⊥) → ((q : ℕ) → P (meaning.Procedure q)) → ((b : Builtin) → P (meaning.Builtin b)) → P meaning.Nothing → P m
+unless_variable P (meaning.Variable x) h p b n = absurd (h x refl)
+unless_variable P (meaning.Procedure q) h p b n = p q
+unless_variable P (meaning.Builtin k) h p b n = b k
+unless_variable P meaning.Nothing h p b n = n
 
 -- ---- a reference as an expression
 
@@ -159,15 +176,15 @@ list-loop-e-preserved t c =
     let at = sym (expressions_at es i x c.loop-e-test.true c.e-item.is) in
     let rest_trees = spec.trees_of vs ps (sizes self) self.module left in
     record {
-      trees = ap (λ (l : List Expression). trees_before l rest_trees) c.in_ok-push-2.ensures.items
-          ∙ trees_pushed here.trees.items c.in_ok-typed.typed.tree rest_trees
-          ∙ ap (λ (e : rest.Expression). trees_before here.trees.items (rest.More e rest_trees)) did.tree
-          ∙ ap (λ (l : ExpressionsR). trees_before here.trees.items (spec.trees_of vs ps (sizes self) self.module l)) at
+      trees = ap (λ (l : List Expression). trees_before l rest_trees) c.in_ok-push.ensures.trees
+          ∙ trees_pushed here.all.trees.items c.in_ok-typed.typed.tree rest_trees
+          ∙ ap (λ (e : rest.Expression). trees_before here.all.trees.items (rest.More e rest_trees)) did.tree
+          ∙ ap (λ (l : ExpressionsR). trees_before here.all.trees.items (spec.trees_of vs ps (sizes self) self.module l)) at
           ∙ here.invariant.trees;
-      types = ap (λ (l : List (Option ScalarType)). l ++ typing.types_of vs ps left) c.in_ok-push.ensures.items
-          ∙ append_assoc here.types.items (c.in_ok-typed.typed.scalar ∷ []) (typing.types_of vs ps left)
-          ∙ ap (λ (s : Option ScalarType). here.types.items ++ s ∷ typing.types_of vs ps left) did.scalar
-          ∙ ap (λ (l : ExpressionsR). here.types.items ++ typing.types_of vs ps l) at
+      types = ap (λ (l : List (Option ScalarType)). l ++ typing.types_of vs ps left) c.in_ok-push.ensures.types
+          ∙ append_assoc here.all.types.items (c.in_ok-typed.typed.scalar ∷ []) (typing.types_of vs ps left)
+          ∙ ap (λ (s : Option ScalarType). here.all.types.items ++ s ∷ typing.types_of vs ps left) did.scalar
+          ∙ ap (λ (l : ExpressionsR). here.all.types.items ++ typing.types_of vs ps l) at
           ∙ here.invariant.types;
       faults = ap (λ (l : List Found). l ++ found.faults_in vs ps self.module left) did.faults
           ∙ append_assoc here.faults.items (found.faults_of vs ps self.module (resolved.expression_of x)) (found.faults_in vs ps self.module left)
@@ -180,8 +197,8 @@ list-returns-clause-trees t c =
     let here = c.loop-e in
     let self = c.args.self.now in
     let none = sym (drop_all here.e-index c.args.es.now c.loop-e-test.false) in
-    sym (trees_all here.trees.items)
-    ∙ ap (λ (l : List declared_resolved.Expression). trees_before here.trees.items (spec.trees_of (variables self) (procedures self) (sizes self) self.module (resolved.expressions_of l))) none
+    sym (trees_all here.all.trees.items)
+    ∙ ap (λ (l : List declared_resolved.Expression). trees_before here.all.trees.items (spec.trees_of (variables self) (procedures self) (sizes self) self.module (resolved.expressions_of l))) none
     ∙ here.invariant.trees
 
 -- ---- LENGTH, LAST and SIZE
@@ -230,6 +247,51 @@ argument-returns-in_ok-parts-in-Reference-clause-faults t c =
     ∙ append_assoc old _ _
     ∙ ap (λ (e : ExpressionR). old ++ found.argument_faults vs ps m place b e) (sym is) in
     subst (λ (l : List Found). OnOk c.measured.result (c.measured.new.faults.items ≡ l)) path c.measured.ensures.faults
+
+pub argument-returns-in_default : goal.argument-returns-in_default
+argument-returns-in_default t c =
+    let r = c.in-Reference.reference in
+    let self = c.args.self.now in
+    let es = resolved.expressions_of r.subscripts.items in
+    let s = resolved.selector_of r.selector in
+    let is = sym (ap resolved.expression_of c.in-Reference.is ∙ ap ReferenceR (reference_placed r)) in
+    let refused = IsRefused (variables self) (procedures self) self.module c.args.place c.args.builtin in
+    let none : refused (resolved.expression_of c.args.argument.now) =
+    subst refused is (unless_variable (λ (m : Meaning). refused (ReferenceR (Use r.place m es s))) r.meaning c.in_default.not-Variable (λ q. (refl, refl, refl)) (λ k. (refl, refl, refl)) (refl, refl, refl)) in
+    record {
+      tree = subst (λ (e : rest.Expression). IfOk c.refused.result (λ x. view.expression_of x.tree ≡ e)) none.0 c.refused.ensures.tree;
+      scalar = subst (λ (e : Option ScalarType). IfOk c.refused.result (λ x. x.scalar ≡ e)) none.1 c.refused.ensures.scalar;
+      faults = subst (λ (l : List Found). OnOk c.refused.result (c.refused.new.faults.items ≡ c.args.faults.now.items ++ l)) none.2 c.refused.ensures.faults;
+    }
+
+pub argument-returns-in-Number : goal.argument-returns-in-Number
+argument-returns-in-Number t c =
+    let self = c.args.self.now in
+    let e = c.args.argument.now in
+    let refused = IsRefused (variables self) (procedures self) self.module c.args.place c.args.builtin in
+    let at = λ (x : declared_resolved.Expression) (is : e ≡ x) (none : refused (resolved.expression_of x)). subst refused (sym (ap resolved.expression_of is)) none in
+    let none : refused (resolved.expression_of e) =
+    elim c.in-Number.is [
+      | inl w ↦ at _ w.1 (refl, refl, refl)
+      | inr more ↦ elim more [
+        | inl w ↦ at _ w.2 (refl, refl, refl)
+        | inr more ↦ elim more [
+          | inl w ↦ at _ w.1 (refl, refl, refl)
+          | inr more ↦ elim more [
+            | inl w ↦ at _ w.2 (refl, refl, refl)
+            | inr more ↦ elim more [
+              | inl w ↦ at _ w.3 (refl, refl, refl)
+              | inr w ↦ at _ w.3 (refl, refl, refl)
+            ]
+          ]
+        ]
+      ]
+    ] in
+    record {
+      tree = subst (λ (x : rest.Expression). IfOk c.refused-in-Number.result (λ r. view.expression_of r.tree ≡ x)) none.0 c.refused-in-Number.ensures.tree;
+      scalar = subst (λ (x : Option ScalarType). IfOk c.refused-in-Number.result (λ r. r.scalar ≡ x)) none.1 c.refused-in-Number.ensures.scalar;
+      faults = subst (λ (l : List Found). OnOk c.refused-in-Number.result (c.refused-in-Number.new.faults.items ≡ c.args.faults.now.items ++ l)) none.2 c.refused-in-Number.ensures.faults;
+    }
 
 -- one that is a chain
 
@@ -356,6 +418,30 @@ location-returns-in_ok-parts-in-Reference-clause-faults t c =
     ∙ ap (λ (l : LocationR'). old ++ found.location_faults (variables self) (procedures self) m l) (sym is) in
     subst (λ (l : List Found). OnOk c.located.result (c.located.new.faults.items ≡ l)) path c.located.ensures.faults
 
+pub location-returns-in_default : goal.location-returns-in_default
+location-returns-in_default t c =
+    let r = c.in-Reference.reference in
+    let p = c.in-Reference.place in
+    let f = c.in-Reference.form in
+    let self = c.args.self.now in
+    let vs = variables self in
+    let ps = procedures self in
+    let es = resolved.expressions_of r.subscripts.items in
+    let s = resolved.selector_of r.selector in
+    let of = λ (m : Meaning). LocationOf p f (Use r.place m es s) in
+    let is = sym (ap resolved.location_of c.in-Reference.is ∙ ap (LocationOf p f) (reference_placed r)) in
+    let value = spec.location_of vs ps (sizes self) self.module in
+    let type = typing.address_type vs ps in
+    let faults = found.location_faults vs ps self.module in
+    let no_value = unless_variable (λ (m : Meaning). rest.Constant 0 ≡ value (of m)) r.meaning c.in_default.not-Variable (λ q. refl) (λ k. refl) refl in
+    let no_type = unless_variable (λ (m : Meaning). None ≡ type (of m)) r.meaning c.in_default.not-Variable (λ q. refl) (λ k. refl) refl in
+    let no_faults = unless_variable (λ (m : Meaning). found.fault_unless self.module false E401 p ≡ faults (of m)) r.meaning c.in_default.not-Variable (λ q. refl) (λ k. refl) refl in
+    record {
+      tree = subst (λ (e : rest.Expression). IfOk c.refused.result (λ x. view.expression_of x.tree ≡ e)) (no_value ∙ ap value is) c.refused.ensures.tree;
+      scalar = subst (λ (e : Option ScalarType). IfOk c.refused.result (λ x. x.scalar ≡ e)) (no_type ∙ ap type is) c.refused.ensures.scalar;
+      faults = subst (λ (l : List Found). OnOk c.refused.result (c.refused.new.faults.items ≡ c.args.faults.now.items ++ l)) (no_faults ∙ ap faults is) c.refused.ensures.faults;
+    }
+
 -- ---- LENGTH, LAST and SIZE of one argument, or of several
 
 pub arguments-returns-in-len1-clause-faults : goal.arguments-returns-in-len1-clause-faults
@@ -381,3 +467,315 @@ arguments-returns-in-len2-up-clause-faults t c =
     let self = c.args.self.now in
     subst (λ (l : List Found). OnOk c.miscounted-in-len2-up.result (c.miscounted-in-len2-up.new.faults.items ≡ c.args.faults.now.items ++ l))
     (many_faults (variables self) (procedures self) self.module c.args.place c.args.builtin c.args.es.now c.in-len2-up.len_at_least) c.miscounted-in-len2-up.ensures.faults
+
+-- ---- a reference as a value
+
+pub value-returns-in_ok-parts-in-Variable : goal.value-returns-in_ok-parts-in-Variable
+value-returns-in_ok-parts-in-Variable t c =
+    let r = c.args.reference.now in
+    let es = resolved.expressions_of r.subscripts.items in
+    let s = resolved.selector_of r.selector in
+    let self = c.args.self.now in
+    let vs = variables self in
+    let ps = procedures self in
+    let m = self.module in
+    let old = c.args.faults.now.items in
+    let is = ap (λ (m : Meaning). Use r.place m es s) (sym c.in-Variable.is) in
+    let did = c.in_ok-parts-in-Variable.ensures in
+    let v = c.variable.ensures in
+    record {
+      tree = subst (λ (e : rest.Expression). IfOk c.read.result (λ x. view.expression_of x.tree ≡ e)) ((λ j. spec.use_read (v j) s (spec.refer vs m r.place.line (v j) s (did.subscripts j) (did.member j))) ∙ ap (spec.value_of vs ps (sizes self) m) is) c.read.ensures.tree;
+      scalar = subst (λ (e : Option ScalarType). IfOk c.read.result (λ x. x.scalar ≡ e)) ((λ j. typing.use_type (v j) s (did.subscript_types j) (did.member_types j)) ∙ ap (typing.value_type vs ps) is) c.read.ensures.scalar;
+      faults = subst (λ (l : List Found). OnOk c.read.result (c.read.new.faults.items ≡ l)) ((λ j. did.faults j ++ found.use_faults m false r.place (v j) s (did.subscript_types j) (did.member_types j)) ∙ append_assoc old _ _ ∙ ap (λ (x : ReferenceR'). old ++ found.value_faults vs ps m x) is) c.read.ensures.faults;
+    }
+
+pub value-returns-in_ok-arguments-in-Procedure : goal.value-returns-in_ok-arguments-in-Procedure
+value-returns-in_ok-arguments-in-Procedure t c =
+    let r = c.args.reference.now in
+    let es = resolved.expressions_of r.subscripts.items in
+    let s = resolved.selector_of r.selector in
+    let self = c.args.self.now in
+    let vs = variables self in
+    let ps = procedures self in
+    let m = self.module in
+    let old = c.args.faults.now.items in
+    let is = ap (λ (m : Meaning). Use r.place m es s) (sym c.in-Procedure.is) in
+    let did = c.in_ok-arguments-in-Procedure.ensures in
+    let from = c.deref.ensures.value in
+    let trees = did.trees ∙ ap (λ (l : List declared_resolved.Expression). spec.trees_of vs ps (sizes self) m (resolved.expressions_of l)) from in
+    let types = did.types ∙ ap (λ (l : List declared_resolved.Expression). typing.types_of vs ps (resolved.expressions_of l)) from in
+    let q = c.procedure.ensures in
+    record {
+      tree = subst (λ (e : rest.Expression). IfOk c.called.result (λ x. view.expression_of x.tree ≡ e)) ((λ j. rest.Call (spec.entry_of (q j)) (trees j)) ∙ ap (spec.value_of vs ps (sizes self) m) is) c.called.ensures.tree;
+      scalar = subst (λ (e : Option ScalarType). IfOk c.called.result (λ x. x.scalar ≡ e)) ((λ j. typing.called_type vs (q j) s (types j)) ∙ ap (typing.value_type vs ps) is) c.called.ensures.scalar;
+      faults = subst (λ (l : List Found). OnOk c.called.result (c.called.new.faults.items ≡ l)) ((λ j. (did.faults ∙ ap (λ (l : List declared_resolved.Expression). old ++ found.faults_in vs ps m (resolved.expressions_of l)) from) j ++ found.called_faults vs m r.place (q j) s (types j)) ∙ append_assoc old _ _ ∙ ap (λ (x : ReferenceR'). old ++ found.value_faults vs ps m x) is) c.called.ensures.faults;
+    }
+
+pub value-returns-then-is_measure : goal.value-returns-then-is_measure
+value-returns-then-is_measure t c =
+    let r = c.args.reference.now in
+    let es = resolved.expressions_of r.subscripts.items in
+    let s = resolved.selector_of r.selector in
+    let self = c.args.self.now in
+    let vs = variables self in
+    let ps = procedures self in
+    let m = self.module in
+    let old = c.args.faults.now.items in
+    let is = ap (λ (m : Meaning). Use r.place m es s) (sym c.in-Builtin.is) in
+    let b = c.in-Builtin.builtin in
+    let noted = c.in_ok-note_unless-in-Builtin.ensures ∙ (λ j. old ++ found.fault_unless m (not (c.is_target.ensures j)) E401 r.place) in
+    let target = found.fault_unless m (not (typing.is_target b)) E401 r.place in
+    let measured = found.fault_unless m (typing.is_plain s) E401 r.place ++ found.measured_faults vs ps m r.place b es in
+    let applied = found.faults_in vs ps m es ++ found.builtin_faults m r.place b s (typing.types_of vs ps es) in
+    let yes = sym (sym c.is_measure.ensures ∙ c.if-is_measure.true) in
+    record {
+      tree = subst (λ (e : rest.Expression). IfOk c.measure_call.result (λ x. view.expression_of x.tree ≡ e)) ((λ j. cond (yes j) (spec.measured_value vs ps b es) (spec.builtin_value m r.place.line b (scalars.width_of (typing.first_type (typing.types_of vs ps es))) (spec.trees_of vs ps (sizes self) m es))) ∙ ap (spec.value_of vs ps (sizes self) m) is) c.measure_call.ensures.tree;
+      scalar = subst (λ (e : Option ScalarType). IfOk c.measure_call.result (λ x. x.scalar ≡ e)) ((λ j. cond (yes j) (typing.given_if (typing.is_plain s) (typing.measured_type vs ps b es)) (typing.given_if (typing.builtin_fits b s (typing.types_of vs ps es)) (typing.builtin_type b (typing.types_of vs ps es)))) ∙ ap (typing.value_type vs ps) is) c.measure_call.ensures.scalar;
+      faults = subst (λ (l : List Found). OnOk c.measure_call.result (c.measure_call.new.faults.items ≡ l)) ((λ j. noted j ++ measured) ∙ append_assoc old target measured ∙ (λ j. old ++ (target ++ cond (yes j) measured applied)) ∙ ap (λ (x : ReferenceR'). old ++ found.value_faults vs ps m x) is) c.measure_call.ensures.faults;
+    }
+
+pub value-returns-in_ok-arguments-in-Builtin : goal.value-returns-in_ok-arguments-in-Builtin
+value-returns-in_ok-arguments-in-Builtin t c =
+    let r = c.args.reference.now in
+    let es = resolved.expressions_of r.subscripts.items in
+    let s = resolved.selector_of r.selector in
+    let self = c.args.self.now in
+    let vs = variables self in
+    let ps = procedures self in
+    let m = self.module in
+    let old = c.args.faults.now.items in
+    let is = ap (λ (m : Meaning). Use r.place m es s) (sym c.in-Builtin.is) in
+    let b = c.in-Builtin.builtin in
+    let noted = c.in_ok-note_unless-in-Builtin.ensures ∙ (λ j. old ++ found.fault_unless m (not (c.is_target.ensures j)) E401 r.place) in
+    let target = found.fault_unless m (not (typing.is_target b)) E401 r.place in
+    let measured = found.fault_unless m (typing.is_plain s) E401 r.place ++ found.measured_faults vs ps m r.place b es in
+    let applied = found.faults_in vs ps m es ++ found.builtin_faults m r.place b s (typing.types_of vs ps es) in
+    let no = sym (sym c.is_measure.ensures ∙ c.if-is_measure.false) in
+    let did = c.in_ok-arguments-in-Builtin.ensures in
+    let from = c.deref-in-Builtin.ensures.value in
+    let trees = did.trees ∙ ap (λ (l : List declared_resolved.Expression). spec.trees_of vs ps (sizes self) m (resolved.expressions_of l)) from in
+    let types = did.types ∙ ap (λ (l : List declared_resolved.Expression). typing.types_of vs ps (resolved.expressions_of l)) from in
+    let before = did.faults ∙ (λ j. noted j ++ found.faults_in vs ps m (resolved.expressions_of (from j))) in
+    record {
+      tree = subst (λ (e : rest.Expression). IfOk c.operated.result (λ x. view.expression_of x.tree ≡ e)) ((λ j. spec.builtin_value m r.place.line b (scalars.width_of (typing.first_type (types j))) (trees j)) ∙ (λ j. cond (no j) (spec.measured_value vs ps b es) (spec.builtin_value m r.place.line b (scalars.width_of (typing.first_type (typing.types_of vs ps es))) (spec.trees_of vs ps (sizes self) m es))) ∙ ap (spec.value_of vs ps (sizes self) m) is) c.operated.ensures.tree;
+      scalar = subst (λ (e : Option ScalarType). IfOk c.operated.result (λ x. x.scalar ≡ e)) ((λ j. typing.given_if (typing.builtin_fits b s (types j)) (typing.builtin_type b (types j))) ∙ (λ j. cond (no j) (typing.given_if (typing.is_plain s) (typing.measured_type vs ps b es)) (typing.given_if (typing.builtin_fits b s (typing.types_of vs ps es)) (typing.builtin_type b (typing.types_of vs ps es)))) ∙ ap (typing.value_type vs ps) is) c.operated.ensures.scalar;
+      faults = subst (λ (l : List Found). OnOk c.operated.result (c.operated.new.faults.items ≡ l)) ((λ j. before j ++ found.builtin_faults m r.place b s (types j)) ∙ append_assoc (old ++ target) _ _ ∙ append_assoc old target applied ∙ (λ j. old ++ (target ++ cond (no j) measured applied)) ∙ ap (λ (x : ReferenceR'). old ++ found.value_faults vs ps m x) is) c.operated.ensures.faults;
+    }
+
+pub value-returns-in-Nothing : goal.value-returns-in-Nothing
+value-returns-in-Nothing t c =
+    let r = c.args.reference.now in
+    let es = resolved.expressions_of r.subscripts.items in
+    let s = resolved.selector_of r.selector in
+    let self = c.args.self.now in
+    let vs = variables self in
+    let ps = procedures self in
+    let m = self.module in
+    let old = c.args.faults.now.items in
+    let is = ap (λ (m : Meaning). Use r.place m es s) (sym c.in-Nothing.is) in
+    record {
+      tree = subst (λ (e : rest.Expression). IfOk c.refused.result (λ x. view.expression_of x.tree ≡ e)) (ap (spec.value_of vs ps (sizes self) m) is) c.refused.ensures.tree;
+      scalar = subst (λ (e : Option ScalarType). IfOk c.refused.result (λ x. x.scalar ≡ e)) (ap (typing.value_type vs ps) is) c.refused.ensures.scalar;
+      faults = subst (λ (l : List Found). OnOk c.refused.result (c.refused.new.faults.items ≡ l)) (ap (λ (x : ReferenceR'). old ++ found.value_faults vs ps m x) is) c.refused.ensures.faults;
+    }
+
+-- ---- a reference as a target
+
+pub target-returns-in_ok-parts-in-Variable : goal.target-returns-in_ok-parts-in-Variable
+target-returns-in_ok-parts-in-Variable t c =
+    let r = c.args.reference.now in
+    let es = resolved.expressions_of r.subscripts.items in
+    let s = resolved.selector_of r.selector in
+    let self = c.args.self.now in
+    let vs = variables self in
+    let ps = procedures self in
+    let m = self.module in
+    let old = c.args.faults.now.items in
+    let is = ap (λ (m : Meaning). Use r.place m es s) (sym c.in-Variable.is) in
+    let did = c.in_ok-parts-in-Variable.ensures in
+    let v = c.variable.ensures in
+    record {
+      tree = subst (λ (e : rest.Target). IfOk c.stored.result (λ x. view.target_of x.tree ≡ e)) ((λ j. spec.use_stored (v j) s (spec.refer vs m r.place.line (v j) s (did.subscripts j) (did.member j))) ∙ ap (spec.target_of vs ps (sizes self) m) is) c.stored.ensures.tree;
+      scalar = subst (λ (e : Option ScalarType). IfOk c.stored.result (λ x. x.scalar ≡ e)) ((λ j. typing.stored_type (v j) s (did.subscript_types j) (did.member_types j)) ∙ ap (typing.target_type vs ps) is) c.stored.ensures.scalar;
+      faults = subst (λ (l : List Found). OnOk c.stored.result (c.stored.new.faults.items ≡ l)) ((λ j. did.faults j ++ (found.use_faults m false r.place (v j) s (did.subscript_types j) (did.member_types j) ++ found.fault_unless m (typing.may_be_assigned (v j)) E403 r.place)) ∙ append_assoc old _ _ ∙ ap (λ (x : ReferenceR'). old ++ found.target_faults vs ps m x) is) c.stored.ensures.faults;
+    }
+
+pub target-returns-in_ok-arguments-in-Builtin : goal.target-returns-in_ok-arguments-in-Builtin
+target-returns-in_ok-arguments-in-Builtin t c =
+    let r = c.args.reference.now in
+    let es = resolved.expressions_of r.subscripts.items in
+    let s = resolved.selector_of r.selector in
+    let self = c.args.self.now in
+    let vs = variables self in
+    let ps = procedures self in
+    let m = self.module in
+    let old = c.args.faults.now.items in
+    let is = ap (λ (m : Meaning). Use r.place m es s) (sym c.in-Builtin.is) in
+    let b = c.in-Builtin.builtin in
+    let did = c.in_ok-arguments-in-Builtin.ensures in
+    let from = c.deref.ensures.value in
+    let trees = did.trees ∙ ap (λ (l : List declared_resolved.Expression). spec.trees_of vs ps (sizes self) m (resolved.expressions_of l)) from in
+    let types = did.types ∙ ap (λ (l : List declared_resolved.Expression). typing.types_of vs ps (resolved.expressions_of l)) from in
+    record {
+      tree = subst (λ (e : rest.Target). IfOk c.port.result (λ x. view.target_of x.tree ≡ e)) ((λ j. spec.to_port b (trees j)) ∙ ap (spec.target_of vs ps (sizes self) m) is) c.port.ensures.tree;
+      scalar = subst (λ (e : Option ScalarType). IfOk c.port.result (λ x. x.scalar ≡ e)) ((λ j. typing.given_if (typing.builtin_fits b s (types j)) (typing.port_type b)) ∙ ap (typing.target_type vs ps) is) c.port.ensures.scalar;
+      faults = subst (λ (l : List Found). OnOk c.port.result (c.port.new.faults.items ≡ l)) ((λ j. (did.faults ∙ ap (λ (l : List declared_resolved.Expression). old ++ found.faults_in vs ps m (resolved.expressions_of l)) from) j ++ found.port_faults m r.place b s (types j)) ∙ append_assoc old _ _ ∙ ap (λ (x : ReferenceR'). old ++ found.target_faults vs ps m x) is) c.port.ensures.faults;
+    }
+
+-- ---- the parts of a reference
+
+pub parts-returns : goal.parts-returns
+parts-returns t c =
+    let r = c.args.reference.now in
+    let es = resolved.expressions_of r.subscripts.items in
+    let s = resolved.selector_of r.selector in
+    let self = c.args.self.now in
+    let vs = variables self in
+    let ps = procedures self in
+    let m = self.module in
+    let old = c.args.faults.now.items in
+    let did = c.in_ok-subscripts.ensures in
+    let from = c.deref.ensures.value in
+    let trees = did.trees ∙ ap (λ (l : List declared_resolved.Expression). spec.trees_of vs ps (sizes self) m (resolved.expressions_of l)) from in
+    let types = did.types ∙ ap (λ (l : List declared_resolved.Expression). typing.types_of vs ps (resolved.expressions_of l)) from in
+    let member = c.in_ok-member.ensures in
+    record {
+      subscripts = trees;
+      member = member.trees;
+      subscript_types = types;
+      member_types = member.types;
+      faults = member.faults ∙ (λ j. (did.faults ∙ ap (λ (l : List declared_resolved.Expression). old ++ found.faults_in vs ps m (resolved.expressions_of l)) from) j ++ found.selector_faults vs ps m s) ∙ append_assoc old _ _;
+    }
+
+pub measure_call-returns : goal.measure_call-returns
+measure_call-returns t c =
+    let r = c.args.reference.now in
+    let es = resolved.expressions_of r.subscripts.items in
+    let s = resolved.selector_of r.selector in
+    let self = c.args.self.now in
+    let vs = variables self in
+    let ps = procedures self in
+    let m = self.module in
+    let old = c.args.faults.now.items in
+    let b = c.args.builtin in
+    let plain = c.is_plain-plain.ensures in
+    let did = c.in_ok-typed.ensures in
+    let given = c.given_if.ensures in
+    let from = c.deref.ensures.value in
+    let scalar = did.scalar ∙ (λ j. typing.measured_type vs ps b (resolved.expressions_of (from j))) in
+    let noted = c.in_ok-note_unless.ensures ∙ (λ j. old ++ found.fault_unless m (plain j) E401 r.place) in
+    record {
+      tree = ap view.expression_of given.tree ∙ did.tree ∙ (λ j. spec.measured_value vs ps b (resolved.expressions_of (from j)));
+      scalar = given.scalar ∙ (λ j. typing.given_if (plain j) (scalar j));
+      faults = did.faults ∙ (λ j. noted j ++ found.measured_faults vs ps m r.place b (resolved.expressions_of (from j))) ∙ append_assoc old _ _;
+    }
+
+-- ---- operators of one level, one by one
+
+pub operations-loop-operation-preserved : goal.operations-loop-operation-preserved
+operations-loop-operation-preserved t c =
+    let self = c.args.self.now in
+    let vs = variables self in
+    let ps = procedures self in
+    let m = self.module in
+    let old = c.args.faults.now.items in
+    let sz = sizes self in
+    let here = c.loop-operation in
+    let first = c.args.first in
+    let xs = c.args.operations.now in
+    let i = here.operation-index in
+    let o = c.operation-item.result in
+    let left = drop (i + 1) xs in
+    let at = sym (drop_at xs i o c.loop-operation-test.true c.operation-item.is) in
+    let e = view.expression_of here.typed.tree in
+    let s = here.typed.scalar in
+    let right = c.in_ok-right.ensures in
+    let made = c.in_ok-typed.ensures in
+    let type = made.scalar ∙ ap (scalars.binary_type o.operator s) right.scalar in
+    let tree = made.tree ∙ (λ j. rest.Binary m o.place.line (scalars.binary_operation o.operator) (scalars.width_of (scalars.binary_type o.operator s (right.scalar j))) e (right.tree j)) in
+    let faults = made.faults ∙ (λ j. right.faults j ++ found.fault_unless m (scalars.operands_fit o.operator s (right.scalar j)) E401 first)
+    ∙ append_assoc here.faults.items _ _ in
+    record {
+      tree = (λ j. chains.chain_tree vs ps sz m (tree j) (type j) left) ∙ ap (chains.chain_tree vs ps sz m e s) at ∙ here.invariant.tree;
+      scalar = (λ j. chains.chain_type vs ps (type j) left) ∙ ap (chains.chain_type vs ps s) at ∙ here.invariant.scalar;
+      faults = (λ j. faults j ++ chains.chain_faults vs ps m first (type j) left)
+          ∙ append_assoc here.faults.items (chains.joined_faults vs ps m first s o) (chains.chain_faults vs ps m first (chains.joined_type vs ps s o) left)
+          ∙ ap (λ (l : List Operation). here.faults.items ++ chains.chain_faults vs ps m first s l) at ∙ here.invariant.faults;
+    }
+
+-- ---- the other kinds of expressions
+
+pub expression-returns-in-Number : goal.expression-returns-in-Number
+expression-returns-in-Number t c =
+    let self = c.args.self.now in
+    let vs = variables self in
+    let ps = procedures self in
+    let m = self.module in
+    let old = c.args.faults.now.items in
+    let is = sym (ap resolved.expression_of c.in-Number.is) in
+    record {
+      tree = subst (λ (e : rest.Expression). IfOk c.number.result (λ x. view.expression_of x.tree ≡ e)) (ap (spec.tree_of vs ps (sizes self) m) is) c.number.ensures.tree;
+      scalar = subst (λ (e : Option ScalarType). IfOk c.number.result (λ x. x.scalar ≡ e)) (ap (typing.type_of vs ps) is) c.number.ensures.scalar;
+      faults = subst (λ (l : List Found). OnOk c.number.result (c.number.new.faults.items ≡ l)) (ap (λ (e : ExpressionR). old ++ found.faults_of vs ps m e) is) c.number.ensures.faults;
+    }
+
+pub expression-returns-in-Text : goal.expression-returns-in-Text
+expression-returns-in-Text t c =
+    let self = c.args.self.now in
+    let vs = variables self in
+    let ps = procedures self in
+    let m = self.module in
+    let old = c.args.faults.now.items in
+    let is = ap (TextR c.in-Text.place) c.deref.ensures.value ∙ sym (ap resolved.expression_of c.in-Text.is) in
+    record {
+      tree = subst (λ (e : rest.Expression). IfOk c.text.result (λ x. view.expression_of x.tree ≡ e)) (ap (spec.tree_of vs ps (sizes self) m) is) c.text.ensures.tree;
+      scalar = subst (λ (e : Option ScalarType). IfOk c.text.result (λ x. x.scalar ≡ e)) (ap (typing.type_of vs ps) is) c.text.ensures.scalar;
+      faults = subst (λ (l : List Found). OnOk c.text.result (c.text.new.faults.items ≡ l)) (ap (λ (e : ExpressionR). old ++ found.faults_of vs ps m e) is) c.text.ensures.faults;
+    }
+
+pub expression-returns-in-Location : goal.expression-returns-in-Location
+expression-returns-in-Location t c =
+    let self = c.args.self.now in
+    let vs = variables self in
+    let ps = procedures self in
+    let m = self.module in
+    let old = c.args.faults.now.items in
+    let is = sym (ap resolved.expression_of c.in-Location.is) in
+    record {
+      tree = subst (λ (e : rest.Expression). IfOk c.location.result (λ x. view.expression_of x.tree ≡ e)) (ap (spec.tree_of vs ps (sizes self) m) is) c.location.ensures.tree;
+      scalar = subst (λ (e : Option ScalarType). IfOk c.location.result (λ x. x.scalar ≡ e)) (ap (typing.type_of vs ps) is) c.location.ensures.scalar;
+      faults = subst (λ (l : List Found). OnOk c.location.result (c.location.new.faults.items ≡ l)) (ap (λ (e : ExpressionR). old ++ found.faults_of vs ps m e) is) c.location.ensures.faults;
+    }
+
+pub expression-returns-in-Parenthesised : goal.expression-returns-in-Parenthesised
+expression-returns-in-Parenthesised t c =
+    let self = c.args.self.now in
+    let vs = variables self in
+    let ps = procedures self in
+    let m = self.module in
+    let old = c.args.faults.now.items in
+    let is = (λ j. ParenthesisedR c.in-Parenthesised.field-0 (resolved.expression_of (c.deref-in-Parenthesised.ensures j))) ∙ sym (ap resolved.expression_of c.in-Parenthesised.is) in
+    record {
+      tree = subst (λ (e : rest.Expression). IfOk c.expression.result (λ x. view.expression_of x.tree ≡ e)) (ap (spec.tree_of vs ps (sizes self) m) is) c.expression.ensures.tree;
+      scalar = subst (λ (e : Option ScalarType). IfOk c.expression.result (λ x. x.scalar ≡ e)) (ap (typing.type_of vs ps) is) c.expression.ensures.scalar;
+      faults = subst (λ (l : List Found). OnOk c.expression.result (c.expression.new.faults.items ≡ l)) (ap (λ (e : ExpressionR). old ++ found.faults_of vs ps m e) is) c.expression.ensures.faults;
+    }
+
+pub expression-returns-in_ok-operand-in-Unary : goal.expression-returns-in_ok-operand-in-Unary
+expression-returns-in_ok-operand-in-Unary t c =
+    let self = c.args.self.now in
+    let vs = variables self in
+    let ps = procedures self in
+    let m = self.module in
+    let old = c.args.faults.now.items in
+    let at = c.in-Unary in
+    let did = c.in_ok-operand-in-Unary.ensures in
+    let is = sym (ap resolved.expression_of at.is) in
+    let scalar = did.scalar ∙ (λ j. typing.type_of vs ps (resolved.expression_of (c.deref-in-Unary.ensures j))) in
+    let tree = did.tree ∙ (λ j. spec.tree_of vs ps (sizes self) m (resolved.expression_of (c.deref-in-Unary.ensures j))) in
+    let faults = did.faults ∙ (λ j. old ++ found.faults_of vs ps m (resolved.expression_of (c.deref-in-Unary.ensures j))) in
+    record {
+      tree = subst (λ (e : rest.Expression). IfOk c.unary.result (λ x. view.expression_of x.tree ≡ e)) ((λ j. rest.Unary (scalars.unary_operation at.operator) (scalars.width_of (scalar j)) (tree j)) ∙ ap (spec.tree_of vs ps (sizes self) m) is) c.unary.ensures.tree;
+      scalar = subst (λ (e : Option ScalarType). IfOk c.unary.result (λ x. x.scalar ≡ e)) (ap scalars.unary_type scalar ∙ ap (typing.type_of vs ps) is) c.unary.ensures.scalar;
+      faults = subst (λ (l : List Found). OnOk c.unary.result (c.unary.new.faults.items ≡ l)) ((λ j. faults j ++ found.fault_unless m (scalars.may_be_number (scalar j)) E401 at.place) ∙ append_assoc old _ _ ∙ ap (λ (e : ExpressionR). old ++ found.faults_of vs ps m e) is) c.unary.ensures.faults;
+    }

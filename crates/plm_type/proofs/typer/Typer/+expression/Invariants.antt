@@ -12,13 +12,13 @@ use Rattle.plm_type.proofs.typer.Typer.+expression.Given as goal
 abbrev pub invariant-list-loop-e : goal.invariant-list-loop-e
 invariant-list-loop-e l =
     let left = resolved.expressions_of (drop l.e-index l.es) in
-    let all = resolved.expressions_of l.es in
+    let whole = resolved.expressions_of l.es in
     let vs = variables l.self in
     let ps = procedures l.self in
     record {
-      trees : trees_before l.trees.items (trees_of vs ps (sizes l.self) l.self.module left) ≡ trees_of vs ps (sizes l.self) l.self.module all;
-      types : l.types.items ++ types_of vs ps left ≡ types_of vs ps all;
-      faults : l.faults.items ++ faults_in vs ps l.self.module left ≡ l.initial.faults.items ++ faults_in vs ps l.self.module all;
+      trees : trees_before l.all.trees.items (trees_of vs ps (sizes l.self) l.self.module left) ≡ trees_of vs ps (sizes l.self) l.self.module whole;
+      types : l.all.types.items ++ types_of vs ps left ≡ types_of vs ps whole;
+      faults : l.faults.items ++ faults_in vs ps l.self.module left ≡ l.initial.faults.items ++ faults_in vs ps l.self.module whole;
     }
 
 abbrev pub invariant-operations-loop-operation : goal.invariant-operations-loop-operation
