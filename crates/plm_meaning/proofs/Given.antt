@@ -1,5 +1,5 @@
--- A part that begins: in a frame that was pushed, or at its end.
-use Rattle.std.proofs.Common.{◌≡◌, ℕ, List, [], ◌∷◌, ◌++◌, length, refl, ap, ◌∙◌, arith, Option, Some, None}
+-- Lists that are at their end, and what a program writes.
+use Rattle.std.proofs.Common.{◌≡◌, ◌≤◌, ℕ, suc, List, [], ◌∷◌, ◌++◌, length, refl, ap, ◌∙◌, arith, Option, Some, None}
 use Rattle.plm_type.specs.declared.program.Expression.{Expression}
 use Rattle.plm_type.specs.Rest.{Expressions, NoMore, More, Value}
 use Rattle.plm_type.specs.View.{expressions_of}
@@ -7,14 +7,12 @@ use Rattle.std.specs.Global.{Box}
 use Rattle.plm_type.specs.declared.program.Expression.{Row_of-Operation, end_of-Operation, more_of-Operation}
 use Rattle.plm_type.specs.declared.program.Expression.TheVariants as expression
 use Rattle.plm_type.specs.declared.program.Statement as program_statement
-use Rattle.plm_type.specs.declared.program.Subscript as program_subscript
 use Rattle.plm_type.specs.declared.program.Operation.{Operation}
 use Rattle.plm_type.specs.Rest as rest
 use Rattle.plm_type.specs.Next.{value_of}
-use Rattle.plm_type.specs.View.{expression_of, chained_in, chained, statements_of, subscripts_of}
-use Rattle.plm_meaning.specs.declared.context.Frame.{Frame}
-use Rattle.plm_meaning.specs.Parts.{Part, given, around, todo_in}
-use Rattle.plm_meaning.proofs.Plug.{todo_last}
+use Rattle.plm_type.specs.View.{expression_of, chained_in, chained, statements_of}
+use Rattle.plm_meaning.specs.Parts.{given}
+use Rattle.plm_meaning.specs.Depth.{depth}
 
 pub given_last : (vs : List ℕ) (v : ℕ) (es : Expressions) → given (vs ++ v ∷ []) es ≡ given vs (More (Value v) es)
 given_last [] v es = refl
@@ -28,13 +26,16 @@ pub no_statements : (ss : List (Box program_statement.Statement)) → length ss 
 no_statements [] h = refl
 no_statements (s ∷ ss) h = absurd (omega (arith, h))
 
-pub no_subscripts : (ss : List program_subscript.Subscript) → length ss ≡ 0 → subscripts_of ss ≡ rest.NoSubscripts
-no_subscripts [] h = refl
-no_subscripts (s ∷ ss) h = absurd (omega (arith, h))
-
 pub no_operations : (os : List Operation) (e : rest.Expression) → length os ≡ 0 → chained e os ≡ e
 no_operations [] e h = refl
 no_operations (o ∷ os) e h = absurd (omega (arith, h))
+
+pub chained_depth : (os : List Operation) (e : rest.Expression) → depth e ≤ depth (chained e os)
+chained_depth [] e = omega arith
+chained_depth (o ∷ os) e =
+    let more : suc (depth e) ≤ depth (chained (rest.Binary o.line.module o.line.line o.operation o.width e (expression_of o.operand)) os) =
+    chained_depth os (rest.Binary o.line.module o.line.line o.operation o.width e (expression_of o.operand)) in
+    omega (arith, more)
 
 chained_value : {m : _} (os : Row_of-Operation m) (e : rest.Expression) → value_of e ≡ None → value_of (chained_in e os) ≡ None
 chained_value end_of-Operation e h = h
@@ -51,7 +52,3 @@ source_value (expression.Chain' p e shape os) = chained_value os (expression_of 
 source_value (expression.Embedded' p t q e) = refl
 source_value (expression.Input' width p e) = refl
 source_value (expression.Call' p shape es) = refl
-
--- a part that begins in a frame that was pushed
-pub begun : (fs new : List Frame) (f : Frame) (p q : Part) (result : rest.Statements) → result ≡ todo_in new p → new ≡ fs ++ f ∷ [] → around f p ≡ q → result ≡ todo_in fs q
-begun fs new f p q result e n h = e ∙ ap (λ l. todo_in l p) n ∙ todo_last fs f p ∙ ap (todo_in fs) h

@@ -16,9 +16,11 @@ use Rattle.plm_meaning.specs.declared.context.Destination.{Destination}
 use Rattle.plm_meaning.specs.declared.context.Destination.TheVariants as destination
 use Rattle.plm_meaning.specs.declared.context.Purpose.{Purpose}
 use Rattle.plm_meaning.specs.declared.context.Purpose.TheVariants as purpose
+use Rattle.plm_meaning.specs.declared.context.Hole.{Hole}
+use Rattle.plm_meaning.specs.declared.context.Hole.TheVariants as hole
 use Rattle.plm_meaning.specs.declared.context.Frame.{Frame}
 use Rattle.plm_meaning.specs.declared.context.Frame.TheVariants as frame
-use Rattle.plm_meaning.specs.Parts.{Part, Expr, Todo, expression_in, statements_in, aimed, purposed, later_of, given, around, plug, todo_in}
+use Rattle.plm_meaning.specs.Parts.{Part, Expr, Todo, expression_in, statements_in, aimed, purposed, later_of, given, in_hole, around, plug, todo_in}
 use Rattle.plm_meaning.proofs.Actions.{map_twice, map_same, map_alike}
 
 pub behind_assoc : (a b c : Statements) → behind (behind a b) c ≡ behind a (behind b c)
@@ -284,25 +286,29 @@ module _ (offsets sizes : List ℕ) (procedures : List Procedure) where
       ∙ map_twice Running statements_in (next_part p)
 
   -- a step of a part is a step of what stands around it
+  hole_step : (h : Hole) (p : Part) → Active p → next_part (in_hole h p) ≡ map_action (in_hole h) (next_part p)
+  hole_step (hole.Unary o width) p h = in_expression (rest.Unary o width) (λ e n. ap (λ v. next.next_unary o width v (E e)) n) p h
+  hole_step (hole.Left o os) p h = in_expression (λ e. chained (in_chain o.now e (expression_of o.now.operand)) os.now) (left_step o.now os.now (expression_of o.now.operand)) p h
+  hole_step (hole.Right x o os) p h = in_expression (λ e. chained (in_chain o.now (Value x) e) os.now) (right_step o.now os.now x) p h
+  hole_step (hole.Embedded t) p h = in_expression (rest.Embedded (target_of t.now)) (λ e n. ap (λ v. next.next_embedded (target_of t.now) v (next_target offsets sizes procedures (target_of t.now)) (E e)) n) p h
+  hole_step (hole.Input width) p h = in_expression (rest.Input width) (λ e n. ap (λ v. next.next_input width v (E e)) n) p h
+  hole_step (hole.Subscript x l a offset stride ss) p h = in_part _ (subscript_step l.module l.line (anchor_of a) offset stride (subscripts_of ss.now) x) p h
+  hole_step (hole.Port width d) p h = in_part _ (port_step width d) p h
+  hole_step (hole.Assign t ts) p h = in_statements (λ e. Then (rest.Assign (targets_of (target_of t.now) ts.now) e) End) (λ e n. ap (λ v. next_assign (targets_of (target_of t.now) ts.now) v End (next_first offsets sizes procedures (targets_of (target_of t.now) ts.now)) (E e)) n) p h
+  hole_step (hole.ReturnValue width) p h = in_statements (λ e. Then (rest.ReturnValue width e) End) (λ e n. ap (λ v. next_return width v End (E e)) n) p h
+  hole_step (hole.If ss ts) p h = in_statements (λ e. Then (rest.If e (statements_of ss.now) (statements_of ts.now)) End) (λ e n. ap (λ v. next_if v (statements_of ss.now) (statements_of ts.now) End (E e)) n) p h
+  hole_step (hole.While c ss) p h = in_statements (λ e. Then (rest.While e (expression_of c.now) (statements_of ss.now)) End) (λ e n. ap (λ v. next_while v (expression_of c.now) (statements_of ss.now) End (E e)) n) p h
+  hole_step (hole.Case ss) p h = in_statements (λ e. Then (rest.Case e (statements_of ss.now)) End) (λ e n. ap (λ v. next_case v (statements_of ss.now) End (E e)) n) p h
+  hole_step (hole.Iterate l) p h = in_statements (λ e. Then (rest.Iterate e (loop_of l.now)) End) (λ e n. ap (λ v. next_iterate v (loop_of l.now) End (E e)) n) p h
+  hole_step (hole.Comparing i l) p h = in_statements (λ e. Then (rest.Comparing i e (loop_of l.now)) End) (λ e n. ap (λ v. next_comparing i v (loop_of l.now) End (E e)) n) p h
+  hole_step (hole.Stepping l) p h = in_statements (λ e. Then (rest.Stepping e (loop_of l.now)) End) (λ e n. ap (λ v. next_stepping v (loop_of l.now) End (E e)) n) p h
+
   frame_step : (f : Frame) (p : Part) → Active p → next_part (around f p) ≡ map_action (around f) (next_part p)
-  frame_step (frame.Unary o width) p h = in_expression (rest.Unary o width) (λ e n. ap (λ v. next.next_unary o width v (E e)) n) p h
-  frame_step (frame.Left o os) p h = in_expression (λ e. chained (in_chain o.now e (expression_of o.now.operand)) os.now) (left_step o.now os.now (expression_of o.now.operand)) p h
-  frame_step (frame.Right x o os) p h = in_expression (λ e. chained (in_chain o.now (Value x) e) os.now) (right_step o.now os.now x) p h
-  frame_step (frame.Embedded t) p h = in_expression (rest.Embedded (target_of t.now)) (λ e n. ap (λ v. next.next_embedded (target_of t.now) v (next_target offsets sizes procedures (target_of t.now)) (E e)) n) p h
-  frame_step (frame.Input width) p h = in_expression (rest.Input width) (λ e n. ap (λ v. next.next_input width v (E e)) n) p h
+  frame_step (frame.Hole x) p h = hole_step x p h
   frame_step (frame.Argument n vs es) p h = in_expression (λ e. rest.Call n (given vs.items (More e (expressions_of es.now)))) (call_step n vs.items (expressions_of es.now)) p h
-  frame_step (frame.Subscript x l a offset stride ss) p h = in_part _ (subscript_step l.module l.line (anchor_of a) offset stride (subscripts_of ss.now) x) p h
-  frame_step (frame.Port width d) p h = in_part _ (port_step width d) p h
-  frame_step (frame.Assign t ts) p h = in_statements (λ e. Then (rest.Assign (targets_of (target_of t.now) ts.now) e) End) (λ e n. ap (λ v. next_assign (targets_of (target_of t.now) ts.now) v End (next_first offsets sizes procedures (targets_of (target_of t.now) ts.now)) (E e)) n) p h
-  frame_step frame.Running p h = ap (map_action Expr) (running_frame p h) ∙ map_twice Expr _ (next_part p)
   frame_step frame.Evaluate p h = in_statements (λ e. evaluated (value_of e) e End) evaluate_frame p h
-  frame_step (frame.ReturnValue width) p h = in_statements (λ e. Then (rest.ReturnValue width e) End) (λ e n. ap (λ v. next_return width v End (E e)) n) p h
-  frame_step (frame.If ss ts) p h = in_statements (λ e. Then (rest.If e (statements_of ss.now) (statements_of ts.now)) End) (λ e n. ap (λ v. next_if v (statements_of ss.now) (statements_of ts.now) End (E e)) n) p h
-  frame_step (frame.While c ss) p h = in_statements (λ e. Then (rest.While e (expression_of c.now) (statements_of ss.now)) End) (λ e n. ap (λ v. next_while v (expression_of c.now) (statements_of ss.now) End (E e)) n) p h
-  frame_step (frame.Case ss) p h = in_statements (λ e. Then (rest.Case e (statements_of ss.now)) End) (λ e n. ap (λ v. next_case v (statements_of ss.now) End (E e)) n) p h
-  frame_step (frame.Iterate l) p h = in_statements (λ e. Then (rest.Iterate e (loop_of l.now)) End) (λ e n. ap (λ v. next_iterate v (loop_of l.now) End (E e)) n) p h
-  frame_step (frame.Comparing i l) p h = in_statements (λ e. Then (rest.Comparing i e (loop_of l.now)) End) (λ e n. ap (λ v. next_comparing i v (loop_of l.now) End (E e)) n) p h
-  frame_step (frame.Stepping l) p h = in_statements (λ e. Then (rest.Stepping e (loop_of l.now)) End) (λ e n. ap (λ v. next_stepping v (loop_of l.now) End (E e)) n) p h
+  frame_step frame.Running p h = ap (map_action Expr) (running_frame p h) ∙ map_twice Expr _ (next_part p)
+  frame_step (frame.Behind ss) p h = ap (map_action Todo) (statements_step p (statements_of ss.now) h) ∙ map_twice Todo _ (next_part p)
   frame_step (frame.Later l) p h = ap (map_action Todo) (statements_step p (later_of l) h) ∙ map_twice Todo _ (next_part p)
 
   active_chain : (os : List Operation) (e : Expression) → value_of e ≡ None → value_of (chained e os) ≡ None
@@ -318,25 +324,29 @@ module _ (offsets sizes : List ℕ) (procedures : List Procedure) where
   active_purposed purpose.Locate r = refl
   active_purposed (purpose.Store width d) r = active_aimed d (rest.ToVariable width r)
 
+  hole_active : (h : Hole) (p : Part) → Active p → Active (in_hole h p)
+  hole_active (hole.Unary o width) p h = refl
+  hole_active (hole.Left o os) p h = active_chain os.now _ refl
+  hole_active (hole.Right x o os) p h = active_chain os.now _ refl
+  hole_active (hole.Embedded t) p h = refl
+  hole_active (hole.Input width) p h = refl
+  hole_active (hole.Subscript x l a offset stride ss) p h = active_purposed x _
+  hole_active (hole.Port width d) p h = active_aimed d _
+  hole_active (hole.Assign t ts) p h = refl
+  hole_active (hole.ReturnValue width) p h = refl
+  hole_active (hole.If ss ts) p h = refl
+  hole_active (hole.While c ss) p h = refl
+  hole_active (hole.Case ss) p h = refl
+  hole_active (hole.Iterate l) p h = refl
+  hole_active (hole.Comparing i l) p h = refl
+  hole_active (hole.Stepping l) p h = refl
+
   frame_active : (f : Frame) (p : Part) → Active p → Active (around f p)
-  frame_active (frame.Unary o width) p h = refl
-  frame_active (frame.Left o os) p h = active_chain os.now _ refl
-  frame_active (frame.Right x o os) p h = active_chain os.now _ refl
-  frame_active (frame.Embedded t) p h = refl
-  frame_active (frame.Input width) p h = refl
+  frame_active (frame.Hole x) p h = hole_active x p h
   frame_active (frame.Argument n vs es) p h = refl
-  frame_active (frame.Subscript x l a offset stride ss) p h = active_purposed x _
-  frame_active (frame.Port width d) p h = active_aimed d _
-  frame_active (frame.Assign t ts) p h = refl
-  frame_active frame.Running p h = refl
   frame_active frame.Evaluate p h = ap returned (sym (behind_end (evaluated (value_of (expression_in p)) (expression_in p) End))) ∙ evaluated_active (value_of (expression_in p)) (expression_in p) End (no_value p h)
-  frame_active (frame.ReturnValue width) p h = refl
-  frame_active (frame.If ss ts) p h = refl
-  frame_active (frame.While c ss) p h = refl
-  frame_active (frame.Case ss) p h = refl
-  frame_active (frame.Iterate l) p h = refl
-  frame_active (frame.Comparing i l) p h = refl
-  frame_active (frame.Stepping l) p h = refl
+  frame_active frame.Running p h = refl
+  frame_active (frame.Behind ss) p h = later_active p (statements_of ss.now) h
   frame_active (frame.Later l) p h = later_active p (later_of l) h
 
   plug_active : (fs : List Frame) (p : Part) → Active p → Active (plug fs p)

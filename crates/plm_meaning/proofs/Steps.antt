@@ -68,13 +68,7 @@ redex_active (redex.Block ss) = refl
 redex_active redex.Leaving = refl
 redex_active (redex.While v c ss) = refl
 redex_active (redex.Case v ss) = refl
-redex_active (redex.Iterate v l) = refl
-redex_active (redex.Round l) = refl
-redex_active (redex.Comparing i b l) = refl
-redex_active (redex.Stepping s l) = refl
-redex_active (redex.Adding i s l) = refl
-redex_active (redex.Storing sum l) = refl
-redex_active (redex.Ending sum l) = refl
+redex_active (redex.Loop p l) = refl
 
 same : (s : Surroundings) (p : Part) → next_part s p ≡ plug.next_part (offsets_of s) (sizes_of s) (procedures_in s) p
 same s (Expr e) = refl

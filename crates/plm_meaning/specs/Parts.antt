@@ -18,10 +18,16 @@ use Rattle.plm_meaning.specs.declared.context.Purpose.{Purpose}
 use Rattle.plm_meaning.specs.declared.context.Purpose.TheVariants as purpose
 use Rattle.plm_meaning.specs.declared.context.Later.{Later}
 use Rattle.plm_meaning.specs.declared.context.Later.TheVariants as later
+use Rattle.plm_meaning.specs.declared.context.Hole.{Hole}
+use Rattle.plm_meaning.specs.declared.context.Hole.TheVariants as hole
 use Rattle.plm_meaning.specs.declared.context.Frame.{Frame}
 use Rattle.plm_meaning.specs.declared.context.Frame.TheVariants as frame
+use Rattle.plm_meaning.specs.declared.context.Phase.{Phase}
+use Rattle.plm_meaning.specs.declared.context.Phase.TheVariants as phase
 use Rattle.plm_meaning.specs.declared.context.Redex.{Redex}
 use Rattle.plm_meaning.specs.declared.context.Redex.TheVariants as redex
+use Rattle.plm_meaning.specs.declared.context.Start.{Start}
+use Rattle.plm_meaning.specs.declared.context.Start.TheVariants as start
 use Rattle.plm_meaning.specs.declared.context.Focus.{Focus}
 use Rattle.plm_meaning.specs.declared.context.Focus.TheVariants as focus
 use Rattle.plm_meaning.specs.declared.context.Context.{Context}
@@ -57,7 +63,6 @@ purposed purpose.Locate r = Expr (Location r)
 purposed (purpose.Store width d) r = aimed d (ToVariable width r)
 
 abbrev pub later_of : Later → Statements
-later_of (later.Behind ss) = statements_of ss.now
 later_of later.Leaving = Then Leaving End
 later_of (later.Repeat c ss) = Then (While (expression_of c.now) (expression_of c.now) (statements_of ss.now)) End
 later_of (later.Next l) = Then (Stepping (step_of (loop_of l.now)) (loop_of l.now)) End
@@ -67,26 +72,40 @@ abbrev pub given : List ℕ → Expressions → Expressions
 given [] es = es
 given (v ∷ vs) es = More (Value v) (given vs es)
 
+-- an expression in a hole
+abbrev pub in_hole : Hole → Part → Part
+in_hole (hole.Unary o width) p = Expr (Unary o width (expression_in p))
+in_hole (hole.Left o os) p = Expr (chained (Binary o.now.line.module o.now.line.line o.now.operation o.now.width (expression_in p) (expression_of o.now.operand)) os.now)
+in_hole (hole.Right x o os) p = Expr (chained (Binary o.now.line.module o.now.line.line o.now.operation o.now.width (Value x) (expression_in p)) os.now)
+in_hole (hole.Embedded t) p = Expr (Embedded (target_of t.now) (expression_in p))
+in_hole (hole.Input width) p = Expr (rest.Input width (expression_in p))
+in_hole (hole.Subscript x l a offset stride ss) p = purposed x (indexed l.module l.line (anchor_of a) offset stride (value_of (expression_in p)) (expression_in p) (subscripts_of ss.now))
+in_hole (hole.Port width d) p = aimed d (ToPort width (expression_in p))
+in_hole (hole.Assign t ts) p = Todo (Then (Assign (targets_of (target_of t.now) ts.now) (expression_in p)) End)
+in_hole (hole.ReturnValue width) p = Todo (Then (ReturnValue width (expression_in p)) End)
+in_hole (hole.If ss ts) p = Todo (Then (If (expression_in p) (statements_of ss.now) (statements_of ts.now)) End)
+in_hole (hole.While c ss) p = Todo (Then (While (expression_in p) (expression_of c.now) (statements_of ss.now)) End)
+in_hole (hole.Case ss) p = Todo (Then (Case (expression_in p) (statements_of ss.now)) End)
+in_hole (hole.Iterate l) p = Todo (Then (Iterate (expression_in p) (loop_of l.now)) End)
+in_hole (hole.Comparing i l) p = Todo (Then (Comparing i (expression_in p) (loop_of l.now)) End)
+in_hole (hole.Stepping l) p = Todo (Then (Stepping (expression_in p) (loop_of l.now)) End)
+
 abbrev pub around : Frame → Part → Part
-around (frame.Unary o width) p = Expr (Unary o width (expression_in p))
-around (frame.Left o os) p = Expr (chained (Binary o.now.line.module o.now.line.line o.now.operation o.now.width (expression_in p) (expression_of o.now.operand)) os.now)
-around (frame.Right x o os) p = Expr (chained (Binary o.now.line.module o.now.line.line o.now.operation o.now.width (Value x) (expression_in p)) os.now)
-around (frame.Embedded t) p = Expr (Embedded (target_of t.now) (expression_in p))
-around (frame.Input width) p = Expr (rest.Input width (expression_in p))
+around (frame.Hole h) p = in_hole h p
 around (frame.Argument n vs es) p = Expr (Call n (given vs.items (More (expression_in p) (expressions_of es.now))))
-around (frame.Subscript x l a offset stride ss) p = purposed x (indexed l.module l.line (anchor_of a) offset stride (value_of (expression_in p)) (expression_in p) (subscripts_of ss.now))
-around (frame.Port width d) p = aimed d (ToPort width (expression_in p))
-around (frame.Assign t ts) p = Todo (Then (Assign (targets_of (target_of t.now) ts.now) (expression_in p)) End)
-around frame.Running p = Expr (Running (statements_in p))
 around frame.Evaluate p = Todo (evaluated (value_of (expression_in p)) (expression_in p) End)
-around (frame.ReturnValue width) p = Todo (Then (ReturnValue width (expression_in p)) End)
-around (frame.If ss ts) p = Todo (Then (If (expression_in p) (statements_of ss.now) (statements_of ts.now)) End)
-around (frame.While c ss) p = Todo (Then (While (expression_in p) (expression_of c.now) (statements_of ss.now)) End)
-around (frame.Case ss) p = Todo (Then (Case (expression_in p) (statements_of ss.now)) End)
-around (frame.Iterate l) p = Todo (Then (Iterate (expression_in p) (loop_of l.now)) End)
-around (frame.Comparing i l) p = Todo (Then (Comparing i (expression_in p) (loop_of l.now)) End)
-around (frame.Stepping l) p = Todo (Then (Stepping (expression_in p) (loop_of l.now)) End)
+around frame.Running p = Expr (Running (statements_in p))
+around (frame.Behind ss) p = Todo (behind (statements_in p) (statements_of ss.now))
 around (frame.Later l) p = Todo (behind (statements_in p) (later_of l))
+
+abbrev pub phase_of : Phase → Loop → Statement
+phase_of (phase.Begin v) l = Iterate (Value v) l
+phase_of phase.Round l = Round l
+phase_of (phase.Comparing i b) l = Comparing i (Value b) l
+phase_of (phase.Stepping s) l = Stepping (Value s) l
+phase_of (phase.Adding i s) l = Adding i s l
+phase_of (phase.Storing sum) l = Storing sum l
+phase_of (phase.Ending sum) l = Ending sum l
 
 abbrev pub redex_part : Redex → Part
 redex_part (redex.Constant k) = Expr (Constant k)
@@ -111,13 +130,14 @@ redex_part (redex.Block ss) = Todo (Then (Block (statements_of ss.now)) End)
 redex_part redex.Leaving = Todo (Then Leaving End)
 redex_part (redex.While v c ss) = Todo (Then (While (Value v) (expression_of c.now) (statements_of ss.now)) End)
 redex_part (redex.Case v ss) = Todo (Then (Case (Value v) (statements_of ss.now)) End)
-redex_part (redex.Iterate v l) = Todo (Then (Iterate (Value v) (loop_of l.now)) End)
-redex_part (redex.Round l) = Todo (Then (Round (loop_of l.now)) End)
-redex_part (redex.Comparing i b l) = Todo (Then (Comparing i (Value b) (loop_of l.now)) End)
-redex_part (redex.Stepping s l) = Todo (Then (Stepping (Value s) (loop_of l.now)) End)
-redex_part (redex.Adding i s l) = Todo (Then (Adding i s (loop_of l.now)) End)
-redex_part (redex.Storing sum l) = Todo (Then (Storing sum (loop_of l.now)) End)
-redex_part (redex.Ending sum l) = Todo (Then (Ending sum (loop_of l.now)) End)
+redex_part (redex.Loop p l) = Todo (Then (phase_of p (loop_of l.now)) End)
+
+abbrev pub start_part : Start → Part
+start_part (start.Ready r) = redex_part r
+start_part (start.Operate x y o os) = Expr (chained (Binary o.now.line.module o.now.line.line o.now.operation o.now.width (Value x) (Value y)) os.now)
+start_part (start.Within h e) = in_hole h (Expr (expression_of e.now))
+start_part (start.Evaluate e) = Todo (Then (Evaluate (expression_of e.now)) End)
+start_part (start.Call n es) = Expr (Call n (expressions_of es.now))
 
 abbrev pub part_of : Focus → Part
 part_of (focus.Expression e) = Expr (expression_of e.now)

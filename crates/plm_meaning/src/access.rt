@@ -12,7 +12,7 @@ use plm_type::Place;
 use word86::Width;
 
 /// One access: of a variable, of the screen, or of a port; a write has its value.
-#[derive(Debug, Clone, Copy, PartialEq, Eq)]
+#[derive(Clone, Copy)]
 pub enum Access {
     Read(Width, Place),
     Write(Width, Place, u16),
@@ -21,7 +21,7 @@ pub enum Access {
 }
 
 /// Where a reference's bytes begin, once its base is read.
-#[derive(Debug, Clone, Copy, PartialEq, Eq)]
+#[derive(Clone, Copy)]
 pub enum Origin {
     /// In a RAM object, by its number: so many bytes behind its first; the size in bytes of what the name declares.
     Ram(usize, u64, u64),

@@ -20,10 +20,9 @@ pub enum Purpose<'a> {
     Store(Width, Destination<'a>),
 }
 
-/// What comes behind statements.
+/// What comes behind the statements of a block or a round.
 #[derive(Clone, Copy)]
 pub enum Later<'a> {
-    Behind(&'a [Box<Statement>]),
     /// The end of a block.
     Leaving,
     /// A DO WHILE begins its test again.
@@ -32,9 +31,9 @@ pub enum Later<'a> {
     Next(&'a Loop),
 }
 
-/// What stands around a part that is evaluated first.
-#[derive(Drop)]
-pub enum Frame<'a> {
+/// Where an expression stands that is evaluated first: what stands around it.
+#[derive(Clone, Copy)]
+pub enum Hole<'a> {
     Unary(UnaryOperation, Width),
     /// The left operand of an operation, before others of its level.
     Left(&'a Operation, &'a [Operation]),
@@ -42,15 +41,10 @@ pub enum Frame<'a> {
     Right(u16, &'a Operation, &'a [Operation]),
     Embedded(&'a Target),
     Input(Width),
-    /// An argument, with the values of those before it.
-    Argument(usize, Vec<u16>, &'a [Expression]),
     /// A subscript of a reference: its element's size, and those behind it.
     Subscript(Purpose<'a>, Line, plm_type::Anchor, u64, u64, &'a [Subscript]),
     Port(Width, Destination<'a>),
     Assign(&'a Target, &'a [Target]),
-    Evaluate,
-    /// The body of a call.
-    Running,
     ReturnValue(Width),
     If(&'a [Box<Statement>], &'a [Box<Statement>]),
     While(&'a Expression, &'a [Box<Statement>]),
@@ -58,7 +52,40 @@ pub enum Frame<'a> {
     Iterate(&'a Loop),
     Comparing(u16, &'a Loop),
     Stepping(&'a Loop),
+}
+
+/// What stands around a part that is evaluated first.
+#[derive(Drop)]
+pub enum Frame<'a> {
+    Hole(Hole<'a>),
+    /// A CALL: a value is dropped.
+    Evaluate,
+    /// An argument, with the values of those before it.
+    Argument(usize, Vec<u16>, &'a [Expression]),
+    /// The body of a call.
+    Running,
+    /// Statements come behind.
+    Behind(&'a [Box<Statement>]),
     Later(Later<'a>),
+}
+
+/// Where a DO with an index stands.
+#[derive(Clone, Copy)]
+pub enum Phase {
+    /// The index gets its first value.
+    Begin(u16),
+    /// A round begins: the index is read.
+    Round,
+    /// The index is compared with the bound.
+    Comparing(u16, u16),
+    /// Behind the body, with the step: the index is read.
+    Stepping(u16),
+    /// The step is added to the index.
+    Adding(u16, u16),
+    /// The index gets the sum.
+    Storing(u32),
+    /// The sum is tested.
+    Ending(u32),
 }
 
 /// The part that is rewritten next: all that it needs has its value.
@@ -88,13 +115,22 @@ pub enum Redex<'a> {
     Leaving,
     While(u16, &'a Expression, &'a [Box<Statement>]),
     Case(u16, &'a [Box<Statement>]),
-    Iterate(u16, &'a Loop),
-    Round(&'a Loop),
-    Comparing(u16, u16, &'a Loop),
-    Stepping(u16, &'a Loop),
-    Adding(u16, u16, &'a Loop),
-    Storing(u32, &'a Loop),
-    Ending(u32, &'a Loop),
+    Loop(Phase, &'a Loop),
+}
+
+/// What comes first of a part.
+#[derive(Clone, Copy)]
+pub enum Start<'a> {
+    /// It is rewritten next.
+    Ready(Redex<'a>),
+    /// An operation whose operands have these values, before others of its level.
+    Operate(u16, u16, &'a Operation, &'a [Operation]),
+    /// An expression is evaluated first, in a hole.
+    Within(Hole<'a>, &'a Expression),
+    /// A CALL.
+    Evaluate(&'a Expression),
+    /// A call of a procedure, with its arguments.
+    Call(usize, &'a [Expression]),
 }
 
 /// The innermost part.

@@ -8,6 +8,7 @@ mod meaning;
 mod opening;
 mod redex;
 mod settle;
+mod start;
 mod store;
 
 pub use meaning::{Choice, Meaning, Step, Stop};

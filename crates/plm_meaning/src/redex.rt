@@ -7,12 +7,12 @@ ghost use Rattle.word86.specs.Arithmetic.{low};
 ghost use Rattle.plm_type.specs.Rest.{Expression as Tree, Passing as Stored, Refer, NoSubscripts, Round, While, Then, End, Stepping as Steps, Procedure as Blocks, Main, Handler};
 ghost use Rattle.plm_type.specs.Next.{is_odd, operated, next, next_case, next_passing, next_statements, behind, rounds_of, step_of, parameters_of, body_of};
 ghost use Rattle.plm_type.specs.View.{where_of, scalar_of, expression_of, statements_of, loop_of, procedures_of};
-ghost use Rattle.plm_meaning.specs.Parts.{Part, Expr, Todo, purposed, origin_of, part_of, redex_part, todo_in, todo_of, IsSettled};
+ghost use Rattle.plm_meaning.specs.Parts.{Part, Expr, Todo, purposed, origin_of, part_of, phase_of, redex_part, todo_in, todo_of, IsSettled};
 ghost use Rattle.plm_meaning.specs.Steps.{offsets_of, sizes_of, procedures_in, next_part, stored, passed as passed_part, after_part, action_of, context_action, value_in, IsStep, SaysEnd, HasHalted, FitsIn};
 
 use crate::access::{Access, Origin};
 use crate::around::Surroundings;
-use crate::context::{Context, Destination, Focus, Later, Purpose, Redex};
+use crate::context::{Context, Destination, Focus, Later, Phase, Purpose, Redex};
 use plm_type::{Expression, Line, Loop, Place, Scalar, Statement};
 use std::mem;
 use word86::Width;
@@ -86,6 +86,19 @@ fn write<'a>(width: Width, place: Place, v: u32, after: After<'a>) -> Action<'a>
     Action::Touch(Access::Write(width, place, width.low(v)), after)
 }
 
+// A store of a destination's value.
+fn store<'a>(width: Width, place: Place, destination: Destination<'a>) -> Action<'a>
+    ensures write { result ≡ Action.Touch (Access.Write width place (low width (value_in destination.entry))) (After.Stored destination.entry) }
+    ensures going { IsStep result }
+{
+    write(
+        width,
+        place,
+        u32::from(destination.value()),
+        After::Stored(destination),
+    )
+}
+
 fn is_odd(v: u16) -> bool
     ensures { result ≡ is_odd v }
 {
@@ -112,12 +125,7 @@ fn refer<'a>(
         },
         Purpose::Store(width, destination) => match around.place(width, origin, address) {
             None => Action::Bad(line),
-            Some(place) => write(
-                width,
-                place,
-                u32::from(destination.value()),
-                After::Stored(destination),
-            ),
+            Some(place) => store(width, place, destination),
         },
     }
 }
@@ -187,7 +195,7 @@ fn end_round<'a>(sum: u32, rounds: &'a Loop) -> Focus<'a>
     ensures { part_of result ≡ Todo (if nat_lt sum (values rounds.now.index.width) then Then (Round (loop_of rounds.now)) End else End) }
 {
     if sum < values(rounds.index.width) {
-        Focus::Ready(Redex::Round(rounds))
+        Focus::Ready(Redex::Loop(Phase::Round, rounds))
     } else {
         Focus::Statements(&[])
     }
@@ -201,6 +209,28 @@ fn operate<'a>(line: Line, value: Option<u16>) -> Action<'a>
     match value {
         None => Action::Bad(line),
         Some(v) => Action::Silent(Focus::Value(v)),
+    }
+}
+
+// The step of a DO with an index.
+fn loop_step<'a>(phase: Phase, rounds: &'a Loop) -> Action<'a>
+    ensures step { (s : Surroundings) (f : Focus) → action_of (procedures_in s) f result ≡ next_part s (Todo (Then (phase_of phase (loop_of rounds.now)) End)) }
+    ensures going { IsStep result }
+{
+    let width = rounds.index.width;
+    let place = rounds.index.place;
+    let read = Access::Read(width, place);
+    match phase {
+        Phase::Begin(v) => write(width, place, u32::from(v), After::Round(rounds)),
+        Phase::Round => Action::Touch(read, After::Compare(rounds)),
+        Phase::Comparing(index, bound) => Action::Silent(compare(index, bound, rounds)),
+        Phase::Stepping(step) => Action::Touch(read, After::Add(step, rounds)),
+        Phase::Adding(index, step) => {
+            let sum = u32::from(index) + u32::from(step);
+            Action::Silent(Focus::Ready(Redex::Loop(Phase::Storing(sum), rounds)))
+        }
+        Phase::Storing(sum) => write(width, place, sum, After::End(sum, rounds)),
+        Phase::Ending(sum) => Action::Silent(end_round(sum, rounds)),
     }
 }
 
@@ -221,18 +251,11 @@ fn redex_step<'a>(around: Surroundings<'_>, redex: Redex<'a>) -> Action<'a>
             width, v,
         ))),
         Redex::Binary(line, operation, width, x, y) => operate(line, operation.value(width, x, y)),
-        Redex::Store(width, place, destination) => write(
-            width,
-            place,
-            u32::from(destination.value()),
-            After::Stored(destination),
-        ),
+        Redex::Store(width, place, destination) => store(width, place, destination),
         Redex::Input(width, port) => Action::Touch(Access::Input(width, port), After::Value),
         Redex::Output(width, port, destination) => {
-            Action::Touch(
-                Access::Output(width, port, width.low(u32::from(destination.value()))),
-                After::Stored(destination),
-            )
+            let v = width.low(u32::from(destination.value()));
+            Action::Touch(Access::Output(width, port, v), After::Stored(destination))
         }
         Redex::Ended => Action::Silent(Focus::Value(0)),
         Redex::Given(v) => Action::Silent(Focus::Value(v)),
@@ -246,32 +269,7 @@ fn redex_step<'a>(around: Surroundings<'_>, redex: Redex<'a>) -> Action<'a>
         Redex::Block(body) => Action::Silent(Focus::Within(Later::Leaving, body)),
         Redex::While(v, condition, body) => Action::Silent(repeat(v, condition, body)),
         Redex::Case(v, cases) => Action::Silent(choose(v, cases)),
-        Redex::Iterate(v, rounds) => write(
-            rounds.index.width,
-            rounds.index.place,
-            u32::from(v),
-            After::Round(rounds),
-        ),
-        Redex::Round(rounds) => Action::Touch(
-            Access::Read(rounds.index.width, rounds.index.place),
-            After::Compare(rounds),
-        ),
-        Redex::Comparing(index, bound, rounds) => Action::Silent(compare(index, bound, rounds)),
-        Redex::Stepping(step, rounds) => Action::Touch(
-            Access::Read(rounds.index.width, rounds.index.place),
-            After::Add(step, rounds),
-        ),
-        Redex::Adding(index, step, rounds) => Action::Silent(Focus::Ready(Redex::Storing(
-            u32::from(index) + u32::from(step),
-            rounds,
-        ))),
-        Redex::Storing(sum, rounds) => write(
-            rounds.index.width,
-            rounds.index.place,
-            sum,
-            After::End(sum, rounds),
-        ),
-        Redex::Ending(sum, rounds) => Action::Silent(end_round(sum, rounds)),
+        Redex::Loop(phase, rounds) => loop_step(phase, rounds),
     }
 }
 
@@ -362,6 +360,32 @@ fn passed<'a>(focus: Focus<'a>, around: Surroundings<'a>) -> Focus<'a>
     }
 }
 
+// What the answer of an access leaves of a part.
+fn focus_after<'a>(
+    focus: Focus<'a>,
+    around: Surroundings<'a>,
+    after: After<'a>,
+    answer: u16,
+) -> Focus<'a>
+    ensures { part_of result ≡ after_part (procedures_in around.entry) focus.entry after.entry answer }
+{
+    match after {
+        After::Value => Focus::Value(answer),
+        After::Based(purpose, line, offset) => Focus::Ready(Redex::Refer(
+            purpose,
+            line,
+            Origin::There(answer),
+            offset,
+        )),
+        After::Stored(destination) => destination.stored(),
+        After::Round(rounds) => Focus::Ready(Redex::Loop(Phase::Round, rounds)),
+        After::Compare(rounds) => Focus::Bound(answer, rounds),
+        After::Add(step, rounds) => Focus::Ready(Redex::Loop(Phase::Adding(answer, step), rounds)),
+        After::End(sum, rounds) => Focus::Ready(Redex::Loop(Phase::Ending(sum), rounds)),
+        After::Passed => passed(focus, around),
+    }
+}
+
 /// Goes on with the answer of an access.
 pub fn answered<'a>(
     context: &mut Context<'a>,
@@ -371,24 +395,6 @@ pub fn answered<'a>(
 )
     ensures { todo_of context.new ≡ todo_in context.old.frames.items (after_part (procedures_in around.entry) context.old.focus after.entry answer) }
 {
-    match after {
-        After::Value => context.focus = Focus::Value(answer),
-        After::Based(purpose, line, offset) => context.focus = Focus::Ready(Redex::Refer(
-            purpose,
-            line,
-            Origin::There(answer),
-            offset,
-        )),
-        After::Stored(destination) => context.focus = destination.stored(),
-        After::Round(rounds) => context.focus = Focus::Ready(Redex::Round(rounds)),
-        After::Compare(rounds) => context.focus = Focus::Bound(answer, rounds),
-        After::Add(step, rounds) => context.focus = Focus::Ready(Redex::Adding(
-            answer, step, rounds,
-        )),
-        After::End(sum, rounds) => context.focus = Focus::Ready(Redex::Ending(sum, rounds)),
-        After::Passed => {
-            let focus = mem::replace(&mut context.focus, Focus::Value(0));
-            context.focus = passed(focus, around);
-        }
-    }
+    let focus = mem::replace(&mut context.focus, Focus::Value(answer));
+    context.focus = focus_after(focus, around, after, answer);
 }

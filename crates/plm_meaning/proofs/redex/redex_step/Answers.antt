@@ -26,17 +26,19 @@ returns-in-Binary-clause-step c f =
 pub returns-in-Store-clause-step : goal.returns-in-Store-clause-step
 returns-in-Store-clause-step c f =
     let r = c.in-Store in
-    ap (action_of (procedures_in c.args.around) f) c.write.ensures.write
-    ∙ ap (λ n. Touch (Write r.width (where_of r.place) (low r.width n)) (λ _. stored r.destination)) (c.from.ensures ∙ c.value-in-Store.ensures)
+    ap (action_of (procedures_in c.args.around) f) c.store.ensures.write
     ∙ steps.stored_step c.args.around r.destination (rest.ToPlain r.width (where_of r.place)) (Write r.width (where_of r.place) (low r.width (value_in r.destination))) refl
     ∙ ap (λ x. next_part c.args.around (redex_part x)) (sym r.is)
 
 pub returns-in-Output-clause-step : goal.returns-in-Output-clause-step
 returns-in-Output-clause-step c f =
     let r = c.in-Output in
-    ap (λ n. Touch (Output r.width r.port n) (λ _. stored r.destination)) (c.low.ensures ∙ ap (low r.width) (c.from-in-Output.ensures ∙ c.value-in-Output.ensures))
+    ap (λ n. Touch (Output r.width r.port n) (λ _. stored r.destination)) (c.low-v.ensures ∙ ap (low r.width) (c.from.ensures ∙ c.value-in-Output.ensures))
     ∙ steps.stored_step c.args.around r.destination (rest.ToPort r.width (Value r.port)) (Output r.width r.port (low r.width (value_in r.destination))) refl
     ∙ ap (λ x. next_part c.args.around (redex_part x)) (sym r.is)
 
 pub returns-in-Refer-clause-step : goal.returns-in-Refer-clause-step
 returns-in-Refer-clause-step c f = c.refer.ensures.step f ∙ ap (λ x. next_part c.args.around (redex_part x)) (sym c.in-Refer.is)
+
+pub returns-in-Loop-clause-step : goal.returns-in-Loop-clause-step
+returns-in-Loop-clause-step c f = c.loop_step.ensures.step c.args.around f ∙ ap (λ x. next_part c.args.around (redex_part x)) (sym c.in-Loop.is)

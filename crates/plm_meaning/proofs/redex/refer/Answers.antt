@@ -31,8 +31,7 @@ returns-in-Some-place-clause-step c f =
     let w = c.in-Store.width in
     let r = Refer l.module l.line a c.args.offset NoSubscripts in
     let x = where_of c.in-Some-place.place in
-    ap (action_of (procedures_in s) f) c.write.ensures.write
-    ∙ ap (λ n. Touch (Write w x (low w n)) (λ _. stored d)) (c.from.ensures ∙ c.value.ensures)
+    ap (action_of (procedures_in s) f) c.store.ensures.write
     ∙ steps.stored_step s d (rest.ToVariable w r) (Write w x (low w (value_in d)))
     (steps.written s w l.module l.line a c.args.offset c.address-address.result (value_in d) (Some x) c.address-address.ensures c.in-Some-place.ensures)
     ∙ ap (λ p. next_part s (purposed p r)) (sym c.in-Store.is)

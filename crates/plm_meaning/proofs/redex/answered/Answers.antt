@@ -1,0 +1,9 @@
+use Rattle.std.proofs.Common.{ap, ◌∙◌}
+use Rattle.plm_meaning.specs.Parts.{todo_in}
+use Rattle.plm_meaning.specs.Steps.{procedures_in, after_part}
+use Rattle.plm_meaning.proofs.redex.answered.Goals as goal
+
+pub returns : goal.returns
+returns c =
+    ap (todo_in c.args.context.now.frames.items)
+    (c.focus_after.ensures ∙ ap (λ f. after_part (procedures_in c.args.around) f c.args.after c.args.answer) c.replace-focus.ensures.value)

@@ -1,0 +1,18 @@
+use Rattle.std.proofs.Common.{sym, ap, ◌∙◌}
+use Rattle.plm_type.specs.Rest.{End}
+use Rattle.plm_type.specs.Next.{evaluated}
+use Rattle.plm_type.specs.View.{expression_of}
+use Rattle.plm_meaning.specs.declared.context.Frame.TheVariants as frame
+use Rattle.plm_meaning.specs.Parts.{Expr, Todo, start_part, todo_in}
+use Rattle.plm_meaning.proofs.Given.{source_value}
+use Rattle.plm_meaning.proofs.Plug.{todo_last}
+use Rattle.plm_meaning.proofs.settle.put_down.Goals as goal
+
+pub returns-in-Evaluate-clause-first : goal.returns-in-Evaluate-clause-first
+returns-in-Evaluate-clause-first c =
+    let fs = c.args.context.now.frames.items in
+    let x = expression_of c.in-Evaluate.e.now in
+    ap (λ l. todo_in l (Expr x)) c.push_reserved-in-Evaluate.ensures.items
+    ∙ todo_last fs frame.Evaluate (Expr x)
+    ∙ ap (λ o. todo_in fs (Todo (evaluated o x End))) (source_value c.in-Evaluate.e.now)
+    ∙ ap (λ s. todo_in fs (start_part s)) (sym c.in-Evaluate.is)
