@@ -2,6 +2,9 @@
 
 ghost use Rattle.std.specs.Prelude.{◌≡◌, ◌++◌, ◌<◌};
 ghost use Rattle.ppi_kbd.specs.Chips.{ChipState};
+ghost use Rattle.word86.specs.declared.width.Width.TheVariants.{Word};
+ghost use Rattle.cpu8086.specs.declared.bus.Store.TheVariants.{Byte};
+ghost use Rattle.cpu8086.specs.Machine.{access_at, loaded_word};
 ghost use Rattle.board.specs.World.{World, board_meaning, put, shown_store};
 ghost use Rattle.board.specs.Settled.{chips_of, settled_chips};
 ghost use Rattle.board.specs.ShownBoard.{world_of};
@@ -9,7 +12,7 @@ ghost use Rattle.board.specs.MemoryLaws.{load_after_store_law, ports_law};
 
 use crate::attached::Attached;
 use crate::chips::{acknowledge, is_requested, read_port, write_port};
-use crate::regions::{RAM_SIZE, SCREEN_START, byte_in, put, shown_store};
+use crate::regions::{RAM_SIZE, SCREEN_START, byte_in, physical, put, shown_store, word_in_ram};
 use cpu8086::{Bus, Store};
 use word86::{Label, Width};
 
@@ -35,11 +38,45 @@ impl Attached {
         ensures rom { self.new.rom ≡ self.old.rom }
         ensures ports { self.new.ports ≡ self.old.ports }
     {
-        put(self.ram.as_mut_slice(), 0, address, value);
+        self.ram[address as usize] = value;
+    }
+
+    /// The word at an offset of a segment, byte by byte.
+    #[tactic(auto, unfolding(cpu8086::specs::Machine::loaded_word, cpu8086::specs::Machine::loaded_byte))]
+    #[cold]
+    #[inline(never)]
+    fn load_word_anywhere(&self, segment: u16, offset: u16) -> u16
+        ensures { result ≡ loaded_word (board_meaning settled_chips) (world_of self.now) segment offset }
+    {
+        let low = self.load(physical(segment, offset));
+        let high = self.load(physical(segment, offset.wrapping_add(1)));
+        u16::from(low) + 256 * u16::from(high)
+    }
+
+    /// A store of a word anywhere, and the label that shows it.
+    #[inline(never)]
+    fn store_word_anywhere(&mut self, segment: u16, offset: u16, value: u16) -> Option<Label>
+        ensures label { result ≡ shown_store (access_at Word segment offset value) }
+        ensures after { world_of self.new ≡ (board_meaning settled_chips).store (world_of self.old) (access_at Word segment offset value) }
+    {
+        self.store_anywhere(Store::Word {
+            low: physical(segment, offset),
+            high: physical(segment, offset.wrapping_add(1)),
+            value,
+        })
+    }
+
+    /// A store of a byte anywhere, and the label that shows it.
+    #[inline(never)]
+    fn store_byte_anywhere(&mut self, address: u32, value: u8) -> Option<Label>
+        ensures label { result ≡ shown_store (Byte address value) }
+        ensures after { world_of self.new ≡ (board_meaning settled_chips).store (world_of self.old) (Byte address value) }
+    {
+        self.store_anywhere(Store::Byte { address, value })
     }
 
     /// A store anywhere, and the label that shows it.
-    #[inline(never)]
+    #[inline(always)]
     fn store_anywhere(&mut self, store: Store) -> Option<Label>
         ensures label { result ≡ shown_store store }
         ensures after { world_of self.new ≡ (board_meaning settled_chips).store (world_of self.old) store }
@@ -87,20 +124,45 @@ impl Bus for Attached {
         None
     }
 
-    #[tactic(auto, using(crate::proofs::Stores::unseen_byte, crate::proofs::Stores::unseen_word))]
+    #[tactic(auto, using(crate::proofs::Stores::unseen_byte))]
     #[inline(always)]
     fn store(&mut self, store: Store) -> Option<Label> {
         match store {
-            Store::Byte { address, value } if address < RAM_SIZE => {
-                self.put_in_ram(address, value);
+            Store::Byte { address, value } => {
+                if address < RAM_SIZE {
+                    self.put_in_ram(address, value);
+                    None
+                } else {
+                    self.store_byte_anywhere(address, value)
+                }
+            }
+            Store::Word { low, high, value } => {
+                self.store_anywhere(Store::Word { low, high, value })
+            }
+        }
+    }
+
+    #[inline(always)]
+    fn load_word(&self, segment: u16, offset: u16) -> u16 {
+        match word_in_ram(segment, offset) {
+            Some(address) => {
+                let place = address as usize;
+                u16::from(self.ram[place]) + 256 * u16::from(self.ram[place + 1])
+            }
+            None => self.load_word_anywhere(segment, offset),
+        }
+    }
+
+    #[tactic(auto, using(crate::proofs::Stores::unseen_word))]
+    #[inline(always)]
+    fn store_word(&mut self, segment: u16, offset: u16, value: u16) -> Option<Label> {
+        match word_in_ram(segment, offset) {
+            Some(address) => {
+                self.put_in_ram(address, (value % 256) as u8);
+                self.put_in_ram(address + 1, (value / 256) as u8);
                 None
             }
-            Store::Word { low, high, value } if low < RAM_SIZE && high < RAM_SIZE => {
-                self.put_in_ram(low, (value % 256) as u8);
-                self.put_in_ram(high, (value / 256) as u8);
-                None
-            }
-            _ => self.store_anywhere(store),
+            None => self.store_word_anywhere(segment, offset, value),
         }
     }
 

@@ -1,57 +1,40 @@
 //! The lines that a run writes.
 
-ghost use Rattle.std.specs.Prelude.{◌≡◌, ◌++◌, ◌%◌, map, codes, IfErr};
+ghost use Rattle.std.specs.Prelude.{◌≡◌, ◌++◌, ◌%◌, map, codes};
 ghost use Rattle.std.specs.List.{flat_map};
 ghost use Rattle.word86.specs.Taking.{Writes};
 ghost use Rattle.word86.specs.Events.{event_label};
-ghost use Rattle.word86.specs.declared.fault.Fault.TheVariants.{At};
-ghost use Rattle.word86.specs.declared.number.Number.TheVariants.{E704};
 ghost use Rattle.board.specs.Text.{lines, end_line, opcode_line, closing, hex_digit};
 
 use cpu8086::Kind;
 use itoa::Buffer;
-use listing_map::trace_line;
-use word86::{Event, Fault, Label, Number, Sink, put_all};
+use listing_map::put_label;
+use word86::{Event, Label, Sink, SinkFault, put_all};
 
-const CANNOT_WRITE: Fault = Fault::At(0, 1, Number::E704);
-
-fn put<S: Sink>(sink: &mut S, bytes: &[u8]) -> Result<(), Fault>
-    ensures text { Writes (S.taken sink.old) (S.taken sink.new) (S.failures sink.old) (S.failures sink.new) bytes.now result }
-    ensures fault { IfErr result (λ e. e ≡ At 0 1 E704) }
-{
-    match put_all(sink, bytes) {
-        Ok(()) => Ok(()),
-        Err(_) => Err(CANNOT_WRITE),
-    }
-}
-
-fn put_events<S: Sink>(events: &[Event], sink: &mut S) -> Result<(), Fault>
-    ensures text { Writes (S.taken sink.old) (S.taken sink.new) (S.failures sink.old) (S.failures sink.new) (lines (map event_label events.now)) result }
-    ensures fault { IfErr result (λ e. e ≡ At 0 1 E704) }
+fn put_events<S: Sink>(events: &[Event], sink: &mut S) -> Result<(), SinkFault>
+    ensures { Writes (S.taken sink.old) (S.taken sink.new) (S.failures sink.old) (S.failures sink.new) (lines (map event_label events.now)) result }
 {
     for event in events {
-        if let Err(fault) = trace_line(&event.label(), sink) {
+        if let Err(fault) = put_label(&event.label(), sink) {
             return Err(fault);
         }
     }
     Ok(())
 }
 
-fn put_labels<S: Sink>(labels: &[Label], sink: &mut S) -> Result<(), Fault>
-    ensures text { Writes (S.taken sink.old) (S.taken sink.new) (S.failures sink.old) (S.failures sink.new) (lines labels.now) result }
-    ensures fault { IfErr result (λ e. e ≡ At 0 1 E704) }
+fn put_labels<S: Sink>(labels: &[Label], sink: &mut S) -> Result<(), SinkFault>
+    ensures { Writes (S.taken sink.old) (S.taken sink.new) (S.failures sink.old) (S.failures sink.new) (lines labels.now) result }
 {
     for label in labels {
-        if let Err(fault) = trace_line(label, sink) {
+        if let Err(fault) = put_label(label, sink) {
             return Err(fault);
         }
     }
     Ok(())
 }
 
-fn put_both<S: Sink>(events: &[Event], labels: &[Label], sink: &mut S) -> Result<(), Fault>
-    ensures text { Writes (S.taken sink.old) (S.taken sink.new) (S.failures sink.old) (S.failures sink.new) (lines (map event_label events.now) ++ lines labels.now) result }
-    ensures fault { IfErr result (λ e. e ≡ At 0 1 E704) }
+fn put_both<S: Sink>(events: &[Event], labels: &[Label], sink: &mut S) -> Result<(), SinkFault>
+    ensures { Writes (S.taken sink.old) (S.taken sink.new) (S.failures sink.old) (S.failures sink.new) (lines (map event_label events.now) ++ lines labels.now) result }
 {
     match put_events(events, sink) {
         Ok(()) => put_labels(labels, sink),
@@ -71,9 +54,8 @@ fn hex_digit(value: u32) -> u8
     }
 }
 
-fn put_opcode_line<S: Sink>(address: u32, sink: &mut S) -> Result<(), Fault>
-    ensures text { Writes (S.taken sink.old) (S.taken sink.new) (S.failures sink.old) (S.failures sink.new) (opcode_line address) result }
-    ensures fault { IfErr result (λ e. e ≡ At 0 1 E704) }
+fn put_opcode_line<S: Sink>(address: u32, sink: &mut S) -> Result<(), SinkFault>
+    ensures { Writes (S.taken sink.old) (S.taken sink.new) (S.failures sink.old) (S.failures sink.new) (opcode_line address) result }
 {
     let line = [
         b'O',
@@ -90,13 +72,12 @@ fn put_opcode_line<S: Sink>(address: u32, sink: &mut S) -> Result<(), Fault>
         hex_digit(address),
         b'\n',
     ];
-    put(sink, &line)
+    put_all(sink, &line)
 }
 
 /// What ends the text where the turn met bytes that are no instruction.
-fn put_closing<S: Sink>(kind: Kind, sink: &mut S) -> Result<(), Fault>
-    ensures text { Writes (S.taken sink.old) (S.taken sink.new) (S.failures sink.old) (S.failures sink.new) (closing kind) result }
-    ensures fault { IfErr result (λ e. e ≡ At 0 1 E704) }
+fn put_closing<S: Sink>(kind: Kind, sink: &mut S) -> Result<(), SinkFault>
+    ensures { Writes (S.taken sink.old) (S.taken sink.new) (S.failures sink.old) (S.failures sink.new) (closing kind) result }
 {
     match kind {
         Kind::Opcode(address) => put_opcode_line(address, sink),
@@ -110,9 +91,8 @@ pub(crate) fn put_turn<S: Sink>(
     labels: &[Label],
     kind: Kind,
     sink: &mut S,
-) -> Result<(), Fault>
-    ensures text { Writes (S.taken sink.old) (S.taken sink.new) (S.failures sink.old) (S.failures sink.new) (lines (map event_label events.now) ++ lines labels.now ++ closing kind) result }
-    ensures fault { IfErr result (λ e. e ≡ At 0 1 E704) }
+) -> Result<(), SinkFault>
+    ensures { Writes (S.taken sink.old) (S.taken sink.new) (S.failures sink.old) (S.failures sink.new) (lines (map event_label events.now) ++ lines labels.now ++ closing kind) result }
 {
     match put_both(events, labels, sink) {
         Ok(()) => put_closing(kind, sink),
@@ -120,24 +100,22 @@ pub(crate) fn put_turn<S: Sink>(
     }
 }
 
-fn put_end<S: Sink>(digits: &[u8], sink: &mut S) -> Result<(), Fault>
-    ensures text { Writes (S.taken sink.old) (S.taken sink.new) (S.failures sink.old) (S.failures sink.new) (codes "END " ++ digits.now) result }
-    ensures fault { IfErr result (λ e. e ≡ At 0 1 E704) }
+fn put_end<S: Sink>(digits: &[u8], sink: &mut S) -> Result<(), SinkFault>
+    ensures { Writes (S.taken sink.old) (S.taken sink.new) (S.failures sink.old) (S.failures sink.new) (codes "END " ++ digits.now) result }
 {
-    match put(sink, b"END ") {
-        Ok(()) => put(sink, digits),
+    match put_all(sink, b"END ") {
+        Ok(()) => put_all(sink, digits),
         Err(fault) => Err(fault),
     }
 }
 
 /// Writes the line of the schedule's stop.
-pub(crate) fn put_end_line<S: Sink>(stop: u32, sink: &mut S) -> Result<(), Fault>
-    ensures text { Writes (S.taken sink.old) (S.taken sink.new) (S.failures sink.old) (S.failures sink.new) (end_line stop) result }
-    ensures fault { IfErr result (λ e. e ≡ At 0 1 E704) }
+pub(crate) fn put_end_line<S: Sink>(stop: u32, sink: &mut S) -> Result<(), SinkFault>
+    ensures { Writes (S.taken sink.old) (S.taken sink.new) (S.failures sink.old) (S.failures sink.new) (end_line stop) result }
 {
     let mut buffer = Buffer::new();
     match put_end(buffer.format(stop).as_bytes(), sink) {
-        Ok(()) => put(sink, b"\n"),
+        Ok(()) => put_all(sink, b"\n"),
         Err(fault) => Err(fault),
     }
 }

@@ -4,7 +4,7 @@ ghost use Rattle.std.specs.Prelude.{◌≡◌, not, ◌+◌, ◌*◌, ◌<◌, �
 ghost use Rattle.i86_table.specs.Arithmetic.{size_of};
 ghost use Rattle.arrayvec.specs.ArrayVec.{array_vec_len};
 ghost use Rattle.cpu8086.specs.Machine.{machine};
-ghost use Rattle.cpu8086.specs.Operands.{located, in_memory, held};
+ghost use Rattle.cpu8086.specs.Operands.{bytes, located, in_memory, held};
 ghost use Rattle.cpu8086.specs.Arithmetic.{computed, computed_at, register_computed, register_changed, is_compare, changed_in_place, tested_place, shift_count, shifted_place, multiplied_byte, multiplied_word, divided_byte, divided_word};
 
 use crate::bus::Bus;
@@ -27,7 +27,7 @@ fn is_stored(operation: AluOperation) -> bool
 
 /// ADD, OR, ADC, SBB, AND, SUB, XOR; CMP stores nothing.
 #[tactic(auto, using(crate::proofs::Computing::computed_register), unfolding(crate::specs::Arithmetic::computed, crate::specs::Arithmetic::computed_at))]
-#[inline(never)]
+#[inline(always)]
 pub(crate) fn compute<R: Operand, B: Bus>(
     registers: &mut Regs,
     bus: &mut B,
@@ -52,6 +52,22 @@ pub(crate) fn compute<R: Operand, B: Bus>(
             compute_from_memory(registers, bus, operation, *register, memory);
         }
     }
+}
+
+/// The same for bytes, apart: the loop of a run has the code for words alone.
+#[inline(never)]
+pub(crate) fn compute_byte<B: Bus>(
+    registers: &mut Regs,
+    bus: &mut B,
+    labels: &mut Labels,
+    operation: AluOperation,
+    operands: &Operands<Register8, u8>,
+)
+    requires { array_vec_len labels.old < 4 }
+    ensures { machine registers.new (B.world bus.new) labels.new.items
+        ≡ computed B.meaning bytes operation operands.now (machine registers.old (B.world bus.old) labels.old.items) }
+{
+    compute(registers, bus, labels, operation, operands);
 }
 
 #[inline(never)]
@@ -134,7 +150,7 @@ fn compute_memory<R: Operand, B: Bus>(
 
 /// NOT, NEG, INC, DEC.
 #[tactic(auto, unfolding(crate::specs::Arithmetic::changed_in_place))]
-#[inline(never)]
+#[inline(always)]
 pub(crate) fn change_in_place<R: Operand, B: Bus>(
     registers: &mut Regs,
     bus: &mut B,
@@ -150,6 +166,22 @@ pub(crate) fn change_in_place<R: Operand, B: Bus>(
         Place::Register(register) => change_register(registers, operation, *register),
         Place::Memory(_) => change_located(registers, bus, labels, operation, place),
     }
+}
+
+/// The same for a byte, apart.
+#[inline(never)]
+pub(crate) fn change_byte<B: Bus>(
+    registers: &mut Regs,
+    bus: &mut B,
+    labels: &mut Labels,
+    operation: UnaryOperation,
+    place: &Place<Register8>,
+)
+    requires { array_vec_len labels.old < 4 }
+    ensures { machine registers.new (B.world bus.new) labels.new.items
+        ≡ changed_in_place B.meaning bytes operation place.now (machine registers.old (B.world bus.old) labels.old.items) }
+{
+    change_in_place(registers, bus, labels, operation, place);
 }
 
 #[inline(always)]

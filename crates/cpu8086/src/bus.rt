@@ -3,8 +3,11 @@
 ghost use Rattle.std.specs.Prelude.{◌≡◌, ◌+◌, ◌<◌, ◌≤◌, ◌^◌, ℕ, List, Option, IfSome};
 ghost use Rattle.word86.specs.declared.width.Width.{Width};
 ghost use Rattle.cpu8086.specs.declared.bus.Store.{Store};
+ghost use Rattle.word86.specs.declared.width.Width.TheVariants.{Word};
+ghost use Rattle.cpu8086.specs.Machine.{loaded_word, access_at};
 ghost use Rattle.cpu8086.specs.Meaning.{Meaning, LoadAfterStore, PortsKeepMemory, eight_bytes};
 
+use crate::memory::{next_offset, physical};
 use word86::{Label, Width};
 
 /// One access that stores, whole, with its one or two physical addresses.
@@ -44,6 +47,29 @@ pub trait Bus {
     fn store(&mut self, store: Store) -> Option<Label>
         ensures label { result ≡ meaning.store_label (world self.old) store }
         ensures after { world self.new ≡ meaning.store (world self.old) store };
+
+    /// The word at an offset of a segment. A bus may find it faster than byte by byte.
+    #[tactic(auto, unfolding(crate::specs::Machine::loaded_word, crate::specs::Machine::loaded_byte))]
+    fn load_word(&self, segment: u16, offset: u16) -> u16
+        ensures { result ≡ loaded_word meaning (world self.now) segment offset }
+    {
+        let low = self.load(physical(segment, offset));
+        let high = self.load(physical(segment, next_offset(offset)));
+        u16::from(low) + 256 * u16::from(high)
+    }
+
+    /// Stores a word at an offset of a segment, and answers the label that shows it, if any. A bus may do it faster than
+    /// any other store.
+    fn store_word(&mut self, segment: u16, offset: u16, value: u16) -> Option<Label>
+        ensures label { result ≡ meaning.store_label (world self.old) (access_at Word segment offset value) }
+        ensures after { world self.new ≡ meaning.store (world self.old) (access_at Word segment offset value) }
+    {
+        self.store(Store::Word {
+            low: physical(segment, offset),
+            high: physical(segment, next_offset(offset)),
+            value,
+        })
+    }
 
     /// Reads a port; a word comes from it and the one above it.
     fn port_in(&mut self, width: Width, port: u16) -> u16

@@ -2,12 +2,13 @@
 
 ghost use Rattle.std.specs.Prelude.{◌≡◌, ◌<◌, ◌≤◌};
 ghost use Rattle.i86_table.specs.Conditions.{holds};
+ghost use Rattle.i86_table.specs.State.{with_ip};
 ghost use Rattle.arrayvec.specs.ArrayVec.{array_vec_len};
 ghost use Rattle.cpu8086.specs.Machine.{machine};
-ghost use Rattle.cpu8086.specs.Control.{flag_word, closed, jumped, jumped_if, looped, called_at, called, called_to, returned, returned_dropping, flags_popped, returned_from_interrupt, interrupted};
+ghost use Rattle.cpu8086.specs.Control.{named_offset, flag_word, closed, jumped, jumped_if, looped, called_at, called, called_to, returned, returned_dropping, flags_popped, returned_from_interrupt, interrupted};
 
 use crate::bus::Bus;
-use crate::memory::{Labels, load_word, pop, push};
+use crate::memory::{Labels, pop, push};
 use crate::operand::locate;
 use bitflags::Flags as _;
 use i86_table::{Condition, Flags, Place, Register16, Regs, Segment, sign_extended};
@@ -51,6 +52,14 @@ pub(crate) fn jump_on(registers: &mut Regs, condition: Condition, distance: u8)
     ensures { registers.new ≡ jumped_if (holds condition registers.old.flags) distance registers.old }
 {
     jump_if(registers, registers.holds(condition), distance);
+}
+
+/// JMP to an offset in a register or in memory.
+#[inline(never)]
+pub(crate) fn jump_to<B: Bus>(registers: &mut Regs, bus: &B, place: &Place<Register16>)
+    ensures { registers.new ≡ with_ip (named_offset B.meaning place.now (B.world bus.now) registers.old) registers.old }
+{
+    registers.set_ip(locate(registers, place).read(registers, bus));
 }
 
 /// LOOP.
@@ -160,6 +169,6 @@ pub(crate) fn interrupt<B: Bus>(registers: &mut Regs, bus: &mut B, labels: &mut 
     push(registers, bus, labels, registers.segment(Segment::Cs));
     push(registers, bus, labels, registers.ip());
     let vector = 4 * u16::from(number);
-    registers.set_ip(load_word(bus, 0, vector));
-    registers.set_code_segment(load_word(bus, 0, vector + 2));
+    registers.set_ip(bus.load_word(0, vector));
+    registers.set_code_segment(bus.load_word(0, vector + 2));
 }

@@ -12,13 +12,13 @@ ghost use Rattle.cpu8086.specs.declared.cpu.Phase.TheVariants.{Running};
 ghost use Rattle.cpu8086.specs.Turn.{phase_after};
 
 use crate::arithmetic::{
-    change_in_place, compute, divide_byte, divide_word, multiply_byte, multiply_word, shift_place,
-    test_place,
+    change_byte, change_in_place, compute, compute_byte, divide_byte, divide_word, multiply_byte,
+    multiply_word, shift_place, test_place,
 };
 use crate::bus::Bus;
 use crate::control::{
-    call, call_to, count_and_jump, flag_word, jump, jump_if, jump_on, pop_flags, return_dropping,
-    return_from_interrupt, return_near,
+    call, call_to, count_and_jump, flag_word, jump, jump_if, jump_on, jump_to, pop_flags,
+    return_dropping, return_from_interrupt, return_near,
 };
 use crate::cpu::Phase;
 use crate::memory::{Labels, push};
@@ -26,12 +26,11 @@ use crate::moves::{
     convert_byte, convert_word, exchange_bytes, exchange_with, exchange_words, input,
     move_from_segment, move_operands, move_to_segment, output, pop_to, pop_to_segment, push_place,
 };
-use crate::operand::locate;
 use crate::strings::{move_string, store_string};
 use bitflags::Flags as _;
 use i86_table::{Flags, Instr, Register16, Regs};
 
-#[inline(always)]
+#[inline(never)]
 fn set_flag(registers: &mut Regs, flag: Flags, value: bool)
     ensures { registers.new ≡ set_flag flag.0 value registers.old }
 {
@@ -57,14 +56,14 @@ pub(crate) fn execute<B: Bus>(
 {
     match instruction {
         Instr::Nop => {}
-        Instr::AluByte(operation, operands) => compute(
+        Instr::AluByte(operation, operands) => compute_byte(
             registers, bus, labels, *operation, operands,
         ),
         Instr::AluWord(operation, operands) => compute(
             registers, bus, labels, *operation, operands,
         ),
         Instr::UnaryByte(operation, place) => {
-            change_in_place(registers, bus, labels, *operation, place);
+            change_byte(registers, bus, labels, *operation, place);
         }
         Instr::UnaryWord(operation, place) => {
             change_in_place(registers, bus, labels, *operation, place);
@@ -129,7 +128,7 @@ pub(crate) fn execute<B: Bus>(
         }
         Instr::JumpShort(distance) => jump_if(registers, true, *distance),
         Instr::Jump(distance) => jump(registers, *distance),
-        Instr::JumpTo(place) => registers.set_ip(locate(registers, place).read(registers, bus)),
+        Instr::JumpTo(place) => jump_to(registers, bus, place),
         Instr::JumpFar { offset, segment } => {
             registers.set_ip(*offset);
             registers.set_code_segment(*segment);

@@ -23,7 +23,7 @@ pub(crate) fn physical(segment: u16, offset: u16) -> u32
 }
 
 #[inline(always)]
-fn next_offset(offset: u16) -> u16
+pub(crate) fn next_offset(offset: u16) -> u16
     ensures { result ≡ next_offset offset }
 {
     offset.wrapping_add(1)
@@ -37,16 +37,6 @@ pub(crate) fn load_byte<B: Bus>(bus: &B, segment: u16, offset: u16) -> u8
     bus.load(physical(segment, offset))
 }
 
-#[tactic(auto, unfolding(crate::specs::Machine::loaded_word))]
-#[inline(always)]
-pub(crate) fn load_word<B: Bus>(bus: &B, segment: u16, offset: u16) -> u16
-    ensures { result ≡ loaded_word B.meaning (B.world bus.now) segment offset }
-{
-    let low = load_byte(bus, segment, offset);
-    let high = load_byte(bus, segment, next_offset(offset));
-    u16::from(low) + 256 * u16::from(high)
-}
-
 #[inline(always)]
 pub(crate) fn load<B: Bus>(bus: &B, width: Width, segment: u16, offset: u16) -> u16
     ensures value { result ≡ loaded B.meaning width (B.world bus.now) segment offset }
@@ -54,39 +44,35 @@ pub(crate) fn load<B: Bus>(bus: &B, width: Width, segment: u16, offset: u16) -> 
 {
     match width {
         Width::Byte => u16::from(load_byte(bus, segment, offset)),
-        Width::Word => load_word(bus, segment, offset),
+        Width::Word => bus.load_word(segment, offset),
     }
 }
 
-/// The access that stores a value of a width.
+/// Stores a value of a width, and adds the label that shows it.
+#[tactic(auto, unfolding(crate::specs::Machine::stored_access))]
 #[inline(always)]
-pub(crate) fn access_at(width: Width, segment: u16, offset: u16, value: u16) -> Store
-    requires { value < size_of width }
-    ensures { result ≡ access_at width segment offset value }
-{
-    let address = physical(segment, offset);
-    match width {
-        Width::Byte => Store::Byte {
-            address,
-            value: value as u8,
-        },
-        Width::Word => Store::Word {
-            low: address,
-            high: physical(segment, next_offset(offset)),
-            value,
-        },
-    }
-}
-
-/// Stores, and adds the label that shows it.
-#[inline(always)]
-pub(crate) fn store<B: Bus>(bus: &mut B, labels: &mut Labels, access: Store)
-    requires { array_vec_len labels.old < 4 }
-    ensures after { B.world bus.new ≡ B.meaning.store (B.world bus.old) access }
-    ensures shown { labels.new.items ≡ labels.old.items ++ labels_of (B.meaning.store_label (B.world bus.old) access) }
+pub(crate) fn store<B: Bus>(
+    bus: &mut B,
+    labels: &mut Labels,
+    width: Width,
+    segment: u16,
+    offset: u16,
+    value: u16,
+)
+    requires fits { value < size_of width }
+    requires room { array_vec_len labels.old < 4 }
+    ensures after { B.world bus.new ≡ B.meaning.store (B.world bus.old) (access_at width segment offset value) }
+    ensures shown { labels.new.items ≡ labels.old.items ++ labels_of (B.meaning.store_label (B.world bus.old) (access_at width segment offset value)) }
     ensures room { array_vec_len labels.new ≤ array_vec_len labels.old + 1 }
 {
-    if let Some(label) = bus.store(access) {
+    let shown = match width {
+        Width::Byte => bus.store(Store::Byte {
+            address: physical(segment, offset),
+            value: value as u8,
+        }),
+        Width::Word => bus.store_word(segment, offset, value),
+    };
+    if let Some(label) = shown {
         labels.push(label);
     }
 }
@@ -102,8 +88,14 @@ pub(crate) fn push<B: Bus>(registers: &mut Regs, bus: &mut B, labels: &mut Label
 {
     let sp = registers.word(Register16::Sp).wrapping_sub(2);
     registers.set_word(Register16::Sp, sp);
-    let access = access_at(Width::Word, registers.segment(Segment::Ss), sp, value);
-    store(bus, labels, access);
+    store(
+        bus,
+        labels,
+        Width::Word,
+        registers.segment(Segment::Ss),
+        sp,
+        value,
+    );
 }
 
 /// Pops a word.
@@ -114,7 +106,7 @@ pub(crate) fn pop<B: Bus>(registers: &mut Regs, bus: &B) -> u16
     ensures after { registers.new ≡ (popped B.meaning (B.world bus.now) registers.old).1 }
 {
     let sp = registers.word(Register16::Sp);
-    let value = load_word(bus, registers.segment(Segment::Ss), sp);
+    let value = bus.load_word(registers.segment(Segment::Ss), sp);
     registers.set_word(Register16::Sp, sp.wrapping_add(2));
     value
 }

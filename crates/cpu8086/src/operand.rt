@@ -7,7 +7,7 @@ ghost use Rattle.cpu8086.specs.Machine.{machine};
 ghost use Rattle.cpu8086.specs.Operands.{Bank, bytes, words, located, in_memory, held, put, source, mask};
 
 use crate::bus::Bus;
-use crate::memory::{Labels, access_at, load, store};
+use crate::memory::{Labels, load, store};
 use i86_table::{Memory, Operands, Place, Register8, Register16, Regs, TestMask};
 use word86::Width;
 
@@ -135,14 +135,13 @@ impl<R: Operand> Spot<R> {
         match self {
             Spot::Register(register) => register.set(registers, value),
             Spot::Memory { segment, offset } => {
-                let access = access_at(R::width(), segment, offset, value);
-                store(bus, labels, access);
+                store(bus, labels, R::width(), segment, offset, value);
             }
         }
     }
 }
 
-#[inline(never)]
+#[inline(always)]
 pub(crate) fn read_memory<R: Operand, B: Bus>(registers: &Regs, bus: &B, memory: &Memory) -> u16
     ensures value { result ≡ held B.meaning R.bank registers.now (B.world bus.now) (in_memory registers.now memory.now) }
     ensures fits { result < size_of R.bank.width }

@@ -7,7 +7,7 @@ ghost use Rattle.cpu8086.specs.Machine.{machine};
 ghost use Rattle.cpu8086.specs.Strings.{stepped, unit_moved, unit_stored, is_due, counted_down, string_moved, string_stored};
 
 use crate::bus::Bus;
-use crate::memory::{Labels, access_at, load, store};
+use crate::memory::{Labels, load, store};
 use crate::moves::accumulator;
 use bitflags::Flags as _;
 use i86_table::{Flags, Register16, Regs, Repeat, Segment};
@@ -56,12 +56,10 @@ fn move_unit<B: Bus>(
     store(
         bus,
         labels,
-        access_at(
-            width,
-            registers.segment(Segment::Es),
-            registers.word(Register16::Di),
-            value,
-        ),
+        width,
+        registers.segment(Segment::Es),
+        registers.word(Register16::Di),
+        value,
     );
     step(registers, width, Register16::Si);
     step(registers, width, Register16::Di);
@@ -77,12 +75,10 @@ fn store_unit<B: Bus>(registers: &mut Regs, bus: &mut B, labels: &mut Labels, wi
     store(
         bus,
         labels,
-        access_at(
-            width,
-            registers.segment(Segment::Es),
-            registers.word(Register16::Di),
-            value,
-        ),
+        width,
+        registers.segment(Segment::Es),
+        registers.word(Register16::Di),
+        value,
     );
     step(registers, width, Register16::Di);
 }
@@ -110,6 +106,7 @@ fn count_down(repeat: Repeat, start: u16, registers: &mut Regs)
 
 /// MOVS: one repetition of it, if it is repeated.
 #[tactic(auto, unfolding(crate::specs::Strings::string_moved))]
+#[inline(never)]
 pub(crate) fn move_string<B: Bus>(
     registers: &mut Regs,
     bus: &mut B,
@@ -131,6 +128,7 @@ pub(crate) fn move_string<B: Bus>(
 
 /// STOS: one repetition of it, if it is repeated.
 #[tactic(auto, unfolding(crate::specs::Strings::string_stored))]
+#[inline(never)]
 pub(crate) fn store_string<B: Bus>(
     registers: &mut Regs,
     bus: &mut B,

@@ -5,4 +5,4 @@ mod lines;
 mod numerals;
 mod pieces;
 
-pub use lines::{fault_line, trace_line};
+pub use lines::{fault_line, put_label, trace_line};

@@ -37,7 +37,8 @@ pub fn fault_line<S: Sink>(name: &str, line: u32, number: Number, sink: &mut S) 
     }
 }
 
-fn put_label<S: Sink>(label: &Label, sink: &mut S) -> Result<(), SinkFault>
+/// Writes the line of a label as `trace_line` does. The one refusal is that the sink failed, in the sink's own words.
+pub fn put_label<S: Sink>(label: &Label, sink: &mut S) -> Result<(), SinkFault>
     ensures { Writes (S.taken sink.old) (S.taken sink.new) (S.failures sink.old) (S.failures sink.new) (label_line label.now) result }
 {
     match *label {

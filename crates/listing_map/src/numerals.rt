@@ -3,16 +3,15 @@
 ghost use Rattle.std.specs.Prelude.{◌≡◌, ◌<◌};
 ghost use Rattle.listing_map.specs.Lines.{hex_digit, hex2, hex4};
 
+const DIGITS: [u8; 16] = *b"0123456789ABCDEF";
+
 // A digit, 0 to 9 or A to F.
+#[inline(always)]
 fn digit(value: u16) -> u8
     requires { value < 16 }
     ensures { result ≡ hex_digit value }
 {
-    if value < 10 {
-        value as u8 + b'0'
-    } else {
-        (value - 10) as u8 + b'A'
-    }
+    DIGITS[usize::from(value)]
 }
 
 /// Two digits.

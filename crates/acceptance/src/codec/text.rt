@@ -325,8 +325,28 @@ fn word_of(instruction: Instr) -> &'static str {
     }
 }
 
-/// Jumps, strings, ports and the stack.
-fn write_other<W: fmt::Write>(instruction: Instr, f: &mut fmt::Formatter<W>) -> fmt::Result {
+/// Jumps, calls and returns, and what is one word.
+fn write_control<W: fmt::Write>(instruction: Instr, f: &mut fmt::Formatter<W>) -> fmt::Result {
+    match instruction {
+        Instr::JumpIf(condition, distance) => {
+            write!(f, "{} ", condition_name(condition))?;
+            write_jump("short", sign_extended(distance), 2, f)
+        }
+        Instr::Loop(distance) => write_jump("loop", sign_extended(distance), 2, f),
+        Instr::JumpIfCxZero(distance) => write_jump("jcxz", sign_extended(distance), 2, f),
+        Instr::JumpShort(distance) => write_jump("jmp short", sign_extended(distance), 2, f),
+        Instr::Jump(distance) => write_jump("jmp near", distance, 3, f),
+        Instr::Call(distance) => write_jump("call", distance, 3, f),
+        Instr::JumpTo(place) => write_one("jmp", place, f),
+        Instr::CallTo(place) => write_one("call", place, f),
+        Instr::JumpFar { offset, segment } => write!(f, "jmp 0x{segment:x}:0x{offset:x}"),
+        Instr::ReturnDropping(bytes) => write!(f, "ret 0x{bytes:x}"),
+        _ => write!(f, "{}", word_of(instruction)),
+    }
+}
+
+/// The stack, strings and ports.
+fn write_stack<W: fmt::Write>(instruction: Instr, f: &mut fmt::Formatter<W>) -> fmt::Result {
     match instruction {
         Instr::Push(place) => write_one("push", place, f),
         Instr::Pop(place) => write_one("pop", place, f),
@@ -349,20 +369,61 @@ fn write_other<W: fmt::Write>(instruction: Instr, f: &mut fmt::Formatter<W>) -> 
             write_port(port, f)?;
             write!(f, ",{}", accumulator(width))
         }
-        Instr::JumpIf(condition, distance) => {
-            write!(f, "{} ", condition_name(condition))?;
-            write_jump("short", sign_extended(distance), 2, f)
+        other => write_control(other, f),
+    }
+}
+
+/// What stands between segments, registers and memory.
+fn write_move<W: fmt::Write>(instruction: Instr, f: &mut fmt::Formatter<W>) -> fmt::Result {
+    match instruction {
+        Instr::MoveFromSegment(place, segment) => {
+            write!(f, "mov ")?;
+            write_place(place, f)?;
+            write!(f, ",{}", segment_name(segment))
         }
-        Instr::Loop(distance) => write_jump("loop", sign_extended(distance), 2, f),
-        Instr::JumpIfCxZero(distance) => write_jump("jcxz", sign_extended(distance), 2, f),
-        Instr::JumpShort(distance) => write_jump("jmp short", sign_extended(distance), 2, f),
-        Instr::Jump(distance) => write_jump("jmp near", distance, 3, f),
-        Instr::Call(distance) => write_jump("call", distance, 3, f),
-        Instr::JumpTo(place) => write_one("jmp", place, f),
-        Instr::CallTo(place) => write_one("call", place, f),
-        Instr::JumpFar { offset, segment } => write!(f, "jmp 0x{segment:x}:0x{offset:x}"),
-        Instr::ReturnDropping(bytes) => write!(f, "ret 0x{bytes:x}"),
-        _ => write!(f, "{}", word_of(instruction)),
+        Instr::MoveToSegment(segment, place) => {
+            write!(f, "mov {},", segment_name(segment.segment()))?;
+            write_place(place, f)
+        }
+        Instr::LoadAddress(register, address) => {
+            write!(f, "lea {},[", register.name())?;
+            write_address(address, f)?;
+            write!(f, "]")
+        }
+        Instr::ExchangeBytes(pair) => {
+            write!(f, "xchg {},{}", pair.first.name(), pair.second.name())
+        }
+        Instr::ExchangeWords(pair) => {
+            write!(f, "xchg {},{}", pair.first.name(), pair.second.name())
+        }
+        Instr::ExchangeMemoryByte(register, memory) => {
+            write!(f, "xchg {},", register.name())?;
+            write_memory(memory, f)
+        }
+        Instr::ExchangeMemoryWord(register, memory) => {
+            write!(f, "xchg {},", register.name())?;
+            write_memory(memory, f)
+        }
+        other => write_stack(other, f),
+    }
+}
+
+/// Shifts, products and quotients.
+fn write_product<W: fmt::Write>(instruction: Instr, f: &mut fmt::Formatter<W>) -> fmt::Result {
+    match instruction {
+        Instr::ShiftByte(operation, place, count) => {
+            write_one(shift_name(operation), place, f)?;
+            write_count(count, f)
+        }
+        Instr::ShiftWord(operation, place, count) => {
+            write_one(shift_name(operation), place, f)?;
+            write_count(count, f)
+        }
+        Instr::MultiplyByte(sign, place) => write_one(signed_or(sign, "mul", "imul"), place, f),
+        Instr::MultiplyWord(sign, place) => write_one(signed_or(sign, "mul", "imul"), place, f),
+        Instr::DivideByte(sign, place) => write_one(signed_or(sign, "div", "idiv"), place, f),
+        Instr::DivideWord(sign, place) => write_one(signed_or(sign, "div", "idiv"), place, f),
+        other => write_move(other, f),
     }
 }
 
@@ -379,47 +440,7 @@ impl fmt::Display for Text<Instr> {
             Instr::UnaryWord(operation, place) => write_one(unary_name(operation), place, f),
             Instr::TestByte(place, mask) => write_test(place, widened_mask(mask), f),
             Instr::TestWord(place, mask) => write_test(place, mask, f),
-            Instr::ShiftByte(operation, place, count) => {
-                write_one(shift_name(operation), place, f)?;
-                write_count(count, f)
-            }
-            Instr::ShiftWord(operation, place, count) => {
-                write_one(shift_name(operation), place, f)?;
-                write_count(count, f)
-            }
-            Instr::MultiplyByte(sign, place) => write_one(signed_or(sign, "mul", "imul"), place, f),
-            Instr::MultiplyWord(sign, place) => write_one(signed_or(sign, "mul", "imul"), place, f),
-            Instr::DivideByte(sign, place) => write_one(signed_or(sign, "div", "idiv"), place, f),
-            Instr::DivideWord(sign, place) => write_one(signed_or(sign, "div", "idiv"), place, f),
-            Instr::MoveFromSegment(place, segment) => {
-                write!(f, "mov ")?;
-                write_place(place, f)?;
-                write!(f, ",{}", segment_name(segment))
-            }
-            Instr::MoveToSegment(segment, place) => {
-                write!(f, "mov {},", segment_name(segment.segment()))?;
-                write_place(place, f)
-            }
-            Instr::LoadAddress(register, address) => {
-                write!(f, "lea {},[", register.name())?;
-                write_address(address, f)?;
-                write!(f, "]")
-            }
-            Instr::ExchangeBytes(pair) => {
-                write!(f, "xchg {},{}", pair.first.name(), pair.second.name())
-            }
-            Instr::ExchangeWords(pair) => {
-                write!(f, "xchg {},{}", pair.first.name(), pair.second.name())
-            }
-            Instr::ExchangeMemoryByte(register, memory) => {
-                write!(f, "xchg {},", register.name())?;
-                write_memory(memory, f)
-            }
-            Instr::ExchangeMemoryWord(register, memory) => {
-                write!(f, "xchg {},", register.name())?;
-                write_memory(memory, f)
-            }
-            other => write_other(other, f),
+            other => write_product(other, f),
         }
     }
 }

@@ -1,8 +1,8 @@
 use Rattle.board.proofs.Writing.{cut_longer, writes_after}
 use Rattle.board.proofs.trace.put_turn.Goals as goal
 
-pub returns-in-Ok-clause-text : goal.returns-in-Ok-clause-text
-returns-in-Ok-clause-text g c = writes_after _ _ _ _ _ _ _ _ _ c.in-Ok.ensures.text c.put_closing.ensures.text
+pub returns-in-Ok : goal.returns-in-Ok
+returns-in-Ok g c = writes_after _ _ _ _ _ _ _ _ _ c.in-Ok.ensures c.put_closing.ensures
 
-pub returns-in-Err-clause-text : goal.returns-in-Err-clause-text
-returns-in-Err-clause-text g c = (cut_longer _ _ _ _ c.in-Err.ensures.text.0, c.in-Err.ensures.text.1)
+pub returns-in-Err : goal.returns-in-Err
+returns-in-Err g c = (cut_longer _ _ _ _ c.in-Err.ensures.0, c.in-Err.ensures.1)
