@@ -17,6 +17,16 @@ faults_of ms = (known_from ms).faults
 abbrev pub whole_faults_of : List ModuleT → List Found
 whole_faults_of ms = (modules_joined (known_from ms)).whole
 
+-- the names are what is known of joined modules
+pub record AreTables (names : Names) (k : Known) : Type 0 where
+  pub variables : names.variables.items ≡ k.variables
+  pub structures : map structure_of names.structures.items ≡ k.structures
+  pub objects : map object_of names.objects.items ≡ k.objects
+  pub screen_names : map screen_name_of names.screen_names.items ≡ k.screen_names
+  pub procedures : map procedure_of names.procedures.items ≡ k.procedures
+  pub locations : map declared_location_of names.locations.items ≡ k.locations
+  pub main : main_of names.main ∷ [] ≡ k.mains
+
 -- the names are what is known, where no fault was met
 pub record AreAnswered (names : Names) (k : Known) : Type 0 where
   pub variables : names.variables.items ≡ (modules_joined k).variables

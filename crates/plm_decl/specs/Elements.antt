@@ -204,10 +204,13 @@ with_variable v k = record k { variables = k.variables ++ v ∷ [] }
 abbrev pub variable_in : Traits → Place → Region → Known → Variable
 variable_in t place r k = record { «module» = k.module; place = place; form = t.shape.form; dimension = t.shape.dimension; stride = t.shape.stride; region = r; is_data = t.is_data }
 
--- the region of a name: its base's, or that of its site
+-- the region of a name, given in normal form too: its base's, or that of its site
+abbrev pub region_at : List Level → NameT → Option NameT → List ℕ → Traits → Site → Known → Region × Known
+region_at levels n (Some base) key t s k = base_for levels n base t.has_attribute k
+region_at levels n None key t s k = region_for levels n key (size_of_shape t.shape) s k
+
 abbrev pub region_of_variable : List Level → NameT → Option NameT → Traits → Site → Known → Region × Known
-region_of_variable levels n (Some base) t s k = base_for levels n base t.has_attribute k
-region_of_variable levels n None t s k = region_for levels n (normal n.text) (size_of_shape t.shape) s k
+region_of_variable levels n base t s k = region_at levels n base (normal n.text) t s k
 
 -- a variable is numbered in order of declaration
 abbrev pub variable_declared : NameT → Traits → Region × Known → List Level → List Level × Known

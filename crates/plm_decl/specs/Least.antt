@@ -1,5 +1,5 @@
 -- The fault that is answered: the least by module, token and number.
-use Rattle.std.specs.Prelude.{◌≡◌, ℕ, ◌-◌, ◌^◌, List, [], ◌∷◌, Bool, true, false, not, cond, if◌then◌else◌, min, nat_eq, nat_lt, Option, Some, None, Contains, All, ◌⊎◌}
+use Rattle.std.specs.Prelude.{◌≡◌, ℕ, ◌-◌, ◌^◌, List, [], ◌∷◌, Bool, false, cond, min, nat_eq, nat_lt, Option, Some, None, Contains, All, ◌⊎◌}
 use Rattle.word86.specs.declared.number.Number.{Number}
 use Rattle.word86.specs.declared.number.Number.TheVariants.{E301, E302, E303, E304, E305, E306, E307, E308, E309, E310, E401, E402, E403, E404, E405, E406}
 use Rattle.word86.specs.declared.fault.Fault.{Fault}

@@ -1,12 +1,12 @@
 //! Constant bytes in expressions and values.
 
-ghost use Rattle.std.specs.Prelude.{◌≡◌, ◌++◌, IfOk, OnOk, map};
+ghost use Rattle.std.specs.Prelude.{◌≡◌, ◌++◌, IfOk, OnOk, map, length};
 ghost use Rattle.plm_token.specs.Strings.{string_characters};
 ghost use Rattle.plm_syntax.specs.View.{value_of};
 ghost use Rattle.plm_decl.specs.declared.names.Datum.TheVariants as datum;
 ghost use Rattle.plm_decl.specs.Scopes.{levels_of};
 ghost use Rattle.plm_decl.specs.Known.{known_of};
-ghost use Rattle.plm_decl.specs.Expressions.{is_constant, constant_data, constant_bytes};
+ghost use Rattle.plm_decl.specs.Expressions.{is_constant, constant_data, all_constant_data, are_constants, with_constants, constant_bytes};
 
 use crate::datum::number_datum;
 use crate::layout::ScalarType;
@@ -53,6 +53,37 @@ impl Resolver {
         Ok(())
     }
 
+    /// Constant bytes, and whether all values are such.
+    fn constant_values(&self, values: &[Value<'_>]) -> Result<(Vec<Datum>, bool), AllocError>
+        ensures bytes { IfOk result (λ r. r.0.items ≡ all_constant_data (map value_of values.now)) }
+        ensures fit { IfOk result (λ r. r.1 ≡ are_constants (map value_of values.now)) }
+    {
+        let mut bytes = Vec::new(self.alloc);
+        let mut are_bytes = true;
+        for value in values {
+            let is_byte = self.constant_value(value, &mut bytes)?;
+            are_bytes = are_bytes && is_byte;
+        }
+        Ok((bytes, are_bytes))
+    }
+
+    /// Makes an object of these bytes, and answers its number.
+    fn put_constants(&mut self, scope: &Scope<'_>, bytes: Vec<Datum>) -> Result<usize, AllocError>
+        ensures object { IfOk result (λ o. o ≡ length (known_of self.old).objects) }
+        ensures known { OnOk result (known_of self.new ≡ with_constants (levels_of scope.now) bytes.items (known_of self.old)) }
+    {
+        self.constants = next(self.constants);
+        let path = constants_path(self.alloc, scope.path(), self.constants)?;
+        let object = self.objects.len();
+        let size = bytes.len() as u64;
+        self.objects.push(Object {
+            path,
+            size,
+            initial: bytes,
+        })?;
+        Ok(object)
+    }
+
     /// Makes the object of constant bytes, and answers its number.
     pub fn constant_bytes(
         &mut self,
@@ -63,22 +94,9 @@ impl Resolver {
         ensures object { IfOk result (λ o. o ≡ (constant_bytes (levels_of scope.now) place (map value_of values.now) (known_of self.old)).0) }
         ensures known { OnOk result (known_of self.new ≡ (constant_bytes (levels_of scope.now) place (map value_of values.now) (known_of self.old)).1) }
     {
-        let mut bytes = Vec::new(self.alloc);
-        let mut are_bytes = true;
-        for value in values {
-            let is_byte = self.constant_value(value, &mut bytes)?;
-            are_bytes = are_bytes && is_byte;
-        }
+        let (bytes, are_bytes) = self.constant_values(values)?;
         self.note_unless(are_bytes, Number::E305, place)?;
-        self.constants = next(self.constants);
-        let path = constants_path(self.alloc, scope.path(), self.constants)?;
-        let object = self.objects.len();
-        let size = bytes.len() as u64;
-        self.objects.push(Object {
-            path,
-            size,
-            initial: bytes,
-        })?;
+        let object = self.put_constants(scope, bytes)?;
         Ok(object)
     }
 }

@@ -1,9 +1,11 @@
 //! Declarations of variables.
 
 ghost use Rattle.std.specs.Prelude.{◌≡◌, ◌+◌, ◌*◌, IfOk, OnOk, map, length};
-ghost use Rattle.plm_syntax.specs.View.{name_of, location_of, variable_of, declared_of, dimension_of, type_of, attributes_of, element_of, value_of};
-ghost use Rattle.plm_decl.specs.Scopes.{levels_of, found_in};
-ghost use Rattle.plm_decl.specs.Known.{known_of};
+ghost use Rattle.plm_syntax.specs.View.{name_of, base_of, location_of, variable_of, declared_of, dimension_of, type_of, attributes_of, element_of, value_of};
+ghost use Rattle.word86.specs.declared.number.Number.TheVariants.{E302};
+ghost use Rattle.plm_decl.specs.declared.names.Item.TheVariants as item;
+ghost use Rattle.plm_decl.specs.Scopes.{levels_of, found_in, is_fresh, with_name};
+ghost use Rattle.plm_decl.specs.Known.{known_of, note_unless};
 ghost use Rattle.plm_decl.specs.ResolvedView as view;
 ghost use Rattle.plm_decl.specs.Elements as spec;
 ghost use Rattle.plm_decl.specs.Fills as fills;
@@ -32,7 +34,7 @@ const SCREEN: u32 = 0xB_8000;
 const SCREEN_LENGTH: u64 = 4000;
 
 /// Where the next name of an element goes.
-#[derive(Debug, Clone, Copy)]
+#[derive(Clone, Copy)]
 enum Site {
     /// Into an object of its own.
     Own,
@@ -47,7 +49,7 @@ enum Site {
 }
 
 /// What an element's names have in common besides their shape.
-#[derive(Debug, Clone, Copy)]
+#[derive(Clone, Copy)]
 struct Traits {
     shape: Shape,
     linkage: Linkage,
@@ -227,7 +229,7 @@ impl Resolver {
         ensures { result ≡ spec.site_of (known_of self.now) (view.reference_of reference.now) }
     {
         let Meaning::Variable(variable) = reference.meaning else {
-            return if reference.meaning == Meaning::Nothing {
+            return if matches!(reference.meaning, Meaning::Nothing) {
                 Site::Nowhere
             } else {
                 Site::Outside
@@ -294,7 +296,7 @@ impl Resolver {
         ensures { result ≡ spec.is_base (known_of self.now) meaning }
     {
         let Meaning::Variable(number) = meaning else {
-            return meaning == Meaning::Nothing;
+            return matches!(meaning, Meaning::Nothing);
         };
         match self.variables.get(number) {
             Some(variable) => {
@@ -487,19 +489,67 @@ impl Resolver {
         }
     }
 
-    /// Declares a name for an item.
-    pub fn declare(
+    /// Declares a name, given in normal form, that stands at this place, and joins it with those of other modules.
+    pub fn enter(
         &mut self,
         scope: &mut Scope<'_>,
-        name: &Name<'_>,
+        place: Place,
+        name: Vec<u8>,
+        linkage: Linkage,
         item: Item,
     ) -> Result<(), AllocError>
-        ensures names { OnOk result (levels_of scope.new ≡ (spec.declared (name_of name.now) item (levels_of scope.old) (known_of self.old)).0) }
-        ensures known { OnOk result (known_of self.new ≡ (spec.declared (name_of name.now) item (levels_of scope.old) (known_of self.old)).1) }
+        ensures names { OnOk result (levels_of scope.new ≡ with_name name.items item (levels_of scope.old)) }
+        ensures known { OnOk result (known_of self.new ≡ note_unless (is_fresh name.items (levels_of scope.old)) E302 place (spec.linked (levels_of scope.old) linkage name.items item (known_of self.old))) }
     {
-        let key = normal(self.alloc, name.text)?;
-        let is_fresh = scope.declare(key, item)?;
-        self.note_unless(is_fresh, Number::E302, name.place)
+        self.link(scope, linkage, &name, item)?;
+        let is_fresh = scope.declare(name, item)?;
+        self.note_unless(is_fresh, Number::E302, place)
+    }
+
+    /// The region of a name, given in normal form too: its base's, or that of its site.
+    fn variable_region(
+        &mut self,
+        scope: &Scope<'_>,
+        variable: &SyntaxVariable<'_>,
+        key: &[u8],
+        traits: Traits,
+        site: Site,
+    ) -> Result<Region, AllocError>
+        ensures value { IfOk result (λ r. r ≡ (spec.region_at (levels_of scope.now) (name_of variable.now.name) (base_of variable.now.base) key.now traits site (known_of self.old)).0) }
+        ensures known { OnOk result (known_of self.new ≡ (spec.region_at (levels_of scope.now) (name_of variable.now.name) (base_of variable.now.base) key.now traits site (known_of self.old)).1) }
+    {
+        match &variable.base {
+            Some(base) => self.base(scope, &variable.name, base, traits.has_attribute),
+            None => self.region(scope, &variable.name, key, traits.shape.size(), site),
+        }
+    }
+
+    /// Keeps a variable that stands at this place, and answers it.
+    fn put_variable(
+        &mut self,
+        place: Place,
+        traits: Traits,
+        region: Region,
+    ) -> Result<Item, AllocError>
+        ensures item { IfOk result (λ i. i ≡ item.Variable (length (known_of self.old).variables)) }
+        ensures known { OnOk result (known_of self.new ≡ spec.with_variable (spec.variable_in traits place region (known_of self.old)) (known_of self.old)) }
+    {
+        let item = Item::Variable(self.variables.len());
+        let Shape {
+            form,
+            dimension,
+            stride,
+        } = traits.shape;
+        self.variables.push(Variable {
+            module: self.module,
+            place,
+            form,
+            dimension,
+            stride,
+            region,
+            is_data: traits.is_data,
+        })?;
+        Ok(item)
     }
 
     /// Declares a variable, and answers where the next name goes.
@@ -514,37 +564,12 @@ impl Resolver {
         ensures names { OnOk result (levels_of scope.new ≡ (spec.declared_variable (variable_of variable.now) traits site (levels_of scope.old) (known_of self.old)).0) }
         ensures known { OnOk result (known_of self.new ≡ (spec.declared_variable (variable_of variable.now) traits site (levels_of scope.old) (known_of self.old)).1) }
     {
-        let Traits {
-            shape,
-            linkage,
-            is_data,
-            has_attribute,
-        } = traits;
-        let name = &variable.name;
-        let key = normal(self.alloc, name.text)?;
-        let size = shape.size();
-        let region = match &variable.base {
-            Some(base) => self.base(scope, name, base, has_attribute)?,
-            None => self.region(scope, name, &key, size, site)?,
-        };
-        let item = Item::Variable(self.variables.len());
-        let Shape {
-            form,
-            dimension,
-            stride,
-        } = shape;
-        self.variables.push(Variable {
-            module: self.module,
-            place: name.place,
-            form,
-            dimension,
-            stride,
-            region,
-            is_data,
-        })?;
-        self.link(scope, linkage, &key, item)?;
-        self.declare(scope, name, item)?;
-        Ok(site.behind(size))
+        let place = variable.name.place;
+        let key = normal(self.alloc, variable.name.text)?;
+        let region = self.variable_region(scope, variable, &key, traits, site)?;
+        let item = self.put_variable(place, traits, region)?;
+        self.enter(scope, place, key, traits.linkage, item)?;
+        Ok(site.behind(traits.shape.size()))
     }
 
     /// Declares names, one behind another from this site on.

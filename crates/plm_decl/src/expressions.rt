@@ -72,27 +72,34 @@ impl Resolver {
                 location, scope,
             )?)),
             plm_syntax::Expression::Parenthesised(place, inner) => {
-                let inner = self.expression(inner, scope)?;
-                Ok(Expression::Parenthesised(*place, Box::new(self.alloc, inner)?))
+                Ok(Expression::Parenthesised(*place, self.boxed_expression(inner, scope)?))
             }
             plm_syntax::Expression::Embedded(place, target, value) => {
                 let target = self.reference(target, scope)?;
-                let value = self.expression(value, scope)?;
-                Ok(Expression::Embedded(*place, target, Box::new(self.alloc, value)?))
+                Ok(Expression::Embedded(*place, target, self.boxed_expression(value, scope)?))
             }
             plm_syntax::Expression::Unary(place, operator, operand) => {
-                let operand = self.expression(operand, scope)?;
-                Ok(Expression::Unary(*place, *operator, Box::new(self.alloc, operand)?))
+                Ok(Expression::Unary(*place, *operator, self.boxed_expression(operand, scope)?))
             }
             plm_syntax::Expression::Chain { first, others } => {
-                let first = self.expression(first, scope)?;
+                let first = self.boxed_expression(first, scope)?;
                 let others = self.operations(others, scope)?;
-                Ok(Expression::Chain {
-                    first: Box::new(self.alloc, first)?,
-                    others,
-                })
+                Ok(Expression::Chain { first, others })
             }
         }
+    }
+
+    #[cycle(expression)]
+    fn boxed_expression(
+        &mut self,
+        e: &plm_syntax::Expression<'_>,
+        scope: &Scope<'_>,
+    ) -> Result<Box<Expression>, AllocError>
+        ensures value { IfOk result (λ r. view.expression_of r.value ≡ (spec.expression (levels_of scope.now) (tree.expression_of e.now) (known_of self.old)).0) }
+        ensures known { OnOk result (known_of self.new ≡ (spec.expression (levels_of scope.now) (tree.expression_of e.now) (known_of self.old)).1) }
+    {
+        let expression = self.expression(e, scope)?;
+        Ok(Box::new(self.alloc, expression)?)
     }
 
     /// Operators of one level, whatever stands to their left.
@@ -171,8 +178,8 @@ impl Resolver {
             }
             plm_syntax::Selector::Element(name, subscript) => {
                 let member = self.member(meaning, name)?;
-                let subscript = self.expression(subscript, scope)?;
-                Ok(Selector::Element(name.place, member, Box::new(self.alloc, subscript)?))
+                let subscript = self.boxed_expression(subscript, scope)?;
+                Ok(Selector::Element(name.place, member, subscript))
             }
         }
     }

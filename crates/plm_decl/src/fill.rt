@@ -1,6 +1,6 @@
 //! Initial values.
 
-ghost use Rattle.std.specs.Prelude.{◌≡◌, IfOk, OnOk, map, slice_get};
+ghost use Rattle.std.specs.Prelude.{◌≡◌, ◌+◌, ◌-◌, ◌^◌, ◌<◌, IfOk, OnOk, map, length, slice_get};
 ghost use Rattle.plm_syntax.specs.View.{value_of, variable_of};
 ghost use Rattle.plm_syntax.specs.View as tree;
 ghost use Rattle.plm_decl.specs.Scopes.{levels_of};
@@ -30,10 +30,30 @@ pub struct Filling<'f, 'a> {
 }
 
 /// The scalar that the next value fills: that of a name, so many behind its first.
-#[derive(Debug, Clone, Copy)]
+#[derive(Clone, Copy)]
 struct Cursor {
     name: usize,
     scalar: u64,
+}
+
+impl Cursor {
+    /// The next one, where a name has so many scalars.
+    fn behind(self, scalars: u64) -> Cursor
+        requires { self.name + 1 < 2 ^ 64 }
+        ensures { result ≡ spec.cursor_behind scalars self }
+    {
+        let scalar = self.scalar.saturating_add(1);
+        if scalar < scalars {
+            return Cursor {
+                name: self.name,
+                scalar,
+            };
+        }
+        Cursor {
+            name: self.name + 1,
+            scalar: 0,
+        }
+    }
 }
 
 /// The address of a variable's byte; a based one has none.
@@ -132,6 +152,40 @@ impl Resolver {
         self.give_object(object, datum)
     }
 
+    /// Gives the name of this number among those that are filled one more initial value.
+    fn put_datum(
+        &mut self,
+        filling: Filling<'_, '_>,
+        number: usize,
+        name: &SyntaxVariable<'_>,
+        datum: Option<Datum>,
+    ) -> Result<(), AllocError>
+        ensures { OnOk result (known_of self.new ≡ spec.put_datum (filling_of filling.entry) number (variable_of name.now) datum (known_of self.old)) }
+    {
+        match datum {
+            Some(datum) => self.give(filling.number.saturating_add(number), datum),
+            None => self.note(Number::E305, name.name.place),
+        }
+    }
+
+    /// How many scalars a name has.
+    fn scalars_in_name(&self, shape: Shape) -> u64
+        ensures { result ≡ spec.scalars_in_name (known_of self.now) shape }
+    {
+        self.scalars(shape.form)
+            .saturating_mul(elements(shape.dimension))
+    }
+
+    /// Notes that there is a value too many for these names.
+    fn note_too_many(&mut self, names: &[SyntaxVariable<'_>]) -> Result<(), AllocError>
+        ensures { OnOk result (known_of self.new ≡ spec.too_many (slice_get (map variable_of names.now) (length names.now - 1)) (known_of self.old)) }
+    {
+        match names.last() {
+            Some(last) => self.note(Number::E305, last.name.place),
+            None => Ok(()),
+        }
+    }
+
     /// Fills the scalar at the cursor, and answers the next one. A value too many does not fit the last name.
     fn put(
         &mut self,
@@ -142,31 +196,16 @@ impl Resolver {
         ensures value { IfOk result (λ r. r ≡ (spec.put_value (filling_of filling.entry) cursor datum (known_of self.old)).0) }
         ensures known { OnOk result (known_of self.new ≡ (spec.put_value (filling_of filling.entry) cursor datum (known_of self.old)).1) }
     {
-        let Some(name) = filling.names.get(cursor.name) else {
-            if let Some(last) = filling.names.last() {
-                self.note(Number::E305, last.name.place)?;
+        match filling.names.get(cursor.name) {
+            Some(name) => {
+                self.put_datum(filling, cursor.name, name, datum)?;
+                Ok(cursor.behind(self.scalars_in_name(filling.shape)))
             }
-            return Ok(cursor);
-        };
-        match datum {
-            Some(datum) => self.give(filling.number.saturating_add(cursor.name), datum)?,
-            None => self.note(Number::E305, name.name.place)?,
+            None => {
+                self.note_too_many(filling.names)?;
+                Ok(cursor)
+            }
         }
-        let scalars = self
-            .scalars(filling.shape.form)
-            .saturating_mul(elements(filling.shape.dimension));
-        let scalar = cursor.scalar.saturating_add(1);
-        Ok(if scalar < scalars {
-            Cursor {
-                name: cursor.name,
-                scalar,
-            }
-        } else {
-            Cursor {
-                name: cursor.name + 1,
-                scalar: 0,
-            }
-        })
     }
 
     /// Fills a BYTE with each character of a string.

@@ -7,7 +7,7 @@ use plm_syntax::Place;
 use word86::{Fault, Number};
 
 /// A fault of a declaration, a name, a type or the whole program, where it stands.
-#[derive(Debug, Clone, Copy, PartialEq, Eq)]
+#[derive(Clone, Copy)]
 pub struct Found {
     pub module: usize,
     pub place: Place,

@@ -49,7 +49,7 @@ impl ScalarType {
 }
 
 /// A member of a structure: its scalars' type, its dimension, and how many bytes of the structure stand before it.
-#[derive(Debug, Clone, Copy, PartialEq, Eq)]
+#[derive(Clone, Copy)]
 pub struct Member {
     pub scalar: ScalarType,
     pub dimension: Option<u32>,
@@ -74,7 +74,7 @@ pub struct Structure {
 }
 
 /// What an element is: a scalar, or a structure by its number.
-#[derive(Debug, Clone, Copy, PartialEq, Eq)]
+#[derive(Clone, Copy)]
 pub enum Form {
     Scalar(ScalarType),
     Structure(usize),

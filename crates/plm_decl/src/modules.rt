@@ -1,13 +1,13 @@
 //! From trees to names.
 
-ghost use Rattle.std.specs.Prelude.{◌≡◌, IfOk, IfErr, OnOk, [], map, None, Some};
+ghost use Rattle.std.specs.Prelude.{◌≡◌, IfOk, IfErr, OnOk, [], map, length, true};
 ghost use Rattle.plm_syntax.specs.View.{module_of};
 ghost use Rattle.plm_decl.specs.Known.{known_of, nothing_known};
 ghost use Rattle.plm_decl.specs.Least.{IsRefusal};
 ghost use Rattle.plm_decl.specs.ResolvedView as view;
 ghost use Rattle.plm_decl.specs.Joins as spec;
 ghost use Rattle.plm_decl.specs.Ranges.{Within, counts_of};
-ghost use Rattle.plm_decl.specs.Answers.{AreNames, AreAnswered, IsRefused, faults_of, whole_faults_of};
+ghost use Rattle.plm_decl.specs.Answers.{AreNames, AreAnswered, AreTables, IsRefused, faults_of, whole_faults_of};
 
 use crate::found::least;
 use crate::names::{Main, Names};
@@ -44,16 +44,16 @@ impl Resolver {
     }
 
     /// Walks the module of this number.
-    fn module(&mut self, number: usize, tree: &Module<'_>) -> Result<(), AllocError>
-        ensures { OnOk result (known_of self.new ≡ spec.with_module number (module_of tree.now) (known_of self.old)) }
+    fn module(tree: &Module<'_>, number: usize, resolver: &mut Resolver) -> Result<(), AllocError>
+        ensures { OnOk result (known_of resolver.new ≡ spec.with_module number (module_of tree.now) (known_of resolver.old)) }
     {
-        self.module = number;
-        self.blocks = 0;
-        self.constants = 0;
-        let path = normal(self.alloc, tree.name.text)?;
-        let mut scope = Scope::outermost(self.alloc, path);
-        let statements = self.block(&tree.block, &mut scope)?;
-        self.put_main(!tree.block.statements.is_empty(), statements)?;
+        resolver.module = number;
+        resolver.blocks = 0;
+        resolver.constants = 0;
+        let path = normal(resolver.alloc, tree.name.text)?;
+        let mut scope = Scope::outermost(resolver.alloc, path);
+        let statements = Resolver::block(&tree.block, resolver, &mut scope)?;
+        resolver.put_main(!tree.block.statements.is_empty(), statements)?;
         Ok(())
     }
 
@@ -70,22 +70,13 @@ impl Resolver {
         Ok(())
     }
 
-    /// The names, where no fault was met.
-    fn answer(mut self) -> Result<Names, Fault>
-        requires { (known_of self).faults ≡ [] → Within (counts_of (known_of self)) (known_of self) }
-        ensures names { IfOk result (λ names. AreAnswered names (known_of self)) }
-        ensures refused { IfErr result (λ fault. IsRefused fault (known_of self)) }
+    /// The names of joined modules without a fault.
+    fn into_names(self) -> Names
+        requires within { Within (counts_of (known_of self)) (known_of self) }
+        requires one { length (known_of self).mains ≡ 1 }
+        requires room { spec.have_room (known_of self).objects ≡ true }
+        ensures { AreTables result (known_of self) }
     {
-        if let Some(found) = least(&self.faults) {
-            return Err(found.fault());
-        }
-        self.join_modules()?;
-        if let Some(found) = least(&self.whole) {
-            return Err(found.fault());
-        }
-        let Some(main) = self.mains.pop() else {
-            return Err(Fault::At(0, 1, word86::Number::E308));
-        };
         let Resolver {
             variables,
             structures,
@@ -93,9 +84,13 @@ impl Resolver {
             screen_names,
             procedures,
             locations,
+            mut mains,
             ..
         } = self;
-        Ok(Names {
+        let Some(main) = mains.pop() else {
+            unreachable!();
+        };
+        Names {
             variables,
             structures,
             objects,
@@ -103,7 +98,33 @@ impl Resolver {
             procedures,
             locations,
             main,
-        })
+        }
+    }
+
+    /// The names of modules without a fault of declarations and names, joined.
+    fn joined(mut self) -> Result<Names, Fault>
+        requires no_fault { (known_of self).faults ≡ [] }
+        requires within { Within (counts_of (known_of self)) (known_of self) }
+        ensures names { IfOk result (λ names. AreAnswered names (known_of self)) }
+        ensures refused { IfErr result (λ fault. IsRefused fault (known_of self)) }
+    {
+        self.join_modules()?;
+        match least(&self.whole) {
+            Some(found) => Err(found.fault()),
+            None => Ok(self.into_names()),
+        }
+    }
+
+    /// The names, where no fault was met.
+    fn answer(self) -> Result<Names, Fault>
+        requires { (known_of self).faults ≡ [] → Within (counts_of (known_of self)) (known_of self) }
+        ensures names { IfOk result (λ names. AreAnswered names (known_of self)) }
+        ensures refused { IfErr result (λ fault. IsRefused fault (known_of self)) }
+    {
+        match least(&self.faults) {
+            Some(found) => Err(found.fault()),
+            None => self.joined(),
+        }
     }
 }
 
@@ -117,7 +138,7 @@ pub fn resolve(alloc: Global, modules: &[Module<'_>]) -> Result<Names, Fault>
 {
     let mut resolver = Resolver::new(alloc);
     for (number, tree) in modules.iter().enumerate() {
-        resolver.module(number, tree)?;
+        Resolver::module(tree, number, &mut resolver)?;
     }
     resolver.answer()
 }

@@ -11,7 +11,7 @@ use crate::resolved::{Location, Statement};
 use plm_syntax::{Linkage, Place};
 
 /// Where a variable's bytes lie.
-#[derive(Debug, Clone, Copy, PartialEq, Eq)]
+#[derive(Clone, Copy)]
 pub enum Region {
     /// In a RAM object, by its number, from so many bytes behind its first on.
     Ram(usize, u64),
@@ -24,7 +24,7 @@ pub enum Region {
 }
 
 /// A declared variable: a view of bytes as elements.
-#[derive(Debug, Clone, Copy, PartialEq, Eq)]
+#[derive(Clone, Copy)]
 pub struct Variable {
     pub module: usize,
     pub place: Place,
@@ -38,14 +38,14 @@ pub struct Variable {
 }
 
 /// What a declared name stands for: a variable or a procedure, by its number.
-#[derive(Debug, Clone, Copy, PartialEq, Eq)]
+#[derive(Clone, Copy)]
 pub enum Item {
     Variable(usize),
     Procedure(usize),
 }
 
 /// An initial value.
-#[derive(Debug, Clone, Copy, PartialEq, Eq)]
+#[derive(Clone, Copy)]
 pub enum Datum {
     Byte(u8),
     Word(u16),

@@ -8,7 +8,7 @@ use crate::layout::Member;
 use plm_syntax::{BinaryOperator, LocationForm, Number, Place, UnaryOperator};
 
 /// What a name stands for where it is used.
-#[derive(Debug, Clone, Copy, PartialEq, Eq)]
+#[derive(Clone, Copy)]
 pub enum Meaning {
     /// A variable, by its number.
     Variable(usize),

@@ -121,7 +121,11 @@ impl Resolver {
     {
         let key = normal(self.alloc, name.text)?;
         let meaning = meaning(scope.item(&key), Builtin::named(&key));
-        self.note_unless(meaning != Meaning::Nothing, Number::E301, name.place)?;
+        self.note_unless(
+            !matches!(meaning, Meaning::Nothing),
+            Number::E301,
+            name.place,
+        )?;
         Ok(meaning)
     }
 }

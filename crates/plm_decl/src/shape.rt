@@ -3,7 +3,7 @@
 ghost use Rattle.std.specs.Prelude.{◌≡◌, ◌+◌, ◌*◌, IfOk, OnOk, map, length, option_map, min};
 ghost use Rattle.plm_syntax.specs.View.{name_of, counted as number_view, member_of, type_of, dimension_of, value_of};
 ghost use Rattle.plm_decl.specs.Lists.{member_list};
-ghost use Rattle.plm_decl.specs.Layouts.{structure_of, counted, elements, is_dimension, scalar_in, with_field, has_field, scalar_of};
+ghost use Rattle.plm_decl.specs.Layouts.{structure_of, counted, elements, is_dimension, scalar_in, with_field, has_field, scalar_of, no_fields};
 ghost use Rattle.plm_decl.specs.Known.{known_of};
 ghost use Rattle.plm_decl.specs.Shapes as shape;
 
@@ -23,7 +23,7 @@ use word86::Number;
 const DIMENSION_LIMIT: u64 = 65_535;
 
 /// What an element's names have in common: the form and the number of their elements, and the bytes of one.
-#[derive(Debug, Clone, Copy)]
+#[derive(Clone, Copy)]
 pub struct Shape {
     pub form: Form,
     pub dimension: Option<u32>,
@@ -156,6 +156,26 @@ impl Resolver {
         Ok(())
     }
 
+    /// A structure with these members; a fault of their dimensions stands at this place.
+    fn structure_with(
+        &mut self,
+        place: Place,
+        members: &[SyntaxMember<'_>],
+    ) -> Result<Structure, AllocError>
+        ensures structure { IfOk result (λ s. structure_of s ≡ (shape.structure_for place (map member_of members.now) no_fields (known_of self.old)).0) }
+        ensures known { OnOk result (known_of self.new ≡ (shape.structure_for place (map member_of members.now) no_fields (known_of self.old)).1) }
+    {
+        let mut structure = Structure {
+            fields: Vec::new(self.alloc),
+            size: 0,
+            scalars: 0,
+        };
+        for member in members {
+            self.add_members(place, member, &mut structure)?;
+        }
+        Ok(structure)
+    }
+
     /// What an element is; a fault of its dimensions stands at the first of its names.
     #[tactic(auto, using(crate::proofs::ListViews::member_list_from))]
     pub fn form(&mut self, place: Place, form: &VariableType<'_>) -> Result<Form, AllocError>
@@ -165,14 +185,7 @@ impl Resolver {
         match form {
             VariableType::Scalar(scalar) => Ok(Form::Scalar(ScalarType::of(*scalar))),
             VariableType::Structure(members) => {
-                let mut structure = Structure {
-                    fields: Vec::new(self.alloc),
-                    size: 0,
-                    scalars: 0,
-                };
-                for member in members {
-                    self.add_members(place, member, &mut structure)?;
-                }
+                let structure = self.structure_with(place, members)?;
                 let number = self.structures.len();
                 self.structures.push(structure)?;
                 Ok(Form::Structure(number))

@@ -1,21 +1,24 @@
 //! The names of statements, procedures and blocks.
 
-ghost use Rattle.std.specs.Prelude.{◌≡◌, ◌||◌, [], IfOk, OnOk, map, length, option_map};
-ghost use Rattle.plm_syntax.specs.View.{counted, name_of, names_of, element_of, reference_of, item_of, basic_of, block_of, statement_of, statements_of, procedure_of};
+ghost use Rattle.std.specs.Prelude.{◌≡◌, ◌||◌, [], IfOk, OnOk, map, length, option_map, None};
+ghost use Rattle.plm_token.specs.Names.{normal};
+ghost use Rattle.plm_syntax.specs.Tree.{no_references, AssignS, CallS, ReturnValueS, IfS, DoS, WhileS, CaseS};
+ghost use Rattle.plm_syntax.specs.View.{counted, name_of, names_of, element_of, reference_of, item_of, items_of, basic_of, block_of, statement_of, statements_of, procedure_of};
 ghost use Rattle.plm_syntax.specs.View as tree;
-ghost use Rattle.plm_decl.specs.Scopes.{levels_of, entries_of, is_external};
+ghost use Rattle.plm_decl.specs.Paths.{name_behind};
+ghost use Rattle.plm_decl.specs.Scopes.{levels_of, entries_of, is_external, path_in};
 ghost use Rattle.plm_decl.specs.Strays.{is_external_linkage};
 ghost use Rattle.plm_decl.specs.Known.{known_of};
 ghost use Rattle.plm_decl.specs.Layouts.{scalar_of};
-ghost use Rattle.plm_decl.specs.Resolved.{no_references};
+ghost use Rattle.plm_decl.specs.Resolved as resolved;
 ghost use Rattle.plm_decl.specs.ResolvedView as view;
 ghost use Rattle.plm_decl.specs.Statements as spec;
-ghost use Rattle.plm_decl.specs.StatementsView.{header_for, name_for};
+ghost use Rattle.plm_decl.specs.StatementsView.{header_for, procedure_declared, finished, bounds_of, bounds_for, iterated};
 
 use crate::found::Found;
 use crate::layout::ScalarType;
 use crate::names::{Item, Procedure};
-use crate::resolved::{Expression, Reference, Statement};
+use crate::resolved::{Expression, Meaning, Reference, Statement};
 use crate::resolver::{Resolver, next};
 use crate::scope::Scope;
 use crate::spelling::{block_path, name_path, normal};
@@ -27,6 +30,15 @@ use plm_syntax::{
 };
 use std::alloc::AllocError;
 use word86::Number;
+
+/// What stands before the body of an iterative DO block: what its index means, and its bounds.
+#[derive(Drop)]
+struct Bounds {
+    meaning: Meaning,
+    from: Expression,
+    to: Expression,
+    step: Option<Expression>,
+}
 
 /// Whether nothing takes room in a procedure of this linkage: it is EXTERNAL, or stands in one that is.
 fn takes_no_room(linkage: Linkage, scope: &Scope<'_>) -> bool
@@ -73,8 +85,8 @@ impl Resolver {
         scope: &Scope<'_>,
         references: &[plm_syntax::Reference<'_>],
     ) -> Result<Vec<Reference>, AllocError>
-        ensures value { IfOk result (λ r. view.references_of r.items ≡ (spec.targets_from (levels_of scope.now) no_references (map reference_of references.now) (known_of self.old)).0) }
-        ensures known { OnOk result (known_of self.new ≡ (spec.targets_from (levels_of scope.now) no_references (map reference_of references.now) (known_of self.old)).1) }
+        ensures value { IfOk result (λ r. view.references_of r.items ≡ (spec.targets_from (levels_of scope.now) resolved.no_references (map reference_of references.now) (known_of self.old)).0) }
+        ensures known { OnOk result (known_of self.new ≡ (spec.targets_from (levels_of scope.now) resolved.no_references (map reference_of references.now) (known_of self.old)).1) }
     {
         let mut resolved = Vec::new(self.alloc);
         for reference in references {
@@ -106,7 +118,7 @@ impl Resolver {
         ensures value { IfOk result (λ r. view.statement_of r ≡ (spec.statement (levels_of scope.now) (statement_of statement.now) (known_of self.old)).0) }
         ensures known { OnOk result (known_of self.new ≡ (spec.statement (levels_of scope.now) (statement_of statement.now) (known_of self.old)).1) }
     {
-        self.basic(&statement.basic, scope, &statement.labels)
+        Resolver::basic(&statement.basic, self, scope, &statement.labels)
     }
 
     #[cycle(statement)]
@@ -125,97 +137,255 @@ impl Resolver {
         Ok(resolved)
     }
 
-    #[cycle(statement)]
-    #[tactic(auto, using(crate::proofs::ResolvedRows::statement_row, plm_syntax::proofs::Rows::statement_row, crate::proofs::ListViews::reference_list_from))]
-    fn basic(
+    /// What stands before the body of an iterative DO block.
+    fn bounds(
         &mut self,
-        basic: &Basic<'_>,
+        index: &Name<'_>,
+        from: &plm_syntax::Expression<'_>,
+        to: &plm_syntax::Expression<'_>,
+        step: &Option<plm_syntax::Expression<'_>>,
+        scope: &Scope<'_>,
+    ) -> Result<Bounds, AllocError>
+        ensures value { IfOk result (λ r. bounds_of r ≡ (bounds_for (levels_of scope.now) (name_of index.now) (tree.expression_of from.now) (tree.expression_of to.now) (tree.step_of step.now) (known_of self.old)).0) }
+        ensures known { OnOk result (known_of self.new ≡ (bounds_for (levels_of scope.now) (name_of index.now) (tree.expression_of from.now) (tree.expression_of to.now) (tree.step_of step.now) (known_of self.old)).1) }
+    {
+        let meaning = self.used(scope, index)?;
+        let from = self.expression(from, scope)?;
+        let to = self.expression(to, scope)?;
+        let step = self.step(scope, step)?;
+        Ok(Bounds {
+            meaning,
+            from,
+            to,
+            step,
+        })
+    }
+
+    /// An assignment.
+    #[tactic(auto, using(crate::proofs::ListViews::reference_list_from))]
+    fn assignment(
+        &mut self,
+        targets: &[plm_syntax::Reference<'_>],
+        value: &plm_syntax::Expression<'_>,
+        scope: &Scope<'_>,
+    ) -> Result<Statement, AllocError>
+        ensures value { IfOk result (λ r. view.statement_of r ≡ (spec.basic (levels_of scope.now) None (AssignS (tree.references_from targets.now no_references) (tree.expression_of value.now)) (known_of self.old)).0) }
+        ensures known { OnOk result (known_of self.new ≡ (spec.basic (levels_of scope.now) None (AssignS (tree.references_from targets.now no_references) (tree.expression_of value.now)) (known_of self.old)).1) }
+    {
+        let targets = self.references(scope, targets)?;
+        Ok(Statement::Assign(targets, self.expression(value, scope)?))
+    }
+
+    /// A CALL.
+    fn call(
+        &mut self,
+        procedure: &plm_syntax::Reference<'_>,
+        place: Place,
+        scope: &Scope<'_>,
+    ) -> Result<Statement, AllocError>
+        ensures value { IfOk result (λ r. view.statement_of r ≡ (spec.basic (levels_of scope.now) None (CallS place (reference_of procedure.now)) (known_of self.old)).0) }
+        ensures known { OnOk result (known_of self.new ≡ (spec.basic (levels_of scope.now) None (CallS place (reference_of procedure.now)) (known_of self.old)).1) }
+    {
+        Ok(Statement::Call(place, self.reference(procedure, scope)?))
+    }
+
+    /// A RETURN with a value.
+    fn return_value(
+        &mut self,
+        value: &plm_syntax::Expression<'_>,
+        place: Place,
+        scope: &Scope<'_>,
+    ) -> Result<Statement, AllocError>
+        ensures value { IfOk result (λ r. view.statement_of r ≡ (spec.basic (levels_of scope.now) None (ReturnValueS place (tree.expression_of value.now)) (known_of self.old)).0) }
+        ensures known { OnOk result (known_of self.new ≡ (spec.basic (levels_of scope.now) None (ReturnValueS place (tree.expression_of value.now)) (known_of self.old)).1) }
+    {
+        Ok(Statement::ReturnValue(place, self.expression(value, scope)?))
+    }
+
+    #[cycle(statement)]
+    fn boxed_statement(
+        &mut self,
+        statement: &plm_syntax::Statement<'_>,
+        scope: &Scope<'_>,
+    ) -> Result<Box<Statement>, AllocError>
+        ensures value { IfOk result (λ r. view.statement_of r.value ≡ (spec.statement (levels_of scope.now) (statement_of statement.now) (known_of self.old)).0) }
+        ensures known { OnOk result (known_of self.new ≡ (spec.statement (levels_of scope.now) (statement_of statement.now) (known_of self.old)).1) }
+    {
+        let statement = self.statement(statement, scope)?;
+        Ok(Box::new(self.alloc, statement)?)
+    }
+
+    /// What stands behind IF, where there is no ELSE.
+    #[cycle(statement)]
+    fn conditional(
+        &mut self,
+        body: &plm_syntax::Statement<'_>,
+        test: &plm_syntax::Expression<'_>,
+        place: Place,
+        scope: &Scope<'_>,
+    ) -> Result<Statement, AllocError>
+        ensures value { IfOk result (λ r. view.statement_of r ≡ (spec.basic (levels_of scope.now) None (IfS place (tree.expression_of test.now) (statement_of body.now)) (known_of self.old)).0) }
+        ensures known { OnOk result (known_of self.new ≡ (spec.basic (levels_of scope.now) None (IfS place (tree.expression_of test.now) (statement_of body.now)) (known_of self.old)).1) }
+    {
+        let test = self.expression(test, scope)?;
+        Ok(Statement::If(place, test, self.boxed_statement(body, scope)?))
+    }
+
+    /// What stands behind ELSE, where this test and this statement stand before it.
+    #[cycle(statement)]
+    fn alternative(
+        &mut self,
+        other: &plm_syntax::Statement<'_>,
+        test: Expression,
+        body: Box<Statement>,
+        place: Place,
+        scope: &Scope<'_>,
+    ) -> Result<Statement, AllocError>
+        ensures value { IfOk result (λ r. view.statement_of r ≡ resolved.IfElseR place (view.expression_of test) (view.statement_of body.value) (spec.statement (levels_of scope.now) (statement_of other.now) (known_of self.old)).0) }
+        ensures known { OnOk result (known_of self.new ≡ (spec.statement (levels_of scope.now) (statement_of other.now) (known_of self.old)).1) }
+    {
+        let other = self.boxed_statement(other, scope)?;
+        Ok(Statement::IfElse(place, test, body, other))
+    }
+
+    /// A `DO;` block.
+    #[cycle(statement)]
+    fn do_block(
+        &mut self,
+        block: &Block<'_>,
+        place: Place,
         scope: &Scope<'_>,
         labels: &[Name<'_>],
     ) -> Result<Statement, AllocError>
-        ensures value { IfOk result (λ r. view.statement_of r ≡ (spec.basic (levels_of scope.now) (spec.last_name (names_of labels.now)) (basic_of basic.now) (known_of self.old)).0) }
-        ensures known { OnOk result (known_of self.new ≡ (spec.basic (levels_of scope.now) (spec.last_name (names_of labels.now)) (basic_of basic.now) (known_of self.old)).1) }
+        ensures value { IfOk result (λ r. view.statement_of r ≡ (spec.basic (levels_of scope.now) (spec.last_name (names_of labels.now)) (DoS place (block_of block.now) None) (known_of self.old)).0) }
+        ensures known { OnOk result (known_of self.new ≡ (spec.basic (levels_of scope.now) (spec.last_name (names_of labels.now)) (DoS place (block_of block.now) None) (known_of self.old)).1) }
+    {
+        let path = self.do_path(scope, labels)?;
+        let mut inside = Scope::inside(self.alloc, scope, path, scope.is_external());
+        Ok(Statement::Do(place, Resolver::block(block, self, &mut inside)?))
+    }
+
+    /// A DO WHILE block.
+    #[cycle(statement)]
+    #[tactic(auto, using(crate::proofs::ResolvedRows::statement_row))]
+    fn repetition(
+        &mut self,
+        body: &[plm_syntax::Statement<'_>],
+        test: &plm_syntax::Expression<'_>,
+        place: Place,
+        scope: &Scope<'_>,
+    ) -> Result<Statement, AllocError>
+        ensures value { IfOk result (λ r. view.statement_of r ≡ (spec.basic (levels_of scope.now) None (WhileS place (tree.expression_of test.now) (statements_of body.now) None) (known_of self.old)).0) }
+        ensures known { OnOk result (known_of self.new ≡ (spec.basic (levels_of scope.now) None (WhileS place (tree.expression_of test.now) (statements_of body.now) None) (known_of self.old)).1) }
+    {
+        let test = self.expression(test, scope)?;
+        Ok(Statement::While(place, test, self.statements(body, scope)?))
+    }
+
+    /// A DO CASE block.
+    #[cycle(statement)]
+    #[tactic(auto, using(crate::proofs::ResolvedRows::statement_row))]
+    fn selection(
+        &mut self,
+        cases: &[plm_syntax::Statement<'_>],
+        selector: &plm_syntax::Expression<'_>,
+        place: Place,
+        scope: &Scope<'_>,
+    ) -> Result<Statement, AllocError>
+        ensures value { IfOk result (λ r. view.statement_of r ≡ (spec.basic (levels_of scope.now) None (CaseS place (tree.expression_of selector.now) (statements_of cases.now) None) (known_of self.old)).0) }
+        ensures known { OnOk result (known_of self.new ≡ (spec.basic (levels_of scope.now) None (CaseS place (tree.expression_of selector.now) (statements_of cases.now) None) (known_of self.old)).1) }
+    {
+        let selector = self.expression(selector, scope)?;
+        Ok(Statement::Case(place, selector, self.statements(cases, scope)?))
+    }
+
+    /// An iterative DO block.
+    #[cycle(statement)]
+    fn iteration(
+        &mut self,
+        body: &[plm_syntax::Statement<'_>],
+        bounds: Bounds,
+        place: Place,
+        index: Place,
+        scope: &Scope<'_>,
+    ) -> Result<Statement, AllocError>
+        ensures value { IfOk result (λ r. view.statement_of r ≡ iterated place index (bounds_of bounds) (spec.statements (levels_of scope.now) (statements_of body.now) (known_of self.old)).0) }
+        ensures known { OnOk result (known_of self.new ≡ (spec.statements (levels_of scope.now) (statements_of body.now) (known_of self.old)).1) }
+    {
+        let body = self.statements(body, scope)?;
+        let Bounds {
+            meaning,
+            from,
+            to,
+            step,
+        } = bounds;
+        Ok(Statement::Iterate(place, index, meaning, from, to, step, body))
+    }
+
+    // The tree stands before the resolver, where a check finds its parts at once.
+    #[cycle(statement)]
+    fn basic(
+        basic: &Basic<'_>,
+        resolver: &mut Resolver,
+        scope: &Scope<'_>,
+        labels: &[Name<'_>],
+    ) -> Result<Statement, AllocError>
+        ensures value { IfOk result (λ r. view.statement_of r ≡ (spec.basic (levels_of scope.now) (spec.last_name (names_of labels.now)) (basic_of basic.now) (known_of resolver.old)).0) }
+        ensures known { OnOk result (known_of resolver.new ≡ (spec.basic (levels_of scope.now) (spec.last_name (names_of labels.now)) (basic_of basic.now) (known_of resolver.old)).1) }
     {
         match basic {
             Basic::Empty(place) => Ok(Statement::Empty(*place)),
-            Basic::Assign(targets, value) => {
-                let targets = self.references(scope, targets)?;
-                Ok(Statement::Assign(targets, self.expression(value, scope)?))
-            }
-            Basic::Call(place, procedure) => Ok(Statement::Call(
-                *place,
-                self.reference(procedure, scope)?,
-            )),
+            Basic::Assign(targets, value) => resolver.assignment(targets, value, scope),
+            Basic::Call(place, procedure) => resolver.call(procedure, *place, scope),
             Basic::Return(place) => Ok(Statement::Return(*place)),
-            Basic::ReturnValue(place, value) => Ok(Statement::ReturnValue(
-                *place,
-                self.expression(value, scope)?,
-            )),
+            Basic::ReturnValue(place, value) => resolver.return_value(value, *place, scope),
             Basic::Enable(place) => Ok(Statement::Enable(*place)),
             Basic::Disable(place) => Ok(Statement::Disable(*place)),
             Basic::Halt(place) => Ok(Statement::Halt(*place)),
-            Basic::If(place, test, then) => {
-                let test = self.expression(test, scope)?;
-                let then = self.statement(then, scope)?;
-                Ok(Statement::If(*place, test, Box::new(self.alloc, then)?))
-            }
+            Basic::If(place, test, then) => resolver.conditional(then, test, *place, scope),
             Basic::IfElse(place, test, then, other) => {
-                let test = self.expression(test, scope)?;
-                let then = self.statement(then, scope)?;
-                let other = self.statement(other, scope)?;
-                Ok(Statement::IfElse(
-                    *place,
-                    test,
-                    Box::new(self.alloc, then)?,
-                    Box::new(self.alloc, other)?,
-                ))
+                let test = resolver.expression(test, scope)?;
+                let then = resolver.boxed_statement(then, scope)?;
+                resolver.alternative(other, test, then, *place, scope)
             }
-            Basic::Do(place, block, _) => {
-                let path = self.do_path(scope, labels)?;
-                let mut inside = Scope::inside(self.alloc, scope, path, scope.is_external());
-                Ok(Statement::Do(*place, self.block(block, &mut inside)?))
-            }
-            Basic::While(place, test, body, _) => {
-                let test = self.expression(test, scope)?;
-                Ok(Statement::While(*place, test, self.statements(body, scope)?))
-            }
-            Basic::Case(place, selector, body, _) => {
-                let selector = self.expression(selector, scope)?;
-                Ok(Statement::Case(*place, selector, self.statements(body, scope)?))
-            }
+            Basic::Do(place, block, _) => resolver.do_block(block, *place, scope, labels),
+            Basic::While(place, test, body, _) => resolver.repetition(body, test, *place, scope),
+            Basic::Case(place, selector, cases, _) => resolver.selection(
+                cases, selector, *place, scope,
+            ),
             Basic::Iterate(place, index, from, to, by, body, _) => {
-                let meaning = self.used(scope, index)?;
-                let from = self.expression(from, scope)?;
-                let to = self.expression(to, scope)?;
-                let by = self.step(scope, by)?;
-                Ok(Statement::Iterate(
-                    *place,
-                    index.place,
-                    meaning,
-                    from,
-                    to,
-                    by,
-                    self.statements(body, scope)?,
-                ))
+                let bounds = resolver.bounds(index, from, to, by, scope)?;
+                resolver.iteration(body, bounds, *place, index.place, scope)
             }
         }
+    }
+
+    /// The items of a block.
+    #[cycle(statement)]
+    fn items(&mut self, items: &[SyntaxItem<'_>], scope: &mut Scope<'_>) -> Result<(), AllocError>
+        ensures names { OnOk result (levels_of scope.new ≡ (spec.with_items (levels_of scope.old) (items_of items.now) (known_of self.old)).0) }
+        ensures known { OnOk result (known_of self.new ≡ (spec.with_items (levels_of scope.old) (items_of items.now) (known_of self.old)).1) }
+    {
+        for item in items {
+            self.item(item, scope)?;
+        }
+        Ok(())
     }
 
     /// A block, whose own names are all to come.
     #[cycle(statement)]
     pub fn block(
-        &mut self,
         block: &Block<'_>,
+        resolver: &mut Resolver,
         scope: &mut Scope<'_>,
     ) -> Result<Vec<Statement>, AllocError>
-        ensures value { IfOk result (λ r. view.statements_of r.items ≡ (spec.block (levels_of scope.old) (block_of block.now) (known_of self.old)).0) }
-        ensures names { OnOk result (levels_of scope.new ≡ (spec.block (levels_of scope.old) (block_of block.now) (known_of self.old)).1) }
-        ensures known { OnOk result (known_of self.new ≡ (spec.block (levels_of scope.old) (block_of block.now) (known_of self.old)).2) }
+        ensures value { IfOk result (λ r. view.statements_of r.items ≡ (spec.block (levels_of scope.old) (block_of block.now) (known_of resolver.old)).0) }
+        ensures names { OnOk result (levels_of scope.new ≡ (spec.block (levels_of scope.old) (block_of block.now) (known_of resolver.old)).1) }
+        ensures known { OnOk result (known_of resolver.new ≡ (spec.block (levels_of scope.old) (block_of block.now) (known_of resolver.old)).2) }
     {
-        for item in &block.items {
-            self.item(item, scope)?;
-        }
-        let statements = self.statements(&block.statements, scope)?;
+        let Block { items, statements } = block;
+        resolver.items(items, scope)?;
+        let statements = resolver.statements(statements, scope)?;
         Ok(statements)
     }
 
@@ -279,36 +449,63 @@ impl Resolver {
         })
     }
 
+    /// The path of a name that stands in a block.
+    fn path_of(&self, scope: &Scope<'_>, name: &Name<'_>) -> Result<Vec<u8>, AllocError>
+        ensures { IfOk result (λ p. p.items ≡ name_behind (path_in (levels_of scope.now)) (normal (name_of name.now).text)) }
+    {
+        let key = normal(self.alloc, name.text)?;
+        name_path(self.alloc, scope.path(), &key)
+    }
+
+    /// Keeps a procedure, whose parameters and body are to come, and answers its number.
+    fn put_procedure(
+        procedure: &SyntaxProcedure<'_>,
+        resolver: &mut Resolver,
+        path: Vec<u8>,
+    ) -> Result<usize, AllocError>
+        ensures number { IfOk result (λ n. n ≡ length (known_of resolver.old).procedures) }
+        ensures known { OnOk result (known_of resolver.new ≡ spec.with_header (header_for path.items procedure.now (known_of resolver.old)) (known_of resolver.old)) }
+    {
+        let SyntaxProcedure {
+            name,
+            returned,
+            interrupt,
+            linkage,
+            ..
+        } = procedure;
+        let number = resolver.procedures.len();
+        let interrupt = interrupt_number(*interrupt);
+        resolver.note_handler(name.place, *linkage, interrupt)?;
+        resolver.procedures.push(Procedure {
+            path,
+            module: resolver.module,
+            place: name.place,
+            parameters: Vec::new(resolver.alloc),
+            returned: returned_type(*returned),
+            interrupt,
+            linkage: *linkage,
+            stray: first_stray(procedure),
+            entry: number,
+            body: Vec::new(resolver.alloc),
+        })?;
+        Ok(number)
+    }
+
     /// Declares a procedure, whose parameters and body are to come, and answers its number.
     fn header(
         &mut self,
         scope: &mut Scope<'_>,
         procedure: &SyntaxProcedure<'_>,
-        path: Vec<u8>,
     ) -> Result<usize, AllocError>
         ensures number { IfOk result (λ n. n ≡ length (known_of self.old).procedures) }
-        ensures names { OnOk result (levels_of scope.new ≡ (spec.declared_procedure (levels_of scope.old) (name_for procedure.now) (header_for path.items procedure.now (known_of self.old)) (known_of self.old)).0) }
-        ensures known { OnOk result (known_of self.new ≡ (spec.declared_procedure (levels_of scope.old) (name_for procedure.now) (header_for path.items procedure.now (known_of self.old)) (known_of self.old)).1) }
+        ensures names { OnOk result (levels_of scope.new ≡ (procedure_declared (levels_of scope.old) procedure.now (known_of self.old)).0) }
+        ensures known { OnOk result (known_of self.new ≡ (procedure_declared (levels_of scope.old) procedure.now (known_of self.old)).1) }
     {
         let SyntaxProcedure { name, linkage, .. } = procedure;
-        let number = self.procedures.len();
-        let interrupt = interrupt_number(procedure.interrupt);
-        self.note_handler(name.place, *linkage, interrupt)?;
-        self.procedures.push(Procedure {
-            path,
-            module: self.module,
-            place: name.place,
-            parameters: Vec::new(self.alloc),
-            returned: returned_type(procedure.returned),
-            interrupt,
-            linkage: *linkage,
-            stray: first_stray(procedure),
-            entry: number,
-            body: Vec::new(self.alloc),
-        })?;
+        let path = self.path_of(scope, name)?;
+        let number = Resolver::put_procedure(procedure, self, path)?;
         let key = normal(self.alloc, name.text)?;
-        self.link(scope, *linkage, &key, Item::Procedure(number))?;
-        self.declare(scope, name, Item::Procedure(number))?;
+        self.enter(scope, name.place, key, *linkage, Item::Procedure(number))?;
         Ok(number)
     }
 
@@ -364,6 +561,21 @@ impl Resolver {
         }
     }
 
+    /// Gives a procedure its parameters, which its block has declared, and its body.
+    fn finish(
+        &mut self,
+        number: usize,
+        inside: &Scope<'_>,
+        names: &[Name<'_>],
+        body: Vec<Statement>,
+    ) -> Result<(), AllocError>
+        ensures { OnOk result (known_of self.new ≡ finished number (levels_of inside.now) (map name_of names.now) (view.statements_of body.items) (known_of self.old)) }
+    {
+        let parameters = self.parameters(inside, names)?;
+        self.complete(number, parameters, body);
+        Ok(())
+    }
+
     #[cycle(statement)]
     fn procedure(
         &mut self,
@@ -373,15 +585,19 @@ impl Resolver {
         ensures names { OnOk result (levels_of scope.new ≡ (spec.with_item (levels_of scope.old) (procedure_of procedure.now) (known_of self.old)).0) }
         ensures known { OnOk result (known_of self.new ≡ (spec.with_item (levels_of scope.old) (procedure_of procedure.now) (known_of self.old)).1) }
     {
-        let is_external = takes_no_room(procedure.linkage, scope);
-        let key = normal(self.alloc, procedure.name.text)?;
-        let path = name_path(self.alloc, scope.path(), &key)?;
-        let inner = name_path(self.alloc, scope.path(), &key)?;
-        let number = self.header(scope, procedure, path)?;
-        let mut inside = Scope::inside(self.alloc, scope, inner, is_external);
-        let body = self.block(&procedure.block, &mut inside)?;
-        let parameters = self.parameters(&inside, &procedure.parameters)?;
-        self.complete(number, parameters, body);
+        let SyntaxProcedure {
+            name,
+            parameters,
+            linkage,
+            block,
+            ..
+        } = procedure;
+        let is_external = takes_no_room(*linkage, scope);
+        let path = self.path_of(scope, name)?;
+        let number = self.header(scope, procedure)?;
+        let mut inside = Scope::inside(self.alloc, scope, path, is_external);
+        let body = Resolver::block(block, self, &mut inside)?;
+        self.finish(number, &inside, parameters, body)?;
         Ok(())
     }
 }

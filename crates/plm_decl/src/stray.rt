@@ -107,14 +107,22 @@ fn place_of(statement: &Statement<'_>) -> Option<Place>
     }
 }
 
+/// Where the first statement begins behind its labels.
+fn first_place(statements: &[Statement<'_>]) -> Option<Place>
+    ensures { result ≡ spec.first_statement (map statement_of statements.now) }
+{
+    place_of(statements.first()?)
+}
+
 /// What stands first in a block besides the declarations of these parameters.
 #[tactic(auto, using(crate::proofs::TreeViews::stray_in_parts))]
 fn stray_in(block: &Block<'_>, parameters: &[Name<'_>]) -> Option<Place>
     ensures { result ≡ spec.stray_in (map name_of parameters.now) (block_of block.now) }
 {
-    match stray_items(&block.items, parameters) {
+    let Block { items, statements } = block;
+    match stray_items(items, parameters) {
         Some(place) => Some(place),
-        None => place_of(block.statements.first()?),
+        None => first_place(statements),
     }
 }
 

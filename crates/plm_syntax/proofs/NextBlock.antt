@@ -8,18 +8,19 @@ use Rattle.plm_syntax.specs.Terminal.{NameT, Terminal, Name, Number, Text, Key, 
 use Rattle.plm_syntax.specs.Tree.{no_expressions, no_member, no_names, names, no_elements, public_linkage, external_linkage, no_references, EmptyS, EnableS, DisableS, HaltS, no_statements, BlockT, BlockOf, ItemsT, no_items, ModuleT}
 use Rattle.plm_syntax.specs.WellFormed.{is_end_name}
 use Rattle.plm_syntax.specs.Symbol.{Value, Symbol, depth, Rule, behind, otherwise, before, need, push, ReferencesR, NamesR, StatementsR, ItemsR, EndR, ElementsR, ModuleR, SubscriptsG, SelectorG, StatementG, LeadG, TargetG, MoreTargetsG, CalledG, ReturnedG, ArmG, OtherwiseG, DoG, StepG, StatementsG, EndG, ItemsG, ItemLeadG, ItemColonG, ParametersG, ParameterG, MoreParametersG, ReturnedTypeG, InterruptG, InterruptNumberG, LinkageG, ElementG, MoreElementsG, Need, Want, Do, Leave, Refused, Over, Take, Keep}
-use Rattle.plm_syntax.specs.Machine.{an_expression, subscripts_rule, selector_rule, make_simple, add_label, add_target, make_assign, make_call, make_return, join_arms, make_if, make_do, make_while, make_case, set_step, statement_rule, more_targets, assignment_rule, target, called, no_labels, no_statement_yet, arm, do_rule, end_rule, and_more, make_declare, set_returned, set_linkage, make_module, scalar_of, interrupt_number, items_rule, module_rule, start_rule, Move, feed, Trace, trace, Stop, Reading, run, start, Ended, Wrong, Then, Deep}
+use Rattle.plm_syntax.specs.Machine.{an_expression, subscripts_rule, selector_rule, make_simple, add_label, add_target, make_assign, make_call, make_return, join_arms, make_if, make_do, make_while, make_case, set_step, statement_rule, more_targets, assignment_rule, target, called, no_labels, no_statement_yet, arm, do_rule, end_rule, and_more, make_declare, set_returned, set_linkage, make_module, scalar_of, interrupt_number, items_rule, module_rule, start_rule, Move, feed, Trace, trace, Stop, Reading, run, start, Ended, Wrong, Then, Deep, Refusal}
 use Rattle.plm_syntax.specs.declared.cursor.Cursor.{Cursor}
 use Rattle.plm_syntax.specs.declared.failure.Failure.{Failure}
 use Rattle.plm_syntax.specs.declared.tree.Item.{Item}
 use Rattle.plm_syntax.specs.declared.tree.Module.{Module}
+use Rattle.plm_syntax.specs.View.{module_of}
 use Rattle.plm_token.specs.declared.token.Kind.{Kind}
 use Rattle.plm_token.specs.declared.token.Kind.TheVariants.{Reserved, Identifier, Numeral, String, Special}
 use Rattle.plm_syntax.specs.Answers.{terminal_of}
 use Rattle.plm_token.specs.declared.token.Token.{Token}
 use Rattle.std.specs.Prelude.{◌&&◌, IsErrAnd}
 use Rattle.std.proofs.lemmas.Bool.{ltb-true, ltb-false, true≢false, false≢true}
-use Rattle.plm_syntax.specs.Parsed.{ahead, next_of, first_of, stream, place_at, is_name, is_number, Takes, Fails}
+use Rattle.plm_syntax.specs.Parsed.{ahead, next_of, first_of, stream, place_at, is_name, is_number, Takes, Finishes, Fails}
 use Rattle.plm_syntax.specs.Blocks.{items_part, statements_part, LeadsItem, WithinItem, Parses, begins, begins_second, is_label, is_heading, begins_statement, Labels}
 use Rattle.plm_syntax.specs.declared.tree.Name.{Name as NameTree}
 use Rattle.plm_syntax.proofs.Steps.{go, trace_step, same_trace, ruled, feed_want, IsDecided, ruled_behind, ruled_otherwise}
@@ -27,7 +28,7 @@ use Rattle.plm_syntax.proofs.DriveExpression.{Some_leaf, some_leaf, pushed, a_re
 use Rattle.plm_syntax.proofs.DriveDeclaration.{acted}
 use Rattle.plm_syntax.proofs.StatementSteps.{marked, arm_is, statements_is}
 use Rattle.plm_syntax.proofs.DriveBlock.{returned_is, item_label, item_plain, begun, assignment_begun}
-use Rattle.plm_syntax.proofs.Along.{at_front, as_run, passed_over, judged, run_judged, bounded, gone}
+use Rattle.plm_syntax.proofs.Along.{at_front, as_run, passed_over, judged, run_judged, bounded, gone, refusal}
 use Rattle.plm_syntax.proofs.NextDeclaration.{at_token, prefixed}
 
 -- ---- the next tokens
@@ -418,6 +419,11 @@ more_text c rest k text p h = ap is_finish (next_is c rest (terminal_of k text p
 
 abbrev pub finished : ModuleT → Result Reading Stop
 finished m = Ok (record { awaited = []; read = ModuleR m ∷ [] })
+
+pub finishes : (m : Module) (c rest : Cursor) (r : Result Module Failure) → Finishes m rest r
+    → (is_finish (next_of rest) ≡ false → run 64 start [] (ahead c) ≡ Err (Refusal (length rest.tokens.now))) → (rest.tokens.now ≡ [] → run 64 start [] (ahead c) ≡ finished (module_of m)) → Parses c r
+finishes m c rest (Ok x) h stop go = go h.1 ∙ ap (λ (y : Module). finished (module_of y)) (sym h.0)
+finishes m c rest (Err f) h stop go = refusal f rest h.1 (stop h.0)
 
 -- ---- an item, where there is one
 

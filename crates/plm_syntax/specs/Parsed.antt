@@ -13,7 +13,7 @@ use Rattle.plm_syntax.specs.declared.cursor.Cursor.{Cursor}
 use Rattle.plm_syntax.specs.declared.failure.Failure.{Failure}
 use Rattle.plm_syntax.specs.declared.failure.Failure.TheVariants as failure
 use Rattle.std.specs.Global.{Box}
-use Rattle.plm_syntax.specs.Terminal.{Terminal, Name, Number, Text, Key, Sign, Finish, Leaf, leaf, leaf_at, key_number, sign_number, is_key, is_sign}
+use Rattle.plm_syntax.specs.Terminal.{Terminal, Name, Number, Text, Key, Sign, Finish, Leaf, leaf, leaf_at, key_number, sign_number, is_key, is_sign, is_finish}
 use Rattle.plm_syntax.specs.View.{name_of, number_of, text_of}
 use Rattle.plm_syntax.specs.Answers.{terminal_of}
 use Rattle.plm_syntax.specs.Symbol.{Value, Symbol, depth}
@@ -137,6 +137,11 @@ Closes m (Err e) r = r ≡ Err e
 abbrev pub ClosesWord : {A : Type 0} → Keyword → A → Cursor → Result (A × Cursor) Failure → Type 0
 ClosesWord k a c (Ok y) = (y.0 ≡ a) × PassesKeyword k c (Ok y.1)
 ClosesWord k a c (Err f) = PassesKeyword k c (Err f)
+
+-- a value, where no token is left
+abbrev pub Finishes : {A : Type 0} → A → Cursor → Result A Failure → Type 0
+Finishes a c (Ok b) = (b ≡ a) × (c.tokens.now ≡ [])
+Finishes a c (Err f) = (is_finish (next_of c) ≡ false) × Refuses c f
 
 -- what was read, in a box
 abbrev pub IsBoxed : {A : Type 0} → Result (A × Cursor) Failure → Result (Box A × Cursor) Failure → Type 0

@@ -140,12 +140,10 @@ fn dimension<'t, 'a>(cursor: Cursor<'t, 'a>) -> Result<(Dimension, Cursor<'t, 'a
         return Ok((Dimension::None, cursor));
     };
     if let Some((_, behind)) = inner.mark(Mark::Star) {
-        let rest = behind.expect_mark(Mark::RightParenthesis)?;
-        return Ok((Dimension::Implicit, rest));
+        return behind.close(Dimension::Implicit, Mark::RightParenthesis);
     }
     let (number, behind) = inner.expect_number()?;
-    let rest = behind.expect_mark(Mark::RightParenthesis)?;
-    Ok((Dimension::Number(number), rest))
+    behind.close(Dimension::Number(number), Mark::RightParenthesis)
 }
 
 /// A scalar type where one comes next, and what is left behind it.
@@ -265,8 +263,7 @@ fn count<'t, 'a>(cursor: Cursor<'t, 'a>) -> Result<(Option<Number>, Cursor<'t, '
         return Ok((None, cursor));
     };
     let (number, behind) = inner.expect_number()?;
-    let rest = behind.expect_mark(Mark::RightParenthesis)?;
-    Ok((Some(number), rest))
+    behind.close(Some(number), Mark::RightParenthesis)
 }
 
 /// An element's attributes.
@@ -323,15 +320,13 @@ fn at<'t, 'a>(
     };
     let inner = after.expect_mark(Mark::LeftParenthesis)?;
     if let Some((number, behind)) = inner.numeral() {
-        let rest = behind.expect_mark(Mark::RightParenthesis)?;
-        return Ok((At::Number(number), rest));
+        return behind.close(At::Number(number), Mark::RightParenthesis);
     }
     let Some((place, form, start)) = form_at(inner) else {
         return Err(inner.refuse());
     };
     let (location, behind) = location(alloc, room, place, form, start)?;
-    let rest = behind.expect_mark(Mark::RightParenthesis)?;
-    Ok((At::Location(location), rest))
+    behind.close(At::Location(location), Mark::RightParenthesis)
 }
 
 /// What fills an element.

@@ -63,11 +63,11 @@ fn more<'t, 'a>(
     ensures leads { Leads read_expression (λ s. Want (MoreG (level_view level)) ∷ s) (read_expression first.entry) result cursor.entry room }
     ensures within { Within result cursor.entry }
 {
-    let (others, rest) = operations(alloc, room, level, cursor)?;
+    let ((left, others), rest) = beside(first, operations(alloc, room, level, cursor))?;
     if others.is_empty() {
-        return Ok((first, rest));
+        return Ok((left, rest));
     }
-    let first = Box::new(alloc, first)?;
+    let first = Box::new(alloc, left)?;
     Ok((Expression::Chain { first, others }, rest))
 }
 

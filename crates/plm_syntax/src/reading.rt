@@ -3,7 +3,7 @@
 ghost use Rattle.std.specs.Prelude.{◌≡◌, length, Ok};
 ghost use Rattle.plm_syntax.specs.declared.failure.Failure.TheVariants.{Refused};
 ghost use Rattle.plm_syntax.specs.Terminal.{key_number};
-ghost use Rattle.plm_syntax.specs.Parsed.{has_mark, has_keyword, IsNext, IsMark, IsKeyword, IsName, IsNumber, IsText, PassesMark, PassesKeyword, PassesName, PassesNumber, Closes, ClosesWord, IsDown};
+ghost use Rattle.plm_syntax.specs.Parsed.{has_mark, has_keyword, IsNext, IsMark, IsKeyword, IsName, IsNumber, IsText, PassesMark, PassesKeyword, PassesName, PassesNumber, Closes, ClosesWord, Finishes, IsDown};
 
 use crate::cursor::Cursor;
 use crate::failure::Failure;
@@ -189,6 +189,16 @@ impl<'t, 'a> Cursor<'t, 'a> {
         match self.numeral() {
             Some(found) => Ok(found),
             None => Err(self.refuse()),
+        }
+    }
+
+    /// A value, where no token is left.
+    pub fn finish<T: Drop>(self, value: T) -> Result<T, Failure>
+        ensures { Finishes value self.entry result }
+    {
+        match self.next() {
+            None => Ok(value),
+            Some(_) => Err(self.refuse()),
         }
     }
 

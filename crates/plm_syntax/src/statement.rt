@@ -40,10 +40,7 @@ pub(crate) fn module<'a>(alloc: Global, cursor: Cursor<'_, 'a>) -> Result<Module
     let start = heading.expect_keyword(Keyword::Do)?;
     let inner = start.expect_mark(Mark::Semicolon)?;
     let ((block, end), rest) = block(alloc, INNER_LEVELS, Some(name), inner)?;
-    match rest.next() {
-        None => Ok(Module { name, block, end }),
-        Some(_) => Err(rest.refuse()),
-    }
+    rest.finish(Module { name, block, end })
 }
 
 /// A block, and the name behind its END.
@@ -336,9 +333,9 @@ fn assignment<'t, 'a>(
     let (first, mut rest) = reference(alloc, room, name, cursor)?;
     let mut last = first;
     while let Some((_, after)) = rest.mark(Mark::Comma) {
+        targets.push(last)?;
         let (name, begun) = after.expect_name()?;
         let (next, behind) = reference(alloc, room, name, begun)?;
-        targets.push(last)?;
         last = next;
         rest = behind;
     }

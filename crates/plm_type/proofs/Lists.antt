@@ -133,6 +133,10 @@ assigned [] e first others h f r = absurd (h refl)
 assigned (t ∷ ts) e first others h f r =
     (λ j. rest.Assign (view.targets_of (view.target_of (f j)) (r j)) e) ∙ ap (λ (x : rest.Targets). rest.Assign x e) (targets_are t ts)
 
+pub mapped_more : {A B : Type 0} → (f : A → B) (xs : List A) (x : A) (others : List B) → map f (xs ++ x ∷ []) ++ others ≡ map f xs ++ f x ∷ others
+mapped_more f [] x others = refl
+mapped_more f (y ∷ ys) x others = ap (λ l. f y ∷ l) (mapped_more f ys x others)
+
 pub targets_pushed : (ts : List Target) (t : Target) (others : List rest.Target) → map view.target_of (ts ++ t ∷ []) ++ others ≡ map view.target_of ts ++ view.target_of t ∷ others
 targets_pushed [] t others = refl
 targets_pushed (u ∷ us) t others = ap (λ (l : List rest.Target). view.target_of u ∷ l) (targets_pushed us t others)

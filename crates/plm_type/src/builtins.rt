@@ -2,6 +2,7 @@
 
 ghost use Rattle.std.specs.Prelude.{◌≡◌, ◌∷◌, [], IfOk, option_map};
 ghost use Rattle.plm_decl.specs.ResolvedView.{selector_of};
+ghost use Rattle.plm_type.specs.Rest.{Unary};
 ghost use Rattle.plm_type.specs.Types as scalars;
 ghost use Rattle.plm_type.specs.Typing as typing;
 ghost use Rattle.plm_type.specs.Trees as spec;
@@ -132,6 +133,19 @@ fn only(mut trees: Vec<Expression>) -> Option<Expression>
     if trees.len() == 1 { trees.pop() } else { None }
 }
 
+/// A unary operator with its operand, which has this width.
+pub fn applied(
+    alloc: Global,
+    operation: UnaryOperation,
+    width: Width,
+    operand: Expression,
+) -> Result<Expression, AllocError>
+    ensures { IfOk result (λ r. view.expression_of r ≡ Unary operation width (view.expression_of operand)) }
+{
+    let operand = Box::new(alloc, operand)?;
+    Ok(Expression::Unary(operation, width, operand))
+}
+
 fn operated(
     alloc: Global,
     operation: UnaryOperation,
@@ -141,7 +155,7 @@ fn operated(
     ensures { IfOk result (λ r. view.expression_of r ≡ spec.operated operation width (view.expressions_of trees.items)) }
 {
     match only(trees) {
-        Some(tree) => Ok(Expression::Unary(operation, width, Box::new(alloc, tree)?)),
+        Some(tree) => applied(alloc, operation, width, tree),
         None => Ok(Expression::Constant(0)),
     }
 }

@@ -13,7 +13,7 @@ ghost use Rattle.plm_type.specs.Trees as spec;
 ghost use Rattle.plm_type.specs.Chains as chains;
 ghost use Rattle.plm_type.specs.View as view;
 
-use crate::builtins::{constant, is_measure, is_plain, is_target, operation, text_value};
+use crate::builtins::{applied, constant, is_measure, is_plain, is_target, operation, text_value};
 use crate::program::{Anchor, Expression, Operation, Reference, Target};
 use crate::references::{Parts, TypedTarget, location_type};
 use crate::typer::{Typed, TypedList, Typer};
@@ -24,7 +24,7 @@ use crate::types::{
 use plm_decl::found::Found;
 use plm_decl::{Builtin, Location, Meaning, Selector};
 use plm_syntax::{BinaryOperator, LocationForm, Place, UnaryOperator};
-use std::alloc::AllocError;
+use std::alloc::{AllocError, Global};
 use word86::{Number, Width};
 
 /// Where an expression begins.
@@ -55,6 +55,15 @@ fn nothing() -> Typed
         tree: Expression::Constant(0),
         scalar: None,
     }
+}
+
+/// A value that a target takes on the way.
+fn assigned(alloc: Global, target: Target, value: Expression) -> Result<Expression, AllocError>
+    ensures { IfOk result (λ r. view.expression_of r ≡ Embedded (view.target_of target) (view.expression_of value)) }
+{
+    let target = Box::new(alloc, target)?;
+    let value = Box::new(alloc, value)?;
+    Ok(Expression::Embedded(target, value))
 }
 
 impl Typer<'_> {
@@ -106,17 +115,13 @@ impl Typer<'_> {
     {
         let is_taken = takes(target.scalar, value.scalar);
         self.note_unless(is_taken, Number::E401, place, faults)?;
-        let scalar = if target.scalar.is_some() && is_taken {
-            value.scalar
-        } else {
-            None
+        let has_value = target.scalar.is_some() && is_taken;
+        let tree = assigned(self.alloc, target.tree, value.tree)?;
+        let typed = Typed {
+            tree,
+            scalar: value.scalar,
         };
-        let target = Box::new(self.alloc, target.tree)?;
-        let value = Box::new(self.alloc, value.tree)?;
-        Ok(Typed {
-            tree: Expression::Embedded(target, value),
-            scalar,
-        })
+        Ok(typed.given_if(has_value))
     }
 
     fn unary(
@@ -131,12 +136,11 @@ impl Typer<'_> {
         ensures faults { OnOk result (faults.new.items ≡ faults.old.items ++ found.fault_unless self.now.module (scalars.may_be_number operand.scalar) E401 place) }
     {
         self.note_unless(may_be_number(operand.scalar), Number::E401, place, faults)?;
-        let scalar = unary_type(operand.scalar);
+        let operation = unary_operation(operator);
         let width = width_of(operand.scalar);
-        let operand = Box::new(self.alloc, operand.tree)?;
         Ok(Typed {
-            tree: Expression::Unary(unary_operation(operator), width, operand),
-            scalar,
+            tree: applied(self.alloc, operation, width, operand.tree)?,
+            scalar: unary_type(operand.scalar),
         })
     }
 

@@ -1,6 +1,6 @@
 //! Statements: the faults of their types, and what they do with names as places.
 
-ghost use Rattle.std.specs.Prelude.{◌≡◌, ◌++◌, IfOk, OnOk, map, option_map};
+ghost use Rattle.std.specs.Prelude.{◌≡◌, ◌∷◌, [], ◌++◌, IfOk, OnOk, map, option_map};
 ghost use Rattle.word86.specs.declared.number.Number.TheVariants.{E401};
 ghost use Rattle.plm_decl.specs.ResolvedView as resolved;
 ghost use Rattle.plm_type.specs.Typers.{variables, procedures, sizes};
@@ -13,7 +13,7 @@ ghost use Rattle.plm_type.specs.View as view;
 use crate::applications::entry_of;
 use crate::expressions::first_place;
 use crate::program::{Expression, Loop, Place as StoragePlace, Scalar, Statement, Target};
-use crate::references::may_be_assigned;
+use crate::references::{TypedTarget, may_be_assigned};
 use crate::shapes::{form_type, is_based, scalar};
 use crate::typer::Typer;
 use crate::types::{may_be_number, takes, width_of};
@@ -91,6 +91,18 @@ struct Range {
     from: Expression,
     bound: Expression,
     step: Expression,
+}
+
+impl TypedTargets {
+    /// One more, behind the others.
+    fn push(&mut self, target: TypedTarget) -> Result<(), AllocError>
+        ensures trees { OnOk result (self.new.trees.items ≡ self.old.trees.items ++ target.tree ∷ []) }
+        ensures types { OnOk result (self.new.types.items ≡ self.old.types.items ++ target.scalar ∷ []) }
+    {
+        self.types.push(target.scalar)?;
+        self.trees.push(target.tree)?;
+        Ok(())
+    }
 }
 
 /// Whether it is a scalar that is not based.
@@ -191,14 +203,15 @@ impl Typer<'_> {
         ensures types { IfOk result (λ r. r.types.items ≡ spec.target_types (variables self.now) (procedures self.now) (resolved.references_of references.now)) }
         ensures faults { OnOk result (faults.new.items ≡ faults.old.items ++ spec.of_targets (variables self.now) (procedures self.now) self.now.module (resolved.references_of references.now)) }
     {
-        let mut trees = Vec::new(self.alloc);
-        let mut types = Vec::new(self.alloc);
+        let mut all = TypedTargets {
+            trees: Vec::new(self.alloc),
+            types: Vec::new(self.alloc),
+        };
         for reference in references {
             let typed = self.target(reference, faults)?;
-            types.push(typed.scalar)?;
-            trees.push(typed.tree)?;
+            all.push(typed)?;
         }
-        Ok(TypedTargets { trees, types })
+        Ok(all)
     }
 
     fn assign(

@@ -1,12 +1,12 @@
 use Rattle.std.proofs.Common.{◌∷◌, Some, None, refl, ◌∙◌}
 use Rattle.plm_token.specs.declared.token.Mark.TheVariants as mark
-use Rattle.plm_syntax.specs.Terminal.{Sign}
 use Rattle.plm_syntax.specs.View.{number_of}
-use Rattle.plm_syntax.specs.Symbol.{need, Want, Do, CountR, CountG, CountNumberG}
+use Rattle.plm_syntax.specs.Symbol.{Want, Do, CountR, CountG, CountNumberG}
 use Rattle.plm_syntax.specs.Machine.{set_count}
 use Rattle.plm_syntax.specs.Parsed.{next_of}
 use Rattle.plm_syntax.specs.Parts.{read_count}
-use Rattle.plm_syntax.proofs.Along.{quiet, taken, refused, need_refused, failed, refusal}
+use Rattle.plm_syntax.proofs.Along.{quiet, taken, refused, failed, refusal}
+use Rattle.plm_syntax.proofs.Joined.{closes_at}
 use Rattle.plm_syntax.proofs.NextDeclaration.{count_refused}
 use Rattle.plm_syntax.proofs.declaration.count.Goals as goal
 
@@ -16,15 +16,8 @@ returns-in_err-number-clause-leads c = λ s v. failed read_count s v c.from_resi
     ∙ refused CountNumberG c.in-Some.inner s (CountR None ∷ v) (count_refused (next_of c.in-Some.inner) c.in_err-number.ensures.0))
     (refusal c.in_err-number.field-0.0 c.in-Some.inner c.in_err-number.ensures.1 refl)
 
-pub returns-in_err-rest-clause-leads : goal.returns-in_err-rest-clause-leads
-returns-in_err-rest-clause-leads c = λ s v. failed read_count s v c.from_residual-in_err-rest.result c.in_err-rest.field-0.0 c.from_residual-in_err-rest.ensures.1
-    (taken (Want CountG ∷ s) (CountR None ∷ v) c.in-Some.ensures
-    ∙ taken (Want CountNumberG ∷ s) (CountR None ∷ v) c.in_ok-number.ensures
-    ∙ need_refused (Sign mark.RightParenthesis) c.in_ok-number.behind (Do (set_count (number_of c.in_ok-number.number)) ∷ s) (CountR None ∷ v) c.in_err-rest.ensures.0)
-    (refusal c.in_err-rest.field-0.0 c.in_ok-number.behind c.in_err-rest.ensures.1 refl)
-
 pub returns-clause-leads : goal.returns-clause-leads
-returns-clause-leads c = λ s v. taken (Want CountG ∷ s) (CountR None ∷ v) c.in-Some.ensures
-    ∙ taken (Want CountNumberG ∷ s) (CountR None ∷ v) c.in_ok-number.ensures
-    ∙ taken (need mark.RightParenthesis ∷ Do (set_count (number_of c.in_ok-number.number)) ∷ s) (CountR None ∷ v) c.in_ok-rest.ensures.1
-    ∙ quiet c.in_ok-rest.rest (Do (set_count (number_of c.in_ok-number.number)) ∷ s) s (CountR None ∷ v) (CountR (Some (number_of c.in_ok-number.number)) ∷ v) (λ t q. refl)
+returns-clause-leads c = λ s v. closes_at read_count mark.RightParenthesis s (Do (set_count (number_of c.in_ok-number.number)) ∷ s) v (CountR None ∷ v) (Some c.in_ok-number.number) c.in_ok-number.behind c.close.result c.close.ensures
+    (taken (Want CountG ∷ s) (CountR None ∷ v) c.in-Some.ensures
+    ∙ taken (Want CountNumberG ∷ s) (CountR None ∷ v) c.in_ok-number.ensures)
+    (λ b. quiet b (Do (set_count (number_of c.in_ok-number.number)) ∷ s) s (CountR None ∷ v) (CountR (Some (number_of c.in_ok-number.number)) ∷ v) (λ t q. refl))

@@ -1,4 +1,5 @@
-use Rattle.std.proofs.Common.{◌∷◌, ◌++◌, [], ℕ, List, ◌+◌, length, Result, Ok, Err, refl, sym, ap, ◌∙◌, arith}
+use Rattle.std.proofs.Common.{◌≡◌, ◌∷◌, ◌++◌, [], ℕ, List, ◌+◌, length, Result, Ok, Err, refl, sym, ap, ◌∙◌, arith}
+use Rattle.std.proofs.lemmas.Grind.{common_steps}
 use Rattle.plm_token.specs.declared.token.Mark.TheVariants as mark
 use Rattle.plm_syntax.specs.declared.tree.UnaryOperator.TheVariants as unary
 use Rattle.std.specs.Global.{Vec}
@@ -9,7 +10,6 @@ use Rattle.plm_syntax.specs.declared.tree.Expression.{Expression}
 use Rattle.plm_syntax.specs.declared.tree.Expression.TheVariants as expression
 use Rattle.plm_syntax.specs.declared.tree.Reference.{Reference}
 use Rattle.plm_syntax.specs.declared.tree.Value.{Value as ValueTree}
-use Rattle.plm_syntax.specs.Terminal.{Sign}
 use Rattle.plm_syntax.specs.Tree.{NumberE, TextE, ReferenceE, LocationE, ParenthesisedE, EmbeddedE, UnaryE, BinaryE, ReferenceOf, ExpressionsT, no_expressions, expressions, no_member, member, member_at, LocationOf, ConstantsOf, NumberV, NegativeV, TextV, LocationV, ValuesT, no_values, values}
 use Rattle.plm_syntax.specs.View.{name_of, number_of, text_of, expression_of, leaned, expressions_of, reference_of, location_of, value_of, values_of}
 use Rattle.plm_syntax.specs.Symbol.{Symbol, depth, need, push, ExpressionR, ExpressionsR, ValueR, ValuesR, Want, Do, Leave, PrimaryG, SignedG, NegationG, MoreG, InsideG, AfterReferenceG, SubscriptsG, MoreSubscriptsG, SelectorG, MemberG, MemberSubscriptG, LocatedG, ValueG, NegativeG, MoreValuesG}
@@ -18,7 +18,7 @@ use Rattle.plm_syntax.specs.Parsed.{ahead, next_of}
 use Rattle.plm_syntax.specs.Parts.{level_view, read_expression, read_boxed, read_operations, read_reference, read_subscripts, read_selector, read_location, read_value, read_values, reference_read, all_levels}
 use Rattle.plm_syntax.proofs.Rows.{expression_pushed, operation_pushed, value_pushed}
 use Rattle.plm_syntax.proofs.Seen.{seen, reference_laid, embedded_laid, constants_laid, location_laid, chain_laid}
-use Rattle.plm_syntax.proofs.Along.{out_of_memory, quiet, taken, refused, need_refused, entered, too_deep, deeper, failed, refusal, depth_failure, arrives_behind, arrives_left, operator_taken}
+use Rattle.plm_syntax.proofs.Along.{out_of_memory, quiet, taken, refused, entered, too_deep, deeper, failed, refusal, depth_failure, arrives_behind, arrives_left, operator_taken}
 use Rattle.plm_syntax.proofs.Joined.{arrived, ended, lost, stays_within, closes, closes_by, closes_within, boxes, operated}
 use Rattle.plm_syntax.proofs.NextExpression.{negation_goes, inside_goes, reference_goes, signed_goes, primary_refused, value_refused, negative_refused, member_refused, located_refused, more_subscripts_refused, more_values_refused, located_value, again_relations, again_others, depth_again}
 use Rattle.plm_syntax.proofs.expression.+expression.Goals as goal
@@ -72,16 +72,17 @@ location-returns-clause-leads t c = λ s v d. taken (Want (LocatedG c.args.place
     ∙ quiet c.in_ok-reference.rest (Do (locate c.args.place c.args.form) ∷ s) s (read_reference c.in_ok-reference.reference v) (ExpressionR (LocationE (LocationOf c.args.place c.args.form (reference_of c.in_ok-reference.reference))) ∷ v) (λ t q. refl)
     ∙ seen s v c.in_ok-reference.rest (ap LocationE (location_laid c.args.place c.args.form c.in_ok-reference.reference))
 
-pub more-returns-in_err-others-clause-leads : goal.more-returns-in_err-others-clause-leads
-more-returns-in_err-others-clause-leads t c = λ s v d. failed read_expression s v c.from_residual.result c.in_err-others.field-0.0 c.from_residual.ensures.1 refl
-    (c.in_err-others.ensures.leads (expression_of c.args.first) s v d)
+pub more-returns-in_err-left-clause-leads : goal.more-returns-in_err-left-clause-leads
+more-returns-in_err-left-clause-leads t c = λ s v d. failed read_expression s v c.from_residual.result c.in_err-left.field-0.0 c.from_residual.ensures.1 refl
+    (ended (λ (os : Vec Operation). read_operations (expression_of c.args.first) os.items) s v (run 64 (Want (MoreG (level_view c.args.level)) ∷ s) (read_expression c.args.first v) (ahead c.args.cursor)) c.in_err-left.ensures (c.operations.ensures.leads (expression_of c.args.first) s v d))
 
 pub more-returns-in_err-first-clause-leads : goal.more-returns-in_err-first-clause-leads
 more-returns-in_err-first-clause-leads t c = λ s v d. out_of_memory read_expression s v c.from_residual-in_err-first.result (run 64 (Want (MoreG (level_view c.args.level)) ∷ s) (read_expression c.args.first v) (ahead c.args.cursor)) c.from_residual-in_err-first.ensures.1
 
 pub more-returns-clause-leads : goal.more-returns-clause-leads
-more-returns-clause-leads t c = λ s v d. c.in_ok-others.ensures.leads (expression_of c.args.first) s v d
-    ∙ seen s v c.in_ok-others.rest (chain_laid c.in_ok-others.others c.in_ok-first.ensures.ok)
+more-returns-clause-leads t c = λ s v d. arrived (λ (os : Vec Operation). read_operations (expression_of c.args.first) os.items) s v c.in_ok-left.ensures.1 (c.operations.ensures.leads (expression_of c.args.first) s v d)
+    ∙ seen s v c.in_ok-left.rest (ap (λ (e : Expression). leaned (expression_of e) c.in_ok-left.others.items) (sym c.in_ok-left.ensures.0))
+    ∙ seen s v c.in_ok-left.rest (chain_laid c.in_ok-left.others c.in_ok-first.ensures.ok)
 
 -- an operator and its right operand
 abbrev operation : Place → BinaryOperator → Expression → Operation
@@ -385,3 +386,8 @@ values-returns-clause-leads t c = λ s v d. closes_by (λ ws. read_values ws.ite
 
 pub values-returns-clause-within : goal.values-returns-clause-within
 values-returns-clause-within t c = closes_within mark.RightParenthesis c.args.cursor (Ok (c.loop-after.list, c.loop-after.rest)) c.close.result c.close.ensures c.loop-after.invariant.shorter
+
+pub more-returns-then-is_empty-clause-leads : goal.more-returns-then-is_empty-clause-leads
+more-returns-then-is_empty-clause-leads t c = λ s v d. let e : c.in_ok-left.others.items ≡ [] = grind (arith, common_steps, c.is_empty.ensures) in arrived (λ (os : Vec Operation). read_operations (expression_of c.args.first) os.items) s v c.in_ok-left.ensures.1 (c.operations.ensures.leads (expression_of c.args.first) s v d)
+    ∙ ap (λ (os : List Operation). run 64 s (read_operations (expression_of c.args.first) os v) (ahead c.in_ok-left.rest)) e
+    ∙ seen s v c.in_ok-left.rest (ap expression_of (sym c.in_ok-left.ensures.0))

@@ -15,7 +15,7 @@ use Rattle.plm_syntax.specs.Answers.{terminal_of}
 use Rattle.plm_syntax.specs.Blocks.{items_part, statements_part, read_statement, read_basic, read_block, read_body, read_governed, read_procedure, read_header, read_range, read_arm, iteration_goals, procedure_goals, no_parameters_read}
 use Rattle.plm_syntax.specs.Parts.{read_expression, reference_read, read_elements}
 use Rattle.plm_syntax.proofs.Rows.{name_pushed, statement_pushed, item_pushed, statement_row}
-use Rattle.plm_syntax.proofs.Along.{out_of_memory, quiet, taken, refused, entered, too_deep, deeper, failed, refusal, depth_failure, arrives_behind, arrives_left, fails_behind, ahead_length}
+use Rattle.plm_syntax.proofs.Along.{quiet, taken, refused, entered, too_deep, deeper, failed, refusal, depth_failure, arrives_behind, arrives_left, fails_behind, ahead_length}
 use Rattle.plm_syntax.proofs.Joined.{arrived, ended, lost, stays_less, boxes, besides}
 use Rattle.plm_syntax.proofs.NextBlock.{no_colon, do_refused, no_else, target_goes, statements_go, arm_goes, arm_too_deep, arm_refused, statements_begin, block_parts, failed_item, deep_at_length, item_there, no_item, item_within}
 use Rattle.plm_syntax.proofs.Built.{block_there, procedure_there}

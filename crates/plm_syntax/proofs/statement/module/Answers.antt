@@ -9,7 +9,7 @@ use Rattle.plm_syntax.specs.Parsed.{next_of, stream}
 use Rattle.plm_token.specs.declared.token.Token.{Token}
 use Rattle.plm_syntax.specs.Blocks.{items_part, statements_part, read_block}
 use Rattle.plm_syntax.proofs.Along.{quiet, taken, refused, need_refused, refusal, fails_behind}
-use Rattle.plm_syntax.proofs.NextBlock.{start_refused, module_refused, block_parts, failed_module, more_text, finished}
+use Rattle.plm_syntax.proofs.NextBlock.{start_refused, module_refused, block_parts, failed_module, finishes, finished}
 use Rattle.plm_syntax.proofs.statement.module.Goals as goal
 
 pub returns-in_err-name : goal.returns-in_err-name
@@ -47,23 +47,21 @@ returns-in_err-block c = failed_module c.from_residual-in_err-block.result c.in_
     ∙ quiet c.in_ok-inner.inner (push (ItemsR no_items) ∷ Want (ItemsG (Some (name_of c.in_ok-name.name))) ∷ Leave ∷ Do (make_module (name_of c.in_ok-name.name)) ∷ Need Finish ∷ []) (Want (ItemsG (Some (name_of c.in_ok-name.name))) ∷ Leave ∷ Do (make_module (name_of c.in_ok-name.name)) ∷ Need Finish ∷ []) [] (ItemsR no_items ∷ []) (λ t q. refl))
     (c.in_err-block.ensures.leads (Leave ∷ Do (make_module (name_of c.in_ok-name.name)) ∷ Need Finish ∷ []) [] refl))
 
-pub returns-in-None : goal.returns-in-None
-returns-in-None c = taken start [] c.in_ok-name.ensures
-    ∙ taken (need mark.Colon ∷ Want (ModuleG (name_of c.in_ok-name.name)) ∷ []) [] c.in_ok-heading.ensures.1
-    ∙ taken (Want (ModuleG (name_of c.in_ok-name.name)) ∷ []) [] c.in_ok-start.ensures.1
-    ∙ taken (need mark.Semicolon ∷ push (ItemsR no_items) ∷ Want (ItemsG (Some (name_of c.in_ok-name.name))) ∷ Leave ∷ Do (make_module (name_of c.in_ok-name.name)) ∷ Need Finish ∷ []) [] c.in_ok-inner.ensures.1
-    ∙ quiet c.in_ok-inner.inner (push (ItemsR no_items) ∷ Want (ItemsG (Some (name_of c.in_ok-name.name))) ∷ Leave ∷ Do (make_module (name_of c.in_ok-name.name)) ∷ Need Finish ∷ []) (Want (ItemsG (Some (name_of c.in_ok-name.name))) ∷ Leave ∷ Do (make_module (name_of c.in_ok-name.name)) ∷ Need Finish ∷ []) [] (ItemsR no_items ∷ []) (λ t q. refl)
-    ∙ c.in_ok-block.ensures.leads (Leave ∷ Do (make_module (name_of c.in_ok-name.name)) ∷ Need Finish ∷ []) [] refl
-    ∙ ap (λ (ts : List Token). run 64 (Leave ∷ Do (make_module (name_of c.in_ok-name.name)) ∷ Need Finish ∷ []) (read_block (c.in_ok-block.block, c.in_ok-block.end) []) (stream c.in_ok-block.rest.number ts)) c.in-None.ensures
-    ∙ ap (λ (b : BlockT). finished (ModuleOf (name_of c.in_ok-name.name) b (base_of c.in_ok-block.end))) (block_parts (block_of c.in_ok-block.block))
-
 pub returns : goal.returns
-returns c = refusal c.refuse.result c.in_ok-block.rest c.refuse.ensures
-    (taken start [] c.in_ok-name.ensures
+returns c = finishes (record { name = c.in_ok-name.name; block = c.in_ok-block.block; end = c.in_ok-block.end }) c.args.cursor c.in_ok-block.rest c.finish.result c.finish.ensures
+    (λ q. taken start [] c.in_ok-name.ensures
     ∙ taken (need mark.Colon ∷ Want (ModuleG (name_of c.in_ok-name.name)) ∷ []) [] c.in_ok-heading.ensures.1
     ∙ taken (Want (ModuleG (name_of c.in_ok-name.name)) ∷ []) [] c.in_ok-start.ensures.1
     ∙ taken (need mark.Semicolon ∷ push (ItemsR no_items) ∷ Want (ItemsG (Some (name_of c.in_ok-name.name))) ∷ Leave ∷ Do (make_module (name_of c.in_ok-name.name)) ∷ Need Finish ∷ []) [] c.in_ok-inner.ensures.1
     ∙ quiet c.in_ok-inner.inner (push (ItemsR no_items) ∷ Want (ItemsG (Some (name_of c.in_ok-name.name))) ∷ Leave ∷ Do (make_module (name_of c.in_ok-name.name)) ∷ Need Finish ∷ []) (Want (ItemsG (Some (name_of c.in_ok-name.name))) ∷ Leave ∷ Do (make_module (name_of c.in_ok-name.name)) ∷ Need Finish ∷ []) [] (ItemsR no_items ∷ []) (λ t q. refl)
     ∙ c.in_ok-block.ensures.leads (Leave ∷ Do (make_module (name_of c.in_ok-name.name)) ∷ Need Finish ∷ []) [] refl
     ∙ quiet c.in_ok-block.rest (Leave ∷ Do (make_module (name_of c.in_ok-name.name)) ∷ Need Finish ∷ []) (Need Finish ∷ []) (read_block (c.in_ok-block.block, c.in_ok-block.end) []) (ModuleR (ModuleOf (name_of c.in_ok-name.name) (BlockOf (items_part (block_of c.in_ok-block.block)) (statements_part (block_of c.in_ok-block.block))) (base_of c.in_ok-block.end)) ∷ []) (λ t q. refl)
-    ∙ need_refused Finish c.in_ok-block.rest [] _ (more_text c.in_ok-block.rest c.in-Some.field-0.2 c.in-Some.field-0.0.kind c.in-Some.field-0.0.text.now c.in-Some.field-0.1 c.in-Some.ensures))
+    ∙ need_refused Finish c.in_ok-block.rest [] _ q)
+    (λ q. taken start [] c.in_ok-name.ensures
+    ∙ taken (need mark.Colon ∷ Want (ModuleG (name_of c.in_ok-name.name)) ∷ []) [] c.in_ok-heading.ensures.1
+    ∙ taken (Want (ModuleG (name_of c.in_ok-name.name)) ∷ []) [] c.in_ok-start.ensures.1
+    ∙ taken (need mark.Semicolon ∷ push (ItemsR no_items) ∷ Want (ItemsG (Some (name_of c.in_ok-name.name))) ∷ Leave ∷ Do (make_module (name_of c.in_ok-name.name)) ∷ Need Finish ∷ []) [] c.in_ok-inner.ensures.1
+    ∙ quiet c.in_ok-inner.inner (push (ItemsR no_items) ∷ Want (ItemsG (Some (name_of c.in_ok-name.name))) ∷ Leave ∷ Do (make_module (name_of c.in_ok-name.name)) ∷ Need Finish ∷ []) (Want (ItemsG (Some (name_of c.in_ok-name.name))) ∷ Leave ∷ Do (make_module (name_of c.in_ok-name.name)) ∷ Need Finish ∷ []) [] (ItemsR no_items ∷ []) (λ t q. refl)
+    ∙ c.in_ok-block.ensures.leads (Leave ∷ Do (make_module (name_of c.in_ok-name.name)) ∷ Need Finish ∷ []) [] refl
+    ∙ ap (λ (ts : List Token). run 64 (Leave ∷ Do (make_module (name_of c.in_ok-name.name)) ∷ Need Finish ∷ []) (read_block (c.in_ok-block.block, c.in_ok-block.end) []) (stream c.in_ok-block.rest.number ts)) q
+    ∙ ap (λ (b : BlockT). finished (ModuleOf (name_of c.in_ok-name.name) b (base_of c.in_ok-block.end))) (block_parts (block_of c.in_ok-block.block)))

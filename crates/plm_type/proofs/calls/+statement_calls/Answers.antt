@@ -1,7 +1,10 @@
-use Rattle.std.proofs.Common.{◌≡◌, ℕ, ◌++◌, OnOk, List, append_assoc, subst, sym, ap, ◌∙◌}
+use Rattle.std.proofs.Common.{◌≡◌, ℕ, ◌+◌, ◌++◌, OnOk, List, drop, append_assoc, subst, sym, ap, ◌∙◌}
+use Rattle.std.specs.Global.{Box}
+use Rattle.plm_type.specs.declared.program.Statement.{Statement}
 use Rattle.plm_type.specs.Calls as spec
 use Rattle.plm_type.specs.Rest as rest
 use Rattle.plm_type.specs.View as view
+use Rattle.plm_type.proofs.Lists.{drop_at}
 use Rattle.plm_type.proofs.Rows.{statement_row}
 use Rattle.plm_type.proofs.calls.+statement_calls.Goals as goal
 
@@ -67,3 +70,15 @@ add_statement-returns-in_ok-add_calls-in-Case t c =
     ∙ append_assoc old (spec.calls_in e) (spec.statements_calls (view.statements_of body.items))
     ∙ ap (λ (s : rest.Statement). old ++ spec.statement_calls s) (sym is) in
     subst (λ (l : List ℕ). OnOk c.add_statements-in-Case.result (c.add_statements-in-Case.new.called.items ≡ l)) path c.add_statements-in-Case.ensures
+
+pub add_statements-loop-statement-preserved : goal.add_statements-loop-statement-preserved
+add_statements-loop-statement-preserved t c =
+    let here = c.loop-statement in
+    let xs = c.args.statements.now in
+    let i = here.statement-index in
+    let x = c.statement-item.result in
+    let calls = λ (l : List (Box Statement)). spec.statements_calls (view.statements_of l) in
+    ap (λ (l : List ℕ). l ++ calls (drop (i + 1) xs)) (c.in_ok-add_statement.ensures ∙ (λ j. here.called.items ++ spec.statement_calls (view.statement_of (c.deref.ensures j))))
+    ∙ append_assoc here.called.items _ _
+    ∙ ap (λ (l : List (Box Statement)). here.called.items ++ calls l) (sym (drop_at xs i x c.loop-statement-test.true c.statement-item.is))
+    ∙ here.invariant

@@ -68,28 +68,28 @@ subscripts-loop-subscript-preserved t c =
           ∙ ap (λ (es : ExpressionsT). (subscripts levels es k).1) next;
     }
 
-pub expression-returns-in_ok-new-in-Embedded-clause-value : goal.expression-returns-in_ok-new-in-Embedded-clause-value
-expression-returns-in_ok-new-in-Embedded-clause-value t c =
+pub expression-returns-in_ok-boxed_expression-in-Embedded-clause-value : goal.expression-returns-in_ok-boxed_expression-in-Embedded-clause-value
+expression-returns-in_ok-boxed_expression-in-Embedded-clause-value t c =
     let levels = levels_of c.args.scope.now in
     let k = known_of c.args.self.now in
     let p = c.in-Embedded.place in
     let x = c.in-Embedded.target in
     let made = c.in_ok-target-in-Embedded in
-    let did = c.in_ok-value-in-Embedded.ensures in
+    let did = c.in_ok-boxed_expression-in-Embedded.ensures in
     let done = reference levels (tree.reference_of x) k in
-    (λ j. resolved.EmbeddedR p (reference_placed made.target j) (view.expression_of (c.in_ok-new-in-Embedded.ensures.ok j)))
+    (λ j. resolved.EmbeddedR p (reference_placed made.target j) (view.expression_of c.in_ok-boxed_expression-in-Embedded.field-0.value))
     ∙ (λ j. resolved.EmbeddedR p (made.ensures.value j) (did.value j))
     ∙ (λ j. resolved.EmbeddedR p done.0 (expression levels (tree.expression_of (c.deref-in-Embedded.ensures j)) (made.ensures.known j)).0)
     ∙ ap (λ (e : ExpressionT). (expression levels e k).0)
     (sym (ap tree.expression_of c.in-Embedded.is ∙ ap (λ r. EmbeddedE p r (tree.expression_of c.in-Embedded.value.value)) (reference_laid x)))
 
-pub expression-returns-in_ok-new-in-Embedded-clause-known : goal.expression-returns-in_ok-new-in-Embedded-clause-known
-expression-returns-in_ok-new-in-Embedded-clause-known t c =
+pub expression-returns-in_ok-boxed_expression-in-Embedded-clause-known : goal.expression-returns-in_ok-boxed_expression-in-Embedded-clause-known
+expression-returns-in_ok-boxed_expression-in-Embedded-clause-known t c =
     let levels = levels_of c.args.scope.now in
     let k = known_of c.args.self.now in
     let p = c.in-Embedded.place in
     let x = c.in-Embedded.target in
-    c.in_ok-value-in-Embedded.ensures.known
+    c.in_ok-boxed_expression-in-Embedded.ensures.known
     ∙ (λ j. (expression levels (tree.expression_of (c.deref-in-Embedded.ensures j)) (c.in_ok-target-in-Embedded.ensures.known j)).1)
     ∙ ap (λ (e : ExpressionT). (expression levels e k).1)
     (sym (ap tree.expression_of c.in-Embedded.is ∙ ap (λ r. EmbeddedE p r (tree.expression_of c.in-Embedded.value.value)) (reference_laid x)))
@@ -141,8 +141,8 @@ operations-returns-clause-known t c =
     (sym (at_drop_all (λ (os : List Operation). chained levels (view.leaned left here.resolved.items) os (known_of here.self)) c.args.operations.now here.operation-index c.loop-operation-test.false)
     ∙ here.invariant left)
 
-pub expression-returns-in_ok-new-in-Chain-clause-value : goal.expression-returns-in_ok-new-in-Chain-clause-value
-expression-returns-in_ok-new-in-Chain-clause-value t c =
+pub expression-returns-in_ok-others-in-Chain-clause-value : goal.expression-returns-in_ok-others-in-Chain-clause-value
+expression-returns-in_ok-others-in-Chain-clause-value t c =
     let levels = levels_of c.args.scope.now in
     let k = known_of c.args.self.now in
     let at = c.in-Chain in
@@ -153,8 +153,7 @@ expression-returns-in_ok-new-in-Chain-clause-value t c =
     let value = first.ensures.value ∙ ap (λ e. (expression levels (tree.expression_of e) k).0) there in
     let known = first.ensures.known ∙ ap (λ e. (expression levels (tree.expression_of e) k).1) there in
     let done = expression levels left k in
-    rows.operation_row (view.expression_of c.in_ok-new-in-Chain.field-0.value) made.others
-    ∙ (λ j. view.leaned (view.expression_of (c.in_ok-new-in-Chain.ensures.ok j)) made.others.items)
+    rows.operation_row (view.expression_of first.first.value) made.others
     ∙ (λ j. view.leaned (value j) made.others.items)
     ∙ made.ensures.value done.0
     ∙ (λ j. (chained levels done.0 (c.deref-in-Chain-2.ensures.value j) (known j)).0)
@@ -162,8 +161,8 @@ expression-returns-in_ok-new-in-Chain-clause-value t c =
     ∙ ap (λ (e : ExpressionT). (expression levels e k).0) (sym (operation_row left at.others))
     ∙ ap (λ (e : ExpressionT). (expression levels e k).0) (sym (ap tree.expression_of at.is))
 
-pub expression-returns-in_ok-new-in-Chain-clause-known : goal.expression-returns-in_ok-new-in-Chain-clause-known
-expression-returns-in_ok-new-in-Chain-clause-known t c =
+pub expression-returns-in_ok-others-in-Chain-clause-known : goal.expression-returns-in_ok-others-in-Chain-clause-known
+expression-returns-in_ok-others-in-Chain-clause-known t c =
     let levels = levels_of c.args.scope.now in
     let k = known_of c.args.self.now in
     let at = c.in-Chain in

@@ -1,145 +1,280 @@
-use Rattle.std.proofs.Common.{◌≡◌, ℕ, length, List, [], ◌∷◌, ◌||◌, map, take, sym, ap, ◌∙◌}
+use Rattle.std.proofs.Common.{◌≡◌, ℕ, length, List, ◌∷◌, ◌||◌, None, map, take, sym, subst, ap, ◌∙◌}
+use Rattle.std.specs.Prelude.{IfOk, OnOk}
 use Rattle.std.proofs.lemmas.List.{take_all}
+use Rattle.plm_syntax.specs.declared.tree.Basic.{Basic}
 use Rattle.plm_syntax.specs.declared.tree.Item.{Item}
+use Rattle.plm_syntax.specs.declared.tree.Name.{Name}
+use Rattle.plm_syntax.specs.declared.tree.Procedure.{Procedure}
+use Rattle.plm_syntax.specs.declared.tree.Reference.{Reference}
 use Rattle.plm_syntax.specs.declared.tree.Statement.{Statement}
 use Rattle.plm_syntax.specs.declared.tree.Basic.TheViews.{out-Block, out-Procedure}
-use Rattle.plm_syntax.specs.Tree.{BasicT, BlockT, ItemsT, StatementsT}
+use Rattle.plm_syntax.specs.Tree.{no_references, AssignS, IfS, WhileS, CaseS, BlockT, ItemT, ItemsT, StatementsT}
 use Rattle.plm_syntax.specs.View as tree
 use Rattle.plm_syntax.proofs.Rows.{statement_row}
 use Rattle.plm_decl.specs.Scopes.{Level, levels_of, level, path_in, is_external}
 use Rattle.plm_decl.specs.Paths.{name_behind}
 use Rattle.plm_decl.specs.Strays.{is_external_linkage}
-use Rattle.plm_decl.specs.StatementsView.{name_for, header_for}
+use Rattle.plm_decl.specs.StatementsView.{header_for, procedure_declared, finished, bounds_of, bounds_for, iterated}
 use Rattle.plm_token.specs.Names.{normal}
-use Rattle.plm_syntax.specs.Terminal.{NameT}
 use Rattle.plm_decl.specs.Known.{Known, known_of}
-use Rattle.plm_decl.specs.Uses.{used}
-use Rattle.plm_decl.specs.Resolved.{WhileR, CaseR, IterateR, and_statement}
+use Rattle.plm_decl.specs.Resolved.{StatementR, StatementsR, IfElseR, DoR, WhileR, CaseR, and_statement}
 use Rattle.plm_decl.specs.ResolvedView as view
 use Rattle.plm_decl.specs.Expressions.{expression}
-use Rattle.plm_decl.specs.Statements.{basic, block, completed, declared_procedure, parameters_from, last_name, statement, statements, step_for, with_item, with_items}
+use Rattle.plm_decl.specs.Statements.{basic, block, declared_procedure, last_name, statement, statements, with_item, with_items}
 use Rattle.plm_decl.proofs.ResolvedRows as rows
 use Rattle.plm_decl.proofs.SyntaxLists.{item_next, statement_next}
-use Rattle.plm_decl.proofs.TreeViews.{block_parts, name_for_parts, header_laid, header_for_parts}
+use Rattle.plm_decl.proofs.TreeViews.{block_parts, name_for_parts, header_laid, header_for_parts, procedure_parts}
 use Rattle.plm_decl.proofs.Procedures.{procedure_read_is}
 use Rattle.plm_decl.proofs.resolver.Resolver.+statement.Goals as goal
 
-pub basic-returns-in_ok-statements-in-While-clause-value : goal.basic-returns-in_ok-statements-in-While-clause-value
-basic-returns-in_ok-statements-in-While-clause-value t c =
+pub basic-returns-in-Assign-clause-value : goal.basic-returns-in-Assign-clause-value
+basic-returns-in-Assign-clause-value t c =
     let levels = levels_of c.args.scope.now in
-    let k = known_of c.args.self.now in
+    let k = known_of c.args.resolver.now in
+    let label = last_name (tree.names_of c.args.labels.now) in
+    let at = c.in-Assign in
+    let all =
+    ap (λ (xs : List Reference). basic levels None (AssignS (tree.references_from xs no_references) (tree.expression_of at.value)) k) c.deref.ensures.value
+    ∙ ap (λ (b : Basic). basic levels label (tree.basic_of b) k) (sym at.is) in
+    subst (λ (x : StatementR). IfOk c.assignment.result (λ s. view.statement_of s ≡ x)) (ap (λ (r : StatementR × Known). r.0) all) c.assignment.ensures.value
+
+pub basic-returns-in-Assign-clause-known : goal.basic-returns-in-Assign-clause-known
+basic-returns-in-Assign-clause-known t c =
+    let levels = levels_of c.args.scope.now in
+    let k = known_of c.args.resolver.now in
+    let label = last_name (tree.names_of c.args.labels.now) in
+    let at = c.in-Assign in
+    let all =
+    ap (λ (xs : List Reference). basic levels None (AssignS (tree.references_from xs no_references) (tree.expression_of at.value)) k) c.deref.ensures.value
+    ∙ ap (λ (b : Basic). basic levels label (tree.basic_of b) k) (sym at.is) in
+    subst (λ (x : Known). OnOk c.assignment.result (known_of c.assignment.new.self ≡ x)) (ap (λ (r : StatementR × Known). r.1) all) c.assignment.ensures.known
+
+pub basic-returns-in-If-clause-value : goal.basic-returns-in-If-clause-value
+basic-returns-in-If-clause-value t c =
+    let levels = levels_of c.args.scope.now in
+    let k = known_of c.args.resolver.now in
+    let label = last_name (tree.names_of c.args.labels.now) in
+    let at = c.in-If in
+    let all =
+    ap (λ (s : Statement). basic levels None (IfS at.place (tree.expression_of at.test) (tree.statement_of s)) k) c.deref-in-If.ensures
+    ∙ ap (λ (b : Basic). basic levels label (tree.basic_of b) k) (sym at.is) in
+    subst (λ (x : StatementR). IfOk c.conditional.result (λ s. view.statement_of s ≡ x)) (ap (λ (r : StatementR × Known). r.0) all) c.conditional.ensures.value
+
+pub basic-returns-in-If-clause-known : goal.basic-returns-in-If-clause-known
+basic-returns-in-If-clause-known t c =
+    let levels = levels_of c.args.scope.now in
+    let k = known_of c.args.resolver.now in
+    let label = last_name (tree.names_of c.args.labels.now) in
+    let at = c.in-If in
+    let all =
+    ap (λ (s : Statement). basic levels None (IfS at.place (tree.expression_of at.test) (tree.statement_of s)) k) c.deref-in-If.ensures
+    ∙ ap (λ (b : Basic). basic levels label (tree.basic_of b) k) (sym at.is) in
+    subst (λ (x : Known). OnOk c.conditional.result (known_of c.conditional.new.self ≡ x)) (ap (λ (r : StatementR × Known). r.1) all) c.conditional.ensures.known
+
+pub basic-returns-in-Do-clause-value : goal.basic-returns-in-Do-clause-value
+basic-returns-in-Do-clause-value t c =
+    let levels = levels_of c.args.scope.now in
+    let k = known_of c.args.resolver.now in
+    let label = last_name (tree.names_of c.args.labels.now) in
+    let at = c.in-Do in
+    let all = ap (λ (b : Basic). basic levels label (tree.basic_of b) k) (sym at.is) in
+    subst (λ (x : StatementR). IfOk c.do_block.result (λ s. view.statement_of s ≡ x)) (ap (λ (r : StatementR × Known). r.0) all) c.do_block.ensures.value
+
+pub basic-returns-in-Do-clause-known : goal.basic-returns-in-Do-clause-known
+basic-returns-in-Do-clause-known t c =
+    let levels = levels_of c.args.scope.now in
+    let k = known_of c.args.resolver.now in
+    let label = last_name (tree.names_of c.args.labels.now) in
+    let at = c.in-Do in
+    let all = ap (λ (b : Basic). basic levels label (tree.basic_of b) k) (sym at.is) in
+    subst (λ (x : Known). OnOk c.do_block.result (known_of c.do_block.new.self ≡ x)) (ap (λ (r : StatementR × Known). r.1) all) c.do_block.ensures.known
+
+pub basic-returns-in-While-clause-value : goal.basic-returns-in-While-clause-value
+basic-returns-in-While-clause-value t c =
+    let levels = levels_of c.args.scope.now in
+    let k = known_of c.args.resolver.now in
     let label = last_name (tree.names_of c.args.labels.now) in
     let at = c.in-While in
-    let e = tree.expression_of at.test in
-    let did = c.in_ok-test-in-While.ensures in
-    let body = c.in_ok-statements-in-While in
-    let first = expression levels e k in
-    (λ j. WhileR at.place (did.value j) ((rows.statement_row body.field-0 ∙ body.ensures.value) j))
-    ∙ (λ j. WhileR at.place first.0 (statements levels (tree.statements_of (c.deref-in-While.ensures.value j)) (did.known j)).0)
-    ∙ ap (λ (ss : StatementsT). WhileR at.place first.0 (statements levels ss first.1).0) (sym (statement_row at.body))
-    ∙ ap (λ (b : BasicT). (basic levels label b k).0) (sym (ap tree.basic_of at.is))
+    let all =
+    ap (λ (ss : List Statement). basic levels None (WhileS at.place (tree.expression_of at.test) (tree.statements_of ss) None) k) c.deref-in-While.ensures.value
+    ∙ ap (λ (ss : StatementsT). basic levels None (WhileS at.place (tree.expression_of at.test) ss None) k) (sym (statement_row at.body))
+    ∙ ap (λ (b : Basic). basic levels label (tree.basic_of b) k) (sym at.is) in
+    subst (λ (x : StatementR). IfOk c.repetition.result (λ s. view.statement_of s ≡ x)) (ap (λ (r : StatementR × Known). r.0) all) c.repetition.ensures.value
 
-pub basic-returns-in_ok-statements-in-While-clause-known : goal.basic-returns-in_ok-statements-in-While-clause-known
-basic-returns-in_ok-statements-in-While-clause-known t c =
+pub basic-returns-in-While-clause-known : goal.basic-returns-in-While-clause-known
+basic-returns-in-While-clause-known t c =
     let levels = levels_of c.args.scope.now in
-    let k = known_of c.args.self.now in
+    let k = known_of c.args.resolver.now in
     let label = last_name (tree.names_of c.args.labels.now) in
     let at = c.in-While in
-    let e = tree.expression_of at.test in
-    let did = c.in_ok-test-in-While.ensures in
-    let body = c.in_ok-statements-in-While in
-    let first = expression levels e k in
-    body.ensures.known
-    ∙ (λ j. (statements levels (tree.statements_of (c.deref-in-While.ensures.value j)) (did.known j)).1)
-    ∙ ap (λ (ss : StatementsT). (statements levels ss first.1).1) (sym (statement_row at.body))
-    ∙ ap (λ (b : BasicT). (basic levels label b k).1) (sym (ap tree.basic_of at.is))
+    let all =
+    ap (λ (ss : List Statement). basic levels None (WhileS at.place (tree.expression_of at.test) (tree.statements_of ss) None) k) c.deref-in-While.ensures.value
+    ∙ ap (λ (ss : StatementsT). basic levels None (WhileS at.place (tree.expression_of at.test) ss None) k) (sym (statement_row at.body))
+    ∙ ap (λ (b : Basic). basic levels label (tree.basic_of b) k) (sym at.is) in
+    subst (λ (x : Known). OnOk c.repetition.result (known_of c.repetition.new.self ≡ x)) (ap (λ (r : StatementR × Known). r.1) all) c.repetition.ensures.known
 
-pub basic-returns-in_ok-statements-in-Case-clause-value : goal.basic-returns-in_ok-statements-in-Case-clause-value
-basic-returns-in_ok-statements-in-Case-clause-value t c =
+pub basic-returns-in-Case-clause-value : goal.basic-returns-in-Case-clause-value
+basic-returns-in-Case-clause-value t c =
     let levels = levels_of c.args.scope.now in
-    let k = known_of c.args.self.now in
+    let k = known_of c.args.resolver.now in
     let label = last_name (tree.names_of c.args.labels.now) in
     let at = c.in-Case in
-    let e = tree.expression_of at.selector in
-    let did = c.in_ok-selector-in-Case.ensures in
-    let body = c.in_ok-statements-in-Case in
-    let first = expression levels e k in
-    (λ j. CaseR at.place (did.value j) ((rows.statement_row body.field-0 ∙ body.ensures.value) j))
-    ∙ (λ j. CaseR at.place first.0 (statements levels (tree.statements_of (c.deref-in-Case.ensures.value j)) (did.known j)).0)
-    ∙ ap (λ (ss : StatementsT). CaseR at.place first.0 (statements levels ss first.1).0) (sym (statement_row at.body))
-    ∙ ap (λ (b : BasicT). (basic levels label b k).0) (sym (ap tree.basic_of at.is))
+    let all =
+    ap (λ (ss : List Statement). basic levels None (CaseS at.place (tree.expression_of at.selector) (tree.statements_of ss) None) k) c.deref-in-Case.ensures.value
+    ∙ ap (λ (ss : StatementsT). basic levels None (CaseS at.place (tree.expression_of at.selector) ss None) k) (sym (statement_row at.cases))
+    ∙ ap (λ (b : Basic). basic levels label (tree.basic_of b) k) (sym at.is) in
+    subst (λ (x : StatementR). IfOk c.selection.result (λ s. view.statement_of s ≡ x)) (ap (λ (r : StatementR × Known). r.0) all) c.selection.ensures.value
 
-pub basic-returns-in_ok-statements-in-Case-clause-known : goal.basic-returns-in_ok-statements-in-Case-clause-known
-basic-returns-in_ok-statements-in-Case-clause-known t c =
+pub basic-returns-in-Case-clause-known : goal.basic-returns-in-Case-clause-known
+basic-returns-in-Case-clause-known t c =
     let levels = levels_of c.args.scope.now in
-    let k = known_of c.args.self.now in
+    let k = known_of c.args.resolver.now in
     let label = last_name (tree.names_of c.args.labels.now) in
     let at = c.in-Case in
-    let e = tree.expression_of at.selector in
-    let did = c.in_ok-selector-in-Case.ensures in
-    let body = c.in_ok-statements-in-Case in
-    let first = expression levels e k in
-    body.ensures.known
-    ∙ (λ j. (statements levels (tree.statements_of (c.deref-in-Case.ensures.value j)) (did.known j)).1)
-    ∙ ap (λ (ss : StatementsT). (statements levels ss first.1).1) (sym (statement_row at.body))
-    ∙ ap (λ (b : BasicT). (basic levels label b k).1) (sym (ap tree.basic_of at.is))
+    let all =
+    ap (λ (ss : List Statement). basic levels None (CaseS at.place (tree.expression_of at.selector) (tree.statements_of ss) None) k) c.deref-in-Case.ensures.value
+    ∙ ap (λ (ss : StatementsT). basic levels None (CaseS at.place (tree.expression_of at.selector) ss None) k) (sym (statement_row at.cases))
+    ∙ ap (λ (b : Basic). basic levels label (tree.basic_of b) k) (sym at.is) in
+    subst (λ (x : Known). OnOk c.selection.result (known_of c.selection.new.self ≡ x)) (ap (λ (r : StatementR × Known). r.1) all) c.selection.ensures.known
 
-pub basic-returns-in_ok-statements-in-Iterate-clause-value : goal.basic-returns-in_ok-statements-in-Iterate-clause-value
-basic-returns-in_ok-statements-in-Iterate-clause-value t c =
+pub basic-returns-in_ok-bounds-in-Iterate-clause-value : goal.basic-returns-in_ok-bounds-in-Iterate-clause-value
+basic-returns-in_ok-bounds-in-Iterate-clause-value t c =
     let levels = levels_of c.args.scope.now in
-    let k = known_of c.args.self.now in
+    let k = known_of c.args.resolver.now in
     let label = last_name (tree.names_of c.args.labels.now) in
     let at = c.in-Iterate in
-    let from = tree.expression_of at.from in
-    let to = tree.expression_of at.to in
-    let by = tree.step_of at.by in
-    let meaning = c.in_ok-meaning-in-Iterate.ensures in
-    let first = c.in_ok-from-in-Iterate.ensures in
-    let last = c.in_ok-to-in-Iterate.ensures in
-    let step = c.in_ok-by-in-Iterate.ensures in
-    let body = c.in_ok-statements-in-Iterate in
-    let m = used levels (tree.name_of at.index) k in
-    let r = expression levels from m.1 in
-    let q = expression levels to r.1 in
-    let u = step_for levels by q.1 in
-    let from_known = first.known ∙ ap (λ (s : Known). (expression levels from s).1) meaning.known in
-    let to_known = last.known ∙ ap (λ (s : Known). (expression levels to s).1) from_known in
-    let by_known = step.known ∙ ap (λ (s : Known). (step_for levels by s).1) to_known in
-    let from_value = first.value ∙ ap (λ (s : Known). (expression levels from s).0) meaning.known in
-    let to_value = last.value ∙ ap (λ (s : Known). (expression levels to s).0) from_known in
-    let by_value = step.value ∙ ap (λ (s : Known). (step_for levels by s).0) to_known in
-    let body_value = rows.statement_row body.field-0 ∙ body.ensures.value
-    ∙ ap (λ (ss : List Statement). (statements levels (tree.statements_of ss) (known_of c.step.new.self)).0) c.deref-in-Iterate.ensures.value
-    ∙ ap (λ (s : Known). (statements levels (tree.statements_of at.body.items) s).0) by_known in
-    (λ j. IterateR at.place at.index.place (meaning.meaning j) (from_value j) (to_value j) (by_value j) (body_value j))
-    ∙ ap (λ (ss : StatementsT). IterateR at.place at.index.place m.0 r.0 q.0 u.0 (statements levels ss u.1).0) (sym (statement_row at.body))
-    ∙ ap (λ (b : BasicT). (basic levels label b k).0) (sym (ap tree.basic_of at.is))
+    let read = bounds_for levels (tree.name_of at.index) (tree.expression_of at.from) (tree.expression_of at.to) (tree.step_of at.by) k in
+    let did = c.in_ok-bounds-in-Iterate.ensures in
+    let all =
+    (λ j. iterated at.place at.index.place (did.value j) (statements levels (tree.statements_of (c.deref-in-Iterate.ensures.value j)) (did.known j)).0)
+    ∙ ap (λ (ss : StatementsT). iterated at.place at.index.place read.0 (statements levels ss read.1).0) (sym (statement_row at.body))
+    ∙ ap (λ (b : Basic). (basic levels label (tree.basic_of b) k).0) (sym at.is) in
+    subst (λ (x : StatementR). IfOk c.iteration.result (λ s. view.statement_of s ≡ x)) all c.iteration.ensures.value
 
-pub basic-returns-in_ok-statements-in-Iterate-clause-known : goal.basic-returns-in_ok-statements-in-Iterate-clause-known
-basic-returns-in_ok-statements-in-Iterate-clause-known t c =
+pub basic-returns-in_ok-bounds-in-Iterate-clause-known : goal.basic-returns-in_ok-bounds-in-Iterate-clause-known
+basic-returns-in_ok-bounds-in-Iterate-clause-known t c =
     let levels = levels_of c.args.scope.now in
-    let k = known_of c.args.self.now in
+    let k = known_of c.args.resolver.now in
     let label = last_name (tree.names_of c.args.labels.now) in
     let at = c.in-Iterate in
-    let from = tree.expression_of at.from in
-    let to = tree.expression_of at.to in
-    let by = tree.step_of at.by in
-    let meaning = c.in_ok-meaning-in-Iterate.ensures in
-    let first = c.in_ok-from-in-Iterate.ensures in
-    let last = c.in_ok-to-in-Iterate.ensures in
-    let step = c.in_ok-by-in-Iterate.ensures in
-    let body = c.in_ok-statements-in-Iterate in
-    let m = used levels (tree.name_of at.index) k in
-    let r = expression levels from m.1 in
-    let q = expression levels to r.1 in
-    let u = step_for levels by q.1 in
-    let from_known = first.known ∙ ap (λ (s : Known). (expression levels from s).1) meaning.known in
-    let to_known = last.known ∙ ap (λ (s : Known). (expression levels to s).1) from_known in
-    let by_known = step.known ∙ ap (λ (s : Known). (step_for levels by s).1) to_known in
-    body.ensures.known
-    ∙ (λ j. (statements levels (tree.statements_of (c.deref-in-Iterate.ensures.value j)) (by_known j)).1)
-    ∙ ap (λ (ss : StatementsT). (statements levels ss u.1).1) (sym (statement_row at.body))
-    ∙ ap (λ (b : BasicT). (basic levels label b k).1) (sym (ap tree.basic_of at.is))
+    let read = bounds_for levels (tree.name_of at.index) (tree.expression_of at.from) (tree.expression_of at.to) (tree.step_of at.by) k in
+    let did = c.in_ok-bounds-in-Iterate.ensures in
+    let all =
+    (λ j. (statements levels (tree.statements_of (c.deref-in-Iterate.ensures.value j)) (did.known j)).1)
+    ∙ ap (λ (ss : StatementsT). (statements levels ss read.1).1) (sym (statement_row at.body))
+    ∙ ap (λ (b : Basic). (basic levels label (tree.basic_of b) k).1) (sym at.is) in
+    subst (λ (x : Known). OnOk c.iteration.result (known_of c.iteration.new.self ≡ x)) all c.iteration.ensures.known
+
+pub basic-returns-in-Call-clause-value : goal.basic-returns-in-Call-clause-value
+basic-returns-in-Call-clause-value t c =
+    let levels = levels_of c.args.scope.now in
+    let k = known_of c.args.resolver.now in
+    let label = last_name (tree.names_of c.args.labels.now) in
+    let at = c.in-Call in
+    let all = ap (λ (b : Basic). (basic levels label (tree.basic_of b) k).0) (sym at.is) in
+    subst (λ (x : StatementR). IfOk c.call.result (λ s. view.statement_of s ≡ x)) all c.call.ensures.value
+
+pub basic-returns-in-Call-clause-known : goal.basic-returns-in-Call-clause-known
+basic-returns-in-Call-clause-known t c =
+    let levels = levels_of c.args.scope.now in
+    let k = known_of c.args.resolver.now in
+    let label = last_name (tree.names_of c.args.labels.now) in
+    let at = c.in-Call in
+    let all = ap (λ (b : Basic). (basic levels label (tree.basic_of b) k).1) (sym at.is) in
+    subst (λ (x : Known). OnOk c.call.result (known_of c.call.new.self ≡ x)) all c.call.ensures.known
+
+pub basic-returns-in-ReturnValue-clause-value : goal.basic-returns-in-ReturnValue-clause-value
+basic-returns-in-ReturnValue-clause-value t c =
+    let levels = levels_of c.args.scope.now in
+    let k = known_of c.args.resolver.now in
+    let label = last_name (tree.names_of c.args.labels.now) in
+    let at = c.in-ReturnValue in
+    let all = ap (λ (b : Basic). (basic levels label (tree.basic_of b) k).0) (sym at.is) in
+    subst (λ (x : StatementR). IfOk c.return_value.result (λ s. view.statement_of s ≡ x)) all c.return_value.ensures.value
+
+pub basic-returns-in-ReturnValue-clause-known : goal.basic-returns-in-ReturnValue-clause-known
+basic-returns-in-ReturnValue-clause-known t c =
+    let levels = levels_of c.args.scope.now in
+    let k = known_of c.args.resolver.now in
+    let label = last_name (tree.names_of c.args.labels.now) in
+    let at = c.in-ReturnValue in
+    let all = ap (λ (b : Basic). (basic levels label (tree.basic_of b) k).1) (sym at.is) in
+    subst (λ (x : Known). OnOk c.return_value.result (known_of c.return_value.new.self ≡ x)) all c.return_value.ensures.known
+
+pub basic-returns-in_ok-then-in-IfElse-clause-value : goal.basic-returns-in_ok-then-in-IfElse-clause-value
+basic-returns-in_ok-then-in-IfElse-clause-value t c =
+    let levels = levels_of c.args.scope.now in
+    let k = known_of c.args.resolver.now in
+    let label = last_name (tree.names_of c.args.labels.now) in
+    let at = c.in-IfElse in
+    let did = c.in_ok-test-in-IfElse.ensures in
+    let made = c.in_ok-then-in-IfElse.ensures in
+    let one = c.deref-in-IfElse.ensures in
+    let two = c.deref-in-IfElse-2.ensures in
+    let known = made.known ∙ (λ j. (statement levels (tree.statement_of (one j)) (did.known j)).1) in
+    let value = made.value ∙ (λ j. (statement levels (tree.statement_of (one j)) (did.known j)).0) in
+    let all =
+    (λ j. IfElseR at.place (did.value j) (value j) (statement levels (tree.statement_of (two j)) (known j)).0)
+    ∙ ap (λ (b : Basic). (basic levels label (tree.basic_of b) k).0) (sym at.is) in
+    subst (λ (x : StatementR). IfOk c.alternative.result (λ s. view.statement_of s ≡ x)) all c.alternative.ensures.value
+
+pub basic-returns-in_ok-then-in-IfElse-clause-known : goal.basic-returns-in_ok-then-in-IfElse-clause-known
+basic-returns-in_ok-then-in-IfElse-clause-known t c =
+    let levels = levels_of c.args.scope.now in
+    let k = known_of c.args.resolver.now in
+    let label = last_name (tree.names_of c.args.labels.now) in
+    let at = c.in-IfElse in
+    let did = c.in_ok-test-in-IfElse.ensures in
+    let made = c.in_ok-then-in-IfElse.ensures in
+    let one = c.deref-in-IfElse.ensures in
+    let two = c.deref-in-IfElse-2.ensures in
+    let known = made.known ∙ (λ j. (statement levels (tree.statement_of (one j)) (did.known j)).1) in
+    let all =
+    (λ j. (statement levels (tree.statement_of (two j)) (known j)).1)
+    ∙ ap (λ (b : Basic). (basic levels label (tree.basic_of b) k).1) (sym at.is) in
+    subst (λ (x : Known). OnOk c.alternative.result (known_of c.alternative.new.self ≡ x)) all c.alternative.ensures.known
+
+pub do_block-returns-clause-value : goal.do_block-returns-clause-value
+do_block-returns-clause-value t c =
+    let levels = levels_of c.args.scope.now in
+    let did = c.in_ok-path.ensures in
+    let body = c.in_ok-block in
+    let inside = c.inside-inside.ensures ∙ (λ j. level (did.value j) (c.is_external.ensures j) ∷ levels) in
+    (λ j. DoR c.args.place ((rows.statement_row body.field-0 ∙ body.ensures.value) j))
+    ∙ (λ j. DoR c.args.place (block (inside j) (tree.block_of c.args.block.now) (did.known j)).0)
+
+pub repetition-returns-clause-value : goal.repetition-returns-clause-value
+repetition-returns-clause-value t c =
+    let levels = levels_of c.args.scope.now in
+    let did = c.in_ok-test.ensures in
+    let body = c.in_ok-statements in
+    let first = expression levels (tree.expression_of c.args.test.now) (known_of c.args.self.now) in
+    (λ j. WhileR c.args.place (did.value j) ((rows.statement_row body.field-0 ∙ body.ensures.value) j))
+    ∙ (λ j. WhileR c.args.place first.0 (statements levels (tree.statements_of c.args.body.now) (did.known j)).0)
+
+pub repetition-returns-clause-known : goal.repetition-returns-clause-known
+repetition-returns-clause-known t c =
+    c.in_ok-statements.ensures.known
+    ∙ (λ j. (statements (levels_of c.args.scope.now) (tree.statements_of c.args.body.now) (c.in_ok-test.ensures.known j)).1)
+
+pub selection-returns-clause-value : goal.selection-returns-clause-value
+selection-returns-clause-value t c =
+    let levels = levels_of c.args.scope.now in
+    let did = c.in_ok-selector.ensures in
+    let body = c.in_ok-statements in
+    let first = expression levels (tree.expression_of c.args.selector.now) (known_of c.args.self.now) in
+    (λ j. CaseR c.args.place (did.value j) ((rows.statement_row body.field-0 ∙ body.ensures.value) j))
+    ∙ (λ j. CaseR c.args.place first.0 (statements levels (tree.statements_of c.args.cases.now) (did.known j)).0)
+
+pub selection-returns-clause-known : goal.selection-returns-clause-known
+selection-returns-clause-known t c =
+    c.in_ok-statements.ensures.known
+    ∙ (λ j. (statements (levels_of c.args.scope.now) (tree.statements_of c.args.cases.now) (c.in_ok-selector.ensures.known j)).1)
+
+pub iteration-returns-clause-value : goal.iteration-returns-clause-value
+iteration-returns-clause-value t c =
+    let body = c.in_ok-body in
+    ap (iterated c.args.place c.args.index (bounds_of c.args.bounds)) (rows.statement_row body.body ∙ body.ensures.value)
 
 pub statements-loop-statement-preserved : goal.statements-loop-statement-preserved
 statements-loop-statement-preserved t c =
@@ -162,12 +297,12 @@ statements-loop-statement-preserved t c =
           ∙ ap (λ (ss : StatementsT). (statements levels ss k).1) next;
     }
 
-pub block-loop-item-preserved : goal.block-loop-item-preserved
-block-loop-item-preserved t c =
+pub items-loop-item-preserved : goal.items-loop-item-preserved
+items-loop-item-preserved t c =
     let here = c.loop-item in
     let levels = levels_of c.args.scope.now in
     let k = known_of c.args.self.now in
-    let all = c.deref-item-items.result.now in
+    let all = c.args.items.now in
     let x = tree.item_of c.item-item.result in
     let did = c.in_ok-item.ensures in
     let next = sym (item_next all here.item-index c.item-item.result c.loop-item-test.true c.item-item.is) in
@@ -180,71 +315,74 @@ block-loop-item-preserved t c =
           ∙ ap (λ (is : ItemsT). (with_items levels is k).1) next;
     }
 
-pub block-returns-clause-value : goal.block-returns-clause-value
-block-returns-clause-value t c =
+pub items-returns : goal.items-returns
+items-returns t c =
     let here = c.loop-item in
-    let o = out-Block c.args.block.now in
     let levels = levels_of c.args.scope.now in
     let k = known_of c.args.self.now in
-    let ss = tree.statements_of o.statements.items in
-    let all = take_all here.item-index c.deref-item-items.result.now c.loop-item-test.false ∙ c.deref-item-items.ensures.value in
-    let names = here.invariant.names ∙ ap (λ (is : List Item). (with_items levels (tree.items_of is) k).0) all in
-    let known = here.invariant.known ∙ ap (λ (is : List Item). (with_items levels (tree.items_of is) k).1) all in
-    let parts = sym (block_parts c.args.block.now) in
-    c.in_ok-statements.ensures.value
-    ∙ ap (λ (l : List Statement). (statements (levels_of here.scope) (tree.statements_of l) (known_of here.self)).0) c.deref.ensures.value
-    ∙ (λ j. (statements (names j) ss (known j)).0)
-    ∙ ap (λ (b : BlockT). (block levels b k).0) parts
+    let all = take_all here.item-index c.args.items.now c.loop-item-test.false in
+    record {
+      names = here.invariant.names ∙ ap (λ (is : List Item). (with_items levels (tree.items_of is) k).0) all;
+      known = here.invariant.known ∙ ap (λ (is : List Item). (with_items levels (tree.items_of is) k).1) all;
+    }
 
-pub block-returns-clause-names : goal.block-returns-clause-names
-block-returns-clause-names t c =
-    let here = c.loop-item in
+pub block-returns : goal.block-returns
+block-returns t c =
     let o = out-Block c.args.block.now in
     let levels = levels_of c.args.scope.now in
-    let k = known_of c.args.self.now in
+    let k = known_of c.args.resolver.now in
     let ss = tree.statements_of o.statements.items in
-    let all = take_all here.item-index c.deref-item-items.result.now c.loop-item-test.false ∙ c.deref-item-items.ensures.value in
-    let names = here.invariant.names ∙ ap (λ (is : List Item). (with_items levels (tree.items_of is) k).0) all in
-    let known = here.invariant.known ∙ ap (λ (is : List Item). (with_items levels (tree.items_of is) k).1) all in
+    let did = c.in_ok-items.ensures in
+    let outer = levels_of c.items.new.scope in
+    let q = known_of c.items.new.self in
+    let names = did.names ∙ ap (λ (is : List Item). (with_items levels (tree.items_of is) k).0) c.deref.ensures.value in
+    let known = did.known ∙ ap (λ (is : List Item). (with_items levels (tree.items_of is) k).1) c.deref.ensures.value in
     let parts = sym (block_parts c.args.block.now) in
-    names ∙ ap (λ (b : BlockT). (block levels b k).1) parts
-
-pub block-returns-clause-known : goal.block-returns-clause-known
-block-returns-clause-known t c =
-    let here = c.loop-item in
-    let o = out-Block c.args.block.now in
-    let levels = levels_of c.args.scope.now in
-    let k = known_of c.args.self.now in
-    let ss = tree.statements_of o.statements.items in
-    let all = take_all here.item-index c.deref-item-items.result.now c.loop-item-test.false ∙ c.deref-item-items.ensures.value in
-    let names = here.invariant.names ∙ ap (λ (is : List Item). (with_items levels (tree.items_of is) k).0) all in
-    let known = here.invariant.known ∙ ap (λ (is : List Item). (with_items levels (tree.items_of is) k).1) all in
-    let parts = sym (block_parts c.args.block.now) in
-    c.in_ok-statements.ensures.known
-    ∙ ap (λ (l : List Statement). (statements (levels_of here.scope) (tree.statements_of l) (known_of here.self)).1) c.deref.ensures.value
-    ∙ (λ j. (statements (names j) ss (known j)).1)
-    ∙ ap (λ (b : BlockT). (block levels b k).2) parts
+    record {
+      value = c.in_ok-statements.ensures.value
+          ∙ ap (λ (l : List Statement). (statements outer (tree.statements_of l) q).0) c.deref-2.ensures.value
+          ∙ (λ j. (statements (names j) ss (known j)).0)
+          ∙ ap (λ (b : BlockT). (block levels b k).0) parts;
+      names = names ∙ ap (λ (b : BlockT). (block levels b k).1) parts;
+      known = c.in_ok-statements.ensures.known
+          ∙ ap (λ (l : List Statement). (statements outer (tree.statements_of l) q).1) c.deref-2.ensures.value
+          ∙ (λ j. (statements (names j) ss (known j)).1)
+          ∙ ap (λ (b : BlockT). (block levels b k).2) parts;
+    }
 
 -- the steps of a procedure, one behind another
-in_order : {Names Known Body Numbers : Type 0} (at : Names × Known) (n : ℕ) (into : Names → Names) (read : Names → Known → Body × Names × Known)
-    → (list : Names → Known → Numbers × Known) (complete : ℕ → Numbers → Body → Known → Known)
-    → (number : ℕ) (outer : Names) (p : Known) (inside : Names) (body : Body) (behind : Names) (q : Known) (ps : Numbers) (r : Known)
+in_order : {Names Known Body : Type 0} (at : Names × Known) (n : ℕ) (into : Names → Names) (read : Names → Known → Body × Names × Known)
+    → (finish : ℕ → Names → Body → Known → Known)
+    → (number : ℕ) (outer : Names) (p : Known) (inside : Names) (body : Body) (behind : Names) (q : Known)
     → number ≡ n → outer ≡ at.0 → p ≡ at.1 → inside ≡ into outer
     → body ≡ (read inside p).0 → behind ≡ (read inside p).1 → q ≡ (read inside p).2
-    → ps ≡ (list behind q).0 → r ≡ (list behind q).1
-    → complete number ps body r
-    ≡ (let b = read (into at.0) at.1 in let u = list b.1 b.2 in complete n u.0 b.0 u.1)
-in_order {Names} {Known} {Body} {Numbers} at n into read list complete number outer p inside body behind q ps r e0 e1 e2 e3 e4 e5 e6 e7 e8 =
+    → finish number behind body q ≡ (let b = read (into at.0) at.1 in finish n b.1 b.0 b.2)
+in_order {Names} {Known} {Body} at n into read finish number outer p inside body behind q e0 e1 e2 e3 e4 e5 e6 =
     let b = read (into at.0) at.1 in
     let inside_is = e3 ∙ ap into e1 in
     let done : read inside p ≡ b = (λ j. read (inside_is j) (e2 j)) in
     let body_is = e4 ∙ ap (λ (x : Body × Names × Known). x.0) done in
     let behind_is = e5 ∙ ap (λ (x : Body × Names × Known). x.1) done in
     let known_is = e6 ∙ ap (λ (x : Body × Names × Known). x.2) done in
-    let listed : list behind q ≡ list b.1 b.2 = (λ j. list (behind_is j) (known_is j)) in
-    let ps_are = e7 ∙ ap (λ (x : Numbers × Known). x.0) listed in
-    let last_is = e8 ∙ ap (λ (x : Numbers × Known). x.1) listed in
-    (λ j. complete (e0 j) (ps_are j) (body_is j) (last_is j))
+    (λ j. finish (e0 j) (behind_is j) (body_is j) (known_is j))
+
+-- a procedure's name and header, by its parts
+declared_is : (levels : List Level) (p : Procedure) (k : Known)
+    → procedure_declared levels p k
+    ≡ declared_procedure levels (tree.name_of (out-Procedure p).name) (header_laid (name_behind (path_in levels) (normal (tree.name_of (out-Procedure p).name).text)) p k) k
+declared_is levels p k =
+    let n = tree.name_of (out-Procedure p).name in
+    (λ j. declared_procedure levels (name_for_parts p j) (header_for (name_behind (path_in levels) (normal (name_for_parts p j).text)) p k) k)
+    ∙ (λ j. declared_procedure levels n (header_for_parts (name_behind (path_in levels) (normal n.text)) p k j) k)
+
+pub procedure-returns-clause-names : goal.procedure-returns-clause-names
+procedure-returns-clause-names t c =
+    let p = c.args.procedure.now in
+    let levels = levels_of c.args.scope.now in
+    let k = known_of c.args.self.now in
+    c.in_ok-number.ensures.names
+    ∙ ap (λ (x : List Level × Known). x.0) (declared_is levels p k)
+    ∙ ap (λ (i : ItemT). (with_item levels i k).0) (sym (procedure_parts p))
 
 pub procedure-returns-clause-known : goal.procedure-returns-clause-known
 procedure-returns-clause-known t c =
@@ -256,32 +394,23 @@ procedure-returns-clause-known t c =
     let b = tree.block_of o.block in
     let ns = map tree.name_of o.parameters.items in
     let path = name_behind (path_in levels) (normal n.text) in
-    let path_is : c.in_ok-path.path.items ≡ path =
-    c.in_ok-path.ensures ∙ (λ j. name_behind (c.path.ensures j) ((c.deref.ensures.value ∙ c.in_ok-key.ensures) j)) in
-    let inner_is : c.in_ok-inner.inner.items ≡ path =
-    c.in_ok-inner.ensures ∙ (λ j. name_behind (c.path-2.ensures j) ((c.deref-2.ensures.value ∙ c.in_ok-key.ensures) j)) in
     let header = c.in_ok-number.ensures in
     let r = declared_procedure levels n (header_laid path p k) k in
-    let declared : declared_procedure levels (name_for p) (header_for c.in_ok-path.path.items p k) k ≡ r =
-    (λ j. declared_procedure levels (name_for p) (header_for (path_is j) p k) k)
-    ∙ (λ j. declared_procedure levels (name_for_parts p j) (header_for_parts path p k j) k) in
+    let declared = declared_is levels p k in
     let external = is_external_linkage o.linkage || is_external levels in
     let did = c.in_ok-body.ensures in
-    let ps = c.in_ok-parameters.ensures in
     let outer = levels_of c.header.new.scope in
     let behind = levels_of c.block.new.scope in
-    let q = known_of c.block.new.self in
-    let listed = ap (map tree.name_of) c.deref-3.ensures.value in
-    c.complete.ensures
+    let q = known_of c.block.new.resolver in
+    let body = view.statements_of c.in_ok-body.body.items in
+    c.in_ok-finish.ensures
+    ∙ ap (λ (l : List Name). finished c.in_ok-number.number behind (map tree.name_of l) body q) c.deref.ensures.value
     ∙ in_order r (length k.procedures) (λ (l : List Level). level path external ∷ l) (λ (l : List Level) (x : Known). block l b x)
-    (λ (l : List Level) (x : Known). parameters_from l [] [] ns x) completed
-    c.in_ok-number.number outer (known_of c.header.new.self) (levels_of c.inside-inside.result) (view.statements_of c.in_ok-body.body.items) behind q
-    c.in_ok-parameters.parameters.items (known_of c.parameters.new.self)
+    (λ (i : ℕ) (l : List Level) (ss : StatementsR) (x : Known). finished i l ns ss x)
+    c.in_ok-number.number outer (known_of c.header.new.self) (levels_of c.inside-inside.result) body behind q
     header.number
     (header.names ∙ ap (λ (x : List Level × Known). x.0) declared)
     (header.known ∙ ap (λ (x : List Level × Known). x.1) declared)
-    (c.inside-inside.ensures ∙ (λ j. level (inner_is j) (c.takes_no_room-is_external.ensures j) ∷ outer))
+    (c.inside-inside.ensures ∙ (λ j. level (c.in_ok-path.ensures j) (c.takes_no_room-is_external.ensures j) ∷ outer))
     did.value did.names did.known
-    (ps.value ∙ ap (λ (l : List NameT). (parameters_from behind [] [] l q).0) listed)
-    (ps.known ∙ ap (λ (l : List NameT). (parameters_from behind [] [] l q).1) listed)
     ∙ procedure_read_is levels p k

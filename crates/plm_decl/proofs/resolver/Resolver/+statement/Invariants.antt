@@ -14,9 +14,9 @@ invariant-statements-loop-statement l =
       known : known_of l.self ≡ done.1;
     }
 
-abbrev pub invariant-block-loop-item : goal.invariant-block-loop-item
-invariant-block-loop-item l =
-    let done = with_items (levels_of l.initial.scope) (items_of (take l.item-index l.item-items)) (known_of l.initial.self) in
+abbrev pub invariant-items-loop-item : goal.invariant-items-loop-item
+invariant-items-loop-item l =
+    let done = with_items (levels_of l.initial.scope) (items_of (take l.item-index l.items)) (known_of l.initial.self) in
     record {
       names : levels_of l.scope ≡ done.0;
       known : known_of l.self ≡ done.1;

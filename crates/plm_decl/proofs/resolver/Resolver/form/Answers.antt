@@ -1,5 +1,5 @@
-use Rattle.std.proofs.Common.{◌≡◌, List, map, sym, ap, ◌∙◌}
-use Rattle.std.proofs.lemmas.List.{at_drop_all, length-map, map-append}
+use Rattle.std.proofs.Common.{List, length, map, sym, ap, ◌∙◌}
+use Rattle.std.proofs.lemmas.List.{length-map, map-append}
 use Rattle.plm_syntax.specs.declared.tree.Member.{Member}
 use Rattle.plm_syntax.specs.Tree.{MemberT, TypeT, no_members}
 use Rattle.plm_syntax.specs.View.{member_of, type_of}
@@ -14,13 +14,11 @@ pub returns-in_ok-push-in-Structure-clause-value : goal.returns-in_ok-push-in-St
 returns-in_ok-push-in-Structure-clause-value c =
     let place = c.args.place in
     let k = known_of c.args.self.now in
-    let here = c.loop-member in
-    let all : (structure_of here.structure, known_of here.self) ≡ structure_for place (map member_of c.in-Structure.members.items) no_fields k =
-    sym (at_drop_all (λ (l : List Member). structure_for place (map member_of l) (structure_of here.structure) (known_of here.self)) c.deref-member-items.result.now here.member-index c.loop-member-test.false)
-    ∙ here.invariant
-    ∙ ap (λ (l : List Member). structure_for place (map member_of l) no_fields k) c.deref-member-items.ensures.value in
-    ap form.Structure (c.len-number.ensures ∙ here.self.structures.ok.0 ∙ sym (length-map here.self.structures.items structure_of))
-    ∙ ap (λ (r : StructureR × Known). (with_structure r).0) all
+    let did = c.in_ok-structure-in-Structure.ensures in
+    let there = c.structure_with.new.self.structures in
+    ap form.Structure (c.len-number.ensures ∙ there.ok.0 ∙ sym (length-map there.items structure_of))
+    ∙ ap (λ (q : Known). form.Structure (length q.structures)) did.known
+    ∙ ap (λ (l : List Member). (with_structure (structure_for place (map member_of l) no_fields k)).0) c.deref.ensures.value
     ∙ ap (λ (l : List MemberT). (with_structure (structure_for place l no_fields k)).0) (sym (member_list_from c.in-Structure.members.items no_members))
     ∙ ap (λ (t : TypeT). (form_for place t k).0) (sym (ap type_of c.in-Structure.is))
 
@@ -28,13 +26,10 @@ pub returns-in_ok-push-in-Structure-clause-known : goal.returns-in_ok-push-in-St
 returns-in_ok-push-in-Structure-clause-known c =
     let place = c.args.place in
     let k = known_of c.args.self.now in
-    let here = c.loop-member in
-    let q = known_of here.self in
-    let all : (structure_of here.structure, known_of here.self) ≡ structure_for place (map member_of c.in-Structure.members.items) no_fields k =
-    sym (at_drop_all (λ (l : List Member). structure_for place (map member_of l) (structure_of here.structure) (known_of here.self)) c.deref-member-items.result.now here.member-index c.loop-member-test.false)
-    ∙ here.invariant
-    ∙ ap (λ (l : List Member). structure_for place (map member_of l) no_fields k) c.deref-member-items.ensures.value in
-    ap (λ (ss : List StructureR). record q { structures = ss }) (ap (map structure_of) c.in_ok-push-in-Structure.ensures.items ∙ map-append structure_of here.self.structures.items _)
-    ∙ ap (λ (r : StructureR × Known). (with_structure r).1) all
+    let did = c.in_ok-structure-in-Structure.ensures in
+    let there = c.structure_with.new.self in
+    ap (λ (ss : List StructureR). record (known_of there) { structures = ss }) (ap (map structure_of) c.in_ok-push-in-Structure.ensures.items ∙ map-append structure_of there.structures.items _)
+    ∙ (λ j. (with_structure (did.structure j, did.known j)).1)
+    ∙ ap (λ (l : List Member). (with_structure (structure_for place (map member_of l) no_fields k)).1) c.deref.ensures.value
     ∙ ap (λ (l : List MemberT). (with_structure (structure_for place l no_fields k)).1) (sym (member_list_from c.in-Structure.members.items no_members))
     ∙ ap (λ (t : TypeT). (form_for place t k).1) (sym (ap type_of c.in-Structure.is))

@@ -11,7 +11,7 @@ use Rattle.plm_decl.proofs.resolver.Resolver.module.Goals as goal
 pub returns : goal.returns
 returns c =
     let b = c.args.tree.now.block in
-    let k = at_module c.args.number (known_of c.args.self.now) in
+    let k = at_module c.args.number (known_of c.args.resolver.now) in
     let ss = (out-Block b).statements in
     let did = c.in_ok-statements.ensures in
     let levels = c.outermost-scope.ensures ∙ ap (λ (p : List ℕ). level p false ∷ []) c.in_ok-path.ensures in

@@ -1,5 +1,5 @@
 use Rattle.std.proofs.Common.{◌≡◌, ℕ, inl, inr, ◌+◌, ◌∷◌, [], ◌++◌, ◌&&◌, is_some, true, false, List, Option, None, IfOk, OnOk, length, drop, append_assoc, subst, cond, not, refl, sym, ap, ◌∙◌}
-use Rattle.std.proofs.lemmas.List.{drop_all}
+use Rattle.std.proofs.lemmas.List.{append-nil, drop_all}
 use Rattle.word86.specs.declared.number.Number.TheVariants.{E401, E403}
 use Rattle.plm_syntax.specs.declared.tree.Place.{Place}
 use Rattle.plm_decl.specs.declared.layout.ScalarType.{ScalarType}
@@ -192,14 +192,22 @@ list-loop-e-preserved t c =
           ∙ here.invariant.faults;
     }
 
-pub list-returns-clause-trees : goal.list-returns-clause-trees
-list-returns-clause-trees t c =
+pub list-returns : goal.list-returns
+list-returns t c =
     let here = c.loop-e in
     let self = c.args.self.now in
+    let vs = variables self in
+    let ps = procedures self in
     let none = sym (drop_all here.e-index c.args.es.now c.loop-e-test.false) in
-    sym (trees_all here.all.trees.items)
-    ∙ ap (λ (l : List declared_resolved.Expression). trees_before here.all.trees.items (spec.trees_of (variables self) (procedures self) (sizes self) self.module (resolved.expressions_of l))) none
-    ∙ here.invariant.trees
+    record {
+      trees = sym (trees_all here.all.trees.items)
+          ∙ ap (λ (l : List declared_resolved.Expression). trees_before here.all.trees.items (spec.trees_of vs ps (sizes self) self.module (resolved.expressions_of l))) none
+          ∙ here.invariant.trees;
+      types = sym (append-nil here.all.types.items)
+          ∙ ap (λ (l : List declared_resolved.Expression). here.all.types.items ++ typing.types_of vs ps (resolved.expressions_of l)) none ∙ here.invariant.types;
+      faults = sym (append-nil here.faults.items)
+          ∙ ap (λ (l : List declared_resolved.Expression). here.faults.items ++ found.faults_in vs ps self.module (resolved.expressions_of l)) none ∙ here.invariant.faults;
+    }
 
 -- ---- LENGTH, LAST and SIZE
 

@@ -1,7 +1,7 @@
 use Rattle.std.proofs.Common.{◌≡◌, ◌++◌, ◌&&◌, map, drop}
 use Rattle.plm_syntax.specs.View.{value_of}
 use Rattle.plm_decl.specs.Expressions.{all_constant_data, are_constants}
-use Rattle.plm_decl.proofs.resolver.Resolver.constant_bytes.Given as goal
+use Rattle.plm_decl.proofs.resolver.Resolver.constant_values.Given as goal
 
 abbrev pub invariant-loop-value : goal.invariant-loop-value
 invariant-loop-value l = record {
