@@ -1,5 +1,5 @@
 -- Actions under a function.
-use Rattle.std.proofs.Common.{◌≡◌, refl, ap, ◌∙◌, sym}
+use Rattle.std.proofs.Common.{◌≡◌, refl, ap}
 use Rattle.word86.specs.Action.{Action, Silent, Touch, Enable, Disable, Halt, Over, Bad, map_action}
 
 pub map_twice : {A R S T : Type 0} (g : S → T) (f : R → S) (a : Action A R) → map_action g (map_action f a) ≡ map_action (λ x. g (f x)) a

@@ -1,5 +1,5 @@
 -- Lists that are at their end, and what a program writes.
-use Rattle.std.proofs.Common.{◌≡◌, ◌≤◌, ℕ, suc, List, [], ◌∷◌, ◌++◌, length, refl, ap, ◌∙◌, arith, Option, Some, None}
+use Rattle.std.proofs.Common.{◌≡◌, ◌≤◌, ℕ, suc, List, [], ◌∷◌, ◌++◌, length, refl, ap, arith, None}
 use Rattle.plm_type.specs.declared.program.Expression.{Expression}
 use Rattle.plm_type.specs.Rest.{Expressions, NoMore, More, Value}
 use Rattle.plm_type.specs.View.{expressions_of}

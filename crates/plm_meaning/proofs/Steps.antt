@@ -2,10 +2,9 @@
 use Rattle.std.proofs.Common.{◌≡◌, ℕ, List, [], ◌∷◌, Option, Some, None, refl, ap, sym, ◌∙◌}
 use Rattle.word86.specs.Access.{Access}
 use Rattle.word86.specs.Action.{Action, map_action}
-use Rattle.word86.specs.Access.{Where, Read, Write}
+use Rattle.word86.specs.Access.{Where, Read}
 use Rattle.word86.specs.declared.width.Width.{Width}
 use Rattle.word86.specs.declared.width.Width.TheVariants as widths
-use Rattle.word86.specs.Arithmetic.{low}
 use Rattle.word86.specs.Action.{Touch, Bad}
 use Rattle.plm_type.specs.declared.program.Target as declared_target
 use Rattle.plm_type.specs.Rest as rest
@@ -30,7 +29,7 @@ use Rattle.std.specs.List.{slice_get}
 use Rattle.plm_type.specs.declared.program.Scalar as declared_scalar
 use Rattle.plm_type.specs.View.{scalar_of}
 use Rattle.plm_meaning.specs.Parts.{Part, Expr, Todo, given, part_of, redex_part, aimed, purposed, todo_in}
-use Rattle.plm_meaning.specs.Steps.{offsets_of, sizes_of, procedures_in, next_part, stored, targets_left, value_in, IsStep, FitsIn, SaysEnd, action_of}
+use Rattle.plm_meaning.specs.Steps.{offsets_of, sizes_of, procedures_in, next_part, stored, targets_left, value_in, IsStep, FitsIn, SaysEnd}
 use Rattle.plm_meaning.proofs.Actions.{map_twice}
 use Rattle.plm_meaning.proofs.Plug as plug
 use Rattle.plm_meaning.proofs.Plug.{Active}

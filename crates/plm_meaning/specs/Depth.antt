@@ -1,5 +1,5 @@
 -- How often what comes first of an expression is itself an expression of which a part comes first.
-use Rattle.std.specs.Prelude.{ℕ, suc, List, [], ◌∷◌}
+use Rattle.std.specs.Prelude.{ℕ, suc}
 use Rattle.plm_type.specs.Rest.{Expression, Variable, Location, Unary, Binary, Embedded, Input, Call, Expressions, NoMore, More, Reference, Refer, Subscripts, NoSubscripts, Subscript}
 use Rattle.plm_type.specs.View.{expression_of, expressions_of}
 use Rattle.plm_meaning.specs.declared.context.Start.{Start}

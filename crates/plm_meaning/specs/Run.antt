@@ -1,5 +1,5 @@
 -- The state of a run of the code, and what its choices lead to.
-use Rattle.std.specs.Prelude.{◌≡◌, ℕ, Bool, List, map, Option, Some, None}
+use Rattle.std.specs.Prelude.{◌≡◌, Bool, map, Option, Some}
 use Rattle.std.specs.Option.{option_map}
 use Rattle.word86.specs.Action.{perform}
 use Rattle.word86.specs.declared.event.Event.{Event}

@@ -1,14 +1,10 @@
 -- What a run of the code stands for, where its chips stand for this state.
-use Rattle.std.specs.Prelude.{◌≡◌, ℕ, nat_eq, if◌then◌else◌, List, [], ◌∷◌, map, Option, Some, None}
-use Rattle.std.specs.Option.{option_map}
+use Rattle.std.specs.Prelude.{◌≡◌, List, [], ◌∷◌, map, Option, Some, None}
 use Rattle.word86.specs.declared.label.Label.{Label}
 use Rattle.ppi_kbd.specs.Chips.{ChipState}
 use Rattle.ppi_kbd.specs.ShownPorts.{Shows}
-use Rattle.plm_type.specs.Rest.{Rest, Main, Handler, Statements, End}
-use Rattle.plm_type.specs.View.{statements_of}
 use Rattle.plm_meaning.specs.declared.store.Store as declared_store
 use Rattle.plm_meaning.specs.Store.{Store}
-use Rattle.plm_meaning.specs.Parts.{todo_of}
 
 abbrev pub labels_of : Option Label → List Label
 labels_of None = []

@@ -1,10 +1,10 @@
 -- The steps of the code as actions on parts.
-use Rattle.std.specs.Prelude.{◌≡◌, ℕ, ◌+◌, ◌<◌, Bool, List, [], ◌∷◌, map, drop, Option, Some, None, slice_get}
+use Rattle.std.specs.Prelude.{◌≡◌, ℕ, ◌+◌, ◌<◌, List, [], ◌∷◌, map, drop, None, slice_get}
 use Rattle.word86.specs.Access.{Access, Read, Write, Input, Output, values}
 use Rattle.word86.specs.Action.{Action, Silent, Touch, Enable, Disable, Halt, Over, Bad, map_action}
-use Rattle.plm_type.specs.Rest.{Anchor, There, Expression, Value, Passing, Reference, Refer, NoSubscripts, Target, Only, Loop, Statement, Assign, Round, Comparing, Adding, Ending, Statements, End, Then, Returned, Procedure}
+use Rattle.plm_type.specs.Rest.{There, Value, Passing, Refer, NoSubscripts, Assign, Round, Comparing, Adding, Ending, Statements, End, Then, Returned, Procedure}
 use Rattle.plm_type.specs.Next.{parameters_of, bound_of, returned, next_expression, next_statements}
-use Rattle.plm_type.specs.View.{where_of, scalar_of, target_of, targets_of, statements_of, loop_of}
+use Rattle.plm_type.specs.View.{where_of, scalar_of, target_of, targets_of, loop_of}
 use Rattle.plm_type.specs.Programs.{procedures_of}
 use Rattle.plm_decl.specs.declared.names.Names.{Names}
 use Rattle.plm_decl.specs.Placed as placed

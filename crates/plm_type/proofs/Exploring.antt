@@ -1,11 +1,10 @@
 -- What the search knows, and that it finds all.
-use Rattle.std.proofs.Common.{◌≡◌, ℕ, zero, suc, ◌+◌, ◌<◌, ◌≤◌, List, [], ◌∷◌, ◌++◌, Bool, true, false, true≢false, ◌⊎◌, inl, inr, length, slice_get, take, ◌-◌, None, Contains, refl, sym, ap, subst, ◌∙◌, arith, ◌↔◌, nat_lt}
-use Rattle.std.specs.Global.{Vec}
+use Rattle.std.proofs.Common.{◌≡◌, ℕ, zero, suc, ◌<◌, ◌≤◌, List, [], ◌∷◌, ◌++◌, Bool, true, false, true≢false, ◌⊎◌, inl, inr, length, slice_get, take, ◌-◌, Contains, refl, sym, ap, subst, ◌∙◌, arith, ◌↔◌, nat_lt}
 use Rattle.std.proofs.Math.ListN.{replicate}
 use Rattle.std.proofs.lemmas.Bool.Decides.{nat_tests}
 use Rattle.std.proofs.lemmas.Option.{slice_get_past}
 use Rattle.std.proofs.lemmas.List.Elements.{Contains-push, Contains-push_cases}
-use Rattle.plm_type.specs.Reach.{Graph, rows, row_of, LeadsBy, Leads, IsMarked, Marks, IsOnCycle}
+use Rattle.plm_type.specs.Reach.{Graph, row_of, LeadsBy, Leads, IsMarked, Marks, IsOnCycle}
 use Rattle.plm_type.proofs.Marking.{contains_more}
 
 pub record Explored (g : Graph) (first : List ℕ) (marks : List Bool) (work : List ℕ) : Type 0 where

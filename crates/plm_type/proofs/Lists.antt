@@ -7,7 +7,6 @@ use Rattle.plm_decl.specs.declared.resolved.Statement as resolved_statement
 use Rattle.plm_decl.specs.Resolved.{expressions, references, statements}
 use Rattle.plm_decl.specs.ResolvedView as resolved
 use Rattle.plm_type.specs.declared.program.Expression.{Expression}
-use Rattle.plm_type.specs.declared.program.Subscript.{Subscript}
 use Rattle.plm_type.specs.declared.program.Target.{Target}
 use Rattle.plm_type.specs.declared.program.Statement.{Statement}
 use Rattle.plm_type.specs.Rest as rest

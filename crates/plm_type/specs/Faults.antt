@@ -1,30 +1,17 @@
 -- Expressions: the faults of their types.
-use Rattle.std.specs.Prelude.{ℕ, ◌+◌, ◌-◌, ◌*◌, Bool, true, false, not, ◌&&◌, ◌||◌, nat_eq, nat_le, cond, List, [], ◌∷◌, ◌++◌, map, length, slice_get, slice_index, Option, Some, None, is_some}
+use Rattle.std.specs.Prelude.{ℕ, Bool, true, false, not, ◌&&◌, ◌||◌, nat_eq, nat_le, cond, List, [], ◌∷◌, ◌++◌, length, slice_get, Option, Some, None, is_some}
 use Rattle.word86.specs.declared.number.Number.{Number}
 use Rattle.word86.specs.declared.number.Number.TheVariants.{E401, E402, E403}
-use Rattle.word86.specs.declared.width.Width.{Width}
-use Rattle.word86.specs.declared.width.Width.TheVariants as width
-use Rattle.word86.specs.declared.operation.UnaryOperation.{UnaryOperation}
-use Rattle.word86.specs.declared.operation.UnaryOperation.TheVariants as unary
-use Rattle.word86.specs.declared.operation.BinaryOperation.{BinaryOperation}
-use Rattle.word86.specs.declared.operation.BinaryOperation.TheVariants as binary
 use Rattle.plm_syntax.specs.declared.tree.Place.{Place}
-use Rattle.plm_syntax.specs.declared.tree.LocationForm.{LocationForm}
-use Rattle.plm_syntax.specs.declared.tree.LocationForm.TheVariants as locating
 use Rattle.plm_decl.specs.declared.builtin.Builtin.{Builtin}
-use Rattle.plm_decl.specs.declared.builtin.Builtin.TheVariants as builtin
 use Rattle.plm_decl.specs.declared.layout.ScalarType.{ScalarType}
-use Rattle.plm_decl.specs.declared.layout.ScalarType.TheVariants.{Byte, Word, Pointer}
 use Rattle.plm_decl.specs.declared.names.Variable.{Variable}
-use Rattle.plm_decl.specs.declared.resolved.Meaning.{Meaning}
 use Rattle.plm_decl.specs.declared.resolved.Meaning.TheVariants as meaning
 use Rattle.plm_decl.specs.declared.found.Found.{Found}
 use Rattle.plm_decl.specs.Known.{ProcedureR}
-use Rattle.plm_decl.specs.Layouts.{size_of}
 use Rattle.plm_decl.specs.Resolved.{ExpressionR, NumberR, TextR, ReferenceR, LocationR, ParenthesisedR, EmbeddedR, UnaryR, BinaryR, ReferenceR', Use, ExpressionsR, no_expressions, expressions, SelectorR, no_member, member, member_at, LocationR', LocationOf, ConstantsOf}
-use Rattle.plm_type.specs.Rest.{Expression, Constant, Location, Unary, Binary, Embedded, Input, Call, Expressions, NoMore, More, Reference, Refer, Subscripts, NoSubscripts, Subscript, Target, ToPort, InObject}
-use Rattle.plm_type.specs.Types.{width_of, may_be_number, is_known_number, are_known_numbers, may_be_numbers, are_known, takes, operands_fit, number_type, text_type, binary_type, unary_type, unary_operation, binary_operation}
-use Rattle.plm_type.specs.Shapes.{shape_fits, designated, form_type, element_count, element_size, member_offset, member_stride, anchor_for, is_on_screen, read_of, store_to}
+use Rattle.plm_type.specs.Types.{may_be_number, may_be_numbers, takes, operands_fit, text_type}
+use Rattle.plm_type.specs.Shapes.{shape_fits, element_count, element_size}
 use Rattle.plm_type.specs.Typing.{is_plain, arity, is_measure, is_target, measured, take_all, parameter_types, returned_type, may_be_located, may_be_assigned, type_of, types_of, selector_types, target_type}
 
 -- ---- where an expression begins

@@ -1,13 +1,12 @@
 -- What a context does next: the first part of its rest that can be rewritten. Silent steps are a constant or a location taken as a
 -- value, an operator or a built-in on values, a test, the empty statement, entering and leaving a DO block, the comparison, the
 -- sum and the end test of a DO with an index, a case dropped or taken, RETURN, and the start and the end of a call.
-use Rattle.std.specs.Prelude.{ℕ, zero, suc, ◌+◌, ◌*◌, ◌%◌, Bool, true, false, nat_eq, nat_le, nat_lt, if◌then◌else◌, List, [], ◌∷◌, Option, Some, None, slice_get}
+use Rattle.std.specs.Prelude.{ℕ, zero, suc, ◌+◌, ◌*◌, ◌%◌, Bool, nat_eq, nat_lt, if◌then◌else◌, List, [], ◌∷◌, Option, Some, None, slice_get}
 use Rattle.word86.specs.declared.width.Width.{Width}
 use Rattle.word86.specs.declared.width.Width.TheVariants as widths
 use Rattle.word86.specs.declared.operation.UnaryOperation.{UnaryOperation}
 use Rattle.word86.specs.declared.operation.BinaryOperation.{BinaryOperation}
 use Rattle.word86.specs.Access.{Access, Read, Write, Input, Output, values, Where}
-use Rattle.word86.specs.Access as access
 use Rattle.word86.specs.Action.{Action, Silent, Touch, Enable, Disable, Halt, Over, Bad, map_action}
 use Rattle.word86.specs.Arithmetic.{low}
 use Rattle.word86.specs.Operators.{unary_value, binary_value}

@@ -1,5 +1,5 @@
 -- What a reference to a variable designates.
-use Rattle.std.specs.Prelude.{ℕ, ◌+◌, ◌-◌, ◌*◌, min, Bool, true, false, ◌&&◌, ◌||◌, nat_eq, nat_le, cond, List, Option, Some, None, slice_get}
+use Rattle.std.specs.Prelude.{ℕ, ◌+◌, ◌*◌, min, Bool, true, false, ◌&&◌, ◌||◌, nat_eq, cond, List, Option, Some, None, slice_get}
 use Rattle.word86.specs.Access.{Where, In, Screen}
 use Rattle.plm_decl.specs.declared.layout.ScalarType.{ScalarType}
 use Rattle.plm_decl.specs.declared.layout.Form.{Form}
@@ -8,7 +8,7 @@ use Rattle.plm_decl.specs.declared.names.Region.{Region}
 use Rattle.plm_decl.specs.declared.names.Region.TheVariants as region
 use Rattle.plm_decl.specs.declared.names.Variable.{Variable}
 use Rattle.plm_decl.specs.Layouts.{counted, elements, size_of}
-use Rattle.plm_decl.specs.Resolved.{ExpressionsR, no_expressions, expressions, SelectorR, no_member, member, member_at}
+use Rattle.plm_decl.specs.Resolved.{SelectorR, no_member, member, member_at}
 use Rattle.plm_type.specs.Rest.{Anchor, InObject, OnScreen, Behind, Expression, Plain, Reference, Refer, Subscripts, NoSubscripts, Target, ToPlain, ToVariable, Scalar}
 use Rattle.plm_type.specs.Rest as rest
 use Rattle.plm_type.specs.Types.{width_of}

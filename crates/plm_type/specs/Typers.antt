@@ -1,9 +1,6 @@
 -- What is known while statements are typed, and what of a Rust tree is typed.
-use Rattle.std.specs.Prelude.{ℕ, List, map, Option}
-use Rattle.plm_decl.specs.declared.layout.ScalarType.{ScalarType}
-use Rattle.plm_decl.specs.declared.names.Names.{Names}
+use Rattle.std.specs.Prelude.{ℕ, List, map}
 use Rattle.plm_decl.specs.declared.names.Variable.{Variable}
-use Rattle.plm_decl.specs.declared.found.Found.{Found}
 use Rattle.plm_decl.specs.Known.{ProcedureR, procedure_of}
 use Rattle.plm_decl.specs.Placed.{sizes_of}
 use Rattle.plm_type.specs.declared.typer.Typer.{Typer}

@@ -1,6 +1,6 @@
 -- The types of values, and which types operators, stores and arguments take. What has a fault has no type; no fault is found in what
 -- holds it unless the other parts alone are faulty.
-use Rattle.std.specs.Prelude.{ℕ, ◌-◌, ◌*◌, Bool, true, false, not, ◌&&◌, ◌||◌, nat_le, cond, List, [], ◌∷◌, Option, Some, None, is_some}
+use Rattle.std.specs.Prelude.{ℕ, Bool, true, false, ◌&&◌, ◌||◌, nat_le, cond, List, [], ◌∷◌, Option, Some, None, is_some}
 use Rattle.word86.specs.declared.width.Width.{Width}
 use Rattle.word86.specs.declared.width.Width.TheVariants as width
 use Rattle.word86.specs.declared.operation.UnaryOperation.{UnaryOperation}

@@ -1,9 +1,7 @@
 -- The Rust trees of a program as plain ones.
-use Rattle.std.specs.Prelude.{ℕ, List, [], ◌∷◌, map, Option, Some, None}
+use Rattle.std.specs.Prelude.{List, [], ◌∷◌, map}
 use Rattle.std.specs.Global.{Box}
-use Rattle.word86.specs.declared.width.Width.{Width}
 use Rattle.word86.specs.Access.{Where, In, Screen}
-use Rattle.plm_type.specs.declared.program.Line.{Line}
 use Rattle.plm_type.specs.declared.program.Place.{Place}
 use Rattle.plm_type.specs.declared.program.Place.TheVariants as place
 use Rattle.plm_type.specs.declared.program.Scalar as declared_scalar

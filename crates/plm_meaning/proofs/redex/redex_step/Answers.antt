@@ -1,12 +1,12 @@
-use Rattle.std.proofs.Common.{sym, ap, ◌∙◌, ◌≡◌, Some, None, refl}
+use Rattle.std.proofs.Common.{sym, ap, ◌∙◌, refl}
 use Rattle.word86.specs.Access.{Write, Output}
-use Rattle.word86.specs.Action.{Action, Touch, map_action}
+use Rattle.word86.specs.Action.{Touch, map_action}
 use Rattle.word86.specs.Arithmetic.{low}
 use Rattle.plm_type.specs.Rest as rest
 use Rattle.plm_type.specs.Rest.{Refer, NoSubscripts, Value}
 use Rattle.plm_type.specs.View.{where_of}
-use Rattle.plm_meaning.specs.Parts.{Expr, origin_of, redex_part, part_of, purposed, todo_in}
-use Rattle.plm_meaning.specs.Steps.{action_of, next_part, procedures_in, offsets_of, sizes_of, stored, value_in}
+use Rattle.plm_meaning.specs.Parts.{Expr, redex_part}
+use Rattle.plm_meaning.specs.Steps.{action_of, next_part, procedures_in, stored, value_in}
 use Rattle.plm_meaning.proofs.Steps as steps
 use Rattle.plm_type.specs.Next.{operated}
 use Rattle.plm_meaning.proofs.redex.redex_step.Goals as goal

@@ -1,4 +1,4 @@
-use Rattle.std.proofs.Common.{sym, ap, ◌∙◌, ◌≡◌, List, [], ◌∷◌, ◌++◌}
+use Rattle.std.proofs.Common.{sym, ap, ◌∙◌, [], ◌∷◌, ◌++◌}
 use Rattle.plm_type.specs.Rest.{End}
 use Rattle.plm_meaning.specs.declared.context.Frame.TheVariants as frame
 use Rattle.plm_meaning.specs.Parts.{Todo, todo_in}

@@ -1,4 +1,4 @@
-use Rattle.std.proofs.Common.{◌≡◌, sym, ◌∙◌}
+use Rattle.std.proofs.Common.{sym, ◌∙◌}
 use Rattle.plm_type.proofs.Parts.{not_one}
 use Rattle.plm_type.proofs.builtins.only.Goals as goal
 

@@ -1,4 +1,4 @@
-use Rattle.std.proofs.Common.{◌≡◌, [], ◌∷◌, ◌++◌, sym, ap, ◌∙◌}
+use Rattle.std.proofs.Common.{[], ◌∷◌, ◌++◌, sym, ap, ◌∙◌}
 use Rattle.plm_type.specs.Rest as rest
 use Rattle.plm_type.specs.View.{expression_of, chained}
 use Rattle.plm_type.proofs.Rows.{operation_row}

@@ -1,4 +1,4 @@
-use Rattle.std.proofs.Common.{◌≡◌, sym, ◌∙◌}
+use Rattle.std.proofs.Common.{sym, ◌∙◌}
 use Rattle.plm_type.proofs.Parts.{not_two}
 use Rattle.plm_type.proofs.builtins.shifted.Goals as goal
 

@@ -1,4 +1,4 @@
-use Rattle.std.proofs.Common.{◌≡◌, ℕ, [], ◌++◌, List, Option, IfSome, IfNone, length, map, inl, inr, append_assoc, refl, sym, subst, ap, ◌∙◌}
+use Rattle.std.proofs.Common.{ℕ, ◌++◌, List, Option, IfSome, IfNone, length, map, inl, inr, append_assoc, refl, sym, subst, ap, ◌∙◌}
 use Rattle.std.proofs.lemmas.List.{length-map}
 use Rattle.word86.specs.declared.fault.Fault.{Fault}
 use Rattle.plm_decl.specs.declared.found.Found.{Found}

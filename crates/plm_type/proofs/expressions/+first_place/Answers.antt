@@ -1,4 +1,4 @@
-use Rattle.std.proofs.Common.{◌≡◌, sym, ap, ◌∙◌}
+use Rattle.std.proofs.Common.{sym, ap, ◌∙◌}
 use Rattle.plm_decl.specs.ResolvedView as resolved
 use Rattle.plm_decl.proofs.ResolvedRows.{operation_row}
 use Rattle.plm_type.specs.Faults as found

@@ -1,5 +1,5 @@
-use Rattle.std.proofs.Common.{◌≡◌, Some, sym, ap, ◌∙◌}
-use Rattle.word86.specs.Access.{Where, In, Screen}
+use Rattle.std.proofs.Common.{Some, sym, ap, ◌∙◌}
+use Rattle.word86.specs.Access.{In, Screen}
 use Rattle.plm_type.specs.declared.program.Expression.TheViews.{out-Reference}
 use Rattle.plm_type.specs.declared.program.Anchor.TheVariants as anchor
 use Rattle.plm_type.specs.View.{anchor_of}

@@ -1,4 +1,4 @@
-use Rattle.std.proofs.Common.{◌≡◌, sym, ◌∙◌}
+use Rattle.std.proofs.Common.{sym, ◌∙◌}
 use Rattle.plm_type.specs.View as view
 use Rattle.plm_type.proofs.Lists.{assigned}
 use Rattle.plm_type.proofs.Parts.{not_zero}

@@ -1,4 +1,4 @@
-use Rattle.std.proofs.Common.{◌≡◌, sym, ap, subst, ◌∙◌, option_map}
+use Rattle.std.proofs.Common.{sym, ap, subst, ◌∙◌, option_map}
 use Rattle.ppi_kbd.specs.BoardChips.{board_chips}
 use Rattle.ppi_kbd.specs.ShownPorts.{Shows}
 use Rattle.plm_type.specs.Rest.{Rest, Main, Handler}

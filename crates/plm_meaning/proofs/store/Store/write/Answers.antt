@@ -1,4 +1,4 @@
-use Rattle.std.proofs.Common.{◌≡◌, ◌<◌, length, sym, ap, ◌∙◌, arith}
+use Rattle.std.proofs.Common.{◌<◌, length, sym, ap, ◌∙◌, arith}
 use Rattle.word86.specs.Access.{Write}
 use Rattle.ppi_kbd.specs.BoardChips.{board_chips}
 use Rattle.plm_type.specs.View.{where_of}

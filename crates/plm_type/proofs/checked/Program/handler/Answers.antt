@@ -1,9 +1,8 @@
-use Rattle.std.proofs.Common.{◌≡◌, ◌+◌, ◌<◌, true, cond, List, Option, Some, length, drop, map, slice_get, option_map, refl, sym, ap, ◌∙◌}
+use Rattle.std.proofs.Common.{◌≡◌, ◌+◌, cond, List, Option, Some, length, drop, map, slice_get, option_map, refl, sym, ap, ◌∙◌}
 use Rattle.std.proofs.lemmas.Option.{slice_get-map, slice_get_read}
 use Rattle.plm_decl.specs.declared.names.Procedure.{Procedure}
-use Rattle.plm_decl.specs.Known.{ProcedureR, procedure_of}
+use Rattle.plm_decl.specs.Known.{procedure_of}
 use Rattle.plm_decl.specs.Placed.{sizes_of}
-use Rattle.plm_type.specs.Rest as rest
 use Rattle.plm_type.specs.Statements.{body_for, procedure_for}
 use Rattle.plm_type.specs.Programs.{declared_procedures, handler_among, body_at}
 use Rattle.plm_type.specs.View as view

@@ -1,4 +1,3 @@
-use Rattle.std.proofs.Common.{◌≡◌}
 use Rattle.plm_type.proofs.Rows.{if_tree}
 use Rattle.plm_type.proofs.statements.Condition.with_else.Goals as goal
 

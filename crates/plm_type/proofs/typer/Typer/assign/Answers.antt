@@ -1,4 +1,4 @@
-use Rattle.std.proofs.Common.{◌≡◌, ◌++◌, List, append_assoc, ap, ◌∙◌}
+use Rattle.std.proofs.Common.{◌++◌, List, append_assoc, ap, ◌∙◌}
 use Rattle.word86.specs.declared.number.Number.TheVariants.{E401}
 use Rattle.plm_decl.specs.declared.found.Found.{Found}
 use Rattle.plm_decl.specs.ResolvedView as resolved

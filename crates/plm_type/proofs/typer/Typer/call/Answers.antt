@@ -1,4 +1,4 @@
-use Rattle.std.proofs.Common.{◌≡◌, List, sym, ap, ◌∙◌}
+use Rattle.std.proofs.Common.{List, sym, ap, ◌∙◌}
 use Rattle.plm_decl.specs.declared.resolved.Expression as declared
 use Rattle.plm_decl.specs.declared.resolved.Meaning.{Meaning}
 use Rattle.plm_decl.specs.Resolved.{Use}

@@ -1,4 +1,3 @@
-use Rattle.std.proofs.Common.{◌≡◌}
 use Rattle.plm_type.specs.Rest.{Call}
 use Rattle.plm_type.proofs.Rows.{expression_row}
 use Rattle.plm_type.proofs.typer.Typer.called.Goals as goal

@@ -1,4 +1,4 @@
-use Rattle.std.proofs.Common.{◌≡◌, ap, ◌∙◌}
+use Rattle.std.proofs.Common.{ap, ◌∙◌}
 use Rattle.plm_type.specs.declared.program.Anchor.TheVariants as anchor
 use Rattle.plm_type.specs.Rest as rest
 use Rattle.plm_type.specs.View as view

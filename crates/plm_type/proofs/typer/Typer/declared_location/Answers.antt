@@ -1,4 +1,4 @@
-use Rattle.std.proofs.Common.{◌≡◌, ◌++◌, map, ap, ◌∙◌}
+use Rattle.std.proofs.Common.{◌++◌, map, ◌∙◌}
 use Rattle.plm_decl.specs.Known.{procedure_of}
 use Rattle.plm_decl.specs.ResolvedView as resolved
 use Rattle.plm_type.specs.Faults.{location_faults}

@@ -1,4 +1,4 @@
-use Rattle.std.proofs.Common.{◌≡◌, ◌++◌, append_assoc, ap, ◌∙◌}
+use Rattle.std.proofs.Common.{◌++◌, append_assoc, ap, ◌∙◌}
 use Rattle.word86.specs.declared.number.Number.TheVariants.{E401}
 use Rattle.plm_type.specs.Types.{may_be_number}
 use Rattle.plm_type.specs.Faults.{fault_unless}

@@ -1,4 +1,4 @@
-use Rattle.std.proofs.Common.{◌≡◌, ℕ, List, [], drop, drop-cons, sym, ap, ◌∙◌}
+use Rattle.std.proofs.Common.{ℕ, List, [], drop, drop-cons, sym, ap, ◌∙◌}
 use Rattle.std.proofs.lemmas.List.{nil_from_length}
 use Rattle.plm_type.specs.Typers.{variables}
 use Rattle.plm_type.specs.Typing.{take_all, parameter_types}

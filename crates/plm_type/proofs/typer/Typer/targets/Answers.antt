@@ -1,4 +1,4 @@
-use Rattle.std.proofs.Common.{◌≡◌, ◌+◌, ◌∷◌, [], ◌++◌, List, Option, drop, map, append_assoc, sym, ap, ◌∙◌}
+use Rattle.std.proofs.Common.{◌+◌, ◌∷◌, [], ◌++◌, List, Option, drop, map, append_assoc, sym, ap, ◌∙◌}
 use Rattle.plm_decl.specs.declared.layout.ScalarType.{ScalarType}
 use Rattle.std.proofs.lemmas.List.{append-nil, drop_all}
 use Rattle.plm_decl.specs.declared.found.Found.{Found}
