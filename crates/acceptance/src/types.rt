@@ -22,7 +22,7 @@ fn outcome(checked: Result<Program, Fault>) -> Outcome {
 }
 
 /// The program of one module.
-pub fn program_of(alloc: Global, text: &[u8]) -> Result<Program, Fault> {
+pub(crate) fn program_of(alloc: Global, text: &[u8]) -> Result<Program, Fault> {
     let tree = parse(alloc, scan(alloc, text)?)?;
     check(alloc, resolve(alloc, &[tree])?)
 }

@@ -1,4 +1,4 @@
-use Rattle.std.proofs.Common.{◌≡◌, ℕ, inl, inr, ◌+◌, ◌∷◌, [], ◌++◌, ◌&&◌, is_some, true, false, List, Option, None, IfOk, OnOk, length, drop, append_assoc, subst, cond, not, refl, sym, ap, ◌∙◌}
+use Rattle.std.proofs.Common.{◌≡◌, ℕ, inl, inr, ◌+◌, ◌∷◌, [], ◌++◌, ◌&&◌, is_some, true, false, List, Option, None, Result, IfOk, OnOk, length, drop, append_assoc, subst, cond, not, refl, sym, ap, ◌∙◌}
 use Rattle.std.proofs.lemmas.List.{append-nil, drop_all}
 use Rattle.word86.specs.declared.number.Number.TheVariants.{E401, E403}
 use Rattle.plm_syntax.specs.declared.tree.Place.{Place}
@@ -16,6 +16,7 @@ use Rattle.plm_decl.specs.ResolvedView as resolved
 use Rattle.plm_decl.proofs.TreeViews.{reference_placed}
 use Rattle.plm_decl.proofs.ResolvedRows.{operation_row}
 use Rattle.plm_type.specs.declared.program.Expression.{Expression}
+use Rattle.plm_type.specs.declared.typer.Typed.{Typed}
 use Rattle.plm_type.specs.Rest as rest
 use Rattle.plm_type.specs.Typers.{variables, procedures, sizes}
 use Rattle.plm_type.specs.Types as scalars
@@ -713,61 +714,47 @@ operations-loop-operation-preserved t c =
 
 -- ---- the other kinds of expressions
 
+-- what is said of an expression, said of what it is
+carried : {E : Type 0} (vs : List Variable) (ps : List ProcedureR) (sz : List ℕ) (m : ℕ) (old : List Found) (r : Result Typed E) (new : List Found) (e f : ExpressionR) → e ≡ f
+    → IfOk r (λ x. view.expression_of x.tree ≡ spec.tree_of vs ps sz m e) → IfOk r (λ x. x.scalar ≡ typing.type_of vs ps e) → OnOk r (new ≡ old ++ found.faults_of vs ps m e)
+    → IfOk r (λ x. view.expression_of x.tree ≡ spec.tree_of vs ps sz m f) × IfOk r (λ x. x.scalar ≡ typing.type_of vs ps f) × OnOk r (new ≡ old ++ found.faults_of vs ps m f)
+carried vs ps sz m old r new e f is tree scalar faults =
+    let moved = subst (λ (t : rest.Expression). IfOk r (λ x. view.expression_of x.tree ≡ t)) (ap (spec.tree_of vs ps sz m) is) tree in
+    let typed = subst (λ (t : Option ScalarType). IfOk r (λ x. x.scalar ≡ t)) (ap (typing.type_of vs ps) is) scalar in
+    let noted = subst (λ (l : List Found). OnOk r (new ≡ l)) (ap (λ (t : ExpressionR). old ++ found.faults_of vs ps m t) is) faults in
+    (moved, typed, noted)
+
 pub expression-returns-in-Number : goal.expression-returns-in-Number
 expression-returns-in-Number t c =
     let self = c.args.self.now in
-    let vs = variables self in
-    let ps = procedures self in
-    let m = self.module in
-    let old = c.args.faults.now.items in
     let is = sym (ap resolved.expression_of c.in-Number.is) in
-    record {
-      tree = subst (λ (e : rest.Expression). IfOk c.number.result (λ x. view.expression_of x.tree ≡ e)) (ap (spec.tree_of vs ps (sizes self) m) is) c.number.ensures.tree;
-      scalar = subst (λ (e : Option ScalarType). IfOk c.number.result (λ x. x.scalar ≡ e)) (ap (typing.type_of vs ps) is) c.number.ensures.scalar;
-      faults = subst (λ (l : List Found). OnOk c.number.result (c.number.new.faults.items ≡ l)) (ap (λ (e : ExpressionR). old ++ found.faults_of vs ps m e) is) c.number.ensures.faults;
-    }
+    let says = c.number.ensures in
+    let moved = carried (variables self) (procedures self) (sizes self) self.module c.args.faults.now.items c.number.result c.number.new.faults.items _ _ is says.tree says.scalar says.faults in
+    record { tree = moved.0; scalar = moved.1; faults = moved.2 }
 
 pub expression-returns-in-Text : goal.expression-returns-in-Text
 expression-returns-in-Text t c =
     let self = c.args.self.now in
-    let vs = variables self in
-    let ps = procedures self in
-    let m = self.module in
-    let old = c.args.faults.now.items in
     let is = ap (TextR c.in-Text.place) c.deref.ensures.value ∙ sym (ap resolved.expression_of c.in-Text.is) in
-    record {
-      tree = subst (λ (e : rest.Expression). IfOk c.text.result (λ x. view.expression_of x.tree ≡ e)) (ap (spec.tree_of vs ps (sizes self) m) is) c.text.ensures.tree;
-      scalar = subst (λ (e : Option ScalarType). IfOk c.text.result (λ x. x.scalar ≡ e)) (ap (typing.type_of vs ps) is) c.text.ensures.scalar;
-      faults = subst (λ (l : List Found). OnOk c.text.result (c.text.new.faults.items ≡ l)) (ap (λ (e : ExpressionR). old ++ found.faults_of vs ps m e) is) c.text.ensures.faults;
-    }
+    let says = c.text.ensures in
+    let moved = carried (variables self) (procedures self) (sizes self) self.module c.args.faults.now.items c.text.result c.text.new.faults.items _ _ is says.tree says.scalar says.faults in
+    record { tree = moved.0; scalar = moved.1; faults = moved.2 }
 
 pub expression-returns-in-Location : goal.expression-returns-in-Location
 expression-returns-in-Location t c =
     let self = c.args.self.now in
-    let vs = variables self in
-    let ps = procedures self in
-    let m = self.module in
-    let old = c.args.faults.now.items in
     let is = sym (ap resolved.expression_of c.in-Location.is) in
-    record {
-      tree = subst (λ (e : rest.Expression). IfOk c.location.result (λ x. view.expression_of x.tree ≡ e)) (ap (spec.tree_of vs ps (sizes self) m) is) c.location.ensures.tree;
-      scalar = subst (λ (e : Option ScalarType). IfOk c.location.result (λ x. x.scalar ≡ e)) (ap (typing.type_of vs ps) is) c.location.ensures.scalar;
-      faults = subst (λ (l : List Found). OnOk c.location.result (c.location.new.faults.items ≡ l)) (ap (λ (e : ExpressionR). old ++ found.faults_of vs ps m e) is) c.location.ensures.faults;
-    }
+    let says = c.location.ensures in
+    let moved = carried (variables self) (procedures self) (sizes self) self.module c.args.faults.now.items c.location.result c.location.new.faults.items _ _ is says.tree says.scalar says.faults in
+    record { tree = moved.0; scalar = moved.1; faults = moved.2 }
 
 pub expression-returns-in-Parenthesised : goal.expression-returns-in-Parenthesised
 expression-returns-in-Parenthesised t c =
     let self = c.args.self.now in
-    let vs = variables self in
-    let ps = procedures self in
-    let m = self.module in
-    let old = c.args.faults.now.items in
     let is = (λ j. ParenthesisedR c.in-Parenthesised.field-0 (resolved.expression_of (c.deref-in-Parenthesised.ensures j))) ∙ sym (ap resolved.expression_of c.in-Parenthesised.is) in
-    record {
-      tree = subst (λ (e : rest.Expression). IfOk c.expression.result (λ x. view.expression_of x.tree ≡ e)) (ap (spec.tree_of vs ps (sizes self) m) is) c.expression.ensures.tree;
-      scalar = subst (λ (e : Option ScalarType). IfOk c.expression.result (λ x. x.scalar ≡ e)) (ap (typing.type_of vs ps) is) c.expression.ensures.scalar;
-      faults = subst (λ (l : List Found). OnOk c.expression.result (c.expression.new.faults.items ≡ l)) (ap (λ (e : ExpressionR). old ++ found.faults_of vs ps m e) is) c.expression.ensures.faults;
-    }
+    let says = c.expression.ensures in
+    let moved = carried (variables self) (procedures self) (sizes self) self.module c.args.faults.now.items c.expression.result c.expression.new.faults.items _ _ is says.tree says.scalar says.faults in
+    record { tree = moved.0; scalar = moved.1; faults = moved.2 }
 
 pub expression-returns-in_ok-operand-in-Unary : goal.expression-returns-in_ok-operand-in-Unary
 expression-returns-in_ok-operand-in-Unary t c =
