@@ -27,8 +27,8 @@ use Rattle.plm_decl.proofs.TreeViews.{block_parts, name_for_parts, header_laid, 
 use Rattle.plm_decl.proofs.Procedures.{procedure_read_is}
 use Rattle.plm_decl.proofs.resolver.Resolver.+statement.Goals as goal
 
-pub basic-returns-in-Assign-clause-value : goal.basic-returns-in-Assign-clause-value
-basic-returns-in-Assign-clause-value t c =
+pub basic-returns-in-Assign : goal.basic-returns-in-Assign
+basic-returns-in-Assign t c =
     let levels = levels_of c.args.scope.now in
     let k = known_of c.args.resolver.now in
     let label = last_name (tree.names_of c.args.labels.now) in
@@ -36,21 +36,13 @@ basic-returns-in-Assign-clause-value t c =
     let all =
     ap (λ (xs : List Reference). basic levels None (AssignS (tree.references_from xs no_references) (tree.expression_of at.value)) k) c.deref.ensures.value
     ∙ ap (λ (b : Basic). basic levels label (tree.basic_of b) k) (sym at.is) in
-    subst (λ (x : StatementR). IfOk c.assignment.result (λ s. view.statement_of s ≡ x)) (ap (λ (r : StatementR × Known). r.0) all) c.assignment.ensures.value
+    record {
+      value = subst (λ (x : StatementR). IfOk c.assignment.result (λ s. view.statement_of s ≡ x)) (ap (λ (r : StatementR × Known). r.0) all) c.assignment.ensures.value;
+      known = subst (λ (x : Known). OnOk c.assignment.result (known_of c.assignment.new.self ≡ x)) (ap (λ (r : StatementR × Known). r.1) all) c.assignment.ensures.known;
+    }
 
-pub basic-returns-in-Assign-clause-known : goal.basic-returns-in-Assign-clause-known
-basic-returns-in-Assign-clause-known t c =
-    let levels = levels_of c.args.scope.now in
-    let k = known_of c.args.resolver.now in
-    let label = last_name (tree.names_of c.args.labels.now) in
-    let at = c.in-Assign in
-    let all =
-    ap (λ (xs : List Reference). basic levels None (AssignS (tree.references_from xs no_references) (tree.expression_of at.value)) k) c.deref.ensures.value
-    ∙ ap (λ (b : Basic). basic levels label (tree.basic_of b) k) (sym at.is) in
-    subst (λ (x : Known). OnOk c.assignment.result (known_of c.assignment.new.self ≡ x)) (ap (λ (r : StatementR × Known). r.1) all) c.assignment.ensures.known
-
-pub basic-returns-in-If-clause-value : goal.basic-returns-in-If-clause-value
-basic-returns-in-If-clause-value t c =
+pub basic-returns-in-If : goal.basic-returns-in-If
+basic-returns-in-If t c =
     let levels = levels_of c.args.scope.now in
     let k = known_of c.args.resolver.now in
     let label = last_name (tree.names_of c.args.labels.now) in
@@ -58,39 +50,25 @@ basic-returns-in-If-clause-value t c =
     let all =
     ap (λ (s : Statement). basic levels None (IfS at.place (tree.expression_of at.test) (tree.statement_of s)) k) c.deref-in-If.ensures
     ∙ ap (λ (b : Basic). basic levels label (tree.basic_of b) k) (sym at.is) in
-    subst (λ (x : StatementR). IfOk c.conditional.result (λ s. view.statement_of s ≡ x)) (ap (λ (r : StatementR × Known). r.0) all) c.conditional.ensures.value
+    record {
+      value = subst (λ (x : StatementR). IfOk c.conditional.result (λ s. view.statement_of s ≡ x)) (ap (λ (r : StatementR × Known). r.0) all) c.conditional.ensures.value;
+      known = subst (λ (x : Known). OnOk c.conditional.result (known_of c.conditional.new.self ≡ x)) (ap (λ (r : StatementR × Known). r.1) all) c.conditional.ensures.known;
+    }
 
-pub basic-returns-in-If-clause-known : goal.basic-returns-in-If-clause-known
-basic-returns-in-If-clause-known t c =
-    let levels = levels_of c.args.scope.now in
-    let k = known_of c.args.resolver.now in
-    let label = last_name (tree.names_of c.args.labels.now) in
-    let at = c.in-If in
-    let all =
-    ap (λ (s : Statement). basic levels None (IfS at.place (tree.expression_of at.test) (tree.statement_of s)) k) c.deref-in-If.ensures
-    ∙ ap (λ (b : Basic). basic levels label (tree.basic_of b) k) (sym at.is) in
-    subst (λ (x : Known). OnOk c.conditional.result (known_of c.conditional.new.self ≡ x)) (ap (λ (r : StatementR × Known). r.1) all) c.conditional.ensures.known
-
-pub basic-returns-in-Do-clause-value : goal.basic-returns-in-Do-clause-value
-basic-returns-in-Do-clause-value t c =
+pub basic-returns-in-Do : goal.basic-returns-in-Do
+basic-returns-in-Do t c =
     let levels = levels_of c.args.scope.now in
     let k = known_of c.args.resolver.now in
     let label = last_name (tree.names_of c.args.labels.now) in
     let at = c.in-Do in
     let all = ap (λ (b : Basic). basic levels label (tree.basic_of b) k) (sym at.is) in
-    subst (λ (x : StatementR). IfOk c.do_block.result (λ s. view.statement_of s ≡ x)) (ap (λ (r : StatementR × Known). r.0) all) c.do_block.ensures.value
+    record {
+      value = subst (λ (x : StatementR). IfOk c.do_block.result (λ s. view.statement_of s ≡ x)) (ap (λ (r : StatementR × Known). r.0) all) c.do_block.ensures.value;
+      known = subst (λ (x : Known). OnOk c.do_block.result (known_of c.do_block.new.self ≡ x)) (ap (λ (r : StatementR × Known). r.1) all) c.do_block.ensures.known;
+    }
 
-pub basic-returns-in-Do-clause-known : goal.basic-returns-in-Do-clause-known
-basic-returns-in-Do-clause-known t c =
-    let levels = levels_of c.args.scope.now in
-    let k = known_of c.args.resolver.now in
-    let label = last_name (tree.names_of c.args.labels.now) in
-    let at = c.in-Do in
-    let all = ap (λ (b : Basic). basic levels label (tree.basic_of b) k) (sym at.is) in
-    subst (λ (x : Known). OnOk c.do_block.result (known_of c.do_block.new.self ≡ x)) (ap (λ (r : StatementR × Known). r.1) all) c.do_block.ensures.known
-
-pub basic-returns-in-While-clause-value : goal.basic-returns-in-While-clause-value
-basic-returns-in-While-clause-value t c =
+pub basic-returns-in-While : goal.basic-returns-in-While
+basic-returns-in-While t c =
     let levels = levels_of c.args.scope.now in
     let k = known_of c.args.resolver.now in
     let label = last_name (tree.names_of c.args.labels.now) in
@@ -99,22 +77,13 @@ basic-returns-in-While-clause-value t c =
     ap (λ (ss : List Statement). basic levels None (WhileS at.place (tree.expression_of at.test) (tree.statements_of ss) None) k) c.deref-in-While.ensures.value
     ∙ ap (λ (ss : StatementsT). basic levels None (WhileS at.place (tree.expression_of at.test) ss None) k) (sym (statement_row at.body))
     ∙ ap (λ (b : Basic). basic levels label (tree.basic_of b) k) (sym at.is) in
-    subst (λ (x : StatementR). IfOk c.repetition.result (λ s. view.statement_of s ≡ x)) (ap (λ (r : StatementR × Known). r.0) all) c.repetition.ensures.value
+    record {
+      value = subst (λ (x : StatementR). IfOk c.repetition.result (λ s. view.statement_of s ≡ x)) (ap (λ (r : StatementR × Known). r.0) all) c.repetition.ensures.value;
+      known = subst (λ (x : Known). OnOk c.repetition.result (known_of c.repetition.new.self ≡ x)) (ap (λ (r : StatementR × Known). r.1) all) c.repetition.ensures.known;
+    }
 
-pub basic-returns-in-While-clause-known : goal.basic-returns-in-While-clause-known
-basic-returns-in-While-clause-known t c =
-    let levels = levels_of c.args.scope.now in
-    let k = known_of c.args.resolver.now in
-    let label = last_name (tree.names_of c.args.labels.now) in
-    let at = c.in-While in
-    let all =
-    ap (λ (ss : List Statement). basic levels None (WhileS at.place (tree.expression_of at.test) (tree.statements_of ss) None) k) c.deref-in-While.ensures.value
-    ∙ ap (λ (ss : StatementsT). basic levels None (WhileS at.place (tree.expression_of at.test) ss None) k) (sym (statement_row at.body))
-    ∙ ap (λ (b : Basic). basic levels label (tree.basic_of b) k) (sym at.is) in
-    subst (λ (x : Known). OnOk c.repetition.result (known_of c.repetition.new.self ≡ x)) (ap (λ (r : StatementR × Known). r.1) all) c.repetition.ensures.known
-
-pub basic-returns-in-Case-clause-value : goal.basic-returns-in-Case-clause-value
-basic-returns-in-Case-clause-value t c =
+pub basic-returns-in-Case : goal.basic-returns-in-Case
+basic-returns-in-Case t c =
     let levels = levels_of c.args.scope.now in
     let k = known_of c.args.resolver.now in
     let label = last_name (tree.names_of c.args.labels.now) in
@@ -123,19 +92,10 @@ basic-returns-in-Case-clause-value t c =
     ap (λ (ss : List Statement). basic levels None (CaseS at.place (tree.expression_of at.selector) (tree.statements_of ss) None) k) c.deref-in-Case.ensures.value
     ∙ ap (λ (ss : StatementsT). basic levels None (CaseS at.place (tree.expression_of at.selector) ss None) k) (sym (statement_row at.cases))
     ∙ ap (λ (b : Basic). basic levels label (tree.basic_of b) k) (sym at.is) in
-    subst (λ (x : StatementR). IfOk c.selection.result (λ s. view.statement_of s ≡ x)) (ap (λ (r : StatementR × Known). r.0) all) c.selection.ensures.value
-
-pub basic-returns-in-Case-clause-known : goal.basic-returns-in-Case-clause-known
-basic-returns-in-Case-clause-known t c =
-    let levels = levels_of c.args.scope.now in
-    let k = known_of c.args.resolver.now in
-    let label = last_name (tree.names_of c.args.labels.now) in
-    let at = c.in-Case in
-    let all =
-    ap (λ (ss : List Statement). basic levels None (CaseS at.place (tree.expression_of at.selector) (tree.statements_of ss) None) k) c.deref-in-Case.ensures.value
-    ∙ ap (λ (ss : StatementsT). basic levels None (CaseS at.place (tree.expression_of at.selector) ss None) k) (sym (statement_row at.cases))
-    ∙ ap (λ (b : Basic). basic levels label (tree.basic_of b) k) (sym at.is) in
-    subst (λ (x : Known). OnOk c.selection.result (known_of c.selection.new.self ≡ x)) (ap (λ (r : StatementR × Known). r.1) all) c.selection.ensures.known
+    record {
+      value = subst (λ (x : StatementR). IfOk c.selection.result (λ s. view.statement_of s ≡ x)) (ap (λ (r : StatementR × Known). r.0) all) c.selection.ensures.value;
+      known = subst (λ (x : Known). OnOk c.selection.result (known_of c.selection.new.self ≡ x)) (ap (λ (r : StatementR × Known). r.1) all) c.selection.ensures.known;
+    }
 
 pub basic-returns-in_ok-bounds-in-Iterate-clause-value : goal.basic-returns-in_ok-bounds-in-Iterate-clause-value
 basic-returns-in_ok-bounds-in-Iterate-clause-value t c =
