@@ -22,3 +22,13 @@ abbrev pub Writes : {T E : Type 0} → Option (List ℕ) → Option (List ℕ) �
 Writes old new before after text r = MatchResult r
     (λ _. Appends old new text × (after ≡ before))
     (λ _. Cut old new text × Rises before after)
+
+-- how many of these bytes a sink with this room takes at a time, which has taken so much and takes no more than `step` in a call
+abbrev pub portion : (room step taken : ℕ) → List ℕ → ℕ
+portion room step taken bytes = min (min (length bytes) step) (room - taken)
+
+-- a sink with room takes its portion, and fails exactly where that is nothing of something
+abbrev pub TakesPortion : {E : Type 0} → ℕ → List ℕ → Result ℕ E → Type 0
+TakesPortion portion bytes r = MatchResult r
+    (λ n. (n ≡ portion) × (0 < length bytes → 0 < n))
+    (λ _. (portion ≡ 0) × (0 < length bytes))

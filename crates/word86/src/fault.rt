@@ -14,7 +14,7 @@ pub enum Fault {
     #[error("out of memory")]
     Memory,
     /// The module, counted from 0 (0 where a call is handed one text or none); the line, counted from 1; and the fault.
-    #[error("module {0}, line {1}: {2}")]
+    #[error("module {0}, line {1}: {text}", text = .2.text())]
     At(u32, u32, Number),
 }
 

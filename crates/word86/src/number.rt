@@ -3,8 +3,6 @@
 ghost use Rattle.std.specs.Prelude.{◌≡◌};
 ghost use Rattle.word86.specs.Numbers.{number_text};
 
-use std::fmt;
-
 /// The number of a fault, or of the one warning: E1xx in a text's bytes, E2xx in its grammar, E3xx in its names, E4xx in
 /// its types, E5xx and E6xx where the program has no room, E7xx in a run.
 #[derive(Debug, Clone, Copy, PartialEq, Eq)]
@@ -90,11 +88,5 @@ impl Number {
             Number::E705 => "E705 ROM length",
             Number::W1 => "W1 procedure shared with an interrupt procedure",
         }
-    }
-}
-
-impl fmt::Display for Number {
-    fn fmt<W: fmt::Write>(&self, f: &mut fmt::Formatter<W>) -> fmt::Result {
-        f.write_str(self.text())
     }
 }

@@ -1,6 +1,7 @@
 //! What memory holds when the power comes on.
 
-ghost use Rattle.std.specs.Prelude.{◌≡◌, length, vec_len, IfOk, replicate};
+ghost use Rattle.std.specs.Prelude.{◌≡◌, length, vec_len, IfErr, IfOk, replicate};
+ghost use Rattle.word86.specs.declared.fault.Fault.TheVariants.{Memory};
 
 use crate::fault::Fault;
 use std::alloc::Global;
@@ -33,7 +34,8 @@ impl PowerOn {
 
     /// Memory that holds this byte everywhere. The one refusal is want of memory.
     pub fn filled(alloc: Global, byte: u8) -> Result<PowerOn, Fault>
-        ensures { IfOk result (λ p. (p.ram.items ≡ replicate 131072 byte) × (p.screen.items ≡ replicate 4000 byte)) }
+        ensures filled { IfOk result (λ p. (p.ram.items ≡ replicate 131072 byte) × (p.screen.items ≡ replicate 4000 byte)) }
+        ensures refused { IfErr result (λ f. f ≡ Memory) }
     {
         let ram = filled_bytes(alloc, RAM_LENGTH, byte)?;
         let screen = filled_bytes(alloc, SCREEN_LENGTH, byte)?;
@@ -64,9 +66,10 @@ impl PowerOn {
     }
 }
 
-// So many bytes, all the same.
+// This byte, `count` times.
 fn filled_bytes(alloc: Global, count: usize, byte: u8) -> Result<Vec<u8>, Fault>
-    ensures { IfOk result (λ v. v.items ≡ replicate count byte) }
+    ensures filled { IfOk result (λ v. v.items ≡ replicate count byte) }
+    ensures refused { IfErr result (λ f. f ≡ Memory) }
 {
     Ok(vec![in alloc; byte; count]?)
 }

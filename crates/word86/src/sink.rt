@@ -1,7 +1,7 @@
 //! What takes the bytes of a text.
 
 ghost use Rattle.std.specs.Prelude.{◌≡◌, ◌≤◌, ℕ, List, [], Option, None, IfOk, Some, length, vec_len, vec_capacity};
-ghost use Rattle.word86.specs.Taking.{Appends, CountsPut, Cut, Rises, WriteAppends, Writes};
+ghost use Rattle.word86.specs.Taking.{Appends, CountsPut, Cut, Rises, TakesPortion, WriteAppends, Writes, portion};
 
 use std::alloc::{AllocError, Global};
 use std::io;
@@ -97,7 +97,14 @@ impl Sink for CutSink {
 
     ghost failures = { λ s. s.failures.0 };
 
-    fn put(&mut self, bytes: &[u8]) -> Result<usize, SinkFault> {
+    /// Takes as many bytes as its step and the room that is left allow, and fails where that is none of some.
+    fn put(&mut self, bytes: &[u8]) -> Result<usize, SinkFault>
+        ensures bound { IfOk result (λ n. n ≤ length bytes.now) }
+        ensures bytes { WriteAppends (Some self.old.bytes.items) (Some self.new.bytes.items) result bytes.now }
+        ensures count { CountsPut self.old.failures.0 self.new.failures.0 result bytes.now }
+        ensures portion { TakesPortion (portion self.old.room self.old.step (vec_len self.old.bytes) bytes.now) bytes.now result }
+        ensures limits { (self.new.room ≡ self.old.room) × (self.new.step ≡ self.old.step) }
+    {
         let left = self.room - self.bytes.len();
         let n = bytes.len().min(self.step).min(left);
         if n == 0 && !bytes.is_empty() {
