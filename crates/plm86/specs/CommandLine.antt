@@ -24,6 +24,7 @@ abbrev pub outer : App
 outer = record {
   top = record (new_app (codes "plm86")).top {
     no_binary_name = true;
+    has_version = true;
     disable_help_subcommand = true;
     subcommand_required = true;
   };

@@ -14,25 +14,40 @@ use clap::error::ErrorKind;
 use clap::{Arg, ArgAction, ArgMatches, Command, Error};
 use std::alloc::{AllocError, Global};
 
-fn positional<'a>(alloc: Global, id: &'a str, name: &'a str) -> Arg<'a>
+/// The version that `--version` shows.
+const VERSION: &str = "0.2.0";
+
+fn positional<'a>(alloc: Global, id: &'a str, name: &'a str, help: &'a str) -> Arg<'a>
     ensures rule { rule_of result ≡ needed id.entry.now }
     ensures local { result.global ≡ false }
 {
-    Arg::new(alloc, id).value_name(name).required(true)
+    Arg::new(alloc, id)
+        .help(help)
+        .value_name(name)
+        .required(true)
 }
 
 fn sources<'a>(alloc: Global) -> Arg<'a>
     ensures rule { rule_of result ≡ several (codes "source") }
     ensures local { result.global ≡ false }
 {
-    positional(alloc, "source", "SOURCE").action(ArgAction::Append)
+    let help = "The sources, one module each; one of them is the main module";
+    positional(alloc, "source", "SOURCE", help).action(ArgAction::Append)
 }
 
-fn option<'a>(alloc: Global, id: &'a str, name: &'a str, letter: char, is_required: bool) -> Arg<'a>
+fn option<'a>(
+    alloc: Global,
+    id: &'a str,
+    name: &'a str,
+    letter: char,
+    is_required: bool,
+    help: &'a str,
+) -> Arg<'a>
     ensures rule { rule_of result ≡ lettered id.entry.now letter is_required }
     ensures local { result.global ≡ false }
 {
     Arg::new(alloc, id)
+        .help(help)
         .value_name(name)
         .short(letter)
         .required(is_required)
@@ -41,24 +56,38 @@ fn option<'a>(alloc: Global, id: &'a str, name: &'a str, letter: char, is_requir
 fn build_command<'a>(alloc: Global) -> Result<Command<'a>, AllocError>
     ensures { IfOk result (λ c. (app_of c ≡ build_app) × ((out-Command c).has_globals ≡ false)) }
 {
-    let kib = option(alloc, "kib", "KIB", 'r', true);
-    let rom = option(alloc, "rom", "ROM", 'o', true);
+    let kib_help = "The size of the ROM in KiB: 8, 16, 32 or 64";
+    let kib = option(alloc, "kib", "KIB", 'r', true, kib_help);
+    let rom_help = "The file that the ROM is written to, once nothing is refused";
+    let rom = option(alloc, "rom", "ROM", 'o', true, rom_help);
     let source = sources(alloc);
-    Command::new(alloc, "build").arg(kib)?.arg(rom)?.arg(source)
+    Command::new(alloc, "build")
+        .about("Compiles PL/M-86 modules to an 8086 ROM")
+        .arg(kib)?
+        .arg(rom)?
+        .arg(source)
 }
 
 fn run_command<'a>(alloc: Global) -> Result<Command<'a>, AllocError>
     ensures { IfOk result (λ c. (app_of c ≡ run_app) × ((out-Command c).has_globals ≡ false)) }
 {
-    let rom = positional(alloc, "rom", "ROM");
-    let schedule = positional(alloc, "schedule", "SCHEDULE");
-    Command::new(alloc, "run").arg(rom)?.arg(schedule)
+    let rom_help = "The file of the ROM: 8, 16, 32 or 64 KiB that end at address 0FFFFFH";
+    let rom = positional(alloc, "rom", "ROM", rom_help);
+    let schedule_help = "The file that says what comes from outside, and when the run stops";
+    let schedule = positional(alloc, "schedule", "SCHEDULE", schedule_help);
+    Command::new(alloc, "run")
+        .about("Runs a ROM on the board and writes its trace to standard output")
+        .arg(rom)?
+        .arg(schedule)
 }
 
 fn whole_command<'a>(alloc: Global) -> Result<Command<'a>, AllocError>
     ensures { IfOk result (λ c. app_of c ≡ plm86_app) }
 {
     Command::new(alloc, "plm86")
+        .about("A proved PL/M-86 compiler for 8086 firmware, and a proved board that runs ROMs")
+        .version(VERSION)
+        .bin_name("plm86")?
         .no_binary_name(true)
         .disable_help_subcommand(true)
         .subcommand_required(true)

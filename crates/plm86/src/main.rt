@@ -26,12 +26,12 @@ mod tests;
 
 use building::build_rom;
 use command_line::order;
-use order::Order;
+use order::{Order, OrderFault};
 use running::run_rom;
 use std::alloc::Global;
 use std::process::ExitCode;
 use stop::Stop;
-use word86::WriterSink;
+use word86::{WriterSink, put_all};
 
 /// Does what the words of the command line ask for, and answers the status.
 fn work(rt: &HostRuntime, alloc: Global) -> Result<u8, Stop> {
@@ -47,9 +47,29 @@ fn work(rt: &HostRuntime, alloc: Global) -> Result<u8, Stop> {
             return Err(Stop::Memory);
         }
     }
-    match order(alloc, words.as_slice())? {
-        Order::Build { size, rom, sources } => build_rom(rt, alloc, size, rom, &sources),
-        Order::Run { rom, schedule } => run_rom(rt, alloc, rom, schedule),
+    match order(alloc, words.as_slice()) {
+        Ok(Order::Build { size, rom, sources }) => build_rom(rt, alloc, size, rom, &sources),
+        Ok(Order::Run { rom, schedule }) => run_rom(rt, alloc, rom, schedule),
+        Err(OrderFault::Words(text)) if asks_for_help(words.as_slice()) => {
+            show(rt, alloc, text.as_str())
+        }
+        Err(fault) => Err(Stop::from(fault)),
+    }
+}
+
+// A lone `--help` or `--version`: what it asks for is its answer, and no refusal.
+fn asks_for_help(words: &[&str]) -> bool {
+    match words {
+        [word] => matches!(*word, "--help" | "--version"),
+        _ => false,
+    }
+}
+
+// Writes a text to standard output.
+fn show(rt: &HostRuntime, alloc: Global, text: &str) -> Result<u8, Stop> {
+    match put_all(&mut WriterSink::new(rt.stdout()), text.as_bytes()) {
+        Ok(()) => Ok(0),
+        Err(_) => Err(Stop::CannotWrite(String::from_str(alloc, "stdout")?)),
     }
 }
 

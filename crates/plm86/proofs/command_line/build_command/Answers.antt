@@ -3,12 +3,17 @@ use Rattle.std.proofs.lemmas.Result.{IfErr-weaker, IfOk-weaker}
 use Rattle.clap.specs.Words.{App, Row, Rule, Text, app_of, rule_of, with_rule, with_subcommand, new_rule}
 use Rattle.clap.specs.declared.builder.action.ArgAction.TheVariants.{Append}
 use Rattle.plm86.specs.CommandLine.{needed, several, lettered, build_app, run_app, outer, plm86_app}
+use Rattle.clap.specs.Simple.{app_of_fields}
+use Rattle.clap.specs.declared.builder.command.Command.{Command}
+use Rattle.clap.specs.declared.builder.command.Command.TheOpen.{Command-F}
 use Rattle.plm86.proofs.command_line.build_command.Goals as goal
 
 pub returns : goal.returns
 returns c =
-    let a0 = c.in_ok-arg.ensures.shape c.option-kib.ensures.local ∙ ap₂ with_rule c.new.ensures.app c.option-kib.ensures.rule in
-    let g0 = c.in_ok-arg.ensures.globals ∙ ap₂ ◌||◌ c.new.ensures.local c.option-kib.ensures.local in
+    let app = ap app_of_fields c.about.ensures ∙ c.new.ensures.app in
+    let local = ap (λ (f : Command-F Command). f.has_globals) c.about.ensures ∙ c.new.ensures.local in
+    let a0 = c.in_ok-arg.ensures.shape c.option-kib.ensures.local ∙ ap₂ with_rule app c.option-kib.ensures.rule in
+    let g0 = c.in_ok-arg.ensures.globals ∙ ap₂ ◌||◌ local c.option-kib.ensures.local in
     let a1 = c.in_ok-arg-2.ensures.shape c.option-rom.ensures.local ∙ ap₂ with_rule a0 c.option-rom.ensures.rule in
     let g1 = c.in_ok-arg-2.ensures.globals ∙ ap₂ ◌||◌ g0 c.option-rom.ensures.local in
     IfOk-weaker c.arg-3.result _ _ (λ r h. (h.shape c.sources-source.ensures.local ∙ ap₂ with_rule a1 c.sources-source.ensures.rule, h.globals ∙ ap₂ ◌||◌ g1 c.sources-source.ensures.local)) c.arg-3.ensures

@@ -10,6 +10,6 @@ returns c =
     record {
       rule = ap rule_of c.required.ensures ∙ ap (λ (r : Rule). record r { required = c.args.is_required })
           (ap rule_of c.short.ensures ∙ ap (λ (r : Rule). record r { short = Some c.args.letter })
-          (ap rule_of c.value_name.ensures ∙ ap (λ (r : Rule). record r { value_names = 1 }) c.new.ensures.rule));
+          (ap rule_of c.value_name.ensures ∙ ap (λ (r : Rule). record r { value_names = 1 }) (ap rule_of c.help.ensures ∙ c.new.ensures.rule)));
       local = search rules;
     }

@@ -3,10 +3,15 @@ use Rattle.std.proofs.lemmas.Result.{IfErr-weaker, IfOk-weaker}
 use Rattle.clap.specs.Words.{App, Row, Rule, Text, app_of, rule_of, with_rule, with_subcommand, new_rule}
 use Rattle.clap.specs.declared.builder.action.ArgAction.TheVariants.{Append}
 use Rattle.plm86.specs.CommandLine.{needed, several, lettered, build_app, run_app, outer, plm86_app}
+use Rattle.clap.specs.Simple.{app_of_fields}
+use Rattle.clap.specs.declared.builder.command.Command.{Command}
+use Rattle.clap.specs.declared.builder.command.Command.TheOpen.{Command-F}
 use Rattle.plm86.proofs.command_line.run_command.Goals as goal
 
 pub returns : goal.returns
 returns c =
-    let a0 = c.in_ok-arg.ensures.shape c.positional-rom.ensures.local ∙ ap₂ with_rule c.new.ensures.app c.positional-rom.ensures.rule in
-    let g0 = c.in_ok-arg.ensures.globals ∙ ap₂ ◌||◌ c.new.ensures.local c.positional-rom.ensures.local in
+    let app = ap app_of_fields c.about.ensures ∙ c.new.ensures.app in
+    let local = ap (λ (f : Command-F Command). f.has_globals) c.about.ensures ∙ c.new.ensures.local in
+    let a0 = c.in_ok-arg.ensures.shape c.positional-rom.ensures.local ∙ ap₂ with_rule app c.positional-rom.ensures.rule in
+    let g0 = c.in_ok-arg.ensures.globals ∙ ap₂ ◌||◌ local c.positional-rom.ensures.local in
     IfOk-weaker c.arg-2.result _ _ (λ r h. (h.shape c.positional-schedule.ensures.local ∙ ap₂ with_rule a0 c.positional-schedule.ensures.rule, h.globals ∙ ap₂ ◌||◌ g0 c.positional-schedule.ensures.local)) c.arg-2.ensures
