@@ -9,7 +9,7 @@ use Rattle.word86.specs.declared.label.Label.{Label}
 use Rattle.word86.specs.declared.label.Label.TheVariants.{Scr, ScrW}
 use Rattle.cpu8086.specs.declared.bus.Store.{Store}
 use Rattle.cpu8086.specs.declared.bus.Store.TheVariants as stores
-use Rattle.cpu8086.specs.Meaning.{Meaning, LoadAfterStore, PortsKeepMemory}
+use Rattle.cpu8086.specs.BusModel.{BusModel, LoadAfterStore, PortsKeepMemory}
 
 abbrev pub TestWorld : Type 0
 TestWorld = List ℕ × Option ℕ
@@ -28,7 +28,7 @@ abbrev pub shown : Store → Option Label
 shown (stores.Byte address value) = if on_screen address then Some (Scr (address % 65536) value) else None
 shown (stores.Word low high value) = if on_screen low then Some (ScrW (low % 65536) value) else None
 
-abbrev pub test_bus : Meaning TestWorld
+abbrev pub test_bus : BusModel TestWorld
 test_bus = record {
   load = λ w a. slice_index_or w.0 a 255;
   store = λ w s. (put_store w.0 s, w.1);

@@ -7,7 +7,7 @@
 use bitflags::Flags as _;
 use i86_table::{
     Address, AluOperation, AluOperation as Alu, Base, BytePair, Condition, Flags, LoadableSegment,
-    Operands, Place, Port, Register8, Register16, Regs, Segment, ShiftOperation,
+    Operands, Port, Register8, Register16, Regs, RmOperand, Segment, ShiftOperation,
     ShiftOperation as Shift, Signedness, Signedness as Sign, UnaryOperation,
     UnaryOperation as Unary, WordPair, divide, sign_extended, sign_word,
 };
@@ -558,8 +558,11 @@ fn registers(rt: HostRuntime) {
     regs.test(Width::Byte, 0x80, 0x80);
     assert_eq!(rt; regs.flags().bits(), 0x790);
     assert_eq!(rt; (sign_extended(0x80), sign_word(0x7FFF)), (0xFF80, 0));
-    let operands: Operands<Register8, u8> = Operands::Immediate(Place::Register(Register8::Cl), 1);
-    assert!(rt; matches!(operands.target(), Place::Register(Register8::Cl)));
+    let operands: Operands<Register8, u8> = Operands::Immediate(
+        RmOperand::Register(Register8::Cl),
+        1,
+    );
+    assert!(rt; matches!(operands.target(), RmOperand::Register(Register8::Cl)));
     let words = WordPair::of(Register16::Dx, Register16::Ax);
     assert!(rt; words.first == Register16::Ax && words.second == Register16::Dx);
     let bytes = BytePair::of(Register8::Al, Register8::Bh);

@@ -3,9 +3,10 @@
 ghost use Rattle.std.specs.Prelude.{◌≡◌};
 ghost use Rattle.acceptance.specs.TestBus.{TestWorld, test_bus, put, load_after_store_law, ports_law};
 
+use arrayvec::ArrayVec;
 use bitflags::Flags as _;
 use cpu8086::{Bus, Cpu, DecodeCache, Kind, Phase, Store};
-use i86_table::{LoadableSegment, Register16, Segment};
+use i86_table::{Flags, LoadableSegment, Register16, Segment};
 use std::alloc::{AllocError, Global};
 use std::process::Abort;
 use std::test::Fail;
@@ -55,7 +56,7 @@ impl Bus for TestBus {
 
     ghost world = { λ b. (b.memory.items, b.request) };
 
-    ghost meaning = { test_bus };
+    ghost model = { test_bus };
 
     fn load(&self, address: u32) -> u8 {
         self.memory.get(address as usize).copied().unwrap_or(255)
@@ -114,7 +115,7 @@ impl Bus for TestBus {
     ghost ports_keep_memory = { ports_law };
 }
 
-/// So many turns, or as many as there are before one outside the table, whose address is answered.
+/// This number of turns, or as many as there are before one outside the table, whose address is answered.
 fn run(cpu: &mut Cpu, bus: &mut TestBus, turns: u32) -> Option<u32> {
     for _ in 0..turns {
         if let Kind::Opcode(address) = cpu.turn(bus).kind {
@@ -358,6 +359,52 @@ fn interrupts(rt: HostRuntime) -> Result<(), Fail> {
     Ok(())
 }
 
+/// POPF that sets IF, with a request: the acknowledgement comes at once.
+#[test]
+fn no_delay_after_popf(rt: HostRuntime) -> Result<(), Fail> {
+    let mut bus = TestBus::filled(rt.alloc(), 0)?;
+    bus.write(0xFFFF0, &[0x9D, 0x90]);
+    bus.write(32, &[0x00, 0x20, 0x00, 0x00]);
+    bus.write(0x100, &[0x00, 0x02]);
+    let mut cpu = Cpu::reset();
+    cpu.registers.set_word(Register16::Sp, 0x100);
+    bus.request = Some(8);
+    assert_eq!(rt; cpu.turn(&mut bus).kind, Kind::Instr);
+    assert_eq!(rt; cpu.turn(&mut bus).kind, Kind::Ack);
+    assert_eq!(rt; cpu.registers.ip(), 0x2000);
+    Ok(())
+}
+
+/// POPF of 0FFFFH; PUSHF: the bits that are no flags are 0.
+#[test]
+fn flags_that_are_pushed(rt: HostRuntime) -> Result<(), Fail> {
+    let mut bus = TestBus::filled(rt.alloc(), 0)?;
+    bus.write(0xFFFF0, &[0x9D, 0x9C]);
+    bus.write(0xB0100, &[0xFF, 0xFF]);
+    let mut cpu = Cpu::reset();
+    cpu.registers.set_segment(LoadableSegment::Ss, 0xB000);
+    cpu.registers.set_word(Register16::Sp, 0x100);
+    assert!(rt; cpu.turn(&mut bus).labels.as_slice().is_empty());
+    let turn = cpu.turn(&mut bus);
+    assert!(rt; turn.labels.as_slice() == [Label::ScrW(0x100, 0x0FD5)].as_slice());
+    Ok(())
+}
+
+/// SHL byte [8000H],CL with CL = 0: the byte is stored and shown, and no flag changes.
+#[test]
+fn shift_by_no_places(rt: HostRuntime) -> Result<(), Fail> {
+    let mut bus = TestBus::filled(rt.alloc(), 0)?;
+    bus.write(0xFFFF0, &[0xD2, 0x26, 0x00, 0x80]);
+    bus.write(0xB8000, &[0x5A]);
+    let mut cpu = Cpu::reset();
+    cpu.registers.set_segment(LoadableSegment::Ds, 0xB000);
+    cpu.registers.set_flags(Flags::of_word(0x08C5));
+    let turn = cpu.turn(&mut bus);
+    assert!(rt; turn.labels.as_slice() == [Label::Scr(0x8000, 0x5A)].as_slice());
+    assert_eq!(rt; cpu.registers.flags().bits(), 0x08C5);
+    Ok(())
+}
+
 /// IN AL,DX; OUT 61H,AX; and a word on the screen.
 #[test]
 fn shows(rt: HostRuntime) -> Result<(), Fail> {
@@ -388,7 +435,8 @@ fn remembered_instructions(rt: HostRuntime) -> Result<(), Fail> {
     cpu.registers.set_ip(0x1000);
     for ax in [1, 0, 1, 0, 1] {
         for _ in 0..3 {
-            cpu.turn_cached(&mut bus, &mut cache);
+            let mut labels = ArrayVec::new();
+            cpu.turn_leaving_labels(&mut bus, &mut cache, &mut labels);
         }
         assert_eq!(rt;
             (cpu.registers.word(Register16::Ax), cpu.registers.ip()),

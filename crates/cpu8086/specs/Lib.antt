@@ -1,4 +1,4 @@
-pub mod Meaning
+pub mod BusModel
 pub mod Machine
 pub mod Operands
 pub mod Control

@@ -12,7 +12,7 @@ use crate::control::interrupt;
 use crate::memory::Labels;
 use crate::operand::{Operand, locate, locate_memory, read_mask, read_memory};
 use i86_table::{
-    AluOperation, Count, Memory, Operands, Place, Register8, Register16, Regs, ShiftOperation,
+    AluOperation, Count, Memory, Operands, Register8, Register16, Regs, RmOperand, ShiftOperation,
     Signedness, TestMask, UnaryOperation, divide,
 };
 use word86::Width;
@@ -37,7 +37,7 @@ pub(crate) fn compute<R: Operand, B: Bus>(
 )
     requires { array_vec_len labels.old < 4 }
     ensures { machine registers.new (B.world bus.new) labels.new.items
-        ≡ computed B.meaning R.bank operation operands.now (machine registers.old (B.world bus.old) labels.old.items) }
+        ≡ computed B.model R.bank operation operands.now (machine registers.old (B.world bus.old) labels.old.items) }
 {
     match operands {
         Operands::FromRegister(place, source) => {
@@ -65,7 +65,7 @@ pub(crate) fn compute_byte<B: Bus>(
 )
     requires { array_vec_len labels.old < 4 }
     ensures { machine registers.new (B.world bus.new) labels.new.items
-        ≡ computed B.meaning bytes operation operands.now (machine registers.old (B.world bus.old) labels.old.items) }
+        ≡ computed B.model bytes operation operands.now (machine registers.old (B.world bus.old) labels.old.items) }
 {
     compute(registers, bus, labels, operation, operands);
 }
@@ -78,7 +78,7 @@ fn compute_from_memory<R: Operand, B: Bus>(
     register: R,
     memory: &Memory,
 )
-    ensures { registers.new ≡ register_computed R.bank operation register (held B.meaning R.bank registers.old (B.world bus.now) (in_memory registers.old memory.now)) registers.old }
+    ensures { registers.new ≡ register_computed R.bank operation register (held B.model R.bank registers.old (B.world bus.now) (in_memory registers.old memory.now)) registers.old }
 {
     let second = read_memory::<R, B>(registers, bus, memory);
     compute_register(registers, operation, register, second);
@@ -91,17 +91,17 @@ fn compute_place<R: Operand, B: Bus>(
     bus: &mut B,
     labels: &mut Labels,
     operation: AluOperation,
-    place: &Place<R>,
+    place: &RmOperand<R>,
     second: u16,
 )
     requires fits { second < size_of R.bank.width }
     requires room { array_vec_len labels.old < 4 }
     ensures { machine registers.new (B.world bus.new) labels.new.items
-        ≡ computed_at B.meaning R.bank operation (located registers.old place.now) second (machine registers.old (B.world bus.old) labels.old.items) }
+        ≡ computed_at B.model R.bank operation (located registers.old place.now) second (machine registers.old (B.world bus.old) labels.old.items) }
 {
     match place {
-        Place::Register(register) => compute_register(registers, operation, *register, second),
-        Place::Memory(memory) => {
+        RmOperand::Register(register) => compute_register(registers, operation, *register, second),
+        RmOperand::Memory(memory) => {
             compute_memory::<R, B>(registers, bus, labels, operation, memory, second);
         }
     }
@@ -138,7 +138,7 @@ fn compute_memory<R: Operand, B: Bus>(
     requires fits { second < size_of R.bank.width }
     requires room { array_vec_len labels.old < 4 }
     ensures { machine registers.new (B.world bus.new) labels.new.items
-        ≡ computed_at B.meaning R.bank operation (in_memory registers.old memory.now) second (machine registers.old (B.world bus.old) labels.old.items) }
+        ≡ computed_at B.model R.bank operation (in_memory registers.old memory.now) second (machine registers.old (B.world bus.old) labels.old.items) }
 {
     let target = locate_memory::<R>(registers, memory);
     let first = target.read(registers, bus);
@@ -156,15 +156,15 @@ pub(crate) fn change_in_place<R: Operand, B: Bus>(
     bus: &mut B,
     labels: &mut Labels,
     operation: UnaryOperation,
-    place: &Place<R>,
+    place: &RmOperand<R>,
 )
     requires { array_vec_len labels.old < 4 }
     ensures { machine registers.new (B.world bus.new) labels.new.items
-        ≡ changed_in_place B.meaning R.bank operation place.now (machine registers.old (B.world bus.old) labels.old.items) }
+        ≡ changed_in_place B.model R.bank operation place.now (machine registers.old (B.world bus.old) labels.old.items) }
 {
     match place {
-        Place::Register(register) => change_register(registers, operation, *register),
-        Place::Memory(_) => change_located(registers, bus, labels, operation, place),
+        RmOperand::Register(register) => change_register(registers, operation, *register),
+        RmOperand::Memory(_) => change_located(registers, bus, labels, operation, place),
     }
 }
 
@@ -175,11 +175,11 @@ pub(crate) fn change_byte<B: Bus>(
     bus: &mut B,
     labels: &mut Labels,
     operation: UnaryOperation,
-    place: &Place<Register8>,
+    place: &RmOperand<Register8>,
 )
     requires { array_vec_len labels.old < 4 }
     ensures { machine registers.new (B.world bus.new) labels.new.items
-        ≡ changed_in_place B.meaning bytes operation place.now (machine registers.old (B.world bus.old) labels.old.items) }
+        ≡ changed_in_place B.model bytes operation place.now (machine registers.old (B.world bus.old) labels.old.items) }
 {
     change_in_place(registers, bus, labels, operation, place);
 }
@@ -200,11 +200,11 @@ fn change_located<R: Operand, B: Bus>(
     bus: &mut B,
     labels: &mut Labels,
     operation: UnaryOperation,
-    place: &Place<R>,
+    place: &RmOperand<R>,
 )
     requires { array_vec_len labels.old < 4 }
     ensures { machine registers.new (B.world bus.new) labels.new.items
-        ≡ changed_in_place B.meaning R.bank operation place.now (machine registers.old (B.world bus.old) labels.old.items) }
+        ≡ changed_in_place B.model R.bank operation place.now (machine registers.old (B.world bus.old) labels.old.items) }
 {
     let target = locate(registers, place);
     let value = target.read(registers, bus);
@@ -218,10 +218,10 @@ fn change_located<R: Operand, B: Bus>(
 pub(crate) fn test_place<R: Operand, B: Bus>(
     registers: &mut Regs,
     bus: &B,
-    place: &Place<R>,
+    place: &RmOperand<R>,
     mask: &TestMask<R, R::Number>,
 )
-    ensures { registers.new ≡ tested_place B.meaning R.bank place.now mask.now (B.world bus.now) registers.old }
+    ensures { registers.new ≡ tested_place B.model R.bank place.now mask.now (B.world bus.now) registers.old }
 {
     let first = locate(registers, place).read(registers, bus);
     let second = read_mask(registers, mask);
@@ -246,12 +246,12 @@ pub(crate) fn shift_place<R: Operand, B: Bus>(
     bus: &mut B,
     labels: &mut Labels,
     operation: ShiftOperation,
-    place: &Place<R>,
+    place: &RmOperand<R>,
     count: Count,
 )
     requires { array_vec_len labels.old < 4 }
     ensures { machine registers.new (B.world bus.new) labels.new.items
-        ≡ shifted_place B.meaning R.bank operation place.now count (machine registers.old (B.world bus.old) labels.old.items) }
+        ≡ shifted_place B.model R.bank operation place.now count (machine registers.old (B.world bus.old) labels.old.items) }
 {
     let target = locate(registers, place);
     let value = target.read(registers, bus);
@@ -267,9 +267,9 @@ pub(crate) fn multiply_byte<B: Bus>(
     registers: &mut Regs,
     bus: &B,
     signedness: Signedness,
-    place: &Place<Register8>,
+    place: &RmOperand<Register8>,
 )
-    ensures { registers.new ≡ multiplied_byte B.meaning signedness place.now (B.world bus.now) registers.old }
+    ensures { registers.new ≡ multiplied_byte B.model signedness place.now (B.world bus.now) registers.old }
 {
     let factor = locate(registers, place).read(registers, bus);
     let accumulator = u16::from(registers.byte(Register8::Al));
@@ -284,9 +284,9 @@ pub(crate) fn multiply_word<B: Bus>(
     registers: &mut Regs,
     bus: &B,
     signedness: Signedness,
-    place: &Place<Register16>,
+    place: &RmOperand<Register16>,
 )
-    ensures { registers.new ≡ multiplied_word B.meaning signedness place.now (B.world bus.now) registers.old }
+    ensures { registers.new ≡ multiplied_word B.model signedness place.now (B.world bus.now) registers.old }
 {
     let factor = locate(registers, place).read(registers, bus);
     let accumulator = registers.word(Register16::Ax);
@@ -303,11 +303,11 @@ pub(crate) fn divide_byte<B: Bus>(
     bus: &mut B,
     labels: &mut Labels,
     signedness: Signedness,
-    place: &Place<Register8>,
+    place: &RmOperand<Register8>,
 )
     requires { array_vec_len labels.old ≤ 1 }
     ensures { machine registers.new (B.world bus.new) labels.new.items
-        ≡ divided_byte B.meaning signedness place.now (machine registers.old (B.world bus.old) labels.old.items) }
+        ≡ divided_byte B.model signedness place.now (machine registers.old (B.world bus.old) labels.old.items) }
 {
     let divisor = locate(registers, place).read(registers, bus);
     let dividend = u32::from(registers.word(Register16::Ax));
@@ -334,11 +334,11 @@ pub(crate) fn divide_word<B: Bus>(
     bus: &mut B,
     labels: &mut Labels,
     signedness: Signedness,
-    place: &Place<Register16>,
+    place: &RmOperand<Register16>,
 )
     requires { array_vec_len labels.old ≤ 1 }
     ensures { machine registers.new (B.world bus.new) labels.new.items
-        ≡ divided_word B.meaning signedness place.now (machine registers.old (B.world bus.old) labels.old.items) }
+        ≡ divided_word B.model signedness place.now (machine registers.old (B.world bus.old) labels.old.items) }
 {
     let divisor = locate(registers, place).read(registers, bus);
     let dividend = two_words(

@@ -11,7 +11,7 @@ use crate::bus::Bus;
 use crate::memory::{Labels, pop, push};
 use crate::operand::locate;
 use bitflags::Flags as _;
-use i86_table::{Condition, Flags, Place, Register16, Regs, Segment, sign_extended};
+use i86_table::{Condition, Flags, Register16, Regs, RmOperand, Segment, sign_extended};
 
 /// The flags as they are pushed: a bit without a name is 0.
 #[inline(always)]
@@ -56,8 +56,8 @@ pub(crate) fn jump_on(registers: &mut Regs, condition: Condition, distance: u8)
 
 /// JMP to an offset in a register or in memory.
 #[inline(never)]
-pub(crate) fn jump_to<B: Bus>(registers: &mut Regs, bus: &B, place: &Place<Register16>)
-    ensures { registers.new ≡ with_ip (named_offset B.meaning place.now (B.world bus.now) registers.old) registers.old }
+pub(crate) fn jump_to<B: Bus>(registers: &mut Regs, bus: &B, place: &RmOperand<Register16>)
+    ensures { registers.new ≡ with_ip (named_offset B.model place.now (B.world bus.now) registers.old) registers.old }
 {
     registers.set_ip(locate(registers, place).read(registers, bus));
 }
@@ -77,7 +77,7 @@ pub(crate) fn count_and_jump(registers: &mut Regs, distance: u8)
 fn call_at<B: Bus>(registers: &mut Regs, bus: &mut B, labels: &mut Labels, ip: u16)
     requires { array_vec_len labels.old < 4 }
     ensures { machine registers.new (B.world bus.new) labels.new.items
-        ≡ called_at B.meaning ip (machine registers.old (B.world bus.old) labels.old.items) }
+        ≡ called_at B.model ip (machine registers.old (B.world bus.old) labels.old.items) }
 {
     push(registers, bus, labels, registers.ip());
     registers.set_ip(ip);
@@ -89,7 +89,7 @@ fn call_at<B: Bus>(registers: &mut Regs, bus: &mut B, labels: &mut Labels, ip: u
 pub(crate) fn call<B: Bus>(registers: &mut Regs, bus: &mut B, labels: &mut Labels, distance: u16)
     requires { array_vec_len labels.old < 4 }
     ensures { machine registers.new (B.world bus.new) labels.new.items
-        ≡ called B.meaning distance (machine registers.old (B.world bus.old) labels.old.items) }
+        ≡ called B.model distance (machine registers.old (B.world bus.old) labels.old.items) }
 {
     let ip = registers.ip().wrapping_add(distance);
     call_at(registers, bus, labels, ip);
@@ -102,11 +102,11 @@ pub(crate) fn call_to<B: Bus>(
     registers: &mut Regs,
     bus: &mut B,
     labels: &mut Labels,
-    place: &Place<Register16>,
+    place: &RmOperand<Register16>,
 )
     requires { array_vec_len labels.old < 4 }
     ensures { machine registers.new (B.world bus.new) labels.new.items
-        ≡ called_to B.meaning place.now (machine registers.old (B.world bus.old) labels.old.items) }
+        ≡ called_to B.model place.now (machine registers.old (B.world bus.old) labels.old.items) }
 {
     let ip = locate(registers, place).read(registers, bus);
     call_at(registers, bus, labels, ip);
@@ -116,17 +116,17 @@ pub(crate) fn call_to<B: Bus>(
 #[tactic(auto, unfolding(crate::specs::Control::returned))]
 #[inline(never)]
 pub(crate) fn return_near<B: Bus>(registers: &mut Regs, bus: &B)
-    ensures { registers.new ≡ returned B.meaning (B.world bus.now) registers.old }
+    ensures { registers.new ≡ returned B.model (B.world bus.now) registers.old }
 {
     let ip = pop(registers, bus);
     registers.set_ip(ip);
 }
 
-/// RET that drops so many bytes more.
+/// RET that drops this number of bytes more.
 #[tactic(auto, unfolding(crate::specs::Control::returned_dropping))]
 #[inline(never)]
 pub(crate) fn return_dropping<B: Bus>(registers: &mut Regs, bus: &B, count: u16)
-    ensures { registers.new ≡ returned_dropping B.meaning count (B.world bus.now) registers.old }
+    ensures { registers.new ≡ returned_dropping B.model count (B.world bus.now) registers.old }
 {
     return_near(registers, bus);
     let sp = registers.word(Register16::Sp).wrapping_add(count);
@@ -137,7 +137,7 @@ pub(crate) fn return_dropping<B: Bus>(registers: &mut Regs, bus: &B, count: u16)
 #[tactic(auto, unfolding(crate::specs::Control::flags_popped))]
 #[inline(never)]
 pub(crate) fn pop_flags<B: Bus>(registers: &mut Regs, bus: &B)
-    ensures { registers.new ≡ flags_popped B.meaning (B.world bus.now) registers.old }
+    ensures { registers.new ≡ flags_popped B.model (B.world bus.now) registers.old }
 {
     let word = pop(registers, bus);
     registers.set_flags(Flags::of_word(word));
@@ -147,7 +147,7 @@ pub(crate) fn pop_flags<B: Bus>(registers: &mut Regs, bus: &B)
 #[tactic(auto, unfolding(crate::specs::Control::returned_from_interrupt))]
 #[inline(never)]
 pub(crate) fn return_from_interrupt<B: Bus>(registers: &mut Regs, bus: &B)
-    ensures { registers.new ≡ returned_from_interrupt B.meaning (B.world bus.now) registers.old }
+    ensures { registers.new ≡ returned_from_interrupt B.model (B.world bus.now) registers.old }
 {
     return_near(registers, bus);
     let segment = pop(registers, bus);
@@ -161,7 +161,7 @@ pub(crate) fn return_from_interrupt<B: Bus>(registers: &mut Regs, bus: &B)
 pub(crate) fn interrupt<B: Bus>(registers: &mut Regs, bus: &mut B, labels: &mut Labels, number: u8)
     requires { array_vec_len labels.old ≤ 1 }
     ensures { machine registers.new (B.world bus.new) labels.new.items
-        ≡ interrupted B.meaning number (machine registers.old (B.world bus.old) labels.old.items) }
+        ≡ interrupted B.model number (machine registers.old (B.world bus.old) labels.old.items) }
 {
     let flags = flag_word(registers.flags());
     push(registers, bus, labels, flags);

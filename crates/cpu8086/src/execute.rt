@@ -52,7 +52,7 @@ pub(crate) fn execute<B: Bus>(
     requires running { phase.old ≡ Running }
     ensures phase { phase.new ≡ phase_after instruction.now }
     ensures after { machine registers.new (B.world bus.new) labels.new.items
-        ≡ effect B.meaning instruction.now start (machine registers.old (B.world bus.old) labels.old.items) }
+        ≡ effect B.model instruction.now start (machine registers.old (B.world bus.old) labels.old.items) }
 {
     match instruction {
         Instr::Nop => {}

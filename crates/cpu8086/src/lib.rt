@@ -16,3 +16,4 @@ mod strings;
 pub use bus::{Bus, Store};
 pub use cache::DecodeCache;
 pub use cpu::{Cpu, Kind, Phase, Turn};
+pub use memory::physical;

@@ -10,8 +10,8 @@ use crate::bus::Bus;
 use crate::memory::{Labels, pop, push};
 use crate::operand::{Operand, locate, locate_memory, read_source};
 use i86_table::{
-    BytePair, LoadableSegment, Memory, Operands, Place, Port, Register8, Register16, Regs, Segment,
-    WordPair, sign_extended, sign_word,
+    BytePair, LoadableSegment, Memory, Operands, Port, Register8, Register16, Regs, RmOperand,
+    Segment, WordPair, sign_extended, sign_word,
 };
 use word86::{Label, Width};
 
@@ -26,7 +26,7 @@ pub(crate) fn move_operands<R: Operand, B: Bus>(
 )
     requires { array_vec_len labels.old < 4 }
     ensures { machine registers.new (B.world bus.new) labels.new.items
-        ≡ moved B.meaning R.bank operands.now (machine registers.old (B.world bus.old) labels.old.items) }
+        ≡ moved B.model R.bank operands.now (machine registers.old (B.world bus.old) labels.old.items) }
 {
     let value = read_source(registers, bus, operands);
     match operands {
@@ -49,7 +49,7 @@ pub(crate) fn exchange_with<R: Operand, B: Bus>(
 )
     requires { array_vec_len labels.old < 4 }
     ensures { machine registers.new (B.world bus.new) labels.new.items
-        ≡ exchanged_with B.meaning R.bank register memory.now (machine registers.old (B.world bus.old) labels.old.items) }
+        ≡ exchanged_with B.model R.bank register memory.now (machine registers.old (B.world bus.old) labels.old.items) }
 {
     let spot = locate_memory::<R>(registers, memory);
     let value = spot.read(registers, bus);
@@ -103,12 +103,12 @@ pub(crate) fn move_from_segment<B: Bus>(
     registers: &mut Regs,
     bus: &mut B,
     labels: &mut Labels,
-    place: &Place<Register16>,
+    place: &RmOperand<Register16>,
     segment: Segment,
 )
     requires { array_vec_len labels.old < 4 }
     ensures { machine registers.new (B.world bus.new) labels.new.items
-        ≡ moved_from_segment B.meaning place.now segment (machine registers.old (B.world bus.old) labels.old.items) }
+        ≡ moved_from_segment B.model place.now segment (machine registers.old (B.world bus.old) labels.old.items) }
 {
     let value = registers.segment(segment);
     locate(registers, place).write(registers, bus, labels, value);
@@ -121,20 +121,20 @@ pub(crate) fn move_to_segment<B: Bus>(
     registers: &mut Regs,
     bus: &B,
     segment: LoadableSegment,
-    place: &Place<Register16>,
+    place: &RmOperand<Register16>,
 )
-    ensures { registers.new ≡ moved_to_segment B.meaning segment place.now (B.world bus.now) registers.old }
+    ensures { registers.new ≡ moved_to_segment B.model segment place.now (B.world bus.now) registers.old }
 {
     let value = locate(registers, place).read(registers, bus);
     registers.set_segment(segment, value);
 }
 
 #[inline(always)]
-fn pushed_value<B: Bus>(registers: &Regs, bus: &B, place: &Place<Register16>) -> u16
-    ensures { result ≡ pushed_value B.meaning place.now (B.world bus.now) registers.now }
+fn pushed_value<B: Bus>(registers: &Regs, bus: &B, place: &RmOperand<Register16>) -> u16
+    ensures { result ≡ pushed_value B.model place.now (B.world bus.now) registers.now }
 {
     match place {
-        Place::Register(Register16::Sp) => registers.word(Register16::Sp).wrapping_sub(2),
+        RmOperand::Register(Register16::Sp) => registers.word(Register16::Sp).wrapping_sub(2),
         _ => locate(registers, place).read(registers, bus),
     }
 }
@@ -146,11 +146,11 @@ pub(crate) fn push_place<B: Bus>(
     registers: &mut Regs,
     bus: &mut B,
     labels: &mut Labels,
-    place: &Place<Register16>,
+    place: &RmOperand<Register16>,
 )
     requires { array_vec_len labels.old < 4 }
     ensures { machine registers.new (B.world bus.new) labels.new.items
-        ≡ pushed_place B.meaning place.now (machine registers.old (B.world bus.old) labels.old.items) }
+        ≡ pushed_place B.model place.now (machine registers.old (B.world bus.old) labels.old.items) }
 {
     let value = pushed_value(registers, bus, place);
     push(registers, bus, labels, value);
@@ -163,11 +163,11 @@ pub(crate) fn pop_to<B: Bus>(
     registers: &mut Regs,
     bus: &mut B,
     labels: &mut Labels,
-    place: &Place<Register16>,
+    place: &RmOperand<Register16>,
 )
     requires { array_vec_len labels.old < 4 }
     ensures { machine registers.new (B.world bus.new) labels.new.items
-        ≡ popped_to B.meaning place.now (machine registers.old (B.world bus.old) labels.old.items) }
+        ≡ popped_to B.model place.now (machine registers.old (B.world bus.old) labels.old.items) }
 {
     let value = pop(registers, bus);
     locate(registers, place).write(registers, bus, labels, value);
@@ -177,7 +177,7 @@ pub(crate) fn pop_to<B: Bus>(
 #[tactic(auto, unfolding(crate::specs::Moves::popped_to_segment))]
 #[inline(never)]
 pub(crate) fn pop_to_segment<B: Bus>(registers: &mut Regs, bus: &B, segment: LoadableSegment)
-    ensures { registers.new ≡ popped_to_segment B.meaning segment (B.world bus.now) registers.old }
+    ensures { registers.new ≡ popped_to_segment B.model segment (B.world bus.now) registers.old }
 {
     let value = pop(registers, bus);
     registers.set_segment(segment, value);
@@ -251,7 +251,7 @@ pub(crate) fn input<B: Bus>(
 )
     requires { array_vec_len labels.old < 4 }
     ensures { machine registers.new (B.world bus.new) labels.new.items
-        ≡ read_in B.meaning width port (machine registers.old (B.world bus.old) labels.old.items) }
+        ≡ read_in B.model width port (machine registers.old (B.world bus.old) labels.old.items) }
 {
     let port = registers.port(port);
     let value = wrapped(width, bus.port_in(width, port));
@@ -271,7 +271,7 @@ pub(crate) fn output<B: Bus>(
 )
     requires { array_vec_len labels.old < 4 }
     ensures { machine registers.now (B.world bus.new) labels.new.items
-        ≡ written_out B.meaning width port (machine registers.now (B.world bus.old) labels.old.items) }
+        ≡ written_out B.model width port (machine registers.now (B.world bus.old) labels.old.items) }
 {
     let port = registers.port(port);
     let value = accumulator(width, registers);

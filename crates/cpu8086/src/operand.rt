@@ -8,7 +8,7 @@ ghost use Rattle.cpu8086.specs.Operands.{Bank, bytes, words, located, in_memory,
 
 use crate::bus::Bus;
 use crate::memory::{Labels, load, store};
-use i86_table::{Memory, Operands, Place, Register8, Register16, Regs, TestMask};
+use i86_table::{Memory, Operands, Register8, Register16, Regs, RmOperand, TestMask};
 use word86::Width;
 
 /// Where an operand lies: in a register, or at a segment's value and an offset.
@@ -96,19 +96,19 @@ pub(crate) fn locate_memory<R: Operand>(registers: &Regs, memory: &Memory) -> Sp
 }
 
 #[inline(always)]
-pub(crate) fn locate<R: Operand>(registers: &Regs, place: &Place<R>) -> Spot<R>
+pub(crate) fn locate<R: Operand>(registers: &Regs, place: &RmOperand<R>) -> Spot<R>
     ensures { result ≡ located registers.now place.now }
 {
     match place {
-        Place::Register(register) => Spot::Register(*register),
-        Place::Memory(memory) => locate_memory(registers, memory),
+        RmOperand::Register(register) => Spot::Register(*register),
+        RmOperand::Memory(memory) => locate_memory(registers, memory),
     }
 }
 
 impl<R: Operand> Spot<R> {
     #[inline(always)]
     pub(crate) fn read<B: Bus>(self, registers: &Regs, bus: &B) -> u16
-        ensures value { result ≡ held B.meaning R.bank registers.now (B.world bus.now) self }
+        ensures value { result ≡ held B.model R.bank registers.now (B.world bus.now) self }
         ensures fits { result < size_of R.bank.width }
     {
         match self {
@@ -129,7 +129,7 @@ impl<R: Operand> Spot<R> {
         requires fits { value < size_of R.bank.width }
         requires room { array_vec_len labels.old < 4 }
         ensures after { machine registers.new (B.world bus.new) labels.new.items
-            ≡ put B.meaning R.bank self value (machine registers.old (B.world bus.old) labels.old.items) }
+            ≡ put B.model R.bank self value (machine registers.old (B.world bus.old) labels.old.items) }
         ensures room { array_vec_len labels.new ≤ array_vec_len labels.old + 1 }
     {
         match self {
@@ -143,7 +143,7 @@ impl<R: Operand> Spot<R> {
 
 #[inline(always)]
 pub(crate) fn read_memory<R: Operand, B: Bus>(registers: &Regs, bus: &B, memory: &Memory) -> u16
-    ensures value { result ≡ held B.meaning R.bank registers.now (B.world bus.now) (in_memory registers.now memory.now) }
+    ensures value { result ≡ held B.model R.bank registers.now (B.world bus.now) (in_memory registers.now memory.now) }
     ensures fits { result < size_of R.bank.width }
 {
     locate_memory::<R>(registers, memory).read(registers, bus)
@@ -155,7 +155,7 @@ pub(crate) fn read_source<R: Operand, B: Bus>(
     bus: &B,
     operands: &Operands<R, R::Number>,
 ) -> u16
-    ensures value { result ≡ source B.meaning R.bank registers.now (B.world bus.now) operands.now }
+    ensures value { result ≡ source B.model R.bank registers.now (B.world bus.now) operands.now }
     ensures fits { result < size_of R.bank.width }
 {
     match operands {

@@ -45,7 +45,7 @@ fn move_unit<B: Bus>(
 )
     requires { array_vec_len labels.old < 4 }
     ensures { machine registers.new (B.world bus.new) labels.new.items
-        ≡ unit_moved B.meaning width source (machine registers.old (B.world bus.old) labels.old.items) }
+        ≡ unit_moved B.model width source (machine registers.old (B.world bus.old) labels.old.items) }
 {
     let value = load(
         bus,
@@ -69,7 +69,7 @@ fn move_unit<B: Bus>(
 fn store_unit<B: Bus>(registers: &mut Regs, bus: &mut B, labels: &mut Labels, width: Width)
     requires { array_vec_len labels.old < 4 }
     ensures { machine registers.new (B.world bus.new) labels.new.items
-        ≡ unit_stored B.meaning width (machine registers.old (B.world bus.old) labels.old.items) }
+        ≡ unit_stored B.model width (machine registers.old (B.world bus.old) labels.old.items) }
 {
     let value = accumulator(width, registers);
     store(
@@ -118,7 +118,7 @@ pub(crate) fn move_string<B: Bus>(
 )
     requires { array_vec_len labels.old < 4 }
     ensures { machine registers.new (B.world bus.new) labels.new.items
-        ≡ string_moved B.meaning width source repeat start (machine registers.old (B.world bus.old) labels.old.items) }
+        ≡ string_moved B.model width source repeat start (machine registers.old (B.world bus.old) labels.old.items) }
 {
     if is_due(repeat, registers) {
         move_unit(registers, bus, labels, width, source);
@@ -139,7 +139,7 @@ pub(crate) fn store_string<B: Bus>(
 )
     requires { array_vec_len labels.old < 4 }
     ensures { machine registers.new (B.world bus.new) labels.new.items
-        ≡ string_stored B.meaning width repeat start (machine registers.old (B.world bus.old) labels.old.items) }
+        ≡ string_stored B.model width repeat start (machine registers.old (B.world bus.old) labels.old.items) }
 {
     if is_due(repeat, registers) {
         store_unit(registers, bus, labels, width);

@@ -16,8 +16,8 @@ use Rattle.i86_table.specs.declared.instruction.ShiftOperation.{ShiftOperation}
 use Rattle.i86_table.specs.declared.instruction.Signedness.TheVariants.{Unsigned, Signed}
 use Rattle.i86_table.specs.declared.instruction.Count.{Count}
 use Rattle.i86_table.specs.declared.instruction.Address.{Address}
-use Rattle.i86_table.specs.declared.instruction.Place.{Place}
-use Rattle.i86_table.specs.declared.instruction.Place.TheVariants as places
+use Rattle.i86_table.specs.declared.instruction.RmOperand.{RmOperand}
+use Rattle.i86_table.specs.declared.instruction.RmOperand.TheVariants as rm
 use Rattle.i86_table.specs.declared.instruction.Operands.TheVariants.{FromRegister, Immediate}
 use Rattle.i86_table.specs.declared.instruction.TestMask.TheVariants as masks
 use Rattle.i86_table.specs.declared.instruction.Repeat.{Repeat}
@@ -31,7 +31,7 @@ use Rattle.i86_table.specs.Pairs.{byte_pair, word_pair}
 use Rattle.i86_table.specs.PairLaws.{BytePairLaws, WordPairLaws}
 use Rattle.i86_code.specs.declared.form.Opcode.{Opcode}
 use Rattle.i86_code.specs.declared.form.Opcode.TheVariants as op
-use Rattle.i86_code.specs.declared.form.Layout.TheVariants as layouts
+use Rattle.i86_code.specs.declared.form.FieldKind.TheVariants as kinds
 use Rattle.i86_code.specs.declared.form.Fields.{Fields}
 use Rattle.i86_code.specs.declared.form.Fields.TheVariants as fields
 use Rattle.i86_code.specs.declared.form.Prefixes.{Prefixes}
@@ -39,9 +39,9 @@ use Rattle.i86_code.specs.declared.form.Prefixes.TheVariants as prefixes
 use Rattle.i86_code.specs.declared.form.RegisterOrMemory.{RegisterOrMemory}
 use Rattle.i86_code.specs.declared.form.RegisterOrMemory.TheVariants.{Register}
 use Rattle.i86_code.specs.declared.form.Form.{Form}
-use Rattle.i86_code.specs.Opcodes.{operation_at, operation_code, byte_register_at, word_register_at, segment_at, segment_code, loadable_at, layout_of}
-use Rattle.i86_code.specs.Forms.{form_bytes, IsForm, layout_of_fields, FieldsFit}
-use Rattle.i86_code.specs.Meaning.{segment_under, repeat_of, repeats, byte_operand, word_operand, to_register, exchanged_byte, exchanged_word, load_address, move_to_segment, shift_at, shift_then, byte_step, word_step, addressed_meaning, byte_unary, word_unary, is_short, addressed_byte_meaning, addressed_word_meaning, exchanged_accumulator, plain_meaning, byte_meaning, word_meaning, meaning, is_string, instruction_of}
+use Rattle.i86_code.specs.Opcodes.{operation_at, operation_code, byte_register_at, word_register_at, segment_at, segment_code, loadable_at, field_kind_of}
+use Rattle.i86_code.specs.Forms.{form_bytes, IsForm, kind_of_fields, FieldsFit}
+use Rattle.i86_code.specs.Instructions.{segment_under, repeat_of, repeats, byte_operand, word_operand, to_register, exchanged_byte, exchanged_word, load_address, move_to_segment, shift_at, shift_then, byte_step, word_step, addressed_instruction, byte_unary, word_unary, is_short, addressed_byte_instruction, addressed_word_instruction, exchanged_accumulator, plain_instruction, byte_instruction, word_instruction, instruction_from, is_string, instruction_of}
 use Rattle.i86_code.specs.Ranges.{InstrFits}
 use Rattle.i86_code.specs.Writing.{prefix_for, prefix_at, prefix_of, is_near, address_form, place_form, plain, with_byte, with_word, is_al, is_ax, alu_byte_of, alu_word_of, move_byte_of, move_word_of, register_or, shift_code, string_prefixes, form_of, cost, is_turned_form, is_repeat_first, WritesBest}
 use Rattle.std.proofs.lemmas.Bool.{lt-leb}
@@ -56,19 +56,19 @@ use Rattle.i86_code.proofs.Costs.{place_length, field_length, prefix_length, cos
 abbrev Cheap : ℕ → Instr → Type 0
 Cheap n x = cost (form_of x) ≤ n
 
-alu_byte_immediate : (o : AluOperation) (p : Place Register8) (n : ℕ) → Cheap (2 * (2 + weight p)) (i.AluByte o (Immediate p n))
+alu_byte_immediate : (o : AluOperation) (p : RmOperand Register8) (n : ℕ) → Cheap (2 * (2 + weight p)) (i.AluByte o (Immediate p n))
 unfolding form_of alu_byte_of
 alu_byte_immediate o p n =
     elim (al_or p) [
-      | inl is ↦ subst (λ (q : Place Register8). Cheap (2 * (2 + weight q)) (i.AluByte o (Immediate q n))) (sym is) (omega (arith, plain_cost (op.AluAccumulator o widths.Byte) (fields.Byte n) refl))
+      | inl is ↦ subst (λ (q : RmOperand Register8). Cheap (2 * (2 + weight q)) (i.AluByte o (Immediate q n))) (sym is) (omega (arith, plain_cost (op.AluAccumulator o widths.Byte) (fields.Byte n) refl))
       | inr not ↦ rw not (omega (arith, byte_cost byte_register_code (op.AluImmediate widths.Byte) (operation_code o) p n))
     ]
 
-alu_word_immediate : (o : AluOperation) (p : Place Register16) (n : ℕ) → Cheap (2 * (3 + weight p)) (i.AluWord o (Immediate p n))
+alu_word_immediate : (o : AluOperation) (p : RmOperand Register16) (n : ℕ) → Cheap (2 * (3 + weight p)) (i.AluWord o (Immediate p n))
 unfolding form_of alu_word_of
 alu_word_immediate o p n =
     elim (ax_or p) [
-      | inl is ↦ subst (λ (q : Place Register16). Cheap (2 * (3 + weight q)) (i.AluWord o (Immediate q n))) (sym is) (omega (arith, plain_cost (op.AluAccumulator o widths.Word) (fields.Word n) refl))
+      | inl is ↦ subst (λ (q : RmOperand Register16). Cheap (2 * (3 + weight q)) (i.AluWord o (Immediate q n))) (sym is) (omega (arith, plain_cost (op.AluAccumulator o widths.Word) (fields.Word n) refl))
       | inr not ↦
           elim (chosen (is_short (operation_code o) && is_near n) (with_byte word_register_code op.AluShort (operation_code o) p (n % 256)) (with_word (op.AluImmediate widths.Word) (operation_code o) p n)) [
             | inl short ↦ rw (not, short.1) (omega (arith, byte_cost word_register_code op.AluShort (operation_code o) p (n % 256)))
@@ -76,82 +76,82 @@ alu_word_immediate o p n =
           ]
     ]
 
-alu_word_short : (o : AluOperation) (p : Place Register16) (n : ℕ) → is_short (operation_code o) ≡ true → is_near n ≡ true → Cheap (2 * (2 + weight p) + 1) (i.AluWord o (Immediate p n))
+alu_word_short : (o : AluOperation) (p : RmOperand Register16) (n : ℕ) → is_short (operation_code o) ≡ true → is_near n ≡ true → Cheap (2 * (2 + weight p) + 1) (i.AluWord o (Immediate p n))
 unfolding form_of alu_word_of
 alu_word_short o p n short near =
     elim (ax_or p) [
-      | inl is ↦ subst (λ (q : Place Register16). Cheap (2 * (2 + weight q) + 1) (i.AluWord o (Immediate q n))) (sym is) (omega (arith, plain_cost (op.AluAccumulator o widths.Word) (fields.Word n) refl))
+      | inl is ↦ subst (λ (q : RmOperand Register16). Cheap (2 * (2 + weight q) + 1) (i.AluWord o (Immediate q n))) (sym is) (omega (arith, plain_cost (op.AluAccumulator o widths.Word) (fields.Word n) refl))
       | inr not ↦ rw (not, short, near) (omega (arith, byte_cost word_register_code op.AluShort (operation_code o) p (n % 256)))
     ]
 
-alu_byte_to_register : (o : AluOperation) (r : Register8) (p : Place Register8) → Cheap (2 * (1 + weight p)) (i.AluByte o (to_register r p))
+alu_byte_to_register : (o : AluOperation) (r : Register8) (p : RmOperand Register8) → Cheap (2 * (1 + weight p)) (i.AluByte o (to_register r p))
 unfolding form_of alu_byte_of
-alu_byte_to_register o r (places.Register s) = omega (arith, plain_cost (op.AluToRegister o widths.Byte) (fields.Address (byte_register_code r) (Register (byte_register_code s))) refl)
-alu_byte_to_register o r (places.Memory m) = omega (arith, memory_cost (op.AluToRegister o widths.Byte) (byte_register_code r) m)
+alu_byte_to_register o r (rm.Register s) = omega (arith, plain_cost (op.AluToRegister o widths.Byte) (fields.Address (byte_register_code r) (Register (byte_register_code s))) refl)
+alu_byte_to_register o r (rm.Memory m) = omega (arith, memory_cost (op.AluToRegister o widths.Byte) (byte_register_code r) m)
 
-alu_word_to_register : (o : AluOperation) (r : Register16) (p : Place Register16) → Cheap (2 * (1 + weight p)) (i.AluWord o (to_register r p))
+alu_word_to_register : (o : AluOperation) (r : Register16) (p : RmOperand Register16) → Cheap (2 * (1 + weight p)) (i.AluWord o (to_register r p))
 unfolding form_of alu_word_of
-alu_word_to_register o r (places.Register s) = omega (arith, plain_cost (op.AluToRegister o widths.Word) (fields.Address (word_register_code r) (Register (word_register_code s))) refl)
-alu_word_to_register o r (places.Memory m) = omega (arith, memory_cost (op.AluToRegister o widths.Word) (word_register_code r) m)
+alu_word_to_register o r (rm.Register s) = omega (arith, plain_cost (op.AluToRegister o widths.Word) (fields.Address (word_register_code r) (Register (word_register_code s))) refl)
+alu_word_to_register o r (rm.Memory m) = omega (arith, memory_cost (op.AluToRegister o widths.Word) (word_register_code r) m)
 
-alu_byte_to_place : (o : AluOperation) (p : Place Register8) (r : Register8) → Cheap (2 * (1 + weight p)) (i.AluByte o (FromRegister p r))
+alu_byte_to_place : (o : AluOperation) (p : RmOperand Register8) (r : Register8) → Cheap (2 * (1 + weight p)) (i.AluByte o (FromRegister p r))
 unfolding form_of alu_byte_of
 alu_byte_to_place o p r = omega (arith, from_register_cost byte_register_code (op.AluToPlace o widths.Byte) (op.AluToRegister o widths.Byte) p r (λ r c. refl))
 
-alu_word_to_place : (o : AluOperation) (p : Place Register16) (r : Register16) → Cheap (2 * (1 + weight p)) (i.AluWord o (FromRegister p r))
+alu_word_to_place : (o : AluOperation) (p : RmOperand Register16) (r : Register16) → Cheap (2 * (1 + weight p)) (i.AluWord o (FromRegister p r))
 unfolding form_of alu_word_of
 alu_word_to_place o p r = omega (arith, from_register_cost word_register_code (op.AluToPlace o widths.Word) (op.AluToRegister o widths.Word) p r (λ r c. refl))
 
-move_byte_to_place : (p : Place Register8) (r : Register8) → Cheap (2 * (1 + weight p)) (i.MoveByte (FromRegister p r))
+move_byte_to_place : (p : RmOperand Register8) (r : Register8) → Cheap (2 * (1 + weight p)) (i.MoveByte (FromRegister p r))
 unfolding form_of move_byte_of
-move_byte_to_place (places.Register s) r = omega (arith, plain_cost (op.MoveToRegister widths.Byte) (fields.Address (byte_register_code s) (Register (byte_register_code r))) refl)
-move_byte_to_place (places.Memory m) r = accumulator_cost (is_al r) (op.MoveToDirect widths.Byte) (op.MoveToPlace widths.Byte) (byte_register_code r) m
+move_byte_to_place (rm.Register s) r = omega (arith, plain_cost (op.MoveToRegister widths.Byte) (fields.Address (byte_register_code s) (Register (byte_register_code r))) refl)
+move_byte_to_place (rm.Memory m) r = accumulator_cost (is_al r) (op.MoveToDirect widths.Byte) (op.MoveToPlace widths.Byte) (byte_register_code r) m
 
-move_word_to_place : (p : Place Register16) (r : Register16) → Cheap (2 * (1 + weight p)) (i.MoveWord (FromRegister p r))
+move_word_to_place : (p : RmOperand Register16) (r : Register16) → Cheap (2 * (1 + weight p)) (i.MoveWord (FromRegister p r))
 unfolding form_of move_word_of
-move_word_to_place (places.Register s) r = omega (arith, plain_cost (op.MoveToRegister widths.Word) (fields.Address (word_register_code s) (Register (word_register_code r))) refl)
-move_word_to_place (places.Memory m) r = accumulator_cost (is_ax r) (op.MoveToDirect widths.Word) (op.MoveToPlace widths.Word) (word_register_code r) m
+move_word_to_place (rm.Register s) r = omega (arith, plain_cost (op.MoveToRegister widths.Word) (fields.Address (word_register_code s) (Register (word_register_code r))) refl)
+move_word_to_place (rm.Memory m) r = accumulator_cost (is_ax r) (op.MoveToDirect widths.Word) (op.MoveToPlace widths.Word) (word_register_code r) m
 
-move_byte_to_register : (r : Register8) (p : Place Register8) → Cheap (2 * (1 + weight p)) (i.MoveByte (to_register r p))
+move_byte_to_register : (r : Register8) (p : RmOperand Register8) → Cheap (2 * (1 + weight p)) (i.MoveByte (to_register r p))
 unfolding form_of move_byte_of
-move_byte_to_register r (places.Register s) = omega (arith, plain_cost (op.MoveToRegister widths.Byte) (fields.Address (byte_register_code r) (Register (byte_register_code s))) refl)
-move_byte_to_register r (places.Memory m) = accumulator_cost (is_al r) (op.MoveFromDirect widths.Byte) (op.MoveToRegister widths.Byte) (byte_register_code r) m
+move_byte_to_register r (rm.Register s) = omega (arith, plain_cost (op.MoveToRegister widths.Byte) (fields.Address (byte_register_code r) (Register (byte_register_code s))) refl)
+move_byte_to_register r (rm.Memory m) = accumulator_cost (is_al r) (op.MoveFromDirect widths.Byte) (op.MoveToRegister widths.Byte) (byte_register_code r) m
 
-move_word_to_register : (r : Register16) (p : Place Register16) → Cheap (2 * (1 + weight p)) (i.MoveWord (to_register r p))
+move_word_to_register : (r : Register16) (p : RmOperand Register16) → Cheap (2 * (1 + weight p)) (i.MoveWord (to_register r p))
 unfolding form_of move_word_of
-move_word_to_register r (places.Register s) = omega (arith, plain_cost (op.MoveToRegister widths.Word) (fields.Address (word_register_code r) (Register (word_register_code s))) refl)
-move_word_to_register r (places.Memory m) = accumulator_cost (is_ax r) (op.MoveFromDirect widths.Word) (op.MoveToRegister widths.Word) (word_register_code r) m
+move_word_to_register r (rm.Register s) = omega (arith, plain_cost (op.MoveToRegister widths.Word) (fields.Address (word_register_code r) (Register (word_register_code s))) refl)
+move_word_to_register r (rm.Memory m) = accumulator_cost (is_ax r) (op.MoveFromDirect widths.Word) (op.MoveToRegister widths.Word) (word_register_code r) m
 
-move_byte_immediate : (p : Place Register8) (n : ℕ) → Cheap (2 * (2 + weight p)) (i.MoveByte (Immediate p n))
+move_byte_immediate : (p : RmOperand Register8) (n : ℕ) → Cheap (2 * (2 + weight p)) (i.MoveByte (Immediate p n))
 unfolding form_of move_byte_of
-move_byte_immediate (places.Register r) n = omega (arith, plain_cost (op.MoveRegisterByte r) (fields.Byte n) refl)
-move_byte_immediate (places.Memory m) n = omega (arith, byte_cost byte_register_code (op.MoveImmediate widths.Byte) 0 (places.Memory m) n)
+move_byte_immediate (rm.Register r) n = omega (arith, plain_cost (op.MoveRegisterByte r) (fields.Byte n) refl)
+move_byte_immediate (rm.Memory m) n = omega (arith, byte_cost byte_register_code (op.MoveImmediate widths.Byte) 0 (rm.Memory m) n)
 
-move_word_immediate : (p : Place Register16) (n : ℕ) → Cheap (2 * (3 + weight p)) (i.MoveWord (Immediate p n))
+move_word_immediate : (p : RmOperand Register16) (n : ℕ) → Cheap (2 * (3 + weight p)) (i.MoveWord (Immediate p n))
 unfolding form_of move_word_of
-move_word_immediate (places.Register r) n = omega (arith, plain_cost (op.MoveRegisterWord r) (fields.Word n) refl)
-move_word_immediate (places.Memory m) n = omega (arith, word_cost (op.MoveImmediate widths.Word) 0 (places.Memory m) n)
+move_word_immediate (rm.Register r) n = omega (arith, plain_cost (op.MoveRegisterWord r) (fields.Word n) refl)
+move_word_immediate (rm.Memory m) n = omega (arith, word_cost (op.MoveImmediate widths.Word) 0 (rm.Memory m) n)
 
-test_byte_immediate : (p : Place Register8) (n : ℕ) → Cheap (2 * (2 + weight p)) (i.TestByte p (masks.Immediate n))
+test_byte_immediate : (p : RmOperand Register8) (n : ℕ) → Cheap (2 * (2 + weight p)) (i.TestByte p (masks.Immediate n))
 unfolding form_of
 test_byte_immediate p n =
     elim (al_or p) [
-      | inl is ↦ subst (λ (q : Place Register8). Cheap (2 * (2 + weight q)) (i.TestByte q (masks.Immediate n))) (sym is) (omega (arith, plain_cost (op.TestAccumulator widths.Byte) (fields.Byte n) refl))
+      | inl is ↦ subst (λ (q : RmOperand Register8). Cheap (2 * (2 + weight q)) (i.TestByte q (masks.Immediate n))) (sym is) (omega (arith, plain_cost (op.TestAccumulator widths.Byte) (fields.Byte n) refl))
       | inr not ↦ rw not (omega (arith, weight_is byte_register_code p, cost_is (prefix_of p) (op.UnaryGroup widths.Byte) (fields.TestByte (place_form byte_register_code p) n) false (of_not_first p) refl))
     ]
 
-test_word_immediate : (p : Place Register16) (n : ℕ) → Cheap (2 * (3 + weight p)) (i.TestWord p (masks.Immediate n))
+test_word_immediate : (p : RmOperand Register16) (n : ℕ) → Cheap (2 * (3 + weight p)) (i.TestWord p (masks.Immediate n))
 unfolding form_of
 test_word_immediate p n =
     elim (ax_or p) [
-      | inl is ↦ subst (λ (q : Place Register16). Cheap (2 * (3 + weight q)) (i.TestWord q (masks.Immediate n))) (sym is) (omega (arith, plain_cost (op.TestAccumulator widths.Word) (fields.Word n) refl))
+      | inl is ↦ subst (λ (q : RmOperand Register16). Cheap (2 * (3 + weight q)) (i.TestWord q (masks.Immediate n))) (sym is) (omega (arith, plain_cost (op.TestAccumulator widths.Word) (fields.Word n) refl))
       | inr not ↦ rw not (omega (arith, weight_is word_register_code p, cost_is (prefix_of p) (op.UnaryGroup widths.Word) (fields.TestWord (place_form word_register_code p) n) false (of_not_first p) refl))
     ]
 
 -- a word register's own form or the group's
-register_or_cost : (short : Register16 → Opcode) (k : Opcode) (r : ℕ) (p : Place Register16) → cost (register_or short k r p) ≤ 2 * (1 + weight p)
-register_or_cost short k r (places.Register x) = omega (arith, plain_cost (short x) fields.Nothing refl)
-register_or_cost short k r (places.Memory m) = omega (arith, memory_cost k r m)
+register_or_cost : (short : Register16 → Opcode) (k : Opcode) (r : ℕ) (p : RmOperand Register16) → cost (register_or short k r p) ≤ 2 * (1 + weight p)
+register_or_cost short k r (rm.Register x) = omega (arith, plain_cost (short x) fields.Nothing refl)
+register_or_cost short k r (rm.Memory m) = omega (arith, memory_cost k r m)
 
 in_order : (a b : ℕ) → a ≤ b → nat_lt b a ≡ false
 in_order a b le = lt-leb (suc b) a (omega arith)
@@ -168,15 +168,15 @@ exchange_words_cost q =
       | inr long ↦ rw long.1 (omega (arith, plain_cost (op.Exchange widths.Word) (fields.Address (word_register_code q.first) (Register (word_register_code q.second))) (in_order _ _ q.ordered)))
     ]
 
-exchanged_byte_cost : (r : Register8) (p : Place Register8) → Cheap (2 * (1 + weight p)) (exchanged_byte r p)
+exchanged_byte_cost : (r : Register8) (p : RmOperand Register8) → Cheap (2 * (1 + weight p)) (exchanged_byte r p)
 unfolding form_of
-exchanged_byte_cost r (places.Register s) = exchange_bytes_cost (byte_pair r s)
-exchanged_byte_cost r (places.Memory m) = omega (arith, memory_cost (op.Exchange widths.Byte) (byte_register_code r) m)
+exchanged_byte_cost r (rm.Register s) = exchange_bytes_cost (byte_pair r s)
+exchanged_byte_cost r (rm.Memory m) = omega (arith, memory_cost (op.Exchange widths.Byte) (byte_register_code r) m)
 
-exchanged_word_cost : (r : Register16) (p : Place Register16) → Cheap (2 * (1 + weight p)) (exchanged_word r p)
+exchanged_word_cost : (r : Register16) (p : RmOperand Register16) → Cheap (2 * (1 + weight p)) (exchanged_word r p)
 unfolding form_of
-exchanged_word_cost r (places.Register s) = exchange_words_cost (word_pair r s)
-exchanged_word_cost r (places.Memory m) = omega (arith, memory_cost (op.Exchange widths.Word) (word_register_code r) m)
+exchanged_word_cost r (rm.Register s) = exchange_words_cost (word_pair r s)
+exchanged_word_cost r (rm.Memory m) = omega (arith, memory_cost (op.Exchange widths.Word) (word_register_code r) m)
 
 words_short : (q : WordPair) (s : Register16) → q.first ≡ Ax → q.second ≡ s → is_ax s ≡ false → Cheap 2 (i.ExchangeWords q)
 unfolding form_of
@@ -206,37 +206,37 @@ pick n false x y rest h more e = more e
 none_is : (n : ℕ) (y : Instr) → None ≡ Some y → Cheap n y
 none_is n y e = absurd cc
 
-load_address_cost : (r : Register16) (p : Place Register16) (y : Instr) → load_address r p ≡ Some y → Cheap (2 * (1 + weight p)) y
+load_address_cost : (r : Register16) (p : RmOperand Register16) (y : Instr) → load_address r p ≡ Some y → Cheap (2 * (1 + weight p)) y
 unfolding form_of
-load_address_cost r (places.Register s) y e = absurd cc
-load_address_cost r (places.Memory m) y e = at_some _ _ y e (bare m.segment m.address)
+load_address_cost r (rm.Register s) y e = absurd cc
+load_address_cost r (rm.Memory m) y e = at_some _ _ y e (bare m.segment m.address)
   where
     bare : (s : Segment) (a : Address) → Cheap (2 * (1 + (prefix_length (prefix_at s a) + place_length (address_form a)))) (i.LoadAddress r a)
     bare s a = omega (arith, plain_cost op.LoadAddress (fields.Address (word_register_code r) (address_form a)) (never_address op.LoadAddress (λ r c. refl) (word_register_code r) (address_form a)))
 
-move_to_segment_cost : (o : Option LoadableSegment) (p : Place Register16) (y : Instr) → move_to_segment o p ≡ Some y → Cheap (2 * (1 + weight p)) y
+move_to_segment_cost : (o : Option LoadableSegment) (p : RmOperand Register16) (y : Instr) → move_to_segment o p ≡ Some y → Cheap (2 * (1 + weight p)) y
 unfolding form_of
 move_to_segment_cost None p y e = absurd cc
 move_to_segment_cost (Some s) p y e = at_some _ _ y e (omega (arith, addressed_cost word_register_code op.MoveToSegment (segment_code (loadable s)) p (λ r c. refl)))
 
-shift_byte_cost : (o : Option ShiftOperation) (p : Place Register8) (c : Count) (y : Instr) → shift_then o (λ s. i.ShiftByte s p c) ≡ Some y → Cheap (2 * (1 + weight p)) y
+shift_byte_cost : (o : Option ShiftOperation) (p : RmOperand Register8) (c : Count) (y : Instr) → shift_then o (λ s. i.ShiftByte s p c) ≡ Some y → Cheap (2 * (1 + weight p)) y
 unfolding form_of
 shift_byte_cost None p c y e = absurd cc
 shift_byte_cost (Some s) p c y e = at_some _ _ y e (omega (arith, addressed_cost byte_register_code (op.Shift widths.Byte c) (shift_code s) p (λ r c. refl)))
 
-shift_word_cost : (o : Option ShiftOperation) (p : Place Register16) (c : Count) (y : Instr) → shift_then o (λ s. i.ShiftWord s p c) ≡ Some y → Cheap (2 * (1 + weight p)) y
+shift_word_cost : (o : Option ShiftOperation) (p : RmOperand Register16) (c : Count) (y : Instr) → shift_then o (λ s. i.ShiftWord s p c) ≡ Some y → Cheap (2 * (1 + weight p)) y
 unfolding form_of
 shift_word_cost None p c y e = absurd cc
 shift_word_cost (Some s) p c y e = at_some _ _ y e (omega (arith, addressed_cost word_register_code (op.Shift widths.Word c) (shift_code s) p (λ r c. refl)))
 
-byte_step_cost : (r : ℕ) (p : Place Register8) (y : Instr) → byte_step r p ≡ Some y → Cheap (2 * (1 + weight p)) y
+byte_step_cost : (r : ℕ) (p : RmOperand Register8) (y : Instr) → byte_step r p ≡ Some y → Cheap (2 * (1 + weight p)) y
 unfolding form_of
 byte_step_cost r p y e =
     pick _ (r == 0) (i.UnaryByte Inc p) y _ (omega (arith, addressed_cost byte_register_code (op.StepGroup widths.Byte) 0 p (λ r c. refl)))
     (pick _ (r == 1) (i.UnaryByte Dec p) y _ (omega (arith, addressed_cost byte_register_code (op.StepGroup widths.Byte) 1 p (λ r c. refl)))
     (none_is _ y)) e
 
-word_step_cost : (r : ℕ) (p : Place Register16) (y : Instr) → word_step r p ≡ Some y → Cheap (2 * (1 + weight p)) y
+word_step_cost : (r : ℕ) (p : RmOperand Register16) (y : Instr) → word_step r p ≡ Some y → Cheap (2 * (1 + weight p)) y
 unfolding form_of
 word_step_cost r p y e =
     pick _ (r == 0) (i.UnaryWord Inc p) y _ (register_or_cost (λ r. op.Increment r) (op.StepGroup widths.Word) 0 p)
@@ -246,7 +246,7 @@ word_step_cost r p y e =
     (pick _ (r == 6) (i.Push p) y _ (register_or_cost (λ r. op.Push r) (op.StepGroup widths.Word) 6 p)
     (none_is _ y))))) e
 
-byte_unary_cost : (r : ℕ) (p : Place Register8) (y : Instr) → byte_unary r p ≡ Some y → Cheap (2 * (1 + weight p)) y
+byte_unary_cost : (r : ℕ) (p : RmOperand Register8) (y : Instr) → byte_unary r p ≡ Some y → Cheap (2 * (1 + weight p)) y
 unfolding form_of
 byte_unary_cost r p y e =
     pick _ (r == 2) (i.UnaryByte Not p) y _ (omega (arith, group_cost byte_register_code widths.Byte 2 p))
@@ -257,7 +257,7 @@ byte_unary_cost r p y e =
     (pick _ (r == 7) (i.DivideByte Signed p) y _ (omega (arith, group_cost byte_register_code widths.Byte 7 p))
     (none_is _ y)))))) e
 
-word_unary_cost : (r : ℕ) (p : Place Register16) (y : Instr) → word_unary r p ≡ Some y → Cheap (2 * (1 + weight p)) y
+word_unary_cost : (r : ℕ) (p : RmOperand Register16) (y : Instr) → word_unary r p ≡ Some y → Cheap (2 * (1 + weight p)) y
 unfolding form_of
 word_unary_cost r p y e =
     pick _ (r == 2) (i.UnaryWord Not p) y _ (omega (arith, group_cost word_register_code widths.Word 2 p))
@@ -304,9 +304,9 @@ string_first segments.Ds WhileCx = refl
 
 -- what a form with these parts says is written no dearer
 abbrev Best : Prefixes → Opcode → Fields → Type 0
-Best p k f = (y : Instr) → FieldsFit f → meaning p k f ≡ Some y → Cheap (2 * (prefix_length p + (1 + field_length f)) + number_of (is_turned_form k f)) y
+Best p k f = (y : Instr) → FieldsFit f → instruction_from p k f ≡ Some y → Cheap (2 * (prefix_length p + (1 + field_length f)) + number_of (is_turned_form k f)) y
 
-on_nothing : (p : Prefixes) (k : Opcode) (f : Fields) → layout_of_fields f ≡ layouts.Nothing → Best p k fields.Nothing → Best p k f
+on_nothing : (p : Prefixes) (k : Opcode) (f : Fields) → kind_of_fields f ≡ kinds.Nothing → Best p k fields.Nothing → Best p k f
 on_nothing p k fields.Nothing l h = h
 on_nothing p k (fields.Byte n) l h = absurd cc
 on_nothing p k (fields.Word n) l h = absurd cc
@@ -318,7 +318,7 @@ on_nothing p k (fields.Unary w r m) l h = absurd cc
 on_nothing p k (fields.TestByte m n) l h = absurd cc
 on_nothing p k (fields.TestWord m n) l h = absurd cc
 
-on_byte : (p : Prefixes) (k : Opcode) (f : Fields) → layout_of_fields f ≡ layouts.Byte → ((n : ℕ) → Best p k (fields.Byte n)) → Best p k f
+on_byte : (p : Prefixes) (k : Opcode) (f : Fields) → kind_of_fields f ≡ kinds.Byte → ((n : ℕ) → Best p k (fields.Byte n)) → Best p k f
 on_byte p k fields.Nothing l h = absurd cc
 on_byte p k (fields.Byte n) l h = h n
 on_byte p k (fields.Word n) l h = absurd cc
@@ -330,7 +330,7 @@ on_byte p k (fields.Unary w r m) l h = absurd cc
 on_byte p k (fields.TestByte m n) l h = absurd cc
 on_byte p k (fields.TestWord m n) l h = absurd cc
 
-on_word : (p : Prefixes) (k : Opcode) (f : Fields) → layout_of_fields f ≡ layouts.Word → ((n : ℕ) → Best p k (fields.Word n)) → Best p k f
+on_word : (p : Prefixes) (k : Opcode) (f : Fields) → kind_of_fields f ≡ kinds.Word → ((n : ℕ) → Best p k (fields.Word n)) → Best p k f
 on_word p k fields.Nothing l h = absurd cc
 on_word p k (fields.Byte n) l h = absurd cc
 on_word p k (fields.Word n) l h = h n
@@ -342,7 +342,7 @@ on_word p k (fields.Unary w r m) l h = absurd cc
 on_word p k (fields.TestByte m n) l h = absurd cc
 on_word p k (fields.TestWord m n) l h = absurd cc
 
-on_two_words : (p : Prefixes) (k : Opcode) (f : Fields) → layout_of_fields f ≡ layouts.TwoWords → ((m n : ℕ) → Best p k (fields.TwoWords m n)) → Best p k f
+on_two_words : (p : Prefixes) (k : Opcode) (f : Fields) → kind_of_fields f ≡ kinds.TwoWords → ((m n : ℕ) → Best p k (fields.TwoWords m n)) → Best p k f
 on_two_words p k fields.Nothing l h = absurd cc
 on_two_words p k (fields.Byte n) l h = absurd cc
 on_two_words p k (fields.Word n) l h = absurd cc
@@ -354,7 +354,7 @@ on_two_words p k (fields.Unary w r m) l h = absurd cc
 on_two_words p k (fields.TestByte m n) l h = absurd cc
 on_two_words p k (fields.TestWord m n) l h = absurd cc
 
-on_address : (p : Prefixes) (k : Opcode) (f : Fields) → layout_of_fields f ≡ layouts.Address → ((r : ℕ) (m : RegisterOrMemory) → Best p k (fields.Address r m)) → Best p k f
+on_address : (p : Prefixes) (k : Opcode) (f : Fields) → kind_of_fields f ≡ kinds.Address → ((r : ℕ) (m : RegisterOrMemory) → Best p k (fields.Address r m)) → Best p k f
 on_address p k fields.Nothing l h = absurd cc
 on_address p k (fields.Byte n) l h = absurd cc
 on_address p k (fields.Word n) l h = absurd cc
@@ -366,7 +366,7 @@ on_address p k (fields.Unary w r m) l h = absurd cc
 on_address p k (fields.TestByte m n) l h = absurd cc
 on_address p k (fields.TestWord m n) l h = absurd cc
 
-on_address_byte : (p : Prefixes) (k : Opcode) (f : Fields) → layout_of_fields f ≡ layouts.AddressByte → ((r : ℕ) (m : RegisterOrMemory) (n : ℕ) → Best p k (fields.AddressByte r m n)) → Best p k f
+on_address_byte : (p : Prefixes) (k : Opcode) (f : Fields) → kind_of_fields f ≡ kinds.AddressByte → ((r : ℕ) (m : RegisterOrMemory) (n : ℕ) → Best p k (fields.AddressByte r m n)) → Best p k f
 on_address_byte p k fields.Nothing l h = absurd cc
 on_address_byte p k (fields.Byte n) l h = absurd cc
 on_address_byte p k (fields.Word n) l h = absurd cc
@@ -378,7 +378,7 @@ on_address_byte p k (fields.Unary w r m) l h = absurd cc
 on_address_byte p k (fields.TestByte m n) l h = absurd cc
 on_address_byte p k (fields.TestWord m n) l h = absurd cc
 
-on_address_word : (p : Prefixes) (k : Opcode) (f : Fields) → layout_of_fields f ≡ layouts.AddressWord → ((r : ℕ) (m : RegisterOrMemory) (n : ℕ) → Best p k (fields.AddressWord r m n)) → Best p k f
+on_address_word : (p : Prefixes) (k : Opcode) (f : Fields) → kind_of_fields f ≡ kinds.AddressWord → ((r : ℕ) (m : RegisterOrMemory) (n : ℕ) → Best p k (fields.AddressWord r m n)) → Best p k f
 on_address_word p k fields.Nothing l h = absurd cc
 on_address_word p k (fields.Byte n) l h = absurd cc
 on_address_word p k (fields.Word n) l h = absurd cc
@@ -390,7 +390,7 @@ on_address_word p k (fields.Unary w r m) l h = absurd cc
 on_address_word p k (fields.TestByte m n) l h = absurd cc
 on_address_word p k (fields.TestWord m n) l h = absurd cc
 
-on_byte_group : (p : Prefixes) (k : Opcode) (f : Fields) → layout_of_fields f ≡ layouts.Group widths.Byte → ((r : ℕ) (m : RegisterOrMemory) → Best p k (fields.Unary widths.Byte r m)) → ((m : RegisterOrMemory) (n : ℕ) → Best p k (fields.TestByte m n)) → Best p k f
+on_byte_group : (p : Prefixes) (k : Opcode) (f : Fields) → kind_of_fields f ≡ kinds.Group widths.Byte → ((r : ℕ) (m : RegisterOrMemory) → Best p k (fields.Unary widths.Byte r m)) → ((m : RegisterOrMemory) (n : ℕ) → Best p k (fields.TestByte m n)) → Best p k f
 on_byte_group p k fields.Nothing l h t = absurd cc
 on_byte_group p k (fields.Byte n) l h t = absurd cc
 on_byte_group p k (fields.Word n) l h t = absurd cc
@@ -403,7 +403,7 @@ on_byte_group p k (fields.Unary widths.Word r m) l h t = absurd cc
 on_byte_group p k (fields.TestByte m n) l h t = t m n
 on_byte_group p k (fields.TestWord m n) l h t = absurd cc
 
-on_word_group : (p : Prefixes) (k : Opcode) (f : Fields) → layout_of_fields f ≡ layouts.Group widths.Word → ((r : ℕ) (m : RegisterOrMemory) → Best p k (fields.Unary widths.Word r m)) → ((m : RegisterOrMemory) (n : ℕ) → Best p k (fields.TestWord m n)) → Best p k f
+on_word_group : (p : Prefixes) (k : Opcode) (f : Fields) → kind_of_fields f ≡ kinds.Group widths.Word → ((r : ℕ) (m : RegisterOrMemory) → Best p k (fields.Unary widths.Word r m)) → ((m : RegisterOrMemory) (n : ℕ) → Best p k (fields.TestWord m n)) → Best p k f
 on_word_group p k fields.Nothing l h t = absurd cc
 on_word_group p k (fields.Byte n) l h t = absurd cc
 on_word_group p k (fields.Word n) l h t = absurd cc
@@ -429,7 +429,7 @@ operation_found (suc (suc (suc (suc (suc (suc (suc (suc n)))))))) h = absurd (om
 
 -- an operation on a word and a sign-extended byte
 short_best : (p : Prefixes) (r : ℕ) (m : RegisterOrMemory) (n : ℕ) → Best p op.AluShort (fields.AddressByte r m n)
-unfolding meaning addressed_byte_meaning
+unfolding instruction_from addressed_byte_instruction
 short_best p r m n y fits e =
     elim (chosen (is_short r) (Some (i.AluWord (operation_at r) (Immediate (word_operand p m) (sign_extended n)))) None) [
       | inl short ↦
@@ -438,11 +438,8 @@ short_best p r m n y fits e =
       | inr not ↦ let none = sym not.1 ∙ e in absurd cc
     ]
 
-plain_row : (p : Prefixes) (k : Opcode) (x y : Instr) → Some x ≡ Some y → Cheap 2 x → Cheap (2 * (prefix_length p + 1) + 0) y
-plain_row p k x y e h = at_some _ x y e (omega (arith, h))
-
-rows : WordPairLaws → (p : Prefixes) (k : Opcode) (f : Fields) → layout_of_fields f ≡ layout_of k → Best p k f
-unfolding form_of meaning addressed_meaning addressed_byte_meaning addressed_word_meaning plain_meaning byte_meaning word_meaning alu_byte_of alu_word_of move_byte_of move_word_of
+rows : WordPairLaws → (p : Prefixes) (k : Opcode) (f : Fields) → kind_of_fields f ≡ field_kind_of k → Best p k f
+unfolding form_of instruction_from addressed_instruction addressed_byte_instruction addressed_word_instruction plain_instruction byte_instruction word_instruction alu_byte_of alu_word_of move_byte_of move_word_of
 rows words p (op.AluToPlace o widths.Byte) f l = on_address p (op.AluToPlace o widths.Byte) f l (λ r m y fits e. at_some _ _ y e (omega (arith, place_light byte_register_at p m fits.1, alu_byte_to_place o (byte_operand p m) (byte_register_at r))))
 rows words p (op.AluToPlace o widths.Word) f l = on_address p (op.AluToPlace o widths.Word) f l (λ r m y fits e. at_some _ _ y e (omega (arith, place_light word_register_at p m fits.1, alu_word_to_place o (word_operand p m) (word_register_at r))))
 rows words p (op.AluToRegister o widths.Byte) f l = on_address p (op.AluToRegister o widths.Byte) f l (λ r m y fits e. at_some _ _ y e (omega (arith, place_light byte_register_at p m fits.1, alu_byte_to_register o (byte_register_at r) (byte_operand p m))))
@@ -524,10 +521,10 @@ not_refused false x y e = e
 best : WordPairLaws → (f : Form) (y : Instr) → IsForm f → instruction_of f ≡ Some y → cost (form_of y) ≤ cost f
 unfolding instruction_of
 best words f y h e =
-    let says = not_refused (repeats f.prefixes && not (is_string f.opcode)) (meaning f.prefixes f.opcode f.fields) y e in
-    omega (arith, rows words f.prefixes f.opcode f.fields h.layout y h.fits says, cost_least f.prefixes f.opcode f.fields)
+    let says = not_refused (repeats f.prefixes && not (is_string f.opcode)) (instruction_from f.prefixes f.opcode f.fields) y e in
+    omega (arith, rows words f.prefixes f.opcode f.fields h.kind y h.fits says, cost_least f.prefixes f.opcode f.fields)
 
 pub written_best : BytePairLaws → WordPairLaws → (y : Instr) (bytes : List ℕ) → InstrFits y → bytes ≡ form_bytes (form_of y) → WritesBest bytes y
 written_best pairs words y bytes fits e =
     let w = written pairs words y fits in
-    record { form = form_of y; fits = record { layout = w.layout; fits = w.fits }; spelling = e; says = w.says; best = λ other h says. best words other y h says }
+    record { form = form_of y; fits = record { kind = w.kind; fits = w.fits }; spelling = e; says = w.says; best = λ other h says. best words other y h says }

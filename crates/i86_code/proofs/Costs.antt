@@ -10,8 +10,8 @@ use Rattle.i86_table.specs.declared.instruction.Base.TheVariants as bases
 use Rattle.i86_table.specs.declared.instruction.Address.{Address}
 use Rattle.i86_table.specs.declared.instruction.Address.TheVariants as addresses
 use Rattle.i86_table.specs.declared.instruction.Memory.{Memory}
-use Rattle.i86_table.specs.declared.instruction.Place.{Place}
-use Rattle.i86_table.specs.declared.instruction.Place.TheVariants as places
+use Rattle.i86_table.specs.declared.instruction.RmOperand.{RmOperand}
+use Rattle.i86_table.specs.declared.instruction.RmOperand.TheVariants as rm
 use Rattle.i86_table.specs.Numbers.{word_register_code}
 use Rattle.i86_table.specs.Arithmetic.{sign_extended, number_of}
 use Rattle.i86_code.specs.declared.form.Opcode.{Opcode}
@@ -24,7 +24,7 @@ use Rattle.i86_code.specs.declared.form.RegisterOrMemory.{RegisterOrMemory}
 use Rattle.i86_code.specs.declared.form.RegisterOrMemory.TheVariants.{Register, Indirect, Direct, Near, Far}
 use Rattle.i86_code.specs.Opcodes.{opcode_byte}
 use Rattle.i86_code.specs.Forms.{form_bytes, field_bytes, prefix_bytes, place_bytes, word_bytes, IsPlace, base_code}
-use Rattle.i86_code.specs.Meaning.{segment_under, usual_segment, operand}
+use Rattle.i86_code.specs.Instructions.{segment_under, usual_segment, operand}
 use Rattle.i86_code.specs.Writing.{prefix_for, prefix_at, prefix_of, is_near, is_bp, based_form, address_form, place_form, plain, addressed, with_memory, with_byte, with_word, in_group, from_register, accumulator_form, cost, is_turned, is_turned_address, is_turned_form, is_alu_short, is_repeat_first}
 use Rattle.std.proofs.lemmas.List.{length-append}
 use Rattle.i86_code.proofs.WrittenForms.{chosen}
@@ -101,7 +101,7 @@ number_or false b = omega arith
 pub cost_least : (p : Prefixes) (k : Opcode) (f : Fields) → 2 * (prefix_length p + (1 + field_length f)) + number_of (is_turned_form k f) ≤ cost (record { prefixes = p; opcode = k; fields = f })
 cost_least p k f = omega (arith, form_counted p k f, number_or (is_repeat_first p) (is_turned_form k f))
 
--- ---- prefixes and places
+-- ---- prefixes and r/m operands
 
 one_prefix : (usual s : Segment) → prefix_length (prefix_for usual s) ≤ 1
 one_prefix segments.Es segments.Es = omega arith
@@ -161,9 +161,9 @@ usual_none bases.Bp = refl
 usual_none bases.Bx = refl
 
 -- how long the prefix, the address byte and the displacement of a place are
-abbrev pub weight : {R : Type 0} → Place R → ℕ
-weight (places.Register r) = 1
-weight (places.Memory m) = prefix_length (prefix_at m.segment m.address) + place_length (address_form m.address)
+abbrev pub weight : {R : Type 0} → RmOperand R → ℕ
+weight (rm.Register r) = 1
+weight (rm.Memory m) = prefix_length (prefix_at m.segment m.address) + place_length (address_form m.address)
 
 based_short : (b : Base) (d n : ℕ) → 1 ≤ n → (is_near d ≡ false → 3 ≤ n) → ((d == 0 && not (is_bp b)) ≡ false → 2 ≤ n) → place_length (based_form b d) ≤ n
 unfolding based_form
@@ -204,7 +204,7 @@ place_light at p (Near b d) fits =
 place_light at p (Far b d) fits =
     omega (arith, under_light (usual_segment b) (usual_none b) p, based_short b d 3 (omega arith) (λ e. omega arith) (λ e. omega arith))
 
--- ---- forms of places
+-- ---- forms of r/m operands
 
 address_turned : (k : Opcode) (r : ℕ) (a : Address) → is_turned_address k r (address_form a) ≡ false
 unfolding based_form
@@ -225,13 +225,13 @@ at_not_first : (s : Segment) (a : Address) → is_repeat_first (prefix_at s a) �
 at_not_first s (addresses.Direct offset) = not_first segments.Ds s
 at_not_first s (addresses.Based b d) = not_first (usual_segment b) s
 
-pub of_not_first : {R : Type 0} (p : Place R) → is_repeat_first (prefix_of p) ≡ false
-of_not_first (places.Register r) = refl
-of_not_first (places.Memory m) = at_not_first m.segment m.address
+pub of_not_first : {R : Type 0} (p : RmOperand R) → is_repeat_first (prefix_of p) ≡ false
+of_not_first (rm.Register r) = refl
+of_not_first (rm.Memory m) = at_not_first m.segment m.address
 
-pub weight_is : {R : Type 0} (code : R → ℕ) (p : Place R) → prefix_length (prefix_of p) + place_length (place_form code p) ≡ weight p
-weight_is code (places.Register r) = refl
-weight_is code (places.Memory m) = refl
+pub weight_is : {R : Type 0} (code : R → ℕ) (p : RmOperand R) → prefix_length (prefix_of p) + place_length (place_form code p) ≡ weight p
+weight_is code (rm.Register r) = refl
+weight_is code (rm.Memory m) = refl
 
 -- a form with a place in memory
 pub memory_cost : (k : Opcode) (r : ℕ) (m : Memory) → cost (with_memory k r m) ≡ 2 * (1 + (prefix_length (prefix_at m.segment m.address) + place_length (address_form m.address)))
@@ -248,24 +248,24 @@ never_address k never r (Direct offset) = refl
 never_address k never r (Near base d) = refl
 never_address k never r (Far base d) = refl
 
-pub addressed_cost : {R : Type 0} (code : R → ℕ) (k : Opcode) (r : ℕ) (p : Place R) → NeverTurned k → cost (addressed code k r p) ≡ 2 * (1 + weight p)
+pub addressed_cost : {R : Type 0} (code : R → ℕ) (k : Opcode) (r : ℕ) (p : RmOperand R) → NeverTurned k → cost (addressed code k r p) ≡ 2 * (1 + weight p)
 addressed_cost code k r p never = omega (arith, weight_is code p, cost_is (prefix_of p) k (fields.Address r (place_form code p)) false (of_not_first p) (never_address k never r (place_form code p)))
 
-pub byte_cost : {R : Type 0} (code : R → ℕ) (k : Opcode) (r : ℕ) (p : Place R) (n : ℕ) → cost (with_byte code k r p n) ≡ 2 * (2 + weight p) + number_of (is_alu_short k)
+pub byte_cost : {R : Type 0} (code : R → ℕ) (k : Opcode) (r : ℕ) (p : RmOperand R) (n : ℕ) → cost (with_byte code k r p n) ≡ 2 * (2 + weight p) + number_of (is_alu_short k)
 byte_cost code k r p n = omega (arith, weight_is code p, cost_is (prefix_of p) k (fields.AddressByte r (place_form code p) n) (is_alu_short k) (of_not_first p) refl)
 
-pub word_cost : (k : Opcode) (r : ℕ) (p : Place Register16) (n : ℕ) → cost (with_word k r p n) ≡ 2 * (3 + weight p)
+pub word_cost : (k : Opcode) (r : ℕ) (p : RmOperand Register16) (n : ℕ) → cost (with_word k r p n) ≡ 2 * (3 + weight p)
 word_cost k r p n = omega (arith, weight_is word_register_code p, cost_is (prefix_of p) k (fields.AddressWord r (place_form word_register_code p) n) false (of_not_first p) refl)
 
-pub group_cost : {R : Type 0} (code : R → ℕ) (w : Width) (r : ℕ) (p : Place R) → cost (in_group code w r p) ≡ 2 * (1 + weight p)
+pub group_cost : {R : Type 0} (code : R → ℕ) (w : Width) (r : ℕ) (p : RmOperand R) → cost (in_group code w r p) ≡ 2 * (1 + weight p)
 group_cost code w r p = omega (arith, weight_is code p, cost_is (prefix_of p) (op.UnaryGroup w) (fields.Unary w r (place_form code p)) false (of_not_first p) refl)
 
 pub plain_cost : (k : Opcode) (f : Fields) → is_turned_form k f ≡ false → cost (plain k f) ≡ 2 * (1 + field_length f)
 plain_cost k f turned = omega (arith, cost_is prefixes.Nothing k f false refl turned)
 
-pub from_register_cost : {R : Type 0} (code : R → ℕ) (a b : Opcode) (p : Place R) (r : R) → NeverTurned b → cost (from_register code a b p r) ≡ 2 * (1 + weight p)
-from_register_cost code a b (places.Register x) r never = plain_cost b (fields.Address (code x) (Register (code r))) (never (code x) (code r))
-from_register_cost code a b (places.Memory m) r never = memory_cost a (code r) m
+pub from_register_cost : {R : Type 0} (code : R → ℕ) (a b : Opcode) (p : RmOperand R) (r : R) → NeverTurned b → cost (from_register code a b p r) ≡ 2 * (1 + weight p)
+from_register_cost code a b (rm.Register x) r never = plain_cost b (fields.Address (code x) (Register (code r))) (never (code x) (code r))
+from_register_cost code a b (rm.Memory m) r never = memory_cost a (code r) m
 
 pub accumulator_cost : (b : Bool) (short long : Opcode) (r : ℕ) (m : Memory) → cost (accumulator_form b short (with_memory long r m) m.segment m.address) ≤ 2 * (1 + (prefix_length (prefix_at m.segment m.address) + place_length (address_form m.address)))
 accumulator_cost false short long r m = omega (arith, memory_cost long r m)

@@ -4,6 +4,7 @@ pub mod Places
 pub mod FormLaws
 pub mod DecodeLaws
 pub mod Sizes
+pub mod DecodedProofs
 pub mod WrittenForms
 pub mod Costs
 pub mod BestForms

@@ -1,5 +1,5 @@
 -- An address byte with its displacement that is read is the one that was written, and what was written is read again.
-use Rattle.std.proofs.Common.{◌≡◌, ℕ, zero, suc, ◌<◌, ◌+◌, ◌*◌, ◌/◌, ◌%◌, ◌^◌, Bool, true, false, cond, Option, Some, None, List, [], ◌∷◌, ◌++◌, get_or, refl, sym, ap, ◌∙◌, subst, arith, inl, inr, nat_eq}
+use Rattle.std.proofs.Common.{◌≡◌, ℕ, zero, suc, ◌<◌, ◌+◌, ◌*◌, ◌/◌, ◌%◌, ◌^◌, Bool, true, false, cond, Option, Some, None, List, [], ◌∷◌, ◌++◌, refl, sym, ap, ◌∙◌, subst, arith, inl, inr, nat_eq}
 use Rattle.std.proofs.lemmas.Bool.{ne_eqb}
 use Rattle.std.proofs.lemmas.Bool.Decides.{eqb_tells}
 use Rattle.std.specs.Prelude.{option_map}
@@ -9,11 +9,9 @@ use Rattle.i86_code.specs.declared.form.RegisterOrMemory.{RegisterOrMemory}
 use Rattle.i86_code.specs.declared.form.RegisterOrMemory.TheVariants.{Register, Indirect, Direct, Near, Far}
 use Rattle.i86_code.specs.Forms.{base_code, word_bytes, place_bytes, IsPlace}
 use Rattle.i86_code.specs.Reading.{base_at, word_at, memory_at, place_at, then_read}
+use Rattle.i86_code.specs.Decoding.{AreBytes}
 
-abbrev pub IsBytes : List ℕ → Type 0
-IsBytes bytes = (i : ℕ) → get_or bytes i 0 < 256
-
-pub IsBytes-rest : (b : ℕ) (bytes : List ℕ) → IsBytes (b ∷ bytes) → IsBytes bytes
+pub IsBytes-rest : (b : ℕ) (bytes : List ℕ) → AreBytes (b ∷ bytes) → AreBytes bytes
 IsBytes-rest b bytes h i = h (suc i)
 
 pub some_is : {A : Type 0} (x y : A) → Some x ≡ Some y → x ≡ y
@@ -56,7 +54,7 @@ halves n = omega arith
 pub word_again : (n : ℕ) (rest : List ℕ) → word_at (word_bytes n ++ rest) ≡ Some (n, rest)
 word_again n rest = let e : n % 256 + 256 * (n / 256) ≡ n = omega arith in ap (λ (m : ℕ). Some (m, rest)) e
 
-pub word_found : (bytes : List ℕ) (n : ℕ) (rest : List ℕ) → IsBytes bytes → word_at bytes ≡ Some (n, rest) → (bytes ≡ word_bytes n ++ rest) × (n < 2 ^ 16) × IsBytes rest
+pub word_found : (bytes : List ℕ) (n : ℕ) (rest : List ℕ) → AreBytes bytes → word_at bytes ≡ Some (n, rest) → (bytes ≡ word_bytes n ++ rest) × (n < 2 ^ 16) × AreBytes rest
 word_found [] n rest h e = absurd cc
 word_found (a ∷ []) n rest h e = absurd cc
 word_found (a ∷ b ∷ t) n rest h e =
@@ -67,7 +65,7 @@ word_found (a ∷ b ∷ t) n rest h e =
     let rest-is : t ≡ rest = ap (λ (x : ℕ × List ℕ). x.1) p in
     let a-is : n % 256 ≡ a = omega arith in
     let b-is : n / 256 ≡ b = omega arith in
-    (rw (a-is, b-is, rest-is) refl, omega arith, subst IsBytes rest-is (λ i. h (suc (suc i))))
+    (rw (a-is, b-is, rest-is) refl, omega arith, subst AreBytes rest-is (λ i. h (suc (suc i))))
 
 -- an address byte's three parts
 address_again : (m r c : ℕ) (rest : List ℕ) → r < 8 → c < 8 → place_at ((64 * m + 8 * r + c) ∷ rest) ≡ option_map (λ x. (r, x.0, x.1)) (memory_at m c rest)
@@ -99,12 +97,12 @@ not_chosen false x y z f e = e
 record Spells (first : ℕ → ℕ) (rest : List ℕ) (p : RegisterOrMemory) (after : List ℕ) : Type 0 where
   pub spelling : (r : ℕ) → first r ∷ rest ≡ place_bytes r p ++ after
   pub fits : IsPlace p
-  pub bytes : IsBytes after
+  pub bytes : AreBytes after
 
 spells_same : (first : ℕ → ℕ) (rest : List ℕ) (x y : RegisterOrMemory × List ℕ) → Some x ≡ Some y → Spells first rest x.0 x.1 → Spells first rest y.0 y.1
 spells_same first rest x y e s = subst (λ (z : RegisterOrMemory × List ℕ). Spells first rest z.0 z.1) (some_is x y e) s
 
-memory_found : (m c : ℕ) (rest : List ℕ) (p : RegisterOrMemory) (after : List ℕ) → m < 4 → c < 8 → IsBytes rest → memory_at m c rest ≡ Some (p, after) → Spells (λ r. 64 * m + 8 * r + c) rest p after
+memory_found : (m c : ℕ) (rest : List ℕ) (p : RegisterOrMemory) (after : List ℕ) → m < 4 → c < 8 → AreBytes rest → memory_at m c rest ≡ Some (p, after) → Spells (λ r. 64 * m + 8 * r + c) rest p after
 memory_found zero c rest p after hm hc h e =
     elim (eqb_tells c 6) [
       | inl six ↦ direct_found c rest p after six.1 h (rw six.0 at e)
@@ -112,7 +110,7 @@ memory_found zero c rest p after hm hc h e =
           (record { spelling = λ r. rw (base_found c hc) (ap (λ (n : ℕ). n ∷ rest) (omega arith)); fits = rw (base_found c hc) other.1; bytes = h })
     ]
   where
-    direct_found : (c : ℕ) (rest : List ℕ) (p : RegisterOrMemory) (after : List ℕ) → c ≡ 6 → IsBytes rest → then_read {B = RegisterOrMemory × List ℕ} (word_at rest) (λ n z. Some (Direct n, z)) ≡ Some (p, after) → Spells (λ r. 64 * 0 + 8 * r + c) rest p after
+    direct_found : (c : ℕ) (rest : List ℕ) (p : RegisterOrMemory) (after : List ℕ) → c ≡ 6 → AreBytes rest → then_read {B = RegisterOrMemory × List ℕ} (word_at rest) (λ n z. Some (Direct n, z)) ≡ Some (p, after) → Spells (λ r. 64 * 0 + 8 * r + c) rest p after
     direct_found c [] p after six h e = absurd cc
     direct_found c (a ∷ []) p after six h e = absurd cc
     direct_found c (a ∷ b ∷ t) p after six h e =
@@ -139,13 +137,13 @@ pub record Found (source : List ℕ) (r : ℕ) (p : RegisterOrMemory) (after : L
   pub spelling : source ≡ place_bytes r p ++ after
   pub register : r < 8
   pub fits : IsPlace p
-  pub bytes : IsBytes after
+  pub bytes : AreBytes after
 
 option_map_some : {A B : Type 0} (f : A → B) (o : Option A) (y : B) → option_map f o ≡ Some y → (x : A) × (o ≡ Some x) × (f x ≡ y)
 option_map_some f None y e = absurd cc
 option_map_some f (Some x) y e = (x, refl, some_is _ _ e)
 
-pub place_found : (bytes : List ℕ) (r : ℕ) (p : RegisterOrMemory) (after : List ℕ) → IsBytes bytes → place_at bytes ≡ Some (r, p, after) → Found bytes r p after
+pub place_found : (bytes : List ℕ) (r : ℕ) (p : RegisterOrMemory) (after : List ℕ) → AreBytes bytes → place_at bytes ≡ Some (r, p, after) → Found bytes r p after
 unfolding place_at
 place_found [] r p after h e = absurd cc
 place_found (b ∷ rest) r p after h e =

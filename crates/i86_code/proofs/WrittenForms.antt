@@ -27,8 +27,8 @@ use Rattle.i86_table.specs.declared.instruction.Base.TheVariants as bases
 use Rattle.i86_table.specs.declared.instruction.Address.{Address}
 use Rattle.i86_table.specs.declared.instruction.Address.TheVariants as addresses
 use Rattle.i86_table.specs.declared.instruction.Memory.{Memory}
-use Rattle.i86_table.specs.declared.instruction.Place.{Place}
-use Rattle.i86_table.specs.declared.instruction.Place.TheVariants as places
+use Rattle.i86_table.specs.declared.instruction.RmOperand.{RmOperand}
+use Rattle.i86_table.specs.declared.instruction.RmOperand.TheVariants as rm
 use Rattle.i86_table.specs.declared.instruction.Operands.{Operands}
 use Rattle.i86_table.specs.declared.instruction.Operands.TheVariants.{FromRegister, FromMemory, Immediate}
 use Rattle.i86_table.specs.declared.instruction.TestMask.{TestMask}
@@ -46,7 +46,7 @@ use Rattle.i86_table.specs.Pairs.{word_pair}
 use Rattle.i86_table.specs.PairLaws.{BytePairLaws, WordPairLaws}
 use Rattle.i86_code.specs.declared.form.Opcode.{Opcode}
 use Rattle.i86_code.specs.declared.form.Opcode.TheVariants as op
-use Rattle.i86_code.specs.declared.form.Layout.TheVariants as layouts
+use Rattle.i86_code.specs.declared.form.FieldKind.TheVariants as kinds
 use Rattle.i86_code.specs.declared.form.Fields.{Fields}
 use Rattle.i86_code.specs.declared.form.Fields.TheVariants as fields
 use Rattle.i86_code.specs.declared.form.Prefixes.{Prefixes}
@@ -54,10 +54,10 @@ use Rattle.i86_code.specs.declared.form.Prefixes.TheVariants as prefixes
 use Rattle.i86_code.specs.declared.form.RegisterOrMemory.{RegisterOrMemory}
 use Rattle.i86_code.specs.declared.form.RegisterOrMemory.TheVariants.{Register, Indirect, Near, Far}
 use Rattle.i86_code.specs.declared.form.Form.{Form}
-use Rattle.i86_code.specs.Opcodes.{operation_at, operation_code, byte_register_at, word_register_at, segment_code, layout_of}
-use Rattle.i86_code.specs.Forms.{layout_of_fields, FieldsFit, IsPlace, base_code}
-use Rattle.i86_code.specs.Meaning.{segment_under, repeats, usual_segment, based, direct, operand, byte_operand, word_operand, to_register, exchanged_byte, exchanged_word, load_address, shift_at, shift_then, addressed_meaning, byte_unary, word_unary, is_short, addressed_byte_meaning, addressed_word_meaning, exchanged_accumulator, plain_meaning, byte_meaning, word_meaning, meaning, instruction_of}
-use Rattle.i86_code.specs.Ranges.{AddressFits, PlaceFits, OperandsFit, MaskFits, PortFits, InstrFits}
+use Rattle.i86_code.specs.Opcodes.{operation_at, operation_code, byte_register_at, word_register_at, segment_code, field_kind_of}
+use Rattle.i86_code.specs.Forms.{kind_of_fields, FieldsFit, IsPlace, base_code}
+use Rattle.i86_code.specs.Instructions.{segment_under, repeats, usual_segment, based, direct, operand, byte_operand, word_operand, to_register, exchanged_byte, exchanged_word, load_address, shift_at, shift_then, addressed_instruction, byte_unary, word_unary, is_short, addressed_byte_instruction, addressed_word_instruction, exchanged_accumulator, plain_instruction, byte_instruction, word_instruction, instruction_from, instruction_of}
+use Rattle.i86_code.specs.Ranges.{AddressFits, RmOperandFits, OperandsFit, MaskFits, PortFits, InstrFits}
 use Rattle.i86_code.specs.Writing.{prefix_for, prefix_at, prefix_of, is_near, is_bp, based_form, address_form, place_form, plain, addressed, with_memory, with_byte, with_word, in_group, is_al, is_ax, at_register, accumulator_form, alu_immediate_of, alu_byte_of, alu_word_of, move_byte_of, move_word_of, test_byte_of, test_word_of, unary_byte_of, register_or, unary_word_of, multiply_code, divide_code, shift_code, exchange_words_of, string_prefixes, in_of, out_of, form_of, bytes_of}
 use Rattle.i86_code.specs.Decoding.{decoded}
 use Rattle.i86_code.proofs.DecodeLaws.{decoded_again}
@@ -138,27 +138,27 @@ chosen true x y = inl (refl, refl)
 chosen false x y = inr (refl, refl)
 
 -- the accumulator, or another place
-pub al_or : (p : Place Register8) → (p ≡ places.Register Al) ⊎ (at_register is_al p ≡ false)
-al_or (places.Memory m) = inr refl
-al_or (places.Register Al) = inl refl
-al_or (places.Register Cl) = inr refl
-al_or (places.Register Dl) = inr refl
-al_or (places.Register Bl) = inr refl
-al_or (places.Register Ah) = inr refl
-al_or (places.Register Ch) = inr refl
-al_or (places.Register Dh) = inr refl
-al_or (places.Register Bh) = inr refl
+pub al_or : (p : RmOperand Register8) → (p ≡ rm.Register Al) ⊎ (at_register is_al p ≡ false)
+al_or (rm.Memory m) = inr refl
+al_or (rm.Register Al) = inl refl
+al_or (rm.Register Cl) = inr refl
+al_or (rm.Register Dl) = inr refl
+al_or (rm.Register Bl) = inr refl
+al_or (rm.Register Ah) = inr refl
+al_or (rm.Register Ch) = inr refl
+al_or (rm.Register Dh) = inr refl
+al_or (rm.Register Bh) = inr refl
 
-pub ax_or : (p : Place Register16) → (p ≡ places.Register Ax) ⊎ (at_register is_ax p ≡ false)
-ax_or (places.Memory m) = inr refl
-ax_or (places.Register Ax) = inl refl
-ax_or (places.Register Cx) = inr refl
-ax_or (places.Register Dx) = inr refl
-ax_or (places.Register Bx) = inr refl
-ax_or (places.Register Sp) = inr refl
-ax_or (places.Register Bp) = inr refl
-ax_or (places.Register Si) = inr refl
-ax_or (places.Register Di) = inr refl
+pub ax_or : (p : RmOperand Register16) → (p ≡ rm.Register Ax) ⊎ (at_register is_ax p ≡ false)
+ax_or (rm.Memory m) = inr refl
+ax_or (rm.Register Ax) = inl refl
+ax_or (rm.Register Cx) = inr refl
+ax_or (rm.Register Dx) = inr refl
+ax_or (rm.Register Bx) = inr refl
+ax_or (rm.Register Sp) = inr refl
+ax_or (rm.Register Bp) = inr refl
+ax_or (rm.Register Si) = inr refl
+ax_or (rm.Register Di) = inr refl
 
 near_again : (d : ℕ) → d < 2 ^ 16 → is_near d ≡ true → sign_extended (d % 256) ≡ d
 near_again d fits near = grind (arith, near)
@@ -167,15 +167,15 @@ pub both : (a b : Bool) → (a && b) ≡ true → (a ≡ true) × (b ≡ true)
 both true b e = (refl, e)
 both false b e = absurd cc
 
-based_place : {R : Type 0} (at : ℕ → R) (p : Prefixes) (base : Base) (d : ℕ) → d < 2 ^ 16 → operand at p (based_form base d) ≡ places.Memory (based p base d)
+based_place : {R : Type 0} (at : ℕ → R) (p : Prefixes) (base : Base) (d : ℕ) → d < 2 ^ 16 → operand at p (based_form base d) ≡ rm.Memory (based p base d)
 unfolding based_form
 based_place at p base d fits =
     elim (chosen (d == 0 && not (is_bp base)) (Indirect base) (cond (is_near d) (Near base (d % 256)) (Far base d))) [
       | inl bare ↦ let test = both (d == 0) (not (is_bp base)) bare.0 in let none : d ≡ 0 = grind (arith, test) in
-          ap (λ (x : RegisterOrMemory). operand at p x) bare.1 ∙ ap (λ (n : ℕ). places.Memory (based p base n)) (sym none)
+          ap (λ (x : RegisterOrMemory). operand at p x) bare.1 ∙ ap (λ (n : ℕ). rm.Memory (based p base n)) (sym none)
       | inr with_displacement ↦
           elim (chosen (is_near d) (Near base (d % 256)) (Far base d)) [
-            | inl near ↦ ap (λ (x : RegisterOrMemory). operand at p x) (with_displacement.1 ∙ near.1) ∙ ap (λ (n : ℕ). places.Memory (based p base n)) (near_again d fits near.0)
+            | inl near ↦ ap (λ (x : RegisterOrMemory). operand at p x) (with_displacement.1 ∙ near.1) ∙ ap (λ (n : ℕ). rm.Memory (based p base n)) (near_again d fits near.0)
             | inr far ↦ ap (λ (x : RegisterOrMemory). operand at p x) (with_displacement.1 ∙ far.1)
           ]
     ]
@@ -203,88 +203,88 @@ based_is_place base d fits =
     not_six bases.Bx e = omega arith
 
 -- an operand is found again, under its prefix
-record Again {R : Type 0} (at : ℕ → R) (place : Place R) (prefix : Prefixes) (form : RegisterOrMemory) : Type 0 where
+record Again {R : Type 0} (at : ℕ → R) (place : RmOperand R) (prefix : Prefixes) (form : RegisterOrMemory) : Type 0 where
   pub same : operand at prefix form ≡ place
   pub once : repeats prefix ≡ false
   pub fits : IsPlace form
 
-address_again : {R : Type 0} (at : ℕ → R) (s : Segment) (a : Address) → AddressFits a → Again at (places.Memory (record { segment = s; address = a })) (prefix_at s a) (address_form a)
+address_again : {R : Type 0} (at : ℕ → R) (s : Segment) (a : Address) → AddressFits a → Again at (rm.Memory (record { segment = s; address = a })) (prefix_at s a) (address_form a)
 address_again at s (addresses.Direct offset) fits = record {
-  same = ap (λ (t : Segment). places.Memory (record { segment = t; address = addresses.Direct offset })) (under_again segments.Ds s);
+  same = ap (λ (t : Segment). rm.Memory (record { segment = t; address = addresses.Direct offset })) (under_again segments.Ds s);
   once = no_repeat segments.Ds s;
   fits = fits;
 }
 address_again at s (addresses.Based base d) fits = record {
-  same = based_place at (prefix_for (usual_segment base) s) base d fits ∙ ap (λ (t : Segment). places.Memory (record { segment = t; address = addresses.Based base d })) (under_again (usual_segment base) s);
+  same = based_place at (prefix_for (usual_segment base) s) base d fits ∙ ap (λ (t : Segment). rm.Memory (record { segment = t; address = addresses.Based base d })) (under_again (usual_segment base) s);
   once = no_repeat (usual_segment base) s;
   fits = based_is_place base d fits;
 }
 
-place_again : {R : Type 0} (at : ℕ → R) (code : R → ℕ) (again : (r : R) → at (code r) ≡ r) (below : (r : R) → code r < 8) (p : Place R) → PlaceFits p → Again at p (prefix_of p) (place_form code p)
-place_again at code again below (places.Register r) fits = record { same = ap (λ x. places.Register x) (again r); once = refl; fits = below r }
-place_again at code again below (places.Memory m) fits = address_again at m.segment m.address fits
+place_again : {R : Type 0} (at : ℕ → R) (code : R → ℕ) (again : (r : R) → at (code r) ≡ r) (below : (r : R) → code r < 8) (p : RmOperand R) → RmOperandFits p → Again at p (prefix_of p) (place_form code p)
+place_again at code again below (rm.Register r) fits = record { same = ap (λ x. rm.Register x) (again r); once = refl; fits = below r }
+place_again at code again below (rm.Memory m) fits = address_again at m.segment m.address fits
 
-byte_place_again : (p : Place Register8) → PlaceFits p → Again byte_register_at p (prefix_of p) (place_form byte_register_code p)
+byte_place_again : (p : RmOperand Register8) → RmOperandFits p → Again byte_register_at p (prefix_of p) (place_form byte_register_code p)
 byte_place_again p fits = place_again byte_register_at byte_register_code byte_again byte_below p fits
 
-word_place_again : (p : Place Register16) → PlaceFits p → Again word_register_at p (prefix_of p) (place_form word_register_code p)
+word_place_again : (p : RmOperand Register16) → RmOperandFits p → Again word_register_at p (prefix_of p) (place_form word_register_code p)
 word_place_again p fits = place_again word_register_at word_register_code word_again word_below p fits
 
 -- the form says the instruction, and fits
 pub record Says (f : Form) (instruction : Instr) : Type 0 where
   pub says : instruction_of f ≡ Some instruction
-  pub layout : layout_of_fields f.fields ≡ layout_of f.opcode
+  pub kind : kind_of_fields f.fields ≡ field_kind_of f.opcode
   pub fits : FieldsFit f.fields
 
-said : (p : Prefixes) (k : Opcode) (f : Fields) (instruction : Instr) → repeats p ≡ false → meaning p k f ≡ Some instruction → layout_of_fields f ≡ layout_of k → FieldsFit f → Says (record { prefixes = p; opcode = k; fields = f }) instruction
+said : (p : Prefixes) (k : Opcode) (f : Fields) (instruction : Instr) → repeats p ≡ false → instruction_from p k f ≡ Some instruction → kind_of_fields f ≡ field_kind_of k → FieldsFit f → Says (record { prefixes = p; opcode = k; fields = f }) instruction
 unfolding instruction_of
-said p k f instruction once e l fits = record { says = rw once e; layout = l; fits = fits }
+said p k f instruction once e l fits = record { says = rw once e; kind = l; fits = fits }
 
 -- ---- forms with an address byte
 
-byte_addressed_again : (k : Opcode) (r : ℕ) (p : Place Register8) (f : Place Register8 → Instr) → r < 8 → layouts.Address ≡ layout_of k → ((q : Prefixes) (m : RegisterOrMemory) → addressed_meaning q k r m ≡ Some (f (byte_operand q m))) → PlaceFits p → Says (addressed byte_register_code k r p) (f p)
-unfolding meaning
-byte_addressed_again k r p f below layout rule fits =
+byte_addressed_again : (k : Opcode) (r : ℕ) (p : RmOperand Register8) (f : RmOperand Register8 → Instr) → r < 8 → kinds.Address ≡ field_kind_of k → ((q : Prefixes) (m : RegisterOrMemory) → addressed_instruction q k r m ≡ Some (f (byte_operand q m))) → RmOperandFits p → Says (addressed byte_register_code k r p) (f p)
+unfolding instruction_from
+byte_addressed_again k r p f below kind rule fits =
     let again = byte_place_again p fits in
-    said _ _ _ _ again.once (rule (prefix_of p) (place_form byte_register_code p) ∙ ap (λ (x : Place Register8). Some (f x)) again.same) layout (below, again.fits)
+    said _ _ _ _ again.once (rule (prefix_of p) (place_form byte_register_code p) ∙ ap (λ (x : RmOperand Register8). Some (f x)) again.same) kind (below, again.fits)
 
-word_addressed_again : (k : Opcode) (r : ℕ) (p : Place Register16) (f : Place Register16 → Instr) → r < 8 → layouts.Address ≡ layout_of k → ((q : Prefixes) (m : RegisterOrMemory) → addressed_meaning q k r m ≡ Some (f (word_operand q m))) → PlaceFits p → Says (addressed word_register_code k r p) (f p)
-unfolding meaning
-word_addressed_again k r p f below layout rule fits =
+word_addressed_again : (k : Opcode) (r : ℕ) (p : RmOperand Register16) (f : RmOperand Register16 → Instr) → r < 8 → kinds.Address ≡ field_kind_of k → ((q : Prefixes) (m : RegisterOrMemory) → addressed_instruction q k r m ≡ Some (f (word_operand q m))) → RmOperandFits p → Says (addressed word_register_code k r p) (f p)
+unfolding instruction_from
+word_addressed_again k r p f below kind rule fits =
     let again = word_place_again p fits in
-    said _ _ _ _ again.once (rule (prefix_of p) (place_form word_register_code p) ∙ ap (λ (x : Place Register16). Some (f x)) again.same) layout (below, again.fits)
+    said _ _ _ _ again.once (rule (prefix_of p) (place_form word_register_code p) ∙ ap (λ (x : RmOperand Register16). Some (f x)) again.same) kind (below, again.fits)
 
-byte_group_again : (r : ℕ) (p : Place Register8) (f : Place Register8 → Instr) → 0 < r → r < 8 → ((x : Place Register8) → byte_unary r x ≡ Some (f x)) → PlaceFits p → Says (in_group byte_register_code widths.Byte r p) (f p)
-unfolding meaning
+byte_group_again : (r : ℕ) (p : RmOperand Register8) (f : RmOperand Register8 → Instr) → 0 < r → r < 8 → ((x : RmOperand Register8) → byte_unary r x ≡ Some (f x)) → RmOperandFits p → Says (in_group byte_register_code widths.Byte r p) (f p)
+unfolding instruction_from
 byte_group_again r p f some below rule fits =
     let again = byte_place_again p fits in
-    said _ _ _ _ again.once (rule (byte_operand (prefix_of p) (place_form byte_register_code p)) ∙ ap (λ (x : Place Register8). Some (f x)) again.same) refl (some, below, again.fits)
+    said _ _ _ _ again.once (rule (byte_operand (prefix_of p) (place_form byte_register_code p)) ∙ ap (λ (x : RmOperand Register8). Some (f x)) again.same) refl (some, below, again.fits)
 
-word_group_again : (r : ℕ) (p : Place Register16) (f : Place Register16 → Instr) → 0 < r → r < 8 → ((x : Place Register16) → word_unary r x ≡ Some (f x)) → PlaceFits p → Says (in_group word_register_code widths.Word r p) (f p)
-unfolding meaning
+word_group_again : (r : ℕ) (p : RmOperand Register16) (f : RmOperand Register16 → Instr) → 0 < r → r < 8 → ((x : RmOperand Register16) → word_unary r x ≡ Some (f x)) → RmOperandFits p → Says (in_group word_register_code widths.Word r p) (f p)
+unfolding instruction_from
 word_group_again r p f some below rule fits =
     let again = word_place_again p fits in
-    said _ _ _ _ again.once (rule (word_operand (prefix_of p) (place_form word_register_code p)) ∙ ap (λ (x : Place Register16). Some (f x)) again.same) refl (some, below, again.fits)
+    said _ _ _ _ again.once (rule (word_operand (prefix_of p) (place_form word_register_code p)) ∙ ap (λ (x : RmOperand Register16). Some (f x)) again.same) refl (some, below, again.fits)
 
 -- ---- operations on two operands
 
 alu_byte_again : (o : AluOperation) (x : Operands Register8 ℕ) → OperandsFit 256 x → Says (alu_byte_of o x) (i.AluByte o x)
-unfolding alu_byte_of meaning addressed_meaning byte_meaning addressed_byte_meaning
-alu_byte_again o (FromRegister (places.Register a) b) fits = said _ _ _ _ refl (rw (byte_again a, byte_again b) refl) refl (byte_below a, byte_below b)
-alu_byte_again o (FromRegister (places.Memory m) r) fits =
-    byte_addressed_again (op.AluToPlace o widths.Byte) (byte_register_code r) (places.Memory m) (λ x. i.AluByte o (FromRegister x r)) (byte_below r) refl (λ q x. ap (λ (s : Register8). Some (i.AluByte o (FromRegister (byte_operand q x) s))) (byte_again r)) fits
+unfolding alu_byte_of instruction_from addressed_instruction byte_instruction addressed_byte_instruction
+alu_byte_again o (FromRegister (rm.Register a) b) fits = said _ _ _ _ refl (rw (byte_again a, byte_again b) refl) refl (byte_below a, byte_below b)
+alu_byte_again o (FromRegister (rm.Memory m) r) fits =
+    byte_addressed_again (op.AluToPlace o widths.Byte) (byte_register_code r) (rm.Memory m) (λ x. i.AluByte o (FromRegister x r)) (byte_below r) refl (λ q x. ap (λ (s : Register8). Some (i.AluByte o (FromRegister (byte_operand q x) s))) (byte_again r)) fits
 alu_byte_again o (FromMemory r m) fits =
-    byte_addressed_again (op.AluToRegister o widths.Byte) (byte_register_code r) (places.Memory m) (λ x. i.AluByte o (to_register r x)) (byte_below r) refl (λ q x. ap (λ (s : Register8). Some (i.AluByte o (to_register s (byte_operand q x)))) (byte_again r)) fits
+    byte_addressed_again (op.AluToRegister o widths.Byte) (byte_register_code r) (rm.Memory m) (λ x. i.AluByte o (to_register r x)) (byte_below r) refl (λ q x. ap (λ (s : Register8). Some (i.AluByte o (to_register s (byte_operand q x)))) (byte_again r)) fits
 alu_byte_again o (Immediate p n) fits =
     elim (al_or p) [
-      | inl is ↦ subst (λ (q : Place Register8). Says (alu_byte_of o (Immediate q n)) (i.AluByte o (Immediate q n))) (sym is) (said _ _ _ _ refl refl refl fits.1)
+      | inl is ↦ subst (λ (q : RmOperand Register8). Says (alu_byte_of o (Immediate q n)) (i.AluByte o (Immediate q n))) (sym is) (said _ _ _ _ refl refl refl fits.1)
       | inr not ↦
           let again = byte_place_again p fits.0 in
-          rw not (said _ _ _ _ again.once (ap (λ (x : AluOperation). Some (i.AluByte x (Immediate (byte_operand (prefix_of p) (place_form byte_register_code p)) n))) (operation_again o) ∙ ap (λ (x : Place Register8). Some (i.AluByte o (Immediate x n))) again.same) refl (operation_below o, again.fits, fits.1))
+          rw not (said _ _ _ _ again.once (ap (λ (x : AluOperation). Some (i.AluByte x (Immediate (byte_operand (prefix_of p) (place_form byte_register_code p)) n))) (operation_again o) ∙ ap (λ (x : RmOperand Register8). Some (i.AluByte o (Immediate x n))) again.same) refl (operation_below o, again.fits, fits.1))
     ]
 
-alu_immediate_again : (o : AluOperation) (p : Place Register16) (n : ℕ) → PlaceFits p × (n < 65536) → Says (alu_immediate_of o p n) (i.AluWord o (Immediate p n))
-unfolding meaning addressed_byte_meaning addressed_word_meaning
+alu_immediate_again : (o : AluOperation) (p : RmOperand Register16) (n : ℕ) → RmOperandFits p × (n < 65536) → Says (alu_immediate_of o p n) (i.AluWord o (Immediate p n))
+unfolding instruction_from addressed_byte_instruction addressed_word_instruction
 alu_immediate_again o p n fits =
     let again = word_place_again p fits.0 in
     elim (chosen (is_short (operation_code o) && is_near n) (with_byte word_register_code op.AluShort (operation_code o) p (n % 256)) (with_word (op.AluImmediate widths.Word) (operation_code o) p n)) [
@@ -294,25 +294,25 @@ alu_immediate_again o p n fits =
           subst (λ (f : Form). Says f (i.AluWord o (Immediate p n))) (sym short.1)
           (said _ _ _ _ again.once
           (rw test.0 (ap (λ (x : AluOperation). Some (i.AluWord x (Immediate (word_operand (prefix_of p) (place_form word_register_code p)) (sign_extended (n % 256))))) (operation_again o)
-          ∙ ap (λ (x : Place Register16). Some (i.AluWord o (Immediate x (sign_extended (n % 256))))) again.same ∙ ap (λ (x : ℕ). Some (i.AluWord o (Immediate p x))) near))
+          ∙ ap (λ (x : RmOperand Register16). Some (i.AluWord o (Immediate x (sign_extended (n % 256))))) again.same ∙ ap (λ (x : ℕ). Some (i.AluWord o (Immediate p x))) near))
           refl (operation_below o, again.fits, omega arith))
       | inr long ↦
           subst (λ (f : Form). Says f (i.AluWord o (Immediate p n))) (sym long.1)
           (said _ _ _ _ again.once
-          (ap (λ (x : AluOperation). Some (i.AluWord x (Immediate (word_operand (prefix_of p) (place_form word_register_code p)) n))) (operation_again o) ∙ ap (λ (x : Place Register16). Some (i.AluWord o (Immediate x n))) again.same)
+          (ap (λ (x : AluOperation). Some (i.AluWord x (Immediate (word_operand (prefix_of p) (place_form word_register_code p)) n))) (operation_again o) ∙ ap (λ (x : RmOperand Register16). Some (i.AluWord o (Immediate x n))) again.same)
           refl (operation_below o, again.fits, omega (arith, fits.1)))
     ]
 
 alu_word_again : (o : AluOperation) (x : Operands Register16 ℕ) → OperandsFit 65536 x → Says (alu_word_of o x) (i.AluWord o x)
-unfolding alu_word_of meaning addressed_meaning word_meaning
-alu_word_again o (FromRegister (places.Register a) b) fits = said _ _ _ _ refl (rw (word_again a, word_again b) refl) refl (word_below a, word_below b)
-alu_word_again o (FromRegister (places.Memory m) r) fits =
-    word_addressed_again (op.AluToPlace o widths.Word) (word_register_code r) (places.Memory m) (λ x. i.AluWord o (FromRegister x r)) (word_below r) refl (λ q x. ap (λ (s : Register16). Some (i.AluWord o (FromRegister (word_operand q x) s))) (word_again r)) fits
+unfolding alu_word_of instruction_from addressed_instruction word_instruction
+alu_word_again o (FromRegister (rm.Register a) b) fits = said _ _ _ _ refl (rw (word_again a, word_again b) refl) refl (word_below a, word_below b)
+alu_word_again o (FromRegister (rm.Memory m) r) fits =
+    word_addressed_again (op.AluToPlace o widths.Word) (word_register_code r) (rm.Memory m) (λ x. i.AluWord o (FromRegister x r)) (word_below r) refl (λ q x. ap (λ (s : Register16). Some (i.AluWord o (FromRegister (word_operand q x) s))) (word_again r)) fits
 alu_word_again o (FromMemory r m) fits =
-    word_addressed_again (op.AluToRegister o widths.Word) (word_register_code r) (places.Memory m) (λ x. i.AluWord o (to_register r x)) (word_below r) refl (λ q x. ap (λ (s : Register16). Some (i.AluWord o (to_register s (word_operand q x)))) (word_again r)) fits
+    word_addressed_again (op.AluToRegister o widths.Word) (word_register_code r) (rm.Memory m) (λ x. i.AluWord o (to_register r x)) (word_below r) refl (λ q x. ap (λ (s : Register16). Some (i.AluWord o (to_register s (word_operand q x)))) (word_again r)) fits
 alu_word_again o (Immediate p n) fits =
     elim (ax_or p) [
-      | inl is ↦ subst (λ (q : Place Register16). Says (alu_word_of o (Immediate q n)) (i.AluWord o (Immediate q n))) (sym is) (said _ _ _ _ refl refl refl fits.1)
+      | inl is ↦ subst (λ (q : RmOperand Register16). Says (alu_word_of o (Immediate q n)) (i.AluWord o (Immediate q n))) (sym is) (said _ _ _ _ refl refl refl fits.1)
       | inr not ↦ rw not (alu_immediate_again o p n fits)
     ]
 
@@ -344,123 +344,117 @@ accumulator_again false k other s a instruction else direct = else
 accumulator_again true k other s (addresses.Direct offset) instruction else direct = direct offset refl refl
 accumulator_again true k other s (addresses.Based base d) instruction else direct = else
 
-direct_again : (k : Opcode) (m : Memory) (offset : ℕ) (f : Memory → Instr) → layouts.Word ≡ layout_of k → ((q : Prefixes) → word_meaning q k offset ≡ Some (f (direct q offset))) → AddressFits m.address → m.address ≡ addresses.Direct offset → Says (record { prefixes = prefix_for segments.Ds m.segment; opcode = k; fields = fields.Word offset }) (f m)
-unfolding meaning
-direct_again k m offset f layout rule fits at =
+direct_again : (k : Opcode) (m : Memory) (offset : ℕ) (f : Memory → Instr) → kinds.Word ≡ field_kind_of k → ((q : Prefixes) → word_instruction q k offset ≡ Some (f (direct q offset))) → AddressFits m.address → m.address ≡ addresses.Direct offset → Says (record { prefixes = prefix_for segments.Ds m.segment; opcode = k; fields = fields.Word offset }) (f m)
+unfolding instruction_from
+direct_again k m offset f kind rule fits at =
     said _ _ _ _ (no_repeat segments.Ds m.segment)
     (rule (prefix_for segments.Ds m.segment) ∙ ap (λ (t : Segment). Some (f (record { segment = t; address = addresses.Direct offset }))) (under_again segments.Ds m.segment)
     ∙ ap (λ (a : Address). Some (f (record { segment = m.segment; address = a }))) (sym at))
-    layout (subst AddressFits at fits)
+    kind (subst AddressFits at fits)
 
 move_byte_again : (x : Operands Register8 ℕ) → OperandsFit 256 x → Says (move_byte_of x) (i.MoveByte x)
-unfolding move_byte_of meaning addressed_meaning byte_meaning word_meaning addressed_byte_meaning
-move_byte_again (FromRegister (places.Register a) b) fits = said _ _ _ _ refl (rw (byte_again a, byte_again b) refl) refl (byte_below a, byte_below b)
-move_byte_again (FromRegister (places.Memory m) r) fits =
-    accumulator_again (is_al r) (op.MoveToDirect widths.Byte) _ m.segment m.address (i.MoveByte (FromRegister (places.Memory m) r))
-    (byte_addressed_again (op.MoveToPlace widths.Byte) (byte_register_code r) (places.Memory m) (λ x. i.MoveByte (FromRegister x r)) (byte_below r) refl (λ q x. ap (λ (s : Register8). Some (i.MoveByte (FromRegister (byte_operand q x) s))) (byte_again r)) fits)
-    (λ offset is at. direct_again (op.MoveToDirect widths.Byte) m offset (λ x. i.MoveByte (FromRegister (places.Memory x) r)) refl (λ q. ap (λ (s : Register8). Some (i.MoveByte (FromRegister (places.Memory (direct q offset)) s))) (sym (al_is r is))) fits at)
+unfolding move_byte_of instruction_from addressed_instruction byte_instruction word_instruction addressed_byte_instruction
+move_byte_again (FromRegister (rm.Register a) b) fits = said _ _ _ _ refl (rw (byte_again a, byte_again b) refl) refl (byte_below a, byte_below b)
+move_byte_again (FromRegister (rm.Memory m) r) fits =
+    accumulator_again (is_al r) (op.MoveToDirect widths.Byte) _ m.segment m.address (i.MoveByte (FromRegister (rm.Memory m) r))
+    (byte_addressed_again (op.MoveToPlace widths.Byte) (byte_register_code r) (rm.Memory m) (λ x. i.MoveByte (FromRegister x r)) (byte_below r) refl (λ q x. ap (λ (s : Register8). Some (i.MoveByte (FromRegister (byte_operand q x) s))) (byte_again r)) fits)
+    (λ offset is at. direct_again (op.MoveToDirect widths.Byte) m offset (λ x. i.MoveByte (FromRegister (rm.Memory x) r)) refl (λ q. ap (λ (s : Register8). Some (i.MoveByte (FromRegister (rm.Memory (direct q offset)) s))) (sym (al_is r is))) fits at)
 move_byte_again (FromMemory r m) fits =
     accumulator_again (is_al r) (op.MoveFromDirect widths.Byte) _ m.segment m.address (i.MoveByte (FromMemory r m))
-    (byte_addressed_again (op.MoveToRegister widths.Byte) (byte_register_code r) (places.Memory m) (λ x. i.MoveByte (to_register r x)) (byte_below r) refl (λ q x. ap (λ (s : Register8). Some (i.MoveByte (to_register s (byte_operand q x)))) (byte_again r)) fits)
+    (byte_addressed_again (op.MoveToRegister widths.Byte) (byte_register_code r) (rm.Memory m) (λ x. i.MoveByte (to_register r x)) (byte_below r) refl (λ q x. ap (λ (s : Register8). Some (i.MoveByte (to_register s (byte_operand q x)))) (byte_again r)) fits)
     (λ offset is at. direct_again (op.MoveFromDirect widths.Byte) m offset (λ x. i.MoveByte (FromMemory r x)) refl (λ q. ap (λ (s : Register8). Some (i.MoveByte (FromMemory s (direct q offset)))) (sym (al_is r is))) fits at)
-move_byte_again (Immediate (places.Register r) n) fits = said _ _ _ _ refl refl refl fits.1
-move_byte_again (Immediate (places.Memory m) n) fits =
-    let again = byte_place_again (places.Memory m) fits.0 in
-    said _ _ _ _ again.once (ap (λ (x : Place Register8). Some (i.MoveByte (Immediate x n))) again.same) refl (omega arith, again.fits, fits.1)
+move_byte_again (Immediate (rm.Register r) n) fits = said _ _ _ _ refl refl refl fits.1
+move_byte_again (Immediate (rm.Memory m) n) fits =
+    let again = byte_place_again (rm.Memory m) fits.0 in
+    said _ _ _ _ again.once (ap (λ (x : RmOperand Register8). Some (i.MoveByte (Immediate x n))) again.same) refl (omega arith, again.fits, fits.1)
 
 move_word_again : (x : Operands Register16 ℕ) → OperandsFit 65536 x → Says (move_word_of x) (i.MoveWord x)
-unfolding move_word_of meaning addressed_meaning word_meaning addressed_word_meaning
-move_word_again (FromRegister (places.Register a) b) fits = said _ _ _ _ refl (rw (word_again a, word_again b) refl) refl (word_below a, word_below b)
-move_word_again (FromRegister (places.Memory m) r) fits =
-    accumulator_again (is_ax r) (op.MoveToDirect widths.Word) _ m.segment m.address (i.MoveWord (FromRegister (places.Memory m) r))
-    (word_addressed_again (op.MoveToPlace widths.Word) (word_register_code r) (places.Memory m) (λ x. i.MoveWord (FromRegister x r)) (word_below r) refl (λ q x. ap (λ (s : Register16). Some (i.MoveWord (FromRegister (word_operand q x) s))) (word_again r)) fits)
-    (λ offset is at. direct_again (op.MoveToDirect widths.Word) m offset (λ x. i.MoveWord (FromRegister (places.Memory x) r)) refl (λ q. ap (λ (s : Register16). Some (i.MoveWord (FromRegister (places.Memory (direct q offset)) s))) (sym (ax_is r is))) fits at)
+unfolding move_word_of instruction_from addressed_instruction word_instruction addressed_word_instruction
+move_word_again (FromRegister (rm.Register a) b) fits = said _ _ _ _ refl (rw (word_again a, word_again b) refl) refl (word_below a, word_below b)
+move_word_again (FromRegister (rm.Memory m) r) fits =
+    accumulator_again (is_ax r) (op.MoveToDirect widths.Word) _ m.segment m.address (i.MoveWord (FromRegister (rm.Memory m) r))
+    (word_addressed_again (op.MoveToPlace widths.Word) (word_register_code r) (rm.Memory m) (λ x. i.MoveWord (FromRegister x r)) (word_below r) refl (λ q x. ap (λ (s : Register16). Some (i.MoveWord (FromRegister (word_operand q x) s))) (word_again r)) fits)
+    (λ offset is at. direct_again (op.MoveToDirect widths.Word) m offset (λ x. i.MoveWord (FromRegister (rm.Memory x) r)) refl (λ q. ap (λ (s : Register16). Some (i.MoveWord (FromRegister (rm.Memory (direct q offset)) s))) (sym (ax_is r is))) fits at)
 move_word_again (FromMemory r m) fits =
     accumulator_again (is_ax r) (op.MoveFromDirect widths.Word) _ m.segment m.address (i.MoveWord (FromMemory r m))
-    (word_addressed_again (op.MoveToRegister widths.Word) (word_register_code r) (places.Memory m) (λ x. i.MoveWord (to_register r x)) (word_below r) refl (λ q x. ap (λ (s : Register16). Some (i.MoveWord (to_register s (word_operand q x)))) (word_again r)) fits)
+    (word_addressed_again (op.MoveToRegister widths.Word) (word_register_code r) (rm.Memory m) (λ x. i.MoveWord (to_register r x)) (word_below r) refl (λ q x. ap (λ (s : Register16). Some (i.MoveWord (to_register s (word_operand q x)))) (word_again r)) fits)
     (λ offset is at. direct_again (op.MoveFromDirect widths.Word) m offset (λ x. i.MoveWord (FromMemory r x)) refl (λ q. ap (λ (s : Register16). Some (i.MoveWord (FromMemory s (direct q offset)))) (sym (ax_is r is))) fits at)
-move_word_again (Immediate (places.Register r) n) fits = said _ _ _ _ refl refl refl fits.1
-move_word_again (Immediate (places.Memory m) n) fits =
-    let again = word_place_again (places.Memory m) fits.0 in
-    said _ _ _ _ again.once (ap (λ (x : Place Register16). Some (i.MoveWord (Immediate x n))) again.same) refl (omega arith, again.fits, fits.1)
+move_word_again (Immediate (rm.Register r) n) fits = said _ _ _ _ refl refl refl fits.1
+move_word_again (Immediate (rm.Memory m) n) fits =
+    let again = word_place_again (rm.Memory m) fits.0 in
+    said _ _ _ _ again.once (ap (λ (x : RmOperand Register16). Some (i.MoveWord (Immediate x n))) again.same) refl (omega arith, again.fits, fits.1)
 
 -- ---- TEST
 
-test_byte_again : (p : Place Register8) (x : TestMask Register8 ℕ) → PlaceFits p → MaskFits 256 x → Says (test_byte_of p x) (i.TestByte p x)
-unfolding meaning addressed_meaning byte_meaning
+test_byte_again : (p : RmOperand Register8) (x : TestMask Register8 ℕ) → RmOperandFits p → MaskFits 256 x → Says (test_byte_of p x) (i.TestByte p x)
+unfolding instruction_from addressed_instruction byte_instruction
 test_byte_again p (masks.Register r) fits mask =
     byte_addressed_again (op.Test widths.Byte) (byte_register_code r) p (λ x. i.TestByte x (masks.Register r)) (byte_below r) refl (λ q x. ap (λ (s : Register8). Some (i.TestByte (byte_operand q x) (masks.Register s))) (byte_again r)) fits
 test_byte_again p (masks.Immediate n) fits mask =
     elim (al_or p) [
-      | inl is ↦ subst (λ (q : Place Register8). Says (test_byte_of q (masks.Immediate n)) (i.TestByte q (masks.Immediate n))) (sym is) (said _ _ _ _ refl refl refl mask)
-      | inr not ↦ let again = byte_place_again p fits in rw not (said _ _ _ _ again.once (ap (λ (x : Place Register8). Some (i.TestByte x (masks.Immediate n))) again.same) refl (again.fits, mask))
+      | inl is ↦ subst (λ (q : RmOperand Register8). Says (test_byte_of q (masks.Immediate n)) (i.TestByte q (masks.Immediate n))) (sym is) (said _ _ _ _ refl refl refl mask)
+      | inr not ↦ let again = byte_place_again p fits in rw not (said _ _ _ _ again.once (ap (λ (x : RmOperand Register8). Some (i.TestByte x (masks.Immediate n))) again.same) refl (again.fits, mask))
     ]
 
-test_word_again : (p : Place Register16) (x : TestMask Register16 ℕ) → PlaceFits p → MaskFits 65536 x → Says (test_word_of p x) (i.TestWord p x)
-unfolding meaning addressed_meaning word_meaning
+test_word_again : (p : RmOperand Register16) (x : TestMask Register16 ℕ) → RmOperandFits p → MaskFits 65536 x → Says (test_word_of p x) (i.TestWord p x)
+unfolding instruction_from addressed_instruction word_instruction
 test_word_again p (masks.Register r) fits mask =
     word_addressed_again (op.Test widths.Word) (word_register_code r) p (λ x. i.TestWord x (masks.Register r)) (word_below r) refl (λ q x. ap (λ (s : Register16). Some (i.TestWord (word_operand q x) (masks.Register s))) (word_again r)) fits
 test_word_again p (masks.Immediate n) fits mask =
     elim (ax_or p) [
-      | inl is ↦ subst (λ (q : Place Register16). Says (test_word_of q (masks.Immediate n)) (i.TestWord q (masks.Immediate n))) (sym is) (said _ _ _ _ refl refl refl mask)
-      | inr not ↦ let again = word_place_again p fits in rw not (said _ _ _ _ again.once (ap (λ (x : Place Register16). Some (i.TestWord x (masks.Immediate n))) again.same) refl (again.fits, mask))
+      | inl is ↦ subst (λ (q : RmOperand Register16). Says (test_word_of q (masks.Immediate n)) (i.TestWord q (masks.Immediate n))) (sym is) (said _ _ _ _ refl refl refl mask)
+      | inr not ↦ let again = word_place_again p fits in rw not (said _ _ _ _ again.once (ap (λ (x : RmOperand Register16). Some (i.TestWord x (masks.Immediate n))) again.same) refl (again.fits, mask))
     ]
 
 -- ---- operations on one operand
 
-unary_byte_again : (o : UnaryOperation) (p : Place Register8) → PlaceFits p → Says (unary_byte_of o p) (i.UnaryByte o p)
-unfolding addressed_meaning
+unary_byte_again : (o : UnaryOperation) (p : RmOperand Register8) → RmOperandFits p → Says (unary_byte_of o p) (i.UnaryByte o p)
+unfolding addressed_instruction
 unary_byte_again Not p fits = byte_group_again 2 p (λ x. i.UnaryByte Not x) (omega arith) (omega arith) (λ x. refl) fits
 unary_byte_again Neg p fits = byte_group_again 3 p (λ x. i.UnaryByte Neg x) (omega arith) (omega arith) (λ x. refl) fits
 unary_byte_again Inc p fits = byte_addressed_again (op.StepGroup widths.Byte) 0 p (λ x. i.UnaryByte Inc x) (omega arith) refl (λ q x. refl) fits
 unary_byte_again Dec p fits = byte_addressed_again (op.StepGroup widths.Byte) 1 p (λ x. i.UnaryByte Dec x) (omega arith) refl (λ q x. refl) fits
 
 -- a register's own form, or that with an address byte
-register_or_again : (short : Register16 → Opcode) (k : Opcode) (r : ℕ) (p : Place Register16) (f : Place Register16 → Instr) → ((x : Register16) → layouts.Nothing ≡ layout_of (short x)) → ((x : Register16) → plain_meaning prefixes.Nothing (short x) ≡ Some (f (places.Register x))) → r < 8 → layouts.Address ≡ layout_of k → ((q : Prefixes) (m : RegisterOrMemory) → addressed_meaning q k r m ≡ Some (f (word_operand q m))) → PlaceFits p → Says (register_or short k r p) (f p)
-unfolding meaning
-register_or_again short k r (places.Register x) f short_layout short_rule below layout rule fits = said _ _ _ _ refl (short_rule x) (short_layout x) tt
-register_or_again short k r (places.Memory m) f short_layout short_rule below layout rule fits = word_addressed_again k r (places.Memory m) f below layout rule fits
+register_or_again : (short : Register16 → Opcode) (k : Opcode) (r : ℕ) (p : RmOperand Register16) (f : RmOperand Register16 → Instr) → ((x : Register16) → kinds.Nothing ≡ field_kind_of (short x)) → ((x : Register16) → plain_instruction prefixes.Nothing (short x) ≡ Some (f (rm.Register x))) → r < 8 → kinds.Address ≡ field_kind_of k → ((q : Prefixes) (m : RegisterOrMemory) → addressed_instruction q k r m ≡ Some (f (word_operand q m))) → RmOperandFits p → Says (register_or short k r p) (f p)
+unfolding instruction_from
+register_or_again short k r (rm.Register x) f short_layout short_rule below kind rule fits = said _ _ _ _ refl (short_rule x) (short_layout x) tt
+register_or_again short k r (rm.Memory m) f short_layout short_rule below kind rule fits = word_addressed_again k r (rm.Memory m) f below kind rule fits
 
-unary_word_again : (o : UnaryOperation) (p : Place Register16) → PlaceFits p → Says (unary_word_of o p) (i.UnaryWord o p)
-unfolding addressed_meaning plain_meaning
+unary_word_again : (o : UnaryOperation) (p : RmOperand Register16) → RmOperandFits p → Says (unary_word_of o p) (i.UnaryWord o p)
+unfolding addressed_instruction plain_instruction
 unary_word_again Not p fits = word_group_again 2 p (λ x. i.UnaryWord Not x) (omega arith) (omega arith) (λ x. refl) fits
 unary_word_again Neg p fits = word_group_again 3 p (λ x. i.UnaryWord Neg x) (omega arith) (omega arith) (λ x. refl) fits
 unary_word_again Inc p fits = register_or_again (λ r. op.Increment r) (op.StepGroup widths.Word) 0 p (λ x. i.UnaryWord Inc x) (λ x. refl) (λ x. refl) (omega arith) refl (λ q x. refl) fits
 unary_word_again Dec p fits = register_or_again (λ r. op.Decrement r) (op.StepGroup widths.Word) 1 p (λ x. i.UnaryWord Dec x) (λ x. refl) (λ x. refl) (omega arith) refl (λ q x. refl) fits
 
-multiply_byte_again : (s : Signedness) (p : Place Register8) → PlaceFits p → Says (in_group byte_register_code widths.Byte (multiply_code s) p) (i.MultiplyByte s p)
+multiply_byte_again : (s : Signedness) (p : RmOperand Register8) → RmOperandFits p → Says (in_group byte_register_code widths.Byte (multiply_code s) p) (i.MultiplyByte s p)
 multiply_byte_again Unsigned p fits = byte_group_again 4 p (λ x. i.MultiplyByte Unsigned x) (omega arith) (omega arith) (λ x. refl) fits
 multiply_byte_again Signed p fits = byte_group_again 5 p (λ x. i.MultiplyByte Signed x) (omega arith) (omega arith) (λ x. refl) fits
 
-multiply_word_again : (s : Signedness) (p : Place Register16) → PlaceFits p → Says (in_group word_register_code widths.Word (multiply_code s) p) (i.MultiplyWord s p)
+multiply_word_again : (s : Signedness) (p : RmOperand Register16) → RmOperandFits p → Says (in_group word_register_code widths.Word (multiply_code s) p) (i.MultiplyWord s p)
 multiply_word_again Unsigned p fits = word_group_again 4 p (λ x. i.MultiplyWord Unsigned x) (omega arith) (omega arith) (λ x. refl) fits
 multiply_word_again Signed p fits = word_group_again 5 p (λ x. i.MultiplyWord Signed x) (omega arith) (omega arith) (λ x. refl) fits
 
-divide_byte_again : (s : Signedness) (p : Place Register8) → PlaceFits p → Says (in_group byte_register_code widths.Byte (divide_code s) p) (i.DivideByte s p)
+divide_byte_again : (s : Signedness) (p : RmOperand Register8) → RmOperandFits p → Says (in_group byte_register_code widths.Byte (divide_code s) p) (i.DivideByte s p)
 divide_byte_again Unsigned p fits = byte_group_again 6 p (λ x. i.DivideByte Unsigned x) (omega arith) (omega arith) (λ x. refl) fits
 divide_byte_again Signed p fits = byte_group_again 7 p (λ x. i.DivideByte Signed x) (omega arith) (omega arith) (λ x. refl) fits
 
-divide_word_again : (s : Signedness) (p : Place Register16) → PlaceFits p → Says (in_group word_register_code widths.Word (divide_code s) p) (i.DivideWord s p)
+divide_word_again : (s : Signedness) (p : RmOperand Register16) → RmOperandFits p → Says (in_group word_register_code widths.Word (divide_code s) p) (i.DivideWord s p)
 divide_word_again Unsigned p fits = word_group_again 6 p (λ x. i.DivideWord Unsigned x) (omega arith) (omega arith) (λ x. refl) fits
 divide_word_again Signed p fits = word_group_again 7 p (λ x. i.DivideWord Signed x) (omega arith) (omega arith) (λ x. refl) fits
 
 -- ---- segments, XCHG, strings, ports
 
-segment_below : (s : Segment) → segment_code s < 4
-segment_below segments.Es = omega arith
-segment_below segments.Cs = omega arith
-segment_below segments.Ss = omega arith
-segment_below segments.Ds = omega arith
-
-move_from_segment_again : (p : Place Register16) (s : Segment) → PlaceFits p → Says (addressed word_register_code op.MoveFromSegment (segment_code s) p) (i.MoveFromSegment p s)
-unfolding addressed_meaning
+move_from_segment_again : (p : RmOperand Register16) (s : Segment) → RmOperandFits p → Says (addressed word_register_code op.MoveFromSegment (segment_code s) p) (i.MoveFromSegment p s)
+unfolding addressed_instruction
 move_from_segment_again p segments.Es fits = word_addressed_again op.MoveFromSegment 0 p (λ x. i.MoveFromSegment x segments.Es) (omega arith) refl (λ q x. refl) fits
 move_from_segment_again p segments.Cs fits = word_addressed_again op.MoveFromSegment 1 p (λ x. i.MoveFromSegment x segments.Cs) (omega arith) refl (λ q x. refl) fits
 move_from_segment_again p segments.Ss fits = word_addressed_again op.MoveFromSegment 2 p (λ x. i.MoveFromSegment x segments.Ss) (omega arith) refl (λ q x. refl) fits
 move_from_segment_again p segments.Ds fits = word_addressed_again op.MoveFromSegment 3 p (λ x. i.MoveFromSegment x segments.Ds) (omega arith) refl (λ q x. refl) fits
 
-move_to_segment_again : (s : LoadableSegment) (p : Place Register16) → PlaceFits p → Says (addressed word_register_code op.MoveToSegment (segment_code (loadable s)) p) (i.MoveToSegment s p)
-unfolding addressed_meaning
+move_to_segment_again : (s : LoadableSegment) (p : RmOperand Register16) → RmOperandFits p → Says (addressed word_register_code op.MoveToSegment (segment_code (loadable s)) p) (i.MoveToSegment s p)
+unfolding addressed_instruction
 move_to_segment_again loadables.Es p fits = word_addressed_again op.MoveToSegment 0 p (λ x. i.MoveToSegment loadables.Es x) (omega arith) refl (λ q x. refl) fits
 move_to_segment_again loadables.Ss p fits = word_addressed_again op.MoveToSegment 2 p (λ x. i.MoveToSegment loadables.Ss x) (omega arith) refl (λ q x. refl) fits
 move_to_segment_again loadables.Ds p fits = word_addressed_again op.MoveToSegment 3 p (λ x. i.MoveToSegment loadables.Ds x) (omega arith) refl (λ q x. refl) fits
@@ -475,12 +469,12 @@ address_is_place (addresses.Direct offset) fits = fits
 address_is_place (addresses.Based base d) fits = based_is_place base d fits
 
 load_address_again : (r : Register16) (a : Address) → AddressFits a → Says (plain op.LoadAddress (fields.Address (word_register_code r) (address_form a))) (i.LoadAddress r a)
-unfolding meaning addressed_meaning
+unfolding instruction_from addressed_instruction
 load_address_again r a fits =
     said _ _ _ _ refl (ap (λ (s : Register16). load_address s (word_operand prefixes.Nothing (address_form a))) (word_again r) ∙ load_address_place r a fits) refl (word_below r, address_is_place a fits)
 
 exchange_bytes_again : BytePairLaws → (p : BytePair) → Says (plain (op.Exchange widths.Byte) (fields.Address (byte_register_code p.first) (Register (byte_register_code p.second)))) (i.ExchangeBytes p)
-unfolding meaning addressed_meaning
+unfolding instruction_from addressed_instruction
 exchange_bytes_again laws p = said _ _ _ _ refl (rw (byte_again p.first, byte_again p.second) (ap (λ (x : BytePair). Some (i.ExchangeBytes x)) (laws.again p))) refl (byte_below p.first, byte_below p.second)
 
 -- AX with another register
@@ -499,7 +493,7 @@ not_true true e = absurd cc
 not_true false e = refl
 
 exchange_words_again : WordPairLaws → (p : WordPair) → Says (exchange_words_of p.first p.second) (i.ExchangeWords p)
-unfolding meaning addressed_meaning plain_meaning
+unfolding instruction_from addressed_instruction plain_instruction
 exchange_words_again laws p =
     elim (chosen (is_ax p.first && not (is_ax p.second)) (plain (op.ExchangeAccumulator p.second) fields.Nothing) (plain (op.Exchange widths.Word) (fields.Address (word_register_code p.first) (Register (word_register_code p.second))))) [
       | inl short ↦
@@ -512,49 +506,49 @@ exchange_words_again laws p =
     ]
 
 exchange_memory_byte_again : (r : Register8) (m : Memory) → AddressFits m.address → Says (with_memory (op.Exchange widths.Byte) (byte_register_code r) m) (i.ExchangeMemoryByte r m)
-unfolding addressed_meaning
+unfolding addressed_instruction
 exchange_memory_byte_again r m fits =
-    byte_addressed_again (op.Exchange widths.Byte) (byte_register_code r) (places.Memory m) (λ x. exchanged_byte r x) (byte_below r) refl (λ q x. ap (λ (s : Register8). Some (exchanged_byte s (byte_operand q x))) (byte_again r)) fits
+    byte_addressed_again (op.Exchange widths.Byte) (byte_register_code r) (rm.Memory m) (λ x. exchanged_byte r x) (byte_below r) refl (λ q x. ap (λ (s : Register8). Some (exchanged_byte s (byte_operand q x))) (byte_again r)) fits
 
 exchange_memory_word_again : (r : Register16) (m : Memory) → AddressFits m.address → Says (with_memory (op.Exchange widths.Word) (word_register_code r) m) (i.ExchangeMemoryWord r m)
-unfolding addressed_meaning
+unfolding addressed_instruction
 exchange_memory_word_again r m fits =
-    word_addressed_again (op.Exchange widths.Word) (word_register_code r) (places.Memory m) (λ x. exchanged_word r x) (word_below r) refl (λ q x. ap (λ (s : Register16). Some (exchanged_word s (word_operand q x))) (word_again r)) fits
+    word_addressed_again (op.Exchange widths.Word) (word_register_code r) (rm.Memory m) (λ x. exchanged_word r x) (word_below r) refl (λ q x. ap (λ (s : Register16). Some (exchanged_word s (word_operand q x))) (word_again r)) fits
 
 -- a string instruction may be repeated
 string_again : (w : Width) (s : Segment) (repeat : Repeat) → Says (record { prefixes = string_prefixes s repeat; opcode = op.MoveString w; fields = fields.Nothing }) (i.MoveString w s repeat)
-unfolding instruction_of meaning plain_meaning
-string_again w segments.Es Once = record { says = refl; layout = refl; fits = tt }
-string_again w segments.Es WhileCx = record { says = refl; layout = refl; fits = tt }
-string_again w segments.Cs Once = record { says = refl; layout = refl; fits = tt }
-string_again w segments.Cs WhileCx = record { says = refl; layout = refl; fits = tt }
-string_again w segments.Ss Once = record { says = refl; layout = refl; fits = tt }
-string_again w segments.Ss WhileCx = record { says = refl; layout = refl; fits = tt }
-string_again w segments.Ds Once = record { says = refl; layout = refl; fits = tt }
-string_again w segments.Ds WhileCx = record { says = refl; layout = refl; fits = tt }
+unfolding instruction_of instruction_from plain_instruction
+string_again w segments.Es Once = record { says = refl; kind = refl; fits = tt }
+string_again w segments.Es WhileCx = record { says = refl; kind = refl; fits = tt }
+string_again w segments.Cs Once = record { says = refl; kind = refl; fits = tt }
+string_again w segments.Cs WhileCx = record { says = refl; kind = refl; fits = tt }
+string_again w segments.Ss Once = record { says = refl; kind = refl; fits = tt }
+string_again w segments.Ss WhileCx = record { says = refl; kind = refl; fits = tt }
+string_again w segments.Ds Once = record { says = refl; kind = refl; fits = tt }
+string_again w segments.Ds WhileCx = record { says = refl; kind = refl; fits = tt }
 
 store_string_again : (w : Width) (repeat : Repeat) → Says (record { prefixes = string_prefixes segments.Ds repeat; opcode = op.StoreString w; fields = fields.Nothing }) (i.StoreString w repeat)
-unfolding instruction_of meaning plain_meaning
-store_string_again w Once = record { says = refl; layout = refl; fits = tt }
-store_string_again w WhileCx = record { says = refl; layout = refl; fits = tt }
+unfolding instruction_of instruction_from plain_instruction
+store_string_again w Once = record { says = refl; kind = refl; fits = tt }
+store_string_again w WhileCx = record { says = refl; kind = refl; fits = tt }
 
 in_again : (w : Width) (p : Port) → PortFits p → Says (in_of w p) (i.In w p)
-unfolding meaning byte_meaning plain_meaning
+unfolding instruction_from byte_instruction plain_instruction
 in_again w (ports.Fixed n) fits = said _ _ _ _ refl refl refl fits
 in_again w ports.Dx fits = said _ _ _ _ refl refl refl tt
 
 out_again : (w : Width) (p : Port) → PortFits p → Says (out_of w p) (i.Out w p)
-unfolding meaning byte_meaning plain_meaning
+unfolding instruction_from byte_instruction plain_instruction
 out_again w (ports.Fixed n) fits = said _ _ _ _ refl refl refl fits
 out_again w ports.Dx fits = said _ _ _ _ refl refl refl tt
 
-shift_byte_again : (s : ShiftOperation) (p : Place Register8) (c : Count) → PlaceFits p → Says (addressed byte_register_code (op.Shift widths.Byte c) (shift_code s) p) (i.ShiftByte s p c)
-unfolding addressed_meaning
+shift_byte_again : (s : ShiftOperation) (p : RmOperand Register8) (c : Count) → RmOperandFits p → Says (addressed byte_register_code (op.Shift widths.Byte c) (shift_code s) p) (i.ShiftByte s p c)
+unfolding addressed_instruction
 shift_byte_again s p c fits =
     byte_addressed_again (op.Shift widths.Byte c) (shift_code s) p (λ x. i.ShiftByte s x c) (shift_below s) refl (λ q x. ap (λ (o : Option ShiftOperation). shift_then o (λ s. i.ShiftByte s (byte_operand q x) c)) (shift_again s)) fits
 
-shift_word_again : (s : ShiftOperation) (p : Place Register16) (c : Count) → PlaceFits p → Says (addressed word_register_code (op.Shift widths.Word c) (shift_code s) p) (i.ShiftWord s p c)
-unfolding addressed_meaning
+shift_word_again : (s : ShiftOperation) (p : RmOperand Register16) (c : Count) → RmOperandFits p → Says (addressed word_register_code (op.Shift widths.Word c) (shift_code s) p) (i.ShiftWord s p c)
+unfolding addressed_instruction
 shift_word_again s p c fits =
     word_addressed_again (op.Shift widths.Word c) (shift_code s) p (λ x. i.ShiftWord s x c) (shift_below s) refl (λ q x. ap (λ (o : Option ShiftOperation). shift_then o (λ s. i.ShiftWord s (word_operand q x) c)) (shift_again s)) fits
 
@@ -562,7 +556,7 @@ shift_word_again s p c fits =
 
 -- the form that is written for an instruction says it, and fits
 pub written : BytePairLaws → WordPairLaws → (instruction : Instr) → InstrFits instruction → Says (form_of instruction) instruction
-unfolding form_of meaning addressed_meaning plain_meaning byte_meaning word_meaning
+unfolding form_of instruction_from addressed_instruction plain_instruction byte_instruction word_instruction
 written bytes words i.Nop fits = said _ _ _ _ refl refl refl tt
 written bytes words (i.AluByte o x) fits = alu_byte_again o x fits
 written bytes words (i.AluWord o x) fits = alu_word_again o x fits
@@ -621,4 +615,4 @@ written bytes words i.Halt fits = said _ _ _ _ refl refl refl tt
 pub written_again : BytePairLaws → WordPairLaws → (instruction : Instr) (rest : List ℕ) → InstrFits instruction → decoded (bytes_of instruction ++ rest) ≡ Some (instruction, length (bytes_of instruction))
 written_again bytes words instruction rest fits =
     let w = written bytes words instruction fits in
-    decoded_again (form_of instruction) rest instruction (record { layout = w.layout; fits = w.fits }) w.says
+    decoded_again (form_of instruction) rest instruction (record { kind = w.kind; fits = w.fits }) w.says

@@ -1,7 +1,7 @@
 pub mod Opcodes
 pub mod Forms
 pub mod Reading
-pub mod Meaning
+pub mod Instructions
 pub mod Decoding
 pub mod Writing
 pub mod Ranges

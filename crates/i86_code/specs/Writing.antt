@@ -20,8 +20,8 @@ use Rattle.i86_table.specs.declared.instruction.Base.TheVariants as bases
 use Rattle.i86_table.specs.declared.instruction.Address.{Address}
 use Rattle.i86_table.specs.declared.instruction.Address.TheVariants as addresses
 use Rattle.i86_table.specs.declared.instruction.Memory.{Memory}
-use Rattle.i86_table.specs.declared.instruction.Place.{Place}
-use Rattle.i86_table.specs.declared.instruction.Place.TheVariants as places
+use Rattle.i86_table.specs.declared.instruction.RmOperand.{RmOperand}
+use Rattle.i86_table.specs.declared.instruction.RmOperand.TheVariants as rm
 use Rattle.i86_table.specs.declared.instruction.Operands.{Operands}
 use Rattle.i86_table.specs.declared.instruction.Operands.TheVariants.{FromRegister, FromMemory, Immediate}
 use Rattle.i86_table.specs.declared.instruction.TestMask.{TestMask}
@@ -46,7 +46,7 @@ use Rattle.i86_code.specs.declared.form.RegisterOrMemory.TheVariants.{Register, 
 use Rattle.i86_code.specs.declared.form.Form.{Form}
 use Rattle.i86_code.specs.Opcodes.{operation_code, segment_code}
 use Rattle.i86_code.specs.Forms.{form_bytes, IsForm}
-use Rattle.i86_code.specs.Meaning.{usual_segment, is_short, instruction_of}
+use Rattle.i86_code.specs.Instructions.{usual_segment, is_short, instruction_of}
 
 -- ---- which form is better
 
@@ -117,9 +117,9 @@ abbrev pub prefix_at : Segment → Address → Prefixes
 prefix_at s (addresses.Direct offset) = prefix_for segments.Ds s
 prefix_at s (addresses.Based base d) = prefix_for (usual_segment base) s
 
-abbrev pub prefix_of : {R : Type 0} → Place R → Prefixes
-prefix_of (places.Register r) = prefixes.Nothing
-prefix_of (places.Memory m) = prefix_at m.segment m.address
+abbrev pub prefix_of : {R : Type 0} → RmOperand R → Prefixes
+prefix_of (rm.Register r) = prefixes.Nothing
+prefix_of (rm.Memory m) = prefix_at m.segment m.address
 
 -- a displacement that is a sign-extended byte
 abbrev pub is_near : ℕ → Bool
@@ -137,34 +137,34 @@ abbrev pub address_form : Address → RegisterOrMemory
 address_form (addresses.Direct offset) = Direct offset
 address_form (addresses.Based base d) = based_form base d
 
-abbrev pub place_form : {R : Type 0} → (R → ℕ) → Place R → RegisterOrMemory
-place_form code (places.Register r) = Register (code r)
-place_form code (places.Memory m) = address_form m.address
+abbrev pub place_form : {R : Type 0} → (R → ℕ) → RmOperand R → RegisterOrMemory
+place_form code (rm.Register r) = Register (code r)
+place_form code (rm.Memory m) = address_form m.address
 
 -- ---- forms by what follows the opcode
 
 abbrev pub plain : Opcode → Fields → Form
 plain k f = record { prefixes = prefixes.Nothing; opcode = k; fields = f }
 
-abbrev pub addressed : {R : Type 0} → (R → ℕ) → Opcode → ℕ → Place R → Form
+abbrev pub addressed : {R : Type 0} → (R → ℕ) → Opcode → ℕ → RmOperand R → Form
 addressed code k r p = record { prefixes = prefix_of p; opcode = k; fields = fields.Address r (place_form code p) }
 
 abbrev pub with_memory : Opcode → ℕ → Memory → Form
 with_memory k r m = record { prefixes = prefix_at m.segment m.address; opcode = k; fields = fields.Address r (address_form m.address) }
 
-abbrev pub with_byte : {R : Type 0} → (R → ℕ) → Opcode → ℕ → Place R → ℕ → Form
+abbrev pub with_byte : {R : Type 0} → (R → ℕ) → Opcode → ℕ → RmOperand R → ℕ → Form
 with_byte code k r p n = record { prefixes = prefix_of p; opcode = k; fields = fields.AddressByte r (place_form code p) n }
 
-abbrev pub with_word : Opcode → ℕ → Place Register16 → ℕ → Form
+abbrev pub with_word : Opcode → ℕ → RmOperand Register16 → ℕ → Form
 with_word k r p n = record { prefixes = prefix_of p; opcode = k; fields = fields.AddressWord r (place_form word_register_code p) n }
 
-abbrev pub in_group : {R : Type 0} → (R → ℕ) → Width → ℕ → Place R → Form
+abbrev pub in_group : {R : Type 0} → (R → ℕ) → Width → ℕ → RmOperand R → Form
 in_group code w r p = record { prefixes = prefix_of p; opcode = op.UnaryGroup w; fields = fields.Unary w r (place_form code p) }
 
 -- between two registers the target is in the register field
-abbrev pub from_register : {R : Type 0} → (R → ℕ) → Opcode → Opcode → Place R → R → Form
-from_register code memory_opcode register_opcode (places.Register a) b = plain register_opcode (fields.Address (code a) (Register (code b)))
-from_register code memory_opcode register_opcode (places.Memory m) b = with_memory memory_opcode (code b) m
+abbrev pub from_register : {R : Type 0} → (R → ℕ) → Opcode → Opcode → RmOperand R → R → Form
+from_register code memory_opcode register_opcode (rm.Register a) b = plain register_opcode (fields.Address (code a) (Register (code b)))
+from_register code memory_opcode register_opcode (rm.Memory m) b = with_memory memory_opcode (code b) m
 
 abbrev pub is_al : Register8 → Bool
 is_al Al = true
@@ -174,9 +174,9 @@ abbrev pub is_ax : Register16 → Bool
 is_ax Ax = true
 is_ax _ = false
 
-abbrev pub at_register : {R : Type 0} → (R → Bool) → Place R → Bool
-at_register is (places.Register r) = is r
-at_register is (places.Memory m) = false
+abbrev pub at_register : {R : Type 0} → (R → Bool) → RmOperand R → Bool
+at_register is (rm.Register r) = is r
+at_register is (rm.Memory m) = false
 
 -- the accumulator has a form of its own for a direct address
 abbrev pub accumulator_form : Bool → Opcode → Form → Segment → Address → Form
@@ -187,7 +187,7 @@ accumulator_form true k other s (addresses.Based base d) = other
 -- ---- forms by instruction
 
 -- 83H where a sign-extended byte will do
-abbrev pub alu_immediate_of : AluOperation → Place Register16 → ℕ → Form
+abbrev pub alu_immediate_of : AluOperation → RmOperand Register16 → ℕ → Form
 alu_immediate_of o p n =
     if is_short (operation_code o) && is_near n then with_byte word_register_code op.AluShort (operation_code o) p (n % 256)
     else with_word (op.AluImmediate widths.Word) (operation_code o) p n
@@ -205,52 +205,52 @@ alu_word_of o (FromMemory r m) = with_memory (op.AluToRegister o widths.Word) (w
 alu_word_of o (Immediate p n) = if at_register is_ax p then plain (op.AluAccumulator o widths.Word) (fields.Word n) else alu_immediate_of o p n
 
 unfoldable pub move_byte_of : Operands Register8 ℕ → Form
-move_byte_of (FromRegister (places.Register a) b) = plain (op.MoveToRegister widths.Byte) (fields.Address (byte_register_code a) (Register (byte_register_code b)))
-move_byte_of (FromRegister (places.Memory m) r) = accumulator_form (is_al r) (op.MoveToDirect widths.Byte) (with_memory (op.MoveToPlace widths.Byte) (byte_register_code r) m) m.segment m.address
+move_byte_of (FromRegister (rm.Register a) b) = plain (op.MoveToRegister widths.Byte) (fields.Address (byte_register_code a) (Register (byte_register_code b)))
+move_byte_of (FromRegister (rm.Memory m) r) = accumulator_form (is_al r) (op.MoveToDirect widths.Byte) (with_memory (op.MoveToPlace widths.Byte) (byte_register_code r) m) m.segment m.address
 move_byte_of (FromMemory r m) = accumulator_form (is_al r) (op.MoveFromDirect widths.Byte) (with_memory (op.MoveToRegister widths.Byte) (byte_register_code r) m) m.segment m.address
-move_byte_of (Immediate (places.Register r) n) = plain (op.MoveRegisterByte r) (fields.Byte n)
-move_byte_of (Immediate (places.Memory m) n) = with_byte byte_register_code (op.MoveImmediate widths.Byte) 0 (places.Memory m) n
+move_byte_of (Immediate (rm.Register r) n) = plain (op.MoveRegisterByte r) (fields.Byte n)
+move_byte_of (Immediate (rm.Memory m) n) = with_byte byte_register_code (op.MoveImmediate widths.Byte) 0 (rm.Memory m) n
 
 unfoldable pub move_word_of : Operands Register16 ℕ → Form
-move_word_of (FromRegister (places.Register a) b) = plain (op.MoveToRegister widths.Word) (fields.Address (word_register_code a) (Register (word_register_code b)))
-move_word_of (FromRegister (places.Memory m) r) = accumulator_form (is_ax r) (op.MoveToDirect widths.Word) (with_memory (op.MoveToPlace widths.Word) (word_register_code r) m) m.segment m.address
+move_word_of (FromRegister (rm.Register a) b) = plain (op.MoveToRegister widths.Word) (fields.Address (word_register_code a) (Register (word_register_code b)))
+move_word_of (FromRegister (rm.Memory m) r) = accumulator_form (is_ax r) (op.MoveToDirect widths.Word) (with_memory (op.MoveToPlace widths.Word) (word_register_code r) m) m.segment m.address
 move_word_of (FromMemory r m) = accumulator_form (is_ax r) (op.MoveFromDirect widths.Word) (with_memory (op.MoveToRegister widths.Word) (word_register_code r) m) m.segment m.address
-move_word_of (Immediate (places.Register r) n) = plain (op.MoveRegisterWord r) (fields.Word n)
-move_word_of (Immediate (places.Memory m) n) = with_word (op.MoveImmediate widths.Word) 0 (places.Memory m) n
+move_word_of (Immediate (rm.Register r) n) = plain (op.MoveRegisterWord r) (fields.Word n)
+move_word_of (Immediate (rm.Memory m) n) = with_word (op.MoveImmediate widths.Word) 0 (rm.Memory m) n
 
-abbrev pub test_byte_of : Place Register8 → TestMask Register8 ℕ → Form
+abbrev pub test_byte_of : RmOperand Register8 → TestMask Register8 ℕ → Form
 test_byte_of p (masks.Register r) = addressed byte_register_code (op.Test widths.Byte) (byte_register_code r) p
 test_byte_of p (masks.Immediate n) =
     if at_register is_al p then plain (op.TestAccumulator widths.Byte) (fields.Byte n)
     else record { prefixes = prefix_of p; opcode = op.UnaryGroup widths.Byte; fields = fields.TestByte (place_form byte_register_code p) n }
 
-abbrev pub test_word_of : Place Register16 → TestMask Register16 ℕ → Form
+abbrev pub test_word_of : RmOperand Register16 → TestMask Register16 ℕ → Form
 test_word_of p (masks.Register r) = addressed word_register_code (op.Test widths.Word) (word_register_code r) p
 test_word_of p (masks.Immediate n) =
     if at_register is_ax p then plain (op.TestAccumulator widths.Word) (fields.Word n)
     else record { prefixes = prefix_of p; opcode = op.UnaryGroup widths.Word; fields = fields.TestWord (place_form word_register_code p) n }
 
-abbrev pub unary_byte_of : UnaryOperation → Place Register8 → Form
+abbrev pub unary_byte_of : UnaryOperation → RmOperand Register8 → Form
 unary_byte_of Not p = in_group byte_register_code widths.Byte 2 p
 unary_byte_of Neg p = in_group byte_register_code widths.Byte 3 p
 unary_byte_of Inc p = addressed byte_register_code (op.StepGroup widths.Byte) 0 p
 unary_byte_of Dec p = addressed byte_register_code (op.StepGroup widths.Byte) 1 p
 
 -- a word register has a form of its own
-abbrev pub register_or : (Register16 → Opcode) → Opcode → ℕ → Place Register16 → Form
-register_or short k r (places.Register x) = plain (short x) fields.Nothing
-register_or short k r (places.Memory m) = with_memory k r m
+abbrev pub register_or : (Register16 → Opcode) → Opcode → ℕ → RmOperand Register16 → Form
+register_or short k r (rm.Register x) = plain (short x) fields.Nothing
+register_or short k r (rm.Memory m) = with_memory k r m
 
-abbrev pub unary_word_of : UnaryOperation → Place Register16 → Form
+abbrev pub unary_word_of : UnaryOperation → RmOperand Register16 → Form
 unary_word_of Not p = in_group word_register_code widths.Word 2 p
 unary_word_of Neg p = in_group word_register_code widths.Word 3 p
 unary_word_of Inc p = register_or (λ r. op.Increment r) (op.StepGroup widths.Word) 0 p
 unary_word_of Dec p = register_or (λ r. op.Decrement r) (op.StepGroup widths.Word) 1 p
 
-abbrev pub push_of : Place Register16 → Form
+abbrev pub push_of : RmOperand Register16 → Form
 push_of p = register_or (λ r. op.Push r) (op.StepGroup widths.Word) 6 p
 
-abbrev pub pop_of : Place Register16 → Form
+abbrev pub pop_of : RmOperand Register16 → Form
 pop_of p = register_or (λ r. op.Pop r) op.PopPlace 0 p
 
 abbrev pub multiply_code : Signedness → ℕ

@@ -6,11 +6,11 @@ ghost use Rattle.i86_code.specs.declared.form.Fields.TheVariants as fields;
 ghost use Rattle.i86_code.specs.Writing.{prefix_for, prefix_at, prefix_of, is_near, based_form, address_form, place_form, plain, addressed, with_memory, with_byte, with_word, in_group, from_register, is_al, is_ax, accumulator_form, alu_immediate_of, alu_byte_of, alu_word_of, move_byte_of, move_word_of, test_byte_of, test_word_of, unary_byte_of, unary_word_of, push_of, pop_of, multiply_code, divide_code, shift_code, exchange_words_of, string_prefixes, in_of, out_of, form_of};
 
 use crate::form::{Fields, Form, Opcode, Prefixes, RegisterOrMemory};
-use crate::meaning::{is_short, usual_segment};
+use crate::instructions::{is_short, usual_segment};
 use crate::numbers::{Numbered, operation_number, segment_number};
 use i86_table::{
-    Address, AluOperation, Base, Instr, Memory, Operands, Place, Port, Register8, Register16,
-    Repeat, Segment, ShiftOperation, Signedness, TestMask, UnaryOperation,
+    Address, AluOperation, Base, Instr, Memory, Operands, Port, Register8, Register16, Repeat,
+    RmOperand, Segment, ShiftOperation, Signedness, TestMask, UnaryOperation,
 };
 use word86::Width;
 
@@ -24,6 +24,7 @@ fn prefix_for(usual: Segment, segment: Segment) -> Prefixes
     }
 }
 
+/// The prefix that an address in this segment needs: none for its usual segment.
 fn prefix_at(segment: Segment, address: Address) -> Prefixes
     ensures { result ≡ prefix_at segment address }
 {
@@ -33,15 +34,17 @@ fn prefix_at(segment: Segment, address: Address) -> Prefixes
     }
 }
 
-fn prefix_of<R: Copy>(place: Place<R>) -> Prefixes
+/// The prefix that an r/m operand needs.
+fn prefix_of<R: Copy>(place: RmOperand<R>) -> Prefixes
     ensures { result ≡ prefix_of place }
 {
     match place {
-        Place::Register(_) => Prefixes::Nothing,
-        Place::Memory(memory) => prefix_at(memory.segment, memory.address),
+        RmOperand::Register(_) => Prefixes::Nothing,
+        RmOperand::Memory(memory) => prefix_at(memory.segment, memory.address),
     }
 }
 
+/// Whether a displacement is a byte that is extended with its sign.
 fn is_near(displacement: u16) -> bool
     ensures { result ≡ is_near displacement }
 {
@@ -62,6 +65,7 @@ fn based_form(base: Base, displacement: u16) -> RegisterOrMemory
     }
 }
 
+/// The shortest spelling of an address.
 fn address_form(address: Address) -> RegisterOrMemory
     ensures { result ≡ address_form address }
 {
@@ -71,15 +75,17 @@ fn address_form(address: Address) -> RegisterOrMemory
     }
 }
 
-fn place_form<R: Numbered>(place: Place<R>) -> RegisterOrMemory
+/// The shortest spelling of an r/m operand.
+fn place_form<R: Numbered>(place: RmOperand<R>) -> RegisterOrMemory
     ensures { result ≡ place_form R.code place }
 {
     match place {
-        Place::Register(register) => RegisterOrMemory::Register(register.number()),
-        Place::Memory(memory) => address_form(memory.address),
+        RmOperand::Register(register) => RegisterOrMemory::Register(register.number()),
+        RmOperand::Memory(memory) => address_form(memory.address),
     }
 }
 
+/// A form with no prefix.
 fn plain(opcode: Opcode, fields: Fields) -> Form
     ensures { result ≡ plain opcode fields }
 {
@@ -90,7 +96,8 @@ fn plain(opcode: Opcode, fields: Fields) -> Form
     }
 }
 
-fn addressed<R: Numbered>(opcode: Opcode, number: u8, place: Place<R>) -> Form
+/// A form with an address byte: its register field, and its r/m operand.
+fn addressed<R: Numbered>(opcode: Opcode, number: u8, place: RmOperand<R>) -> Form
     ensures { result ≡ addressed R.code opcode number place }
 {
     Form {
@@ -100,6 +107,7 @@ fn addressed<R: Numbered>(opcode: Opcode, number: u8, place: Place<R>) -> Form
     }
 }
 
+/// A form with an address byte whose operand is in memory.
 fn with_memory(opcode: Opcode, number: u8, memory: Memory) -> Form
     ensures { result ≡ with_memory opcode number memory }
 {
@@ -110,7 +118,8 @@ fn with_memory(opcode: Opcode, number: u8, memory: Memory) -> Form
     }
 }
 
-fn with_byte<R: Numbered>(opcode: Opcode, number: u8, place: Place<R>, immediate: u8) -> Form
+/// A form with an address byte and an immediate byte.
+fn with_byte<R: Numbered>(opcode: Opcode, number: u8, place: RmOperand<R>, immediate: u8) -> Form
     ensures { result ≡ with_byte R.code opcode number place immediate }
 {
     Form {
@@ -120,7 +129,8 @@ fn with_byte<R: Numbered>(opcode: Opcode, number: u8, place: Place<R>, immediate
     }
 }
 
-fn with_word(opcode: Opcode, number: u8, place: Place<Register16>, immediate: u16) -> Form
+/// A form with an address byte and an immediate word.
+fn with_word(opcode: Opcode, number: u8, place: RmOperand<Register16>, immediate: u16) -> Form
     ensures { result ≡ with_word opcode number place immediate }
 {
     Form {
@@ -130,7 +140,8 @@ fn with_word(opcode: Opcode, number: u8, place: Place<Register16>, immediate: u1
     }
 }
 
-fn in_group<R: Numbered>(width: Width, number: u8, place: Place<R>) -> Form
+/// A form of the group F6H, F7H whose operation is its register field, which is not 0.
+fn in_group<R: Numbered>(width: Width, number: u8, place: RmOperand<R>) -> Form
     ensures { result ≡ in_group R.code width number place }
 {
     Form {
@@ -144,29 +155,31 @@ fn in_group<R: Numbered>(width: Width, number: u8, place: Place<R>) -> Form
 fn from_register<R: Numbered>(
     to_place: Opcode,
     to_register: Opcode,
-    target: Place<R>,
+    target: RmOperand<R>,
     source: R,
 ) -> Form
     ensures { result ≡ from_register R.code to_place to_register target source }
 {
     match target {
-        Place::Register(register) => plain(
+        RmOperand::Register(register) => plain(
             to_register,
             Fields::Address(
                 register.number(),
                 RegisterOrMemory::Register(source.number()),
             ),
         ),
-        Place::Memory(memory) => with_memory(to_place, source.number(), memory),
+        RmOperand::Memory(memory) => with_memory(to_place, source.number(), memory),
     }
 }
 
+/// Whether a register is AL, which has forms of its own.
 fn is_al(register: Register8) -> bool
     ensures { result ≡ is_al register }
 {
     matches!(register, Register8::Al)
 }
 
+/// Whether a register is AX, which has forms of its own.
 fn is_ax(register: Register16) -> bool
     ensures { result ≡ is_ax register }
 {
@@ -187,7 +200,8 @@ fn accumulator_form(is_accumulator: bool, opcode: Opcode, other: Form, memory: M
     }
 }
 
-fn alu_immediate(operation: AluOperation, place: Place<Register16>, number: u16) -> Form
+/// Arithmetic with an immediate word where no accumulator form serves: 83H where a byte says it, else 81H.
+fn alu_immediate(operation: AluOperation, place: RmOperand<Register16>, number: u16) -> Form
     ensures { result ≡ alu_immediate_of operation place number }
 {
     let code = operation_number(operation);
@@ -198,6 +212,7 @@ fn alu_immediate(operation: AluOperation, place: Place<Register16>, number: u16)
     }
 }
 
+/// The best form of byte arithmetic.
 #[tactic(auto, unfolding(crate::specs::Writing::alu_byte_of))]
 fn alu_byte(operation: AluOperation, operands: Operands<Register8, u8>) -> Form
     ensures { result ≡ alu_byte_of operation operands }
@@ -211,7 +226,7 @@ fn alu_byte(operation: AluOperation, operands: Operands<Register8, u8>) -> Form
         Operands::FromMemory(register, memory) => {
             with_memory(to_register, register.number(), memory)
         }
-        Operands::Immediate(Place::Register(Register8::Al), number) => plain(
+        Operands::Immediate(RmOperand::Register(Register8::Al), number) => plain(
             Opcode::AluAccumulator(operation, Width::Byte),
             Fields::Byte(number),
         ),
@@ -224,6 +239,7 @@ fn alu_byte(operation: AluOperation, operands: Operands<Register8, u8>) -> Form
     }
 }
 
+/// The best form of word arithmetic.
 #[tactic(auto, unfolding(crate::specs::Writing::alu_word_of))]
 fn alu_word(operation: AluOperation, operands: Operands<Register16, u16>) -> Form
     ensures { result ≡ alu_word_of operation operands }
@@ -237,7 +253,7 @@ fn alu_word(operation: AluOperation, operands: Operands<Register16, u16>) -> For
         Operands::FromMemory(register, memory) => {
             with_memory(to_register, register.number(), memory)
         }
-        Operands::Immediate(Place::Register(Register16::Ax), number) => plain(
+        Operands::Immediate(RmOperand::Register(Register16::Ax), number) => plain(
             Opcode::AluAccumulator(operation, Width::Word),
             Fields::Word(number),
         ),
@@ -245,17 +261,18 @@ fn alu_word(operation: AluOperation, operands: Operands<Register16, u16>) -> For
     }
 }
 
+/// The best form of a byte MOV.
 #[tactic(auto, unfolding(crate::specs::Writing::move_byte_of))]
 fn move_byte(operands: Operands<Register8, u8>) -> Form
     ensures { result ≡ move_byte_of operands }
 {
     let to_register = Opcode::MoveToRegister(Width::Byte);
     match operands {
-        Operands::FromRegister(Place::Register(target), source) => plain(
+        Operands::FromRegister(RmOperand::Register(target), source) => plain(
             to_register,
             Fields::Address(target.number(), RegisterOrMemory::Register(source.number())),
         ),
-        Operands::FromRegister(Place::Memory(memory), register) => {
+        Operands::FromRegister(RmOperand::Memory(memory), register) => {
             let other = with_memory(Opcode::MoveToPlace(Width::Byte), register.number(), memory);
             let short = Opcode::MoveToDirect(Width::Byte);
             accumulator_form(is_al(register), short, other, memory)
@@ -265,7 +282,7 @@ fn move_byte(operands: Operands<Register8, u8>) -> Form
             let short = Opcode::MoveFromDirect(Width::Byte);
             accumulator_form(is_al(register), short, other, memory)
         }
-        Operands::Immediate(Place::Register(register), number) => {
+        Operands::Immediate(RmOperand::Register(register), number) => {
             plain(Opcode::MoveRegisterByte(register), Fields::Byte(number))
         }
         Operands::Immediate(place, number) => {
@@ -274,17 +291,18 @@ fn move_byte(operands: Operands<Register8, u8>) -> Form
     }
 }
 
+/// The best form of a word MOV.
 #[tactic(auto, unfolding(crate::specs::Writing::move_word_of))]
 fn move_word(operands: Operands<Register16, u16>) -> Form
     ensures { result ≡ move_word_of operands }
 {
     let to_register = Opcode::MoveToRegister(Width::Word);
     match operands {
-        Operands::FromRegister(Place::Register(target), source) => plain(
+        Operands::FromRegister(RmOperand::Register(target), source) => plain(
             to_register,
             Fields::Address(target.number(), RegisterOrMemory::Register(source.number())),
         ),
-        Operands::FromRegister(Place::Memory(memory), register) => {
+        Operands::FromRegister(RmOperand::Memory(memory), register) => {
             let other = with_memory(Opcode::MoveToPlace(Width::Word), register.number(), memory);
             let short = Opcode::MoveToDirect(Width::Word);
             accumulator_form(is_ax(register), short, other, memory)
@@ -294,7 +312,7 @@ fn move_word(operands: Operands<Register16, u16>) -> Form
             let short = Opcode::MoveFromDirect(Width::Word);
             accumulator_form(is_ax(register), short, other, memory)
         }
-        Operands::Immediate(Place::Register(register), number) => {
+        Operands::Immediate(RmOperand::Register(register), number) => {
             plain(Opcode::MoveRegisterWord(register), Fields::Word(number))
         }
         Operands::Immediate(place, number) => {
@@ -303,14 +321,15 @@ fn move_word(operands: Operands<Register16, u16>) -> Form
     }
 }
 
-fn test_byte(place: Place<Register8>, mask: TestMask<Register8, u8>) -> Form
+/// The best form of a byte TEST.
+fn test_byte(place: RmOperand<Register8>, mask: TestMask<Register8, u8>) -> Form
     ensures { result ≡ test_byte_of place mask }
 {
     match (place, mask) {
         (_, TestMask::Register(register)) => {
             addressed(Opcode::Test(Width::Byte), register.number(), place)
         }
-        (Place::Register(Register8::Al), TestMask::Immediate(number)) => {
+        (RmOperand::Register(Register8::Al), TestMask::Immediate(number)) => {
             plain(Opcode::TestAccumulator(Width::Byte), Fields::Byte(number))
         }
         (_, TestMask::Immediate(number)) => Form {
@@ -321,14 +340,15 @@ fn test_byte(place: Place<Register8>, mask: TestMask<Register8, u8>) -> Form
     }
 }
 
-fn test_word(place: Place<Register16>, mask: TestMask<Register16, u16>) -> Form
+/// The best form of a word TEST.
+fn test_word(place: RmOperand<Register16>, mask: TestMask<Register16, u16>) -> Form
     ensures { result ≡ test_word_of place mask }
 {
     match (place, mask) {
         (_, TestMask::Register(register)) => {
             addressed(Opcode::Test(Width::Word), register.number(), place)
         }
-        (Place::Register(Register16::Ax), TestMask::Immediate(number)) => {
+        (RmOperand::Register(Register16::Ax), TestMask::Immediate(number)) => {
             plain(Opcode::TestAccumulator(Width::Word), Fields::Word(number))
         }
         (_, TestMask::Immediate(number)) => Form {
@@ -339,7 +359,8 @@ fn test_word(place: Place<Register16>, mask: TestMask<Register16, u16>) -> Form
     }
 }
 
-fn unary_byte(operation: UnaryOperation, place: Place<Register8>) -> Form
+/// The best form of NOT, NEG, INC and DEC of a byte.
+fn unary_byte(operation: UnaryOperation, place: RmOperand<Register8>) -> Form
     ensures { result ≡ unary_byte_of operation place }
 {
     match operation {
@@ -350,42 +371,46 @@ fn unary_byte(operation: UnaryOperation, place: Place<Register8>) -> Form
     }
 }
 
-fn unary_word(operation: UnaryOperation, place: Place<Register16>) -> Form
+/// The best form of NOT, NEG, INC and DEC of a word: INC and DEC of a register have one byte.
+fn unary_word(operation: UnaryOperation, place: RmOperand<Register16>) -> Form
     ensures { result ≡ unary_word_of operation place }
 {
     let group = Opcode::StepGroup(Width::Word);
     match (operation, place) {
         (UnaryOperation::Not, _) => in_group(Width::Word, 2, place),
         (UnaryOperation::Neg, _) => in_group(Width::Word, 3, place),
-        (UnaryOperation::Inc, Place::Register(register)) => {
+        (UnaryOperation::Inc, RmOperand::Register(register)) => {
             plain(Opcode::Increment(register), Fields::Nothing)
         }
-        (UnaryOperation::Inc, Place::Memory(memory)) => with_memory(group, 0, memory),
-        (UnaryOperation::Dec, Place::Register(register)) => {
+        (UnaryOperation::Inc, RmOperand::Memory(memory)) => with_memory(group, 0, memory),
+        (UnaryOperation::Dec, RmOperand::Register(register)) => {
             plain(Opcode::Decrement(register), Fields::Nothing)
         }
-        (UnaryOperation::Dec, Place::Memory(memory)) => with_memory(group, 1, memory),
+        (UnaryOperation::Dec, RmOperand::Memory(memory)) => with_memory(group, 1, memory),
     }
 }
 
-fn push(place: Place<Register16>) -> Form
+/// The best form of PUSH: a register has one byte.
+fn push(place: RmOperand<Register16>) -> Form
     ensures { result ≡ push_of place }
 {
     match place {
-        Place::Register(register) => plain(Opcode::Push(register), Fields::Nothing),
-        Place::Memory(memory) => with_memory(Opcode::StepGroup(Width::Word), 6, memory),
+        RmOperand::Register(register) => plain(Opcode::Push(register), Fields::Nothing),
+        RmOperand::Memory(memory) => with_memory(Opcode::StepGroup(Width::Word), 6, memory),
     }
 }
 
-fn pop(place: Place<Register16>) -> Form
+/// The best form of POP: a register has one byte.
+fn pop(place: RmOperand<Register16>) -> Form
     ensures { result ≡ pop_of place }
 {
     match place {
-        Place::Register(register) => plain(Opcode::Pop(register), Fields::Nothing),
-        Place::Memory(memory) => with_memory(Opcode::PopPlace, 0, memory),
+        RmOperand::Register(register) => plain(Opcode::Pop(register), Fields::Nothing),
+        RmOperand::Memory(memory) => with_memory(Opcode::PopPlace, 0, memory),
     }
 }
 
+/// The register field of MUL and IMUL.
 fn multiply_number(signedness: Signedness) -> u8
     ensures { result ≡ multiply_code signedness }
 {
@@ -395,6 +420,7 @@ fn multiply_number(signedness: Signedness) -> u8
     }
 }
 
+/// The register field of DIV and IDIV.
 fn divide_number(signedness: Signedness) -> u8
     ensures { result ≡ divide_code signedness }
 {
@@ -404,6 +430,7 @@ fn divide_number(signedness: Signedness) -> u8
     }
 }
 
+/// The register field of a shift or rotation.
 fn shift_number(operation: ShiftOperation) -> u8
     ensures { result ≡ shift_code operation }
 {
@@ -416,6 +443,7 @@ fn shift_number(operation: ShiftOperation) -> u8
     }
 }
 
+/// The best form of XCHG of two word registers: with AX it has one byte.
 fn exchange_words(a: Register16, b: Register16) -> Form
     ensures { result ≡ exchange_words_of a b }
 {
@@ -441,6 +469,7 @@ fn string_prefixes(source: Segment, repeat: Repeat) -> Prefixes
     }
 }
 
+/// The form of IN.
 fn input(width: Width, port: Port) -> Form
     ensures { result ≡ in_of width port }
 {
@@ -450,6 +479,7 @@ fn input(width: Width, port: Port) -> Form
     }
 }
 
+/// The form of OUT.
 fn output(width: Width, port: Port) -> Form
     ensures { result ≡ out_of width port }
 {
@@ -466,12 +496,14 @@ fn alone(opcode: Opcode) -> Form
     plain(opcode, Fields::Nothing)
 }
 
+/// A form that has one byte after its opcode.
 fn byte_after(opcode: Opcode, number: u8) -> Form
     ensures { result ≡ plain opcode (fields.Byte number) }
 {
     plain(opcode, Fields::Byte(number))
 }
 
+/// A form that has one word after its opcode.
 fn word_after(opcode: Opcode, number: u16) -> Form
     ensures { result ≡ plain opcode (fields.Word number) }
 {

@@ -1,9 +1,9 @@
 //! Decoding and encoding.
 
 ghost use Rattle.std.specs.Prelude.{◌≡◌, ◌≤◌, ◌++◌, ℕ, List, IfSome, IfNone, take, length, Some};
-ghost use Rattle.i86_code.specs.Meaning.{Spells};
+ghost use Rattle.i86_code.specs.Instructions.{Spells};
 ghost use Rattle.i86_code.specs.Writing.{WritesBest, bytes_of};
-ghost use Rattle.i86_code.specs.Decoding.{decoded, IsOneForm, IsShort};
+ghost use Rattle.i86_code.specs.Decoding.{decoded, DecodedSpells, IsOneForm, IsShort};
 
 use crate::form::Form;
 use crate::ranges::instruction_fits;
@@ -55,4 +55,10 @@ pub fn round_trip(instruction: Instr, rest: &[u8])
 pub fn one_form()
     ensures only { IsOneForm }
     ensures short { IsShort }
+{}
+
+/// The law that what is decoded from bytes is spelt by those bytes: as many as its length says, at least one, and none past
+/// their end. With `one_form` it says that `decode` is exact both ways.
+pub fn decoded_spells()
+    ensures { DecodedSpells }
 {}

@@ -1,4 +1,5 @@
-//! The forms in which an instruction stands in memory.
+//! The forms in which an instruction stands in memory: prefixes, an opcode byte and its fields (8086 Family User's Manual,
+//! figure 4-20).
 
 use i86_table::{
     AluOperation, Base, Condition, Count, LoadableSegment, Register8, Register16, Segment,
@@ -80,9 +81,9 @@ pub enum RegisterOrMemory {
     Far(Base, u16),
 }
 
-/// What follows an opcode.
+/// The kind of the fields that follow an opcode.
 #[derive(Clone, Copy)]
-pub enum Layout {
+pub enum FieldKind {
     Nothing,
     Byte,
     Word,

@@ -4,14 +4,14 @@
 mod choosing;
 mod coding;
 mod form;
-mod meaning;
+mod instructions;
 mod numbers;
 mod opcode;
 mod ranges;
 mod reading;
 mod writing;
 
-pub use coding::{decode, encode, one_form, round_trip};
-pub use form::{Fields, Form, Layout, Opcode, Prefixes, RegisterOrMemory};
+pub use coding::{decode, decoded_spells, encode, one_form, round_trip};
+pub use form::{FieldKind, Fields, Form, Opcode, Prefixes, RegisterOrMemory};
 pub use numbers::Numbered;
 pub use ranges::instruction_fits;

@@ -71,6 +71,7 @@ impl Numbered for Register16 {
     }
 }
 
+/// The arithmetic operation of a number below 8, ADD being 0 and CMP 7.
 pub(crate) fn operation(number: u8) -> AluOperation
     ensures { result ≡ operation_at number }
 {
@@ -86,6 +87,7 @@ pub(crate) fn operation(number: u8) -> AluOperation
     }
 }
 
+/// The number of an arithmetic operation.
 pub(crate) fn operation_number(operation: AluOperation) -> u8
     ensures value { result ≡ operation_code operation }
     ensures fits { result < 8 }
@@ -93,6 +95,7 @@ pub(crate) fn operation_number(operation: AluOperation) -> u8
     operation as u8
 }
 
+/// The condition of a number below 16, O being 0 and G 15.
 pub(crate) fn condition(number: u8) -> Condition
     ensures { result ≡ condition_at number }
 {
@@ -116,6 +119,7 @@ pub(crate) fn condition(number: u8) -> Condition
     }
 }
 
+/// The number of a condition.
 pub(crate) fn condition_number(condition: Condition) -> u8
     ensures value { result ≡ condition_code condition }
     ensures fits { result < 16 }
@@ -123,6 +127,7 @@ pub(crate) fn condition_number(condition: Condition) -> u8
     condition as u8
 }
 
+/// The segment register of a number below 4, ES being 0 and DS 3.
 pub(crate) fn segment(number: u8) -> Segment
     ensures { result ≡ segment_at number }
 {
@@ -134,6 +139,7 @@ pub(crate) fn segment(number: u8) -> Segment
     }
 }
 
+/// The number of a segment register.
 pub(crate) fn segment_number(segment: Segment) -> u8
     ensures value { result ≡ segment_code segment }
     ensures fits { result < 4 }
@@ -141,6 +147,7 @@ pub(crate) fn segment_number(segment: Segment) -> u8
     segment as u8
 }
 
+/// The segment register of a number below 4 that MOV and POP may load: CS is none.
 pub(crate) fn loadable(number: u8) -> Option<LoadableSegment>
     ensures { result ≡ loadable_at number }
 {
@@ -163,6 +170,7 @@ pub(crate) fn width(byte: u8) -> Width
     }
 }
 
+/// The lowest bit of an opcode byte: 0 for bytes, 1 for words.
 pub(crate) fn width_number(width: Width) -> u8
     ensures value { result ≡ width_code width }
     ensures fits { result < 2 }

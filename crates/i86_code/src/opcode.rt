@@ -1,9 +1,9 @@
 //! The opcode bytes.
 
 ghost use Rattle.std.specs.Prelude.{◌≡◌, ◌<◌, ◌≤◌};
-ghost use Rattle.i86_code.specs.Opcodes.{opcode_byte, opcode_at, opcode_below_40, opcode_below_80, opcode_below_90, opcode_below_a0, opcode_below_c0, opcode_below_e0, opcode_below_f0, opcode_from_f0, push_segment_at, pop_segment_at, layout_of};
+ghost use Rattle.i86_code.specs.Opcodes.{opcode_byte, opcode_at, opcode_below_40, opcode_below_80, opcode_below_90, opcode_below_a0, opcode_below_c0, opcode_below_e0, opcode_below_f0, opcode_from_f0, push_segment_at, pop_segment_at, field_kind_of};
 
-use crate::form::{Layout, Opcode};
+use crate::form::{FieldKind, Opcode};
 use crate::numbers::{
     Numbered, condition, condition_number, loadable, operation, operation_number, segment,
     segment_number, width, width_number,
@@ -11,6 +11,7 @@ use crate::numbers::{
 use i86_table::{Count, Register8, Register16};
 use word86::Width;
 
+/// PUSH of a segment register: 06H, 0EH, 16H, 1EH.
 fn push_segment(byte: u8) -> Option<Opcode>
     ensures { result ≡ push_segment_at byte }
 {
@@ -21,6 +22,7 @@ fn push_segment(byte: u8) -> Option<Opcode>
     }
 }
 
+/// POP of a segment register, but CS: 07H, 17H, 1FH.
 fn pop_segment(byte: u8) -> Option<Opcode>
     ensures { result ≡ pop_segment_at byte }
 {
@@ -32,6 +34,7 @@ fn pop_segment(byte: u8) -> Option<Opcode>
     }
 }
 
+/// The opcode of a byte below 40H: arithmetic, and segment registers on the stack.
 #[tactic(auto, unfolding(crate::specs::Opcodes::opcode_below_40))]
 fn below_40(byte: u8) -> Option<Opcode>
     requires { byte < 0x40 }
@@ -46,6 +49,7 @@ fn below_40(byte: u8) -> Option<Opcode>
     }
 }
 
+/// The opcode of a byte from 40H to 7FH: INC, DEC, PUSH, POP of word registers, and conditional jumps.
 #[tactic(auto, unfolding(crate::specs::Opcodes::opcode_below_80))]
 fn below_80(byte: u8) -> Option<Opcode>
     requires low { 0x40 ≤ byte }
@@ -62,6 +66,7 @@ fn below_80(byte: u8) -> Option<Opcode>
     }
 }
 
+/// The opcode of a byte from 80H to 8FH: arithmetic with numbers, TEST, XCHG, MOV, LEA, POP.
 #[tactic(auto, unfolding(crate::specs::Opcodes::opcode_below_90))]
 fn below_90(byte: u8) -> Option<Opcode>
     requires low { 0x80 ≤ byte }
@@ -83,6 +88,7 @@ fn below_90(byte: u8) -> Option<Opcode>
     }
 }
 
+/// The opcode of a byte from 90H to 9FH: XCHG with AX, CBW, CWD, PUSHF, POPF.
 #[tactic(auto, unfolding(crate::specs::Opcodes::opcode_below_a0))]
 fn below_a0(byte: u8) -> Option<Opcode>
     requires low { 0x90 ≤ byte }
@@ -98,6 +104,7 @@ fn below_a0(byte: u8) -> Option<Opcode>
     }
 }
 
+/// The opcode of a byte from 0A0H to 0BFH: MOV and TEST of the accumulator, strings, MOV of numbers to registers.
 #[tactic(auto, unfolding(crate::specs::Opcodes::opcode_below_c0))]
 fn below_c0(byte: u8) -> Option<Opcode>
     requires low { 0xA0 ≤ byte }
@@ -117,6 +124,7 @@ fn below_c0(byte: u8) -> Option<Opcode>
     }
 }
 
+/// The opcode of a byte from 0C0H to 0DFH: RET, MOV of numbers, IRET, shifts.
 #[tactic(auto, unfolding(crate::specs::Opcodes::opcode_below_e0))]
 fn below_e0(byte: u8) -> Option<Opcode>
     ensures { result ≡ opcode_below_e0 byte }
@@ -132,6 +140,7 @@ fn below_e0(byte: u8) -> Option<Opcode>
     }
 }
 
+/// The opcode of a byte from 0E0H to 0EFH: LOOP, JCXZ, ports, CALL, JMP.
 #[tactic(auto, unfolding(crate::specs::Opcodes::opcode_below_f0))]
 fn below_f0(byte: u8) -> Option<Opcode>
     requires low { 0xE0 ≤ byte }
@@ -153,6 +162,7 @@ fn below_f0(byte: u8) -> Option<Opcode>
     }
 }
 
+/// The opcode of a byte from 0F0H on: HLT, flags, and the two groups.
 #[tactic(auto, unfolding(crate::specs::Opcodes::opcode_from_f0))]
 fn from_f0(byte: u8) -> Option<Opcode>
     requires { 0xF0 ≤ byte }
@@ -192,8 +202,8 @@ impl Opcode {
     }
 
     /// What follows the opcode.
-    pub fn layout(self) -> Layout
-        ensures { result ≡ layout_of self }
+    pub fn field_kind(self) -> FieldKind
+        ensures { result ≡ field_kind_of self }
     {
         match self {
             Opcode::AluToPlace(_, _)
@@ -207,8 +217,8 @@ impl Opcode {
             | Opcode::MoveToSegment
             | Opcode::PopPlace
             | Opcode::Shift(_, _)
-            | Opcode::StepGroup(_) => Layout::Address,
-            Opcode::UnaryGroup(width) => Layout::Group(width),
+            | Opcode::StepGroup(_) => FieldKind::Address,
+            Opcode::UnaryGroup(width) => FieldKind::Group(width),
             Opcode::AluAccumulator(_, Width::Byte)
             | Opcode::TestAccumulator(Width::Byte)
             | Opcode::MoveRegisterByte(_)
@@ -217,7 +227,7 @@ impl Opcode {
             | Opcode::JumpIfCxZero
             | Opcode::JumpShort
             | Opcode::InFixed(_)
-            | Opcode::OutFixed(_) => Layout::Byte,
+            | Opcode::OutFixed(_) => FieldKind::Byte,
             Opcode::AluAccumulator(_, Width::Word)
             | Opcode::TestAccumulator(Width::Word)
             | Opcode::MoveRegisterWord(_)
@@ -225,14 +235,14 @@ impl Opcode {
             | Opcode::MoveToDirect(_)
             | Opcode::ReturnDropping
             | Opcode::Call
-            | Opcode::Jump => Layout::Word,
+            | Opcode::Jump => FieldKind::Word,
             Opcode::AluImmediate(Width::Byte)
             | Opcode::MoveImmediate(Width::Byte)
-            | Opcode::AluShort => Layout::AddressByte,
+            | Opcode::AluShort => FieldKind::AddressByte,
             Opcode::AluImmediate(Width::Word) | Opcode::MoveImmediate(Width::Word) => {
-                Layout::AddressWord
+                FieldKind::AddressWord
             }
-            Opcode::JumpFar => Layout::TwoWords,
+            Opcode::JumpFar => FieldKind::TwoWords,
             Opcode::PushSegment(_)
             | Opcode::PopSegment(_)
             | Opcode::Increment(_)
@@ -257,7 +267,7 @@ impl Opcode {
             | Opcode::DisableInterrupts
             | Opcode::EnableInterrupts
             | Opcode::ClearDirection
-            | Opcode::SetDirection => Layout::Nothing,
+            | Opcode::SetDirection => FieldKind::Nothing,
         }
     }
 

@@ -1,9 +1,10 @@
 //! That the numbers of an instruction fit their types.
 
-ghost use Rattle.i86_code.specs.Ranges.{AddressFits, PlaceFits, OperandsFit, MaskFits, InstrFits, PortFits};
+ghost use Rattle.i86_code.specs.Ranges.{AddressFits, RmOperandFits, OperandsFit, MaskFits, InstrFits, PortFits};
 
-use i86_table::{Address, Instr, Operands, Place, Port, Register8, Register16, TestMask};
+use i86_table::{Address, Instr, Operands, Port, Register8, Register16, RmOperand, TestMask};
 
+/// The law that the numbers of an address fit their types.
 fn address_fits(address: Address)
     ensures { AddressFits address }
 {
@@ -16,14 +17,16 @@ fn address_fits(address: Address)
     }
 }
 
-fn place_fits<R: Copy>(place: Place<R>)
-    ensures { PlaceFits place }
+/// The law that the numbers of an r/m operand fit their types.
+fn place_fits<R: Copy>(place: RmOperand<R>)
+    ensures { RmOperandFits place }
 {
-    if let Place::Memory(memory) = place {
+    if let RmOperand::Memory(memory) = place {
         address_fits(memory.address);
     }
 }
 
+/// The law that the numbers of byte operands fit their types.
 fn byte_operands_fit(operands: Operands<Register8, u8>)
     ensures { OperandsFit 256 operands }
 {
@@ -34,6 +37,7 @@ fn byte_operands_fit(operands: Operands<Register8, u8>)
     }
 }
 
+/// The law that the numbers of word operands fit their types.
 fn word_operands_fit(operands: Operands<Register16, u16>)
     ensures { OperandsFit 65536 operands }
 {
@@ -44,6 +48,7 @@ fn word_operands_fit(operands: Operands<Register16, u16>)
     }
 }
 
+/// The law that the number of a byte TEST fits its type.
 fn byte_mask_fits(mask: TestMask<Register8, u8>)
     ensures { MaskFits 256 mask }
 {
@@ -53,6 +58,7 @@ fn byte_mask_fits(mask: TestMask<Register8, u8>)
     }
 }
 
+/// The law that the number of a word TEST fits its type.
 fn word_mask_fits(mask: TestMask<Register16, u16>)
     ensures { MaskFits 65536 mask }
 {
@@ -62,6 +68,7 @@ fn word_mask_fits(mask: TestMask<Register16, u16>)
     }
 }
 
+/// The law that a port's number fits its type.
 fn port_fits(port: Port)
     ensures { PortFits port }
 {

@@ -3,11 +3,12 @@
 ghost use Rattle.std.specs.Prelude.{◌≡◌, ◌<◌, option_map, true, List, ℕ};
 ghost use Rattle.i86_code.specs.Reading.{base_at, byte_at, word_at, place_at, test_then, is_addressed, fields_at, segment_at, prefixes_at, form_at};
 
-use crate::form::{Fields, Form, Layout, Opcode, Prefixes, RegisterOrMemory};
+use crate::form::{FieldKind, Fields, Form, Opcode, Prefixes, RegisterOrMemory};
 use byteorder::{ByteOrder, LittleEndian};
 use i86_table::{Base, Segment};
 use word86::Width;
 
+/// The base registers of the r/m field 0 to 7 (8086 Family User's Manual, table 4-10).
 fn base(code: u8) -> Base
     ensures { result ≡ base_at code }
 {
@@ -23,6 +24,7 @@ fn base(code: u8) -> Base
     }
 }
 
+/// The segment that a prefix byte names: 26H ES, 2EH CS, 36H SS, 3EH DS.
 fn segment(prefix: u8) -> Option<Segment>
     ensures { result ≡ segment_at prefix }
 {
@@ -35,6 +37,7 @@ fn segment(prefix: u8) -> Option<Segment>
     }
 }
 
+/// The prefixes at the front of the bytes, at most one segment and one F3H in either order, and what follows them.
 #[tactic(auto, unfolding(crate::specs::Reading::prefixes_at))]
 fn prefixes(bytes: &[u8]) -> (Prefixes, &[u8])
     ensures { (result.0, result.1.now) ≡ prefixes_at bytes.now }
@@ -60,6 +63,7 @@ fn prefixes(bytes: &[u8]) -> (Prefixes, &[u8])
     }
 }
 
+/// A word, its low byte first, and what follows it.
 fn word(bytes: &[u8]) -> Option<(u16, &[u8])>
     ensures { option_map (λ x. (x.0, x.1.now)) result ≡ word_at bytes.now }
 {
@@ -69,6 +73,8 @@ fn word(bytes: &[u8]) -> Option<(u16, &[u8])>
     }
 }
 
+/// An address byte with its displacement: the register field, the register or memory place, and what follows (8086 Family User's
+/// Manual, tables 4-8 and 4-10).
 #[tactic(auto, unfolding(crate::specs::Reading::place_at))]
 fn place(bytes: &[u8]) -> Option<(u8, RegisterOrMemory, &[u8])>
     ensures { option_map (λ x. (x.0, x.1, x.2.now)) result ≡ place_at bytes.now }
@@ -104,6 +110,7 @@ fn place(bytes: &[u8]) -> Option<(u8, RegisterOrMemory, &[u8])>
     }
 }
 
+/// A byte, and what follows it.
 fn byte(bytes: &[u8]) -> Option<(u8, &[u8])>
     ensures { option_map (λ x. (x.0, x.1.now)) result ≡ byte_at bytes.now }
 {
@@ -131,46 +138,47 @@ fn test(width: Width, place: RegisterOrMemory, bytes: &[u8]) -> Option<(Fields, 
 
 /// The fields that begin with an address byte.
 #[tactic(auto, unfolding(crate::specs::Reading::fields_at))]
-fn addressed_fields(layout: Layout, bytes: &[u8]) -> Option<(Fields, &[u8])>
-    requires { is_addressed layout ≡ true }
-    ensures { option_map (λ x. (x.0, x.1.now)) result ≡ fields_at layout bytes.now }
+fn addressed_fields(kind: FieldKind, bytes: &[u8]) -> Option<(Fields, &[u8])>
+    requires { is_addressed kind ≡ true }
+    ensures { option_map (λ x. (x.0, x.1.now)) result ≡ fields_at kind bytes.now }
 {
     let (register, place, rest) = place(bytes)?;
-    match layout {
-        Layout::AddressByte => {
+    match kind {
+        FieldKind::AddressByte => {
             let (number, rest) = byte(rest)?;
             Some((Fields::AddressByte(register, place, number), rest))
         }
-        Layout::AddressWord => {
+        FieldKind::AddressWord => {
             let (number, rest) = word(rest)?;
             Some((Fields::AddressWord(register, place, number), rest))
         }
-        Layout::Group(width) if register == 0 => test(width, place, rest),
-        Layout::Group(width) => Some((Fields::Unary(width, register, place), rest)),
+        FieldKind::Group(width) if register == 0 => test(width, place, rest),
+        FieldKind::Group(width) => Some((Fields::Unary(width, register, place), rest)),
         _ => Some((Fields::Address(register, place), rest)),
     }
 }
 
+/// The fields of a kind at the front of the bytes, and what follows them.
 #[tactic(auto, unfolding(crate::specs::Reading::fields_at))]
-fn fields(layout: Layout, bytes: &[u8]) -> Option<(Fields, &[u8])>
-    ensures { option_map (λ x. (x.0, x.1.now)) result ≡ fields_at layout bytes.now }
+fn fields(kind: FieldKind, bytes: &[u8]) -> Option<(Fields, &[u8])>
+    ensures { option_map (λ x. (x.0, x.1.now)) result ≡ fields_at kind bytes.now }
 {
-    match layout {
-        Layout::Nothing => Some((Fields::Nothing, bytes)),
-        Layout::Byte => {
+    match kind {
+        FieldKind::Nothing => Some((Fields::Nothing, bytes)),
+        FieldKind::Byte => {
             let (number, rest) = byte(bytes)?;
             Some((Fields::Byte(number), rest))
         }
-        Layout::Word => {
+        FieldKind::Word => {
             let (number, rest) = word(bytes)?;
             Some((Fields::Word(number), rest))
         }
-        Layout::TwoWords => {
+        FieldKind::TwoWords => {
             let (first, rest) = word(bytes)?;
             let (second, rest) = word(rest)?;
             Some((Fields::TwoWords(first, second), rest))
         }
-        _ => addressed_fields(layout, bytes),
+        _ => addressed_fields(kind, bytes),
     }
 }
 
@@ -185,7 +193,7 @@ impl Form {
             return None;
         };
         let opcode = Opcode::at(*first)?;
-        let (fields, rest) = fields(opcode.layout(), rest)?;
+        let (fields, rest) = fields(opcode.field_kind(), rest)?;
         Some((
             Form {
                 prefixes,

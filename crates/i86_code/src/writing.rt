@@ -8,6 +8,7 @@ use crate::form::{Fields, Form, Prefixes, RegisterOrMemory};
 use arrayvec::ArrayVec;
 use i86_table::{Base, Segment};
 
+/// The number of base registers in an r/m field (8086 Family User's Manual, table 4-10).
 fn base_number(base: Base) -> u8
     ensures value { result ≡ base_code base }
     ensures fits { result < 8 }
@@ -15,6 +16,7 @@ fn base_number(base: Base) -> u8
     base as u8
 }
 
+/// The prefix byte of a segment.
 fn prefix_byte(segment: Segment) -> u8
     ensures { result ≡ prefix_code segment }
 {
@@ -38,6 +40,7 @@ fn push_word(out: &mut Bytes, number: u16)
     out.push((number / 256) as u8);
 }
 
+/// Appends an address byte with this register field, and its displacement.
 fn push_place(out: &mut Bytes, register: u8, place: RegisterOrMemory)
     requires register { register < 8 }
     requires place { IsPlace place }
@@ -63,6 +66,7 @@ fn push_place(out: &mut Bytes, register: u8, place: RegisterOrMemory)
     }
 }
 
+/// Appends the fields that follow an opcode.
 fn push_fields(out: &mut Bytes, fields: Fields)
     requires fits { FieldsFit fields }
     requires room { array_vec_len out.old ≤ 3 }
@@ -98,6 +102,7 @@ fn push_fields(out: &mut Bytes, fields: Fields)
     }
 }
 
+/// Appends the prefixes, in their order.
 fn push_prefixes(out: &mut Bytes, prefixes: Prefixes)
     requires { array_vec_len out.old ≡ 0 }
     ensures items { out.new.items ≡ out.old.items ++ prefix_bytes prefixes }

@@ -1,4 +1,8 @@
 pub mod FlagProofs
+pub mod OverflowProofs
+pub mod ShiftProofs
+pub mod RotationProofs
+pub mod ProductProofs
 pub mod PairProofs
 pub mod Steps
 pub mod FlagLists

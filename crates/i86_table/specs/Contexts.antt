@@ -20,7 +20,7 @@ use Rattle.i86_table.specs.declared.outcome.Product.{Product}
 use Rattle.i86_table.specs.declared.outcome.Division.{Division}
 use Rattle.i86_table.specs.declared.instruction.Memory.{Memory}
 use Rattle.i86_table.specs.declared.instruction.Address.{Address}
-use Rattle.i86_table.specs.declared.instruction.Place.TheVariants as places
+use Rattle.i86_table.specs.declared.instruction.RmOperand.TheVariants as rm
 use Rattle.i86_table.specs.declared.instruction.Operands.{Operands}
 use Rattle.i86_table.specs.declared.instruction.Operands.TheVariants.{FromRegister, FromMemory, Immediate}
 use Rattle.i86_table.specs.declared.instruction.TestMask.{TestMask}
@@ -105,7 +105,7 @@ abbrev pub in_object : Option (ℕ × ℕ) → Option Where
 in_object None = None
 in_object (Some x) = Some (In x.0 x.1)
 
--- so many bytes from this offset of segment 0B000H, where all of them are on the screen
+-- n bytes from this offset of segment 0B000H, where all of them are on the screen
 abbrev pub on_screen : (offset n : ℕ) → Option Where
 on_screen offset n = if nat_le 0x8000 offset && nat_le (offset + n) 0x8FA0 then Some (Screen (offset - 0x8000)) else None
 
@@ -195,7 +195,7 @@ abbrev pub gives_back : (given now : Working) → (stack : List ℕ) → Bool
 gives_back given now [] = same_registers given now
 gives_back given now (x ∷ xs) = false
 
--- find tells where an offset in the data's segment is: object and index of its byte, if so many bytes lie in one object
+-- find tells where an offset in the data's segment is: object and index of its byte, if n bytes from there lie in one object
 module _ (find : (offset n : ℕ) → Option (ℕ × ℕ)) where
   abbrev pub place_in : Segment → (offset n : ℕ) → Option Where
   place_in segments.Ds offset n = in_object (find offset n)
@@ -206,33 +206,33 @@ module _ (find : (offset n : ℕ) → Option (ℕ × ℕ)) where
   place_of g at width = place_in at.segment (offset_in g at.address) (bytes width)
 
   abbrev pub move_word_offer : Operands Register16 ℕ → ℕ → Working → List ℕ → Option Working → Offer Access Context
-  move_word_offer (FromRegister (places.Register r) s) q g st given = unless (is_sp r) (unless (is_sp s) (silently (Own q (set_word g r (word_in g s)) st false given)))
-  move_word_offer (FromRegister (places.Memory at) s) q g st given = unless (is_sp s) (writes (place_of g at widths.Word) widths.Word (word_in g s) (Own q g st false given))
+  move_word_offer (FromRegister (rm.Register r) s) q g st given = unless (is_sp r) (unless (is_sp s) (silently (Own q (set_word g r (word_in g s)) st false given)))
+  move_word_offer (FromRegister (rm.Memory at) s) q g st given = unless (is_sp s) (writes (place_of g at widths.Word) widths.Word (word_in g s) (Own q g st false given))
   move_word_offer (FromMemory r at) q g st given = unless (is_sp r) (reads (place_of g at widths.Word) widths.Word (λ v. Own q (set_word g r v) st false given))
-  move_word_offer (Immediate (places.Register r) v) q g st given = unless (is_sp r) (silently (Own q (set_word g r v) st false given))
-  move_word_offer (Immediate (places.Memory at) v) q g st given = writes (place_of g at widths.Word) widths.Word v (Own q g st false given)
+  move_word_offer (Immediate (rm.Register r) v) q g st given = unless (is_sp r) (silently (Own q (set_word g r v) st false given))
+  move_word_offer (Immediate (rm.Memory at) v) q g st given = writes (place_of g at widths.Word) widths.Word v (Own q g st false given)
 
   abbrev pub move_byte_offer : Operands Register8 ℕ → ℕ → Working → List ℕ → Option Working → Offer Access Context
-  move_byte_offer (FromRegister (places.Register r) s) q g st given = silently (Own q (set_byte g r (byte_in g s)) st false given)
-  move_byte_offer (FromRegister (places.Memory at) s) q g st given = writes (place_of g at widths.Byte) widths.Byte (byte_in g s) (Own q g st false given)
+  move_byte_offer (FromRegister (rm.Register r) s) q g st given = silently (Own q (set_byte g r (byte_in g s)) st false given)
+  move_byte_offer (FromRegister (rm.Memory at) s) q g st given = writes (place_of g at widths.Byte) widths.Byte (byte_in g s) (Own q g st false given)
   move_byte_offer (FromMemory r at) q g st given = reads (place_of g at widths.Byte) widths.Byte (λ v. Own q (set_byte g r v) st false given)
-  move_byte_offer (Immediate (places.Register r) v) q g st given = silently (Own q (set_byte g r v) st false given)
-  move_byte_offer (Immediate (places.Memory at) v) q g st given = writes (place_of g at widths.Byte) widths.Byte v (Own q g st false given)
+  move_byte_offer (Immediate (rm.Register r) v) q g st given = silently (Own q (set_byte g r v) st false given)
+  move_byte_offer (Immediate (rm.Memory at) v) q g st given = writes (place_of g at widths.Byte) widths.Byte v (Own q g st false given)
 
   abbrev pub alu_word_offer : AluOperation → Operands Register16 ℕ → ℕ → Working → List ℕ → Option Working → Offer Access Context
-  alu_word_offer f (FromRegister (places.Register r) s) q g st given = unless (is_sp r) (unless (is_sp s) (silently (Own q (alu_word f r (word_in g s) g) st false given)))
+  alu_word_offer f (FromRegister (rm.Register r) s) q g st given = unless (is_sp r) (unless (is_sp s) (silently (Own q (alu_word f r (word_in g s) g) st false given)))
   alu_word_offer f (FromMemory r at) q g st given = unless (is_sp r) (reads (place_of g at widths.Word) widths.Word (λ v. Own q (alu_word f r v g) st false given))
-  alu_word_offer f (Immediate (places.Register r) v) q g st given = unless (is_sp r) (silently (Own q (alu_word f r v g) st false given))
+  alu_word_offer f (Immediate (rm.Register r) v) q g st given = unless (is_sp r) (silently (Own q (alu_word f r v g) st false given))
   -- a comparison stores nothing, so its target may lie in memory
-  alu_word_offer f (FromRegister (places.Memory at) s) q g st given = unless (not (is_comparison f)) (unless (is_sp s) (reads (place_of g at widths.Word) widths.Word (λ v. Own q (set_flags g (operated f widths.Word v (word_in g s) g.flags).flags) st false given)))
-  alu_word_offer f (Immediate (places.Memory at) n) q g st given = unless (not (is_comparison f)) (reads (place_of g at widths.Word) widths.Word (λ v. Own q (set_flags g (operated f widths.Word v n g.flags).flags) st false given))
+  alu_word_offer f (FromRegister (rm.Memory at) s) q g st given = unless (not (is_comparison f)) (unless (is_sp s) (reads (place_of g at widths.Word) widths.Word (λ v. Own q (set_flags g (operated f widths.Word v (word_in g s) g.flags).flags) st false given)))
+  alu_word_offer f (Immediate (rm.Memory at) n) q g st given = unless (not (is_comparison f)) (reads (place_of g at widths.Word) widths.Word (λ v. Own q (set_flags g (operated f widths.Word v n g.flags).flags) st false given))
 
   abbrev pub alu_byte_offer : AluOperation → Operands Register8 ℕ → ℕ → Working → List ℕ → Option Working → Offer Access Context
-  alu_byte_offer f (FromRegister (places.Register r) s) q g st given = silently (Own q (alu_byte f r (byte_in g s) g) st false given)
+  alu_byte_offer f (FromRegister (rm.Register r) s) q g st given = silently (Own q (alu_byte f r (byte_in g s) g) st false given)
   alu_byte_offer f (FromMemory r at) q g st given = reads (place_of g at widths.Byte) widths.Byte (λ v. Own q (alu_byte f r v g) st false given)
-  alu_byte_offer f (Immediate (places.Register r) v) q g st given = silently (Own q (alu_byte f r v g) st false given)
-  alu_byte_offer f (FromRegister (places.Memory at) s) q g st given = unless (not (is_comparison f)) (reads (place_of g at widths.Byte) widths.Byte (λ v. Own q (set_flags g (operated f widths.Byte v (byte_in g s) g.flags).flags) st false given))
-  alu_byte_offer f (Immediate (places.Memory at) n) q g st given = unless (not (is_comparison f)) (reads (place_of g at widths.Byte) widths.Byte (λ v. Own q (set_flags g (operated f widths.Byte v n g.flags).flags) st false given))
+  alu_byte_offer f (Immediate (rm.Register r) v) q g st given = silently (Own q (alu_byte f r v g) st false given)
+  alu_byte_offer f (FromRegister (rm.Memory at) s) q g st given = unless (not (is_comparison f)) (reads (place_of g at widths.Byte) widths.Byte (λ v. Own q (set_flags g (operated f widths.Byte v (byte_in g s) g.flags).flags) st false given))
+  alu_byte_offer f (Immediate (rm.Memory at) n) q g st given = unless (not (is_comparison f)) (reads (place_of g at widths.Byte) widths.Byte (λ v. Own q (set_flags g (operated f widths.Byte v n g.flags).flags) st false given))
 
 abbrev pub word_mask : Working → TestMask Register16 ℕ → ℕ
 word_mask g (masks.Register r) = word_in g r
@@ -262,7 +262,7 @@ abbrev pub enable_offer : ℕ → Working → List ℕ → Option Working → Of
 enable_offer q g st None = Arms (Own q (set_flags g (with_flag (flag_bit 512) true g.flags)) st true None)
 enable_offer q g st (Some s) = refused
 
--- HLT comes behind STI alone, and NOP there is what ENABLE means
+-- HLT comes right after STI alone, and NOP there is what ENABLE means
 abbrev pub halt_offer : ℕ → Working → List ℕ → Bool → Option Working → Offer Access Context
 halt_offer q g st true given = Does (Halt (Own q g st false given))
 halt_offer q g st false given = refused
@@ -280,32 +280,32 @@ module _ (find : (offset n : ℕ) → Option (ℕ × ℕ)) (main handler : ℕ) 
   abbrev pub pushes : List ℕ → Option Working → Context → Offer Access Context
   pushes stack given c = if nat_lt (length stack) (room main handler given) then silently c else refused
 
-  -- what an instruction does, where q is the place behind it
+  -- what an instruction does, where q is the place after it
   abbrev pub offered : Instr → (q : ℕ) → Working → List ℕ → (after_sti : Bool) → Option Working → Offer Access Context
   offered i.Nop q g st a given = nop_offer q g st a given
   offered (i.MoveWord operands) q g st a given = move_word_offer find operands q g st given
   offered (i.MoveByte operands) q g st a given = move_byte_offer find operands q g st given
   offered (i.AluWord f operands) q g st a given = alu_word_offer find f operands q g st given
   offered (i.AluByte f operands) q g st a given = alu_byte_offer find f operands q g st given
-  offered (i.TestWord (places.Register r) n) q g st a given = unless (is_sp r) (unless (masks_sp n) (silently (Own q (set_flags g (tested widths.Word (word_in g r) (word_mask g n) g.flags)) st false given)))
-  offered (i.TestByte (places.Register r) n) q g st a given = silently (Own q (set_flags g (tested widths.Byte (byte_in g r) (byte_mask g n) g.flags)) st false given)
+  offered (i.TestWord (rm.Register r) n) q g st a given = unless (is_sp r) (unless (masks_sp n) (silently (Own q (set_flags g (tested widths.Word (word_in g r) (word_mask g n) g.flags)) st false given)))
+  offered (i.TestByte (rm.Register r) n) q g st a given = silently (Own q (set_flags g (tested widths.Byte (byte_in g r) (byte_mask g n) g.flags)) st false given)
   offered (i.ExchangeWords p) q g st a given = unless (is_sp p.first) (unless (is_sp p.second) (silently (Own q (exchanged p.first p.second g) st false given)))
-  offered (i.UnaryWord f (places.Register r)) q g st a given = unless (is_sp r) (silently (Own q (word_result r g (changed f widths.Word (word_in g r) g.flags)) st false given))
-  offered (i.UnaryByte f (places.Register r)) q g st a given = silently (Own q (byte_result r g (changed f widths.Byte (byte_in g r) g.flags)) st false given)
-  offered (i.ShiftWord f (places.Register r) n) q g st a given = unless (is_sp r) (silently (Own q (word_result r g (shifted f widths.Word (word_in g r) (count_in g n) g.flags)) st false given))
-  offered (i.ShiftByte f (places.Register r) n) q g st a given = silently (Own q (byte_result r g (shifted f widths.Byte (byte_in g r) (count_in g n) g.flags)) st false given)
-  offered (i.MultiplyWord s (places.Register r)) q g st a given = unless (is_sp r) (silently (Own q (word_product (multiplied s widths.Word g.ax (word_in g r) g.flags) g) st false given))
-  offered (i.MultiplyByte s (places.Register r)) q g st a given = silently (Own q (byte_product (multiplied s widths.Byte (byte_in g Al) (byte_in g r) g.flags) g) st false given)
-  offered (i.DivideWord s (places.Register r)) q g st a given = unless (is_sp r) (divides (divided s widths.Word (g.dx * 65536 + g.ax) (word_in g r)) (λ x. Own q (word_quotient x g) st false given))
-  offered (i.DivideByte s (places.Register r)) q g st a given = divides (divided s widths.Byte g.ax (byte_in g r)) (λ x. Own q (byte_quotient x g) st false given)
+  offered (i.UnaryWord f (rm.Register r)) q g st a given = unless (is_sp r) (silently (Own q (word_result r g (changed f widths.Word (word_in g r) g.flags)) st false given))
+  offered (i.UnaryByte f (rm.Register r)) q g st a given = silently (Own q (byte_result r g (changed f widths.Byte (byte_in g r) g.flags)) st false given)
+  offered (i.ShiftWord f (rm.Register r) n) q g st a given = unless (is_sp r) (silently (Own q (word_result r g (shifted f widths.Word (word_in g r) (count_in g n) g.flags)) st false given))
+  offered (i.ShiftByte f (rm.Register r) n) q g st a given = silently (Own q (byte_result r g (shifted f widths.Byte (byte_in g r) (count_in g n) g.flags)) st false given)
+  offered (i.MultiplyWord s (rm.Register r)) q g st a given = unless (is_sp r) (silently (Own q (word_product (multiplied s widths.Word g.ax (word_in g r) g.flags) g) st false given))
+  offered (i.MultiplyByte s (rm.Register r)) q g st a given = silently (Own q (byte_product (multiplied s widths.Byte (byte_in g Al) (byte_in g r) g.flags) g) st false given)
+  offered (i.DivideWord s (rm.Register r)) q g st a given = unless (is_sp r) (divides (divided s widths.Word (g.dx * 65536 + g.ax) (word_in g r)) (λ x. Own q (word_quotient x g) st false given))
+  offered (i.DivideByte s (rm.Register r)) q g st a given = divides (divided s widths.Byte g.ax (byte_in g r)) (λ x. Own q (byte_quotient x g) st false given)
   offered i.ConvertByte q g st a given = silently (Own q (set_word g Ax (sign_extended (byte_in g Al))) st false given)
   offered i.ConvertWord q g st a given = silently (Own q (set_word g Dx (sign_word g.ax)) st false given)
-  offered (i.Push (places.Register r)) q g st a given = unless (is_sp r) (pushes st given (Own q g (word_in g r % 65536 ∷ st) false given))
-  offered (i.Pop (places.Register r)) q g st a given = pop_offer r q g st given
+  offered (i.Push (rm.Register r)) q g st a given = unless (is_sp r) (pushes st given (Own q g (word_in g r % 65536 ∷ st) false given))
+  offered (i.Pop (rm.Register r)) q g st a given = pop_offer r q g st given
   offered (i.JumpIf condition d) q g st a given = silently (Own (if holds condition g.flags then further q (sign_extended d) else q) g st false given)
   offered (i.JumpShort d) q g st a given = silently (Own (further q (sign_extended d)) g st false given)
   offered (i.Jump d) q g st a given = silently (Own (further q d) g st false given)
-  offered (i.JumpTo (places.Register r)) q g st a given = unless (is_sp r) (unless (nat_le 65536 (word_in g r)) (silently (Own (word_in g r) g st false given)))
+  offered (i.JumpTo (rm.Register r)) q g st a given = unless (is_sp r) (unless (nat_le 65536 (word_in g r)) (silently (Own (word_in g r) g st false given)))
   offered (i.Call d) q g st a given = pushes st given (Own (further q d) g (q % 65536 ∷ st) false given)
   offered i.Return q g st a given = return_offer g st given
   offered (i.In width p) q g st a given = Does (Touch (Input width (port_in g p)) (λ v. Own q (input_gives width g v) st false given))

@@ -1,11 +1,11 @@
 pub mod Registers
-pub mod RegisterFile
 pub mod Numbers
 pub mod State
 pub mod Arithmetic
 pub mod Conditions
-pub mod LateFlags
 pub mod FlagLaws
+pub mod ArithmeticLaws
 pub mod Pairs
 pub mod PairLaws
 pub mod Contexts
+pub mod Inner

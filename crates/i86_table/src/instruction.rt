@@ -103,19 +103,20 @@ pub struct Memory {
     pub address: Address,
 }
 
-/// A register or an operand in memory.
+/// The r/m operand of an instruction: a register, or a place in memory (8086 Family User's Manual, "Machine Instruction
+/// Encoding and Decoding").
 #[derive(Copy)]
-pub enum Place<R> {
+pub enum RmOperand<R> {
     Register(R),
     Memory(Memory),
 }
 
-impl<R: Copy> Clone for Place<R> {
+impl<R: Copy> Clone for RmOperand<R> {
     ghost is_clone = { λ of copy. copy ≡ of };
 
     ghost is_infallible = { λ _. ⊤ };
 
-    fn clone(&self) -> Result<Place<R>, AllocError> {
+    fn clone(&self) -> Result<RmOperand<R>, AllocError> {
         Ok(*self)
     }
 }
@@ -123,9 +124,9 @@ impl<R: Copy> Clone for Place<R> {
 /// A target and a source, not both in memory.
 #[derive(Copy)]
 pub enum Operands<R, I> {
-    FromRegister(Place<R>, R),
+    FromRegister(RmOperand<R>, R),
     FromMemory(R, Memory),
-    Immediate(Place<R>, I),
+    Immediate(RmOperand<R>, I),
 }
 
 impl<R: Copy, I: Copy> Clone for Operands<R, I> {
@@ -138,7 +139,7 @@ impl<R: Copy, I: Copy> Clone for Operands<R, I> {
     }
 }
 
-/// What TEST compares a place with.
+/// What TEST compares its r/m operand with.
 #[derive(Copy)]
 pub enum TestMask<R, I> {
     Register(R),
@@ -179,25 +180,25 @@ pub enum Instr {
     /// ADD, OR, ADC, SBB, AND, SUB, XOR, CMP of words.
     AluWord(AluOperation, Operands<Register16, u16>),
     /// NOT, NEG, INC, DEC of a byte.
-    UnaryByte(UnaryOperation, Place<Register8>),
+    UnaryByte(UnaryOperation, RmOperand<Register8>),
     /// NOT, NEG, INC, DEC of a word.
-    UnaryWord(UnaryOperation, Place<Register16>),
+    UnaryWord(UnaryOperation, RmOperand<Register16>),
     /// TEST of bytes.
-    TestByte(Place<Register8>, TestMask<Register8, u8>),
+    TestByte(RmOperand<Register8>, TestMask<Register8, u8>),
     /// TEST of words.
-    TestWord(Place<Register16>, TestMask<Register16, u16>),
-    /// ROL, ROR, SHL, SHR, SAR of a byte.
-    ShiftByte(ShiftOperation, Place<Register8>, Count),
-    /// ROL, ROR, SHL, SHR, SAR of a word.
-    ShiftWord(ShiftOperation, Place<Register16>, Count),
+    TestWord(RmOperand<Register16>, TestMask<Register16, u16>),
+    /// ROL, ROR, SHL, SHR, SAR of a byte. A count of 0 in CL changes neither value nor flags, and stores the value all the same.
+    ShiftByte(ShiftOperation, RmOperand<Register8>, Count),
+    /// ROL, ROR, SHL, SHR, SAR of a word. A count of 0 in CL changes neither value nor flags, and stores the value all the same.
+    ShiftWord(ShiftOperation, RmOperand<Register16>, Count),
     /// MUL, IMUL: AX is AL times the operand.
-    MultiplyByte(Signedness, Place<Register8>),
+    MultiplyByte(Signedness, RmOperand<Register8>),
     /// MUL, IMUL: DX and AX are AX times the operand.
-    MultiplyWord(Signedness, Place<Register16>),
+    MultiplyWord(Signedness, RmOperand<Register16>),
     /// DIV, IDIV: AL and AH are quotient and remainder of AX and the operand.
-    DivideByte(Signedness, Place<Register8>),
+    DivideByte(Signedness, RmOperand<Register8>),
     /// DIV, IDIV: AX and DX are quotient and remainder of DX, AX and the operand.
-    DivideWord(Signedness, Place<Register16>),
+    DivideWord(Signedness, RmOperand<Register16>),
     /// CBW: AX is AL with its sign.
     ConvertByte,
     /// CWD: DX and AX are AX with its sign.
@@ -207,23 +208,23 @@ pub enum Instr {
     /// MOV of a word.
     MoveWord(Operands<Register16, u16>),
     /// MOV from a segment register.
-    MoveFromSegment(Place<Register16>, Segment),
+    MoveFromSegment(RmOperand<Register16>, Segment),
     /// MOV to a segment register.
-    MoveToSegment(LoadableSegment, Place<Register16>),
+    MoveToSegment(LoadableSegment, RmOperand<Register16>),
     /// LEA: the offset, not what lies there.
     LoadAddress(Register16, Address),
-    /// XCHG of two byte registers.
+    /// XCHG of two byte registers: in which order they are named says nothing.
     ExchangeBytes(BytePair),
-    /// XCHG of two word registers.
+    /// XCHG of two word registers: in which order they are named says nothing.
     ExchangeWords(WordPair),
     /// XCHG of a byte register with memory.
     ExchangeMemoryByte(Register8, Memory),
     /// XCHG of a word register with memory.
     ExchangeMemoryWord(Register16, Memory),
     /// PUSH of a word.
-    Push(Place<Register16>),
+    Push(RmOperand<Register16>),
     /// POP of a word.
-    Pop(Place<Register16>),
+    Pop(RmOperand<Register16>),
     /// PUSH of a segment register.
     PushSegment(Segment),
     /// POP of a segment register.
@@ -258,7 +259,7 @@ pub enum Instr {
     /// JMP by a distance of one word.
     Jump(u16),
     /// JMP to the offset in a register or in memory.
-    JumpTo(Place<Register16>),
+    JumpTo(RmOperand<Register16>),
     /// JMP to another segment.
     JumpFar {
         offset: u16,
@@ -267,10 +268,10 @@ pub enum Instr {
     /// CALL by a distance of one word.
     Call(u16),
     /// CALL of the offset in a register or in memory.
-    CallTo(Place<Register16>),
+    CallTo(RmOperand<Register16>),
     /// RET.
     Return,
-    /// RET that drops so many bytes more.
+    /// RET that drops this number of bytes more.
     ReturnDropping(u16),
     /// IRET.
     InterruptReturn,

@@ -2,6 +2,7 @@
 #![tactic(auto)]
 
 mod alu;
+mod arithmetic_law;
 mod computing;
 mod condition;
 mod flags;
@@ -16,10 +17,11 @@ mod registers;
 mod shifts;
 mod width;
 
+pub use arithmetic_law::{overflow_laws, product_laws, quotient_laws, rotation_laws, shift_laws};
 pub use flags::{Flags, flag_laws};
 pub use instruction::{
-    Address, AluOperation, Base, Condition, Count, Instr, Memory, Operands, Place, Port, Repeat,
-    ShiftOperation, Signedness, TestMask, UnaryOperation,
+    Address, AluOperation, Base, Condition, Count, Instr, Memory, Operands, Port, Repeat,
+    RmOperand, ShiftOperation, Signedness, TestMask, UnaryOperation,
 };
 pub use multiplication::{divide, sign_extended, sign_word};
 pub use outcome::{Division, Outcome, Product};

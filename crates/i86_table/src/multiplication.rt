@@ -28,7 +28,7 @@ pub fn sign_word(word: u16) -> u16
     if word < 32768 { 0 } else { 65535 }
 }
 
-/// The absolute value of a number in two's complement of so many values.
+/// The absolute value of a number in two's complement of `size` values.
 fn magnitude(size: u64, a: u64) -> u64
     requires { a < size }
     ensures { result ≡ magnitude size a }

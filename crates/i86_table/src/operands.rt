@@ -3,7 +3,7 @@
 ghost use Rattle.std.specs.Prelude.{◌≡◌, ◌+◌, ◌%◌};
 ghost use Rattle.i86_table.specs.State.{word_of, start_of, offset_of, port_of, target};
 
-use crate::instruction::{Address, Base, Operands, Place, Port};
+use crate::instruction::{Address, Base, Operands, Port, RmOperand};
 use crate::registers::{Register16, Regs};
 
 impl Regs {
@@ -54,12 +54,12 @@ impl Regs {
 
 impl<R: Copy, I: Copy> Operands<R, I> {
     /// What the operands change.
-    pub fn target(self) -> Place<R>
+    pub fn target(self) -> RmOperand<R>
         ensures { result ≡ target self }
     {
         match self {
             Operands::FromRegister(place, _) | Operands::Immediate(place, _) => place,
-            Operands::FromMemory(register, _) => Place::Register(register),
+            Operands::FromMemory(register, _) => RmOperand::Register(register),
         }
     }
 }

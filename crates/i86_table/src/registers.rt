@@ -68,7 +68,7 @@ impl Model for Regs {
 
     ghost Value = { Registers };
 
-    ghost use Rattle.i86_table.specs.RegisterFile.{named, IsWhole};
+    ghost use Rattle.i86_table.specs.Inner.RegisterFile.{named, IsWhole};
 
     ghost view = { named };
 

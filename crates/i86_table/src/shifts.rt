@@ -2,7 +2,7 @@
 
 ghost use Rattle.std.specs.Prelude.{◌≡◌, ◌<◌};
 ghost use Rattle.i86_table.specs.Arithmetic.{size_of, moved_once, moved, with_shift_result, shift_overflow, shifted};
-ghost use Rattle.i86_table.specs.LateFlags.{once_flags};
+ghost use Rattle.i86_table.specs.Inner.LateFlags.{once_flags};
 
 use crate::flags::Flags;
 use crate::instruction::ShiftOperation;
@@ -33,7 +33,7 @@ fn move_once(operation: ShiftOperation, width: Width, a: u16) -> (u16, bool)
     }
 }
 
-/// So many places, and the bit that went out last; the carry where there are none.
+/// This number of places, and the bit that went out last; the carry where there are none.
 #[tactic(auto, using(crate::proofs::Steps::moved_step, crate::proofs::Steps::moved_none))]
 fn move_places(
     operation: ShiftOperation,

@@ -30,11 +30,11 @@ pub data Action (A R : Type 0) : Type 0 where
   Halt : R → Action A R
   -- used up
   Over : Action A R
-  -- a Bad step, at this line of this file
-  Bad : (file line : ℕ) → Action A R
+  -- a Bad step, at this line of this module
+  Bad : (module_index line : ℕ) → Action A R
 
 abbrev pub IsBad : {A R : Type 0} → Action A R → Type 0
-IsBad (Bad file line) = Unit {0}
+IsBad (Bad module_index line) = Unit {0}
 IsBad _ = ⊥
 
 abbrev pub map_action : {A R S : Type 0} → (R → S) → Action A R → Action A S
@@ -44,7 +44,7 @@ map_action f (Enable r) = Enable (f r)
 map_action f (Disable r) = Disable (f r)
 map_action f (Halt r) = Halt (f r)
 map_action f Over = Over
-map_action f (Bad file line) = Bad file line
+map_action f (Bad module_index line) = Bad module_index line
 
 -- whether interrupts are on after an action
 abbrev pub on_after : {A R : Type 0} → Action A R → Bool → Bool
@@ -65,4 +65,4 @@ perform sh (Enable r) w = Some (r, w, [])
 perform sh (Disable r) w = Some (r, w, [])
 perform sh (Halt r) w = Some (r, w, [])
 perform sh Over w = None
-perform sh (Bad file line) w = None
+perform sh (Bad module_index line) w = None

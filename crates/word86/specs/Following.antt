@@ -22,7 +22,7 @@ module _ (A : Type 0) (answers : A → ℕ) (R : Type 0) (next : R → Action A 
     Pairs P f j r (Disable i) = (q : R) × (next r ≡ Disable q) × P limit q i
     Pairs P f j r (Halt i) = (q : R) × (next r ≡ Halt q) × P limit q i
     Pairs P f j r Over = next r ≡ Over
-    Pairs P f j r (Bad file line) = ⊥
+    Pairs P f j r (Bad module_index line) = ⊥
 
     -- For n of its steps the code's context tracks the rest up to the rest's first Bad step. At most f of its steps come
     -- before the rest's next one, at most limit between two, and at most so many silent ones of the rest with one.

@@ -1,8 +1,8 @@
 //! Instructions as NASM writes them.
 
 use i86_table::{
-    Address, AluOperation, Base, Condition, Count, Instr, LoadableSegment, Memory, Operands, Place,
-    Port, Register8, Register16, Repeat, Segment, ShiftOperation, Signedness, TestMask,
+    Address, AluOperation, Base, Condition, Count, Instr, LoadableSegment, Memory, Operands, Port,
+    Register8, Register16, Repeat, RmOperand, Segment, ShiftOperation, Signedness, TestMask,
     UnaryOperation, sign_extended,
 };
 use std::fmt;
@@ -179,16 +179,22 @@ fn write_memory<W: fmt::Write>(memory: Memory, f: &mut fmt::Formatter<W>) -> fmt
     write!(f, "]")
 }
 
-fn write_place<R: Named, W: fmt::Write>(place: Place<R>, f: &mut fmt::Formatter<W>) -> fmt::Result {
+fn write_place<R: Named, W: fmt::Write>(
+    place: RmOperand<R>,
+    f: &mut fmt::Formatter<W>,
+) -> fmt::Result {
     match place {
-        Place::Register(register) => write!(f, "{}", register.name()),
-        Place::Memory(memory) => write_memory(memory, f),
+        RmOperand::Register(register) => write!(f, "{}", register.name()),
+        RmOperand::Memory(memory) => write_memory(memory, f),
     }
 }
 
 /// With the size of an operand in memory, which no register tells.
-fn write_sized<R: Named, W: fmt::Write>(place: Place<R>, f: &mut fmt::Formatter<W>) -> fmt::Result {
-    if let Place::Memory(_) = place {
+fn write_sized<R: Named, W: fmt::Write>(
+    place: RmOperand<R>,
+    f: &mut fmt::Formatter<W>,
+) -> fmt::Result {
+    if let RmOperand::Memory(_) = place {
         write!(f, "{} ", R::SIZE)?;
     }
     write_place(place, f)
@@ -227,7 +233,7 @@ fn widened<R>(operands: Operands<R, u8>) -> Operands<R, u16> {
 /// An operation on one operand.
 fn write_one<R: Named, W: fmt::Write>(
     name: &str,
-    place: Place<R>,
+    place: RmOperand<R>,
     f: &mut fmt::Formatter<W>,
 ) -> fmt::Result {
     write!(f, "{name} ")?;
@@ -280,7 +286,7 @@ fn write_string<W: fmt::Write>(
 }
 
 fn write_test<R: Named, W: fmt::Write>(
-    place: Place<R>,
+    place: RmOperand<R>,
     mask: TestMask<R, u16>,
     f: &mut fmt::Formatter<W>,
 ) -> fmt::Result {

@@ -1,5 +1,5 @@
 use Rattle.std.proofs.Common.{◌≡◌, subst}
-use Rattle.plm_decl.specs.Placed.{IsPlacement, sizes_of}
+use Rattle.plm_decl.specs.Placement.{IsPlacement, sizes_of}
 use Rattle.acceptance.proofs.meaning.opened.Goals as goal
 
 pub new-requires : goal.new-requires

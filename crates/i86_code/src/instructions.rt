@@ -1,17 +1,18 @@
-//! What a form says.
+//! The instruction that a form spells, if it is one of the table (8086 Family User's Manual, tables 4-12 and 4-13).
 
 ghost use Rattle.std.specs.Prelude.{◌≡◌};
-ghost use Rattle.i86_code.specs.Meaning.{segment_under, repeat_of, repeats, usual_segment, based, direct, operand, byte_operand, word_operand, to_register, exchanged_byte, exchanged_word, load_address, move_to_segment, shift_at, byte_step, word_step, addressed_meaning, byte_unary, word_unary, is_short, addressed_byte_meaning, addressed_word_meaning, exchanged_accumulator, plain_meaning, byte_meaning, word_meaning, two_words_meaning, unary_meaning, test_byte_meaning, test_word_meaning, meaning, is_string, instruction_of};
+ghost use Rattle.i86_code.specs.Instructions.{segment_under, repeat_of, repeats, usual_segment, based, direct, operand, byte_operand, word_operand, to_register, exchanged_byte, exchanged_word, load_address, move_to_segment, shift_at, byte_step, word_step, addressed_instruction, byte_unary, word_unary, is_short, addressed_byte_instruction, addressed_word_instruction, exchanged_accumulator, plain_instruction, byte_instruction, word_instruction, two_words_instruction, unary_instruction, test_byte_instruction, test_word_instruction, instruction_from, is_string, instruction_of};
 
 use crate::form::{Fields, Form, Opcode, Prefixes, RegisterOrMemory};
 use crate::numbers::{Numbered, loadable, operation, segment};
 use i86_table::{
-    Address, Base, BytePair, Instr, LoadableSegment, Memory, Operands, Place, Port, Register8,
-    Register16, Repeat, Segment, ShiftOperation, Signedness, TestMask, UnaryOperation, WordPair,
+    Address, Base, BytePair, Instr, LoadableSegment, Memory, Operands, Port, Register8, Register16,
+    Repeat, RmOperand, Segment, ShiftOperation, Signedness, TestMask, UnaryOperation, WordPair,
     sign_extended,
 };
 use word86::Width;
 
+/// The segment of an address without a prefix: SS with BP, else DS (8086 Family User's Manual, table 2-2).
 pub(crate) fn usual_segment(base: Base) -> Segment
     ensures { result ≡ usual_segment base }
 {
@@ -22,6 +23,7 @@ pub(crate) fn usual_segment(base: Base) -> Segment
 }
 
 impl Prefixes {
+    /// The segment that the prefixes name, else the usual one.
     fn segment_under(self, usual: Segment) -> Segment
         ensures { result ≡ segment_under self usual }
     {
@@ -33,6 +35,7 @@ impl Prefixes {
         }
     }
 
+    /// Whether F3H is among the prefixes.
     fn repeats(self) -> bool
         ensures { result ≡ repeats self }
     {
@@ -42,6 +45,7 @@ impl Prefixes {
         )
     }
 
+    /// Once, or as often as CX says where F3H is among the prefixes.
     fn repeat(self) -> Repeat
         ensures { result ≡ repeat_of self }
     {
@@ -54,6 +58,7 @@ impl Prefixes {
     }
 }
 
+/// A place by base registers and a displacement.
 fn based(prefixes: Prefixes, base: Base, displacement: u16) -> Memory
     ensures { result ≡ based prefixes base displacement }
 {
@@ -63,6 +68,7 @@ fn based(prefixes: Prefixes, base: Base, displacement: u16) -> Memory
     }
 }
 
+/// A place at a fixed offset.
 fn direct(prefixes: Prefixes, offset: u16) -> Memory
     ensures { result ≡ direct prefixes offset }
 {
@@ -72,70 +78,80 @@ fn direct(prefixes: Prefixes, offset: u16) -> Memory
     }
 }
 
-fn operand<R: Numbered>(prefixes: Prefixes, place: RegisterOrMemory) -> Place<R>
+/// The r/m operand that an address byte spells, for registers of either width.
+fn operand<R: Numbered>(prefixes: Prefixes, place: RegisterOrMemory) -> RmOperand<R>
     ensures { result ≡ operand R.at prefixes place }
 {
     match place {
-        RegisterOrMemory::Register(number) => Place::Register(R::from_number(number)),
-        RegisterOrMemory::Indirect(base) => Place::Memory(based(prefixes, base, 0)),
-        RegisterOrMemory::Direct(offset) => Place::Memory(direct(prefixes, offset)),
+        RegisterOrMemory::Register(number) => RmOperand::Register(R::from_number(number)),
+        RegisterOrMemory::Indirect(base) => RmOperand::Memory(based(prefixes, base, 0)),
+        RegisterOrMemory::Direct(offset) => RmOperand::Memory(direct(prefixes, offset)),
         RegisterOrMemory::Near(base, byte) => {
-            Place::Memory(based(prefixes, base, sign_extended(byte)))
+            RmOperand::Memory(based(prefixes, base, sign_extended(byte)))
         }
-        RegisterOrMemory::Far(base, word) => Place::Memory(based(prefixes, base, word)),
+        RegisterOrMemory::Far(base, word) => RmOperand::Memory(based(prefixes, base, word)),
     }
 }
 
-fn byte_operand(prefixes: Prefixes, place: RegisterOrMemory) -> Place<Register8>
+/// The r/m operand of an instruction on bytes.
+fn byte_operand(prefixes: Prefixes, place: RegisterOrMemory) -> RmOperand<Register8>
     ensures { result ≡ byte_operand prefixes place }
 {
     operand(prefixes, place)
 }
 
-fn word_operand(prefixes: Prefixes, place: RegisterOrMemory) -> Place<Register16>
+/// The r/m operand of an instruction on words.
+fn word_operand(prefixes: Prefixes, place: RegisterOrMemory) -> RmOperand<Register16>
     ensures { result ≡ word_operand prefixes place }
 {
     operand(prefixes, place)
 }
 
-fn to_register<R, I>(register: R, place: Place<R>) -> Operands<R, I>
+/// The operands of an instruction whose target is a register.
+fn to_register<R, I>(register: R, place: RmOperand<R>) -> Operands<R, I>
     ensures { result ≡ to_register register place }
 {
     match place {
-        Place::Register(source) => Operands::FromRegister(Place::Register(register), source),
-        Place::Memory(memory) => Operands::FromMemory(register, memory),
+        RmOperand::Register(source) => Operands::FromRegister(
+            RmOperand::Register(register),
+            source,
+        ),
+        RmOperand::Memory(memory) => Operands::FromMemory(register, memory),
     }
 }
 
-fn exchanged_byte(register: Register8, place: Place<Register8>) -> Instr
+/// XCHG of a byte register with a register or memory.
+fn exchanged_byte(register: Register8, place: RmOperand<Register8>) -> Instr
     ensures { result ≡ exchanged_byte register place }
 {
     match place {
-        Place::Register(other) => Instr::ExchangeBytes(BytePair::of(register, other)),
-        Place::Memory(memory) => Instr::ExchangeMemoryByte(register, memory),
+        RmOperand::Register(other) => Instr::ExchangeBytes(BytePair::of(register, other)),
+        RmOperand::Memory(memory) => Instr::ExchangeMemoryByte(register, memory),
     }
 }
 
-fn exchanged_word(register: Register16, place: Place<Register16>) -> Instr
+/// XCHG of a word register with a register or memory.
+fn exchanged_word(register: Register16, place: RmOperand<Register16>) -> Instr
     ensures { result ≡ exchanged_word register place }
 {
     match place {
-        Place::Register(other) => Instr::ExchangeWords(WordPair::of(register, other)),
-        Place::Memory(memory) => Instr::ExchangeMemoryWord(register, memory),
+        RmOperand::Register(other) => Instr::ExchangeWords(WordPair::of(register, other)),
+        RmOperand::Memory(memory) => Instr::ExchangeMemoryWord(register, memory),
     }
 }
 
 /// LEA has no register for its operand.
-fn load_address(register: Register16, place: Place<Register16>) -> Option<Instr>
+fn load_address(register: Register16, place: RmOperand<Register16>) -> Option<Instr>
     ensures { result ≡ load_address register place }
 {
     match place {
-        Place::Register(_) => None,
-        Place::Memory(memory) => Some(Instr::LoadAddress(register, memory.address)),
+        RmOperand::Register(_) => None,
+        RmOperand::Memory(memory) => Some(Instr::LoadAddress(register, memory.address)),
     }
 }
 
-fn move_to_segment(segment: Option<LoadableSegment>, place: Place<Register16>) -> Option<Instr>
+/// MOV to a segment register; to CS there is none.
+fn move_to_segment(segment: Option<LoadableSegment>, place: RmOperand<Register16>) -> Option<Instr>
     ensures { result ≡ move_to_segment segment place }
 {
     match segment {
@@ -144,6 +160,7 @@ fn move_to_segment(segment: Option<LoadableSegment>, place: Place<Register16>) -
     }
 }
 
+/// The shift or rotation of a register field: 0 ROL, 1 ROR, 4 SHL, 5 SHR, 7 SAR.
 fn shift(number: u8) -> Option<ShiftOperation>
     ensures { result ≡ shift_at number }
 {
@@ -157,7 +174,8 @@ fn shift(number: u8) -> Option<ShiftOperation>
     }
 }
 
-fn byte_step(number: u8, place: Place<Register8>) -> Option<Instr>
+/// The group FEH by its register field: INC, DEC.
+fn byte_step(number: u8, place: RmOperand<Register8>) -> Option<Instr>
     ensures { result ≡ byte_step number place }
 {
     match number {
@@ -167,7 +185,8 @@ fn byte_step(number: u8, place: Place<Register8>) -> Option<Instr>
     }
 }
 
-fn word_step(number: u8, place: Place<Register16>) -> Option<Instr>
+/// The group FFH by its register field: INC, DEC, CALL, JMP, PUSH.
+fn word_step(number: u8, place: RmOperand<Register16>) -> Option<Instr>
     ensures { result ≡ word_step number place }
 {
     match number {
@@ -180,7 +199,8 @@ fn word_step(number: u8, place: Place<Register16>) -> Option<Instr>
     }
 }
 
-fn byte_unary(number: u8, place: Place<Register8>) -> Option<Instr>
+/// The group F6H by its register field, which is not 0.
+fn byte_unary(number: u8, place: RmOperand<Register8>) -> Option<Instr>
     ensures { result ≡ byte_unary number place }
 {
     match number {
@@ -194,7 +214,8 @@ fn byte_unary(number: u8, place: Place<Register8>) -> Option<Instr>
     }
 }
 
-fn word_unary(number: u8, place: Place<Register16>) -> Option<Instr>
+/// The group F7H by its register field, which is not 0.
+fn word_unary(number: u8, place: RmOperand<Register16>) -> Option<Instr>
     ensures { result ≡ word_unary number place }
 {
     match number {
@@ -209,14 +230,14 @@ fn word_unary(number: u8, place: Place<Register16>) -> Option<Instr>
 }
 
 /// What an opcode with an address byte says.
-#[tactic(auto, unfolding(crate::specs::Meaning::addressed_meaning))]
+#[tactic(auto, unfolding(crate::specs::Instructions::addressed_instruction))]
 fn addressed(
     prefixes: Prefixes,
     opcode: Opcode,
     number: u8,
     place: RegisterOrMemory,
 ) -> Option<Instr>
-    ensures { result ≡ addressed_meaning prefixes opcode number place }
+    ensures { result ≡ addressed_instruction prefixes opcode number place }
 {
     match opcode {
         Opcode::AluToPlace(operation, Width::Byte) => Some(Instr::AluByte(
@@ -321,7 +342,8 @@ pub(crate) fn is_short(number: u8) -> bool
     matches!(number, 0 | 2 | 3 | 5 | 7)
 }
 
-#[tactic(auto, unfolding(crate::specs::Meaning::addressed_byte_meaning))]
+/// The instruction of an opcode with an address byte and an immediate byte.
+#[tactic(auto, unfolding(crate::specs::Instructions::addressed_byte_instruction))]
 fn addressed_byte(
     prefixes: Prefixes,
     opcode: Opcode,
@@ -329,7 +351,7 @@ fn addressed_byte(
     place: RegisterOrMemory,
     immediate: u8,
 ) -> Option<Instr>
-    ensures { result ≡ addressed_byte_meaning prefixes opcode number place immediate }
+    ensures { result ≡ addressed_byte_instruction prefixes opcode number place immediate }
 {
     match opcode {
         Opcode::AluImmediate(Width::Byte) => Some(Instr::AluByte(
@@ -347,7 +369,8 @@ fn addressed_byte(
     }
 }
 
-#[tactic(auto, unfolding(crate::specs::Meaning::addressed_word_meaning))]
+/// The instruction of an opcode with an address byte and an immediate word.
+#[tactic(auto, unfolding(crate::specs::Instructions::addressed_word_instruction))]
 fn addressed_word(
     prefixes: Prefixes,
     opcode: Opcode,
@@ -355,7 +378,7 @@ fn addressed_word(
     place: RegisterOrMemory,
     immediate: u16,
 ) -> Option<Instr>
-    ensures { result ≡ addressed_word_meaning prefixes opcode number place immediate }
+    ensures { result ≡ addressed_word_instruction prefixes opcode number place immediate }
 {
     match opcode {
         Opcode::AluImmediate(Width::Word) => Some(Instr::AluWord(
@@ -380,21 +403,21 @@ fn exchanged_accumulator(register: Register16) -> Instr
 }
 
 /// What an opcode says that nothing follows.
-#[tactic(auto, unfolding(crate::specs::Meaning::plain_meaning))]
+#[tactic(auto, unfolding(crate::specs::Instructions::plain_instruction))]
 fn plain(prefixes: Prefixes, opcode: Opcode) -> Option<Instr>
-    ensures { result ≡ plain_meaning prefixes opcode }
+    ensures { result ≡ plain_instruction prefixes opcode }
 {
     let instruction = match opcode {
         Opcode::PushSegment(segment) => Instr::PushSegment(segment),
         Opcode::PopSegment(segment) => Instr::PopSegment(segment),
         Opcode::Increment(register) => {
-            Instr::UnaryWord(UnaryOperation::Inc, Place::Register(register))
+            Instr::UnaryWord(UnaryOperation::Inc, RmOperand::Register(register))
         }
         Opcode::Decrement(register) => {
-            Instr::UnaryWord(UnaryOperation::Dec, Place::Register(register))
+            Instr::UnaryWord(UnaryOperation::Dec, RmOperand::Register(register))
         }
-        Opcode::Push(register) => Instr::Push(Place::Register(register)),
-        Opcode::Pop(register) => Instr::Pop(Place::Register(register)),
+        Opcode::Push(register) => Instr::Push(RmOperand::Register(register)),
+        Opcode::Pop(register) => Instr::Pop(RmOperand::Register(register)),
         Opcode::ExchangeAccumulator(register) => exchanged_accumulator(register),
         Opcode::ConvertByte => Instr::ConvertByte,
         Opcode::ConvertWord => Instr::ConvertWord,
@@ -427,21 +450,21 @@ fn plain(prefixes: Prefixes, opcode: Opcode) -> Option<Instr>
 }
 
 /// What an opcode says that a byte follows.
-#[tactic(auto, unfolding(crate::specs::Meaning::byte_meaning))]
+#[tactic(auto, unfolding(crate::specs::Instructions::byte_instruction))]
 fn with_byte(opcode: Opcode, number: u8) -> Option<Instr>
-    ensures { result ≡ byte_meaning opcode number }
+    ensures { result ≡ byte_instruction opcode number }
 {
     match opcode {
         Opcode::AluAccumulator(operation, Width::Byte) => Some(Instr::AluByte(
             operation,
-            Operands::Immediate(Place::Register(Register8::Al), number),
+            Operands::Immediate(RmOperand::Register(Register8::Al), number),
         )),
         Opcode::TestAccumulator(Width::Byte) => Some(Instr::TestByte(
-            Place::Register(Register8::Al),
+            RmOperand::Register(Register8::Al),
             TestMask::Immediate(number),
         )),
         Opcode::MoveRegisterByte(register) => Some(Instr::MoveByte(Operands::Immediate(
-            Place::Register(register),
+            RmOperand::Register(register),
             number,
         ))),
         Opcode::JumpIf(condition) => Some(Instr::JumpIf(condition, number)),
@@ -455,21 +478,21 @@ fn with_byte(opcode: Opcode, number: u8) -> Option<Instr>
 }
 
 /// What an opcode says that a word follows.
-#[tactic(auto, unfolding(crate::specs::Meaning::word_meaning))]
+#[tactic(auto, unfolding(crate::specs::Instructions::word_instruction))]
 fn with_word(prefixes: Prefixes, opcode: Opcode, number: u16) -> Option<Instr>
-    ensures { result ≡ word_meaning prefixes opcode number }
+    ensures { result ≡ word_instruction prefixes opcode number }
 {
     match opcode {
         Opcode::AluAccumulator(operation, Width::Word) => Some(Instr::AluWord(
             operation,
-            Operands::Immediate(Place::Register(Register16::Ax), number),
+            Operands::Immediate(RmOperand::Register(Register16::Ax), number),
         )),
         Opcode::TestAccumulator(Width::Word) => Some(Instr::TestWord(
-            Place::Register(Register16::Ax),
+            RmOperand::Register(Register16::Ax),
             TestMask::Immediate(number),
         )),
         Opcode::MoveRegisterWord(register) => Some(Instr::MoveWord(Operands::Immediate(
-            Place::Register(register),
+            RmOperand::Register(register),
             number,
         ))),
         Opcode::MoveFromDirect(Width::Byte) => Some(Instr::MoveByte(Operands::FromMemory(
@@ -481,11 +504,11 @@ fn with_word(prefixes: Prefixes, opcode: Opcode, number: u16) -> Option<Instr>
             direct(prefixes, number),
         ))),
         Opcode::MoveToDirect(Width::Byte) => Some(Instr::MoveByte(Operands::FromRegister(
-            Place::Memory(direct(prefixes, number)),
+            RmOperand::Memory(direct(prefixes, number)),
             Register8::Al,
         ))),
         Opcode::MoveToDirect(Width::Word) => Some(Instr::MoveWord(Operands::FromRegister(
-            Place::Memory(direct(prefixes, number)),
+            RmOperand::Memory(direct(prefixes, number)),
             Register16::Ax,
         ))),
         Opcode::ReturnDropping => Some(Instr::ReturnDropping(number)),
@@ -495,8 +518,9 @@ fn with_word(prefixes: Prefixes, opcode: Opcode, number: u16) -> Option<Instr>
     }
 }
 
+/// The instruction of an opcode with two words: the far JMP, offset first.
 fn with_two_words(opcode: Opcode, first: u16, second: u16) -> Option<Instr>
-    ensures { result ≡ two_words_meaning opcode first second }
+    ensures { result ≡ two_words_instruction opcode first second }
 {
     match opcode {
         Opcode::JumpFar => Some(Instr::JumpFar {
@@ -507,6 +531,7 @@ fn with_two_words(opcode: Opcode, first: u16, second: u16) -> Option<Instr>
     }
 }
 
+/// The instruction of the groups F6H and F7H where the register field is not 0.
 fn unary(
     prefixes: Prefixes,
     opcode: Opcode,
@@ -514,7 +539,7 @@ fn unary(
     number: u8,
     place: RegisterOrMemory,
 ) -> Option<Instr>
-    ensures { result ≡ unary_meaning prefixes opcode width number place }
+    ensures { result ≡ unary_instruction prefixes opcode width number place }
 {
     match (opcode, width) {
         (Opcode::UnaryGroup(Width::Byte), Width::Byte) => {
@@ -527,8 +552,9 @@ fn unary(
     }
 }
 
+/// TEST of a byte with an immediate byte.
 fn test_byte(prefixes: Prefixes, opcode: Opcode, place: RegisterOrMemory, mask: u8) -> Option<Instr>
-    ensures { result ≡ test_byte_meaning prefixes opcode place mask }
+    ensures { result ≡ test_byte_instruction prefixes opcode place mask }
 {
     match opcode {
         Opcode::UnaryGroup(Width::Byte) => Some(Instr::TestByte(
@@ -539,13 +565,14 @@ fn test_byte(prefixes: Prefixes, opcode: Opcode, place: RegisterOrMemory, mask: 
     }
 }
 
+/// TEST of a word with an immediate word.
 fn test_word(
     prefixes: Prefixes,
     opcode: Opcode,
     place: RegisterOrMemory,
     mask: u16,
 ) -> Option<Instr>
-    ensures { result ≡ test_word_meaning prefixes opcode place mask }
+    ensures { result ≡ test_word_instruction prefixes opcode place mask }
 {
     match opcode {
         Opcode::UnaryGroup(Width::Word) => Some(Instr::TestWord(
@@ -556,9 +583,10 @@ fn test_word(
     }
 }
 
-#[tactic(auto, unfolding(crate::specs::Meaning::meaning))]
-fn meaning(prefixes: Prefixes, opcode: Opcode, fields: Fields) -> Option<Instr>
-    ensures { result ≡ meaning prefixes opcode fields }
+/// The instruction of an opcode and its fields, whatever the rule on F3H says.
+#[tactic(auto, unfolding(crate::specs::Instructions::instruction_from))]
+fn instruction_from(prefixes: Prefixes, opcode: Opcode, fields: Fields) -> Option<Instr>
+    ensures { result ≡ instruction_from prefixes opcode fields }
 {
     match fields {
         Fields::Nothing => plain(prefixes, opcode),
@@ -579,6 +607,7 @@ fn meaning(prefixes: Prefixes, opcode: Opcode, fields: Fields) -> Option<Instr>
 }
 
 impl Opcode {
+    /// Whether F3H may stand before the opcode: MOVS and STOS.
     fn is_string(self) -> bool
         ensures { result ≡ is_string self }
     {
@@ -588,13 +617,13 @@ impl Opcode {
 
 impl Form {
     /// The instruction that a form is, where it is one.
-    #[tactic(auto, unfolding(crate::specs::Meaning::instruction_of))]
+    #[tactic(auto, unfolding(crate::specs::Instructions::instruction_of))]
     pub fn instruction(&self) -> Option<Instr>
         ensures { result ≡ instruction_of self.now }
     {
         if self.prefixes.repeats() && !self.opcode.is_string() {
             return None;
         }
-        meaning(self.prefixes, self.opcode, self.fields)
+        instruction_from(self.prefixes, self.opcode, self.fields)
     }
 }

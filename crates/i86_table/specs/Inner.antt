@@ -1,0 +1,2 @@
+pub mod RegisterFile
+pub mod LateFlags

@@ -1,0 +1,28 @@
+//! Laws of the arithmetic, in terms of numbers with sign, powers of two, quotients and remainders.
+
+ghost use Rattle.i86_table.specs.ArithmeticLaws.{OverflowLaws, ShiftLaws, RotationLaws, ProductLaws, QuotientLaws};
+
+/// The law that OF is set exactly where a result with sign leaves the range of its width.
+pub fn overflow_laws()
+    ensures { OverflowLaws }
+{}
+
+/// The laws that a shift multiplies or divides by a power of two, and which bit CF is.
+pub fn shift_laws()
+    ensures { ShiftLaws }
+{}
+
+/// The laws that a rotation turns the bits round, and which bit CF is.
+pub fn rotation_laws()
+    ensures { RotationLaws }
+{}
+
+/// The laws that MUL and IMUL multiply, and when CF and OF are set.
+pub fn product_laws()
+    ensures { ProductLaws }
+{}
+
+/// The laws that DIV and IDIV divide, and when they are a fault.
+pub fn quotient_laws()
+    ensures { QuotientLaws }
+{}
