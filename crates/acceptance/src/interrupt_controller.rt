@@ -72,6 +72,54 @@ fn specific_end(rt: HostRuntime) -> Result<(), Fail> {
     Ok(())
 }
 
+// OCW3 chooses the register only where bit 1 is 1 and bit 7 is 0: 8BH leaves the choice of 0AH, the requests.
+#[test]
+fn register_choice_kept(rt: HostRuntime) -> Result<(), Fail> {
+    let mut pic = started(false);
+    pic.pulse(1);
+    assert_eq!(rt; taken(&mut pic), Some(9));
+    pic.pulse(4);
+    pic.write(0, 0x0A);
+    pic.write(0, 0x8B);
+    assert_eq!(rt; pic.read(0), 0x10);
+    pic.write(0, 0x08);
+    assert_eq!(rt; pic.read(0), 0x10);
+    pic.write(0, 0x0B);
+    assert_eq!(rt; pic.read(0), 0x02);
+    Ok(())
+}
+
+// Of OCW2's commands the plain and the specific end of interrupt alone end one: rotations and the others end nothing.
+#[test]
+fn other_commands_end_nothing(rt: HostRuntime) -> Result<(), Fail> {
+    let mut pic = started(false);
+    pic.pulse(0);
+    assert_eq!(rt; taken(&mut pic), Some(8));
+    pic.write(0, 0x0B);
+    for word in [0xA0, 0xE0, 0x40, 0xC0, 0x00, 0x80] {
+        pic.write(0, word);
+        assert_eq!(rt; pic.read(0), 0x01);
+        pic.pulse(1);
+        assert!(rt; !pic.int_line());
+    }
+    pic.write(0, 0x20);
+    assert_eq!(rt; pic.read(0), 0);
+    assert_eq!(rt; taken(&mut pic), Some(9));
+    Ok(())
+}
+
+// There are eight request lines: a greater number does nothing.
+#[test]
+fn no_ninth_line(rt: HostRuntime) -> Result<(), Fail> {
+    let mut pic = started(false);
+    for level in [8, 9, 255] {
+        pic.pulse(level);
+        assert_eq!(rt; pic.read(0), 0);
+        assert!(rt; !pic.int_line());
+    }
+    Ok(())
+}
+
 // A mask holds a request back without dropping it, and reads back.
 #[test]
 fn mask_during_service(rt: HostRuntime) -> Result<(), Fail> {

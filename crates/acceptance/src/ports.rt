@@ -77,10 +77,10 @@ fn reset_reads(rt: HostRuntime) -> Result<(), Fail> {
 #[test]
 fn gate_and_out_of_channel_two(rt: HostRuntime) -> Result<(), Fail> {
     let mut ports = set(&[(0x63, 0x99), (0x43, 0x94), (0x42, 2)]);
-    ports.event(Event::Tick(2));
+    ports.comes(Event::Tick(2));
     assert_eq!(rt; ports.read(0x62), 0x20);
     ports.write(0x61, 1);
-    ports.event(Event::Tick(2));
+    ports.comes(Event::Tick(2));
     assert_eq!(rt; ports.read(0x62), 0);
     ports.write(0x61, 0);
     assert_eq!(rt; ports.read(0x62), 0x20);
@@ -91,8 +91,8 @@ fn gate_and_out_of_channel_two(rt: HostRuntime) -> Result<(), Fail> {
 #[test]
 fn two_keys(rt: HostRuntime) -> Result<(), Fail> {
     let mut ports = set(&STARTED);
-    ports.event(Event::Key(0x1E));
-    ports.event(Event::Key(0x30));
+    ports.comes(Event::Key(0x1E));
+    ports.comes(Event::Key(0x30));
     assert_eq!(rt; taken(&mut ports), Some(9));
     assert_eq!(rt; taken(&mut ports), None);
     assert_eq!(rt; ports.read(0x60), 0x1E);
@@ -109,7 +109,7 @@ fn two_keys(rt: HostRuntime) -> Result<(), Fail> {
 fn eighteen_keys(rt: HostRuntime) -> Result<(), Fail> {
     let mut ports = set(&STARTED);
     for code in 1..=18u8 {
-        ports.event(Event::Key(code));
+        ports.comes(Event::Key(code));
     }
     for code in 1..=17u8 {
         assert_eq!(rt; taken(&mut ports), Some(9));
@@ -127,10 +127,32 @@ fn eighteen_keys(rt: HostRuntime) -> Result<(), Fail> {
 fn keys_wait_while_cleared(rt: HostRuntime) -> Result<(), Fail> {
     let mut ports = set(&STARTED);
     ports.write(0x61, 0x80);
-    ports.event(Event::Key(0x1E));
+    ports.comes(Event::Key(0x1E));
     assert_eq!(rt; taken(&mut ports), None);
     ports.write(0x61, 0);
     assert_eq!(rt; taken(&mut ports), Some(9));
+    Ok(())
+}
+
+// While port B is an input its lines are 0, whatever its latch holds: 81H there neither clears the keyboard nor raises the gate
+// of channel 2. The mode word 99H makes B an output and clears the latch, so nothing is driven then either.
+#[test]
+fn latch_of_an_input(rt: HostRuntime) -> Result<(), Fail> {
+    let mut ports = set(&[(0x43, 0x94), (0x42, 2), (0x61, 0x81)]);
+    ports.comes(Event::Key(0x1E));
+    assert_eq!(rt; ports.read(0x60), 0x1E);
+    ports.comes(Event::Tick(2));
+    assert_eq!(rt; ports.read(0x62), 0x20);
+    assert_eq!(rt; ports.read(0x42), 0);
+    ports.write(0x63, 0x99);
+    assert_eq!(rt; ports.read(0x61), 0);
+    assert_eq!(rt; ports.read(0x60), 0x1E);
+    ports.comes(Event::Tick(2));
+    assert_eq!(rt; ports.read(0x42), 0);
+    ports.write(0x61, 0x81);
+    assert_eq!(rt; ports.read(0x60), 0);
+    ports.comes(Event::Tick(2));
+    assert_eq!(rt; ports.read(0x42), 1);
     Ok(())
 }
 
@@ -140,9 +162,9 @@ fn timer_requests(rt: HostRuntime) -> Result<(), Fail> {
     let mut ports = set(&STARTED);
     ports.write(0x43, 0x14);
     ports.write(0x40, 4);
-    ports.event(Event::Tick(4));
+    ports.comes(Event::Tick(4));
     assert_eq!(rt; taken(&mut ports), None);
-    ports.event(Event::Tick(1));
+    ports.comes(Event::Tick(1));
     assert_eq!(rt; taken(&mut ports), Some(8));
     ports.write(0x43, 0x10);
     assert_eq!(rt; taken(&mut ports), None);
@@ -161,7 +183,7 @@ fn words(rt: HostRuntime) -> Result<(), Fail> {
     ports.write_word(0x43, 0x0034);
     ports.write_word(0x3F, 0x0500);
     ports.write(0x40, 0);
-    ports.event(Event::Tick(1));
+    ports.comes(Event::Tick(1));
     assert_eq!(rt; ports.read(0x40), 5);
     Ok(())
 }
@@ -173,7 +195,7 @@ fn list_of_calls(rt: HostRuntime) -> Result<(), Fail> {
         Call::Acknowledge,
         Call::WriteWord(0x20, 0x0813),
         Call::Write(0x21, 1),
-        Call::Befall(Event::Key(0x1E)),
+        Call::Comes(Event::Key(0x1E)),
         Call::Line,
         Call::Acknowledge,
         Call::Read(0x60),

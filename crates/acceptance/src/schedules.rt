@@ -34,6 +34,8 @@ fn refuses_the_first_faulty_line(rt: HostRuntime) {
         (b"stop 9", 1, Number::E701),
         (b"STOP 9\nSTOP 10", 2, Number::E702),
         (b"STOP 9\nx", 2, Number::E701),
+        (b"STOP 9\nFILL 00", 2, Number::E702),
+        (b"STOP 9\nAT 1 KEY 11", 2, Number::E702),
         (b"AT 1 KEY 11\nFILL 00\nSTOP 9", 2, Number::E702),
         (b"FILL 00\nFILL 00\nSTOP 9", 2, Number::E702),
         (b"AT 3 KEY 11\nAT 2 KEY 11\nSTOP 9", 2, Number::E702),

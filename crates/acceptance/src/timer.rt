@@ -19,7 +19,7 @@ fn latched_word(pit: &mut Pit) -> u16 {
     u16::from(low) + 256 * u16::from(pit.read(0))
 }
 
-// Mode 2: OUT rises behind the fifth pulse, and a latch holds the count.
+// Mode 2: OUT rises at the fifth pulse, and a latch holds the count.
 #[test]
 fn rate_rises(rt: HostRuntime) -> Result<(), Fail> {
     let mut pit = set(&[(3, 0x14), (0, 4)]);
@@ -103,7 +103,7 @@ fn terminal_count_rewritten_by_two_bytes(rt: HostRuntime) -> Result<(), Fail> {
     Ok(())
 }
 
-/// Whether channel 0's counts and levels of OUT are these, pulse by pulse, from the first pulse on.
+/// Whether channel 0's counts and OUT are these, pulse by pulse, from the first pulse on.
 fn counts_as(pit: &mut Pit, steps: &[(u8, bool)]) -> bool {
     let mut same = true;
     for (count, high) in steps {
@@ -160,7 +160,7 @@ fn period_of_one(rt: HostRuntime) -> Result<(), Fail> {
     Ok(())
 }
 
-// A written 0 is 65,536: OUT of mode 2 is low at the last pulse of so many.
+// A written 0 is 65,536: OUT of mode 2 is low at the last of these pulses.
 #[test]
 fn count_of_zero(rt: HostRuntime) -> Result<(), Fail> {
     let mut pit = set(&[(3, 0x34), (0, 0), (0, 0)]);
@@ -202,6 +202,48 @@ fn latch_between_two_bytes(rt: HostRuntime) -> Result<(), Fail> {
     assert_eq!(rt; pit.read(0), 0x34);
     assert_eq!(rt; pit.read(0), 0x12);
     assert_eq!(rt; pit.read(0), 0);
+    Ok(())
+}
+
+// A control word ends a latch: what is read afterwards is the running count.
+#[test]
+fn control_word_ends_a_latch(rt: HostRuntime) -> Result<(), Fail> {
+    let mut pit = set(&[(3, 0x14), (0, 9)]);
+    pit.pulse(2);
+    pit.write(3, 0);
+    pit.write(3, 0x14);
+    pit.write(0, 5);
+    pit.pulse(1);
+    assert_eq!(rt; pit.read(0), 5);
+    pit.pulse(1);
+    assert_eq!(rt; pit.read(0), 4);
+    Ok(())
+}
+
+// Bits 3 to 1 as 110 and 111 are modes 2 and 3 too: of a count of 4, the first falls by one and the second by two.
+#[test]
+fn modes_of_three_bits(rt: HostRuntime) -> Result<(), Fail> {
+    let mut rate = set(&[(3, 0x1C), (0, 4)]);
+    let steps = [(4, true), (3, true), (2, true), (1, false), (4, true)];
+    assert!(rt; counts_as(&mut rate, &steps));
+    let mut square = set(&[(3, 0x1E), (0, 4)]);
+    let steps = [(4, true), (2, true), (4, false), (2, false), (4, true)];
+    assert!(rt; counts_as(&mut square, &steps));
+    Ok(())
+}
+
+// A control word between the two bytes of a count, and of a reading, begins both with the low byte again.
+#[test]
+fn control_word_between_two_bytes(rt: HostRuntime) -> Result<(), Fail> {
+    let mut pit = set(&[(3, 0x34), (0, 0x77), (3, 0x34), (0, 0x34), (0, 0x12)]);
+    pit.pulse(1);
+    assert_eq!(rt; pit.read(0), 0x34);
+    pit.write(3, 0x34);
+    pit.write(0, 0x78);
+    pit.write(0, 0x56);
+    pit.pulse(1);
+    assert_eq!(rt; pit.read(0), 0x78);
+    assert_eq!(rt; pit.read(0), 0x56);
     Ok(())
 }
 
@@ -263,7 +305,7 @@ fn segments_of_a_long_run(rt: HostRuntime) -> Result<(), Fail> {
     Ok(())
 }
 
-// By arithmetic or pulse by pulse: the same rises, levels of OUT and counts.
+// By arithmetic or pulse by pulse: the same rises, OUT and counts.
 #[test]
 fn both_bodies(rt: HostRuntime) -> Result<(), Fail> {
     for count in 0..=9u8 {

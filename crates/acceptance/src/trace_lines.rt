@@ -1,6 +1,6 @@
 //! The printed texts, whose forms users rely on.
 
-use listing_map::{fault_line, trace_line};
+use listing_map::{fault_line, put_end_line, put_opcode_line, trace_line};
 use std::test::Fail;
 use word86::{CutSink, Fault, Label, Number};
 
@@ -22,6 +22,20 @@ fn writes_each_label(rt: HostRuntime) -> Result<(), Fail> {
         assert_eq!(rt; trace_line(&label, &mut sink), Ok(()));
         assert_eq!(rt; sink.bytes(), text.as_bytes());
     }
+    Ok(())
+}
+
+#[test]
+fn writes_the_last_line(rt: HostRuntime) -> Result<(), Fail> {
+    let mut sink = CutSink::new(rt.alloc(), 100, 1)?;
+    assert!(rt; put_end_line(0, &mut sink).is_ok());
+    assert!(rt; put_end_line(4294967295, &mut sink).is_ok());
+    assert!(rt; put_opcode_line(0xFE00A, &mut sink).is_ok());
+    assert!(rt; put_opcode_line(0x400, &mut sink).is_ok());
+    assert_eq!(rt;
+        sink.bytes(),
+        b"END 0\nEND 4294967295\nOPCODE FE00A\nOPCODE 00400\n".as_slice()
+    );
     Ok(())
 }
 

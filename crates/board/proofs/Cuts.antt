@@ -1,6 +1,6 @@
 use Rattle.std.proofs.Common.{◌≡◌, ◌≢◌, ◌∙◌, ◌<◌, ◌≤◌, ◌-◌, ℕ, zero, suc, true, false, List, [], ◌∷◌, length, take, drop, ap, sym, refl, slice_index, arith, nat_eq, inl, inr, ◌⊎◌}
 use Rattle.std.specs.List.Sorted.{IsNonDecreasingBy}
-use Rattle.board.specs.Due.{due_at}
+use Rattle.board.specs.Timetable.{due_at}
 use Rattle.std.proofs.lemmas.List.{get_or-drop, length-drop}
 use Rattle.std.proofs.Common.{◌+◌}
 

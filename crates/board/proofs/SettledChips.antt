@@ -7,7 +7,7 @@ use Rattle.word86.specs.declared.event.Event.{Event}
 use Rattle.word86.specs.declared.event.Event.TheVariants.{Tick, Key}
 use Rattle.pit8253.specs.Timer as pit
 use Rattle.pit8253.specs.Timer.{AlikeTimers}
-use Rattle.pit8253.specs.ShownTimer.{timer_shown}
+use Rattle.pit8253.specs.Pit.{timer_shown}
 use Rattle.pic8259.specs.Controller as pic
 use Rattle.ppi_kbd.specs.declared.device.Device.{Device}
 use Rattle.ppi_kbd.specs.declared.device.Device.TheVariants as devices
@@ -16,8 +16,8 @@ use Rattle.ppi_kbd.specs.Device.{device_of}
 use Rattle.ppi_kbd.specs.Interface as ppi
 use Rattle.ppi_kbd.specs.Keyboard as keys
 use Rattle.ppi_kbd.specs.Chips.{ChipState, raised, retimed, typed, driven, clear_line, device_value, device_read, device_written, next_port, value, reading, writing, comes, acknowledged, byte_value}
-use Rattle.ppi_kbd.specs.ShownPorts.{Shows}
-use Rattle.board.specs.Settled.{settled_timer, settled, chips_of}
+use Rattle.ppi_kbd.specs.Ports.{Shows}
+use Rattle.board.specs.Inner.Settled.{settled_timer, settled, chips_of}
 use Rattle.board.proofs.Settling.{timer_same, timer_alike, timer_settled, timers_trans, timers_sym, written_times, read_times, gated_times, pulses_times, out_same, answer_same, rose_settled}
 
 -- a change of the chips that keeps alike states alike

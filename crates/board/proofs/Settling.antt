@@ -8,7 +8,7 @@ use Rattle.pit8253.specs.Progress.{Progress, Still, Once, Again, Alike, SamePhas
 use Rattle.pit8253.specs.Timer.{Counter, Timer, AlikeCounters, AlikeTimers, written, read, gated, command, pulses, out, rose, answer, on, timer_written, timer_read, timer_answer, timer_gated, timer_out, timer_pulses}
 use Rattle.pit8253.proofs.EachCall.{at_progress, alike_written, alike_read, alike_gated, alike_command, alike_answer}
 use Rattle.pit8253.proofs.Compose.{alike_pulses, alike_out, alike_counters_sym, alike_counters_trans}
-use Rattle.board.specs.Settled.{settled_once, settled_phase, settled_progress, settled_counter, settled_timer}
+use Rattle.board.specs.Inner.Settled.{settled_once, settled_phase, settled_progress, settled_counter, settled_timer}
 
 -- ---- pulses
 

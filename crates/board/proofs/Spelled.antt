@@ -8,36 +8,36 @@ use Rattle.word86.specs.declared.number.Number.TheVariants.{E702}
 use Rattle.std.proofs.Math.Seq.{get_or-append_seam}
 use Rattle.board.specs.declared.reading.Item.{Item}
 use Rattle.board.specs.declared.reading.Item.TheVariants.{Fill, At, Stop}
-use Rattle.board.specs.Due.{last_turn}
-use Rattle.board.specs.Schedules.{Text, View, item_of, is_skipped, start, with_item, with_line, read_lines, fault_of, fault_from, failed}
+use Rattle.board.specs.Timetable.{last_turn}
+use Rattle.board.specs.Schedule.{Text, View, item_of, is_skipped, start, with_item, with_line, read_lines, fault_of, fault_from, failed}
 use Rattle.board.specs.Spelling.{Due, Plan, fill_items, items_of, IsInOrder, said, lines_in, Spells, IsPlan}
 
 -- what is read so far but for lines and faults
-record Core : Type 0 where
-  fill : Option ℕ
-  turns : List ℕ
-  events : List Event
-  stop : Option ℕ
+pub record Core : Type 0 where
+  pub fill : Option ℕ
+  pub turns : List ℕ
+  pub events : List Event
+  pub stop : Option ℕ
 
-abbrev core : View → Core
+abbrev pub core : View → Core
 core v = record { fill = v.fill; turns = v.turns; events = v.events; stop = v.stop }
 
 -- the item is out of order
-abbrev bad : Item → Core → Bool
+abbrev pub bad : Item → Core → Bool
 bad (Fill b) c = is_some c.fill || is_some c.stop || not (length c.turns == 0)
 bad (At n e) c = is_some c.stop || (not (length c.turns == 0) && nat_lt n (last_turn c.turns))
 bad (Stop n) c = is_some c.stop || (not (length c.turns == 0) && nat_le n (last_turn c.turns))
 
-abbrev add : Item → Core → Core
+abbrev pub add : Item → Core → Core
 add (Fill b) c = record c { fill = Some b }
 add (At n e) c = record c { turns = c.turns ++ n ∷ []; events = c.events ++ e ∷ [] }
 add (Stop n) c = record c { stop = Some n }
 
-abbrev adds : List Item → Core → Core
+abbrev pub adds : List Item → Core → Core
 adds [] c = c
 adds (x ∷ xs) c = adds xs (add x c)
 
-abbrev Goes : List Item → Core → Type 0
+abbrev pub Goes : List Item → Core → Type 0
 Goes [] c = Unit {0}
 Goes (x ∷ xs) c = (bad x c ≡ false) × Goes xs (add x c)
 
@@ -46,15 +46,15 @@ taken_item (Fill b) v e = ap (λ t. if t then failed E702 v else record v { fill
 taken_item (At n d) v e = ap (λ t. if t then failed E702 v else record v { turns = v.turns ++ n ∷ []; events = v.events ++ d ∷ [] }) e
 taken_item (Stop n) v e = ap (λ t. if t then failed E702 v else record v { stop = Some n }) e
 
-refused_item : (x : Item) (v : View) → bad x (core v) ≡ true → with_item (Some x) v ≡ failed E702 v
+pub refused_item : (x : Item) (v : View) → bad x (core v) ≡ true → with_item (Some x) v ≡ failed E702 v
 refused_item (Fill b) v e = ap (λ t. if t then failed E702 v else record v { fill = Some b }) e
 refused_item (At n d) v e = ap (λ t. if t then failed E702 v else record v { turns = v.turns ++ n ∷ []; events = v.events ++ d ∷ [] }) e
 refused_item (Stop n) v e = ap (λ t. if t then failed E702 v else record v { stop = Some n }) e
 
-none_some : {A : Type 0} (a : A) → None ≡ Some a → ⊥
+pub none_some : {A : Type 0} (a : A) → None ≡ Some a → ⊥
 none_some a e = cc
 
-true_false : true ≡ false → ⊥
+pub true_false : true ≡ false → ⊥
 true_false e = cc
 
 le-false : (n m : ℕ) → m < n → nat_le n m ≡ false
@@ -63,10 +63,10 @@ le-false n m lt = grind (arith, nat_tests)
 lt-false : (n m : ℕ) → m ≤ n → nat_lt n m ≡ false
 lt-false n m le = grind (arith, nat_tests)
 
-le-true : (n m : ℕ) → nat_le n m ≡ false → m < n
+pub le-true : (n m : ℕ) → nat_le n m ≡ false → m < n
 le-true n m e = grind (arith, nat_tests)
 
-lt-true : (n m : ℕ) → nat_lt n m ≡ false → m ≤ n
+pub lt-true : (n m : ℕ) → nat_lt n m ≡ false → m ≤ n
 lt-true n m e = grind (arith, nat_tests)
 
 positive : (n : ℕ) → 0 < n → not (n == 0) ≡ true
@@ -76,17 +76,17 @@ none_yet : (ts : List ℕ) (n : ℕ) → (length ts == 0) ≡ true → last_turn
 none_yet [] n e = omega arith
 none_yet (t ∷ ts) n e = absurd (let x : length (t ∷ ts) ≡ 0 = grind (arith, nat_tests) in omega (arith, x))
 
-middle : (a b c : Bool) → b ≡ true → (a || b || c) ≡ true
+pub middle : (a b c : Bool) → b ≡ true → (a || b || c) ≡ true
 middle true b c e = refl
 middle false b c e = ap (λ t. t || c) e
 
-cons_nil : {A : Type 0} (x : A) (xs : List A) → x ∷ xs ≡ [] → ⊥
+pub cons_nil : {A : Type 0} (x : A) (xs : List A) → x ∷ xs ≡ [] → ⊥
 cons_nil x xs e = cc
 
-head_same : {A : Type 0} (x y : A) (xs ys : List A) → x ∷ xs ≡ y ∷ ys → x ≡ y
+pub head_same : {A : Type 0} (x y : A) (xs ys : List A) → x ∷ xs ≡ y ∷ ys → x ≡ y
 head_same x y xs ys e = cc
 
-tail_same : {A : Type 0} (x y : A) (xs ys : List A) → x ∷ xs ≡ y ∷ ys → xs ≡ ys
+pub tail_same : {A : Type 0} (x y : A) (xs ys : List A) → x ∷ xs ≡ y ∷ ys → xs ≡ ys
 tail_same x y xs ys e = cc
 
 some_same : (m n : ℕ) → Some m ≡ Some n → m ≡ n
@@ -95,33 +95,33 @@ some_same m n e = cc
 -- ---- lines and items
 
 -- what the lines left lead to
-abbrev after : List Text → View → View
+abbrev pub after : List Text → View → View
 after ls v = fold with_line v ls
 
-abbrev counted : View → View
+abbrev pub counted : View → View
 counted v = record v { line = min (v.line + 1) (2 ^ 32 - 1) }
 
 -- the view after an item
-abbrev with_core : Core → View → View
+abbrev pub with_core : Core → View → View
 with_core c v = record { fill = c.fill; turns = c.turns; events = c.events; stop = c.stop; line = v.line; fault = v.fault }
 
 line_faulty : (l : Text) (v : View) → is_some v.fault ≡ true → with_line v l ≡ v
 line_faulty l v h = ap (λ t. if t then v else (if is_skipped l then counted v else with_item (item_of l) (counted v))) h
 
-line_skipped : (l : Text) (v : View) → v.fault ≡ None → is_skipped l ≡ true → with_line v l ≡ counted v
+pub line_skipped : (l : Text) (v : View) → v.fault ≡ None → is_skipped l ≡ true → with_line v l ≡ counted v
 line_skipped l v none e =
     ap (λ t. if t then v else (if is_skipped l then counted v else with_item (item_of l) (counted v))) (ap is_some none)
     ∙ ap (λ t. if t then counted v else with_item (item_of l) (counted v)) e
 
-line_said : (l : Text) (v : View) → v.fault ≡ None → is_skipped l ≡ false → with_line v l ≡ with_item (item_of l) (counted v)
+pub line_said : (l : Text) (v : View) → v.fault ≡ None → is_skipped l ≡ false → with_line v l ≡ with_item (item_of l) (counted v)
 line_said l v none e =
     ap (λ t. if t then v else (if is_skipped l then counted v else with_item (item_of l) (counted v))) (ap is_some none)
     ∙ ap (λ t. if t then counted v else with_item (item_of l) (counted v)) e
 
-line_taken : (l : Text) (v : View) (x : Item) → v.fault ≡ None → is_skipped l ≡ false → item_of l ≡ Some x → bad x (core v) ≡ false → with_line v l ≡ with_core (add x (core v)) (counted v)
+pub line_taken : (l : Text) (v : View) (x : Item) → v.fault ≡ None → is_skipped l ≡ false → item_of l ≡ Some x → bad x (core v) ≡ false → with_line v l ≡ with_core (add x (core v)) (counted v)
 line_taken l v x none e i g = line_said l v none e ∙ ap (λ o. with_item o (counted v)) i ∙ taken_item x (counted v) g
 
-stuck : (ls : List Text) (v : View) → is_some v.fault ≡ true → after ls v ≡ v
+pub stuck : (ls : List Text) (v : View) → is_some v.fault ≡ true → after ls v ≡ v
 stuck [] v h = refl
 stuck (l ∷ ls) v h = ap (after ls) (line_faulty l v h) ∙ stuck ls v h
 
@@ -131,10 +131,10 @@ broken l ls v u e h end =
     let same : after (l ∷ ls) v ≡ u = ap (after ls) e ∙ stuck ls u h in
     true_false (sym h ∙ ap is_some (sym (ap (λ (x : View). x.fault) same) ∙ end))
 
-abbrev Read : List Text → View → List Item → Type 0
+abbrev pub Read : List Text → View → List Item → Type 0
 Read ls v items = ((after ls v).fault ≡ None) × (core (after ls v) ≡ adds items (core v))
 
-abbrev Forward : List Text → Type 0
+abbrev pub Forward : List Text → Type 0
 Forward ls = (v : View) (items : List Item) → map item_of (said ls) ≡ map Some items → v.fault ≡ None → Goes items (core v) → Read ls v items
 
 forward_line : (t : Bool) (l : Text) (ls : List Text) → Forward ls → is_skipped l ≡ t → (v : View) (items : List Item) → map item_of (cond (not t) (l ∷ said ls) (said ls)) ≡ map Some items → v.fault ≡ None → Goes items (core v) → Read (l ∷ ls) v items
@@ -146,18 +146,18 @@ forward_line false l ls more e v (x ∷ xs) h none g =
     let rest : map item_of (said ls) ≡ map Some xs = tail_same _ _ _ _ h in
     subst (λ (u : View). ((after ls u).fault ≡ None) × (core (after ls u) ≡ adds xs (add x (core v)))) (sym (line_taken l v x none e i g.0)) (more (with_core (add x (core v)) (counted v)) xs rest none g.1)
 
-forward : (ls : List Text) → Forward ls
+pub forward : (ls : List Text) → Forward ls
 forward [] v [] h none g = (none, refl)
 forward [] v (x ∷ xs) h none g = absurd (cons_nil _ _ (sym h))
 forward (l ∷ ls) v items h none g = forward_line (is_skipped l) l ls (forward ls) refl v items h none g
 
-record Said (ls : List Text) (v : View) : Type 0 where
-  items : List Item
-  lines : map item_of (said ls) ≡ map Some items
-  goes : Goes items (core v)
-  all : core (after ls v) ≡ adds items (core v)
+pub record Said (ls : List Text) (v : View) : Type 0 where
+  pub items : List Item
+  pub lines : map item_of (said ls) ≡ map Some items
+  pub goes : Goes items (core v)
+  pub all : core (after ls v) ≡ adds items (core v)
 
-abbrev Backward : List Text → Type 0
+abbrev pub Backward : List Text → Type 0
 Backward ls = (v : View) → v.fault ≡ None → (after ls v).fault ≡ None → Said ls v
 
 backward_item : (b : Bool) (l : Text) (ls : List Text) (x : Item) (v : View) → Backward ls → is_skipped l ≡ false → item_of l ≡ Some x → bad x (core v) ≡ b → v.fault ≡ None → (after (l ∷ ls) v).fault ≡ None → Said (l ∷ ls) v
@@ -190,13 +190,13 @@ backward_line true l ls v more e none end =
     }
 backward_line false l ls v more e none end = backward_said (item_of l) l ls v more e refl none end
 
-backward : (ls : List Text) → Backward ls
+pub backward : (ls : List Text) → Backward ls
 backward [] v none end = record { items = []; lines = refl; goes = tt; all = refl }
 backward (l ∷ ls) v none end = backward_line (is_skipped l) l ls v (backward ls) refl none end
 
 -- ---- items and plans
 
-last_append : (ts : List ℕ) (n : ℕ) → last_turn (ts ++ n ∷ []) ≡ n
+pub last_append : (ts : List ℕ) (n : ℕ) → last_turn (ts ++ n ∷ []) ≡ n
 last_append ts n =
     let e : length (ts ++ n ∷ []) - 1 ≡ length ts = omega (arith, length-append ts (n ∷ [])) in
     ap (λ (i : ℕ). slice_index (ts ++ n ∷ []) i) e ∙ get_or-append_seam ts n [] 0
@@ -306,10 +306,10 @@ record Ordered (items : List Item) (c : Core) (n : ℕ) : Type 0 where
   in_order : IsInOrder (last_turn c.turns) due n
   below : Below c.turns n
 
-grown : (ts : List ℕ) (n : ℕ) → not (length (ts ++ n ∷ []) == 0) ≡ true
+pub grown : (ts : List ℕ) (n : ℕ) → not (length (ts ++ n ∷ []) == 0) ≡ true
 grown ts n = let e : 0 < length (ts ++ n ∷ []) = omega (arith, length-append ts (n ∷ [])) in positive (length (ts ++ n ∷ [])) e
 
-either_right : (a b : Bool) → b ≡ true → (a || b) ≡ true
+pub either_right : (a b : Bool) → b ≡ true → (a || b) ≡ true
 either_right true b e = refl
 either_right false b e = e
 

@@ -6,7 +6,7 @@ use Rattle.word86.specs.declared.label.Label.{Label}
 use Rattle.word86.specs.declared.event.Event.{Event}
 use Rattle.word86.specs.Events.{event_label}
 use Rattle.listing_map.specs.Lines.{label_line}
-use Rattle.board.specs.Text.{lines}
+use Rattle.board.specs.Trace.{lines}
 use Rattle.word86.specs.Taking.{Appends, Cut, Rises, Writes}
 
 -- a beginning of the first text is one of both
@@ -28,7 +28,7 @@ nothing_written a [] [] e f = Appends-nil a
 nothing_written a (x ∷ es) ls e f = absurd (omega (arith, e))
 nothing_written a [] (x ∷ ls) e f = absurd (omega (arith, f))
 
--- what was taken of a list of texts, so far: so many of them, whole
+-- what was taken of a list of texts so far: the first of them, whole
 pub record Took (old new : Option (List ℕ)) (before after : ℕ) (whole left : List ℕ) : Type 0 where
   pub done : List ℕ
   pub parts : whole ≡ done ++ left

@@ -4,7 +4,7 @@ use Rattle.bstr.specs.Text.{lines_of, without_terminator}
 use Rattle.word86.specs.declared.event.Event.{Event}
 use Rattle.board.specs.declared.reading.Item.{Item}
 use Rattle.board.specs.declared.reading.Item.TheVariants.{Fill, At, Stop}
-use Rattle.board.specs.Schedules.{Text, View, item_of, is_skipped, fault_of}
+use Rattle.board.specs.Schedule.{Text, View, item_of, is_skipped, fault_of}
 
 -- an event and its turn
 pub record Due : Type 0 where

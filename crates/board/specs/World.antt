@@ -1,4 +1,4 @@
--- The board: memory by its regions, and the chips behind the ports.
+-- The board: memory by its regions, and the chips on the ports.
 use Rattle.std.specs.Prelude.{ℕ, Bool, ◌≡◌, ◌+◌, ◌-◌, ◌%◌, ◌/◌, ◌&&◌, ◌||◌, nat_lt, nat_le, if◌then◌else◌, Option, Some, None, List, slice_index, slice_set, length}
 use Rattle.word86.specs.declared.event.Event.{Event}
 use Rattle.word86.specs.declared.label.Label.{Label}
@@ -6,7 +6,7 @@ use Rattle.word86.specs.declared.label.Label.TheVariants as labels
 use Rattle.word86.specs.Chips.{Chips}
 use Rattle.cpu8086.specs.declared.bus.Store.{Store}
 use Rattle.cpu8086.specs.declared.bus.Store.TheVariants as stores
-use Rattle.cpu8086.specs.Meaning.{Meaning}
+use Rattle.cpu8086.specs.BusModel.{BusModel}
 
 -- RAM from 00000H on, the screen from 0B8000H on, and the ROM, which ends at 0FFFFFH
 pub record World (P : Type 0) : Type 0 where
@@ -49,8 +49,8 @@ with_chips_of w p = record { ram = w.ram; screen = w.screen; rom = w.rom; chips 
 
 module _ {P : Type 0} (c : Chips P) where
   -- what memory and ports answer; what is nowhere reads 0FFH, and stores there and into the ROM are lost
-  abbrev pub board_meaning : Meaning (World P)
-  board_meaning = record {
+  abbrev pub board_model : BusModel (World P)
+  board_model = record {
     load = λ w a. region 0 w.ram a (region screen_at w.screen a (region (0x100000 - length w.rom) w.rom a 255));
     store = λ w s. record { ram = after_store 0 w.ram s; screen = after_store screen_at w.screen s; rom = w.rom; chips = w.chips };
     store_label = λ w s. shown_store s;
@@ -64,8 +64,8 @@ module _ {P : Type 0} (c : Chips P) where
   }
 
   -- an event reaches the chips alone
-  abbrev pub befall : Event → World P → World P
-  befall e w = with_chips_of w (c.comes e w.chips)
+  abbrev pub comes : Event → World P → World P
+  comes e w = with_chips_of w (c.comes e w.chips)
 
 -- RAM and screen of their sizes, and this ROM
 pub record Whole {P : Type 0} (rom : List ℕ) (w : World P) : Type 0 where

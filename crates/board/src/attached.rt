@@ -1,10 +1,10 @@
-//! What the processor of the board is attached to.
+//! What the processor of the board is attached to: its memory and its ports.
 
 ghost use Rattle.std.specs.Prelude.{◌≡◌, ◌+◌, ◌≤◌, vec_len};
 
 use ppi_kbd::Ports;
 
-/// Memory, and the chips behind the ports.
+/// Memory, and the chips on the ports.
 #[derive(Drop)]
 pub(crate) struct Attached {
     /// From address 0 on.
@@ -15,6 +15,7 @@ pub(crate) struct Attached {
     pub(crate) rom: Vec<u8>,
     /// The address of the ROM's first byte.
     pub(crate) rom_start: u32,
+    /// The chips, by their ports.
     pub(crate) ports: Ports,
     ghost ram_is_whole: { vec_len ram ≡ 131072 },
     ghost screen_is_whole: { vec_len screen ≡ 4000 },

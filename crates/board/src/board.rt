@@ -6,12 +6,13 @@ ghost use Rattle.word86.specs.declared.number.Number.TheVariants.{E705};
 ghost use Rattle.word86.specs.Events.{event_label};
 ghost use Rattle.ppi_kbd.specs.Chips.{ChipState, reset};
 ghost use Rattle.ppi_kbd.specs.BoardChips.{board_chips};
-ghost use Rattle.board.specs.World.{World, board_meaning, befall};
-ghost use Rattle.board.specs.Machine.{befalls, power_on as powered_on};
+ghost use Rattle.board.specs.World.{World, board_model, comes};
+ghost use Rattle.board.specs.Machine.{all_come, power_on as powered_on};
 ghost use Rattle.board.specs.Machine.{Board as State, turn, turn_kind};
 ghost use Rattle.board.specs.Rom.{is_rom_length};
-ghost use Rattle.board.specs.Settled.{settled_chips};
-ghost use Rattle.board.specs.ShownBoard.{Shows, world_of};
+ghost use Rattle.board.specs.Inner.Settled.{settled_chips};
+ghost use Rattle.board.specs.Board.{Shows};
+ghost use Rattle.board.specs.Inner.Attached.{world_of};
 
 use crate::attached::Attached;
 use crate::chips;
@@ -21,7 +22,7 @@ use ppi_kbd::Ports;
 use std::alloc::Global;
 use word86::{Event, Fault, Label, Number, PowerOn};
 
-/// The board: an 8086, memory, and the chips behind its ports (IBM PC Technical Reference).
+/// The board: an 8086, memory, and the chips on its ports (IBM PC Technical Reference, "Memory Map" and "I/O Address Map").
 ///
 /// RAM is 00000H to 1FFFFH, the screen 0B8000H to 0B8F9FH, and the ROM ends at 0FFFFFH. Other memory reads 0FFH; stores there
 /// and into the ROM are lost. What a call does is stated for every state of the definition that the board shows.
@@ -29,7 +30,7 @@ use word86::{Event, Fault, Label, Number, PowerOn};
 pub struct Board {
     pub(crate) cpu: Cpu,
     pub(crate) attached: Attached,
-    /// Instructions that were met before: it changes no turn.
+    /// The instructions that were met before, so that they are not decoded again: no turn is another one for it.
     pub(crate) cache: DecodeCache,
 }
 
@@ -41,11 +42,11 @@ fn is_rom_length(length: usize) -> bool
 }
 
 #[inline(always)]
-fn befall_all(attached: &mut Attached, events: &[Event])
-    ensures { world_of attached.new ≡ befalls (board_meaning settled_chips) (befall settled_chips) events.now (world_of attached.old) }
+fn all_come(attached: &mut Attached, events: &[Event])
+    ensures { world_of attached.new ≡ all_come (board_model settled_chips) (comes settled_chips) events.now (world_of attached.old) }
 {
     for event in events {
-        chips::befall(&mut attached.ports, *event);
+        chips::comes(&mut attached.ports, *event);
     }
 }
 
@@ -82,9 +83,9 @@ impl Board {
     ///
     /// The labels of the answer are the processor's; those of the events are the events handed in.
     pub fn turn(&mut self, events: &[Event]) -> Turn
-        ensures state { (b : State (World ChipState)) → Shows self.old b → Shows self.new (turn (board_meaning board_chips) (befall board_chips) events.now b).0 }
-        ensures labels { (b : State (World ChipState)) → Shows self.old b → map event_label events.now ++ result.labels.items ≡ (turn (board_meaning board_chips) (befall board_chips) events.now b).1 }
-        ensures kind { (b : State (World ChipState)) → Shows self.old b → result.kind ≡ turn_kind (board_meaning board_chips) (befall board_chips) events.now b }
+        ensures state { (b : State (World ChipState)) → Shows self.old b → Shows self.new (turn (board_model board_chips) (comes board_chips) events.now b).0 }
+        ensures labels { (b : State (World ChipState)) → Shows self.old b → map event_label events.now ++ result.labels.items ≡ (turn (board_model board_chips) (comes board_chips) events.now b).1 }
+        ensures kind { (b : State (World ChipState)) → Shows self.old b → result.kind ≡ turn_kind (board_model board_chips) (comes board_chips) events.now b }
     {
         let mut labels = ArrayVec::new();
         let kind = self.turn_onto(events, &mut labels);
@@ -95,12 +96,13 @@ impl Board {
     #[inline(always)]
     pub(crate) fn turn_onto(&mut self, events: &[Event], labels: &mut ArrayVec<Label, 4>) -> Kind
         requires { labels.old.items ≡ [] }
-        ensures state { (b : State (World ChipState)) → Shows self.old b → Shows self.new (turn (board_meaning board_chips) (befall board_chips) events.now b).0 }
-        ensures labels { (b : State (World ChipState)) → Shows self.old b → map event_label events.now ++ labels.new.items ≡ (turn (board_meaning board_chips) (befall board_chips) events.now b).1 }
-        ensures kind { (b : State (World ChipState)) → Shows self.old b → result ≡ turn_kind (board_meaning board_chips) (befall board_chips) events.now b }
+        ensures state { (b : State (World ChipState)) → Shows self.old b → Shows self.new (turn (board_model board_chips) (comes board_chips) events.now b).0 }
+        ensures labels { (b : State (World ChipState)) → Shows self.old b → map event_label events.now ++ labels.new.items ≡ (turn (board_model board_chips) (comes board_chips) events.now b).1 }
+        ensures kind { (b : State (World ChipState)) → Shows self.old b → result ≡ turn_kind (board_model board_chips) (comes board_chips) events.now b }
     {
         let attached = &mut self.attached;
-        befall_all(attached, events);
-        self.cpu.turn_onto(attached, &mut self.cache, labels)
+        all_come(attached, events);
+        self.cpu
+            .turn_leaving_labels(attached, &mut self.cache, labels)
     }
 }

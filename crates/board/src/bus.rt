@@ -1,19 +1,19 @@
-//! What the processor sees of the board.
+//! What the processor sees of the board: loads, stores and ports, and the short ways for bytes and words in RAM.
 
 ghost use Rattle.std.specs.Prelude.{◌≡◌, ◌++◌, ◌<◌};
 ghost use Rattle.ppi_kbd.specs.Chips.{ChipState};
 ghost use Rattle.word86.specs.declared.width.Width.TheVariants.{Word};
 ghost use Rattle.cpu8086.specs.declared.bus.Store.TheVariants.{Byte};
 ghost use Rattle.cpu8086.specs.Machine.{access_at, loaded_word};
-ghost use Rattle.board.specs.World.{World, board_meaning, put, shown_store};
-ghost use Rattle.board.specs.Settled.{chips_of, settled_chips};
-ghost use Rattle.board.specs.ShownBoard.{world_of};
-ghost use Rattle.board.specs.MemoryLaws.{load_after_store_law, ports_law};
+ghost use Rattle.board.specs.World.{World, board_model, put, shown_store};
+ghost use Rattle.board.specs.Inner.Settled.{chips_of, settled_chips};
+ghost use Rattle.board.specs.Inner.Attached.{world_of};
+ghost use Rattle.board.specs.Inner.MemoryLaws.{load_after_store_law, ports_law};
 
 use crate::attached::Attached;
-use crate::chips::{acknowledge, is_requested, read_port, write_port};
-use crate::regions::{RAM_SIZE, SCREEN_START, byte_in, physical, put, shown_store, word_in_ram};
-use cpu8086::{Bus, Store};
+use crate::chips::{acknowledge, int_line, read_port, write_port};
+use crate::regions::{RAM_SIZE, SCREEN_START, byte_in, put, shown_store, word_in_ram};
+use cpu8086::{Bus, Store, physical};
 use word86::{Label, Width};
 
 impl Attached {
@@ -46,7 +46,7 @@ impl Attached {
     #[cold]
     #[inline(never)]
     fn load_word_anywhere(&self, segment: u16, offset: u16) -> u16
-        ensures { result ≡ loaded_word (board_meaning settled_chips) (world_of self.now) segment offset }
+        ensures { result ≡ loaded_word (board_model settled_chips) (world_of self.now) segment offset }
     {
         let low = self.load(physical(segment, offset));
         let high = self.load(physical(segment, offset.wrapping_add(1)));
@@ -57,7 +57,7 @@ impl Attached {
     #[inline(never)]
     fn store_word_anywhere(&mut self, segment: u16, offset: u16, value: u16) -> Option<Label>
         ensures label { result ≡ shown_store (access_at Word segment offset value) }
-        ensures after { world_of self.new ≡ (board_meaning settled_chips).store (world_of self.old) (access_at Word segment offset value) }
+        ensures after { world_of self.new ≡ (board_model settled_chips).store (world_of self.old) (access_at Word segment offset value) }
     {
         self.store_anywhere(Store::Word {
             low: physical(segment, offset),
@@ -70,7 +70,7 @@ impl Attached {
     #[inline(never)]
     fn store_byte_anywhere(&mut self, address: u32, value: u8) -> Option<Label>
         ensures label { result ≡ shown_store (Byte address value) }
-        ensures after { world_of self.new ≡ (board_meaning settled_chips).store (world_of self.old) (Byte address value) }
+        ensures after { world_of self.new ≡ (board_model settled_chips).store (world_of self.old) (Byte address value) }
     {
         self.store_anywhere(Store::Byte { address, value })
     }
@@ -79,7 +79,7 @@ impl Attached {
     #[inline(always)]
     fn store_anywhere(&mut self, store: Store) -> Option<Label>
         ensures label { result ≡ shown_store store }
-        ensures after { world_of self.new ≡ (board_meaning settled_chips).store (world_of self.old) store }
+        ensures after { world_of self.new ≡ (board_model settled_chips).store (world_of self.old) store }
     {
         match store {
             Store::Byte { address, value } => self.put(address, value),
@@ -97,7 +97,7 @@ impl Bus for Attached {
 
     ghost world = { world_of };
 
-    ghost meaning = { board_meaning settled_chips };
+    ghost model = { board_model settled_chips };
 
     fn load(&self, address: u32) -> u8 {
         if let Some(byte) = byte_in(self.ram.as_slice(), 0, address) {
@@ -175,7 +175,7 @@ impl Bus for Attached {
     }
 
     fn int_line(&self) -> bool {
-        is_requested(&self.ports)
+        int_line(&self.ports)
     }
 
     fn acknowledge(&mut self) -> u8 {

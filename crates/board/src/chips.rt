@@ -1,7 +1,7 @@
 //! The chips' calls, by the settled states that they stand for.
 
 ghost use Rattle.std.specs.Prelude.{◌≡◌};
-ghost use Rattle.board.specs.Settled.{chips_of, settled_chips};
+ghost use Rattle.board.specs.Inner.Settled.{chips_of, settled_chips};
 
 use ppi_kbd::Ports;
 use word86::{Event, Width};
@@ -28,7 +28,7 @@ pub(crate) fn write_port(ports: &mut Ports, width: Width, port: u16, value: u16)
 }
 
 /// Whether INT is up.
-pub(crate) fn is_requested(ports: &Ports) -> bool
+pub(crate) fn int_line(ports: &Ports) -> bool
     ensures { result ≡ settled_chips.line (chips_of ports.now) }
 {
     ports.int_line()
@@ -46,9 +46,9 @@ pub(crate) fn acknowledge(ports: &mut Ports) -> u8
     }
 }
 
-/// An event comes.
-pub(crate) fn befall(ports: &mut Ports, event: Event)
+/// An event comes from outside.
+pub(crate) fn comes(ports: &mut Ports, event: Event)
     ensures { chips_of ports.new ≡ settled_chips.comes event (chips_of ports.old) }
 {
-    ports.event(event);
+    ports.comes(event);
 }

@@ -1,7 +1,8 @@
-//! The lines of a schedule in order.
+//! The lines of a schedule one after another, up to the first fault.
 
 ghost use Rattle.std.specs.Prelude.{◌≡◌, OnOk, IfOk};
-ghost use Rattle.board.specs.Schedules.{seen, with_item, with_line, failed, read_lines};
+ghost use Rattle.board.specs.Inner.Reading.{seen};
+ghost use Rattle.board.specs.Schedule.{with_item, with_line, failed, read_lines};
 
 use crate::timetable::Timetable;
 use crate::words::{is_skipped, item_given};
@@ -9,7 +10,7 @@ use bstr::ByteSlice;
 use std::alloc::Global;
 use word86::{Event, Fault, Number};
 
-/// A line of a schedule.
+/// What a line of a schedule says, unless it is blank or a comment.
 #[derive(Debug, Clone, Copy, PartialEq, Eq)]
 pub(crate) enum Item {
     Fill(u8),

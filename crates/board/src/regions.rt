@@ -1,7 +1,6 @@
 //! Regions of memory: bytes from an address on.
 
 ghost use Rattle.std.specs.Prelude.{◌≡◌, ◌+◌, ◌*◌, ◌-◌, ◌<◌, ◌≤◌, ◌^◌, Some, None, IfSome, if◌then◌else◌, slice_index, length};
-ghost use Rattle.cpu8086.specs.Machine.{physical};
 ghost use Rattle.board.specs.World.{lies_in, put, shown_store, screen_at, is_on_screen};
 
 use cpu8086::Store;
@@ -12,14 +11,6 @@ pub(crate) const RAM_SIZE: u32 = 0x2_0000;
 
 /// The address of the screen's first byte.
 pub(crate) const SCREEN_START: u32 = 0xB_8000;
-
-/// The physical address of an offset in a segment: addresses wrap at 1,048,576.
-pub(crate) fn physical(segment: u16, offset: u16) -> u32
-    ensures value { result ≡ physical segment offset }
-    ensures fits { result < 2 ^ 20 }
-{
-    (u32::from(segment) * 16 + u32::from(offset)) % 1_048_576
-}
 
 /// The address of the word at an offset in a segment, if it lies in RAM and does not wrap.
 #[inline(always)]

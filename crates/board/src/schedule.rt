@@ -2,8 +2,8 @@
 
 ghost use Rattle.std.specs.Prelude.{◌≡◌, ◌≢◌, ◌<◌, ℕ, [], IfOk, IfErr, Some};
 ghost use Rattle.word86.specs.declared.fault.Fault.TheVariants.{Memory};
-ghost use Rattle.board.specs.Due.{due_at};
-ghost use Rattle.board.specs.Schedules.{read_lines, IsRead, fault_of};
+ghost use Rattle.board.specs.Timetable.{due_at};
+ghost use Rattle.board.specs.Schedule.{read_lines, IsRead, fault_of};
 
 use crate::reading;
 use crate::timetable::Timetable;
@@ -40,7 +40,7 @@ impl Schedule {
         self.timetable.due(turn)
     }
 
-    /// The first turn behind this one that has events, or the greatest number: between the two no turn has any.
+    /// The first turn after this one that has events, or the greatest number: between the two no turn has any.
     pub(crate) fn next_turn(&self, turn: u32) -> u32
         ensures later { turn < 4294967295 → turn < result }
         ensures quiet { (t : ℕ) → turn < t → t < result → due_at t self.now.timetable.turns.items self.now.timetable.events.items ≡ [] }
@@ -49,8 +49,9 @@ impl Schedule {
     }
 }
 
-/// Reads the schedule that a text spells, or answers its first fault: E701 at a faulty line, E702 at a line out of order,
-/// E703 at the last line (1 if the text is empty) where STOP is missing.
+/// Reads the schedule that a text spells, or answers its first fault: E701 at a line that spells no item, E702 at a line out of
+/// order, E703 at the last line (1 if the text is empty) where STOP is missing. `line_law` and `fault_law` say which line spells
+/// what and which fault a text has. The one other refusal is want of memory.
 pub fn read_schedule(alloc: Global, text: &[u8]) -> Result<Schedule, Fault>
     ensures ok { IfOk result (λ s. IsRead (read_lines text.now) s) }
     ensures err { IfErr result (λ e. e ≢ Memory → Some e ≡ fault_of (read_lines text.now)) }

@@ -2,7 +2,7 @@
 
 ghost use Rattle.std.specs.Prelude.{◌≡◌, ◌≢◌, ℕ, ◌==◌, ◌≤◌, ◌-◌, ◌<◌, ◌++◌, ◌∷◌, [], OnOk, OnErr, length, slice_index};
 ghost use Rattle.std.specs.List.Sorted.{IsNonDecreasingBy};
-ghost use Rattle.board.specs.Due.{due_at, last_turn};
+ghost use Rattle.board.specs.Timetable.{due_at, last_turn};
 
 use std::alloc::Global;
 use word86::{Event, Fault};
@@ -64,7 +64,7 @@ impl Timetable {
         due_in(&self.turns, &self.events, turn)
     }
 
-    /// The first turn behind this one that has events, or the greatest number, found in logarithmic time. Between the two no
+    /// The first turn after this one that has events, or the greatest number, found in logarithmic time. Between the two no
     /// turn has any.
     pub(crate) fn next_turn(&self, turn: u32) -> u32
         ensures later { turn < 4294967295 → turn < result }
@@ -74,7 +74,7 @@ impl Timetable {
     }
 }
 
-// The first of the turns that is above `turn`, or the greatest number.
+/// The first of the turns that is above `turn`, or the greatest number.
 fn next_in(turns: &[u32], turn: u32) -> u32
     requires { IsNonDecreasingBy (λ n. n) turns.now }
     ensures later { turn < 4294967295 → turn < result }
@@ -88,7 +88,7 @@ fn next_in(turns: &[u32], turn: u32) -> u32
     }
 }
 
-// The events whose turn is `turn`, in their order.
+/// The events whose turn is `turn`, in their order.
 fn due_in<'a>(turns: &[u32], events: &'a [Event], turn: u32) -> &'a [Event]
     requires sorted { IsNonDecreasingBy (λ n. n) turns.now }
     requires paired { length events.now ≡ length turns.now }

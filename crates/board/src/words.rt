@@ -1,13 +1,13 @@
-//! The words of a schedule's line.
+//! The words of a schedule's line, from the first one to its end: numbers, bytes, events and items.
 
 ghost use Rattle.std.specs.Prelude.{◌≡◌, ◌≤◌, option_map, length};
-ghost use Rattle.board.specs.Schedules.{after_word, number_of, with_digit, hex_value, hex_of, word_len, tick_of, event_of, item_of, is_blank, is_blank_line, is_skipped};
+ghost use Rattle.board.specs.Schedule.{after_word, number_of, with_digit, hex_value, hex_of, word_len, tick_of, event_of, item_of, is_blank, is_blank_line, is_skipped};
 
 use crate::reading::Item;
 use bstr::ByteSlice;
 use word86::Event;
 
-// What follows a word that begins a line.
+/// What follows a word that begins a line.
 fn after_word<'a>(line: &'a [u8], word: &[u8]) -> Option<&'a [u8]>
     ensures { option_map (λ s. s.now) result ≡ after_word word.now line.now }
 {

@@ -1,11 +1,11 @@
--- The lines of a trace and of a fault.
+-- The lines that users see: each line of a trace, from `IN pppp vv` to `END n` and `OPCODE aaaaa`, and the line of a fault.
 use Rattle.std.specs.Prelude.{ℕ, List, [], ◌∷◌, ◌++◌, ◌+◌, ◌/◌, ◌%◌, if◌then◌else◌, nat_lt, codes, decimal}
 use Rattle.word86.specs.Numbers.{number_text}
 use Rattle.word86.specs.declared.number.Number.{Number}
 use Rattle.word86.specs.declared.label.Label.{Label}
 use Rattle.word86.specs.declared.label.Label.TheVariants.{In, InW, Out, OutW, Scr, ScrW, Ack, Tick, Key}
 
--- a hexadecimal digit in capitals, and numbers of two and of four digits
+-- a hexadecimal digit in capitals, and numbers of two, four and five digits
 abbrev pub hex_digit : ℕ → ℕ
 hex_digit d = if nat_lt d 10 then d + 48 else d + 55
 
@@ -14,6 +14,9 @@ hex2 v = hex_digit (v / 16 % 16) ∷ hex_digit (v % 16) ∷ []
 
 abbrev pub hex4 : ℕ → List ℕ
 hex4 v = hex_digit (v / 4096 % 16) ∷ hex_digit (v / 256 % 16) ∷ hex_digit (v / 16 % 16) ∷ hex_digit (v % 16) ∷ []
+
+abbrev pub hex5 : ℕ → List ℕ
+hex5 v = hex_digit (v / 65536 % 16) ∷ hex_digit (v / 4096 % 16) ∷ hex_digit (v / 256 % 16) ∷ hex_digit (v / 16 % 16) ∷ hex_digit (v % 16) ∷ []
 
 abbrev pub line_end : List ℕ
 line_end = 10 ∷ []
@@ -42,6 +45,13 @@ label_line (Ack n) = short_line (codes "ACK ") n
 label_line (Tick k) = decimal_line (codes "TICK ") k
 label_line (Key h) = short_line (codes "KEY ") h
 
--- a fault or a warning at a line of a file
+-- the last line of a trace: how many turns were run, or the address of bytes that are no instruction
+abbrev pub end_line : ℕ → List ℕ
+end_line turns = decimal_line (codes "END ") turns
+
+abbrev pub opcode_line : ℕ → List ℕ
+opcode_line address = codes "OPCODE " ++ hex5 address ++ line_end
+
+-- a fault or a warning at a line of a source
 abbrev pub located_line : List ℕ → ℕ → Number → List ℕ
 located_line name line n = name ++ codes "(" ++ decimal line ++ codes "): " ++ number_text n ++ line_end

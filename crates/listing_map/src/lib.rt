@@ -5,4 +5,4 @@ mod lines;
 mod numerals;
 mod pieces;
 
-pub use lines::{fault_line, put_label, trace_line};
+pub use lines::{fault_line, put_end_line, put_label, put_opcode_line, trace_line};

@@ -4,9 +4,9 @@ ghost use Rattle.std.specs.Prelude.{◌≡◌, ◌∷◌, [], IfErr};
 ghost use Rattle.word86.specs.Taking.{Writes};
 ghost use Rattle.word86.specs.declared.fault.Fault.TheVariants.{At};
 ghost use Rattle.word86.specs.declared.number.Number.TheVariants.{E704};
-ghost use Rattle.listing_map.specs.Lines.{byte_line, word_line, short_line, decimal_line, label_line, located_line};
+ghost use Rattle.listing_map.specs.Lines.{byte_line, word_line, short_line, decimal_line, label_line, end_line, opcode_line, located_line};
 
-use crate::numerals::{hex_byte, hex_word};
+use crate::numerals::{hex_address, hex_byte, hex_word};
 use crate::pieces::{put_six, put_three, put_two};
 use itoa::Buffer;
 use word86::{Fault, Label, Number, Sink, SinkFault, put_all};
@@ -52,6 +52,23 @@ pub fn put_label<S: Sink>(label: &Label, sink: &mut S) -> Result<(), SinkFault>
         Label::Tick(k) => put_decimal_line(sink, b"TICK ", u32::from(k)),
         Label::Key(h) => put_short_line(sink, b"KEY ", h),
     }
+}
+
+/// Writes the last line of a run that came to its stop, as `END 100`: how many turns it ran, in decimal. The one refusal is
+/// that the sink failed, in the sink's own words.
+pub fn put_end_line<S: Sink>(turns: u32, sink: &mut S) -> Result<(), SinkFault>
+    ensures { Writes (S.taken sink.old) (S.taken sink.new) (S.failures sink.old) (S.failures sink.new) (end_line turns) result }
+{
+    put_decimal_line(sink, b"END ", turns)
+}
+
+/// Writes the last line of a run that met bytes that are no instruction, as `OPCODE F1234`: their physical address, of which
+/// the low 20 bits count. The one refusal is that the sink failed, in the sink's own words.
+pub fn put_opcode_line<S: Sink>(address: u32, sink: &mut S) -> Result<(), SinkFault>
+    ensures { Writes (S.taken sink.old) (S.taken sink.new) (S.failures sink.old) (S.failures sink.new) (opcode_line address) result }
+{
+    let [a, b, c, d, e] = hex_address(address);
+    put_two(sink, b"OPCODE ", &[a, b, c, d, e, b'\n'])
 }
 
 fn put_located_line<S: Sink>(

@@ -1,10 +1,10 @@
 -- The order of priority: what a search over the places of it finds.
 use Rattle.std.proofs.Common.{◌≡◌, ℕ, zero, suc, ◌+◌, ◌-◌, ◌<◌, ◌≤◌, ◌⊎◌, inl, inr, Bool, true, false, not, ◌&&◌, ◌||◌, refl, sym, ap, ◌∙◌, subst, arith, mod-lt, Option, Some, None, find, map, nat_lt, List, IfSome}
-use Rattle.std.specs.Prelude.{if◌then◌else◌}
+use Rattle.std.specs.Prelude.{if◌then◌else◌, is_some, unwrap_or}
 use Rattle.std.specs.List.{list_all, range_with_len}
 use Rattle.std.proofs.lemmas.Bool.Decides.{nat_tests}
 use Rattle.pic8259.specs.Levels.{has, level_at, rank, highest, IsHighest}
-use Rattle.pic8259.specs.Controller.{Controller, is_above, is_wanted, pending, IsNext}
+use Rattle.pic8259.specs.Controller.{Controller, is_above, is_wanted, pending, MayInterrupt, IsNext, line, vector, taken, acknowledged}
 
 -- n levels in the order of priority, from a place on
 abbrev pub places : ℕ → ℕ → ℕ → List ℕ
@@ -16,7 +16,7 @@ clash e = cc
 -- a search found the level at this place, and none before it
 pub record FoundAt (lowest : ℕ) (t : ℕ → Bool) (i n k : ℕ) : Type 0 where
   pub place : ℕ
-  pub behind : i ≤ place
+  pub from : i ≤ place
   pub within : place < i + n
   pub level_is : k ≡ level_at lowest place
   pub passes : t (level_at lowest place) ≡ true
@@ -28,10 +28,10 @@ later t lowest i place e f j a b =
     elim split [ inl same ↦ ap (λ x. t (level_at lowest x)) same ∙ e | inr more ↦ f j more b ]
 
 find_some_step : (lowest : ℕ) (t : ℕ → Bool) (n i k : ℕ) (b : Bool) → (find t (places lowest (i + 1) n) ≡ Some k → FoundAt lowest t (i + 1) n k) → t (level_at lowest i) ≡ b → (if b then Some (level_at lowest i) else find t (places lowest (i + 1) n)) ≡ Some k → FoundAt lowest t i (suc n) k
-find_some_step lowest t n i k true f e h = record { place = i; behind = omega arith; within = omega arith; level_is = cc; passes = e; none_before = λ j a b. absurd (omega arith) }
+find_some_step lowest t n i k true f e h = record { place = i; from = omega arith; within = omega arith; level_is = cc; passes = e; none_before = λ j a b. absurd (omega arith) }
 find_some_step lowest t n i k false f e h =
     let r = f h in
-    record { place = r.place; behind = omega (arith, r.behind); within = omega (arith, r.within); level_is = r.level_is; passes = r.passes; none_before = later t lowest i r.place e r.none_before }
+    record { place = r.place; from = omega (arith, r.from); within = omega (arith, r.within); level_is = r.level_is; passes = r.passes; none_before = later t lowest i r.place e r.none_before }
 
 pub find_some : (lowest : ℕ) (t : ℕ → Bool) (n i k : ℕ) → find t (places lowest i n) ≡ Some k → FoundAt lowest t i n k
 find_some lowest t zero i k h = absurd (cc)
@@ -221,7 +221,7 @@ next_wanted lowest a w k below h unserved =
     let unserved_there : a (level_at lowest r.place) ≡ false = sym (ap a r.level_is) ∙ unserved in
     let above : is_above lowest a (level_at lowest r.place) ≡ true = above_first lowest r.place a below small unserved_there (λ j c d. (or_false (a (level_at lowest j)) (w (level_at lowest j)) (r.none_before j c d)).0) in
     let wanted : w (level_at lowest r.place) ≡ true = or_rest (a (level_at lowest r.place)) (w (level_at lowest r.place)) unserved_there r.passes in
-    find_make lowest (λ k. is_above lowest a k && w k) 8 0 r.place r.behind r.within
+    find_make lowest (λ k. is_above lowest a k && w k) 8 0 r.place r.from r.within
     (ap (λ b. b && w (level_at lowest r.place)) above ∙ wanted)
     (λ j c d. ap (λ b. is_above lowest a (level_at lowest j) && b) (or_false (a (level_at lowest j)) (w (level_at lowest j)) (r.none_before j c d)).1 ∙ and_false (is_above lowest a (level_at lowest j)))
     ∙ ap Some (sym r.level_is)
@@ -293,3 +293,65 @@ pub none_passes : (lowest : ℕ) (t : ℕ → Bool) → lowest < 8 → highest l
 unfolding highest
 none_passes lowest t below h k small =
     ap t (sym (level_of_rank lowest k below small)) ∙ find_none lowest t 8 0 h (rank lowest k) (omega arith) (rank_below lowest k)
+
+above_test : (less served : Bool) (q m : ℕ) → less ≡ nat_lt q m → (served ≡ true → q < m) → (less || not served) ≡ true
+above_test true served q m e f = refl
+above_test false false q m e f = refl
+above_test false true q m e f = absurd (clash (sym (less_test q m (f refl)) ∙ sym e))
+
+above_of : (lowest : ℕ) (a : ℕ → Bool) (k : ℕ) → ((j : ℕ) → j < 8 → a j ≡ true → rank lowest k < rank lowest j) → is_above lowest a k ≡ true
+above_of lowest a k f =
+    all_true lowest (λ i. nat_lt (rank lowest k) (rank lowest i) || not (a i)) 8 0 (λ i c d.
+    above_test (nat_lt (rank lowest k) (rank lowest (level_at lowest i))) (a (level_at lowest i)) (rank lowest k) (rank lowest (level_at lowest i)) refl
+    (f (level_at lowest i) (mod-lt (lowest + 1 + i) (omega arith))))
+
+and_both : (a b : Bool) → a ≡ true → b ≡ true → (a && b) ≡ true
+and_both a b e f = ap (λ x. x && b) e ∙ f
+
+-- a level that may interrupt passes the search's test
+may_pass : (s : Controller) (k : ℕ) → MayInterrupt s k → (is_above s.lowest (has s.in_service) k && is_wanted s k) ≡ true
+may_pass s k h =
+    and_both (is_above s.lowest (has s.in_service) k) (is_wanted s k) (above_of s.lowest (has s.in_service) k h.above_service)
+    (and_both (has s.requested k) (not (has s.masked k)) h.requested (ap not h.unmasked))
+
+not_none : (s : Controller) (k : ℕ) → s.lowest < 8 → MayInterrupt s k → pending s ≡ None → ⊥
+unfolding pending
+not_none s k below h none =
+    clash (sym (may_pass s k h) ∙ none_passes s.lowest (λ k. is_above s.lowest (has s.in_service) k && is_wanted s k) below none k h.is_level)
+
+may_of : (s : Controller) (k : ℕ) → IsNext s k → MayInterrupt s k
+may_of s k h = record { is_level = h.is_level; requested = h.requested; unmasked = h.unmasked; above_service = h.above_service }
+
+-- two levels of one priority are one
+same_rank : (lowest j k : ℕ) → lowest < 8 → j < 8 → k < 8 → rank lowest j ≡ rank lowest k → j ≡ k
+same_rank lowest j k below a b e = sym (level_of_rank lowest j below a) ∙ (ap (level_at lowest) e ∙ level_of_rank lowest k below b)
+
+one_next : (s : Controller) (j k : ℕ) → s.lowest < 8 → IsNext s j → IsNext s k → j ≡ k
+one_next s j k below h g =
+    let le = h.highest k g.is_level g.requested g.unmasked in
+    let ge = g.highest j h.is_level h.requested h.unmasked in
+    same_rank s.lowest j k below h.is_level g.is_level (omega (arith, le, ge))
+
+next_found : (o : Option ℕ) (s : Controller) (k : ℕ) → s.lowest < 8 → IsNext s k → pending s ≡ o → o ≡ Some k
+next_found None s k below h e = absurd (not_none s k below (may_of s k h) e)
+next_found (Some j) s k below h e = ap Some (one_next s j k below (pending_is_next s j below e) h)
+
+pub next_is_pending : (s : Controller) (k : ℕ) → s.lowest < 8 → IsNext s k → pending s ≡ Some k
+next_is_pending s k below h = next_found (pending s) s k below h refl
+
+some_up : (o : Option ℕ) → (o ≡ None → ⊥) → is_some o ≡ true
+some_up None f = absurd (f refl)
+some_up (Some k) f = refl
+
+pub line_up : (s : Controller) (k : ℕ) → s.lowest < 8 → s.mode_8086 ≡ true → MayInterrupt s k → line s ≡ true
+line_up s k below mode h = and_both s.mode_8086 (is_some (pending s)) mode (some_up (pending s) (not_none s k below h))
+
+pub line_mode : (s : Controller) → line s ≡ true → s.mode_8086 ≡ true
+line_mode s h = and_left s.mode_8086 (is_some (pending s)) h
+
+level_taken : (o : Option ℕ) (s : Controller) → s.lowest < 8 → pending s ≡ o → is_some o ≡ true → (k : ℕ) × IsNext s k × (vector s ≡ s.base + k) × (acknowledged s ≡ taken (Some k) s)
+level_taken None s below e up = absurd (clash (sym up))
+level_taken (Some k) s below e up = (k, pending_is_next s k below e, ap (λ (o : Option ℕ). s.base + unwrap_or o 0) e, ap (λ (o : Option ℕ). taken o s) e)
+
+pub line_level : (s : Controller) → s.lowest < 8 → line s ≡ true → (k : ℕ) × IsNext s k × (vector s ≡ s.base + k) × (acknowledged s ≡ taken (Some k) s)
+line_level s below h = level_taken (pending s) s below refl (and_right s.mode_8086 (is_some (pending s)) h)

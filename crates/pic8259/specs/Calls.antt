@@ -1,5 +1,5 @@
 -- A list of calls, one after another: what each answers, and what they leave. A call that may not be made changes nothing.
-use Rattle.std.specs.Prelude.{List, [], ◌∷◌, nat_lt, if◌then◌else◌}
+use Rattle.std.specs.Prelude.{List, [], ◌∷◌, if◌then◌else◌}
 use Rattle.pic8259.specs.declared.calls.Call.{Call}
 use Rattle.pic8259.specs.declared.calls.Call.TheVariants.{Write, Read, Pulse, Line, Acknowledge}
 use Rattle.pic8259.specs.declared.calls.Reply.{Reply}
@@ -10,7 +10,7 @@ use Rattle.pic8259.specs.Controller.{Controller, written, answer, pulsed, line, 
 abbrev pub after_one : Call → Controller → Controller
 after_one (Write a0 v) s = written a0 v s
 after_one (Read a0) s = s
-after_one (Pulse k) s = if nat_lt k 8 then pulsed k s else s
+after_one (Pulse k) s = pulsed k s
 after_one Line s = s
 after_one Acknowledge s = if line s then acknowledged s else s
 

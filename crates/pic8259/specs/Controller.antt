@@ -1,4 +1,5 @@
--- The 8259A of this board (8259A data sheet, fully nested mode): sets of levels, and what each call does to them.
+-- The 8259A of this board (8259A data sheet, "Fully Nested Mode"; the words by "Initialization Command Word Format" and
+-- "Operation Command Word Format"): sets of levels, and what each call does to them.
 use Rattle.std.specs.Prelude.{ℕ, Bool, true, false, not, ◌≡◌, ◌==◌, ◌+◌, ◌*◌, ◌/◌, ◌%◌, ◌&&◌, ◌||◌, nat_lt, if◌then◌else◌, ◌<◌, ◌≤◌, Option, Some, None, is_some, unwrap_or, map}
 use Rattle.std.specs.List.{list_all, range_with_len}
 use Rattle.pic8259.specs.Levels.{has, with_level, without_level, level_at, rank, highest}
@@ -20,9 +21,9 @@ pub record Controller : Type 0 where
 abbrev pub reset : Controller
 reset = record { requested = 0; in_service = 0; masked = 0; lowest = 7; base = 0; reads_service = false; automatic = false; mode_8086 = false; awaits_vector = false; awaits_cascade = false; awaits_mode = false }
 
--- a request line rises: the request stays until it is acknowledged, or until ICW1
+-- request line k rises: the request stays until it is acknowledged, or until ICW1; there are the lines 0 to 7 alone
 abbrev pub pulsed : ℕ → Controller → Controller
-pulsed k s = record s { requested = with_level k s.requested }
+pulsed k s = if nat_lt k 8 then record s { requested = with_level k s.requested } else s
 
 -- requested and not masked
 abbrev pub is_wanted : Controller → ℕ → Bool
@@ -36,7 +37,14 @@ is_above lowest in_service k = list_all (λ j. nat_lt (rank lowest k) (rank lowe
 unfoldable pub pending : Controller → Option ℕ
 pending s = highest s.lowest (λ k. is_above s.lowest (has s.in_service) k && is_wanted s k)
 
--- a level that is next, said of the sets
+-- a level that may interrupt: requested, unmasked and of higher priority than every level in service
+pub record MayInterrupt (s : Controller) (k : ℕ) : Type 0 where
+  pub is_level : k < 8
+  pub requested : has s.requested k ≡ true
+  pub unmasked : has s.masked k ≡ false
+  pub above_service : (j : ℕ) → j < 8 → has s.in_service j ≡ true → rank s.lowest k < rank s.lowest j
+
+-- the level that is next: it may interrupt, and has the highest priority of all that are requested and unmasked
 pub record IsNext (s : Controller) (k : ℕ) : Type 0 where
   pub is_level : k < 8
   pub requested : has s.requested k ≡ true

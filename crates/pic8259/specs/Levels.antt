@@ -14,7 +14,7 @@ with_level k levels = bit_or levels (2 ^ k)
 abbrev pub without_level : ℕ → ℕ → ℕ
 without_level k levels = bit_and levels (255 - 2 ^ k)
 
--- the level at a place of the order of priority: the highest is the one behind the lowest
+-- the level at a place of the order of priority: the highest is the one after the lowest
 abbrev pub level_at : ℕ → ℕ → ℕ
 level_at lowest place = (lowest + 1 + place) % 8
 

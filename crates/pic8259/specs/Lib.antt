@@ -1,5 +1,5 @@
 pub mod Levels
 pub mod Controller
-pub mod Shown
-pub mod ShownPic
+pub mod Registers
+pub mod Pic
 pub mod Calls

@@ -1,9 +1,9 @@
 //! The laws: over every list of calls, and of the sets and their order.
 
-ghost use Rattle.std.specs.Prelude.{◌≡◌, ℕ, ◌<◌, Bool, true, false, ◌==◌, not, ◌&&◌, ◌||◌, Some, None, length};
+ghost use Rattle.std.specs.Prelude.{◌≡◌, ℕ, ◌<◌, ◌+◌, Bool, true, false, ◌==◌, not, ◌&&◌, ◌||◌, Some, None, length};
 ghost use Rattle.pic8259.specs.Levels.{has, with_level, without_level, rank, highest, IsHighest};
-ghost use Rattle.pic8259.specs.Controller.{Controller, reset, pending, IsNext};
-ghost use Rattle.pic8259.specs.ShownPic.{controller_of};
+ghost use Rattle.pic8259.specs.Controller.{Controller, reset, pending, MayInterrupt, IsNext, line, vector, acknowledged, taken};
+ghost use Rattle.pic8259.specs.Pic.{controller_of};
 ghost use Rattle.pic8259.specs.Calls.{after, after_one, reply_of, replies_of};
 
 use crate::pic::Pic;
@@ -11,12 +11,15 @@ use crate::pic::Pic;
 /// A call of the chip.
 #[derive(Clone, Copy, PartialEq, Eq, Debug)]
 pub enum Call {
+    /// A word at this level of line A0.
     Write(u8, u8),
+    /// A read at this level of line A0.
     Read(u8),
-    /// Does nothing for a number above 7.
+    /// A rise of this request line, 0 to 7; any other number does nothing.
     Pulse(u8),
+    /// Whether INT is up.
     Line,
-    /// Does nothing while the line is down.
+    /// An acknowledgement; it does nothing while INT is down.
     Acknowledge,
 }
 
@@ -24,7 +27,9 @@ pub enum Call {
 #[derive(Clone, Copy, PartialEq, Eq, Debug)]
 pub enum Reply {
     Nothing,
+    /// The byte that was read, or the vector.
     Byte(u8),
+    /// Whether INT is up.
     Level(bool),
 }
 
@@ -39,9 +44,7 @@ fn make(pic: &mut Pic, call: Call) -> Reply
         }
         Call::Read(a0) => Reply::Byte(pic.read(a0)),
         Call::Pulse(level) => {
-            if level < 8 {
-                pic.pulse(level);
-            }
+            pic.pulse(level);
             Reply::Nothing
         }
         Call::Line => Reply::Level(pic.int_line()),
@@ -82,7 +85,17 @@ pub fn highest_law()
     ensures none { (lowest : ℕ) (test : ℕ → Bool) → lowest < 8 → highest lowest test ≡ None → (k : ℕ) → k < 8 → test k ≡ false }
 {}
 
-/// The law of the next level: it is requested, unmasked and above every level in service, and the highest such one.
+/// The law of the next level: it is the one level that is requested, unmasked, above every level in service, and the highest
+/// such one.
 pub fn next_law()
-    ensures { (s : Controller) (k : ℕ) → s.lowest < 8 → pending s ≡ Some k → IsNext s k }
+    ensures next { (s : Controller) (k : ℕ) → s.lowest < 8 → pending s ≡ Some k → IsNext s k }
+    ensures found { (s : Controller) (k : ℕ) → s.lowest < 8 → IsNext s k → pending s ≡ Some k }
+{}
+
+/// The law of INT: it is up exactly where, in 8086 mode, some requested, unmasked level has higher priority than every level in
+/// service. An acknowledgement then takes the highest such level, and its vector is that level's.
+pub fn line_law()
+    ensures up { (s : Controller) (k : ℕ) → s.lowest < 8 → s.mode_8086 ≡ true → MayInterrupt s k → line s ≡ true }
+    ensures mode { (s : Controller) → line s ≡ true → s.mode_8086 ≡ true }
+    ensures level { (s : Controller) → s.lowest < 8 → line s ≡ true → (k : ℕ) × IsNext s k × (vector s ≡ s.base + k) × (acknowledged s ≡ taken (Some k) s) }
 {}

@@ -10,5 +10,5 @@ mod levels;
 mod pic;
 mod registers;
 
-pub use calls::{Call, Reply, highest_law, next_law, replay, sets_law};
+pub use calls::{Call, Reply, highest_law, line_law, next_law, replay, sets_law};
 pub use pic::Pic;

@@ -3,14 +3,15 @@
 ghost use Rattle.std.specs.Prelude.{◌≡◌, ◌<◌, Bool, true};
 ghost use Rattle.std.specs.Option.{ForSome};
 ghost use Rattle.pic8259.specs.Controller.{pending};
-ghost use Rattle.pic8259.specs.Shown.{shown};
+ghost use Rattle.pic8259.specs.Registers.{shown};
 
 use crate::registers::Registers;
 
-/// The 8259A, a single one in fully nested mode (8259A data sheet). Levels are the numbers 0 to 7 of its request lines.
+/// The 8259A, a single one in fully nested mode (8259A data sheet, "Fully Nested Mode", and the formats of its command words).
+/// Levels are the numbers 0 to 7 of its request lines.
 ///
 /// What each call does is an equation over the definition's state: three sets of levels, the vector, the mode and the
-/// initialisation words still awaited. A poll of the INT line costs no search: each change finds the next level once.
+/// initialisation words still awaited. To read the INT line costs no search: each change finds the next level once.
 #[derive(Clone, Copy, Debug)]
 pub struct Pic {
     registers: Registers,
@@ -22,7 +23,7 @@ pub struct Pic {
 
 impl Pic {
     ghost use Rattle.pic8259.specs.Controller.{reset, pulsed, line, vector, acknowledged, written, answer};
-    ghost use Rattle.pic8259.specs.ShownPic.{controller_of};
+    ghost use Rattle.pic8259.specs.Pic.{controller_of};
 
     /// The chip at reset: nothing requested, in service, masked or awaited, and not in 8086 mode, so that INT is down.
     pub fn reset() -> Self
@@ -58,11 +59,13 @@ impl Pic {
         *self = Pic::of(registers);
     }
 
-    /// Request line `level` rises.
+    /// Request line `level` rises. There are the lines 0 to 7: any other number does nothing.
     pub fn pulse(&mut self, level: u8)
-        requires { level < 8 }
         ensures { controller_of self.new ≡ pulsed level (controller_of self.old) }
     {
+        if level >= 8 {
+            return;
+        }
         let mut registers = self.registers;
         registers.request(level);
         *self = Pic::of(registers);

@@ -19,7 +19,7 @@ pub struct Registers {
     requested: Levels,
     in_service: Levels,
     masked: Levels,
-    /// The level of lowest priority; the one behind it is the highest.
+    /// The level of lowest priority; the next one, or 0 after 7, is the highest.
     lowest: u8,
     /// The vector of level 0.
     base: u8,
@@ -37,7 +37,7 @@ pub struct Registers {
 
 impl Registers {
     ghost use Rattle.pic8259.specs.Controller.{reset, pulsed, is_wanted, pending, taken, initialised, selected, ended, commanded, configured, written, answer};
-    ghost use Rattle.pic8259.specs.Shown.{shown};
+    ghost use Rattle.pic8259.specs.Registers.{shown};
     ghost use Rattle.pic8259.specs.Levels.{highest};
     ghost use Rattle.std.specs.Prelude.{Some};
 
@@ -149,7 +149,7 @@ impl Registers {
         }
     }
 
-    /// A word at A0 = 0: ICW1, OCW3 or OCW2.
+    /// A word at A0 = 0: ICW1 with bit 4 set, else OCW3 with bit 3 set, else OCW2.
     fn command(&mut self, v: u8)
         ensures { shown self.new ≡ commanded v (shown self.old) }
     {
@@ -162,7 +162,7 @@ impl Registers {
         }
     }
 
-    /// ICW1.
+    /// ICW1 (8259A data sheet, "Initialization Command Word Format"): bit 0 announces ICW4, bit 1 that there is no ICW3.
     fn initialise(&mut self, v: u8)
         ensures { shown self.new ≡ initialised v (shown self.old) }
     {
@@ -181,7 +181,8 @@ impl Registers {
         };
     }
 
-    /// OCW3.
+    /// OCW3 (8259A data sheet, "Operation Command Word Format"): with bit 1 set, bit 0 chooses the register that is read, the
+    /// levels in service or the requested ones. Poll and special mask mode are not built in.
     fn select(&mut self, v: u8)
         ensures { shown self.new ≡ selected v (shown self.old) }
     {
@@ -190,7 +191,8 @@ impl Registers {
         }
     }
 
-    /// OCW2: end of interrupt.
+    /// OCW2 (8259A data sheet, "Operation Command Word Format"): bits 7 to 5 are 001 for the end of the highest level in
+    /// service, 011 for that of the level of bits 2 to 0. The rotating commands do nothing.
     fn end(&mut self, v: u8)
         ensures { shown self.new ≡ ended v (shown self.old) }
     {
@@ -204,7 +206,7 @@ impl Registers {
         }
     }
 
-    /// A word at A0 = 1: ICW2 to ICW4 while they are awaited, else the mask.
+    /// A word at A0 = 1: ICW2 to ICW4 while they are awaited (8259A data sheet, "Initialization Sequence"), else OCW1, the mask.
     fn configure(&mut self, v: u8)
         ensures { shown self.new ≡ configured v (shown self.old) }
     {

@@ -7,7 +7,9 @@ use Rattle.pit8253.proofs.Congruence.{alike_one, alike_high, alike_trans, alike_
 use Rattle.pit8253.specs.declared.element.Element.{Element}
 use Rattle.pit8253.specs.declared.element.Element.TheVariants as code
 use Rattle.pit8253.specs.declared.channel.Channel.{Channel}
-use Rattle.pit8253.specs.Shown.{IsPart, IsStart, IsPartOf, shown, element_view}
+use Rattle.pit8253.specs.Channel.{IsPart, IsPartOf, shown}
+use Rattle.pit8253.specs.Inner.Segment.{IsStart}
+use Rattle.pit8253.specs.Element.{element_view}
 use Rattle.pit8253.proofs.Phases.{split}
 
 moved_alike : (b : Bool) (m n : Progress) → Alike m n → Alike (moved b m) (moved b n)

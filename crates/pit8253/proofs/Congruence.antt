@@ -4,8 +4,9 @@ use Rattle.std.proofs.Math.Nat.{add-mod, zero-mod}
 use Rattle.std.proofs.lemmas.Bool.Decides.{nat_tests}
 use Rattle.std.specs.Prelude.{◌==◌, Option, Some, None}
 use Rattle.pit8253.specs.declared.mode.Waveform.{Waveform}
-use Rattle.pit8253.specs.Progress.{Progress, Still, Once, Again, renewed, one, level, is_high, SamePhase, SameOnce, Alike, next_of}
-use Rattle.pit8253.specs.Shown.{IsPartOf, IsStartOf}
+use Rattle.pit8253.specs.Progress.{Progress, Still, Once, Again, renewed, one, out_at, is_high, SamePhase, SameOnce, Alike, next_of}
+use Rattle.pit8253.specs.Channel.{IsPartOf}
+use Rattle.pit8253.specs.Inner.Segment.{IsStartOf}
 use Rattle.pit8253.proofs.Phases.{wave, wave_at}
 
 phase_mod_pos : (n p r : ℕ) → 0 < p → 0 < r → (p - 1) % n ≡ (r - 1) % n → p % n ≡ r % n
@@ -81,7 +82,7 @@ alike_one (Again s n a p) (Once m r) h = absurd h
 pub wave_same : (s : Waveform) (n p r : ℕ) → SamePhase n p r → wave s n p ≡ wave s n r
 wave_same s n zero r h = ap (wave s n) (sym (h.0 refl))
 wave_same s n (suc p) zero h = absurd (let z : suc p ≡ 0 = h.1 refl in omega arith)
-wave_same s n (suc p) (suc r) h = wave_at s n (suc p) (omega arith) ∙ (ap (level s n) h.2 ∙ sym (wave_at s n (suc r) (omega arith)))
+wave_same s n (suc p) (suc r) h = wave_at s n (suc p) (omega arith) ∙ (ap (out_at s n) h.2 ∙ sym (wave_at s n (suc r) (omega arith)))
 
 once_high : (n p r : ℕ) → SameOnce n p r → ltb n p ≡ ltb n r
 once_high n p r (inl e) = ap (ltb n) e

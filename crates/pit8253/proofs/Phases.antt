@@ -5,23 +5,25 @@ use Rattle.std.specs.Prelude.{◌==◌, Option, Some, None, if◌then◌else◌}
 use Rattle.std.proofs.lemmas.Bool.Decides.{nat_tests}
 use Rattle.pit8253.specs.declared.mode.Waveform.{Waveform}
 use Rattle.pit8253.specs.declared.mode.Waveform.TheVariants.{Rate, Square}
-use Rattle.pit8253.specs.Progress.{Progress, Still, Once, Again, renewed, one, level, is_high, pulses, Rises, SamePhase, Alike, count, count_at}
-use Rattle.pit8253.specs.Shown.{IsPartOf, IsStartOf}
+use Rattle.pit8253.specs.Progress.{Progress, Still, Once, Again, renewed, one, out_at, is_high, SamePhase, Alike, count, count_at}
+use Rattle.pit8253.specs.Inner.Progress.{pulses, Rises}
+use Rattle.pit8253.specs.Channel.{IsPartOf}
+use Rattle.pit8253.specs.Inner.Segment.{IsStartOf}
 
 -- a period begins high
-pub level_first : (s : Waveform) (n : ℕ) → 0 < n → level s n 0 ≡ true
-level_first Rate n h = grind (arith, nat_tests)
-level_first Square n h = grind (arith, nat_tests)
+pub out_first : (s : Waveform) (n : ℕ) → 0 < n → out_at s n 0 ≡ true
+out_first Rate n h = grind (arith, nat_tests)
+out_first Square n h = grind (arith, nat_tests)
 
 -- it ends low, unless it is one pulse long
-pub level_last : (s : Waveform) (n : ℕ) → 1 < n → level s n (n - 1) ≡ false
-level_last Rate n h = grind (arith, nat_tests)
-level_last Square n h = grind (arith, nat_tests)
+pub out_last : (s : Waveform) (n : ℕ) → 1 < n → out_at s n (n - 1) ≡ false
+out_last Rate n h = grind (arith, nat_tests)
+out_last Square n h = grind (arith, nat_tests)
 
 -- and does not rise within
-pub level_falls : (s : Waveform) (n q : ℕ) → q + 1 < n → level s n q ≡ false → level s n (q + 1) ≡ true → ⊥
-level_falls Rate n q h low high = grind (arith, nat_tests)
-level_falls Square n q h low high = grind (arith, nat_tests)
+pub out_falls : (s : Waveform) (n q : ℕ) → q + 1 < n → out_at s n q ≡ false → out_at s n (q + 1) ≡ true → ⊥
+out_falls Rate n q h low high = grind (arith, nat_tests)
+out_falls Square n q h low high = grind (arith, nat_tests)
 
 pub pulses_suc : (k : ℕ) (s : Progress) → pulses (suc k) s ≡ one (pulses k s)
 unfolding pulses
@@ -53,25 +55,25 @@ pulses_start s n m p (suc k) a =
     ap one (pulses_start s n m p k a) ∙ ap (λ x. Again s m None x) x
 
 abbrev pub wave : Waveform → ℕ → ℕ → Bool
-wave s n p = (p == 0) || level s n ((p - 1) % n)
+wave s n p = (p == 0) || out_at s n ((p - 1) % n)
 
-pub wave_at : (s : Waveform) (n p : ℕ) → 0 < p → wave s n p ≡ level s n ((p - 1) % n)
+pub wave_at : (s : Waveform) (n p : ℕ) → 0 < p → wave s n p ≡ out_at s n ((p - 1) % n)
 wave_at s n p h =
     let no : (p == 0) ≡ false = grind (arith, nat_tests) in
-    ap (λ b. b || level s n ((p - 1) % n)) no
+    ap (λ b. b || out_at s n ((p - 1) % n)) no
 
 -- in the first period the phase is the number itself
-pub wave_early : (s : Waveform) (n p : ℕ) → 0 < p → p ≤ n → wave s n p ≡ level s n (p - 1)
+pub wave_early : (s : Waveform) (n p : ℕ) → 0 < p → p ≤ n → wave s n p ≡ out_at s n (p - 1)
 wave_early s n p a b =
     let below : p - 1 < n = omega arith in
-    wave_at s n p a ∙ ap (level s n) (mod-eq_of_lt below)
+    wave_at s n p a ∙ ap (out_at s n) (mod-eq_of_lt below)
 
 -- no rise inside a period
 pub wave_falls : (s : Waveform) (n p : ℕ) → 0 < p → p < n → wave s n p ≡ false → wave s n (p + 1) ≡ true → ⊥
 wave_falls s n p a b low high =
     let x : p - 1 + 1 ≡ p + 1 - 1 = omega arith in
-    level_falls s n (p - 1) (omega arith) (sym (wave_early s n p a (omega arith)) ∙ low)
-    (ap (level s n) x ∙ (sym (wave_early s n (p + 1) (omega arith) (omega arith)) ∙ high))
+    out_falls s n (p - 1) (omega arith) (sym (wave_early s n p a (omega arith)) ∙ low)
+    (ap (out_at s n) x ∙ (sym (wave_early s n (p + 1) (omega arith) (omega arith)) ∙ high))
 
 pub no_rise_inside : (s : Waveform) (n m p k : ℕ) → 0 < p → p + k ≤ n → Rises k (Again s n (Some m) p) → ⊥
 no_rise_inside s n m p k a b (i, below, low, high) =
@@ -84,18 +86,18 @@ pub high_start : (s : Waveform) (n m p k : ℕ) → p % n ≡ 0 → is_high (pul
 high_start s n m p k a = ap is_high (pulses_start s n m p k a)
 
 pub wave_first : (s : Waveform) (m : ℕ) → 0 < m → wave s m 1 ≡ true
-wave_first s m h = wave_early s m 1 (omega arith) (omega arith) ∙ level_first s m h
+wave_first s m h = wave_early s m 1 (omega arith) (omega arith) ∙ out_first s m h
 
 pub wave_over : (s : Waveform) (m : ℕ) → 1 < m → wave s m m ≡ false
-wave_over s m h = wave_early s m m (omega arith) (omega arith) ∙ level_last s m h
+wave_over s m h = wave_early s m m (omega arith) (omega arith) ∙ out_last s m h
 
 pub wave_again : (s : Waveform) (m : ℕ) → 1 < m → wave s m (suc m) ≡ true
 wave_again s m h =
     let x : suc m - 1 ≡ m = omega arith in
-    wave_at s m (suc m) (omega arith) ∙ (ap (level s m) (ap (λ y. y % m) x ∙ mod_self m) ∙ level_first s m (omega arith))
+    wave_at s m (suc m) (omega arith) ∙ (ap (out_at s m) (ap (λ y. y % m) x ∙ mod_self m) ∙ out_first s m (omega arith))
 
 pub wave_one : (s : Waveform) (p : ℕ) → 0 < p → wave s 1 p ≡ true
-wave_one s p h = wave_at s 1 p h ∙ (ap (level s 1) (mod-one (p - 1)) ∙ level_first s 1 (omega arith))
+wave_one s p h = wave_at s 1 p h ∙ (ap (out_at s 1) (mod-one (p - 1)) ∙ out_first s 1 (omega arith))
 
 -- two whole periods, where there is more than one
 two_periods_at : (m k q : ℕ) → m < k → k ≡ m * q → 2 * m ≤ k
@@ -114,7 +116,7 @@ clash e = cc
 pub split : (a b : ℕ) → (a < b) ⊎ (b ≤ a)
 split a b = grind arith
 
--- a rise among k pulses from a period's start, read from behind
+-- a rise among k pulses from a period's start, counted from its end
 rise_later : (s : Waveform) (m k i : ℕ) → 0 < m → suc i < k → (k ≤ m) ⊎ (k % m ≡ 0) → wave s m (suc i) ≡ false → wave s m (suc i + 1) ≡ true → (2 ≤ m) × (2 * m ≤ k)
 rise_later s m k i pm below parts low high =
     elim (split (suc i) m) [
@@ -187,12 +189,12 @@ moved_start s n m p (suc k) c a pm pk h = moved_start_at s n m p k c a (same_pha
 
 pub rate_high : (n p : ℕ) → 0 < p → p ≤ n → n ≢ 1 → not (nat_eq p n) ≡ wave Rate n p
 rate_high n p a b d =
-    let f : not (nat_eq p n) ≡ level Rate n (p - 1) = grind (arith, nat_tests) in
+    let f : not (nat_eq p n) ≡ out_at Rate n (p - 1) = grind (arith, nat_tests) in
     f ∙ sym (wave_early Rate n p a b)
 
 pub square_high : (n p : ℕ) → 0 < p → p ≤ n → nat_lt (p - 1) ((n + 1) / 2) ≡ wave Square n p
 square_high n p a b =
-    let f : nat_lt (p - 1) ((n + 1) / 2) ≡ level Square n (p - 1) = grind (arith, nat_tests) in
+    let f : nat_lt (p - 1) ((n + 1) / 2) ≡ out_at Square n (p - 1) = grind (arith, nat_tests) in
     f ∙ sym (wave_early Square n p a b)
 
 pub not_start_pos : (n p : ℕ) → p % n ≢ 0 → 0 < p
@@ -239,7 +241,7 @@ whole_part m k =
     let x : k - k % m ≡ m * (k / m) = omega (arith, div-add-mod k m) in
     ap (λ y. y % m) x ∙ mul-mod_right m (k / m)
 
--- what is left behind whole periods is less than one
+-- what is left after whole periods is less than one
 whole_rest_at : (s : Waveform) (n m p j r : ℕ) → p % n ≡ 0 → j % m ≡ 0 → r ≤ m → IsPartOf r (pulses j (Again s n (Some m) p))
 whole_rest_at s n m p zero r a b c = subst (λ x. IsPartOf r x) (sym (pulses_none (Again s n (Some m) p))) (inr (a, inl c))
 whole_rest_at s n m p (suc j) r a b c = subst (λ x. IsPartOf r x) (sym (pulses_start s n m p j a)) (inr (b, inl c))

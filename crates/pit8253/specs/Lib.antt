@@ -1,6 +1,7 @@
 pub mod Progress
-pub mod View
 pub mod Timer
-pub mod Shown
-pub mod ShownTimer
+pub mod Element
+pub mod Channel
+pub mod Pit
 pub mod Calls
+pub mod Inner

@@ -1,5 +1,5 @@
 -- How far a channel has counted: what one pulse does, and OUT and the count as closed forms in the count N and the
--- number p of pulses since it was loaded (8253 data sheet, modes 0, 2 and 3).
+-- number p of pulses since it was loaded (8253 data sheet, "Mode Definition": modes 0, 2 and 3).
 use Rattle.std.specs.Prelude.{ℕ, zero, suc, Bool, true, false, not, ◌≡◌, ◌==◌, ltb, ◌+◌, ◌-◌, ◌*◌, ◌/◌, ◌%◌, ◌<◌, ◌||◌, ◌⊎◌, if◌then◌else◌, Option, Some, None}
 use Rattle.pit8253.specs.declared.mode.Waveform.{Waveform}
 use Rattle.pit8253.specs.declared.mode.Waveform.TheVariants.{Rate, Square}
@@ -31,24 +31,15 @@ one (Again waveform n (Some m) p) = renewed (p % n == 0) waveform n m p
 
 -- OUT at phase q of a period of n pulses: mode 2 is low exactly while the count is 1, and high always for a period of one
 -- pulse; mode 3 is high for the first half, rounded up
-abbrev pub level : Waveform → ℕ → ℕ → Bool
-level Rate n q = (n == 1) || not (n - q == 1)
-level Square n q = ltb q ((n + 1) / 2)
+abbrev pub out_at : Waveform → ℕ → ℕ → Bool
+out_at Rate n q = (n == 1) || not (n - q == 1)
+out_at Square n q = ltb q ((n + 1) / 2)
 
 -- OUT: in mode 0 high from p = N + 1 on
 abbrev pub is_high : Progress → Bool
 is_high (Still high) = high
 is_high (Once n p) = ltb n p
-is_high (Again waveform n newer p) = (p == 0) || level waveform n ((p - 1) % n)
-
--- k single pulses
-unfoldable pub pulses : ℕ → Progress → Progress
-pulses zero s = s
-pulses (suc k) s = one (pulses k s)
-
--- OUT changes from low to high at one of k single pulses
-abbrev pub Rises : ℕ → Progress → Type 0
-Rises k s = (i : ℕ) × (i < k) × (is_high (pulses i s) ≡ false) × (is_high (pulses (suc i) s) ≡ true)
+is_high (Again waveform n newer p) = (p == 0) || out_at waveform n ((p - 1) % n)
 
 -- two numbers of pulses that differ by whole periods of n
 abbrev pub SamePhase : ℕ → ℕ → ℕ → Type 0

@@ -1,5 +1,5 @@
--- The 8253 of this board: three channels, what a call does to them and what it answers. Modes 0, 2 and 3 in binary; control
--- words of the other modes and of BCD are ignored.
+-- The 8253 of this board: three channels, what a call does to them and what it answers (8253 data sheet, "Control Word Format",
+-- "Programming Format" and "Read Operations"). Modes 0, 2 and 3 in binary; control words of the other modes and of BCD are ignored.
 use Rattle.std.specs.Prelude.{ℕ, zero, suc, Bool, true, false, not, ◌≡◌, ◌==◌, ◌+◌, ◌*◌, ◌/◌, ◌%◌, ◌<◌, ◌&&◌, ◌||◌, if◌then◌else◌, Option, Some, None, is_some}
 use Rattle.pit8253.specs.declared.mode.Waveform.TheVariants.{Rate, Square}
 use Rattle.pit8253.specs.declared.mode.Mode.{Mode}

@@ -2,7 +2,7 @@
 
 ghost use Rattle.std.specs.Prelude.{◌≡◌, true, length};
 ghost use Rattle.pit8253.specs.Timer.{Timer, timer_reset, timer_pulses};
-ghost use Rattle.pit8253.specs.ShownTimer.{Shows};
+ghost use Rattle.pit8253.specs.Pit.{Shows};
 ghost use Rattle.pit8253.specs.Calls.{after, after_one, reply_of, replies_of};
 
 use crate::pit::Pit;
@@ -10,10 +10,15 @@ use crate::pit::Pit;
 /// A call of the chip.
 #[derive(Clone, Copy, PartialEq, Eq, Debug)]
 pub enum Call {
+    /// A byte is written to this register, 0 to 3.
     Write(u8, u8),
+    /// A read of this register, 0 to 3.
     Read(u8),
+    /// The gate of channel 2 goes high or low.
     Gate(bool),
+    /// This number of pulses on every channel.
     Pulse(u16),
+    /// OUT of this channel, 0 to 2.
     Out(u8),
 }
 
@@ -21,8 +26,9 @@ pub enum Call {
 #[derive(Clone, Copy, PartialEq, Eq, Debug)]
 pub enum Reply {
     Done,
+    /// The byte that was read.
     Byte(u8),
-    /// A level of OUT, or whether channel 0's rose.
+    /// Whether OUT is high, or of pulses whether channel 0's rose.
     Level(bool),
 }
 

@@ -53,7 +53,8 @@ pub struct Channel {
 
 impl Channel {
     ghost use Rattle.pit8253.specs.Timer.{pulses, Rises, AlikeCounters, out, is_counting, reset, set_to, latched, count_of, read, answer, gated, written, load, command};
-    ghost use Rattle.pit8253.specs.Shown.{shown, IsPart, IsStart};
+    ghost use Rattle.pit8253.specs.Channel.{shown, IsPart};
+    ghost use Rattle.pit8253.specs.Inner.Segment.{IsStart};
 
     /// A channel without a mode.
     pub(crate) fn reset(gate: bool) -> Self
@@ -188,7 +189,7 @@ impl Channel {
         self.element.load(self.mode, count);
     }
 
-    /// The gate has this level.
+    /// The gate goes high or low, or stays so.
     pub(crate) fn set_gate(&mut self, gate: bool)
         ensures { AlikeCounters (shown self.new) (gated gate (shown self.old)) }
     {

@@ -20,9 +20,12 @@ pub struct Cycle {
 }
 
 impl Cycle {
-    ghost use Rattle.pit8253.specs.Progress.{pulses, Rises, Alike, is_high, Again, count};
-    ghost use Rattle.pit8253.specs.View.{view, IsSegment};
-    ghost use Rattle.pit8253.specs.Shown.{IsStartOf, IsPartOf};
+    ghost use Rattle.pit8253.specs.Inner.Progress.{pulses, Rises};
+    ghost use Rattle.pit8253.specs.Progress.{Alike, is_high, Again, count};
+    ghost use Rattle.pit8253.specs.Element.{view};
+    ghost use Rattle.pit8253.specs.Inner.Segment.{IsSegment};
+    ghost use Rattle.pit8253.specs.Inner.Segment.{IsStartOf};
+    ghost use Rattle.pit8253.specs.Channel.{IsPartOf};
 
     /// A count that was just loaded.
     pub fn new(waveform: Waveform, period: u32) -> Self
@@ -116,7 +119,7 @@ impl Cycle {
         rose
     }
 
-    /// Whether OUT rises in `k` pulses from a period's start: at the first pulse if it is low, else behind a whole period.
+    /// Whether OUT rises in `k` pulses from a period's start: at the first pulse if it is low, else after a whole period.
     fn rises(&self, k: u32) -> bool
         requires within { IsSegment k self.now }
         requires start { self.now.pulses % self.now.period ≡ 0 }

@@ -9,16 +9,19 @@ use crate::once::Once;
 /// What a channel counts.
 #[derive(Clone, Copy, Debug)]
 pub enum Element {
-    /// Nothing yet; OUT has this level.
+    /// Nothing yet; whether OUT is high.
     Still(bool),
     Once(Once),
     Again(Cycle),
 }
 
 impl Element {
-    ghost use Rattle.pit8253.specs.Progress.{pulses, Rises, Alike, count, is_high};
+    ghost use Rattle.pit8253.specs.Inner.Progress.{pulses, Rises};
+    ghost use Rattle.pit8253.specs.Progress.{Alike, count, is_high};
     ghost use Rattle.pit8253.specs.Timer.{restarted, loaded};
-    ghost use Rattle.pit8253.specs.Shown.{element_view, IsPartOf, IsStartOf};
+    ghost use Rattle.pit8253.specs.Element.{element_view};
+    ghost use Rattle.pit8253.specs.Channel.{IsPartOf};
+    ghost use Rattle.pit8253.specs.Inner.Segment.{IsStartOf};
 
     /// OUT, while the gate is high.
     pub fn is_high(&self) -> bool

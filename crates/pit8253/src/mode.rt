@@ -1,4 +1,4 @@
-//! What a control word chooses.
+//! What a control word chooses (8253 data sheet, "Control Word Format").
 
 /// The waveform of a count that is counted again and again.
 #[derive(Clone, Copy, PartialEq, Eq, Debug)]

@@ -13,8 +13,9 @@ pub struct Once {
 }
 
 impl Once {
-    ghost use Rattle.pit8253.specs.Progress.{pulses, Rises, Alike, is_high, count};
-    ghost use Rattle.pit8253.specs.View.{once_view};
+    ghost use Rattle.pit8253.specs.Inner.Progress.{pulses, Rises};
+    ghost use Rattle.pit8253.specs.Progress.{Alike, is_high, count};
+    ghost use Rattle.pit8253.specs.Element.{once_view};
 
     /// The count, below 65,536.
     pub fn count_now(&self) -> u32

@@ -2,7 +2,7 @@
 
 ghost use Rattle.std.specs.Prelude.{◌≡◌, ℕ, ◌+◌, ◌-◌, ◌/◌, ◌%◌, ◌<◌, ◌≤◌, MatchBool};
 ghost use Rattle.pit8253.specs.Timer.{pulses, Rises, AlikeCounters};
-ghost use Rattle.pit8253.specs.Shown.{shown};
+ghost use Rattle.pit8253.specs.Channel.{shown};
 
 use crate::channel::{Channel, Segments};
 
@@ -41,7 +41,8 @@ fn advance_singly(channel: &mut Channel, k: u16, segments: &mut Segments) -> boo
     rose
 }
 
-/// The 8253 with its three channels, 0 to 2 (8253 data sheet; modes 0, 2 and 3, in binary).
+/// The 8253 with its three channels, 0 to 2 (8253 data sheet, "Control Word Format", "Mode Definition" and "Programming Format"
+/// for the order of writes; modes 0, 2 and 3, in binary).
 ///
 /// A channel's definition counts its pulses without a bound. So each call is stated for every state of the definition that
 /// the chip shows: it shows the definition's next state afterwards, and its answer is the definition's.
@@ -54,7 +55,7 @@ pub struct Pit {
 
 impl Pit {
     ghost use Rattle.pit8253.specs.Timer.{timer_reset, timer_written, timer_read, timer_answer, timer_out, timer_gated, timer_pulses, on, command, rose, Timer};
-    ghost use Rattle.pit8253.specs.ShownTimer.{Shows, timer_shown, segments_of};
+    ghost use Rattle.pit8253.specs.Pit.{Shows, timer_shown, segments_of};
 
     /// The chip at reset: OUT high, no mode, count 0; the gates of channels 0 and 1 are high, that of channel 2 is low.
     pub fn reset() -> Self
@@ -123,8 +124,10 @@ impl Pit {
         }
     }
 
-    /// Counts `k` pulses on every channel. Tells whether channel 0's OUT rose at least once.
+    /// Counts `k` pulses on every channel. Tells whether channel 0's OUT rose at least once. The channels together count at
+    /// most 9 segments, whatever `k`.
     pub fn pulse(&mut self, k: u16) -> bool
+        ensures segments { (n : ℕ) × (n ≤ 9) × (segments_of self.new ≡ (segments_of self.old + n) % 4294967296) }
         ensures moved { (c : Timer) → Shows self.old c → Shows self.new (timer_pulses k c) }
         ensures rose { (c : Timer) → Shows self.old c → MatchBool result (Rises k c.zero) (¬ Rises k c.zero) }
         ensures test { (c : Timer) → Shows self.old c → result ≡ rose k c.zero }

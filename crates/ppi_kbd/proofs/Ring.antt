@@ -1,10 +1,10 @@
--- A code joins the ring at the place behind its last one.
+-- A code joins the ring at the place after its last one.
 use Rattle.std.proofs.Common.{◌≡◌, ◌≢◌, ℕ, zero, suc, ◌+◌, ◌%◌, ◌<◌, List, [], ◌∷◌, ◌++◌, length, refl, sym, ap, ◌∙◌, arith, slice_index, slice_set, true, nat_lt, Option}
 use Rattle.std.specs.Prelude.{if◌then◌else◌}
 use Rattle.std.proofs.lemmas.Bool.Decides.{nat_tests}
 use Rattle.ppi_kbd.specs.Keyboard.{Keyboard, pressed}
 use Rattle.std.proofs.lemmas.Grind.{common_steps}
-use Rattle.ppi_kbd.specs.Shown.{ring}
+use Rattle.ppi_kbd.specs.Ports.{ring}
 
 index_same : (codes : List ℕ) (p v : ℕ) → p < length codes → slice_index (slice_set codes p v) p ≡ v
 index_same codes p v h = grind (arith, common_steps)

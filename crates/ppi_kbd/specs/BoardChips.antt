@@ -1,4 +1,4 @@
--- The chips of this board, as what stands behind the ports of a program or a processor: values and vectors have their widths.
+-- The chips of this board, as what a program or a processor finds on its ports: values and vectors have their widths.
 use Rattle.std.specs.Prelude.{ℕ, ◌<◌}
 use Rattle.std.proofs.Common.{lit<}
 use Rattle.std.proofs.lemmas.Nat.{mod_below, mul-add-lt}

@@ -2,7 +2,7 @@
 use Rattle.std.specs.Prelude.{List, [], ◌∷◌, if◌then◌else◌}
 use Rattle.word86.specs.declared.width.Width.TheVariants as width
 use Rattle.ppi_kbd.specs.declared.calls.Call.{Call}
-use Rattle.ppi_kbd.specs.declared.calls.Call.TheVariants.{Read, ReadWord, Write, WriteWord, Befall, Line, Acknowledge}
+use Rattle.ppi_kbd.specs.declared.calls.Call.TheVariants.{Read, ReadWord, Write, WriteWord, Comes, Line, Acknowledge}
 use Rattle.ppi_kbd.specs.declared.calls.Reply.{Reply}
 use Rattle.ppi_kbd.specs.declared.calls.Reply.TheVariants.{Nothing, Byte, Word, Level}
 use Rattle.ppi_kbd.specs.Chips.{ChipState, value, reading, writing, comes, line, vector, acknowledged}
@@ -13,7 +13,7 @@ after_one (Read port) c = reading c width.Byte port
 after_one (ReadWord port) c = reading c width.Word port
 after_one (Write port v) c = writing c width.Byte port v
 after_one (WriteWord port v) c = writing c width.Word port v
-after_one (Befall event) c = comes event c
+after_one (Comes event) c = comes event c
 after_one Line c = c
 after_one Acknowledge c = if line c then acknowledged c else c
 
@@ -23,7 +23,7 @@ reply_of (Read port) c = Byte (value c width.Byte port)
 reply_of (ReadWord port) c = Word (value c width.Word port)
 reply_of (Write port v) c = Nothing
 reply_of (WriteWord port v) c = Nothing
-reply_of (Befall event) c = Nothing
+reply_of (Comes event) c = Nothing
 reply_of Line c = Level (line c)
 reply_of Acknowledge c = if line c then Byte (vector c) else Nothing
 

@@ -30,7 +30,7 @@ raised false level s = s
 abbrev pub retimed : pit.Timer → ChipState → ChipState
 retimed t c = record c { timer = t; interrupts = raised (not (pit.timer_out 0 c.timer) && pit.timer_out 0 t) 0 c.interrupts }
 
--- the keyboard becomes this one, and then, with its clear line at this level, it moves on
+-- the keyboard becomes this one, and then, with its clear line up or down, it moves on
 abbrev pub typed : Bool → keys.Keyboard → ChipState → ChipState
 typed clear k c = record c { keyboard = keys.served clear k; interrupts = raised (keys.is_served clear k) 1 c.interrupts }
 
@@ -83,12 +83,12 @@ abbrev pub writing : ChipState → Width → ℕ → ℕ → ChipState
 writing c Byte port v = device_written (device_of port) v c
 writing c Word port v = device_written (device_of (next_port port)) (v / 256) (device_written (device_of port) (v % 256) c)
 
--- an event: so many pulses on every channel of the timer, or a code of the keyboard
+-- an event comes: k pulses on every channel of the timer, or a code of the keyboard
 abbrev pub comes : Event → ChipState → ChipState
 comes (Tick k) c = record c { timer = pit.timer_pulses k c.timer; interrupts = raised (pit.rose k c.timer.zero) 0 c.interrupts }
 comes (Key code) c = typed (clear_line c) (keys.pressed code c.keyboard) c
 
--- the INT line, and an acknowledgement with its vector
+-- INT, and an acknowledgement with its vector
 abbrev pub line : ChipState → Bool
 line c = pic.line c.interrupts
 

@@ -1,4 +1,5 @@
--- The 8255A of this board in mode 0 (8255A data sheet): three ports, each an input or an output, C by halves.
+-- The 8255A of this board in mode 0 (8255A data sheet, "Mode Definition Format" and "Bit Set/Reset Format"): three ports, each an
+-- input or an output, C by halves.
 use Rattle.std.specs.Prelude.{ℕ, Bool, true, not, ◌==◌, ◌+◌, ◌-◌, ◌*◌, ◌/◌, ◌%◌, ◌^◌, ◌&&◌, if◌then◌else◌, bit_and, bit_or}
 use Rattle.std.specs.Int.{bit_at}
 

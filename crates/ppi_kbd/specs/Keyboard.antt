@@ -1,4 +1,4 @@
--- The keyboard: a register that the processor reads, and a queue of codes behind it.
+-- The keyboard: a register that the processor reads, and a queue of codes that wait for it.
 use Rattle.std.specs.Prelude.{ℕ, Bool, true, false, not, ◌&&◌, nat_lt, if◌then◌else◌, Option, Some, None, unwrap_or, List, [], ◌∷◌, ◌++◌, length}
 
 pub record Keyboard : Type 0 where

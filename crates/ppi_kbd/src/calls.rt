@@ -5,7 +5,7 @@ ghost use Rattle.word86.specs.declared.width.Width.{Width};
 ghost use Rattle.word86.specs.Access.{values};
 ghost use Rattle.ppi_kbd.specs.Chips.{ChipState, reset};
 ghost use Rattle.ppi_kbd.specs.BoardChips.{board_chips};
-ghost use Rattle.ppi_kbd.specs.ShownPorts.{Shows};
+ghost use Rattle.ppi_kbd.specs.Ports.{Shows};
 ghost use Rattle.ppi_kbd.specs.Calls.{after, after_one, reply_of, replies_of};
 
 use crate::ports::Ports;
@@ -14,14 +14,19 @@ use word86::Event;
 /// A call of the port map.
 #[derive(Clone, Copy, PartialEq, Eq, Debug)]
 pub enum Call {
+    /// A byte is read from this port.
     Read(u16),
+    /// A word is read from this port and the next one.
     ReadWord(u16),
+    /// A byte is written to this port.
     Write(u16, u8),
+    /// A word is written to this port and the next one.
     WriteWord(u16, u16),
-    /// An event comes.
-    Befall(Event),
+    /// An event comes from outside.
+    Comes(Event),
+    /// Whether INT is up.
     Line,
-    /// Does nothing while the line is down.
+    /// An acknowledgement; it does nothing while INT is down.
     Acknowledge,
 }
 
@@ -29,8 +34,11 @@ pub enum Call {
 #[derive(Clone, Copy, PartialEq, Eq, Debug)]
 pub enum Reply {
     Nothing,
+    /// The byte that was read, or the vector.
     Byte(u8),
+    /// The word that was read.
     Word(u16),
+    /// Whether INT is up.
     Level(bool),
 }
 
@@ -49,8 +57,8 @@ fn make(ports: &mut Ports, call: Call) -> Reply
             ports.write_word(port, value);
             Reply::Nothing
         }
-        Call::Befall(event) => {
-            ports.event(event);
+        Call::Comes(event) => {
+            ports.comes(event);
             Reply::Nothing
         }
         Call::Line => Reply::Level(ports.int_line()),

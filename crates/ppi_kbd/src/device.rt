@@ -3,7 +3,7 @@
 ghost use Rattle.std.specs.Prelude.{◌≡◌};
 ghost use Rattle.ppi_kbd.specs.Device.{device_of};
 
-/// The chip behind a port, with the number of its register.
+/// The chip that a port belongs to, with the number of its register (IBM PC Technical Reference, "I/O Address Map").
 #[derive(Clone, Copy, Debug)]
 pub enum Device {
     /// The 8259A, at 20H and 21H.

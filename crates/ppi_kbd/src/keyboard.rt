@@ -1,8 +1,8 @@
-//! The keyboard's register and its queue.
+//! The keyboard: the register that the processor reads, and the codes that wait for it.
 
 ghost use Rattle.std.specs.Prelude.{◌≡◌, ◌<◌, ◌≤◌};
 
-/// A register, and behind it a ring of at most 16 codes.
+/// A register that the processor reads, and a ring of at most 16 codes that wait for it.
 #[derive(Clone, Copy, Debug)]
 pub struct Keyboard {
     register: Option<u8>,
@@ -16,7 +16,7 @@ pub struct Keyboard {
 
 impl Keyboard {
     ghost use Rattle.ppi_kbd.specs.Keyboard.{reset, pressed, served, is_served, register_byte};
-    ghost use Rattle.ppi_kbd.specs.Shown.{keyboard_of};
+    ghost use Rattle.ppi_kbd.specs.Ports.{keyboard_of};
 
     /// Nothing in the register, nothing queued.
     pub fn reset() -> Self
@@ -48,7 +48,8 @@ impl Keyboard {
         }
     }
 
-    /// Moves on, with the clear line at this level. Tells whether a code moved into the register.
+    /// Moves on, with the clear line up or down: up it empties the register, down an empty register takes the queue's front.
+    /// Tells whether a code moved into the register.
     pub fn serve(&mut self, clear: bool) -> bool
         ensures moved { keyboard_of self.new ≡ served clear (keyboard_of self.old) }
         ensures rose { result ≡ is_served clear (keyboard_of self.old) }

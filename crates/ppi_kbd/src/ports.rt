@@ -16,7 +16,7 @@ const TIMER_LEVEL: u8 = 0;
 /// The request line of the keyboard.
 const KEYBOARD_LEVEL: u8 = 1;
 
-/// The chips behind the ports of an IBM PC board: 8259A, 8253, 8255A and keyboard (IBM PC Technical Reference).
+/// The chips on the ports of an IBM PC board: 8259A, 8253, 8255A and keyboard (IBM PC Technical Reference, "I/O Address Map").
 ///
 /// Each call is stated for every state of the definition that the chips show: they show the definition's next state
 /// afterwards, and the answer is the definition's.
@@ -29,9 +29,9 @@ pub struct Ports {
 }
 
 impl Ports {
-    ghost use Rattle.ppi_kbd.specs.ShownPorts.{Shows, is_up};
+    ghost use Rattle.ppi_kbd.specs.Ports.{Shows, int_line};
     ghost use Rattle.ppi_kbd.specs.Chips.{typed, driven, device_written, clear_line};
-    ghost use Rattle.ppi_kbd.specs.Shown.{keyboard_of, interface_of};
+    ghost use Rattle.ppi_kbd.specs.Ports.{keyboard_of, interface_of};
 
     /// The chips at reset.
     pub fn reset() -> Self
@@ -118,7 +118,7 @@ impl Ports {
     }
 
     /// An event from outside: pulses on every channel of the timer, or a code of the keyboard.
-    pub fn event(&mut self, event: Event)
+    pub fn comes(&mut self, event: Event)
         ensures { (c : ChipState) → Shows self.old c → Shows self.new (comes event c) }
     {
         match event {
@@ -134,17 +134,17 @@ impl Ports {
         }
     }
 
-    /// Whether the INT line is up.
+    /// Whether INT is up.
     pub fn int_line(&self) -> bool
-        ensures up { result ≡ is_up self.now }
+        ensures up { result ≡ int_line self.now }
         ensures line { (c : ChipState) → Shows self.now c → result ≡ line c }
     {
         self.pic.int_line()
     }
 
-    /// Acknowledges the interrupt and answers its vector.
+    /// Acknowledges the interrupt that INT asks for and answers its vector. It may be called while INT is up alone.
     pub fn acknowledge(&mut self) -> u8
-        requires { is_up self.old ≡ true }
+        requires { int_line self.old ≡ true }
         ensures state { (c : ChipState) → Shows self.old c → Shows self.new (acknowledged c) }
         ensures vector { (c : ChipState) → Shows self.old c → result ≡ vector c }
     {

@@ -1,4 +1,4 @@
-//! The 8255A in mode 0.
+//! The 8255A in mode 0 (8255A data sheet, "Mode Definition Format" and "Bit Set/Reset Format").
 
 ghost use Rattle.std.specs.Prelude.{◌≡◌, ◌<◌, if◌then◌else◌};
 ghost use Rattle.ppi_kbd.specs.Interface.{is_set, with_bit, without_bit};
@@ -37,7 +37,7 @@ pub struct Ppi {
 
 impl Ppi {
     ghost use Rattle.ppi_kbd.specs.Interface.{reset, configured, bit_changed, written, b_lines, answer};
-    ghost use Rattle.ppi_kbd.specs.Shown.{interface_of};
+    ghost use Rattle.ppi_kbd.specs.Ports.{interface_of};
 
     /// Every port is an input.
     pub fn reset() -> Self
@@ -105,7 +105,7 @@ impl Ppi {
         }
     }
 
-    /// A mode word.
+    /// A mode word (8255A data sheet, "Mode Definition Format"). It clears the latches; one with another mode than 0 is ignored.
     fn configure(&mut self, v: u8)
         ensures { interface_of self.new ≡ configured v (interface_of self.old) }
     {

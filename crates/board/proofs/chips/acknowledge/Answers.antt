@@ -1,6 +1,6 @@
 use Rattle.std.proofs.Common.{◌≡◌, true, sym, ap, ◌∙◌}
 use Rattle.ppi_kbd.specs.Chips.{line, vector, acknowledged}
-use Rattle.board.specs.Settled.{chips_of, settled_vector, settled_acknowledge}
+use Rattle.board.specs.Inner.Settled.{chips_of, settled_vector, settled_acknowledge}
 use Rattle.board.proofs.SettledChips.{settles, answers}
 use Rattle.board.proofs.chips.acknowledge.Goals as goal
 

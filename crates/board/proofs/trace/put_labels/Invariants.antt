@@ -1,5 +1,5 @@
 use Rattle.std.proofs.Common.{drop}
-use Rattle.board.specs.Text.{lines}
+use Rattle.board.specs.Trace.{lines}
 use Rattle.board.proofs.Writing.{Took}
 use Rattle.board.proofs.trace.put_labels.Given as goal
 

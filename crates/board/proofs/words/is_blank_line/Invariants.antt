@@ -1,5 +1,5 @@
 use Rattle.std.proofs.Common.{◌≡◌, drop}
-use Rattle.board.specs.Schedules.{is_blank_line}
+use Rattle.board.specs.Schedule.{is_blank_line}
 use Rattle.board.proofs.words.is_blank_line.Given as goal
 
 abbrev pub invariant-loop-b : goal.invariant-loop-b

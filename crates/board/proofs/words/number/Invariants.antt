@@ -1,6 +1,6 @@
 use Rattle.std.proofs.Common.{◌≡◌, Some, drop}
 use Rattle.std.specs.Prelude.{fold}
-use Rattle.board.specs.Schedules.{with_digit}
+use Rattle.board.specs.Schedule.{with_digit}
 use Rattle.board.proofs.words.number.Given as goal
 
 abbrev pub invariant-loop-d : goal.invariant-loop-d

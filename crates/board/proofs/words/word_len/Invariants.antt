@@ -1,5 +1,5 @@
 use Rattle.std.proofs.Common.{◌≡◌, ◌+◌, drop}
-use Rattle.board.specs.Schedules.{word_len}
+use Rattle.board.specs.Schedule.{word_len}
 use Rattle.board.proofs.words.word_len.Given as goal
 
 abbrev pub invariant-loop-b : goal.invariant-loop-b

@@ -1,6 +1,6 @@
 use Rattle.std.proofs.Common.{◌≡◌, ◌++◌, take, drop}
 use Rattle.pic8259.specs.Controller.{reset}
-use Rattle.pic8259.specs.ShownPic.{controller_of}
+use Rattle.pic8259.specs.Pic.{controller_of}
 use Rattle.pic8259.specs.Calls.{after, replies_of}
 use Rattle.pic8259.proofs.calls.replay.Given as goal
 

@@ -1,6 +1,6 @@
 use Rattle.std.proofs.Common.{◌≡◌, ◌++◌, take, drop}
 use Rattle.pit8253.specs.Timer.{Timer, timer_reset}
-use Rattle.pit8253.specs.ShownTimer.{Shows}
+use Rattle.pit8253.specs.Pit.{Shows}
 use Rattle.pit8253.specs.Calls.{after, replies_of}
 use Rattle.pit8253.proofs.calls.replay.Given as goal
 

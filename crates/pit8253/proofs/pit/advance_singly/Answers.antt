@@ -1,6 +1,6 @@
 use Rattle.std.proofs.Common.{◌%◌, ap, sym, arith, add-zero}
 use Rattle.pit8253.specs.Timer.{pulses}
-use Rattle.pit8253.specs.Shown.{shown}
+use Rattle.pit8253.specs.Channel.{shown}
 use Rattle.pit8253.proofs.Lift.{alike_counters_refl}
 use Rattle.pit8253.proofs.Compose.{then_moved, then_match}
 use Rattle.pit8253.proofs.pit.advance_singly.Goals as goal

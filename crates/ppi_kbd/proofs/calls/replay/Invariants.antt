@@ -1,6 +1,6 @@
 use Rattle.std.proofs.Common.{◌≡◌, ◌++◌, take, drop}
 use Rattle.ppi_kbd.specs.Chips.{ChipState, reset}
-use Rattle.ppi_kbd.specs.ShownPorts.{Shows}
+use Rattle.ppi_kbd.specs.Ports.{Shows}
 use Rattle.ppi_kbd.specs.Calls.{after, replies_of}
 use Rattle.ppi_kbd.proofs.calls.replay.Given as goal
 

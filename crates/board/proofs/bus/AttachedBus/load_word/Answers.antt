@@ -1,7 +1,7 @@
 use Rattle.std.proofs.Common.{◌≡◌, ◌+◌, ◌*◌, length, slice_index, ap, ◌∙◌, arith}
 use Rattle.std.proofs.lemmas.List.{get_or_read}
-use Rattle.board.specs.Settled.{settled_chips}
-use Rattle.board.specs.ShownBoard.{world_of}
+use Rattle.board.specs.Inner.Settled.{settled_chips}
+use Rattle.board.specs.Inner.Attached.{world_of}
 use Rattle.board.proofs.Windows.{ram_word}
 use Rattle.board.proofs.bus.AttachedBus.load_word.Goals as goal
 

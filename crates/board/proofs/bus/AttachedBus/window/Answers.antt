@@ -1,6 +1,6 @@
 use Rattle.std.proofs.Common.{◌-◌, arith}
-use Rattle.board.specs.Settled.{settled_chips}
-use Rattle.board.specs.ShownBoard.{world_of}
+use Rattle.board.specs.Inner.Settled.{settled_chips}
+use Rattle.board.specs.Inner.Attached.{world_of}
 use Rattle.board.proofs.Windows.{ram_window, rom_window}
 use Rattle.board.proofs.bus.AttachedBus.window.Goals as goal
 

@@ -1,5 +1,5 @@
 use Rattle.std.proofs.Common.{sym, ◌∙◌, arith, ◌<◌}
-use Rattle.pic8259.specs.Shown.{shown}
+use Rattle.pic8259.specs.Registers.{shown}
 use Rattle.pic8259.proofs.Priority.{pending_served, pending_wanted}
 use Rattle.pic8259.proofs.registers.Registers.pending.Goals as goal
 

@@ -1,5 +1,6 @@
 use Rattle.std.proofs.Common.{sym, ◌∙◌}
-use Rattle.pit8253.specs.Shown.{shown, element_view}
+use Rattle.pit8253.specs.Channel.{shown}
+use Rattle.pit8253.specs.Element.{element_view}
 use Rattle.pit8253.proofs.Lift.{moved_stuck, rose_stuck, moved_lift, rose_lift}
 use Rattle.pit8253.proofs.channel.Channel.segment.Goals as goal
 

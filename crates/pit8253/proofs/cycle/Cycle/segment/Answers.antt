@@ -1,5 +1,5 @@
 use Rattle.std.proofs.Common.{◌≡◌, ◌<◌, ◌≤◌, ◌⊎◌, arith, inl, inr, ◌∙◌}
-use Rattle.pit8253.specs.View.{view}
+use Rattle.pit8253.specs.Element.{view}
 use Rattle.pit8253.proofs.Phases.{fits_inside, moved_none, inside_moved, inside_still, start_moved}
 use Rattle.pit8253.proofs.cycle.Cycle.segment.Goals as goal
 use Rattle.pit8253.proofs.cycle.Cycle.segment.Goals.{then-k-self, else-k-self}

@@ -1,6 +1,6 @@
 use Rattle.std.proofs.Common.{◌/◌, arith}
 use Rattle.pit8253.specs.Timer.{command}
-use Rattle.pit8253.specs.ShownTimer.{timer_shown}
+use Rattle.pit8253.specs.Pit.{timer_shown}
 use Rattle.pit8253.proofs.EachCall.{on_none_alike}
 use Rattle.pit8253.proofs.pit.Pit.control.Goals as goal
 

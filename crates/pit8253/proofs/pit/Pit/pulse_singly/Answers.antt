@@ -1,4 +1,4 @@
-use Rattle.pit8253.specs.Shown.{shown}
+use Rattle.pit8253.specs.Channel.{shown}
 use Rattle.pit8253.proofs.RoseLemmas.{rose_match}
 use Rattle.pit8253.proofs.EachCall.{pulses_zero_on, match_on}
 use Rattle.pit8253.proofs.pit.Pit.pulse_singly.Goals as goal

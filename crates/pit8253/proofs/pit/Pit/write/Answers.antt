@@ -1,6 +1,6 @@
 use Rattle.std.proofs.Common.{arith}
-use Rattle.pit8253.specs.Shown.{shown}
-use Rattle.pit8253.specs.ShownTimer.{timer_shown}
+use Rattle.pit8253.specs.Channel.{shown}
+use Rattle.pit8253.specs.Pit.{timer_shown}
 use Rattle.pit8253.proofs.EachCall.{written_zero, written_one, written_two, written_none}
 use Rattle.pit8253.proofs.pit.Pit.write.Goals as goal
 

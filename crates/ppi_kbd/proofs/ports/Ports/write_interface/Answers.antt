@@ -1,6 +1,6 @@
 use Rattle.std.proofs.Common.{◌≡◌, ap, ◌∙◌, subst}
 use Rattle.pit8253.specs.Timer.{timer_gated}
-use Rattle.pit8253.specs.ShownTimer as pit
+use Rattle.pit8253.specs.Pit as pit
 use Rattle.ppi_kbd.specs.Interface.{written, b_lines, is_set}
 use Rattle.ppi_kbd.proofs.ports.Ports.write_interface.Goals as goal
 
