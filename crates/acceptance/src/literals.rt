@@ -156,6 +156,22 @@ fn empty_texts(rt: HostRuntime) -> Result<(), Fault> {
 }
 
 #[test]
+fn empty_names_among_others(rt: HostRuntime) -> Result<(), Fault> {
+    let alloc = rt.alloc();
+    let declared =
+        b"DECLARE Q LITERALLY '', T LITERALLY 'Q Q 1 Q 2 Q Q', U LITERALLY 'Q T T Q 3';\n";
+    gives_behind(&rt, alloc, declared, b"T U T", b"1 2 1 2 1 2 3 1 2", None)?;
+    // A text that ends the block of a literal that it names names no literal from there on.
+    gives(
+        &rt,
+        alloc,
+        b"DO; DECLARE X LITERALLY 'Y 1 Y'; DO; DECLARE Y LITERALLY '', Z LITERALLY 'Y X END; Y 2'; X Z X",
+        b"DO; DECLARE X LITERALLY 'Y 1 Y'; DO; DECLARE Y LITERALLY '', Z LITERALLY 'Y X END; Y 2'; 1 1 END; Y 2 Y 1 Y",
+        None,
+    )
+}
+
+#[test]
 fn many_tokens(rt: HostRuntime) -> Result<(), Fault> {
     let alloc = rt.alloc();
     let mut source = vec![in alloc; b';'; 65_535]?;

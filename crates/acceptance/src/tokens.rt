@@ -1,7 +1,7 @@
 //! Small texts, and what the rules of the language say of each.
 
 use plm_token::{
-    Keyword, Kind, Mark, SOURCE_LIMIT, Token, same_name, scan, scan_literal, string_value,
+    Keyword, Kind, Mark, SOURCE_LIMIT, Token, normal, same_name, scan, scan_literal, string_value,
 };
 use std::alloc::Global;
 use std::process::Abort;
@@ -131,6 +131,8 @@ fn names(rt: HostRuntime) -> Result<(), Fault> {
     assert!(rt; !same_name(b"FOO", b"FO"));
     assert!(rt; !same_name(b"FO", b"FOO"));
     assert!(rt; !same_name(b"F_O", b"FO"));
+    let name = normal(alloc, b"$Fo$o_1$")?;
+    assert!(rt; name.as_slice() == b"FOO_1".as_slice());
     Ok(())
 }
 

@@ -3,7 +3,7 @@ use Rattle.std.proofs.Common.{◌≡◌, ℕ, zero, suc, ◌+◌, List, [], ◌�
 use Rattle.std.specs.Prelude.{nat_eq, IsErrAnd}
 use Rattle.std.proofs.lemmas.Bool.{ltb-true, ltb-false}
 use Rattle.plm_token.specs.declared.token.Token.{Token}
-use Rattle.plm_syntax.specs.declared.tree.Place.{Place}
+use Rattle.plm_syntax.specs.declared.tree.Position.{Position}
 use Rattle.plm_syntax.specs.declared.tree.BinaryOperator.{BinaryOperator}
 use Rattle.plm_syntax.specs.declared.tree.BinaryOperator.TheVariants as binary
 use Rattle.plm_syntax.specs.declared.cursor.Cursor.{Cursor}
@@ -11,11 +11,11 @@ use Rattle.plm_syntax.specs.declared.failure.Failure.{Failure}
 use Rattle.plm_syntax.specs.declared.failure.Failure.TheVariants as failure
 use Rattle.plm_syntax.specs.Terminal.{Terminal, Finish, Leaf, leaf, leaf_at, is_same}
 use Rattle.plm_syntax.specs.Spelling.{binary_sign}
-use Rattle.plm_syntax.specs.WellFormed.{level_of}
-use Rattle.plm_syntax.specs.Answers.{terminal_of}
-use Rattle.plm_syntax.specs.Symbol.{Value, Goal, Level, Symbol, depth, Rule, Need, Want, Do, Leave, Refused, Over, Keep, MoreG}
-use Rattle.plm_syntax.specs.Machine.{operand, again, number_of, operator_of, make_binary, operation, more, rule, Move, Stay, Next, Open, feed, Trace, Ended, Wrong, Then, trace, Stop, Refusal, Deep, Reading, run}
-use Rattle.plm_syntax.specs.Parsed.{place_at, stream, ahead, first_of, next_of, Takes, Fails, Arrives}
+use Rattle.plm_syntax.specs.WellFormed.{precedence_of}
+use Rattle.plm_syntax.specs.Answer.{terminal_of}
+use Rattle.plm_syntax.specs.Inner.Symbol.{Value, Goal, Precedence, Symbol, depth, Rule, Need, Want, Do, Leave, Refused, Over, Keep, MoreG}
+use Rattle.plm_syntax.specs.Inner.Machine.{operand, again, number_of, operator_of, make_binary, operation, more, rule, Move, Stay, Next, Open, feed, Trace, Ended, Wrong, Then, trace, Stop, Refusal, Deep, Reading, run}
+use Rattle.plm_syntax.specs.Inner.Parsed.{place_at, stream, ahead, first_of, next_of, Takes, Fails, Arrives}
 use Rattle.plm_syntax.proofs.Steps.{ruled, feed_want, over, same_rule}
 
 -- what a run makes of a token
@@ -53,7 +53,7 @@ at_front c s s' v v' h = by_tokens c.number c.tokens.now h
     by_tokens n (t ∷ ts) g = as_run s s' v v' (stream n (t ∷ ts)) (g (leaf_at (terminal_of t.kind t.text.now (place_at n t)) (place_at n t)) (stream (n + 1) ts) refl)
 
 -- what is left out of sight of the next token
-pub quiet : (c : Cursor) (s s' : List Symbol) (v v' : List Value) → ((t : Terminal) (p : Option Place) → feed s v t p ≡ feed s' v' t p) → run 64 s v (ahead c) ≡ run 64 s' v' (ahead c)
+pub quiet : (c : Cursor) (s s' : List Symbol) (v v' : List Value) → ((t : Terminal) (p : Option Position) → feed s v t p ≡ feed s' v' t p) → run 64 s v (ahead c) ≡ run 64 s' v' (ahead c)
 quiet c s s' v v' h = by_tokens c.number c.tokens.now
   where
     by_tokens : (n : ℕ) (ts : List Token) → run 64 s v (stream n ts) ≡ run 64 s' v' (stream n ts)
@@ -72,10 +72,10 @@ ahead_length n (t ∷ ts) = ap suc (ahead_length (n + 1) ts)
 
 -- ---- refusals
 
-stays : (c : Cursor) (s : List Symbol) (v : List Value) → ((p : Option Place) → feed s v (next_of c) p ≡ Stay) → run 64 s v (ahead c) ≡ Err (Refusal (length c.tokens.now))
+stays : (c : Cursor) (s : List Symbol) (v : List Value) → ((p : Option Position) → feed s v (next_of c) p ≡ Stay) → run 64 s v (ahead c) ≡ Err (Refusal (length c.tokens.now))
 stays c s v h = by_tokens c.number c.tokens.now h
   where
-    by_tokens : (n : ℕ) (ts : List Token) → ((p : Option Place) → feed s v (first_of n ts) p ≡ Stay) → run 64 s v (stream n ts) ≡ Err (Refusal (length ts))
+    by_tokens : (n : ℕ) (ts : List Token) → ((p : Option Position) → feed s v (first_of n ts) p ≡ Stay) → run 64 s v (stream n ts) ≡ Err (Refusal (length ts))
     by_tokens n [] g = ap (λ (m : Move). gone m []) (g None)
     by_tokens n (t ∷ ts) g = ap (λ (m : Move). gone m (stream (n + 1) ts)) (g (Some (place_at n t))) ∙ ap (λ (k : ℕ). let x : Result Reading Stop = Err (Refusal k) in x) (ahead_length (n + 1) ts)
 
@@ -87,7 +87,7 @@ need_refused t c s v h = stays c (Need t ∷ s) v (λ p. ap (λ (b : Bool). cond
 
 -- ---- a token taken
 
-pub taken : (s : List Symbol) (v : List Value) {c rest : Cursor} {t : Terminal} {p : Place} → Takes c t p rest → run 64 s v (ahead c) ≡ run 64 s v (leaf_at t p ∷ ahead rest)
+pub taken : (s : List Symbol) (v : List Value) {c rest : Cursor} {t : Terminal} {p : Position} → Takes c t p rest → run 64 s v (ahead c) ≡ run 64 s v (leaf_at t p ∷ ahead rest)
 taken s v h = ap (run 64 s v) h.is
 
 -- a level opened, where there is room, and where there is none
@@ -108,7 +108,7 @@ too_deep d room c o h e = by_test (nat_lt 64 (suc d)) refl
     by_test true q = ap (λ (k : ℕ). let x : Result Reading Stop = Err (Deep k) in x) (ahead_length c.number c.tokens.now)
     by_test false q = absurd (omega (arith, ltb-false 64 (suc d) q))
 
--- ---- what a call returned, behind a step
+-- ---- what a call returned, after a step
 
 pub fails_behind : (f : Failure) {r r' : Result Reading Stop} → r ≡ r' → Fails f r' → Fails f r
 fails_behind f e h = subst (Fails f) (sym e) h
@@ -134,10 +134,10 @@ operator_is binary.And = refl
 operator_is binary.Or = refl
 operator_is binary.ExclusiveOr = refl
 
-more_is : (l : Level) (o : BinaryOperator) → nat_eq (level_of o) (number_of l) ≡ true → more l (binary_sign o) ≡ Keep false (λ p. operand l ++ (Do (make_binary p o) ∷ again l))
+more_is : (l : Precedence) (o : BinaryOperator) → nat_eq (precedence_of o) (number_of l) ≡ true → more l (binary_sign o) ≡ Keep false (λ p. operand l ++ (Do (make_binary p o) ∷ again l))
 more_is l o h = ap (λ (x : Option BinaryOperator). elim x [ None ↦ Over | Some k ↦ operation l k ]) (operator_is o) ∙ ap (λ (b : Bool). cond b (Keep false (λ p. operand l ++ (Do (make_binary p o) ∷ again l))) Over) h
 
-pub operator_taken : (l : Level) (o : BinaryOperator) (p : Place) (s : List Symbol) (v : List Value) (ls : List Leaf) → nat_eq (level_of o) (number_of l) ≡ true → run 64 (Want (MoreG l) ∷ s) v (leaf_at (binary_sign o) p ∷ ls) ≡ run 64 (operand l ++ (Do (make_binary p o) ∷ (again l ++ s))) v ls
+pub operator_taken : (l : Precedence) (o : BinaryOperator) (p : Position) (s : List Symbol) (v : List Value) (ls : List Leaf) → nat_eq (precedence_of o) (number_of l) ≡ true → run 64 (Want (MoreG l) ∷ s) v (leaf_at (binary_sign o) p ∷ ls) ≡ run 64 (operand l ++ (Do (make_binary p o) ∷ (again l ++ s))) v ls
 operator_taken l o p s v ls h =
     ap (λ (m : Move). gone m ls) (feed_want (MoreG l) s v (binary_sign o) (Some p) ∙ ap (λ (r : Rule). ruled r s v (binary_sign o) (Some p)) (more_is l o h))
     ∙ ap (λ (x : List Symbol). run 64 x v ls) (append_assoc (operand l) (Do (make_binary p o) ∷ again l) s)

@@ -5,23 +5,23 @@ use Rattle.std.proofs.lemmas.List.{append-nil}
 use Rattle.word86.specs.declared.number.Number.{Number}
 use Rattle.plm_token.specs.declared.token.Keyword.TheVariants as key
 use Rattle.plm_token.specs.declared.token.Token.{Token}
-use Rattle.plm_token.specs.Scanning.{Lexeme, lexemes}
+use Rattle.plm_token.specs.Scanner.{Lexeme, lexemes}
 use Rattle.plm_syntax.specs.declared.tree.Module.{Module}
-use Rattle.plm_syntax.specs.declared.tree.Place.{Place}
+use Rattle.plm_syntax.specs.declared.tree.Position.{Position}
 use Rattle.plm_syntax.specs.declared.failure.Failure.{Failure}
 use Rattle.plm_syntax.specs.declared.failure.Failure.TheVariants as failure
 use Rattle.plm_syntax.specs.Terminal.{Terminal, Finish, Leaf, leaf, leaf_at, is_key}
 use Rattle.plm_syntax.specs.View.{module_of}
 use Rattle.plm_syntax.specs.Sentence.{BeginsWithin}
-use Rattle.plm_syntax.specs.Symbol.{ModuleR}
-use Rattle.plm_syntax.specs.Machine.{Stop, Refusal, Deep, Reading, run, start}
+use Rattle.plm_syntax.specs.Inner.Symbol.{ModuleR}
+use Rattle.plm_syntax.specs.Inner.Machine.{Stop, Refusal, Deep, Reading, run, start}
 use Rattle.word86.specs.declared.fault.Fault.{Fault}
 use Rattle.word86.specs.declared.fault.Fault.TheVariants.{At}
-use Rattle.plm_syntax.specs.Expand.{Out}
-use Rattle.plm_syntax.specs.ExpandView.{Expanded, expansion_of}
-use Rattle.plm_syntax.specs.Answers.{terminal_of, tokens_from, text_end, text_tokens, line_from, terminal_at, opening_token, FaultIs, refused, too_deep, stopped, Answers}
-use Rattle.plm_syntax.specs.Faults.{refusal_at, deep_at, fault_of, LeftIn}
-use Rattle.plm_syntax.specs.Parsed.{stream, place_at, Fails}
+use Rattle.plm_syntax.specs.Literals.{Out}
+use Rattle.plm_syntax.specs.Literals.{Expanded, expansion_of}
+use Rattle.plm_syntax.specs.Answer.{terminal_of, tokens_from, text_end, text_tokens, line_from, terminal_at, opening_token, FaultIs, refused, too_deep, stopped, Answers}
+use Rattle.plm_syntax.specs.Inner.Answer.{refusal_at, deep_at, fault_of, LeftIn}
+use Rattle.plm_syntax.specs.Inner.Parsed.{stream, place_at, Fails}
 use Rattle.plm_syntax.proofs.Limits.{first_wrong, first_deep, takes_modules}
 use Rattle.plm_syntax.proofs.Along.{ahead_length}
 use Rattle.plm_syntax.proofs.TextEnd.{whole_text, refused_text, deep_text, left_within}
@@ -145,7 +145,7 @@ terminal_here k n [] = refl
 terminal_here zero n (t ∷ ts) = ap (λ (m : ℕ). terminal_of t.kind t.text.now (place_at m t)) (omega arith)
 terminal_here (suc k) n (t ∷ ts) = terminal_here k (n + 1) ts ∙ ap (λ (m : ℕ). kind_at m (slice_get ts k)) (omega arith)
 
-pub opening_at : (k : ℕ) (ts : List Token) (t : Token) (b : Bool) → slice_get ts k ≡ Some t → ((text : List ℕ) (p : Place) → b ≡ is_key key.Procedure (terminal_of t.kind text p)) → cond b (k - 2) k ≡ opening_token (tokens_from 0 (lexemes ts)) k
+pub opening_at : (k : ℕ) (ts : List Token) (t : Token) (b : Bool) → slice_get ts k ≡ Some t → ((text : List ℕ) (p : Position) → b ≡ is_key key.Procedure (terminal_of t.kind text p)) → cond b (k - 2) k ≡ opening_token (tokens_from 0 (lexemes ts)) k
 opening_at k ts t b e h =
     ap (λ (c : Bool). cond c (k - 2) k) (h t.text.now (place_at (0 + k) t) ∙ ap (λ (o : Option Token). is_key key.Procedure (kind_at (0 + k) o)) (sym e) ∙ ap (is_key key.Procedure) (sym (terminal_here k 0 ts)))
 

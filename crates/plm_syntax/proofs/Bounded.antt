@@ -4,11 +4,11 @@ use Rattle.std.proofs.lemmas.Bool.{ltb-false}
 use Rattle.word86.specs.declared.number.Number.{Number}
 use Rattle.word86.specs.declared.number.Number.TheVariants.{E202, E205}
 use Rattle.plm_token.specs.declared.token.Token.{Token}
-use Rattle.plm_token.specs.Scanning.{Lexeme, lexemes}
+use Rattle.plm_token.specs.Scanner.{Lexeme, lexemes}
 use Rattle.plm_syntax.specs.declared.literals.Expansion.{Expansion}
-use Rattle.plm_syntax.specs.ExpandView.{Expanded, expansion_of, expansion_view}
+use Rattle.plm_syntax.specs.Literals.{Expanded, expansion_of, expansion_view}
 use Rattle.plm_token.specs.Literals.{Symbol, on_line, literal_of}
-use Rattle.plm_syntax.specs.Expand.{LiteralText, Out, put, declared_name, between, declare, put_source, literal_for, by_literal, stop_at, or_else, symbol_out, text_out, source_out, nothing_out, expanded}
+use Rattle.plm_syntax.specs.Literals.{LiteralText, Out, put, declared_name, between, declare, put_source, literal_for, by_literal, stop_at, or_else, symbol_out, text_out, source_out, nothing_out, expanded}
 
 pub record Bounded (o : Out) : Type 0 where
   pub going : o.stop ≡ None → length o.tokens ≤ 65535

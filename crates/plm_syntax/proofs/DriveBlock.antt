@@ -3,16 +3,16 @@ use Rattle.std.proofs.Common.{◌≡◌, ℕ, suc, List, [], ◌∷◌, ◌++◌
 use Rattle.plm_token.specs.declared.token.Keyword.{Keyword}
 use Rattle.plm_token.specs.declared.token.Keyword.TheVariants as key
 use Rattle.plm_token.specs.declared.token.Mark.TheVariants as mark
-use Rattle.plm_syntax.specs.declared.tree.Place.{Place}
+use Rattle.plm_syntax.specs.declared.tree.Position.{Position}
 use Rattle.plm_syntax.specs.declared.tree.Scalar.{Scalar}
 use Rattle.plm_syntax.specs.declared.tree.Scalar.TheVariants as scalar
 use Rattle.plm_syntax.specs.declared.tree.UnaryOperator.TheVariants as unary
-use Rattle.plm_syntax.specs.Terminal.{NameT, NumberT, Terminal, Name, Key, Sign, Finish, Leaf, leaf, leaf_at, is_key, is_sign}
-use Rattle.plm_syntax.specs.Tree.{Pointer, Offset, ExpressionT, NumberE, TextE, ReferenceE, LocationE, ParenthesisedE, EmbeddedE, UnaryE, BinaryE, ReferenceT, ReferenceOf, ExpressionsT, no_expressions, expressions, SelectorT, no_member, member, member_at, LocationOf, ConstantsOf, NamesT, no_names, names, ElementsT, LinkageT, no_linkage, public_linkage, external_linkage, ReferencesT, no_references, references, StatementT, Labelled, BasicT, EmptyS, AssignS, CallS, ReturnS, ReturnValueS, EnableS, DisableS, HaltS, IfS, IfElseS, DoS, WhileS, CaseS, IterateS, StatementsT, no_statements, statements, BlockT, BlockOf, ItemsT, no_items, items, ItemT, DeclareI, ProcedureI, ModuleT, ModuleOf}
+use Rattle.plm_syntax.specs.Terminal.{NameT, NumeralT, Terminal, Name, Key, Sign, Finish, Leaf, leaf, leaf_at, is_key, is_sign}
+use Rattle.plm_syntax.specs.Tree.{Pointer, Offset, ExpressionT, NumeralE, TextE, ReferenceE, LocationE, ParenthesisedE, EmbeddedE, UnaryE, BinaryE, ReferenceT, ReferenceOf, ExpressionsT, no_expressions, expressions, SelectorT, no_member, member, member_at, LocationOf, ConstantsOf, NamesT, no_names, names, ElementsT, LinkageT, no_linkage, public_linkage, external_linkage, ReferencesT, no_references, references, StatementT, Labelled, BasicT, EmptyS, AssignS, CallS, ReturnS, ReturnValueS, EnableS, DisableS, HaltS, IfS, IfElseS, DoS, WhileS, CaseS, IterateS, StatementsT, no_statements, statements, BlockT, BlockOf, ItemsT, no_items, items, ItemT, DeclareI, ProcedureI, ModuleT, ModuleOf}
 use Rattle.plm_syntax.specs.Spelling.{binary_sign, last_name, expression, reference, subscripts, selector, listed_names, parenthesised_names, returned, interrupt, linkage, ending, listed_references, targets, labels, step, statement, basic, statement_list, block, item_list, item, module_leaves, put_leaf, leaves_of}
 use Rattle.plm_syntax.specs.WellFormed.{Well, WellExpressions, WellSelector, WellElements, WellTargets, WellStep, ends_open, basic_open, is_end_name, WellEnd, WellStatement, WellBasic, WellStatements, WellItems, WellItem, WellModule}
-use Rattle.plm_syntax.specs.Symbol.{Value, Goal, Symbol, depth, Rule, behind, before, need, push, ExpressionR, ExpressionsR, NameR, ReferencesR, NamesR, StatementR, StatementsR, ItemsR, StepR, EndR, RangeR, HeaderR, ModuleR, Products, Sums, Relations, Conjunctions, Disjunctions, NegationG, MoreG, MoreSubscriptsG, SelectorG, StatementG, LeadG, TargetG, MoreTargetsG, ReturnedG, ArmG, OtherwiseG, StepG, StatementsG, EndG, ItemsG, ItemLeadG, ItemColonG, ParametersG, ParameterG, MoreParametersG, ReturnedTypeG, InterruptG, LinkageG, Need, Want, Do, Leave, Refused, Over, Take, Keep}
-use Rattle.plm_syntax.specs.Machine.{an_expression, make_unary, add_expression, set_subscripts, more, signed, negation, expression_at, make_simple, add_label, add_target, make_assign, make_call, make_return, join_arms, make_if, add_statement, make_do, make_while, make_case, make_range, set_step, make_iterate, statement_rule, no_labels, no_statement_yet, and_more, make_declare, make_procedure, set_returned, set_interrupt, make_module, items_rule, procedure_symbols, rule, Move, Trace, trace, start, Ended, Then}
+use Rattle.plm_syntax.specs.Inner.Symbol.{Value, Goal, Symbol, depth, Rule, behind, before, need, push, ExpressionR, ExpressionsR, NameR, ReferencesR, NamesR, StatementR, StatementsR, ItemsR, StepR, EndR, RangeR, HeaderR, ModuleR, Products, Sums, Relations, Conjunctions, Disjunctions, NegationG, MoreG, MoreSubscriptsG, SelectorG, StatementG, LeadG, TargetG, MoreTargetsG, ReturnedG, ArmG, OtherwiseG, StepG, StatementsG, EndG, ItemsG, ItemLeadG, ItemColonG, ParametersG, ParameterG, MoreParametersG, ReturnedTypeG, InterruptG, LinkageG, Need, Want, Do, Leave, Refused, Over, Take, Keep}
+use Rattle.plm_syntax.specs.Inner.Machine.{an_expression, make_unary, add_expression, set_subscripts, more, signed, negation, expression_at, make_simple, add_label, add_target, make_assign, make_call, make_return, join_arms, make_if, add_statement, make_do, make_while, make_case, make_range, set_step, make_iterate, statement_rule, no_labels, no_statement_yet, and_more, make_declare, make_procedure, set_returned, set_interrupt, make_module, items_rule, procedure_symbols, rule, Move, Trace, trace, start, Ended, Then}
 use Rattle.plm_syntax.proofs.Steps.{go, trace_step, same_trace, ruled, feed_want, IsDecided, ruled_behind, Stops, stops}
 use Rattle.plm_syntax.proofs.DriveExpression.{put_then, Some_leaf, some_leaf, pushed, some_expression, some_listed, some_subscripts, a_reference, whole, signed_decided}
 use Rattle.plm_syntax.proofs.DriveParts.{drives, drives_reference}
@@ -35,11 +35,11 @@ pub assigned : (lab : Option NameT) (xs : ReferencesT) (e : ExpressionT) → Wel
 assigned lab xs e w u = λ ns s v ls r q k. targets_drive lab xs w s (NamesR ns ∷ v) (expression put_leaf (depth s) e (leaf (Sign mark.Semicolon) ∷ ls)) _ (some_expression e (depth s) (leaf (Sign mark.Semicolon) ∷ ls))
     (whole (drives e u) (need mark.Semicolon ∷ Do make_assign ∷ s) (ReferencesR xs ∷ NamesR ns ∷ v) (leaf (Sign mark.Semicolon) ∷ ls) _ (stops (omega arith)) (ap (Then 0) (acted make_assign s _ _ q refl ∙ k)))
 
-pub call : (lab : Option NameT) (p : Place) (n : NameT) (es : ExpressionsT) (m : SelectorT) → WellExpressions es → WellSelector m → DrivesBasic lab (CallS p (ReferenceOf n es m))
+pub call : (lab : Option NameT) (p : Position) (n : NameT) (es : ExpressionsT) (m : SelectorT) → WellExpressions es → WellSelector m → DrivesBasic lab (CallS p (ReferenceOf n es m))
 call lab p n es m w u = λ ns s v ls r q k. ap (λ (x : Trace). Then 0 (Then 0 x)) ((drives_reference es m w u).begun n (need mark.Semicolon ∷ Do (make_call p) ∷ s) (NamesR ns ∷ v) (leaf (Sign mark.Semicolon) ∷ ls) _ (stops (omega arith))
     (ap (Then 0) (acted (make_call p) s _ _ q refl ∙ k)))
 
--- a goal that goes on as an expression, with symbols behind
+-- a goal that goes on as an expression, with symbols after
 behind_decided : (r : Rule) (a : List Symbol) → IsDecided r → IsDecided (behind r a)
 behind_decided Refused a h = tt
 behind_decided Over a h = h
@@ -62,7 +62,7 @@ expression_goes g a s v l ls h = same_trace (Want g ∷ s) (an_expression (a ++ 
     ∙ sym (feed_want NegationG (Want (MoreG Conjunctions) ∷ Want (MoreG Disjunctions) ∷ (a ++ s)) v l.terminal l.place))
 
 -- RETURN and what begins an expression
-pub returned_is : (p : Place) (s : List Symbol) (v : List Value) (l : Leaf) (ls : List Leaf) → is_sign mark.Semicolon l.terminal ≡ false → trace (Want (ReturnedG p) ∷ s) v (l ∷ ls) ≡ trace (an_expression (need mark.Semicolon ∷ Do (make_return p) ∷ s)) v (l ∷ ls)
+pub returned_is : (p : Position) (s : List Symbol) (v : List Value) (l : Leaf) (ls : List Leaf) → is_sign mark.Semicolon l.terminal ≡ false → trace (Want (ReturnedG p) ∷ s) v (l ∷ ls) ≡ trace (an_expression (need mark.Semicolon ∷ Do (make_return p) ∷ s)) v (l ∷ ls)
 returned_is p s v l ls h = expression_goes (ReturnedG p) (need mark.Semicolon ∷ Do (make_return p) ∷ []) s v l ls
     (ap (λ (b : Bool). cond b (Take false (Do (make_simple (ReturnS p)) ∷ [])) (behind (expression_at l.terminal) (need mark.Semicolon ∷ Do (make_return p) ∷ []))) h)
 
@@ -71,7 +71,7 @@ pub data NoSemicolon : List Leaf → Type 0 where
   no_semicolon : {l : Leaf} {ls : List Leaf} → is_sign mark.Semicolon l.terminal ≡ false → NoSemicolon (l ∷ ls)
 
 pub no_semicolon_first : (e : ExpressionT) (d : ℕ) (ls : List Leaf) → NoSemicolon (expression put_leaf d e ls)
-no_semicolon_first (NumberE n) d ls = no_semicolon refl
+no_semicolon_first (NumeralE n) d ls = no_semicolon refl
 no_semicolon_first (TextE s) d ls = no_semicolon refl
 no_semicolon_first (ReferenceE (ReferenceOf n es m)) d ls = no_semicolon refl
 no_semicolon_first (LocationE (LocationOf p Pointer x)) d ls = no_semicolon refl
@@ -85,10 +85,10 @@ no_semicolon_first (UnaryE p unary.Minus e) d ls = no_semicolon refl
 no_semicolon_first (UnaryE p unary.Not e) d ls = no_semicolon refl
 no_semicolon_first (BinaryE p o a b) d ls = no_semicolon_first a d (leaf_at (binary_sign o) p ∷ expression put_leaf d b ls)
 
-pub returned_value_is : (p : Place) (s : List Symbol) (v : List Value) {ls : List Leaf} → NoSemicolon ls → trace (Want (ReturnedG p) ∷ s) v ls ≡ trace (an_expression (need mark.Semicolon ∷ Do (make_return p) ∷ s)) v ls
+pub returned_value_is : (p : Position) (s : List Symbol) (v : List Value) {ls : List Leaf} → NoSemicolon ls → trace (Want (ReturnedG p) ∷ s) v ls ≡ trace (an_expression (need mark.Semicolon ∷ Do (make_return p) ∷ s)) v ls
 returned_value_is p s v (no_semicolon {l} {ls} h) = returned_is p s v l ls h
 
-pub return_value : (lab : Option NameT) (p : Place) (e : ExpressionT) → Well e → DrivesBasic lab (ReturnValueS p e)
+pub return_value : (lab : Option NameT) (p : Position) (e : ExpressionT) → Well e → DrivesBasic lab (ReturnValueS p e)
 return_value lab p e w = λ ns s v ls r q k. ap (Then 0)
     (returned_value_is p s (NamesR ns ∷ v) (no_semicolon_first e (depth s) (leaf (Sign mark.Semicolon) ∷ ls))
     ∙ whole (drives e w) (need mark.Semicolon ∷ Do (make_return p) ∷ s) (NamesR ns ∷ v) (leaf (Sign mark.Semicolon) ∷ ls) _ (stops (omega arith)) (ap (Then 0) (acted (make_return p) s _ _ q refl ∙ k)))
@@ -106,7 +106,7 @@ arm_drives st w h s v ls r q k =
     enters : {us : List Leaf} → Begins_statement us → trace (Want ArmG ∷ s) v us ≡ marked (suc (depth s)) (trace (Want (StatementG None) ∷ Leave ∷ s) (NamesR no_names ∷ v) us)
     enters (begins_statement {l} {ls = more} a b c) = arm_is s v l more c
 
-pub if_then : (lab : Option NameT) (p : Place) (e : ExpressionT) (st : StatementT) → Well e → WellStatement st → DrivesStatement st → DrivesBasic lab (IfS p e st)
+pub if_then : (lab : Option NameT) (p : Position) (e : ExpressionT) (st : StatementT) → Well e → WellStatement st → DrivesStatement st → DrivesBasic lab (IfS p e st)
 if_then lab p e st w u h = λ ns s v ls r q k. ap (Then 0)
     (whole (drives e w) (Need (Key key.Then) ∷ Want ArmG ∷ Want OtherwiseG ∷ Do (make_if p) ∷ s) (NamesR ns ∷ v) (leaf (Key key.Then) ∷ statement put_leaf (suc (depth s)) (suc (depth s)) st ls) _ (stops (omega arith))
     (ap (Then 0) (arm_drives st u h (Want OtherwiseG ∷ Do (make_if p) ∷ s) (ExpressionR e ∷ NamesR ns ∷ v) ls r (enough (ends_open st) q)
@@ -117,7 +117,7 @@ pub closed_enough : (b : Bool) → b ≡ false → (ls : List Leaf) → Enough b
 closed_enough false e ls = some_leaf
 closed_enough true e ls = absurd cc
 
-pub if_else : (lab : Option NameT) (p : Place) (e : ExpressionT) (st su : StatementT) → Well e → WellStatement st → WellStatement su → ends_open st ≡ false → DrivesStatement st → DrivesStatement su → DrivesBasic lab (IfElseS p e st su)
+pub if_else : (lab : Option NameT) (p : Position) (e : ExpressionT) (st su : StatementT) → Well e → WellStatement st → WellStatement su → ends_open st ≡ false → DrivesStatement st → DrivesStatement su → DrivesBasic lab (IfElseS p e st su)
 if_else lab p e st su w u x closed h g = λ ns s v ls r q k. ap (Then 0)
     (whole (drives e w) (Need (Key key.Then) ∷ Want ArmG ∷ Want OtherwiseG ∷ Do (make_if p) ∷ s) (NamesR ns ∷ v) (leaf (Key key.Then) ∷ statement put_leaf (suc (depth s)) (suc (depth s)) st (leaf (Key key.Else) ∷ statement put_leaf (suc (depth s)) (suc (depth s)) su ls)) _ (stops (omega arith))
     (ap (Then 0) (arm_drives st u h (Want OtherwiseG ∷ Do (make_if p) ∷ s) (ExpressionR e ∷ NamesR ns ∷ v) (leaf (Key key.Else) ∷ statement put_leaf (suc (depth s)) (suc (depth s)) su ls) _ (closed_enough (ends_open st) closed _)
@@ -163,20 +163,20 @@ pub body_drives : (ss : StatementsT) (lab e : Option NameT) → DrivesStatements
 body_drives ss lab e h w s v ls r q k = pushed (StatementsR no_statements) (Want (StatementsG lab) ∷ s) v (some_statements (depth s) ss (some_ending e ls))
     ∙ h lab s v (ending put_leaf e ls) _ (end_no_else e ls) (ending_drives lab e w s (StatementsR ss ∷ v) ls r q k)
 
-pub while : (lab : Option NameT) (p : Place) (e : ExpressionT) (ss : StatementsT) (n : Option NameT) → Well e → DrivesStatements ss → WellEnd lab n → DrivesBasic lab (WhileS p e ss n)
+pub while : (lab : Option NameT) (p : Position) (e : ExpressionT) (ss : StatementsT) (n : Option NameT) → Well e → DrivesStatements ss → WellEnd lab n → DrivesBasic lab (WhileS p e ss n)
 while lab p e ss n w h u = λ ns s v ls r q k. ap (λ (x : Trace). Then (suc (depth s)) (Then 0 x))
     (whole (drives e w) (need mark.Semicolon ∷ no_statement_yet ∷ Want (StatementsG lab) ∷ Do (make_while p) ∷ Leave ∷ s) (NamesR ns ∷ v) (leaf (Sign mark.Semicolon) ∷ statement_list put_leaf (suc (depth s)) ss (ending put_leaf n ls)) _ (stops (omega arith))
     (ap (Then 0) (body_drives ss lab n h u (Do (make_while p) ∷ Leave ∷ s) (ExpressionR e ∷ NamesR ns ∷ v) ls r q (acted (make_while p) (Leave ∷ s) _ _ q refl ∙ departed s _ q ∙ k))))
 
-pub case_of : (lab : Option NameT) (p : Place) (e : ExpressionT) (ss : StatementsT) (n : Option NameT) → Well e → DrivesStatements ss → WellEnd lab n → DrivesBasic lab (CaseS p e ss n)
+pub case_of : (lab : Option NameT) (p : Position) (e : ExpressionT) (ss : StatementsT) (n : Option NameT) → Well e → DrivesStatements ss → WellEnd lab n → DrivesBasic lab (CaseS p e ss n)
 case_of lab p e ss n w h u = λ ns s v ls r q k. ap (λ (x : Trace). Then (suc (depth s)) (Then 0 x))
     (whole (drives e w) (need mark.Semicolon ∷ no_statement_yet ∷ Want (StatementsG lab) ∷ Do (make_case p) ∷ Leave ∷ s) (NamesR ns ∷ v) (leaf (Sign mark.Semicolon) ∷ statement_list put_leaf (suc (depth s)) ss (ending put_leaf n ls)) _ (stops (omega arith))
     (ap (Then 0) (body_drives ss lab n h u (Do (make_case p) ∷ Leave ∷ s) (ExpressionR e ∷ NamesR ns ∷ v) ls r q (acted (make_case p) (Leave ∷ s) _ _ q refl ∙ departed s _ q ∙ k))))
 
-abbrev pub by_and_on : Option NameT → Place → List Symbol → List Symbol
+abbrev pub by_and_on : Option NameT → Position → List Symbol → List Symbol
 by_and_on lab p s = Do make_range ∷ push (StepR None) ∷ Want StepG ∷ need mark.Semicolon ∷ no_statement_yet ∷ Want (StatementsG lab) ∷ Do (make_iterate p) ∷ Leave ∷ s
 
-pub step_drives : (t : Option ExpressionT) → WellStep t → (lab : Option NameT) (p : Place) (i : NameT) (a b : ExpressionT) (s : List Symbol) (v : List Value) (ls : List Leaf) (r : Trace)
+pub step_drives : (t : Option ExpressionT) → WellStep t → (lab : Option NameT) (p : Position) (i : NameT) (a b : ExpressionT) (s : List Symbol) (v : List Value) (ls : List Leaf) (r : Trace)
     → trace (no_statement_yet ∷ Want (StatementsG lab) ∷ Do (make_iterate p) ∷ Leave ∷ s) (StepR t ∷ RangeR i a b ∷ v) ls ≡ r
     → trace (by_and_on lab p s) (ExpressionR b ∷ ExpressionR a ∷ NameR i ∷ v) (step put_leaf (suc (depth s)) t (leaf (Sign mark.Semicolon) ∷ ls)) ≡ step put_then (suc (depth s)) t (Then 0 r)
 step_drives None w lab p i a b s v ls r k = ap (Then 0) k
@@ -187,7 +187,7 @@ pub step_stops : (d : ℕ) (t : Option ExpressionT) (ls : List Leaf) → Stops 7
 step_stops d None ls = stops (omega arith)
 step_stops d (Some e) ls = stops (omega arith)
 
-pub iterate : (lab : Option NameT) (p : Place) (i : NameT) (a b : ExpressionT) (t : Option ExpressionT) (ss : StatementsT) (n : Option NameT) → Well a → Well b → WellStep t → DrivesStatements ss → WellEnd lab n → DrivesBasic lab (IterateS p i a b t ss n)
+pub iterate : (lab : Option NameT) (p : Position) (i : NameT) (a b : ExpressionT) (t : Option ExpressionT) (ss : StatementsT) (n : Option NameT) → Well a → Well b → WellStep t → DrivesStatements ss → WellEnd lab n → DrivesBasic lab (IterateS p i a b t ss n)
 iterate lab p i a b t ss n wa wb wt h u = λ ns s v ls r q k. ap (λ (x : Trace). Then (suc (depth s)) (Then 0 (Then 0 x)))
     (whole (drives a wa) (Need (Key key.To) ∷ an_expression (by_and_on lab p s)) (NameR i ∷ NamesR ns ∷ v) (leaf (Key key.To) ∷ expression put_leaf (suc (depth s)) b (step put_leaf (suc (depth s)) t (leaf (Sign mark.Semicolon) ∷ statement_list put_leaf (suc (depth s)) ss (ending put_leaf n ls)))) _ (stops (omega arith))
     (ap (Then 0) (whole (drives b wb) (by_and_on lab p s) (ExpressionR a ∷ NameR i ∷ NamesR ns ∷ v) (step put_leaf (suc (depth s)) t (leaf (Sign mark.Semicolon) ∷ statement_list put_leaf (suc (depth s)) ss (ending put_leaf n ls))) _ (step_stops (suc (depth s)) t _)
@@ -223,7 +223,7 @@ begun n v ls q x = pushed (StatementsR no_statements) (no_labels ∷ push (Refer
 pub data Two : List Leaf → Type 0 where
   two : {l : Leaf} {ls : List Leaf} → Some_leaf ls → Two (l ∷ ls)
 
--- behind the name, both read the same
+-- after the name, both read the same
 pub lead_same : (lab : Option NameT) (n : NameT) (es : ExpressionsT) (m : SelectorT) (d : ℕ) (s : List Symbol) (v : List Value) {ls : List Leaf} → Targeted ls → Two ls
     → trace (Want (ItemLeadG n lab) ∷ s) v (subscripts put_leaf d es (selector put_leaf d m ls)) ≡ trace (push (ReferencesR no_references) ∷ push (a_reference n no_expressions no_member) ∷ Want (LeadG n) ∷ (and_more lab ++ s)) (NamesR no_names ∷ StatementsR no_statements ∷ v) (subscripts put_leaf d es (selector put_leaf d m ls))
 lead_same lab n no_expressions no_member d s v by_comma (two q) = ap (Then 0) (begun n v _ q (Do add_target ∷ Want TargetG ∷ (and_more lab ++ s)))
@@ -251,7 +251,7 @@ entry_targets d (references (references ys y) (ReferenceOf n es m)) w ls q = ent
 pub rest_of : {ls : List Leaf} → Begins_statement ls → Two ls
 rest_of (begins_statement a b c) = two c
 
-pub entry_key : (k : Keyword) (p : Place) (ls : List Leaf) → ((lab : Option NameT) → items_rule lab (Key k) ≡ before (no_statement_yet ∷ no_labels ∷ []) (behind (statement_rule None (Key k)) (and_more lab))) → Two (leaf_at (Key k) p ∷ ls) → SameEntry (leaf_at (Key k) p ∷ ls)
+pub entry_key : (k : Keyword) (p : Position) (ls : List Leaf) → ((lab : Option NameT) → items_rule lab (Key k) ≡ before (no_statement_yet ∷ no_labels ∷ []) (behind (statement_rule None (Key k)) (and_more lab))) → Two (leaf_at (Key k) p ∷ ls) → SameEntry (leaf_at (Key k) p ∷ ls)
 entry_key k p ls h (two q) = λ lab s v. item_plain lab s v (leaf_at (Key k) p) ls (h lab) q
 
 pub entry_basic : (d : ℕ) (lab : Option NameT) (b : BasicT) → WellBasic lab b → (ls : List Leaf) → Some_leaf ls → SameEntry (basic put_leaf 0 d b ls)
@@ -270,7 +270,7 @@ entry_basic d o (WhileS p e ss n) w ls q = entry_key key.Do p _ (λ lab. refl) (
 entry_basic d o (CaseS p e ss n) w ls q = entry_key key.Do p _ (λ lab. refl) (rest_of (begins_basic 0 d (CaseS p e ss n) q))
 entry_basic d o (IterateS p i a b s ss n) w ls q = entry_key key.Do p _ (λ lab. refl) (rest_of (begins_basic 0 d (IterateS p i a b s ss n) q))
 
--- the second leaf behind a label is not PROCEDURE
+-- the second leaf after a label is not PROCEDURE
 pub data NoProcedure : List Leaf → Type 0 where
   no_procedure : {l : Leaf} {ls : List Leaf} → is_key key.Procedure l.terminal ≡ false → Some_leaf ls → NoProcedure (l ∷ ls)
 
@@ -331,7 +331,7 @@ block_end (statements ss st) lab e w h u s v ls r q k = entry_statements (depth 
 
 -- ---- procedures
 
-pub linkage_drives : (k : LinkageT) (n : NameT) (ps : NamesT) (t : Option Scalar) (i : Option NumberT) (s : List Symbol) (v : List Value) (ls : List Leaf) (r : Trace) → trace s (HeaderR n ps t i k ∷ v) ls ≡ r
+pub linkage_drives : (k : LinkageT) (n : NameT) (ps : NamesT) (t : Option Scalar) (i : Option NumeralT) (s : List Symbol) (v : List Value) (ls : List Leaf) (r : Trace) → trace s (HeaderR n ps t i k ∷ v) ls ≡ r
     → trace (Want LinkageG ∷ need mark.Semicolon ∷ s) (HeaderR n ps t i no_linkage ∷ v) (linkage put_leaf k (leaf (Sign mark.Semicolon) ∷ ls)) ≡ linkage put_then k (Then 0 r)
 linkage_drives no_linkage n ps t i s v ls r h = ap (Then 0) h
 linkage_drives public_linkage n ps t i s v ls r h = ap (λ (x : Trace). Then 0 (Then 0 x)) h
@@ -347,22 +347,22 @@ no_interrupt no_linkage s v ls = refl
 no_interrupt public_linkage s v ls = refl
 no_interrupt external_linkage s v ls = refl
 
-pub interrupt_drives : (i : Option NumberT) (k : LinkageT) (n : NameT) (ps : NamesT) (t : Option Scalar) (s : List Symbol) (v : List Value) (ls : List Leaf) (r : Trace) → trace s (HeaderR n ps t i k ∷ v) ls ≡ r
+pub interrupt_drives : (i : Option NumeralT) (k : LinkageT) (n : NameT) (ps : NamesT) (t : Option Scalar) (s : List Symbol) (v : List Value) (ls : List Leaf) (r : Trace) → trace s (HeaderR n ps t i k ∷ v) ls ≡ r
     → trace (Want InterruptG ∷ Want LinkageG ∷ need mark.Semicolon ∷ s) (HeaderR n ps t None no_linkage ∷ v) (interrupt put_leaf i (linkage put_leaf k (leaf (Sign mark.Semicolon) ∷ ls))) ≡ interrupt put_then i (linkage put_then k (Then 0 r))
 interrupt_drives None k n ps t s v ls r h = no_interrupt k (Want LinkageG ∷ need mark.Semicolon ∷ s) _ ls ∙ linkage_drives k n ps t None s v ls r h
 interrupt_drives (Some m) k n ps t s v ls r h = ap (λ (x : Trace). Then 0 (Then 0 x)) (acted (set_interrupt m) (Want LinkageG ∷ need mark.Semicolon ∷ s) _ _ (some_linkage k ls) refl ∙ linkage_drives k n ps t (Some m) s v ls r h)
 
-pub some_interrupt : (i : Option NumberT) (k : LinkageT) (ls : List Leaf) → Some_leaf (interrupt put_leaf i (linkage put_leaf k (leaf (Sign mark.Semicolon) ∷ ls)))
+pub some_interrupt : (i : Option NumeralT) (k : LinkageT) (ls : List Leaf) → Some_leaf (interrupt put_leaf i (linkage put_leaf k (leaf (Sign mark.Semicolon) ∷ ls)))
 some_interrupt None k ls = some_linkage k ls
 some_interrupt (Some m) k ls = some_leaf
 
-pub no_type : (i : Option NumberT) (k : LinkageT) (s : List Symbol) (v : List Value) (ls : List Leaf) → trace (Want ReturnedTypeG ∷ s) v (interrupt put_leaf i (linkage put_leaf k (leaf (Sign mark.Semicolon) ∷ ls))) ≡ trace s v (interrupt put_leaf i (linkage put_leaf k (leaf (Sign mark.Semicolon) ∷ ls)))
+pub no_type : (i : Option NumeralT) (k : LinkageT) (s : List Symbol) (v : List Value) (ls : List Leaf) → trace (Want ReturnedTypeG ∷ s) v (interrupt put_leaf i (linkage put_leaf k (leaf (Sign mark.Semicolon) ∷ ls))) ≡ trace s v (interrupt put_leaf i (linkage put_leaf k (leaf (Sign mark.Semicolon) ∷ ls)))
 no_type None no_linkage s v ls = refl
 no_type None public_linkage s v ls = refl
 no_type None external_linkage s v ls = refl
 no_type (Some m) k s v ls = refl
 
-pub returned_drives : (t : Option Scalar) (i : Option NumberT) (k : LinkageT) (n : NameT) (ps : NamesT) (s : List Symbol) (v : List Value) (ls : List Leaf) (r : Trace) → trace s (HeaderR n ps t i k ∷ v) ls ≡ r
+pub returned_drives : (t : Option Scalar) (i : Option NumeralT) (k : LinkageT) (n : NameT) (ps : NamesT) (s : List Symbol) (v : List Value) (ls : List Leaf) (r : Trace) → trace s (HeaderR n ps t i k ∷ v) ls ≡ r
     → trace (Want ReturnedTypeG ∷ Want InterruptG ∷ Want LinkageG ∷ need mark.Semicolon ∷ s) (HeaderR n ps None None no_linkage ∷ v) (returned put_leaf t (interrupt put_leaf i (linkage put_leaf k (leaf (Sign mark.Semicolon) ∷ ls)))) ≡ returned put_then t (interrupt put_then i (linkage put_then k (Then 0 r)))
 returned_drives None i k n ps s v ls r h = no_type i k (Want InterruptG ∷ Want LinkageG ∷ need mark.Semicolon ∷ s) _ ls ∙ interrupt_drives i k n ps None s v ls r h
 returned_drives (Some scalar.Byte) i k n ps s v ls r h = ap (Then 0) (acted (set_returned scalar.Byte) (Want InterruptG ∷ Want LinkageG ∷ need mark.Semicolon ∷ s) _ _ (some_interrupt i k ls) refl ∙ interrupt_drives i k n ps (Some scalar.Byte) s v ls r h)
@@ -370,11 +370,11 @@ returned_drives (Some scalar.Word) i k n ps s v ls r h = ap (Then 0) (acted (set
 returned_drives (Some scalar.Address) i k n ps s v ls r h = ap (Then 0) (acted (set_returned scalar.Address) (Want InterruptG ∷ Want LinkageG ∷ need mark.Semicolon ∷ s) _ _ (some_interrupt i k ls) refl ∙ interrupt_drives i k n ps (Some scalar.Address) s v ls r h)
 returned_drives (Some scalar.Pointer) i k n ps s v ls r h = ap (Then 0) (acted (set_returned scalar.Pointer) (Want InterruptG ∷ Want LinkageG ∷ need mark.Semicolon ∷ s) _ _ (some_interrupt i k ls) refl ∙ interrupt_drives i k n ps (Some scalar.Pointer) s v ls r h)
 
-pub some_returned : (t : Option Scalar) (i : Option NumberT) (k : LinkageT) (ls : List Leaf) → Some_leaf (returned put_leaf t (interrupt put_leaf i (linkage put_leaf k (leaf (Sign mark.Semicolon) ∷ ls))))
+pub some_returned : (t : Option Scalar) (i : Option NumeralT) (k : LinkageT) (ls : List Leaf) → Some_leaf (returned put_leaf t (interrupt put_leaf i (linkage put_leaf k (leaf (Sign mark.Semicolon) ∷ ls))))
 some_returned None i k ls = some_interrupt i k ls
 some_returned (Some t) i k ls = some_leaf
 
-pub no_parameters : (t : Option Scalar) (i : Option NumberT) (k : LinkageT) (s : List Symbol) (v : List Value) (ls : List Leaf) → trace (Want ParametersG ∷ s) v (returned put_leaf t (interrupt put_leaf i (linkage put_leaf k (leaf (Sign mark.Semicolon) ∷ ls)))) ≡ trace s v (returned put_leaf t (interrupt put_leaf i (linkage put_leaf k (leaf (Sign mark.Semicolon) ∷ ls))))
+pub no_parameters : (t : Option Scalar) (i : Option NumeralT) (k : LinkageT) (s : List Symbol) (v : List Value) (ls : List Leaf) → trace (Want ParametersG ∷ s) v (returned put_leaf t (interrupt put_leaf i (linkage put_leaf k (leaf (Sign mark.Semicolon) ∷ ls)))) ≡ trace s v (returned put_leaf t (interrupt put_leaf i (linkage put_leaf k (leaf (Sign mark.Semicolon) ∷ ls))))
 no_parameters None None no_linkage s v ls = refl
 no_parameters None None public_linkage s v ls = refl
 no_parameters None None external_linkage s v ls = refl
@@ -391,13 +391,13 @@ pub parameters_listed : (ps : NamesT) (n : NameT) (s : List Symbol) (v : List Va
 parameters_listed no_names n s v ls r k = k
 parameters_listed (names ps p) n s v ls r k = parameters_listed ps n s v (leaf (Name p) ∷ leaf (Sign mark.Comma) ∷ ls) _ (ap (λ (x : Trace). Then 0 (Then 0 x)) k)
 
-pub header_drives : (ps : NamesT) (t : Option Scalar) (i : Option NumberT) (k : LinkageT) (n : NameT) (s : List Symbol) (v : List Value) (ls : List Leaf) (r : Trace) → trace s (HeaderR n ps t i k ∷ v) ls ≡ r
+pub header_drives : (ps : NamesT) (t : Option Scalar) (i : Option NumeralT) (k : LinkageT) (n : NameT) (s : List Symbol) (v : List Value) (ls : List Leaf) (r : Trace) → trace s (HeaderR n ps t i k ∷ v) ls ≡ r
     → trace (Want ParametersG ∷ Want ReturnedTypeG ∷ Want InterruptG ∷ Want LinkageG ∷ need mark.Semicolon ∷ s) (HeaderR n no_names None None no_linkage ∷ v) (parenthesised_names put_leaf ps (returned put_leaf t (interrupt put_leaf i (linkage put_leaf k (leaf (Sign mark.Semicolon) ∷ ls))))) ≡ parenthesised_names put_then ps (returned put_then t (interrupt put_then i (linkage put_then k (Then 0 r))))
 header_drives no_names t i k n s v ls r h = no_parameters t i k (Want ReturnedTypeG ∷ Want InterruptG ∷ Want LinkageG ∷ need mark.Semicolon ∷ s) _ ls ∙ returned_drives t i k n no_names s v ls r h
 header_drives (names ps p) t i k n s v ls r h = ap (Then 0) (parameters_listed ps n (Want ReturnedTypeG ∷ Want InterruptG ∷ Want LinkageG ∷ need mark.Semicolon ∷ s) v (leaf (Name p) ∷ leaf (Sign mark.RightParenthesis) ∷ returned put_leaf t (interrupt put_leaf i (linkage put_leaf k (leaf (Sign mark.Semicolon) ∷ ls)))) _
     (ap (λ (x : Trace). Then 0 (Then 0 x)) (returned_drives t i k n (names ps p) s v ls r h)))
 
-pub some_header : (ps : NamesT) (t : Option Scalar) (i : Option NumberT) (k : LinkageT) (ls : List Leaf) → Some_leaf (parenthesised_names put_leaf ps (returned put_leaf t (interrupt put_leaf i (linkage put_leaf k (leaf (Sign mark.Semicolon) ∷ ls)))))
+pub some_header : (ps : NamesT) (t : Option Scalar) (i : Option NumeralT) (k : LinkageT) (ls : List Leaf) → Some_leaf (parenthesised_names put_leaf ps (returned put_leaf t (interrupt put_leaf i (linkage put_leaf k (leaf (Sign mark.Semicolon) ∷ ls)))))
 some_header no_names t i k ls = some_returned t i k ls
 some_header (names ps p) t i k ls = some_leaf
 
@@ -430,17 +430,17 @@ block_drives is ss w h g = λ lab e u s v ls r q k.
     pushed (ItemsR no_items) (Want (ItemsG lab) ∷ s) v (some_items (depth s) is (some_statements (depth s) ss (some_ending e ls)))
     ∙ h lab s v (statement_list put_leaf (depth s) ss (ending put_leaf e ls)) _ (some_statements (depth s) ss (some_ending e ls)) (block_end ss lab e w g u s (ItemsR is ∷ v) ls r q k)
 
-pub declaration : (p : Place) (es : ElementsT) → WellElements es → DrivesItem (DeclareI p es)
+pub declaration : (p : Position) (es : ElementsT) → WellElements es → DrivesItem (DeclareI p es)
 declaration p es w = λ is lab s v ls r q k. ap (Then 0) (elements_drive es w (Do (make_declare p) ∷ Want (ItemsG lab) ∷ s) (ItemsR is ∷ v) ls r (acted (make_declare p) (Want (ItemsG lab) ∷ s) _ _ q refl ∙ k))
 
-pub procedure : (n : NameT) (ps : NamesT) (t : Option Scalar) (i : Option NumberT) (l : LinkageT) (bs : ItemsT) (ss : StatementsT) (e : Option NameT) → DrivesBlock (BlockOf bs ss) → WellEnd (Some n) e → DrivesItem (ProcedureI n ps t i l (BlockOf bs ss) e)
+pub procedure : (n : NameT) (ps : NamesT) (t : Option Scalar) (i : Option NumeralT) (l : LinkageT) (bs : ItemsT) (ss : StatementsT) (e : Option NameT) → DrivesBlock (BlockOf bs ss) → WellEnd (Some n) e → DrivesItem (ProcedureI n ps t i l (BlockOf bs ss) e)
 procedure n ps t i l bs ss e h w = λ is lab s v ls r q k. ap (λ (x : Trace). Then 0 (Then 0 (Then (suc (depth s)) x)))
     (pushed (HeaderR n no_names None None no_linkage) (Want ParametersG ∷ Want ReturnedTypeG ∷ Want InterruptG ∷ Want LinkageG ∷ need mark.Semicolon ∷ push (ItemsR no_items) ∷ Want (ItemsG (Some n)) ∷ Leave ∷ Do make_procedure ∷ Want (ItemsG lab) ∷ s) (ItemsR is ∷ v) (some_header ps t i l (block put_leaf (suc (depth s)) (BlockOf bs ss) (ending put_leaf e ls)))
     ∙ header_drives ps t i l n (push (ItemsR no_items) ∷ Want (ItemsG (Some n)) ∷ Leave ∷ Do make_procedure ∷ Want (ItemsG lab) ∷ s) (ItemsR is ∷ v) (block put_leaf (suc (depth s)) (BlockOf bs ss) (ending put_leaf e ls)) _
     (h (Some n) e w (Leave ∷ Do make_procedure ∷ Want (ItemsG lab) ∷ s) (HeaderR n ps t i l ∷ ItemsR is ∷ v) ls r q
     (departed (Do make_procedure ∷ Want (ItemsG lab) ∷ s) _ q ∙ acted make_procedure (Want (ItemsG lab) ∷ s) _ _ q refl ∙ k)))
 
-pub do_block : (lab : Option NameT) (p : Place) (is : ItemsT) (ss : StatementsT) (n : Option NameT) → DrivesBlock (BlockOf is ss) → WellEnd lab n → DrivesBasic lab (DoS p (BlockOf is ss) n)
+pub do_block : (lab : Option NameT) (p : Position) (is : ItemsT) (ss : StatementsT) (n : Option NameT) → DrivesBlock (BlockOf is ss) → WellEnd lab n → DrivesBasic lab (DoS p (BlockOf is ss) n)
 do_block lab p is ss n h w = λ ns s v ls r q k. ap (λ (x : Trace). Then (suc (depth s)) (Then 0 x))
     (h lab n w (Do (make_do p) ∷ Leave ∷ s) (NamesR ns ∷ v) ls r q (acted (make_do p) (Leave ∷ s) _ _ q refl ∙ departed s _ q ∙ k))
 

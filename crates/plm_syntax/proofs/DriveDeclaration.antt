@@ -4,12 +4,12 @@ use Rattle.plm_token.specs.declared.token.Keyword.TheVariants as key
 use Rattle.plm_token.specs.declared.token.Mark.TheVariants as mark
 use Rattle.plm_syntax.specs.declared.tree.Scalar.{Scalar}
 use Rattle.plm_syntax.specs.declared.tree.Scalar.TheVariants as scalar
-use Rattle.plm_syntax.specs.Terminal.{NameT, NumberT, Terminal, Name, Sign, Leaf, leaf, is_key}
+use Rattle.plm_syntax.specs.Terminal.{NameT, NumeralT, Terminal, Name, Sign, Leaf, leaf, is_key}
 use Rattle.plm_syntax.specs.Tree.{Pointer, Offset, LocationOf, ConstantsOf, NamesT, no_names, names, VariableT, VariableOf, VariablesT, no_variables, variables, DeclaredT, OneVariable, VariableList, DimensionT, no_dimension, dimension, implicit_dimension, MemberT, OneMember, MemberList, MembersT, no_members, members, TypeT, ScalarType, StructureType, AtT, no_at, at_number, at_location, InitialT, no_initial, initial, constant_data, AttributesT, External, Attributes, ElementT, LiteralElement, VariableElement, ElementsT, no_elements, elements}
 use Rattle.plm_syntax.specs.Spelling.{scalar_key, listed_names, name_list, base, variable, listed_variables, variable_list, dimension_leaves, count, member_leaves, listed_members, type_leaves, at_leaves, initial_leaves, attributes, element, listed_elements, element_list, put_leaf}
 use Rattle.plm_syntax.specs.WellFormed.{HasNames, HasVariables, WellMember, WellSomeMembers, WellType, WellAt, WellInitial, WellAttributes, WellElement, WellSomeElements, WellElements}
-use Rattle.plm_syntax.specs.Symbol.{Value, Action, Symbol, depth, need, push, NameR, NamesR, VariableR, VariablesR, DimensionR, CountR, MembersR, MemberR, TypeR, AttributesR, ElementR, ElementsR, DeclaredR, ElementG, ElementLeadG, VariableG, MoreVariablesG, BasedG, BaseG, DimensionG, TypeG, MemberOfG, MemberNameG, MoreMemberNamesG, CountG, MemberTypeG, MoreMembersG, AttributesG, AtG, InitialG, MoreElementsG, Want, Do, Over, Take}
-use Rattle.plm_syntax.specs.Machine.{add_element, make_literal, set_base, add_variable, one_variable, variable_group, set_dimension, make_member, add_member, make_structure, set_external, set_public, set_at_location, set_initial, set_data, make_element, declared_tail, feed, Trace, trace, Stay, Then}
+use Rattle.plm_syntax.specs.Inner.Symbol.{Value, Action, Symbol, depth, need, push, NameR, NamesR, VariableR, VariablesR, DimensionR, CountR, MembersR, MemberR, TypeR, AttributesR, ElementR, ElementsR, DeclaredR, ElementG, ElementLeadG, VariableG, MoreVariablesG, BasedG, BaseG, DimensionG, TypeG, MemberOfG, MemberNameG, MoreMemberNamesG, CountG, MemberTypeG, MoreMembersG, AttributesG, AtG, InitialG, MoreElementsG, Want, Do, Over, Take}
+use Rattle.plm_syntax.specs.Inner.Machine.{add_element, make_literal, set_base, add_variable, one_variable, variable_group, set_dimension, make_member, add_member, make_structure, set_external, set_public, set_at_location, set_initial, set_data, make_element, declared_tail, feed, Trace, trace, Stay, Then}
 use Rattle.plm_syntax.proofs.Steps.{same_trace, over, stops}
 use Rattle.plm_syntax.proofs.DriveExpression.{put_then, Some_leaf, some_leaf, pushed}
 use Rattle.plm_syntax.proofs.DriveParts.{drives_located, drives_values}
@@ -107,7 +107,7 @@ pub some_name_list : (ns : NamesT) → HasNames ns → (ls : List Leaf) → Some
 some_name_list no_names w ls = absurd w
 some_name_list (names ns n) w ls = some_names ns {ls = leaf (Name n) ∷ leaf (Sign mark.RightParenthesis) ∷ ls} some_leaf
 
-pub member_end : (c : Option NumberT) (t : Scalar) (m : MemberT) (w : Value) (s : List Symbol) (v : List Value) (ls : List Leaf) (r : Trace) → make_member t (CountR c ∷ w ∷ v) ≡ Some (MemberR m ∷ v) → Some_leaf ls → trace s (MemberR m ∷ v) ls ≡ r
+pub member_end : (c : Option NumeralT) (t : Scalar) (m : MemberT) (w : Value) (s : List Symbol) (v : List Value) (ls : List Leaf) (r : Trace) → make_member t (CountR c ∷ w ∷ v) ≡ Some (MemberR m ∷ v) → Some_leaf ls → trace s (MemberR m ∷ v) ls ≡ r
     → trace (Want CountG ∷ Want MemberTypeG ∷ s) (CountR None ∷ w ∷ v) (count put_leaf c (leaf (scalar_key t) ∷ ls)) ≡ count put_then c (Then 0 r)
 member_end None scalar.Byte m w s v ls r e q k = ap (Then 0) (acted (make_member scalar.Byte) s _ _ q e ∙ k)
 member_end None scalar.Word m w s v ls r e q k = ap (Then 0) (acted (make_member scalar.Word) s _ _ q e ∙ k)
@@ -118,7 +118,7 @@ member_end (Some n) scalar.Word m w s v ls r e q k = ap (λ (x : Trace). Then 0 
 member_end (Some n) scalar.Address m w s v ls r e q k = ap (λ (x : Trace). Then 0 (Then 0 (Then 0 (Then 0 x)))) (acted (make_member scalar.Address) s _ _ q e ∙ k)
 member_end (Some n) scalar.Pointer m w s v ls r e q k = ap (λ (x : Trace). Then 0 (Then 0 (Then 0 (Then 0 x)))) (acted (make_member scalar.Pointer) s _ _ q e ∙ k)
 
-pub some_count : (c : Option NumberT) (t : Terminal) (ls : List Leaf) → Some_leaf (count put_leaf c (leaf t ∷ ls))
+pub some_count : (c : Option NumeralT) (t : Terminal) (ls : List Leaf) → Some_leaf (count put_leaf c (leaf t ∷ ls))
 some_count None t ls = some_leaf
 some_count (Some n) t ls = some_leaf
 
@@ -233,7 +233,7 @@ some_dimension no_dimension t ls = some_type t ls
 some_dimension (dimension n) t ls = some_leaf
 some_dimension implicit_dimension t ls = some_leaf
 
--- behind an element's names
+-- after an element's names
 pub declared_drives : (d : DeclaredT) (c : DimensionT) (t : TypeT) (a : AttributesT) → WellType t → WellAttributes a → (es : ElementsT) (s : List Symbol) (v : List Value) (ls : List Leaf) (r : Trace) → Follows ls → trace s (ElementsR (elements es (VariableElement d c t a)) ∷ v) ls ≡ r
     → trace (declared_tail ++ (Do add_element ∷ s)) (DeclaredR d ∷ ElementsR es ∷ v) (dimension_leaves put_leaf c (type_leaves put_leaf t (attributes put_leaf (depth s) a ls))) ≡ dimension_leaves put_then c (type_leaves put_then t (attributes put_then (depth s) a r))
 declared_drives d c t a w u es s v ls r q k = pushed (DimensionR no_dimension) (Want DimensionG ∷ typed_tail s) _ (some_dimension c t (attributes put_leaf (depth s) a ls))
@@ -281,7 +281,7 @@ pub some_elements : (d : ℕ) (es : ElementsT) {ls : List Leaf} → Some_leaf ls
 some_elements d no_elements q = q
 some_elements d (elements es e) {ls} q = some_elements d es (some_element d e (leaf (Sign mark.Comma) ∷ ls))
 
--- the elements of a declaration, and the semicolon behind them
+-- the elements of a declaration, and the semicolon after them
 pub elements_drive : (es : ElementsT) → WellElements es → (s : List Symbol) (v : List Value) (ls : List Leaf) (r : Trace) → trace s (ElementsR es ∷ v) ls ≡ r
     → trace (push (ElementsR no_elements) ∷ element_and_more s) v (element_list put_leaf (depth s) es (leaf (Sign mark.Semicolon) ∷ ls)) ≡ element_list put_then (depth s) es (Then 0 r)
 elements_drive no_elements w s v ls r k = absurd w

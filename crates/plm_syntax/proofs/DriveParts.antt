@@ -1,20 +1,20 @@
 -- The leaves of an expression lead a run over the expression: primaries, references, locations.
 use Rattle.std.proofs.Common.{◌≡◌, ℕ, suc, ◌<◌, List, [], ◌∷◌, ◌++◌, Bool, true, false, cond, Option, refl, sym, ap, ◌∙◌, subst, arith}
 use Rattle.plm_token.specs.declared.token.Mark.TheVariants as mark
-use Rattle.plm_syntax.specs.declared.tree.Place.{Place}
+use Rattle.plm_syntax.specs.declared.tree.Position.{Position}
 use Rattle.plm_syntax.specs.declared.tree.UnaryOperator.TheVariants as unary
 use Rattle.plm_syntax.specs.declared.tree.BinaryOperator.{BinaryOperator}
 use Rattle.plm_syntax.specs.declared.tree.BinaryOperator.TheVariants as binary
 use Rattle.plm_syntax.specs.Terminal.{NameT, Terminal, Sign, Leaf, leaf, leaf_at, is_sign}
-use Rattle.plm_syntax.specs.Tree.{LocationForm, Pointer, Offset, ExpressionT, NumberE, TextE, ReferenceE, LocationE, ParenthesisedE, EmbeddedE, UnaryE, BinaryE, ReferenceOf, ExpressionsT, no_expressions, expressions, SelectorT, no_member, member, member_at, LocationT, LocationOf, ConstantsOf, ValueT, NumberV, NegativeV, TextV, LocationV, ValuesT, no_values, values}
+use Rattle.plm_syntax.specs.Tree.{LocationForm, Pointer, Offset, ExpressionT, NumeralE, TextE, ReferenceE, LocationE, ParenthesisedE, EmbeddedE, UnaryE, BinaryE, ReferenceOf, ExpressionsT, no_expressions, expressions, SelectorT, no_member, member, member_at, LocationT, LocationOf, ConstantsOf, ValueT, NumeralV, NegativeV, TextV, LocationV, ValuesT, no_values, values}
 use Rattle.plm_syntax.specs.Spelling.{binary_sign, expression, reference, subscripts, selector, value, value_list, listed_values, put_leaf}
 use Rattle.plm_syntax.specs.WellFormed.{Well, WellExpressions, WellSelector, WellLocation, WellValue, WellValues, WellSomeValues}
-use Rattle.plm_syntax.specs.Symbol.{Value, Symbol, depth, behind, otherwise, need, ExpressionR, ValueR, ValuesR, Products, Sums, Relations, Conjunctions, Disjunctions, MoreG, InsideG, AfterReferenceG, LocatedG, ValueG, MoreValuesG, Want, Do, Leave, Refused, Take}
-use Rattle.plm_syntax.specs.Machine.{an_expression, make_parenthesised, make_embedded, more, reference_begun, closing, locate, locate_values, location_value, add_value, a_value_list, feed, Trace, trace, Stay, Next, Then}
+use Rattle.plm_syntax.specs.Inner.Symbol.{Value, Symbol, depth, behind, otherwise, need, ExpressionR, ValueR, ValuesR, Products, Sums, Relations, Conjunctions, Disjunctions, MoreG, InsideG, AfterReferenceG, LocatedG, ValueG, MoreValuesG, Want, Do, Leave, Refused, Take}
+use Rattle.plm_syntax.specs.Inner.Machine.{an_expression, make_parenthesised, make_embedded, more, reference_begun, closing, locate, locate_values, location_value, add_value, a_value_list, feed, Trace, trace, Stay, Next, Then}
 use Rattle.plm_syntax.proofs.Steps.{same_trace, ruled, feed_want, ruled_otherwise, binds, Stops, stops, did, left, no_subscripts, no_selector}
 use Rattle.plm_syntax.proofs.DriveExpression.{put_then, ReadsE, bare, a_primary, a_signed, Drives, whole, from_signed, binary_drives, unary_drives, a_reference, DrivesSelector, DrivesSubscripts, DrivesListed, another, subscripted, member_subscripted, selected, DrivesReference, Some_leaf, some_leaf, some_of, pushed, referred}
 
--- ---- behind "(" and a reference
+-- ---- after "(" and a reference
 
 -- what may follow an expression in parentheses, or a part of it
 pub data Closes : List Leaf → Type 0 where
@@ -23,7 +23,7 @@ pub data Closes : List Leaf → Type 0 where
 pub stops_at : {ls : List Leaf} → Closes ls → Stops 1 ls
 stops_at (closes h e) = stops h
 
-pub operator_closes : (p : Place) (o : BinaryOperator) (ls : List Leaf) → Closes (leaf_at (binary_sign o) p ∷ ls)
+pub operator_closes : (p : Position) (o : BinaryOperator) (ls : List Leaf) → Closes (leaf_at (binary_sign o) p ∷ ls)
 operator_closes p binary.Multiply ls = closes (omega arith) refl
 operator_closes p binary.Divide ls = closes (omega arith) refl
 operator_closes p binary.Modulo ls = closes (omega arith) refl
@@ -39,15 +39,15 @@ operator_closes p binary.And ls = closes (omega arith) refl
 operator_closes p binary.Or ls = closes (omega arith) refl
 operator_closes p binary.ExclusiveOr ls = closes (omega arith) refl
 
-pub closing_is : (p : Place) (s : List Symbol) (v : List Value) (t : Terminal) (q : Option Place) → ruled (cond (is_sign mark.RightParenthesis t) (Take false (Do (make_parenthesised p) ∷ [])) Refused) s v t q ≡ feed (closing p ++ s) v t q
+pub closing_is : (p : Position) (s : List Symbol) (v : List Value) (t : Terminal) (q : Option Position) → ruled (cond (is_sign mark.RightParenthesis t) (Take false (Do (make_parenthesised p) ∷ [])) Refused) s v t q ≡ feed (closing p ++ s) v t q
 closing_is p s v t q = by_test (is_sign mark.RightParenthesis t)
   where
     by_test : (b : Bool) → ruled (cond b (Take false (Do (make_parenthesised p) ∷ [])) Refused) s v t q ≡ cond b (Next (Do (make_parenthesised p) ∷ s) v) Stay
     by_test true = refl
     by_test false = refl
 
--- Behind the reference that begins an expression in parentheses, where no ":=" comes, the expression goes on.
-pub after_goes : (p : Place) (s : List Symbol) (v : List Value) (l : Leaf) (ls : List Leaf) → is_sign mark.Assign l.terminal ≡ false → trace (Want (AfterReferenceG p) ∷ s) v (l ∷ ls) ≡ trace (Want (MoreG Products) ∷ Want (MoreG Sums) ∷ Want (MoreG Relations) ∷ Want (MoreG Conjunctions) ∷ Want (MoreG Disjunctions) ∷ (closing p ++ s)) v (l ∷ ls)
+-- After the reference that begins an expression in parentheses, where no ":=" comes, the expression goes on.
+pub after_goes : (p : Position) (s : List Symbol) (v : List Value) (l : Leaf) (ls : List Leaf) → is_sign mark.Assign l.terminal ≡ false → trace (Want (AfterReferenceG p) ∷ s) v (l ∷ ls) ≡ trace (Want (MoreG Products) ∷ Want (MoreG Sums) ∷ Want (MoreG Relations) ∷ Want (MoreG Conjunctions) ∷ Want (MoreG Disjunctions) ∷ (closing p ++ s)) v (l ∷ ls)
 after_goes p s v l ls e =
     let t = l.terminal in
     let q = l.place in
@@ -79,12 +79,12 @@ after_goes p s v l ls e =
     ∙ tail
     ∙ sym (feed_want (MoreG Products) (Want (MoreG Sums) ∷ Want (MoreG Relations) ∷ Want (MoreG Conjunctions) ∷ Want (MoreG Disjunctions) ∷ (closing p ++ s)) v t q))
 
-pub after_is : (p : Place) (s : List Symbol) (v : List Value) {ls : List Leaf} → Closes ls → trace (Want (AfterReferenceG p) ∷ s) v ls ≡ trace (Want (MoreG Products) ∷ Want (MoreG Sums) ∷ Want (MoreG Relations) ∷ Want (MoreG Conjunctions) ∷ Want (MoreG Disjunctions) ∷ (closing p ++ s)) v ls
+pub after_is : (p : Position) (s : List Symbol) (v : List Value) {ls : List Leaf} → Closes ls → trace (Want (AfterReferenceG p) ∷ s) v ls ≡ trace (Want (MoreG Products) ∷ Want (MoreG Sums) ∷ Want (MoreG Relations) ∷ Want (MoreG Conjunctions) ∷ Want (MoreG Disjunctions) ∷ (closing p ++ s)) v ls
 after_is p s v (closes {l} {ls} h e) = after_goes p s v l ls e
 
 -- an expression in parentheses is read as one
 abbrev pub InsideIs : ExpressionT → Type 0
-InsideIs e = (p : Place) (d : ℕ) (s : List Symbol) (v : List Value) (ls : List Leaf) → d ≡ depth s → Closes ls → trace (Want (InsideG p) ∷ s) v (expression put_leaf d e ls) ≡ trace (an_expression (closing p ++ s)) v (expression put_leaf d e ls)
+InsideIs e = (p : Position) (d : ℕ) (s : List Symbol) (v : List Value) (ls : List Leaf) → d ≡ depth s → Closes ls → trace (Want (InsideG p) ∷ s) v (expression put_leaf d e ls) ≡ trace (an_expression (closing p ++ s)) v (expression put_leaf d e ls)
 
 pub inside_reference : (n : NameT) (es : ExpressionsT) (m : SelectorT) → DrivesReference es m → InsideIs (ReferenceE (ReferenceOf n es m))
 inside_reference n es m h p d s v ls e q =
@@ -112,13 +112,13 @@ abbrev pub DrivesListedValues : ValuesT → Type 0
 DrivesListedValues ws = (s : List Symbol) (v : List Value) (ls : List Leaf) (r : Trace) → trace (value_and_more s) (ValuesR ws ∷ v) ls ≡ r
     → trace (value_and_more s) (ValuesR no_values ∷ v) (listed_values put_leaf (depth s) ws ls) ≡ listed_values put_then (depth s) ws r
 
--- a list of values, and the parenthesis behind it
+-- a list of values, and the parenthesis after it
 abbrev pub DrivesValues : ValuesT → Type 0
 DrivesValues ws = (s : List Symbol) (v : List Value) (ls : List Leaf) (r : Trace) → trace s (ValuesR ws ∷ v) ls ≡ r
     → trace (a_value_list s) v (value_list put_leaf (depth s) ws (leaf (Sign mark.RightParenthesis) ∷ ls)) ≡ value_list put_then (depth s) ws (Then 0 r)
 
 pub some_value : (d : ℕ) (w : ValueT) (ls : List Leaf) → Some_leaf (value put_leaf d w ls)
-some_value d (NumberV n) ls = some_leaf
+some_value d (NumeralV n) ls = some_leaf
 some_value d (NegativeV n) ls = some_leaf
 some_value d (TextV n) ls = some_leaf
 some_value d (LocationV (LocationOf p f x)) ls = some_leaf
@@ -136,10 +136,10 @@ values_drive ws w h d = λ s v ls r k.
     pushed (ValuesR no_values) (value_and_more s) v (some_values (depth s) ws (some_value (depth s) w (leaf (Sign mark.RightParenthesis) ∷ ls)))
     ∙ h s v (value put_leaf (depth s) w (leaf (Sign mark.RightParenthesis) ∷ ls)) _ (d (Do add_value ∷ Want MoreValuesG ∷ s) (ValuesR ws ∷ v) (leaf (Sign mark.RightParenthesis) ∷ ls) _ (stops (omega arith)) (ap (Then 0) k))
 
-pub located_reference : (p : Place) (f : LocationForm) (n : NameT) (es : ExpressionsT) (m : SelectorT) → DrivesReference es m → DrivesLocated (LocationOf p f (ReferenceOf n es m))
+pub located_reference : (p : Position) (f : LocationForm) (n : NameT) (es : ExpressionsT) (m : SelectorT) → DrivesReference es m → DrivesLocated (LocationOf p f (ReferenceOf n es m))
 located_reference p f n es m h = λ s v ls r q k. ap (Then 0) (h.begun n (Do (locate p f) ∷ s) v ls _ q (did (locate p f) s _ _ q refl ∙ k))
 
-pub located_values : (p : Place) (f : LocationForm) (ws : ValuesT) → DrivesValues ws → DrivesLocated (ConstantsOf p f ws)
+pub located_values : (p : Position) (f : LocationForm) (ws : ValuesT) → DrivesValues ws → DrivesLocated (ConstantsOf p f ws)
 located_values p f ws h = λ s v ls r q k. ap (Then 0) (h (Do (locate_values p f) ∷ s) v ls _ (did (locate_values p f) s _ _ q refl ∙ k))
 
 pub location_primary : (l : LocationT) → DrivesLocated l → ReadsE a_primary bare (LocationE l) 1
@@ -162,7 +162,7 @@ location_valued (ConstantsOf p Offset x) h = λ s v ls r q k. ap (Then 0) (h (Do
 
 -- ---- primaries
 
-pub parenthesised : (p : Place) (e : ExpressionT) → Well e → InsideIs e → Drives e → Drives (ParenthesisedE p e)
+pub parenthesised : (p : Position) (e : ExpressionT) → Well e → InsideIs e → Drives e → Drives (ParenthesisedE p e)
 parenthesised p e w h d =
     let body : (s : List Symbol) (v : List Value) (ls : List Leaf) (r : Trace) → Stops 1 ls → trace s (ExpressionR (ParenthesisedE p e) ∷ v) ls ≡ r
     → trace (Want (InsideG p) ∷ Leave ∷ s) v (expression put_leaf (suc (depth s)) e (leaf (Sign mark.RightParenthesis) ∷ ls)) ≡ expression put_then (suc (depth s)) e (Then 0 r)
@@ -172,7 +172,7 @@ parenthesised p e w h d =
     (λ m s v ls r q k. ap (Then (suc (depth s))) (body s v ls r q k))
     (λ s v ls r q k. ap (Then (suc (depth s))) (body s v ls r q k))
 
-pub embedded : (p : Place) (n : NameT) (es : ExpressionsT) (m : SelectorT) (e : ExpressionT) → Well (EmbeddedE p (ReferenceOf n es m) e) → DrivesReference es m → Drives e → Drives (EmbeddedE p (ReferenceOf n es m) e)
+pub embedded : (p : Position) (n : NameT) (es : ExpressionsT) (m : SelectorT) (e : ExpressionT) → Well (EmbeddedE p (ReferenceOf n es m) e) → DrivesReference es m → Drives e → Drives (EmbeddedE p (ReferenceOf n es m) e)
 embedded p n es m e w h d =
     let body : (s : List Symbol) (v : List Value) (ls : List Leaf) (r : Trace) → Stops 1 ls → trace s (ExpressionR (EmbeddedE p (ReferenceOf n es m) e) ∷ v) ls ≡ r
     → trace (reference_begun n (Want (AfterReferenceG p) ∷ Leave ∷ s)) v (subscripts put_leaf (suc (depth s)) es (selector put_leaf (suc (depth s)) m (leaf (Sign mark.Assign) ∷ expression put_leaf (suc (depth s)) e (leaf (Sign mark.RightParenthesis) ∷ ls)))) ≡ subscripts put_then (suc (depth s)) es (selector put_then (suc (depth s)) m (Then 0 (expression put_then (suc (depth s)) e (Then 0 r))))
@@ -185,7 +185,7 @@ embedded p n es m e w h d =
 
 mutual
   pub drives : (e : ExpressionT) → Well e → Drives e
-  drives (NumberE n) w = from_signed (NumberE n) (omega arith) w (λ m s v ls r q k. ap (Then 0) (pushed (ExpressionR (NumberE n)) s v (some_of q) ∙ k)) (λ s v ls r q k. ap (Then 0) (pushed (ExpressionR (NumberE n)) s v (some_of q) ∙ k))
+  drives (NumeralE n) w = from_signed (NumeralE n) (omega arith) w (λ m s v ls r q k. ap (Then 0) (pushed (ExpressionR (NumeralE n)) s v (some_of q) ∙ k)) (λ s v ls r q k. ap (Then 0) (pushed (ExpressionR (NumeralE n)) s v (some_of q) ∙ k))
   drives (TextE t) w = from_signed (TextE t) (omega arith) w (λ m s v ls r q k. ap (Then 0) (pushed (ExpressionR (TextE t)) s v (some_of q) ∙ k)) (λ s v ls r q k. ap (Then 0) (pushed (ExpressionR (TextE t)) s v (some_of q) ∙ k))
   drives (ReferenceE (ReferenceOf n es m)) w = from_signed (ReferenceE (ReferenceOf n es m)) (omega arith) w
       (λ g s v ls r q k. ap (Then 0) ((referred es m (drives_subscripts es w.0) (drives_selector m w.1)).begun n s v ls r q k))
@@ -197,7 +197,7 @@ mutual
   drives (BinaryE p o a b) w = binary_drives p o a b w (drives a w.2) (drives b w.3)
 
   inside_is : (e : ExpressionT) → Well e → InsideIs e
-  inside_is (NumberE n) w p d s v ls e q = refl
+  inside_is (NumeralE n) w p d s v ls e q = refl
   inside_is (TextE t) w p d s v ls e q = refl
   inside_is (ReferenceE (ReferenceOf n es m)) w p d s v ls e q = inside_reference n es m (referred es m (drives_subscripts es w.0) (drives_selector m w.1)) p d s v ls e q
   inside_is (LocationE (LocationOf a Pointer x)) w p d s v ls e q = refl
@@ -229,7 +229,7 @@ mutual
   drives_located (ConstantsOf p f vs) w = located_values p f vs (drives_values vs w)
 
   drives_value : (v : ValueT) → WellValue v → DrivesValue v
-  drives_value (NumberV n) w = λ s v ls r q k. ap (Then 0) (pushed (ValueR (NumberV n)) s v (some_of q) ∙ k)
+  drives_value (NumeralV n) w = λ s v ls r q k. ap (Then 0) (pushed (ValueR (NumeralV n)) s v (some_of q) ∙ k)
   drives_value (NegativeV n) w = λ s v ls r q k. ap (λ (x : Trace). Then 0 (Then 0 x)) (pushed (ValueR (NegativeV n)) s v (some_of q) ∙ k)
   drives_value (TextV n) w = λ s v ls r q k. ap (Then 0) (pushed (ValueR (TextV n)) s v (some_of q) ∙ k)
   drives_value (LocationV l) w = location_valued l (drives_located l w)
@@ -242,6 +242,6 @@ mutual
   drives_values no_values w = absurd w
   drives_values (values vs v) w = values_drive vs v (drives_listed_values vs w.0) (drives_value v w.1)
 
--- a reference, behind its name
+-- a reference, after its name
 pub drives_reference : (es : ExpressionsT) (m : SelectorT) → WellExpressions es → WellSelector m → DrivesReference es m
 drives_reference es m w u = referred es m (drives_subscripts es w) (drives_selector m u)

@@ -4,7 +4,7 @@ use Rattle.std.proofs.lemmas.Bool.{eq-eqb}
 use Rattle.std.specs.Global.{Box}
 use Rattle.plm_token.specs.declared.token.Mark.{Mark}
 use Rattle.plm_token.specs.declared.token.Keyword.{Keyword}
-use Rattle.plm_syntax.specs.declared.tree.Place.{Place}
+use Rattle.plm_syntax.specs.declared.tree.Position.{Position}
 use Rattle.plm_syntax.specs.declared.cursor.Cursor.{Cursor}
 use Rattle.plm_syntax.specs.declared.failure.Failure.{Failure}
 use Rattle.plm_syntax.specs.Terminal.{Key, Sign, Leaf, is_sign, leaf_at, key_number, sign_number}
@@ -12,11 +12,11 @@ use Rattle.plm_syntax.specs.declared.tree.UnaryOperator.{UnaryOperator}
 use Rattle.plm_syntax.specs.declared.tree.Expression.{Expression}
 use Rattle.plm_syntax.specs.Tree.{ExpressionT, UnaryE}
 use Rattle.plm_syntax.specs.View.{expression_of}
-use Rattle.plm_syntax.specs.Parts.{IsUnary, read_expression}
-use Rattle.plm_syntax.specs.Symbol.{Value, Symbol, Need, need, ExpressionR}
-use Rattle.plm_syntax.specs.Machine.{Stay, Next, Stop, Refusal, Reading, run}
-use Rattle.plm_syntax.specs.Parsed.{ahead, next_of, Takes, Closes, ClosesWord, IsBoxed, IsBeside, IsLost, Fails, Arrives, Within}
-use Rattle.plm_syntax.specs.Blocks.{Shrinks}
+use Rattle.plm_syntax.specs.Inner.Parts.{IsUnary, read_expression}
+use Rattle.plm_syntax.specs.Inner.Symbol.{Value, Symbol, Need, need, ExpressionR}
+use Rattle.plm_syntax.specs.Inner.Machine.{Stay, Next, Stop, Refusal, Reading, run}
+use Rattle.plm_syntax.specs.Inner.Parsed.{ahead, next_of, Takes, Closes, ClosesWord, IsBoxed, IsBeside, IsLost, Fails, Arrives, Within}
+use Rattle.plm_syntax.specs.Inner.Blocks.{Shrinks}
 use Rattle.plm_syntax.proofs.Along.{gone, taken, need_refused, refusal}
 
 -- ---- what a result says, where it is known
@@ -40,12 +40,12 @@ stays_within d e h = subst (λ y. Within y d) e h
 pub stays_less : {A : Type 0} (d : Cursor) {x : Result (A × Cursor) Failure} {a : A} {c : Cursor} → x ≡ Ok (a, c) → Shrinks x d → length c.tokens.now < length d.tokens.now
 stays_less d e h = subst (λ y. Shrinks y d) e h
 
--- ---- a token behind a part
+-- ---- a token after a part
 
-pub marked : (m : Mark) (p : Place) (s : List Symbol) (v : List Value) (ls : List Leaf) → run 64 (need m ∷ s) v (leaf_at (Sign m) p ∷ ls) ≡ run 64 s v ls
+pub marked : (m : Mark) (p : Position) (s : List Symbol) (v : List Value) (ls : List Leaf) → run 64 (need m ∷ s) v (leaf_at (Sign m) p ∷ ls) ≡ run 64 s v ls
 marked m p s v ls = ap (λ (b : Bool). gone (cond b (Next s v) Stay) ls) (eq-eqb (sign_number m) (sign_number m) refl)
 
-worded : (k : Keyword) (p : Place) (s : List Symbol) (v : List Value) (ls : List Leaf) → run 64 (Need (Key k) ∷ s) v (leaf_at (Key k) p ∷ ls) ≡ run 64 s v ls
+worded : (k : Keyword) (p : Position) (s : List Symbol) (v : List Value) (ls : List Leaf) → run 64 (Need (Key k) ∷ s) v (leaf_at (Key k) p ∷ ls) ≡ run 64 s v ls
 worded k p s v ls = ap (λ (b : Bool). gone (cond b (Next s v) Stay) ls) (eq-eqb (key_number k) (key_number k) refl)
 
 pub closes : {A : Type 0} (part : A → List Value → List Value) (m : Mark) (s : List Symbol) (v : List Value) (x r : Result (A × Cursor) Failure) (o : Result Reading Stop)
@@ -54,7 +54,7 @@ closes part m s v (Ok x) (Ok y) o h e = e ∙ taken (need m ∷ s) (part x.0 v) 
 closes part m s v (Ok x) (Err f) o h e = refusal f x.1 h.1 (e ∙ need_refused (Sign m) x.1 s (part x.0 v) h.0)
 closes part m s v (Err e) r o h q = subst (λ y. Arrives part s v y o) (sym h) q
 
--- where more is done behind the token
+-- where more is done after the token
 pub closes_at : {A : Type 0} (part : A → List Value → List Value) (m : Mark) (s t : List Symbol) (v w : List Value) (a : A) (c : Cursor) (r : Result (A × Cursor) Failure) {o : Result Reading Stop}
     → Closes m (Ok (a, c)) r → o ≡ run 64 (need m ∷ t) w (ahead c) → ((b : Cursor) → run 64 t w (ahead b) ≡ run 64 s (part a v) (ahead b)) → Arrives part s v r o
 closes_at part m s t v w a c (Ok y) h e q = e ∙ taken (need m ∷ t) w h.1.1 ∙ marked m h.1.0 t w (ahead y.1) ∙ q y.1 ∙ ap (λ b. run 64 s (part b v) (ahead y.1)) (sym h.0)
@@ -62,7 +62,7 @@ closes_at part m s t v w a c (Err f) h e q = refusal f c h.1 (e ∙ need_refused
 
 -- where the token is one of several that may come
 pub closes_by : {A : Type 0} (part : A → List Value → List Value) (m : Mark) (s : List Symbol) (v : List Value) (a : A) (c : Cursor) (r : Result (A × Cursor) Failure) {o : Result Reading Stop}
-    → Closes m (Ok (a, c)) r → (is_sign m (next_of c) ≡ false → o ≡ Err (Refusal (length c.tokens.now))) → ((p : Place) (b : Cursor) → Takes c (Sign m) p b → o ≡ run 64 s (part a v) (ahead b)) → Arrives part s v r o
+    → Closes m (Ok (a, c)) r → (is_sign m (next_of c) ≡ false → o ≡ Err (Refusal (length c.tokens.now))) → ((p : Position) (b : Cursor) → Takes c (Sign m) p b → o ≡ run 64 s (part a v) (ahead b)) → Arrives part s v r o
 closes_by part m s v a c (Ok y) h stop go = go h.1.0 y.1 h.1.1 ∙ ap (λ b. run 64 s (part b v) (ahead y.1)) (sym h.0)
 closes_by part m s v a c (Err f) h stop go = refusal f c h.1 (stop h.0)
 
@@ -108,13 +108,13 @@ besides_within a d x (Ok y) h w = stays_within d h.1 w
 besides_within a d x (Err f) h w = tt
 
 -- an operator before its operand
-pub operated : (p : Place) (k : UnaryOperator) (s t : List Symbol) (v : List Value) (x r : Result (Expression × Cursor) Failure) (o : Result Reading Stop)
+pub operated : (p : Position) (k : UnaryOperator) (s t : List Symbol) (v : List Value) (x r : Result (Expression × Cursor) Failure) (o : Result Reading Stop)
     → IsUnary p k x r → ((y : Expression) (c : Cursor) → run 64 t (read_expression y v) (ahead c) ≡ run 64 s (ExpressionR (UnaryE p k (expression_of y)) ∷ v) (ahead c)) → Arrives read_expression t v x o → Arrives read_expression s v r o
 operated p k s t v (Ok x) (Ok y) o h q e = e ∙ q x.0 x.1 ∙ ap (λ (z : ExpressionT). run 64 s (ExpressionR z ∷ v) (ahead x.1)) (sym h.0) ∙ ap (λ (c : Cursor). run 64 s (read_expression y.0 v) (ahead c)) (sym h.1)
 operated p k s t v (Ok x) (Err f) o h q e = subst (λ (z : Failure). Fails z o) (sym h) tt
 operated p k s t v (Err g) r o h q e = subst (λ y. Arrives read_expression s v y o) (sym h) e
 
-pub operated_within : (p : Place) (k : UnaryOperator) (d : Cursor) (x r : Result (Expression × Cursor) Failure) → IsUnary p k x r → Within x d → Within r d
+pub operated_within : (p : Position) (k : UnaryOperator) (d : Cursor) (x r : Result (Expression × Cursor) Failure) → IsUnary p k x r → Within x d → Within r d
 operated_within p k d (Ok x) (Ok y) h w = subst (λ (c : Cursor). length c.tokens.now ≤ length d.tokens.now) (sym h.1) w
 operated_within p k d (Ok x) (Err f) h w = tt
 operated_within p k d (Err e) r h w = subst (λ y. Within y d) (sym h) tt

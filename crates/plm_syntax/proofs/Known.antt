@@ -1,19 +1,26 @@
 -- What is remembered of the literals of the open blocks.
-use Rattle.std.proofs.Common.{◌≡◌, ◌∙◌, ℕ, zero, suc, ◌+◌, ◌<◌, ◌≤◌, List, [], ◌∷◌, ◌++◌, Bool, true, false, not, cond, ◌&&◌, ◌||◌, is_some, Option, Some, None, length, map, option_map, find, get_or, ap, refl, sym, arith}
-use Rattle.std.specs.Prelude.{nat_eq, nat_lt, nat_le, position}
+use Rattle.std.proofs.Common.{◌≡◌, ◌∙◌, ℕ, zero, suc, ◌+◌, ◌-◌, ◌<◌, ◌≤◌, List, [], ◌∷◌, ◌++◌, Bool, true, false, not, cond, ◌&&◌, Option, Some, None, length, map, fold, take, drop, option_map, find, get_or, ap, refl, sym, subst, arith}
+use Rattle.std.specs.Prelude.{nat_lt, position}
 use Rattle.std.specs.Bool.{if◌then◌else◌}
-use Rattle.std.specs.List.{slice_get, position_or_len}
-use Rattle.std.proofs.lemmas.Bool.{eqb-true, leb-true, ltb-false}
+use Rattle.std.specs.List.{All, list_all, slice_get, slice_range, position_or_len}
+use Rattle.std.proofs.lemmas.Bool.{ltb-false}
 use Rattle.std.proofs.lemmas.Option.{slice_get_past, slice_get-map, slice_get_read}
-use Rattle.std.proofs.lemmas.List.{map-append, length-map}
-use Rattle.std.proofs.lemmas.List.Folds.{find_at, list_all-append}
+use Rattle.std.proofs.lemmas.List.{map-append, length-map, drop-map, drop_all, append-nil, append_assoc, take-append-drop, length-drop, get_or-drop, get_or-map}
+use Rattle.std.proofs.lemmas.List.Elements.{All-get_or}
+use Rattle.std.proofs.Math.Seq.{drop-cons}
+use Rattle.std.proofs.lemmas.List.Sums.{fold-append}
+use Rattle.std.proofs.lemmas.List.Folds.{find_at, list_all_more, drop_split}
+use Rattle.word86.specs.declared.number.Number.{Number}
+use Rattle.word86.specs.declared.number.Number.TheVariants.{E202}
 use Rattle.plm_token.specs.Names.{names_equal}
+use Rattle.plm_token.specs.Scanner.{Lexeme}
+use Rattle.plm_token.specs.Literals.{Symbol, on_line}
+use Rattle.plm_token.specs.declared.token.Token.{Token}
 use Rattle.plm_syntax.specs.declared.open_blocks.Literal.{Literal}
-use Rattle.plm_syntax.specs.declared.open_blocks.Quiet.{Quiet}
-use Rattle.plm_syntax.specs.Expand.{LiteralText, Out, text_out}
-use Rattle.plm_syntax.specs.Quiet.{symbol, literal_text, literal_at, text_of, text_at, each_quiet, is_quiet, is_quiet_text, names_quiet, all_known, is_seen}
-use Rattle.plm_syntax.proofs.Replaced.{some_at}
-use Rattle.plm_syntax.proofs.Quiet.{and_first, and_second, and_both, all_along, named_along, quiet_with_more, quiet_among_more, quiet_text_out, text_seen_quiet}
+use Rattle.plm_syntax.specs.declared.open_blocks.QuietRun.{QuietRun}
+use Rattle.plm_syntax.specs.Literals.{LiteralText, Blocks, Out, opens, is_keyword, is_semicolon, opened, closed, ends_block, or_else, by_literal, literal_for, put, stop_at, symbol_out, text_out}
+use Rattle.plm_syntax.specs.Inner.OpenBlocks.{symbol, literal_text, literal_at, text_of, text_at, is_quiet, is_quiet_text, is_quiet_in, is_quiet_between, is_quiet_run}
+use Rattle.plm_syntax.proofs.Quiet.{and_both, all_along, quiet_with_more, quiet_among_more, quiet_text_out, quiet_symbol_out}
 
 -- ---- a literal by its number
 
@@ -40,66 +47,178 @@ place_named name literals = by_place (position_or_len (λ l. names_equal l.name.
 
 -- ---- what is remembered is used
 
-quiet_of : (i levels : ℕ) (literals : List LiteralText) (q : Quiet) → names_quiet q.levels literals q.literal ≡ true → (nat_eq q.literal i && nat_le q.levels levels) ≡ true → names_quiet levels literals i ≡ true
-quiet_of i levels literals q h t =
-    let same : q.literal ≡ i = eqb-true q.literal i (and_first (nat_eq q.literal i) (nat_le q.levels levels) t) in
-    let le : q.levels ≤ levels = leb-true q.levels levels (and_second (nat_eq q.literal i) (nat_le q.levels levels) t) in
-    named_along (is_quiet q.levels literals) (is_quiet levels literals) (quiet_with_more q.levels levels literals le) (slice_get literals i) (ap (names_quiet q.levels literals) (sym same) ∙ h)
+quiet_in_more : (n m : ℕ) (literals : List LiteralText) (from to : ℕ) → n ≤ m → (found : Option LiteralText) → is_quiet_in n literals from to found ≡ true → is_quiet_in m literals from to found ≡ true
+quiet_in_more n m literals from to le None h = h
+quiet_in_more n m literals from to le (Some l) h = all_along (is_quiet n literals) (is_quiet m literals) (quiet_with_more n m literals le) (slice_range l.text from to) h
 
-seen_is_quiet : (i levels : ℕ) (literals : List LiteralText) (quiet : List Quiet) → all_known literals quiet ≡ true → is_seen i levels quiet ≡ true → names_quiet levels literals i ≡ true
-seen_is_quiet i levels literals [] h t = absurd (cc t)
-seen_is_quiet i levels literals (q ∷ qs) h t = first (nat_eq q.literal i && nat_le q.levels levels) refl t
-    (seen_is_quiet i levels literals qs (and_second (names_quiet q.levels literals q.literal) (all_known literals qs) h))
+-- a run among those that are known, where as many replacements may be made, or more
+pub run_is_quiet : (literals : List LiteralText) (runs : List QuietRun) (n : ℕ) (r : QuietRun) (i from levels : ℕ) → All (λ r. is_quiet_run literals r ≡ true) runs → n < length runs → r ≡ get_or runs n r → r.literal ≡ i → r.from ≡ from → r.levels ≤ levels
+    → is_quiet_between levels literals i from r.to ≡ true
+run_is_quiet literals runs n r i from levels h lt e same start le =
+    let known : is_quiet_run literals r ≡ true = ap (is_quiet_run literals) e ∙ All-get_or (λ r. is_quiet_run literals r ≡ true) runs n r lt h in
+    quiet_in_more r.levels levels literals from r.to le (slice_get literals i)
+    (ap (λ (j : ℕ). is_quiet_between r.levels literals j from r.to) (sym same) ∙ ap (λ (a : ℕ). is_quiet_between r.levels literals r.literal a r.to) (sym start) ∙ known)
+
+-- tokens of a literal's text that put nothing out are passed over
+pub passed_over : (levels line : ℕ) (text : List Symbol) (i at to : ℕ) (o : Out) → at ≤ to → ((l : LiteralText) → slice_get o.blocks.literals i ≡ Some l → l.text ≡ text) → is_quiet_between levels o.blocks.literals i at to ≡ true
+    → text_out levels line (drop at text) o ≡ text_out levels line (drop to text) o
+passed_over levels line text i at to o le same h = by_found (slice_get o.blocks.literals i) refl h
   where
-    first : (b : Bool) → (nat_eq q.literal i && nat_le q.levels levels) ≡ b → (b || is_seen i levels qs) ≡ true → (is_seen i levels qs ≡ true → names_quiet levels literals i ≡ true) → names_quiet levels literals i ≡ true
-    first true e k f = quiet_of i levels literals q (and_first (names_quiet q.levels literals q.literal) (all_known literals qs) h) e
-    first false e k f = f k
+    by_found : (found : Option LiteralText) → slice_get o.blocks.literals i ≡ found → is_quiet_in levels o.blocks.literals at to found ≡ true → text_out levels line (drop at text) o ≡ text_out levels line (drop to text) o
+    by_found None e k = absurd (cc k)
+    by_found (Some l) e k =
+        let quiet : is_quiet_text levels o.blocks.literals (slice_range text at to) ≡ true = ap (λ (ss : List Symbol). is_quiet_text levels o.blocks.literals (slice_range ss at to)) (sym (same l e)) ∙ k in
+        ap (λ (ss : List Symbol). text_out levels line ss o) (drop_split text at to le)
+        ∙ fold-append (λ p x. symbol_out levels line x p) o (slice_range text at to) (drop to text)
+        ∙ ap (λ (q : Out). text_out levels line (drop to text) q) (quiet_text_out levels line (slice_range text at to) o quiet)
 
-quiet_changes_nothing : (found : Option LiteralText) (levels line : ℕ) (o : Out) → each_quiet (is_quiet levels o.blocks.literals) found ≡ true → text_out levels line (text_of found) o ≡ o
-quiet_changes_nothing None levels line o h = refl
-quiet_changes_nothing (Some l) levels line o h = quiet_text_out levels line l.text o h
+-- ---- what is seen
 
--- a literal that was seen to put nothing out changes nothing
-pub passed_over : (i levels line : ℕ) (quiet : List Quiet) (o : Out) → all_known o.blocks.literals quiet ≡ true → is_seen i levels quiet ≡ true → o ≡ text_out levels line (text_at o.blocks.literals i) o
-passed_over i levels line quiet o h t = sym (quiet_changes_nothing (slice_get o.blocks.literals i) levels line o (seen_is_quiet i levels o.blocks.literals quiet h t))
+pub none_quiet : (levels : ℕ) (literals : List LiteralText) (text : List Symbol) (at : ℕ) → is_quiet_text levels literals (slice_range text at at) ≡ true
+none_quiet levels literals text at = let none : at - at ≡ 0 = omega arith in rw none refl
 
--- ---- what is seen, and what stays so
+-- one more token that puts nothing out
+pub one_more_quiet : (levels : ℕ) (literals : List LiteralText) (text : List Symbol) (from at : ℕ) (s : Symbol) → from ≤ at → at < length text → s ≡ get_or text at s → is_quiet_text levels literals (slice_range text from at) ≡ true → is_quiet levels literals s ≡ true
+    → is_quiet_text levels literals (slice_range text from (at + 1)) ≡ true
+one_more_quiet levels literals text from at s le lt e h k =
+    let longer : at + 1 - from ≡ at - from + 1 = omega (arith, le) in
+    let within : at - from < length (drop from text) = omega (arith, le, lt, length-drop from text) in
+    let placed : from + (at - from) ≡ at = omega (arith, le) in
+    let last : get_or (drop from text) (at - from) s ≡ s = get_or-drop from text (at - from) s ∙ ap (λ (n : ℕ). get_or text n s) placed ∙ sym e in
+    ap (λ (n : ℕ). is_quiet_text levels literals (take n (drop from text))) longer
+    ∙ list_all_more (is_quiet levels literals) (drop from text) (at - from) s within
+    ∙ and_both (list_all (is_quiet levels literals) (slice_range text from at)) (is_quiet levels literals (get_or (drop from text) (at - from) s)) h (ap (is_quiet levels literals) last ∙ k)
 
--- a literal that added nothing, and did not stop, puts nothing out
-pub quiet_seen : (i levels line : ℕ) (before after : Out) → i < length before.blocks.literals → after ≡ text_out levels line (text_at before.blocks.literals i) before → length after.tokens ≡ length before.tokens → is_some after.stop ≡ false
-    → (after ≡ before) × (names_quiet levels after.blocks.literals i ≡ true)
-quiet_seen i levels line before after lt e l st =
-    let named : (t : LiteralText) × (slice_get before.blocks.literals i ≡ Some t) = some_at before.blocks.literals i lt in
-    let put : after ≡ text_out levels line named.0.text before = e ∙ ap (λ (found : Option LiteralText). text_out levels line (text_of found) before) named.1 in
-    let quiet : is_quiet_text levels before.blocks.literals named.0.text ≡ true = text_seen_quiet levels line named.0.text before after put l st in
-    let same : after ≡ before = put ∙ quiet_text_out levels line named.0.text before quiet in
-    (same, ap (λ (q : Out). names_quiet levels q.blocks.literals i) same ∙ ap (each_quiet (is_quiet levels before.blocks.literals)) named.1 ∙ quiet)
+-- ---- literals go, and none comes
+
+-- the literals of one are those of another, or the first of them
+abbrev pub Fewer : Out → Out → Type 0
+Fewer o q = (more : List LiteralText) × (o.blocks.literals ≡ q.blocks.literals ++ more)
+
+pub fewer_same : (o q : Out) → o.blocks.literals ≡ q.blocks.literals → Fewer o q
+fewer_same o q e = ([], e ∙ sym (append-nil q.blocks.literals))
+
+pub fewer_along : (a b c : Out) → Fewer a b → Fewer b c → Fewer a c
+fewer_along a b c f g = (g.0 ++ f.0, f.1 ∙ ap (λ (ls : List LiteralText). ls ++ f.0) g.1 ∙ append_assoc c.blocks.literals g.0 f.0)
+
+fewer_closed : (literals : List LiteralText) (starts : List ℕ) → (more : List LiteralText) × (literals ≡ (closed literals starts).literals ++ more)
+fewer_closed literals [] = ([], sym (append-nil literals))
+fewer_closed literals (n ∷ ns) = (drop n literals, sym (take-append-drop n literals))
+
+fewer_behind : (opens ends : Bool) (b : Blocks) → (more : List LiteralText) × (b.literals ≡ (cond opens (opened b) (cond ends (closed b.literals b.starts) b)).literals ++ more)
+fewer_behind true ends b = ([], sym (append-nil b.literals))
+fewer_behind false true b = fewer_closed b.literals b.starts
+fewer_behind false false b = ([], sym (append-nil b.literals))
+
+fewer_put : (t : Lexeme) (o : Out) → Fewer o (put t o)
+fewer_put t o = fewer_behind (is_keyword opens t.kind) (is_semicolon t.kind && ends_block o.last o.before) o.blocks
+
+fewer_or : (stop : Option (Number × ℕ)) (o next : Out) → Fewer o next → Fewer o (or_else stop o next)
+fewer_or None o next f = f
+fewer_or (Some s) o next f = fewer_same o o refl
+
+fewer_by : (replaced : LiteralText → Out) (found : Option LiteralText) (plain o : Out) → ((l : LiteralText) → Fewer o (replaced l)) → Fewer o plain → Fewer o (by_literal replaced found plain)
+fewer_by replaced None plain o f g = g
+fewer_by replaced (Some l) plain o f g = f l
+
+fewer_text : (F : Symbol → Out → Out) → ((s : Symbol) (o : Out) → Fewer o (F s o)) → (ss : List Symbol) (o : Out) → Fewer o (fold (λ p x. F x p) o ss)
+fewer_text F f [] o = fewer_same o o refl
+fewer_text F f (s ∷ ss) o = fewer_along o (F s o) (fold (λ p x. F x p) (F s o) ss) (f s o) (fewer_text F f ss (F s o))
+
+fewer_symbol : (levels line : ℕ) (s : Symbol) (o : Out) → Fewer o (symbol_out levels line s o)
+unfolding symbol_out
+fewer_symbol zero line s o = fewer_or o.stop o _ (fewer_by _ (literal_for o.blocks.literals s.kind s.text) (put (on_line line s) o) o (λ l. fewer_same o (stop_at E202 line o) refl) (fewer_put (on_line line s) o))
+fewer_symbol (suc levels) line s o = fewer_or o.stop o _ (fewer_by _ (literal_for o.blocks.literals s.kind s.text) (put (on_line line s) o) o (λ l. fewer_text (symbol_out levels line) (fewer_symbol levels line) l.text o) (fewer_put (on_line line s) o))
 
 among_more : (literals more : List LiteralText) (i : ℕ) (l : LiteralText) → slice_get literals i ≡ Some l → slice_get (literals ++ more) i ≡ Some l
 among_more [] more i l e = absurd (cc e)
 among_more (x ∷ xs) more zero l e = e
 among_more (x ∷ xs) more (suc i) l e = among_more xs more i l e
 
-known_among_more : (literals more : List LiteralText) (q : Quiet) → names_quiet q.levels literals q.literal ≡ true → names_quiet q.levels (literals ++ more) q.literal ≡ true
-known_among_more literals more q h = by_found (slice_get literals q.literal) refl h
+-- a literal that is there once a token was put out was there before
+pub kept : (levels line : ℕ) (s : Symbol) (before after : Out) (i : ℕ) (l : LiteralText) → after ≡ symbol_out levels line s before → slice_get after.blocks.literals i ≡ Some l → slice_get before.blocks.literals i ≡ Some l
+kept levels line s before after i l e h =
+    let fewer : Fewer before (symbol_out levels line s before) = fewer_symbol levels line s before in
+    ap (λ (ls : List LiteralText). slice_get ls i) fewer.1
+    ∙ among_more (symbol_out levels line s before).blocks.literals fewer.0 i l (ap (λ (q : Out). slice_get q.blocks.literals i) (sym e) ∙ h)
+
+-- ---- a text put out token by token
+
+pub the_literal : (literals : List Literal) (i : ℕ) (l : Literal) → i < length literals → l ≡ get_or literals i l → (t : LiteralText) → slice_get (map literal_text literals) i ≡ Some t → t.text ≡ map symbol l.text.now
+the_literal literals i l lt e t h =
+    let found : slice_get (map literal_text literals) i ≡ Some (literal_text l) = slice_get-map literal_text literals i ∙ ap (option_map literal_text) (slice_get_read literals (length literals) i l refl lt e) in
+    let same : Some t ≡ Some (literal_text l) = sym h ∙ found in
+    ap text_of same
+
+-- What is still to be put out, the text as long as the literal is there, and the tokens before that put nothing out
+abbrev pub Putting : ℕ → ℕ → List Token → ℕ → ℕ → ℕ → Out → Out → Type 0
+Putting levels line text i from at first o =
+    (text_out levels line (map symbol text) first ≡ text_out levels line (map symbol (drop at text)) o)
+    × (((t : LiteralText) → slice_get o.blocks.literals i ≡ Some t → t.text ≡ map symbol text)
+    × ((from ≤ at)
+    × (is_quiet_text levels o.blocks.literals (slice_range (map symbol text) from at) ≡ true)))
+
+pub put_passed : (levels line : ℕ) (text : List Token) (i from at to : ℕ) (first o : Out) → Putting levels line text i from at first o → is_quiet_between levels o.blocks.literals i at to ≡ true → at < to → Putting levels line text i to to first o
+put_passed levels line text i from at to first o p q lt =
+    let out : List Symbol → Out = λ ss. text_out levels line ss o in
+    let le : at ≤ to = omega (arith, lt) in (
+      p.0 ∙ ap out (sym (drop-map symbol at text)) ∙ passed_over levels line (map symbol text) i at to o le p.1.0 q ∙ ap out (drop-map symbol to text),
+      (p.1.0, (omega arith, none_quiet levels o.blocks.literals (map symbol text) to)),
+    )
+
+token_out : (levels line : ℕ) (text : List Token) (at : ℕ) (d : Token) (o next : Out) → at < length text → next ≡ symbol_out levels line (symbol (get_or text at d)) o
+    → text_out levels line (map symbol (drop at text)) o ≡ text_out levels line (map symbol (drop (at + 1) text)) next
+token_out levels line text at d o next lt h =
+    let after : suc at ≡ at + 1 = omega arith in
+    ap (λ (ts : List Token). text_out levels line (map symbol ts) o) (drop-cons text at d lt)
+    ∙ ap (λ (n : ℕ). text_out levels line (map symbol (drop n text)) (symbol_out levels line (symbol (get_or text at d)) o)) after
+    ∙ ap (λ (q : Out). text_out levels line (map symbol (drop (at + 1) text)) q) (sym h)
+
+pub put_loud : (levels line : ℕ) (text : List Token) (i from at : ℕ) (d : Token) (first o next : Out) → Putting levels line text i from at first o → at < length text → next ≡ symbol_out levels line (symbol (get_or text at d)) o
+    → Putting levels line text i (at + 1) (at + 1) first next
+put_loud levels line text i from at d first o next p lt h = (
+  p.0 ∙ token_out levels line text at d o next lt h,
+  ((λ l k. p.1.0 l (kept levels line (symbol (get_or text at d)) o next i l h k)), (omega arith, none_quiet levels next.blocks.literals (map symbol text) (at + 1))),
+)
+
+pub put_quiet : (levels line : ℕ) (text : List Token) (i from at : ℕ) (d : Token) (first o next : Out) → Putting levels line text i from at first o → at < length text → next ≡ symbol_out levels line (symbol (get_or text at d)) o
+    → is_quiet levels o.blocks.literals (symbol (get_or text at d)) ≡ true → Putting levels line text i from (at + 1) first next
+put_quiet levels line text i from at d first o next p lt h quiet =
+    let s : Symbol = symbol (get_or text at d) in
+    let same : next ≡ o = h ∙ quiet_symbol_out levels line s o quiet in
+    let within : at < length (map symbol text) = omega (arith, lt, length-map text symbol) in
+    let placed : s ≡ get_or (map symbol text) at s = sym (get_or-map symbol text at d s lt) in (
+      p.0 ∙ token_out levels line text at d o next lt h,
+      (
+        (λ l k. p.1.0 l (kept levels line s o next i l h k)),
+        (
+          omega (arith, p.1.1.0),
+          ap (λ (q : Out). is_quiet_text levels q.blocks.literals (slice_range (map symbol text) from (at + 1))) same
+              ∙ one_more_quiet levels o.blocks.literals (map symbol text) from at s p.1.1.0 within placed p.1.1.1 quiet,
+        ),
+      ),
+    )
+
+pub put_over : (levels line : ℕ) (text : List Token) (i from at : ℕ) (first o : Out) → Putting levels line text i from at first o → length text ≤ at → o ≡ text_out levels line (map symbol text) first
+put_over levels line text i from at first o p le = sym (p.0 ∙ ap (λ (ts : List Token). text_out levels line (map symbol ts) o) (drop_all at text le))
+
+-- ---- what stays so where literals are declared
+
+quiet_in_among : (levels : ℕ) (literals more : List LiteralText) (from to i : ℕ) → is_quiet_between levels literals i from to ≡ true → is_quiet_between levels (literals ++ more) i from to ≡ true
+quiet_in_among levels literals more from to i h = by_found (slice_get literals i) refl h
   where
-    by_found : (found : Option LiteralText) → slice_get literals q.literal ≡ found → each_quiet (is_quiet q.levels literals) found ≡ true → names_quiet q.levels (literals ++ more) q.literal ≡ true
+    by_found : (found : Option LiteralText) → slice_get literals i ≡ found → is_quiet_in levels literals from to found ≡ true → is_quiet_between levels (literals ++ more) i from to ≡ true
     by_found None e k = absurd (cc k)
     by_found (Some l) e k =
-        ap (each_quiet (is_quiet q.levels (literals ++ more))) (among_more literals more q.literal l e)
-        ∙ all_along (is_quiet q.levels literals) (is_quiet q.levels (literals ++ more)) (quiet_among_more q.levels literals more) l.text k
+        ap (is_quiet_in levels (literals ++ more) from to) (among_more literals more i l e)
+        ∙ all_along (is_quiet levels literals) (is_quiet levels (literals ++ more)) (quiet_among_more levels literals more) (slice_range l.text from to) k
 
--- behind a push of a literal, which may have failed
-pub known_declared : (b : Bool) (literals : List Literal) (l : Literal) (quiet : List Quiet) → all_known (map literal_text literals) quiet ≡ true → all_known (map literal_text (if b then literals ++ l ∷ [] else literals)) quiet ≡ true
-known_declared false literals l quiet h = h
-known_declared true literals l quiet h =
-    ap (λ (xs : List LiteralText). all_known xs quiet) (map-append literal_text literals (l ∷ []))
-    ∙ all_along (λ q. names_quiet q.levels (map literal_text literals) q.literal) (λ q. names_quiet q.levels (map literal_text literals ++ literal_text l ∷ []) q.literal)
-    (known_among_more (map literal_text literals) (literal_text l ∷ [])) quiet h
+known_among_more : (literals more : List LiteralText) (runs : List QuietRun) → All (λ r. is_quiet_run literals r ≡ true) runs → All (λ r. is_quiet_run (literals ++ more) r ≡ true) runs
+known_among_more literals more runs h = λ k d lt. let r = get_or runs k d in quiet_in_among r.levels literals more r.from r.to r.literal (h k d lt)
 
--- the same of what is seen
-pub known_remembered : (b : Bool) (literals : List LiteralText) (q : Quiet) (quiet : List Quiet) → all_known literals quiet ≡ true → names_quiet q.levels literals q.literal ≡ true → all_known literals (if b then quiet ++ q ∷ [] else quiet) ≡ true
-known_remembered false literals q quiet h k = h
-known_remembered true literals q quiet h k =
-    list_all-append (λ q. names_quiet q.levels literals q.literal) quiet (q ∷ [])
-    ∙ and_both (all_known literals quiet) (all_known literals (q ∷ [])) h (and_both (names_quiet q.levels literals q.literal) true k refl)
+-- after a push of a literal, which may have failed
+pub known_declared : (b : Bool) (literals : List Literal) (l : Literal) (runs : List QuietRun) → All (λ r. is_quiet_run (map literal_text literals) r ≡ true) runs
+    → All (λ r. is_quiet_run (map literal_text (if b then literals ++ l ∷ [] else literals)) r ≡ true) runs
+known_declared false literals l runs h = h
+known_declared true literals l runs h =
+    subst (λ (xs : List LiteralText). All (λ r. is_quiet_run xs r ≡ true) runs) (sym (map-append literal_text literals (l ∷ []))) (known_among_more (map literal_text literals) (literal_text l ∷ []) runs h)

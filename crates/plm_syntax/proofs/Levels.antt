@@ -3,10 +3,10 @@ use Rattle.std.proofs.Common.{◌≡◌, ℕ, suc, List, [], ◌∷◌, ◌++◌
 use Rattle.plm_token.specs.declared.token.Keyword.TheVariants as key
 use Rattle.plm_token.specs.declared.token.Mark.TheVariants as mark
 use Rattle.plm_syntax.specs.declared.tree.Scalar.{Scalar}
-use Rattle.plm_syntax.specs.Terminal.{NameT, NumberT, Terminal, Name, Number, Text, Key, Sign, Finish, Leaf, leaf, leaf_at}
-use Rattle.plm_syntax.specs.Tree.{ExpressionT, NumberE, TextE, ReferenceE, LocationE, ParenthesisedE, EmbeddedE, UnaryE, BinaryE, ReferenceT, ReferenceOf, ExpressionsT, no_expressions, expressions, SelectorT, no_member, member, member_at, LocationT, LocationOf, ConstantsOf, ValueT, NumberV, NegativeV, TextV, LocationV, ValuesT, no_values, values, NamesT, no_names, names, VariableT, VariableOf, VariablesT, no_variables, variables, DeclaredT, OneVariable, VariableList, DimensionT, no_dimension, dimension, implicit_dimension, MemberT, OneMember, MemberList, MembersT, no_members, members, TypeT, ScalarType, StructureType, AtT, no_at, at_number, at_location, InitialT, no_initial, initial, constant_data, AttributesT, External, Attributes, ElementT, LiteralElement, VariableElement, ElementsT, no_elements, elements, LinkageT, no_linkage, public_linkage, external_linkage, ReferencesT, no_references, references, StatementT, Labelled, BasicT, EmptyS, AssignS, CallS, ReturnS, ReturnValueS, EnableS, DisableS, HaltS, IfS, IfElseS, DoS, WhileS, CaseS, IterateS, StatementsT, no_statements, statements, BlockT, BlockOf, ItemsT, no_items, items, ItemT, DeclareI, ProcedureI, ModuleT, ModuleOf}
+use Rattle.plm_syntax.specs.Terminal.{NameT, NumeralT, Terminal, Name, Numeral, Text, Key, Sign, Finish, Leaf, leaf, leaf_at}
+use Rattle.plm_syntax.specs.Tree.{ExpressionT, NumeralE, TextE, ReferenceE, LocationE, ParenthesisedE, EmbeddedE, UnaryE, BinaryE, ReferenceT, ReferenceOf, ExpressionsT, no_expressions, expressions, SelectorT, no_member, member, member_at, LocationT, LocationOf, ConstantsOf, ValueT, NumeralV, NegativeV, TextV, LocationV, ValuesT, no_values, values, NamesT, no_names, names, VariableT, VariableOf, VariablesT, no_variables, variables, DeclaredT, OneVariable, VariableList, DimensionT, no_dimension, dimension, implicit_dimension, MemberT, OneMember, MemberList, MembersT, no_members, members, TypeT, ScalarType, StructureType, AtT, no_at, at_number, at_location, InitialT, no_initial, initial, constant_data, AttributesT, External, Attributes, ElementT, LiteralElement, VariableElement, ElementsT, no_elements, elements, LinkageT, no_linkage, public_linkage, external_linkage, ReferencesT, no_references, references, StatementT, Labelled, BasicT, EmptyS, AssignS, CallS, ReturnS, ReturnValueS, EnableS, DisableS, HaltS, IfS, IfElseS, DoS, WhileS, CaseS, IterateS, StatementsT, no_statements, statements, BlockT, BlockOf, ItemsT, no_items, items, ItemT, DeclareI, ProcedureI, ModuleT, ModuleOf}
 use Rattle.plm_syntax.specs.Spelling.{unary_sign, binary_sign, form_sign, scalar_key, behind_labels, expression, reference, subscripts, listed, selector, location, value, value_list, listed_values, listed_names, name_list, parenthesised_names, base, variable, listed_variables, variable_list, declared, in_parentheses, dimension_leaves, count, member_leaves, listed_members, member_list, type_leaves, at_leaves, initial_leaves, public, attributes, element, listed_elements, element_list, returned, interrupt, linkage, ending, listed_references, targets, labels, step, statement, basic, statement_list, block, item_list, item, module_leaves, put_level}
-use Rattle.plm_syntax.specs.Machine.{Trace, Then}
+use Rattle.plm_syntax.specs.Inner.Machine.{Trace, Then}
 use Rattle.plm_syntax.proofs.DriveExpression.{put_then}
 
 -- the levels, then what follows
@@ -39,7 +39,7 @@ join {f} {f'} {g} {g'} h k = record {
 
 mutual
   pub levels_expression : (x0 : ℕ) (x1 : ExpressionT) → Levelled (expression put_then x0 x1) (expression put_level x0 x1)
-  levels_expression d (NumberE n) = one (leaf (Number n)) 0
+  levels_expression d (NumeralE n) = one (leaf (Numeral n)) 0
   levels_expression d (TextE s) = one (leaf (Text s)) 0
   levels_expression d (ReferenceE x) = levels_reference 0 d x
   levels_expression d (LocationE l) = levels_location d l
@@ -69,8 +69,8 @@ mutual
   levels_location d (ConstantsOf p f vs) = join (one (leaf_at (form_sign f) p) 0) (join (one (leaf (Sign mark.LeftParenthesis)) 0) (join (levels_value_list d vs) (one (leaf (Sign mark.RightParenthesis)) 0)))
 
   pub levels_value : (x0 : ℕ) (x1 : ValueT) → Levelled (value put_then x0 x1) (value put_level x0 x1)
-  levels_value d (NumberV n) = one (leaf (Number n)) 0
-  levels_value d (NegativeV n) = join (one (leaf (Sign mark.Minus)) 0) (one (leaf (Number n)) 0)
+  levels_value d (NumeralV n) = one (leaf (Numeral n)) 0
+  levels_value d (NegativeV n) = join (one (leaf (Sign mark.Minus)) 0) (one (leaf (Numeral n)) 0)
   levels_value d (TextV s) = one (leaf (Text s)) 0
   levels_value d (LocationV l) = levels_location d l
 
@@ -118,12 +118,12 @@ levels_in_parentheses t = join (one (leaf (Sign mark.LeftParenthesis)) 0) (join 
 
 pub levels_dimension_leaves : (x0 : DimensionT) → Levelled (dimension_leaves put_then x0) (dimension_leaves put_level x0)
 levels_dimension_leaves no_dimension = nothing
-levels_dimension_leaves (dimension n) = levels_in_parentheses (Number n)
+levels_dimension_leaves (dimension n) = levels_in_parentheses (Numeral n)
 levels_dimension_leaves implicit_dimension = levels_in_parentheses (Sign mark.Star)
 
-pub levels_count : (x0 : Option NumberT) → Levelled (count put_then x0) (count put_level x0)
+pub levels_count : (x0 : Option NumeralT) → Levelled (count put_then x0) (count put_level x0)
 levels_count None = nothing
-levels_count (Some n) = levels_in_parentheses (Number n)
+levels_count (Some n) = levels_in_parentheses (Numeral n)
 
 pub levels_member_leaves : (x0 : MemberT) → Levelled (member_leaves put_then x0) (member_leaves put_level x0)
 levels_member_leaves (OneMember n c s) = join (one (leaf (Name n)) 0) (join (levels_count c) (one (leaf (scalar_key s)) 0))
@@ -143,7 +143,7 @@ levels_type_leaves (StructureType ms) = join (one (leaf (Key key.Structure)) 0) 
 
 pub levels_at_leaves : (x0 : ℕ) (x1 : AtT) → Levelled (at_leaves put_then x0 x1) (at_leaves put_level x0 x1)
 levels_at_leaves d no_at = nothing
-levels_at_leaves d (at_number n) = join (one (leaf (Key key.At)) 0) (levels_in_parentheses (Number n))
+levels_at_leaves d (at_number n) = join (one (leaf (Key key.At)) 0) (levels_in_parentheses (Numeral n))
 levels_at_leaves d (at_location l) = join (one (leaf (Key key.At)) 0) (join (one (leaf (Sign mark.LeftParenthesis)) 0) (join (levels_location d l) (one (leaf (Sign mark.RightParenthesis)) 0)))
 
 pub levels_initial_leaves : (x0 : ℕ) (x1 : InitialT) → Levelled (initial_leaves put_then x0 x1) (initial_leaves put_level x0 x1)
@@ -175,9 +175,9 @@ pub levels_returned : (x0 : Option Scalar) → Levelled (returned put_then x0) (
 levels_returned None = nothing
 levels_returned (Some s) = one (leaf (scalar_key s)) 0
 
-pub levels_interrupt : (x0 : Option NumberT) → Levelled (interrupt put_then x0) (interrupt put_level x0)
+pub levels_interrupt : (x0 : Option NumeralT) → Levelled (interrupt put_then x0) (interrupt put_level x0)
 levels_interrupt None = nothing
-levels_interrupt (Some n) = join (one (leaf (Key key.Interrupt)) 0) (one (leaf (Number n)) 0)
+levels_interrupt (Some n) = join (one (leaf (Key key.Interrupt)) 0) (one (leaf (Numeral n)) 0)
 
 pub levels_linkage : (x0 : LinkageT) → Levelled (linkage put_then x0) (linkage put_level x0)
 levels_linkage no_linkage = nothing

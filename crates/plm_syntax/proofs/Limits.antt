@@ -4,13 +4,13 @@ use Rattle.plm_syntax.specs.Terminal.{Leaf}
 use Rattle.plm_syntax.specs.Tree.{ModuleT}
 use Rattle.plm_syntax.specs.Spelling.{module_leaves, put_leaf, leaves_of, levels_of}
 use Rattle.plm_syntax.specs.WellFormed.{WellModule}
-use Rattle.plm_syntax.specs.Symbol.{Value, Symbol, depth, ModuleR}
-use Rattle.plm_syntax.specs.Machine.{again, more, Move, feed, Stop, Reading, run, start, Stay, Next, Open, Refusal, Deep}
+use Rattle.plm_syntax.specs.Inner.Symbol.{Value, Symbol, depth, ModuleR}
+use Rattle.plm_syntax.specs.Inner.Machine.{again, more, Move, feed, Stop, Reading, run, start, Stay, Next, Open, Refusal, Deep}
 use Rattle.std.proofs.Common.{◌+◌, take, drop, length-append}
 use Rattle.std.specs.Prelude.{nat_lt}
 use Rattle.std.proofs.lemmas.List.{append-nil, take-append-le, take-append-drop}
 use Rattle.std.proofs.lemmas.Bool.{ltb-true, ltb-false, le-ltb}
-use Rattle.plm_syntax.specs.Runs.{TakesModules}
+use Rattle.plm_syntax.specs.Inner.Runs.{TakesModules}
 use Rattle.plm_syntax.specs.Sentence.{Fits, Spells, AllWithin, BeginsWithin, IsFirstWrong, IsFirstDeep}
 use Rattle.plm_syntax.proofs.Whole.{Path, module_path, next_is, open_is, fit_path, front_of, only_path, one_module, completed, Nothing_left, begun_by, levels_begun, begun_within, led, here, on, in_level}
 

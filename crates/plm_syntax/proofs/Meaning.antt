@@ -4,14 +4,14 @@ use Rattle.plm_token.specs.declared.token.Keyword.{Keyword}
 use Rattle.plm_token.specs.declared.token.Keyword.TheVariants as key
 use Rattle.plm_token.specs.declared.token.Mark.{Mark}
 use Rattle.plm_token.specs.declared.token.Mark.TheVariants as mark
-use Rattle.plm_syntax.specs.declared.tree.Place.{Place}
+use Rattle.plm_syntax.specs.declared.tree.Position.{Position}
 use Rattle.plm_syntax.specs.declared.tree.Scalar.{Scalar}
-use Rattle.plm_syntax.specs.Terminal.{NameT, NumberT, Terminal, Name, Number, Text, Key, Sign, Finish, Leaf, leaf, leaf_at, key_number, sign_number, is_key, is_sign, is_same}
+use Rattle.plm_syntax.specs.Terminal.{NameT, NumeralT, Terminal, Name, Numeral, Text, Key, Sign, Finish, Leaf, leaf, leaf_at, key_number, sign_number, is_key, is_sign, is_same}
 use Rattle.plm_syntax.specs.Tree.{ExpressionT, ReferenceT, ExpressionsT, SelectorT, LocationT, ValueT, ValuesT, NamesT, VariableT, VariablesT, DimensionT, MemberT, MembersT, TypeT, StructureType, AtT, no_at, at_number, at_location, InitialT, AttributesT, ElementT, ElementsT, LinkageT, ReferencesT, StatementT, BasicT, DoS, WhileS, CaseS, IterateS, StatementsT, BlockOf, ItemsT, ModuleT}
 use Rattle.plm_syntax.specs.Spelling.{form_sign, scalar_key, last_name, behind_labels, expression, reference, subscripts, listed, selector, location, value, value_list, name_list, parenthesised_names, base, variable, variable_list, dimension_leaves, count, member_leaves, member_list, type_leaves, at_leaves, initial_leaves, attributes, element, element_list, returned, interrupt, linkage, ending, listed_references, targets, labels, step, statement, statement_list, block, item_list, module_leaves, put_leaf}
-use Rattle.plm_syntax.specs.WellFormed.{level, Well, WellReference, WellExpressions, WellSelector, WellLocation, WellValue, WellValues, HasNames, HasVariables, WellMember, WellType, WellAt, WellInitial, WellAttributes, WellElement, WellElements, WellTargets, WellStep, ends_open, WellEnd, WellStatement, WellStatements, WellItems, WellModule}
-use Rattle.plm_syntax.specs.Symbol.{Level, Goal, Symbol, depth_on, Rule, behind, otherwise, before, Relations, PrimaryG, SignedG, NegationG, MoreG, InsideG, AfterReferenceG, SubscriptsG, MoreSubscriptsG, SelectorG, MemberG, MemberSubscriptG, LocatedG, ValueG, NegativeG, MoreValuesG, StatementG, LeadG, TargetG, MoreTargetsG, CalledG, ReturnedG, ArmG, OtherwiseG, DoG, StepG, StatementsG, EndG, ItemsG, ItemLeadG, ItemColonG, ParametersG, ParameterG, MoreParametersG, ReturnedTypeG, InterruptG, InterruptNumberG, LinkageG, ElementG, ElementLeadG, LiteralTextG, VariableG, MoreVariablesG, BasedG, BaseG, DimensionG, DimensionBodyG, TypeG, MemberOfG, MemberNameG, MoreMemberNamesG, CountG, CountNumberG, MemberTypeG, MoreMembersG, AttributesG, AtG, AtBodyG, InitialG, MoreElementsG, ModuleG, StartG, Need, Want, Do, Leave, Refused, Over, Take, Keep}
-use Rattle.plm_syntax.specs.Machine.{number_of}
+use Rattle.plm_syntax.specs.WellFormed.{precedence, Well, WellReference, WellExpressions, WellSelector, WellLocation, WellValue, WellValues, HasNames, HasVariables, WellMember, WellType, WellAt, WellInitial, WellAttributes, WellElement, WellElements, WellTargets, WellStep, ends_open, WellEnd, WellStatement, WellStatements, WellItems, WellModule}
+use Rattle.plm_syntax.specs.Inner.Symbol.{Precedence, Goal, Symbol, depth_on, Rule, behind, otherwise, before, Relations, PrimaryG, SignedG, NegationG, MoreG, InsideG, AfterReferenceG, SubscriptsG, MoreSubscriptsG, SelectorG, MemberG, MemberSubscriptG, LocatedG, ValueG, NegativeG, MoreValuesG, StatementG, LeadG, TargetG, MoreTargetsG, CalledG, ReturnedG, ArmG, OtherwiseG, DoG, StepG, StatementsG, EndG, ItemsG, ItemLeadG, ItemColonG, ParametersG, ParameterG, MoreParametersG, ReturnedTypeG, InterruptG, InterruptNumberG, LinkageG, ElementG, ElementLeadG, LiteralTextG, VariableG, MoreVariablesG, BasedG, BaseG, DimensionG, DimensionBodyG, TypeG, MemberOfG, MemberNameG, MoreMemberNamesG, CountG, CountNumberG, MemberTypeG, MoreMembersG, AttributesG, AtG, AtBodyG, InitialG, MoreElementsG, ModuleG, StartG, Need, Want, Do, Leave, Refused, Over, Take, Keep}
+use Rattle.plm_syntax.specs.Inner.Machine.{number_of}
 use Rattle.std.specs.Prelude.{nat_eq}
 use Rattle.std.proofs.lemmas.Bool.{eqb-true}
 use Rattle.plm_syntax.proofs.Steps.{IsDecided}
@@ -29,7 +29,7 @@ Any x = Unit {0}
 
 -- ---- parts that have no tree of their own
 
--- what stands behind "(" of an expression
+-- what stands after "(" of an expression
 pub data Inner : Type 0 where
   Nested : ExpressionT → Inner
   Stored : ReferenceT → ExpressionT → Inner
@@ -42,7 +42,7 @@ abbrev pub WellInner : Inner → Type 0
 WellInner (Nested e) = Well e
 WellInner (Stored x e) = WellReference x × Well e
 
--- expressions behind "(" of subscripts
+-- expressions after "(" of subscripts
 pub record Several : Type 0 where
   pub front : ExpressionsT
   pub last : ExpressionT
@@ -53,7 +53,7 @@ several_leaves d es r = listed put_leaf d es.front (expression put_leaf d es.las
 abbrev pub WellSeveral : Several → Type 0
 WellSeveral es = WellExpressions es.front × Well es.last
 
--- behind DO
+-- after DO
 pub data Group : Type 0 where
   PlainDo : ItemsT → StatementsT → Option NameT → Group
   WhileDo : ExpressionT → StatementsT → Option NameT → Group
@@ -66,7 +66,7 @@ group_leaves d (WhileDo e ss n) r = leaf (Key key.While) ∷ expression put_leaf
 group_leaves d (CaseDo e ss n) r = leaf (Key key.Case) ∷ expression put_leaf d e (leaf (Sign mark.Semicolon) ∷ statement_list put_leaf d ss (ending put_leaf n r))
 group_leaves d (IterateDo i a b t ss n) r = leaf (Name i) ∷ leaf (Sign mark.Equal) ∷ expression put_leaf d a (leaf (Key key.To) ∷ expression put_leaf d b (step put_leaf d t (leaf (Sign mark.Semicolon) ∷ statement_list put_leaf d ss (ending put_leaf n r))))
 
-abbrev pub group_statement : Place → Group → BasicT
+abbrev pub group_statement : Position → Group → BasicT
 group_statement p (PlainDo is ss n) = DoS p (BlockOf is ss) n
 group_statement p (WhileDo e ss n) = WhileS p e ss n
 group_statement p (CaseDo e ss n) = CaseS p e ss n
@@ -78,7 +78,7 @@ WellGroup lab (WhileDo e ss n) = Well e × WellStatements ss × WellEnd lab n
 WellGroup lab (CaseDo e ss n) = Well e × WellStatements ss × WellEnd lab n
 WellGroup lab (IterateDo i a b t ss n) = Well a × Well b × WellStep t × WellStatements ss × WellEnd lab n
 
--- statements and the end behind them
+-- statements and the end after them
 pub record Ended_statements : Type 0 where
   pub list : StatementsT
   pub name : Option NameT
@@ -89,7 +89,7 @@ ended_leaves d b r = statement_list put_leaf d b.list (ending put_leaf b.name r)
 abbrev pub WellEnded : Option NameT → Ended_statements → Type 0
 WellEnded lab b = WellStatements b.list × WellEnd lab b.name
 
--- a block and the end behind it
+-- a block and the end after it
 pub record Ended_block : Type 0 where
   pub front : ItemsT
   pub list : StatementsT
@@ -101,10 +101,10 @@ block_leaves d b r = item_list put_leaf d b.front (statement_list put_leaf d b.l
 abbrev pub WellEndedBlock : Option NameT → Ended_block → Type 0
 WellEndedBlock lab b = WellItems b.front × WellStatements b.list × WellEnd lab b.name
 
--- behind "(" of AT
+-- after "(" of AT
 abbrev pub at_body_leaves : ℕ → AtT → List Leaf → List Leaf
 at_body_leaves d no_at r = r
-at_body_leaves d (at_number n) r = leaf (Number n) ∷ r
+at_body_leaves d (at_number n) r = leaf (Numeral n) ∷ r
 at_body_leaves d (at_location l) r = location put_leaf d l r
 
 abbrev pub WellAtBody : AtT → Type 0
@@ -127,22 +127,22 @@ pub record AStatement (m d : ℕ) (K : List Leaf → Type 0) (ls : List Leaf) : 
   pub closed : begins_else rest ≡ true → ends_open part ≡ false
   pub goes : K rest
 
--- what stands behind a THEN part
+-- what stands after a THEN part
 pub data Otherwise (d : ℕ) (K : List Leaf → Type 0) (ls : List Leaf) : Type 0 where
   without : begins_else ls ≡ false → K ls → Otherwise d K ls
   with_else : (us : List Leaf) → ls ≡ leaf (Key key.Else) ∷ us → AStatement (suc d) (suc d) K us → Otherwise d K ls
 
-abbrev pub left_of : Level → ℕ
+abbrev pub left_of : Precedence → ℕ
 left_of Relations = 3
 left_of l = number_of l
 
 -- ---- what each goal stands for, d levels deep, where K holds of what follows
 
 abbrev pub Means : Goal → ℕ → (List Leaf → Type 0) → List Leaf → Type 0
-Means PrimaryG d K ls = An ExpressionT (λ e. (level e ≤ 0) × Well e) (expression put_leaf d) K ls
-Means SignedG d K ls = An ExpressionT (λ e. (level e ≤ 1) × Well e) (expression put_leaf d) K ls
-Means NegationG d K ls = An ExpressionT (λ e. (level e ≤ 5) × Well e) (expression put_leaf d) K ls
-Means (MoreG l) d K ls = (e : ExpressionT) → level e ≤ left_of l → Well e → An ExpressionT (λ f. (level f ≤ number_of l) × Well f) (expression put_leaf d) K (expression put_leaf d e ls)
+Means PrimaryG d K ls = An ExpressionT (λ e. (precedence e ≤ 0) × Well e) (expression put_leaf d) K ls
+Means SignedG d K ls = An ExpressionT (λ e. (precedence e ≤ 1) × Well e) (expression put_leaf d) K ls
+Means NegationG d K ls = An ExpressionT (λ e. (precedence e ≤ 5) × Well e) (expression put_leaf d) K ls
+Means (MoreG l) d K ls = (e : ExpressionT) → precedence e ≤ left_of l → Well e → An ExpressionT (λ f. (precedence f ≤ number_of l) × Well f) (expression put_leaf d) K (expression put_leaf d e ls)
 Means (InsideG p) d K ls = An Inner WellInner (inner d) K ls
 Means (AfterReferenceG p) d K ls = (x : ReferenceT) → WellReference x → An Inner WellInner (inner d) K (reference put_leaf 0 d x ls)
 Means SubscriptsG d K ls = An ExpressionsT WellExpressions (subscripts put_leaf d) K ls
@@ -173,8 +173,8 @@ Means ParametersG d K ls = An NamesT Any (parenthesised_names put_leaf) K ls
 Means ParameterG d K ls = An NameT Any (λ n r. leaf (Name n) ∷ r) K ls
 Means MoreParametersG d K ls = (ns : NamesT) → HasNames ns → An NamesT HasNames (λ ns r. name_list put_leaf ns (leaf (Sign mark.RightParenthesis) ∷ r)) K (name_list put_leaf ns ls)
 Means ReturnedTypeG d K ls = An (Option Scalar) Any (returned put_leaf) K ls
-Means InterruptG d K ls = An (Option NumberT) Any (interrupt put_leaf) K ls
-Means InterruptNumberG d K ls = An (Option NumberT) Any (interrupt put_leaf) K (leaf (Key key.Interrupt) ∷ ls)
+Means InterruptG d K ls = An (Option NumeralT) Any (interrupt put_leaf) K ls
+Means InterruptNumberG d K ls = An (Option NumeralT) Any (interrupt put_leaf) K (leaf (Key key.Interrupt) ∷ ls)
 Means LinkageG d K ls = An LinkageT Any (linkage put_leaf) K ls
 Means ElementG d K ls = An ElementT WellElement (element put_leaf d) K ls
 Means ElementLeadG d K ls = (n : NameT) → An ElementT WellElement (element put_leaf d) K (leaf (Name n) ∷ ls)
@@ -189,8 +189,8 @@ Means TypeG d K ls = An TypeT WellType (type_leaves put_leaf) K ls
 Means MemberOfG d K ls = An MemberT WellMember (member_leaves put_leaf) K ls
 Means MemberNameG d K ls = An NameT Any (λ n r. leaf (Name n) ∷ r) K ls
 Means MoreMemberNamesG d K ls = (ns : NamesT) → HasNames ns → An NamesT HasNames (λ ns r. name_list put_leaf ns (leaf (Sign mark.RightParenthesis) ∷ r)) K (name_list put_leaf ns ls)
-Means CountG d K ls = An (Option NumberT) Any (count put_leaf) K ls
-Means CountNumberG d K ls = An (Option NumberT) Any (count put_leaf) K (leaf (Sign mark.LeftParenthesis) ∷ ls)
+Means CountG d K ls = An (Option NumeralT) Any (count put_leaf) K ls
+Means CountNumberG d K ls = An (Option NumeralT) Any (count put_leaf) K (leaf (Sign mark.LeftParenthesis) ∷ ls)
 Means MemberTypeG d K ls = An Scalar Any (λ t r. leaf (scalar_key t) ∷ r) K ls
 Means MoreMembersG d K ls = (ms : MembersT) → WellType (StructureType ms) → An MembersT (λ ms. WellType (StructureType ms)) (λ ms r. member_list put_leaf ms (leaf (Sign mark.RightParenthesis) ∷ r)) K (member_list put_leaf ms ls)
 Means AttributesG d K ls = An AttributesT WellAttributes (attributes put_leaf d) K ls
@@ -220,7 +220,7 @@ abbrev pub Says : (List Leaf → Type 0) → ℕ → (List Leaf → Type 0) → 
 Says M d K t Refused = Unit {0}
 Says M d K t Over = (l : Leaf) (ls : List Leaf) → l.terminal ≡ t → K (l ∷ ls) → M (l ∷ ls)
 Says M d K t (Take b q) = (ls : List Leaf) → Awaits q d K ls → M (leaf t ∷ ls)
-Says M d K t (Keep b f) = (p : Place) (ls : List Leaf) → Awaits (f p) d K ls → M (leaf_at t p ∷ ls)
+Says M d K t (Keep b f) = (p : Position) (ls : List Leaf) → Awaits (f p) d K ls → M (leaf_at t p ∷ ls)
 
 -- ---- stacks put together
 
@@ -335,7 +335,7 @@ same_key x y h = some_inj (sym (key_found x) ∙ ap (λ (n : ℕ). element_at n 
 pub sign_is : (m : Mark) (t : Terminal) → is_sign m t ≡ true → Sign m ≡ t
 sign_is m (Sign n) h = ap Sign (same_sign m n h)
 sign_is m (Name n) h = absurd cc
-sign_is m (Number n) h = absurd cc
+sign_is m (Numeral n) h = absurd cc
 sign_is m (Text n) h = absurd cc
 sign_is m (Key n) h = absurd cc
 sign_is m Finish h = absurd cc
@@ -343,7 +343,7 @@ sign_is m Finish h = absurd cc
 pub key_is : (k : Keyword) (t : Terminal) → is_key k t ≡ true → Key k ≡ t
 key_is k (Key n) h = ap Key (same_key k n h)
 key_is k (Name n) h = absurd cc
-key_is k (Number n) h = absurd cc
+key_is k (Numeral n) h = absurd cc
 key_is k (Text n) h = absurd cc
 key_is k (Sign n) h = absurd cc
 key_is k Finish h = absurd cc
@@ -353,12 +353,12 @@ same_is (Key k) t h = key_is k t h
 same_is (Sign m) t h = sign_is m t h
 same_is Finish Finish h = refl
 same_is Finish (Name n) h = absurd cc
-same_is Finish (Number n) h = absurd cc
+same_is Finish (Numeral n) h = absurd cc
 same_is Finish (Text n) h = absurd cc
 same_is Finish (Key n) h = absurd cc
 same_is Finish (Sign n) h = absurd cc
 same_is (Name n) t h = absurd cc
-same_is (Number n) t h = absurd cc
+same_is (Numeral n) t h = absurd cc
 same_is (Text n) t h = absurd cc
 
 -- ---- rules put together
@@ -375,7 +375,7 @@ module _ (M : List Leaf → Type 0) (d : ℕ) (K : List Leaf → Type 0) where
   pub on_key : (k : Keyword) (t : Terminal) (x y : Rule) → Says M d K (Key k) x → (is_key k t ≡ false → Says M d K t y) → Says M d K t (cond (is_key k t) x y)
   on_key k t x y f g = on_test t (is_key k t) x y (λ h. subst (λ (u : Terminal). Says M d K u x) (key_is k t h) f) g
 
-  -- a rule of another goal, with symbols behind
+  -- a rule of another goal, with symbols after
   pub on_behind : (N : List Leaf → Type 0) (t : Terminal) (a : List Symbol) (r : Rule) → Says N (depth_on a d) (Awaits a d K) t r → IsDecided r → ((ls : List Leaf) → N ls → M ls) → Says M d K t (behind r a)
   on_behind N t a Refused h i g = tt
   on_behind N t a Over h i g = absurd i

@@ -2,22 +2,22 @@
 use Rattle.std.proofs.Common.{◌≡◌, ℕ, ◌+◌, List, [], ◌∷◌, ◌++◌, Bool, true, false, cond, Option, Some, None, refl, sym, ap, ◌∙◌, append_assoc}
 use Rattle.plm_token.specs.declared.token.Keyword.TheVariants as key
 use Rattle.plm_token.specs.declared.token.Mark.TheVariants as mark
-use Rattle.plm_syntax.specs.declared.tree.Place.{Place}
+use Rattle.plm_syntax.specs.declared.tree.Position.{Position}
 use Rattle.plm_syntax.specs.declared.tree.Scalar.{Scalar}
 use Rattle.plm_syntax.specs.declared.tree.Scalar.TheVariants as scalar
-use Rattle.plm_syntax.specs.Terminal.{NumberT, Terminal, Name, Number, Text, Key, Sign, Finish, Leaf, leaf, leaf_at, is_key, is_sign}
+use Rattle.plm_syntax.specs.Terminal.{NumeralT, Terminal, Name, Numeral, Text, Key, Sign, Finish, Leaf, leaf, leaf_at, is_key, is_sign}
 use Rattle.plm_syntax.specs.Tree.{LocationForm, Pointer, Offset, no_names, VariableT, no_variables, OneVariable, no_dimension, implicit_dimension, no_members, ScalarType}
 use Rattle.plm_syntax.specs.Spelling.{form_sign, scalar_key}
-use Rattle.plm_syntax.specs.Symbol.{Value, Action, Goal, Symbol, depth, Rule, behind, otherwise, before, need, push, NamesR, VariableR, VariablesR, DimensionR, CountR, MembersR, MemberR, TypeR, DeclaredR, LocatedG, ParameterG, MoreParametersG, ReturnedTypeG, ElementG, ElementLeadG, LiteralTextG, VariableG, MoreVariablesG, BasedG, BaseG, DimensionG, TypeG, MemberOfG, MemberNameG, MoreMemberNamesG, CountG, MemberTypeG, MoreMembersG, AttributesG, AtG, AtBodyG, InitialG, MoreElementsG, Want, Do, Refused, Over, Take, Keep}
-use Rattle.plm_syntax.specs.Machine.{a_value_list, set_returned, scalar_of, parameter, more_parameters, add_element, add_variable, one_variable, variable_group, set_dimension, make_member, add_member, make_structure, set_external, set_public, set_at_location, set_initial, set_data, attributes_tail, declared_tail, element_rule, more_elements, variable_rule, more_variables, based_rule, base_rule, dimension_rule, dimension_body, type_rule, member_of, member_name, more_member_names, count_number, member_type, more_members, at_rule, at_body, initial_rule, literal_text, rule, Move, moved, feed, trace, run, Stay, Then}
+use Rattle.plm_syntax.specs.Inner.Symbol.{Value, Action, Goal, Symbol, depth, Rule, behind, otherwise, before, need, push, NamesR, VariableR, VariablesR, DimensionR, CountR, MembersR, MemberR, TypeR, DeclaredR, LocatedG, ParameterG, MoreParametersG, ReturnedTypeG, ElementG, ElementLeadG, LiteralTextG, VariableG, MoreVariablesG, BasedG, BaseG, DimensionG, TypeG, MemberOfG, MemberNameG, MoreMemberNamesG, CountG, MemberTypeG, MoreMembersG, AttributesG, AtG, AtBodyG, InitialG, MoreElementsG, Want, Do, Refused, Over, Take, Keep}
+use Rattle.plm_syntax.specs.Inner.Machine.{a_value_list, set_returned, scalar_of, parameter, more_parameters, add_element, add_variable, one_variable, variable_group, set_dimension, make_member, add_member, make_structure, set_external, set_public, set_at_location, set_initial, set_data, attributes_tail, declared_tail, element_rule, more_elements, variable_rule, more_variables, based_rule, base_rule, dimension_rule, dimension_body, type_rule, member_of, member_name, more_member_names, count_number, member_type, more_members, at_rule, at_body, initial_rule, literal_text, rule, Move, moved, feed, trace, run, Stay, Then}
 use Rattle.plm_syntax.specs.declared.cursor.Cursor.{Cursor}
 use Rattle.plm_syntax.specs.declared.tree.MemberNames.{MemberNames}
 use Rattle.plm_syntax.specs.declared.tree.MemberNames.TheVariants as member_names
 use Rattle.plm_syntax.specs.View.{member_with}
-use Rattle.plm_syntax.specs.Parsed.{ahead, next_of, first_of, stream, place_at, is_name, is_number, is_text}
-use Rattle.plm_syntax.specs.Answers.{terminal_of}
+use Rattle.plm_syntax.specs.Inner.Parsed.{ahead, next_of, first_of, stream, place_at, is_name, is_number, is_text}
+use Rattle.plm_syntax.specs.Answer.{terminal_of}
 use Rattle.plm_token.specs.declared.token.Token.{Token}
-use Rattle.plm_syntax.specs.Parts.{member_names_read}
+use Rattle.plm_syntax.specs.Inner.Parts.{member_names_read}
 use Rattle.plm_syntax.proofs.Steps.{go, trace_step, same_trace, ruled, feed_want, over, IsDecided, ruled_behind, ruled_otherwise}
 use Rattle.plm_syntax.proofs.DriveExpression.{Some_leaf, some_leaf, pushed}
 use Rattle.plm_syntax.proofs.DriveDeclaration.{acted}
@@ -36,7 +36,7 @@ at_token c s s' v v' e h = by_tokens c.number c.tokens.now h
     by_tokens n [] g = as_run s s' v v' (leaf Finish ∷ []) e
     by_tokens n (t ∷ ts) g = as_run s s' v v' (stream n (t ∷ ts)) (g (leaf_at (terminal_of t.kind t.text.now (place_at n t)) (place_at n t)) (stream (n + 1) ts) refl (some (n + 1) ts))
 
-pub doing : (a : Action) (s : List Symbol) (v w : List Value) (t : Terminal) (p : Option Place) → a v ≡ Some w → feed (Do a ∷ s) v t p ≡ feed s w t p
+pub doing : (a : Action) (s : List Symbol) (v w : List Value) (t : Terminal) (p : Option Position) → a v ≡ Some w → feed (Do a ∷ s) v t p ≡ feed s w t p
 doing a s v w t p e = ap (λ (o : Option (List Value)). elim o [ None ↦ Stay | Some x ↦ feed s x t p ]) e
 
 -- a goal that puts symbols before those of another rule
@@ -55,7 +55,7 @@ prefixed g pre s s' r v v' l ls e decided h acts deep =
     moves true q = ap (λ (x : List Symbol). go (moved true x v) ls) (append_assoc pre q s) ∙ ap (λ (n : ℕ). Then n (trace (pre ++ (q ++ s)) v ls)) (deep (q ++ s)) ∙ ap (Then (depth (q ++ s))) (acts (q ++ s))
     moves false q = ap (λ (x : List Symbol). go (moved false x v) ls) (append_assoc pre q s) ∙ ap (Then 0) (acts (q ++ s))
 
-    by_rule : (x : Rule) → IsDecided x → (p : Option Place) → go (ruled (before pre x) s v l.terminal p) ls ≡ go (ruled x s v' l.terminal p) ls
+    by_rule : (x : Rule) → IsDecided x → (p : Option Position) → go (ruled (before pre x) s v l.terminal p) ls ≡ go (ruled x s v' l.terminal p) ls
     by_rule Refused d p = refl
     by_rule Over d p = absurd d
     by_rule (Take b q) d p = moves b q
@@ -69,7 +69,7 @@ more_elements_refused t g h = ap (λ (x : Bool). cond x (Take false (Want Elemen
 
 pub element_refused : (t : Terminal) → is_sign mark.LeftParenthesis t ≡ false → is_name t ≡ false → element_rule t ≡ Refused
 element_refused (Name n) g h = absurd cc
-element_refused (Number n) g h = refl
+element_refused (Numeral n) g h = refl
 element_refused (Text n) g h = refl
 element_refused (Key n) g h = refl
 element_refused (Sign n) g h = ap (λ (x : Bool). cond x (Take false (push (VariablesR no_variables) ∷ Want VariableG ∷ Do add_variable ∷ Want MoreVariablesG ∷ Do variable_group ∷ (declared_tail ++ (Do add_element ∷ [])))) Refused) g
@@ -77,7 +77,7 @@ element_refused Finish g h = refl
 
 pub literal_refused : (t : Terminal) → is_text t ≡ false → literal_text t ≡ Refused
 literal_refused (Name n) h = refl
-literal_refused (Number n) h = refl
+literal_refused (Numeral n) h = refl
 literal_refused (Text n) h = absurd cc
 literal_refused (Key n) h = refl
 literal_refused (Sign n) h = refl
@@ -85,7 +85,7 @@ literal_refused Finish h = refl
 
 pub base_refused : (t : Terminal) → is_name t ≡ false → base_rule t ≡ Refused
 base_refused (Name n) h = absurd cc
-base_refused (Number n) h = refl
+base_refused (Numeral n) h = refl
 base_refused (Text n) h = refl
 base_refused (Key n) h = refl
 base_refused (Sign n) h = refl
@@ -93,7 +93,7 @@ base_refused Finish h = refl
 
 pub variable_refused : (t : Terminal) → is_name t ≡ false → variable_rule t ≡ Refused
 variable_refused (Name n) h = absurd cc
-variable_refused (Number n) h = refl
+variable_refused (Numeral n) h = refl
 variable_refused (Text n) h = refl
 variable_refused (Key n) h = refl
 variable_refused (Sign n) h = refl
@@ -113,7 +113,7 @@ more_parameters_refused t g h = ap (λ (x : Bool). cond x (Take false (Want Para
 
 pub dimension_refused : (t : Terminal) → is_sign mark.Star t ≡ false → is_number t ≡ false → dimension_body t ≡ Refused
 dimension_refused (Name n) g h = refl
-dimension_refused (Number n) g h = absurd cc
+dimension_refused (Numeral n) g h = absurd cc
 dimension_refused (Text n) g h = refl
 dimension_refused (Key n) g h = refl
 dimension_refused (Sign n) g h = ap (λ (x : Bool). cond x (Take false (need mark.RightParenthesis ∷ Do (set_dimension implicit_dimension) ∷ [])) Refused) g
@@ -126,7 +126,7 @@ type_refused t g h =
 
 pub member_of_refused : (t : Terminal) → is_sign mark.LeftParenthesis t ≡ false → is_name t ≡ false → member_of t ≡ Refused
 member_of_refused (Name n) g h = absurd cc
-member_of_refused (Number n) g h = refl
+member_of_refused (Numeral n) g h = refl
 member_of_refused (Text n) g h = refl
 member_of_refused (Key n) g h = refl
 member_of_refused (Sign n) g h = ap (λ (x : Bool). cond x (Take false (push (NamesR no_names) ∷ Want MemberNameG ∷ Want MoreMemberNamesG ∷ push (CountR None) ∷ Want CountG ∷ Want MemberTypeG ∷ [])) Refused) g
@@ -134,7 +134,7 @@ member_of_refused Finish g h = refl
 
 pub member_name_refused : (t : Terminal) → is_name t ≡ false → member_name t ≡ Refused
 member_name_refused (Name n) h = absurd cc
-member_name_refused (Number n) h = refl
+member_name_refused (Numeral n) h = refl
 member_name_refused (Text n) h = refl
 member_name_refused (Key n) h = refl
 member_name_refused (Sign n) h = refl
@@ -142,7 +142,7 @@ member_name_refused Finish h = refl
 
 pub parameter_refused : (t : Terminal) → is_name t ≡ false → parameter t ≡ Refused
 parameter_refused (Name n) h = absurd cc
-parameter_refused (Number n) h = refl
+parameter_refused (Numeral n) h = refl
 parameter_refused (Text n) h = refl
 parameter_refused (Key n) h = refl
 parameter_refused (Sign n) h = refl
@@ -150,7 +150,7 @@ parameter_refused Finish h = refl
 
 pub count_refused : (t : Terminal) → is_number t ≡ false → count_number t ≡ Refused
 count_refused (Name n) h = refl
-count_refused (Number n) h = absurd cc
+count_refused (Numeral n) h = absurd cc
 count_refused (Text n) h = refl
 count_refused (Key n) h = refl
 count_refused (Sign n) h = refl
@@ -161,7 +161,7 @@ member_type_refused t g = ap (λ (o : Option Scalar). elim o [ None ↦ Refused 
 
 pub at_body_refused : (t : Terminal) → is_number t ≡ false → is_sign mark.AtSign t ≡ false → is_sign mark.Period t ≡ false → at_body t ≡ Refused
 at_body_refused (Name n) g e f = refl
-at_body_refused (Number n) g e f = absurd cc
+at_body_refused (Numeral n) g e f = absurd cc
 at_body_refused (Text n) g e f = refl
 at_body_refused (Key n) g e f = refl
 at_body_refused Finish g e f = refl
@@ -172,7 +172,7 @@ at_body_refused (Sign m) g e f = ap (λ (x : Bool). cond x (Keep false (λ p. Wa
 
 pub no_scalar : (t : Terminal) → is_key key.Byte t ≡ false → is_key key.Word t ≡ false → is_key key.Address t ≡ false → is_key key.Pointer t ≡ false → scalar_of t ≡ None
 no_scalar (Name n) a b c d = refl
-no_scalar (Number n) a b c d = refl
+no_scalar (Numeral n) a b c d = refl
 no_scalar (Text n) a b c d = refl
 no_scalar (Sign n) a b c d = refl
 no_scalar Finish a b c d = refl
@@ -182,29 +182,29 @@ no_scalar (Key key.Address) a b c d = absurd cc
 no_scalar (Key key.Pointer) a b c d = absurd cc
 no_scalar (Key k) a b c d = refl
 
-pub type_taken : (k : Scalar) (p : Place) (s : List Symbol) (v : List Value) (ls : List Leaf) → run 64 (Want TypeG ∷ s) v (leaf_at (scalar_key k) p ∷ ls) ≡ run 64 (push (TypeR (ScalarType k)) ∷ s) v ls
+pub type_taken : (k : Scalar) (p : Position) (s : List Symbol) (v : List Value) (ls : List Leaf) → run 64 (Want TypeG ∷ s) v (leaf_at (scalar_key k) p ∷ ls) ≡ run 64 (push (TypeR (ScalarType k)) ∷ s) v ls
 type_taken scalar.Byte p s v ls = refl
 type_taken scalar.Word p s v ls = refl
 type_taken scalar.Address p s v ls = refl
 type_taken scalar.Pointer p s v ls = refl
 
-pub member_type_taken : (k : Scalar) (p : Place) (s : List Symbol) (v : List Value) (ls : List Leaf) → run 64 (Want MemberTypeG ∷ s) v (leaf_at (scalar_key k) p ∷ ls) ≡ run 64 (Do (make_member k) ∷ s) v ls
+pub member_type_taken : (k : Scalar) (p : Position) (s : List Symbol) (v : List Value) (ls : List Leaf) → run 64 (Want MemberTypeG ∷ s) v (leaf_at (scalar_key k) p ∷ ls) ≡ run 64 (Do (make_member k) ∷ s) v ls
 member_type_taken scalar.Byte p s v ls = refl
 member_type_taken scalar.Word p s v ls = refl
 member_type_taken scalar.Address p s v ls = refl
 member_type_taken scalar.Pointer p s v ls = refl
 
-pub returned_taken : (k : Scalar) (p : Place) (s : List Symbol) (v : List Value) (ls : List Leaf) → run 64 (Want ReturnedTypeG ∷ s) v (leaf_at (scalar_key k) p ∷ ls) ≡ run 64 (Do (set_returned k) ∷ s) v ls
+pub returned_taken : (k : Scalar) (p : Position) (s : List Symbol) (v : List Value) (ls : List Leaf) → run 64 (Want ReturnedTypeG ∷ s) v (leaf_at (scalar_key k) p ∷ ls) ≡ run 64 (Do (set_returned k) ∷ s) v ls
 returned_taken scalar.Byte p s v ls = refl
 returned_taken scalar.Word p s v ls = refl
 returned_taken scalar.Address p s v ls = refl
 returned_taken scalar.Pointer p s v ls = refl
 
-pub member_made : (names : MemberNames) (c : Option NumberT) (k : Scalar) (v : List Value) → make_member k (CountR c ∷ member_names_read names v) ≡ Some (MemberR (member_with names c k) ∷ v)
+pub member_made : (names : MemberNames) (c : Option NumeralT) (k : Scalar) (v : List Value) → make_member k (CountR c ∷ member_names_read names v) ≡ Some (MemberR (member_with names c k) ∷ v)
 member_made (member_names.One n) c k v = refl
 member_made (member_names.List ns) c k v = refl
 
-pub located_at : (f : LocationForm) (p : Place) (s : List Symbol) (v : List Value) (ls : List Leaf) → run 64 (Want AtBodyG ∷ s) v (leaf_at (form_sign f) p ∷ ls) ≡ run 64 (Want (LocatedG p f) ∷ Do set_at_location ∷ s) v ls
+pub located_at : (f : LocationForm) (p : Position) (s : List Symbol) (v : List Value) (ls : List Leaf) → run 64 (Want AtBodyG ∷ s) v (leaf_at (form_sign f) p ∷ ls) ≡ run 64 (Want (LocatedG p f) ∷ Do set_at_location ∷ s) v ls
 located_at Pointer p s v ls = refl
 located_at Offset p s v ls = refl
 
@@ -226,7 +226,7 @@ no_initial_there c s v g h = passed_over InitialG c s v
     (ap (λ (b : Bool). cond b (Take false (need mark.LeftParenthesis ∷ a_value_list (Do set_initial ∷ []))) (cond (is_key key.Data (next_of c)) (Take false (need mark.LeftParenthesis ∷ a_value_list (Do set_data ∷ []))) Over)) g
     ∙ ap (λ (b : Bool). cond b (Take false (need mark.LeftParenthesis ∷ a_value_list (Do set_data ∷ []))) Over) h)
 
--- ---- behind the name of an element
+-- ---- after the name of an element
 
 type_decided : (t : Terminal) → IsDecided (type_rule t)
 type_decided t = by_option (scalar_of t)

@@ -2,37 +2,37 @@
 use Rattle.std.proofs.Common.{◌≡◌, List, [], ◌∷◌, ◌++◌, Bool, true, false, cond, refl, ap, ◌∙◌}
 use Rattle.plm_token.specs.declared.token.Keyword.TheVariants as key
 use Rattle.plm_token.specs.declared.token.Mark.TheVariants as mark
-use Rattle.plm_syntax.specs.declared.tree.Place.{Place}
+use Rattle.plm_syntax.specs.declared.tree.Position.{Position}
 use Rattle.plm_syntax.specs.declared.tree.UnaryOperator.TheVariants as unary
-use Rattle.plm_syntax.specs.Terminal.{Terminal, Name, Number, Text, Key, Sign, Finish, Leaf, leaf_at, is_key, is_sign}
+use Rattle.plm_syntax.specs.Terminal.{Terminal, Name, Numeral, Text, Key, Sign, Finish, Leaf, leaf_at, is_key, is_sign}
 use Rattle.plm_syntax.specs.Tree.{LocationForm, Pointer, Offset}
 use Rattle.plm_syntax.specs.Spelling.{form_sign}
-use Rattle.plm_syntax.specs.Symbol.{Value, Level, Symbol, depth, behind, Products, Sums, Relations, Conjunctions, Disjunctions, PrimaryG, SignedG, NegationG, MoreG, InsideG, AfterReferenceG, MoreSubscriptsG, LocatedG, ValueG, NegativeG, MoreValuesG, Want, Do, Leave, Refused, Take, Keep}
-use Rattle.plm_syntax.specs.Machine.{again, an_expression, make_unary, add_expression, primary, expression_at, closing, inside, more_subscripts, member_rule, locate_values, location_value, add_value, a_value_list, located, value_rule, negative, more_values, run}
+use Rattle.plm_syntax.specs.Inner.Symbol.{Value, Precedence, Symbol, depth, behind, Products, Sums, Relations, Conjunctions, Disjunctions, PrimaryG, SignedG, NegationG, MoreG, InsideG, AfterReferenceG, MoreSubscriptsG, LocatedG, ValueG, NegativeG, MoreValuesG, Want, Do, Leave, Refused, Take, Keep}
+use Rattle.plm_syntax.specs.Inner.Machine.{again, an_expression, make_unary, add_expression, primary, expression_at, closing, inside, more_subscripts, member_rule, locate_values, location_value, add_value, a_value_list, located, value_rule, negative, more_values, run}
 use Rattle.plm_syntax.proofs.DriveParts.{after_goes}
 use Rattle.plm_syntax.proofs.DriveBlock.{expression_goes}
 use Rattle.plm_syntax.proofs.Along.{at_front, same_goal}
 use Rattle.plm_syntax.specs.declared.cursor.Cursor.{Cursor}
-use Rattle.plm_syntax.specs.Parsed.{ahead, next_of, is_name, is_number, is_text}
-use Rattle.plm_syntax.specs.Parts.{joined, all_levels, is_relations}
+use Rattle.plm_syntax.specs.Inner.Parsed.{ahead, next_of, is_name, is_number, is_text}
+use Rattle.plm_syntax.specs.Inner.Parts.{joined, all_precedences, is_relations}
 use Rattle.plm_syntax.proofs.DriveExpression.{negation_is, no_not}
 
 pub negation_goes : (c : Cursor) (s : List Symbol) (v : List Value) → is_key key.Not (next_of c) ≡ false → run 64 (Want NegationG ∷ s) v (ahead c) ≡ run 64 (joined Relations s) v (ahead c)
 negation_goes c s v h = at_front c (Want NegationG ∷ s) (joined Relations s) v v (λ l ls q. negation_is s v (l ∷ ls) (no_not (ap (is_key key.Not) q ∙ h)))
 
-inside_rule : (p : Place) (t : Terminal) → is_name t ≡ false → inside p t ≡ behind (expression_at t) (closing p)
+inside_rule : (p : Position) (t : Terminal) → is_name t ≡ false → inside p t ≡ behind (expression_at t) (closing p)
 inside_rule p (Name n) h = absurd cc
-inside_rule p (Number n) h = refl
+inside_rule p (Numeral n) h = refl
 inside_rule p (Text n) h = refl
 inside_rule p (Key n) h = refl
 inside_rule p (Sign n) h = refl
 inside_rule p Finish h = refl
 
-pub inside_goes : (p : Place) (c : Cursor) (s : List Symbol) (v : List Value) → is_name (next_of c) ≡ false → run 64 (Want (InsideG p) ∷ s) v (ahead c) ≡ run 64 (an_expression (closing p ++ s)) v (ahead c)
+pub inside_goes : (p : Position) (c : Cursor) (s : List Symbol) (v : List Value) → is_name (next_of c) ≡ false → run 64 (Want (InsideG p) ∷ s) v (ahead c) ≡ run 64 (an_expression (closing p ++ s)) v (ahead c)
 inside_goes p c s v h = at_front c (Want (InsideG p) ∷ s) (an_expression (closing p ++ s)) v v (λ l ls q. expression_goes (InsideG p) (closing p) s v l ls (inside_rule p l.terminal (ap is_name q ∙ h)))
 
-pub reference_goes : (p : Place) (c : Cursor) (s : List Symbol) (v : List Value) → is_sign mark.Assign (next_of c) ≡ false → run 64 (Want (AfterReferenceG p) ∷ s) v (ahead c) ≡ run 64 (all_levels (closing p ++ s)) v (ahead c)
-reference_goes p c s v h = at_front c (Want (AfterReferenceG p) ∷ s) (all_levels (closing p ++ s)) v v (λ l ls q. after_goes p s v l ls (ap (is_sign mark.Assign) q ∙ h))
+pub reference_goes : (p : Position) (c : Cursor) (s : List Symbol) (v : List Value) → is_sign mark.Assign (next_of c) ≡ false → run 64 (Want (AfterReferenceG p) ∷ s) v (ahead c) ≡ run 64 (all_precedences (closing p ++ s)) v (ahead c)
+reference_goes p c s v h = at_front c (Want (AfterReferenceG p) ∷ s) (all_precedences (closing p ++ s)) v v (λ l ls q. after_goes p s v l ls (ap (is_sign mark.Assign) q ∙ h))
 
 pub signed_goes : (c : Cursor) (s : List Symbol) (v : List Value) → is_sign mark.Plus (next_of c) ≡ false → is_sign mark.Minus (next_of c) ≡ false → run 64 (Want SignedG ∷ s) v (ahead c) ≡ run 64 (Want PrimaryG ∷ s) v (ahead c)
 signed_goes c s v g h = same_goal SignedG PrimaryG c s v
@@ -48,7 +48,7 @@ located_signs t a b g h = ap (λ (x : Bool). cond x (Keep false (λ p. a (Want (
 
 pub primary_refused : (t : Terminal) → is_name t ≡ false → is_number t ≡ false → is_text t ≡ false → is_sign mark.LeftParenthesis t ≡ false → is_sign mark.AtSign t ≡ false → is_sign mark.Period t ≡ false → primary t ≡ Refused
 primary_refused (Name n) a b c d e f = absurd cc
-primary_refused (Number n) a b c d e f = absurd cc
+primary_refused (Numeral n) a b c d e f = absurd cc
 primary_refused (Text n) a b c d e f = absurd cc
 primary_refused (Key n) a b c d e f = refl
 primary_refused Finish a b c d e f = refl
@@ -57,7 +57,7 @@ primary_refused (Sign m) a b c d e f = ap (λ (x : Bool). cond x (Keep true (λ 
 
 pub value_refused : (t : Terminal) → is_number t ≡ false → is_text t ≡ false → is_sign mark.Minus t ≡ false → is_sign mark.AtSign t ≡ false → is_sign mark.Period t ≡ false → value_rule t ≡ Refused
 value_refused (Name n) b c d e f = refl
-value_refused (Number n) b c d e f = absurd cc
+value_refused (Numeral n) b c d e f = absurd cc
 value_refused (Text n) b c d e f = absurd cc
 value_refused (Key n) b c d e f = refl
 value_refused Finish b c d e f = refl
@@ -66,7 +66,7 @@ value_refused (Sign m) b c d e f = ap (λ (x : Bool). cond x (Take false (Want N
 
 pub negative_refused : (t : Terminal) → is_number t ≡ false → negative t ≡ Refused
 negative_refused (Name n) h = refl
-negative_refused (Number n) h = absurd cc
+negative_refused (Numeral n) h = absurd cc
 negative_refused (Text n) h = refl
 negative_refused (Key n) h = refl
 negative_refused (Sign n) h = refl
@@ -74,15 +74,15 @@ negative_refused Finish h = refl
 
 pub member_refused : (t : Terminal) → is_name t ≡ false → member_rule t ≡ Refused
 member_refused (Name n) h = absurd cc
-member_refused (Number n) h = refl
+member_refused (Numeral n) h = refl
 member_refused (Text n) h = refl
 member_refused (Key n) h = refl
 member_refused (Sign n) h = refl
 member_refused Finish h = refl
 
-pub located_refused : (p : Place) (f : LocationForm) (t : Terminal) → is_sign mark.LeftParenthesis t ≡ false → is_name t ≡ false → located p f t ≡ Refused
+pub located_refused : (p : Position) (f : LocationForm) (t : Terminal) → is_sign mark.LeftParenthesis t ≡ false → is_name t ≡ false → located p f t ≡ Refused
 located_refused p f (Name n) g h = absurd cc
-located_refused p f (Number n) g h = refl
+located_refused p f (Numeral n) g h = refl
 located_refused p f (Text n) g h = refl
 located_refused p f (Key n) g h = refl
 located_refused p f (Sign n) g h = ap (λ (x : Bool). cond x (Take false (a_value_list (Do (locate_values p f) ∷ []))) Refused) g
@@ -96,31 +96,31 @@ more_values_refused t g h = ap (λ (x : Bool). cond x (Take false (Want ValueG �
 
 -- ---- "@" and "."
 
-pub located_primary : (f : LocationForm) (p : Place) (s : List Symbol) (v : List Value) (ls : List Leaf) → run 64 (Want PrimaryG ∷ s) v (leaf_at (form_sign f) p ∷ ls) ≡ run 64 (Want (LocatedG p f) ∷ s) v ls
+pub located_primary : (f : LocationForm) (p : Position) (s : List Symbol) (v : List Value) (ls : List Leaf) → run 64 (Want PrimaryG ∷ s) v (leaf_at (form_sign f) p ∷ ls) ≡ run 64 (Want (LocatedG p f) ∷ s) v ls
 located_primary Pointer p s v ls = refl
 located_primary Offset p s v ls = refl
 
-pub located_value : (f : LocationForm) (p : Place) (s : List Symbol) (v : List Value) (ls : List Leaf) → run 64 (Want ValueG ∷ s) v (leaf_at (form_sign f) p ∷ ls) ≡ run 64 (Want (LocatedG p f) ∷ Do location_value ∷ s) v ls
+pub located_value : (f : LocationForm) (p : Position) (s : List Symbol) (v : List Value) (ls : List Leaf) → run 64 (Want ValueG ∷ s) v (leaf_at (form_sign f) p ∷ ls) ≡ run 64 (Want (LocatedG p f) ∷ Do location_value ∷ s) v ls
 located_value Pointer p s v ls = refl
 located_value Offset p s v ls = refl
 
 -- ---- the levels
 
-pub again_relations : (l : Level) → is_relations l ≡ true → (s : List Symbol) → again l ++ s ≡ s
+pub again_relations : (l : Precedence) → is_relations l ≡ true → (s : List Symbol) → again l ++ s ≡ s
 again_relations Products h s = absurd cc
 again_relations Sums h s = absurd cc
 again_relations Relations h s = refl
 again_relations Conjunctions h s = absurd cc
 again_relations Disjunctions h s = absurd cc
 
-pub again_others : (l : Level) → is_relations l ≡ false → (s : List Symbol) → again l ++ s ≡ Want (MoreG l) ∷ s
+pub again_others : (l : Precedence) → is_relations l ≡ false → (s : List Symbol) → again l ++ s ≡ Want (MoreG l) ∷ s
 again_others Products h s = refl
 again_others Sums h s = refl
 again_others Relations h s = absurd cc
 again_others Conjunctions h s = refl
 again_others Disjunctions h s = refl
 
-pub depth_again : (l : Level) (s : List Symbol) → depth (again l ++ s) ≡ depth s
+pub depth_again : (l : Precedence) (s : List Symbol) → depth (again l ++ s) ≡ depth s
 depth_again Products s = refl
 depth_again Sums s = refl
 depth_again Relations s = refl

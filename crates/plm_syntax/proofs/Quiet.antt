@@ -1,4 +1,4 @@
--- Texts that put nothing out: what is known of them, and how it is seen.
+-- Tokens of literals that put nothing out: what is known of them, and how it is seen.
 use Rattle.std.proofs.Common.{◌≡◌, ◌∙◌, ℕ, zero, suc, ◌+◌, ◌≤◌, List, [], ◌∷◌, ◌++◌, Bool, true, false, cond, ◌&&◌, Option, Some, None, is_some, length, find, fold, ap, refl, sym, arith}
 use Rattle.std.specs.List.{list_all}
 use Rattle.std.specs.Option.{option_or}
@@ -7,8 +7,8 @@ use Rattle.std.proofs.lemmas.List.Folds.{find-append}
 use Rattle.word86.specs.declared.number.Number.{Number}
 use Rattle.plm_token.specs.Names.{names_equal}
 use Rattle.plm_token.specs.Literals.{Symbol, on_line}
-use Rattle.plm_syntax.specs.Expand.{LiteralText, Out, or_else, by_literal, literal_for, put, symbol_out, text_out, is_identifier}
-use Rattle.plm_syntax.specs.Quiet.{each_quiet, is_quiet, is_quiet_text}
+use Rattle.plm_syntax.specs.Literals.{LiteralText, Out, or_else, by_literal, literal_for, put, symbol_out, text_out, is_identifier}
+use Rattle.plm_syntax.specs.Inner.OpenBlocks.{each_quiet, is_quiet, is_quiet_text}
 use Rattle.plm_syntax.proofs.Replaced.{symbol_stopped}
 
 -- ---- tests of all tokens
@@ -162,7 +162,11 @@ steady (suc levels) line = record {
 pub quiet_text_out : (levels line : ℕ) (text : List Symbol) (o : Out) → is_quiet_text levels o.blocks.literals text ≡ true → text_out levels line text o ≡ o
 quiet_text_out levels line text o h = all_same (symbol_out levels line) (is_quiet levels) (steady levels line) text o h
 
--- a text that added nothing, and did not stop, is quiet
-pub text_seen_quiet : (levels line : ℕ) (text : List Symbol) (before after : Out) → after ≡ text_out levels line text before → length after.tokens ≡ length before.tokens → is_some after.stop ≡ false → is_quiet_text levels before.blocks.literals text ≡ true
-text_seen_quiet levels line text before after e l st =
-    all_seen (symbol_out levels line) (is_quiet levels) (steady levels line) text before (ap (λ (q : Out). length q.tokens) (sym e) ∙ l) (ap (λ (q : Out). is_some q.stop) (sym e) ∙ st)
+-- a token that is quiet changes nothing
+pub quiet_symbol_out : (levels line : ℕ) (s : Symbol) (o : Out) → is_quiet levels o.blocks.literals s ≡ true → symbol_out levels line s o ≡ o
+quiet_symbol_out levels line s o h = (steady levels line).same s o h
+
+-- a token that added nothing, and did not stop, is quiet
+pub symbol_seen_quiet : (levels line : ℕ) (s : Symbol) (before after : Out) → after ≡ symbol_out levels line s before → length after.tokens ≡ length before.tokens → is_some after.stop ≡ false → is_quiet levels before.blocks.literals s ≡ true
+symbol_seen_quiet levels line s before after e l st =
+    (steady levels line).seen s before (ap (λ (q : Out). length q.tokens) (sym e) ∙ l) (ap (λ (q : Out). is_some q.stop) (sym e) ∙ st)

@@ -8,11 +8,11 @@ use Rattle.word86.specs.declared.fault.Fault.{Fault}
 use Rattle.plm_token.specs.declared.token.Kind.{Kind}
 use Rattle.plm_token.specs.declared.token.Token.{Token}
 use Rattle.plm_syntax.specs.declared.literals.Source.{Source}
-use Rattle.plm_token.specs.Scanning.{Lexeme, lexemes}
+use Rattle.plm_token.specs.Scanner.{Lexeme, lexemes}
 use Rattle.plm_token.specs.Literals.{Symbol, on_line, at_line, literal_of}
-use Rattle.plm_syntax.specs.Expand.{LiteralText, Out, or_else, by_literal, literal_for, put, stop_at, symbol_out, text_out, source_out, declare, declared_name, is_string, between, nothing_out, expanded}
-use Rattle.plm_syntax.specs.Quiet.{symbol, text_of, text_at}
-use Rattle.plm_syntax.specs.ExpandView.{with_text, out_with_text, text_for, declare_text, source_view}
+use Rattle.plm_syntax.specs.Literals.{LiteralText, Out, or_else, by_literal, literal_for, put, stop_at, symbol_out, text_out, source_out, declare, declared_name, is_string, between, nothing_out, expanded}
+use Rattle.plm_syntax.specs.Inner.OpenBlocks.{symbol, text_of, text_at}
+use Rattle.plm_syntax.specs.Inner.Literals.{with_text, out_with_text, text_for, declare_text, source_view}
 
 stopped : (stop : Option (Number × ℕ)) (o next : Out) → is_some stop ≡ true → or_else stop o next ≡ o
 stopped None o next e = absurd (cc e)

@@ -2,13 +2,13 @@
 use Rattle.std.proofs.Common.{◌≡◌, ℕ, zero, suc, List, [], ◌∷◌, ◌++◌, Bool, true, false, cond, Option, Some, None, refl, sym, ap, ◌∙◌, append_assoc, arith}
 use Rattle.plm_token.specs.declared.token.Keyword.TheVariants as key
 use Rattle.plm_token.specs.declared.token.Mark.TheVariants as mark
-use Rattle.plm_syntax.specs.declared.tree.Place.{Place}
-use Rattle.plm_syntax.specs.Terminal.{NameT, Terminal, Name, Number, Text, Key, Sign, Finish, Leaf, leaf, is_key, is_sign}
+use Rattle.plm_syntax.specs.declared.tree.Position.{Position}
+use Rattle.plm_syntax.specs.Terminal.{NameT, Terminal, Name, Numeral, Text, Key, Sign, Finish, Leaf, leaf, is_key, is_sign}
 use Rattle.plm_syntax.specs.Tree.{ReferenceT, ReferenceOf, ExpressionsT, no_expressions, expressions, SelectorT, no_member, member, member_at, NamesT, no_names, names, ReferencesT, no_references, references, StatementT, Labelled, BasicT, EmptyS, AssignS, CallS, ReturnS, ReturnValueS, EnableS, DisableS, HaltS, IfS, IfElseS, DoS, WhileS, CaseS, IterateS}
 use Rattle.plm_syntax.specs.Spelling.{expression, reference, subscripts, selector, listed_references, targets, labels, statement, basic, put_leaf}
 use Rattle.plm_syntax.specs.WellFormed.{WellReference, WellExpressions, WellSelector, WellSomeReferences, WellTargets, WellStatement, WellBasic}
-use Rattle.plm_syntax.specs.Symbol.{Value, Goal, Symbol, depth, Rule, behind, before, opened, need, push, ReferencesR, NamesR, SubscriptsG, SelectorG, StatementG, LeadG, TargetG, MoreTargetsG, CalledG, ReturnedG, ArmG, OtherwiseG, DoG, StatementsG, EndG, Need, Want, Do, Leave, Refused, Over, Take, Keep}
-use Rattle.plm_syntax.specs.Machine.{an_expression, make_simple, add_label, add_target, make_assign, make_call, join_arms, make_if, statement_rule, no_labels, and_more, rule, Move, moved, Trace, trace, Ended, Wrong, Then}
+use Rattle.plm_syntax.specs.Inner.Symbol.{Value, Goal, Symbol, depth, Rule, behind, before, opened, need, push, ReferencesR, NamesR, SubscriptsG, SelectorG, StatementG, LeadG, TargetG, MoreTargetsG, CalledG, ReturnedG, ArmG, OtherwiseG, DoG, StatementsG, EndG, Need, Want, Do, Leave, Refused, Over, Take, Keep}
+use Rattle.plm_syntax.specs.Inner.Machine.{an_expression, make_simple, add_label, add_target, make_assign, make_call, join_arms, make_if, statement_rule, no_labels, and_more, rule, Move, moved, Trace, trace, Ended, Wrong, Then}
 use Rattle.plm_syntax.proofs.Steps.{go, trace_step, same_trace, ruled, feed_want, over, IsDecided, Stops, stops}
 use Rattle.plm_syntax.proofs.DriveExpression.{put_then, Some_leaf, some_leaf, some_of, pushed, some_expression, some_subscripts, a_reference}
 use Rattle.plm_syntax.proofs.DriveParts.{drives_reference}
@@ -25,8 +25,8 @@ IsPlain Refused = Unit {0}
 IsPlain Over = ⊥
 IsPlain (Take true q) = (x : List Symbol) → depth (q ++ x) ≡ suc (depth x)
 IsPlain (Take false q) = (x : List Symbol) → depth (q ++ x) ≡ depth x
-IsPlain (Keep true f) = (p : Place) (x : List Symbol) → depth (f p ++ x) ≡ suc (depth x)
-IsPlain (Keep false f) = (p : Place) (x : List Symbol) → depth (f p ++ x) ≡ depth x
+IsPlain (Keep true f) = (p : Position) (x : List Symbol) → depth (f p ++ x) ≡ suc (depth x)
+IsPlain (Keep false f) = (p : Position) (x : List Symbol) → depth (f p ++ x) ≡ depth x
 
 pub plain_decided : (r : Rule) → IsPlain r → IsDecided r
 plain_decided Refused h = tt
@@ -36,7 +36,7 @@ plain_decided (Keep b f) h = tt
 
 pub statement_plain : (lab : Option NameT) (t : Terminal) → IsPlain (statement_rule lab t)
 statement_plain lab (Name n) = λ x. refl
-statement_plain lab (Number n) = tt
+statement_plain lab (Numeral n) = tt
 statement_plain lab (Text n) = tt
 statement_plain lab Finish = tt
 statement_plain lab (Sign m) = by_test (is_sign mark.Semicolon (Sign m))
@@ -62,7 +62,7 @@ statement_plain lab (Key k) = by_test (is_key key.Call (Key k)) (is_key key.Retu
     by_test false false false false false false true = λ p x. refl
     by_test false false false false false false false = tt
 
--- a goal that goes on as another, with symbols before and behind
+-- a goal that goes on as another, with symbols before and after
 pub entered : (g g' : Goal) (pre a s : List Symbol) (v v' : List Value) (l : Leaf) (ls : List Leaf) → rule g l.terminal ≡ before pre (behind (rule g' l.terminal) a) → IsDecided (rule g' l.terminal)
     → ((x : List Symbol) → trace (pre ++ x) v ls ≡ trace x v' ls) → ((x : List Symbol) → depth (pre ++ x) ≡ depth x)
     → trace (Want g ∷ s) v (l ∷ ls) ≡ trace (Want g' ∷ (a ++ s)) v' (l ∷ ls)
@@ -80,7 +80,7 @@ entered g g' pre a s v v' l ls e decided acts deep =
     moves true q = ap (λ (x : List Symbol). go (moved true x v) ls) (same q) ∙ ap (λ (n : ℕ). Then n (trace (pre ++ (q ++ (a ++ s))) v ls)) (deep (q ++ (a ++ s))) ∙ ap (Then (depth (q ++ (a ++ s)))) (acts (q ++ (a ++ s)))
     moves false q = ap (λ (x : List Symbol). go (moved false x v) ls) (same q) ∙ ap (Then 0) (acts (q ++ (a ++ s)))
 
-    by_rule : (r : Rule) → IsDecided r → (p : Option Place) → go (ruled (before pre (behind r a)) s v l.terminal p) ls ≡ go (ruled r (a ++ s) v' l.terminal p) ls
+    by_rule : (r : Rule) → IsDecided r → (p : Option Position) → go (ruled (before pre (behind r a)) s v l.terminal p) ls ≡ go (ruled r (a ++ s) v' l.terminal p) ls
     by_rule Refused h p = refl
     by_rule Over h p = absurd h
     by_rule (Take b q) h p = moves b q
@@ -111,7 +111,7 @@ arm_is s v l ls q =
     deeper : (q' : List Symbol) → depth (q' ++ (Leave ∷ s)) ≡ suc (suc (depth s)) → go (moved true (no_labels ∷ ((q' ++ Leave ∷ []) ++ s)) v) ls ≡ marked (suc (depth s)) (go (moved true (q' ++ (Leave ∷ s)) (NamesR no_names ∷ v)) ls)
     deeper q' e = opens q' (suc (suc (depth s))) e ∙ sym (ap (λ (n : ℕ). marked (suc (depth s)) (Then n (trace (q' ++ (Leave ∷ s)) (NamesR no_names ∷ v) ls))) e)
 
-    by_rule : (r : Rule) → IsPlain r → (p : Option Place) → go (ruled (before (no_labels ∷ []) (opened r)) s v l.terminal p) ls ≡ marked (suc (depth s)) (go (ruled r (Leave ∷ s) (NamesR no_names ∷ v) l.terminal p) ls)
+    by_rule : (r : Rule) → IsPlain r → (p : Option Position) → go (ruled (before (no_labels ∷ []) (opened r)) s v l.terminal p) ls ≡ marked (suc (depth s)) (go (ruled r (Leave ∷ s) (NamesR no_names ∷ v) l.terminal p) ls)
     by_rule Refused h p = refl
     by_rule Over h p = absurd h
     by_rule (Take false q') h p = opens q' (suc (depth s)) (h (Leave ∷ s))

@@ -1,13 +1,13 @@
 -- One step of a run, and what may follow an expression.
 use Rattle.std.proofs.Common.{◌≡◌, ℕ, ◌≤◌, ◌<◌, List, [], ◌∷◌, ◌++◌, Bool, true, false, cond, Option, Some, None, refl, sym, ap, ◌∙◌, append_assoc, arith, length}
 use Rattle.plm_token.specs.declared.token.Mark.TheVariants as mark
-use Rattle.plm_syntax.specs.declared.tree.Place.{Place}
+use Rattle.plm_syntax.specs.declared.tree.Position.{Position}
 use Rattle.plm_syntax.specs.declared.tree.BinaryOperator.{BinaryOperator}
-use Rattle.plm_syntax.specs.Terminal.{Terminal, Name, Number, Text, Key, Sign, Finish, Leaf, is_sign}
+use Rattle.plm_syntax.specs.Terminal.{Terminal, Name, Numeral, Text, Key, Sign, Finish, Leaf, is_sign}
 use Rattle.plm_syntax.specs.Tree.{no_expressions}
-use Rattle.plm_syntax.specs.WellFormed.{level_of}
-use Rattle.plm_syntax.specs.Symbol.{Value, Action, Level, Goal, Symbol, depth, Rule, behind, otherwise, need, push, ExpressionsR, MoreG, SubscriptsG, MoreSubscriptsG, SelectorG, MemberG, MemberSubscriptG, Want, Do, Leave, Refused, Over, Take, Keep}
-use Rattle.plm_syntax.specs.Machine.{operand, again, number_of, an_expression, operator_of, make_binary, add_expression, set_subscripts, set_member_subscript, operation, more, rule, Move, moved, kept, feed, Trace, trace, Stay, Next, Open, Wrong, Then}
+use Rattle.plm_syntax.specs.WellFormed.{precedence_of}
+use Rattle.plm_syntax.specs.Inner.Symbol.{Value, Action, Precedence, Goal, Symbol, depth, Rule, behind, otherwise, need, push, ExpressionsR, MoreG, SubscriptsG, MoreSubscriptsG, SelectorG, MemberG, MemberSubscriptG, Want, Do, Leave, Refused, Over, Take, Keep}
+use Rattle.plm_syntax.specs.Inner.Machine.{operand, again, number_of, an_expression, operator_of, make_binary, add_expression, set_subscripts, set_member_subscript, operation, more, rule, Move, moved, kept, feed, Trace, trace, Stay, Next, Open, Wrong, Then}
 use Rattle.std.specs.Prelude.{nat_eq}
 use Rattle.std.proofs.lemmas.Bool.{eqb-true}
 
@@ -29,13 +29,13 @@ pub same_trace : (s s' : List Symbol) (v v' : List Value) (l : Leaf) (ls : List 
 same_trace s s' v v' l ls h = trace_step s v l ls ∙ ap (λ (m : Move). go m ls) h ∙ sym (trace_step s' v' l ls)
 
 -- what a rule makes of a token
-abbrev pub ruled : Rule → List Symbol → List Value → Terminal → Option Place → Move
+abbrev pub ruled : Rule → List Symbol → List Value → Terminal → Option Position → Move
 ruled Refused s v t p = Stay
 ruled Over s v t p = feed s v t p
 ruled (Take b r) s v t p = moved b (r ++ s) v
 ruled (Keep b f) s v t p = kept b f s v p
 
-pub feed_want : (g : Goal) (s : List Symbol) (v : List Value) (t : Terminal) (p : Option Place) → feed (Want g ∷ s) v t p ≡ ruled (rule g t) s v t p
+pub feed_want : (g : Goal) (s : List Symbol) (v : List Value) (t : Terminal) (p : Option Position) → feed (Want g ∷ s) v t p ≡ ruled (rule g t) s v t p
 feed_want g s v t p = by_rule (rule g t)
   where
     by_rule : (r : Rule) → (elim r [ Refused ↦ Stay | Over ↦ feed s v t p | Take b r ↦ moved b (r ++ s) v | Keep b f ↦ kept b f s v p ]) ≡ ruled r s v t p
@@ -57,7 +57,7 @@ abbrev pub IsDecided : Rule → Type 0
 IsDecided Over = ⊥
 IsDecided r = Unit {0}
 
-pub ruled_behind : (r : Rule) (a s : List Symbol) (v : List Value) (t : Terminal) (p : Option Place) → IsDecided r → ruled (behind r a) s v t p ≡ ruled r (a ++ s) v t p
+pub ruled_behind : (r : Rule) (a s : List Symbol) (v : List Value) (t : Terminal) (p : Option Position) → IsDecided r → ruled (behind r a) s v t p ≡ ruled r (a ++ s) v t p
 ruled_behind Refused a s v t p h = refl
 ruled_behind Over a s v t p h = absurd h
 ruled_behind (Take b r) a s v t p h = ap (λ (x : List Symbol). moved b x v) (append_assoc r a s)
@@ -65,7 +65,7 @@ ruled_behind (Keep b f) a s v t None h = refl
 ruled_behind (Keep b f) a s v t (Some p) h = ap (λ (x : List Symbol). moved b x v) (append_assoc (f p) a s)
 
 -- a rule that goes on with another where it is over
-pub ruled_otherwise : (r r' : Rule) (a s s' : List Symbol) (v : List Value) (t : Terminal) (p : Option Place) → ruled r' s v t p ≡ feed (a ++ s) v t p → ruled (otherwise (behind r a) r') s v t p ≡ ruled r (a ++ s) v t p
+pub ruled_otherwise : (r r' : Rule) (a s s' : List Symbol) (v : List Value) (t : Terminal) (p : Option Position) → ruled r' s v t p ≡ feed (a ++ s) v t p → ruled (otherwise (behind r a) r') s v t p ≡ ruled r (a ++ s) v t p
 ruled_otherwise Refused r' a s s' v t p h = refl
 ruled_otherwise Over r' a s s' v t p h = h
 ruled_otherwise (Take b r) r' a s s' v t p h = ap (λ (x : List Symbol). moved b x v) (append_assoc r a s)
@@ -76,7 +76,7 @@ ruled_otherwise (Keep b f) r' a s s' v t (Some p) h = ap (λ (x : List Symbol). 
 
 -- how tightly a token binds what stands before it: "(" and "." of a reference, operators by their level, all else not at all
 abbrev pub binds_as : Option BinaryOperator → Terminal → ℕ
-binds_as (Some o) t = level_of o
+binds_as (Some o) t = precedence_of o
 binds_as None t = cond (is_sign mark.LeftParenthesis t) 0 (cond (is_sign mark.Period t) 1 8)
 
 abbrev pub binds : Terminal → ℕ
@@ -99,27 +99,27 @@ did a s v w (stops {l} {ls} h) e = same_trace (Do a ∷ s) s v w l ls (by_option
 pub left : {n : ℕ} {ls : List Leaf} (s : List Symbol) (v : List Value) → Stops n ls → trace (Leave ∷ s) v ls ≡ trace s v ls
 left s v (stops {l} {ls} h) = same_trace (Leave ∷ s) s v v l ls refl
 
-pub operation_over : (l : Level) (o : BinaryOperator) → number_of l < level_of o → operation l o ≡ Over
-operation_over l o h = by_test (nat_eq (level_of o) (number_of l)) refl
+pub operation_over : (l : Precedence) (o : BinaryOperator) → number_of l < precedence_of o → operation l o ≡ Over
+operation_over l o h = by_test (nat_eq (precedence_of o) (number_of l)) refl
   where
-    by_test : (b : Bool) → nat_eq (level_of o) (number_of l) ≡ b → operation l o ≡ Over
+    by_test : (b : Bool) → nat_eq (precedence_of o) (number_of l) ≡ b → operation l o ≡ Over
     by_test false e = ap (λ (b : Bool). cond b (Keep false (λ p. operand l ++ (Do (make_binary p o) ∷ again l))) Over) e
-    by_test true e = absurd (omega (arith, h, eqb-true (level_of o) (number_of l) e))
+    by_test true e = absurd (omega (arith, h, eqb-true (precedence_of o) (number_of l) e))
 
-pub more_over : (l : Level) (t : Terminal) → number_of l < binds t → more l t ≡ Over
+pub more_over : (l : Precedence) (t : Terminal) → number_of l < binds t → more l t ≡ Over
 more_over l t h = by_operator (operator_of t) h
   where
     by_operator : (o : Option BinaryOperator) → number_of l < binds_as o t → (elim o [ None ↦ Over | Some o ↦ operation l o ]) ≡ Over
     by_operator None h = refl
     by_operator (Some o) h = operation_over l o h
 
-pub no_more : {ls : List Leaf} (l : Level) (s : List Symbol) (v : List Value) → Stops (number_of l) ls → trace (Want (MoreG l) ∷ s) v ls ≡ trace s v ls
+pub no_more : {ls : List Leaf} (l : Precedence) (s : List Symbol) (v : List Value) → Stops (number_of l) ls → trace (Want (MoreG l) ∷ s) v ls ≡ trace s v ls
 no_more l s v (stops {l = k} {ls} h) = over (MoreG l) s v k ls (more_over l k.terminal h)
 
 pub no_parenthesis : (t : Terminal) → 0 < binds t → is_sign mark.LeftParenthesis t ≡ false
 no_parenthesis (Sign mark.LeftParenthesis) h = absurd (omega (arith, h))
 no_parenthesis (Name n) h = refl
-no_parenthesis (Number n) h = refl
+no_parenthesis (Numeral n) h = refl
 no_parenthesis (Text n) h = refl
 no_parenthesis (Key n) h = refl
 no_parenthesis Finish h = refl
@@ -128,7 +128,7 @@ no_parenthesis (Sign m) h = refl
 pub no_period : (t : Terminal) → 1 < binds t → is_sign mark.Period t ≡ false
 no_period (Sign mark.Period) h = absurd (omega (arith, h))
 no_period (Name n) h = refl
-no_period (Number n) h = refl
+no_period (Numeral n) h = refl
 no_period (Text n) h = refl
 no_period (Key n) h = refl
 no_period Finish h = refl

@@ -2,19 +2,19 @@
 use Rattle.std.proofs.Common.{◌≡◌, ℕ, suc, List, [], ◌∷◌, Bool, true, false, cond, Option, Some, None, refl, sym, ap, ◌∙◌, subst}
 use Rattle.plm_token.specs.declared.token.Keyword.TheVariants as key
 use Rattle.plm_token.specs.declared.token.Mark.TheVariants as mark
-use Rattle.plm_syntax.specs.declared.tree.Place.{Place}
-use Rattle.plm_syntax.specs.Terminal.{NameT, Terminal, Name, Number, Text, Key, Sign, Finish, Leaf, leaf, leaf_at, is_key, is_sign}
+use Rattle.plm_syntax.specs.declared.tree.Position.{Position}
+use Rattle.plm_syntax.specs.Terminal.{NameT, Terminal, Name, Numeral, Text, Key, Sign, Finish, Leaf, leaf, leaf_at, is_key, is_sign}
 use Rattle.plm_syntax.specs.Tree.{ExpressionT, ReferenceE, ReferenceT, ReferenceOf, ExpressionsT, no_expressions, SelectorT, no_member, NamesT, no_names, names, no_elements, elements, ReferencesT, no_references, references, Labelled, BasicT, EmptyS, AssignS, CallS, ReturnS, ReturnValueS, EnableS, DisableS, HaltS, IfS, IfElseS, StatementsT, no_statements, statements, BlockOf, ItemsT, no_items, items, ItemT, DeclareI, ProcedureI, ModuleOf}
 use Rattle.plm_syntax.specs.Spelling.{last_name, behind_labels, expression, reference, subscripts, selector, parenthesised_names, returned, interrupt, linkage, listed_references, targets, labels, step, statement, basic, statement_list, item_list, item, put_leaf}
 use Rattle.plm_syntax.specs.WellFormed.{Well, WellExpressions, WellSomeReferences, WellTargets, basic_open, is_end_name, WellBasic, WellStatements, WellItems, WellItem}
-use Rattle.plm_syntax.specs.Symbol.{Symbol, Rule, behind, otherwise, before, opened, need, push, ExpressionR, ExpressionsR, ReferencesR, NamesR, StepR, EndR, ElementsR, SubscriptsG, MoreSubscriptsG, SelectorG, MemberG, StatementG, LeadG, TargetG, MoreTargetsG, CalledG, ReturnedG, ArmG, OtherwiseG, DoG, StepG, StatementsG, EndG, ItemsG, ItemLeadG, ItemColonG, ElementG, MoreElementsG, ModuleG, StartG, Need, Want, Do, Leave, Refused, Over, Take, Keep}
-use Rattle.plm_syntax.specs.Machine.{plain, an_expression, add_expression, set_subscripts, subscripts_rule, selector_rule, add_target, make_assign, make_return, make_if, make_while, make_case, make_range, set_step, make_iterate, statement_rule, more_targets, assignment_rule, lead, target, called, returned_rule, no_labels, no_statement_yet, arm, otherwise_rule, do_rule, step_rule, end_rule, and_more, statements_rule, make_declare, items_rule, item_lead, item_colon, module_rule, start_rule}
+use Rattle.plm_syntax.specs.Inner.Symbol.{Symbol, Rule, behind, otherwise, before, opened, need, push, ExpressionR, ExpressionsR, ReferencesR, NamesR, StepR, EndR, ElementsR, SubscriptsG, MoreSubscriptsG, SelectorG, MemberG, StatementG, LeadG, TargetG, MoreTargetsG, CalledG, ReturnedG, ArmG, OtherwiseG, DoG, StepG, StatementsG, EndG, ItemsG, ItemLeadG, ItemColonG, ElementG, MoreElementsG, ModuleG, StartG, Need, Want, Do, Leave, Refused, Over, Take, Keep}
+use Rattle.plm_syntax.specs.Inner.Machine.{plain, an_expression, add_expression, set_subscripts, subscripts_rule, selector_rule, add_target, make_assign, make_return, make_if, make_while, make_case, make_range, set_step, make_iterate, statement_rule, more_targets, assignment_rule, lead, target, called, returned_rule, no_labels, no_statement_yet, arm, otherwise_rule, do_rule, step_rule, end_rule, and_more, statements_rule, make_declare, items_rule, item_lead, item_colon, module_rule, start_rule}
 use Rattle.plm_syntax.proofs.Steps.{IsDecided}
 use Rattle.plm_syntax.proofs.StatementSteps.{plain_decided, statement_plain}
 use Rattle.plm_syntax.proofs.TableExpression.{expression_of, reference_of, expression_says, subscripts_says, selector_says}
 use Rattle.plm_syntax.proofs.Meaning.{Group, group_leaves, group_statement, WellGroup, Ended_statements, ended_leaves, WellEnded, Ended_block, block_leaves, WellEndedBlock, begins_else, Means, Awaits, Says, split, on_sign, on_key, on_behind, on_otherwise, on_before, on_same, PlainDo, WhileDo, CaseDo, IterateDo, without, with_else, An, AStatement, Otherwise}
 
--- A statement with its labels, from the part behind them.
+-- A statement with its labels, from the part after them.
 pub with_labels : (m d : ℕ) (K : List Leaf → Type 0) (lab : Option NameT) (ns : NamesT) → last_name ns ≡ lab → (b : BasicT) → WellBasic lab b → (ls rest : List Leaf) → ls ≡ basic put_leaf (behind_labels m ns) d b rest → (begins_else rest ≡ true → basic_open b ≡ false) → K rest → AStatement m d K (labels put_leaf m ns ls)
 with_labels m d K lab ns e b w ls rest is closed goes = record { part = Labelled ns b; rest = rest; ok = subst (λ (x : Option NameT). WellBasic x b) (sym e) w; is = ap (labels put_leaf m ns) is; closed = closed; goes = goes }
 
@@ -22,26 +22,26 @@ with_labels m d K lab ns e b w ls rest is closed goes = record { part = Labelled
 pub along : (m d : ℕ) (K : List Leaf → Type 0) (us ls : List Leaf) → ls ≡ us → AStatement m d K us → AStatement m d K ls
 along m d K us ls e h = record { part = h.part; rest = h.rest; ok = h.ok; is = e ∙ h.is; closed = h.closed; goes = h.goes }
 
-pub group_open : (p : Place) (g : Group) → basic_open (group_statement p g) ≡ false
+pub group_open : (p : Position) (g : Group) → basic_open (group_statement p g) ≡ false
 group_open p (PlainDo is ss n) = refl
 group_open p (WhileDo e ss n) = refl
 group_open p (CaseDo e ss n) = refl
 group_open p (IterateDo i a b t ss n) = refl
 
-pub group_well : (lab : Option NameT) (p : Place) (g : Group) → WellGroup lab g → WellBasic lab (group_statement p g)
+pub group_well : (lab : Option NameT) (p : Position) (g : Group) → WellGroup lab g → WellBasic lab (group_statement p g)
 group_well lab p (PlainDo is ss n) w = w
 group_well lab p (WhileDo e ss n) w = w
 group_well lab p (CaseDo e ss n) w = w
 group_well lab p (IterateDo i a b t ss n) w = w
 
-pub group_is : (m d : ℕ) (p : Place) (g : Group) (r : List Leaf) → leaf_at (Key key.Do) p ∷ group_leaves (suc d) g r ≡ basic put_leaf m d (group_statement p g) r
+pub group_is : (m d : ℕ) (p : Position) (g : Group) (r : List Leaf) → leaf_at (Key key.Do) p ∷ group_leaves (suc d) g r ≡ basic put_leaf m d (group_statement p g) r
 group_is m d p (PlainDo is ss n) r = refl
 group_is m d p (WhileDo e ss n) r = refl
 group_is m d p (CaseDo e ss n) r = refl
 group_is m d p (IterateDo i a b t ss n) r = refl
 
--- IF, its THEN part, and what stands behind it
-pub if_of : (p : Place) (lab : Option NameT) (m d : ℕ) (K : List Leaf → Type 0) (ns : NamesT) → last_name ns ≡ lab → (e : ExpressionT) → Well e → (ls us : List Leaf) → ls ≡ expression put_leaf d e (leaf (Key key.Then) ∷ us) → (a : AStatement (suc d) (suc d) (Otherwise d K) us) → Otherwise d K a.rest → AStatement m d K (labels put_leaf m ns (leaf_at (Key key.If) p ∷ ls))
+-- IF, its THEN part, and what stands after it
+pub if_of : (p : Position) (lab : Option NameT) (m d : ℕ) (K : List Leaf → Type 0) (ns : NamesT) → last_name ns ≡ lab → (e : ExpressionT) → Well e → (ls us : List Leaf) → ls ≡ expression put_leaf d e (leaf (Key key.Then) ∷ us) → (a : AStatement (suc d) (suc d) (Otherwise d K) us) → Otherwise d K a.rest → AStatement m d K (labels put_leaf m ns (leaf_at (Key key.If) p ∷ ls))
 if_of p lab m d K ns f e we ls us is a (without none k) = with_labels m d K lab ns f (IfS p e a.part) (we, a.ok) (leaf_at (Key key.If) p ∷ ls) a.rest
     (ap (λ (x : List Leaf). leaf_at (Key key.If) p ∷ x) (is ∙ ap (λ (x : List Leaf). expression put_leaf d e (leaf (Key key.Then) ∷ x)) a.is)) (λ h. let c : true ≡ false = sym h ∙ none in absurd cc) k
 if_of p lab m d K ns f e we ls us is a (with_else vs g b) = with_labels m d K lab ns f (IfElseS p e a.part b.part) (we, a.ok, a.closed (ap begins_else g), b.ok) (leaf_at (Key key.If) p ∷ ls) b.rest
@@ -49,7 +49,7 @@ if_of p lab m d K ns f e we ls us is a (with_else vs g b) = with_labels m d K la
 
 pub statement_says : (lab : Option NameT) (d : ℕ) (K : List Leaf → Type 0) (t : Terminal) → Says (Means (StatementG lab) d K) d K t (statement_rule lab t)
 statement_says lab d K (Name n) = λ ls w m ns e. w m ns
-statement_says lab d K (Number n) = tt
+statement_says lab d K (Numeral n) = tt
 statement_says lab d K (Text n) = tt
 statement_says lab d K Finish = tt
 statement_says lab d K (Sign s) = on_sign (Means (StatementG lab) d K) d K mark.Semicolon (Sign s) _ Refused
@@ -92,7 +92,7 @@ more_targets_says d K t = on_sign (Means MoreTargetsG d K) d K mark.Comma t _ _
     (λ i. tt))
 
 pub target_says : (d : ℕ) (K : List Leaf → Type 0) (t : Terminal) → Says (Means TargetG d K) d K t (target t)
-target_says d K (Number n) = tt
+target_says d K (Numeral n) = tt
 target_says d K (Text n) = tt
 target_says d K (Key n) = tt
 target_says d K (Sign n) = tt
@@ -104,7 +104,7 @@ target_says d K (Name n) = λ ls w m ns xs o.
 pub first_target_is : (m d : ℕ) (n : NameT) (es : ExpressionsT) (s : SelectorT) (ls : List Leaf) → leaf (Name n) ∷ subscripts put_leaf d es (selector put_leaf d s ls) ≡ targets put_leaf m d (references no_references (ReferenceOf n es s)) ls
 first_target_is m d n es s ls = refl
 
--- behind the name of the first target
+-- after the name of the first target
 abbrev pub AssignsTo : ℕ → (List Leaf → Type 0) → NameT → List Leaf → Type 0
 AssignsTo d K n ls = (m : ℕ) (ns : NamesT) → AStatement m d K (labels put_leaf m ns (leaf (Name n) ∷ ls))
 
@@ -126,14 +126,14 @@ pub lead_says : (n : NameT) (d : ℕ) (K : List Leaf → Type 0) (t : Terminal) 
 lead_says n d K t = on_sign (Means (LeadG n) d K) d K mark.Colon t _ (assignment_rule t) (λ ls w m ns. along m d K _ _ (label_added m ns n ls) (w m (names ns n) refl)) (λ h. assignment_says n d K t)
 
 pub called_says : (d : ℕ) (K : List Leaf → Type 0) (t : Terminal) → Says (Means CalledG d K) d K t (called t)
-called_says d K (Number n) = tt
+called_says d K (Numeral n) = tt
 called_says d K (Text n) = tt
 called_says d K (Key n) = tt
 called_says d K (Sign n) = tt
 called_says d K Finish = tt
 called_says d K (Name n) = λ ls w. reference_of d n K ls [] w
 
-pub returned_says : (p : Place) (d : ℕ) (K : List Leaf → Type 0) (t : Terminal) → Says (Means (ReturnedG p) d K) d K t (returned_rule p t)
+pub returned_says : (p : Position) (d : ℕ) (K : List Leaf → Type 0) (t : Terminal) → Says (Means (ReturnedG p) d K) d K t (returned_rule p t)
 returned_says p d K t = on_sign (Means (ReturnedG p) d K) d K mark.Semicolon t _ _
     (λ ls w m ns. with_labels m d K (last_name ns) ns refl (ReturnS p) tt (leaf_at (Key key.Return) p ∷ leaf (Sign mark.Semicolon) ∷ ls) ls refl (λ h. refl) w)
     (λ h. expression_says (Means (ReturnedG p) d K) (need mark.Semicolon ∷ Do (make_return p) ∷ []) d K t
@@ -167,7 +167,7 @@ end_says lab d K (Name n) = by_name (is_end_name lab n) refl
     by_name : (b : Bool) → is_end_name lab n ≡ b → Says (Means (EndG lab) d K) d K (Name n) (cond b (Take false (need mark.Semicolon ∷ push (EndR (Some n)) ∷ [])) Refused)
     by_name true e = λ ls w. record { part = Some n; rest = w.rest; ok = e; is = ap (λ (x : List Leaf). leaf (Key key.End) ∷ leaf (Name n) ∷ x) w.is; goes = w.goes }
     by_name false e = tt
-end_says lab d K (Number n) = tt
+end_says lab d K (Numeral n) = tt
 end_says lab d K (Text n) = tt
 end_says lab d K (Key n) = tt
 end_says lab d K Finish = tt
@@ -187,8 +187,8 @@ statements_says lab d K t = on_key (Means (StatementsG lab) d K) d K key.End t _
     (on_behind (Means (StatementsG lab) d K) d K (Means (StatementG None) d (Awaits (and_more lab) d K)) t (and_more lab) (statement_rule None t) (statement_says None d (Awaits (and_more lab) d K) t) (plain_decided (statement_rule None t) (statement_plain None t))
     (λ ls w ss o. statement_then lab d K ss o ls (w 0 no_names refl))))
 
-pub do_says : (p : Place) (lab : Option NameT) (d : ℕ) (K : List Leaf → Type 0) (t : Terminal) → Says (Means (DoG p lab) d K) d K t (do_rule p lab t)
-do_says p lab d K (Number n) = tt
+pub do_says : (p : Position) (lab : Option NameT) (d : ℕ) (K : List Leaf → Type 0) (t : Terminal) → Says (Means (DoG p lab) d K) d K t (do_rule p lab t)
+do_says p lab d K (Numeral n) = tt
 do_says p lab d K (Text n) = tt
 do_says p lab d K Finish = tt
 do_says p lab d K (Name i) = λ ls w.
@@ -243,7 +243,7 @@ items_other lab d K t = on_key (Means (ItemsG lab) d K) d K key.Declare t _ _
 
 pub items_says : (lab : Option NameT) (d : ℕ) (K : List Leaf → Type 0) (t : Terminal) → Says (Means (ItemsG lab) d K) d K t (items_rule lab t)
 items_says lab d K (Name n) = λ ls w is o. w is o
-items_says lab d K (Number n) = items_other lab d K (Number n)
+items_says lab d K (Numeral n) = items_other lab d K (Numeral n)
 items_says lab d K (Text n) = items_other lab d K (Text n)
 items_says lab d K (Key n) = items_other lab d K (Key n)
 items_says lab d K (Sign n) = items_other lab d K (Sign n)
@@ -296,7 +296,7 @@ module_says n d K t = on_key (Means (ModuleG n) d K) d K key.Do t _ Refused
     (λ h. tt)
 
 pub start_says : (d : ℕ) (K : List Leaf → Type 0) (t : Terminal) → Says (Means StartG d K) d K t (start_rule t)
-start_says d K (Number n) = tt
+start_says d K (Numeral n) = tt
 start_says d K (Text n) = tt
 start_says d K (Key n) = tt
 start_says d K (Sign n) = tt

@@ -4,12 +4,12 @@ use Rattle.plm_token.specs.declared.token.Keyword.TheVariants as key
 use Rattle.plm_token.specs.declared.token.Mark.TheVariants as mark
 use Rattle.plm_syntax.specs.declared.tree.Scalar.{Scalar}
 use Rattle.plm_syntax.specs.declared.tree.Scalar.TheVariants as scalar
-use Rattle.plm_syntax.specs.Terminal.{NameT, Terminal, Name, Number, Text, Key, Sign, Finish, Leaf, leaf, is_key}
+use Rattle.plm_syntax.specs.Terminal.{NameT, Terminal, Name, Numeral, Text, Key, Sign, Finish, Leaf, leaf, is_key}
 use Rattle.plm_syntax.specs.Tree.{NamesT, no_names, names, VariableT, VariableOf, VariablesT, no_variables, variables, OneVariable, VariableList, DimensionT, no_dimension, dimension, implicit_dimension, MemberT, OneMember, MemberList, MembersT, no_members, members, TypeT, ScalarType, StructureType, AtT, no_at, at_number, at_location, no_initial, initial, constant_data, AttributesT, External, Attributes, ElementT, LiteralElement, VariableElement, ElementsT, no_elements, elements, no_linkage, public_linkage, external_linkage}
 use Rattle.plm_syntax.specs.Spelling.{scalar_key, location, name_list, parenthesised_names, base, variable, variable_list, dimension_leaves, count, member_leaves, member_list, type_leaves, at_leaves, attributes, element, element_list, put_leaf}
 use Rattle.plm_syntax.specs.WellFormed.{HasNames, HasVariables, WellSomeMembers, WellType, WellAt, WellAttributes, WellElement, WellSomeElements, WellElements}
-use Rattle.plm_syntax.specs.Symbol.{Symbol, Rule, behind, otherwise, need, push, DimensionR, MembersR, TypeR, ParametersG, ParameterG, MoreParametersG, ReturnedTypeG, InterruptG, InterruptNumberG, LinkageG, ElementG, ElementLeadG, LiteralTextG, VariableG, MoreVariablesG, BasedG, BaseG, DimensionG, DimensionBodyG, TypeG, MemberOfG, MemberNameG, MoreMemberNamesG, CountG, CountNumberG, MemberTypeG, MoreMembersG, AttributesG, AtG, AtBodyG, InitialG, MoreElementsG, Want, Do, Refused, Over, Take}
-use Rattle.plm_syntax.specs.Machine.{set_returned, scalar_of, parameters_rule, parameter, more_parameters, returned_type, interrupt_rule, interrupt_number, linkage_rule, one_variable, make_member, add_member, make_structure, set_initial, set_data, attributes_tail, declared_tail, element_rule, more_elements, variable_rule, more_variables, based_rule, base_rule, dimension_rule, dimension_body, type_rule, member_of, member_name, more_member_names, count_rule, count_number, member_type, more_members, at_rule, at_body, initial_rule, attributes_rule, element_lead, literal_text}
+use Rattle.plm_syntax.specs.Inner.Symbol.{Symbol, Rule, behind, otherwise, need, push, DimensionR, MembersR, TypeR, ParametersG, ParameterG, MoreParametersG, ReturnedTypeG, InterruptG, InterruptNumberG, LinkageG, ElementG, ElementLeadG, LiteralTextG, VariableG, MoreVariablesG, BasedG, BaseG, DimensionG, DimensionBodyG, TypeG, MemberOfG, MemberNameG, MoreMemberNamesG, CountG, CountNumberG, MemberTypeG, MoreMembersG, AttributesG, AtG, AtBodyG, InitialG, MoreElementsG, Want, Do, Refused, Over, Take}
+use Rattle.plm_syntax.specs.Inner.Machine.{set_returned, scalar_of, parameters_rule, parameter, more_parameters, returned_type, interrupt_rule, interrupt_number, linkage_rule, one_variable, make_member, add_member, make_structure, set_initial, set_data, attributes_tail, declared_tail, element_rule, more_elements, variable_rule, more_variables, based_rule, base_rule, dimension_rule, dimension_body, type_rule, member_of, member_name, more_member_names, count_rule, count_number, member_type, more_members, at_rule, at_body, initial_rule, attributes_rule, element_lead, literal_text}
 use Rattle.plm_syntax.proofs.Steps.{IsDecided}
 use Rattle.plm_syntax.proofs.TableExpression.{values_of}
 use Rattle.plm_syntax.proofs.Meaning.{at_body_leaves, WellAtBody, Means, Awaits, Says, on_sign, on_key, on_behind, on_otherwise, on_before, on_same, An, Token_then}
@@ -28,7 +28,7 @@ name_next no_names h n r = absurd h
 name_next (names ms m) h n r = refl
 
 pub parameter_says : (d : ℕ) (K : List Leaf → Type 0) (t : Terminal) → Says (Means ParameterG d K) d K t (parameter t)
-parameter_says d K (Number n) = tt
+parameter_says d K (Numeral n) = tt
 parameter_says d K (Text n) = tt
 parameter_says d K (Key n) = tt
 parameter_says d K (Sign n) = tt
@@ -36,14 +36,14 @@ parameter_says d K Finish = tt
 parameter_says d K (Name n) = λ ls w. record { part = n; rest = ls; ok = tt; is = refl; goes = w }
 
 pub member_name_says : (d : ℕ) (K : List Leaf → Type 0) (t : Terminal) → Says (Means MemberNameG d K) d K t (member_name t)
-member_name_says d K (Number n) = tt
+member_name_says d K (Numeral n) = tt
 member_name_says d K (Text n) = tt
 member_name_says d K (Key n) = tt
 member_name_says d K (Sign n) = tt
 member_name_says d K Finish = tt
 member_name_says d K (Name n) = λ ls w. record { part = n; rest = ls; ok = tt; is = refl; goes = w }
 
--- names and the parenthesis behind them, from one name on
+-- names and the parenthesis after them, from one name on
 abbrev pub AnList : (List Leaf → Type 0) → List Leaf → Type 0
 AnList K ls = An NamesT HasNames (λ ns r. name_list put_leaf ns (leaf (Sign mark.RightParenthesis) ∷ r)) K ls
 
@@ -88,7 +88,7 @@ interrupt_number_says d K (Text n) = tt
 interrupt_number_says d K (Key n) = tt
 interrupt_number_says d K (Sign n) = tt
 interrupt_number_says d K Finish = tt
-interrupt_number_says d K (Number n) = λ ls w. record { part = Some n; rest = ls; ok = tt; is = refl; goes = w }
+interrupt_number_says d K (Numeral n) = λ ls w. record { part = Some n; rest = ls; ok = tt; is = refl; goes = w }
 
 pub linkage_says : (d : ℕ) (K : List Leaf → Type 0) (t : Terminal) → Says (Means LinkageG d K) d K t (linkage_rule t)
 linkage_says d K t = on_key (Means LinkageG d K) d K key.Public t _ _ (λ ls w. record { part = public_linkage; rest = ls; ok = tt; is = refl; goes = w })
@@ -102,7 +102,7 @@ at_says d K t = on_key (Means AtG d K) d K key.At t _ Over (λ ls w. body_of ls 
   where
     body_of : (ls us : List Leaf) → ls ≡ leaf (Sign mark.LeftParenthesis) ∷ us → (a : AtT) → WellAtBody a → (vs : List Leaf) → us ≡ at_body_leaves d a vs → Token_then (Sign mark.RightParenthesis) K vs → An AtT WellAt (at_leaves put_leaf d) K (leaf (Key key.At) ∷ ls)
     body_of ls us e no_at o vs f g = absurd o
-    body_of ls us e (at_number n) o vs f g = record { part = at_number n; rest = g.rest; ok = tt; is = ap (λ (x : List Leaf). leaf (Key key.At) ∷ x) (e ∙ ap (λ (x : List Leaf). leaf (Sign mark.LeftParenthesis) ∷ x) (f ∙ ap (λ (x : List Leaf). leaf (Number n) ∷ x) g.is)); goes = g.goes }
+    body_of ls us e (at_number n) o vs f g = record { part = at_number n; rest = g.rest; ok = tt; is = ap (λ (x : List Leaf). leaf (Key key.At) ∷ x) (e ∙ ap (λ (x : List Leaf). leaf (Sign mark.LeftParenthesis) ∷ x) (f ∙ ap (λ (x : List Leaf). leaf (Numeral n) ∷ x) g.is)); goes = g.goes }
     body_of ls us e (at_location l) o vs f g = record { part = at_location l; rest = g.rest; ok = o; is = ap (λ (x : List Leaf). leaf (Key key.At) ∷ x) (e ∙ ap (λ (x : List Leaf). leaf (Sign mark.LeftParenthesis) ∷ x) (f ∙ ap (location put_leaf d l) g.is)); goes = g.goes }
 
 pub at_body_says : (d : ℕ) (K : List Leaf → Type 0) (t : Terminal) → Says (Means AtBodyG d K) d K t (at_body t)
@@ -110,7 +110,7 @@ at_body_says d K (Name n) = tt
 at_body_says d K (Text n) = tt
 at_body_says d K (Key n) = tt
 at_body_says d K Finish = tt
-at_body_says d K (Number n) = λ ls w. record { part = at_number n; rest = ls; ok = tt; is = refl; goes = w }
+at_body_says d K (Numeral n) = λ ls w. record { part = at_number n; rest = ls; ok = tt; is = refl; goes = w }
 at_body_says d K (Sign m) = on_sign (Means AtBodyG d K) d K mark.AtSign (Sign m) _ _ (λ p ls w. record { part = at_location w.part; rest = w.rest; ok = w.ok; is = w.is; goes = w.goes })
     (λ h. on_sign (Means AtBodyG d K) d K mark.Period (Sign m) _ Refused (λ p ls w. record { part = at_location w.part; rest = w.rest; ok = w.ok; is = w.is; goes = w.goes }) (λ i. tt))
 
@@ -140,13 +140,13 @@ count_number_says d K (Text n) = tt
 count_number_says d K (Key n) = tt
 count_number_says d K (Sign n) = tt
 count_number_says d K Finish = tt
-count_number_says d K (Number n) = λ ls w. record { part = Some n; rest = w.rest; ok = tt; is = ap (λ (x : List Leaf). leaf (Sign mark.LeftParenthesis) ∷ leaf (Number n) ∷ x) w.is; goes = w.goes }
+count_number_says d K (Numeral n) = λ ls w. record { part = Some n; rest = w.rest; ok = tt; is = ap (λ (x : List Leaf). leaf (Sign mark.LeftParenthesis) ∷ leaf (Numeral n) ∷ x) w.is; goes = w.goes }
 
 pub member_type_says : (d : ℕ) (K : List Leaf → Type 0) (t : Terminal) → Says (Means MemberTypeG d K) d K t (member_type t)
 member_type_says d K t = on_scalar (Means MemberTypeG d K) d K t (λ s. Do (make_member s) ∷ []) Refused (λ s ls w. record { part = s; rest = ls; ok = tt; is = refl; goes = w }) tt
 
 pub member_of_says : (d : ℕ) (K : List Leaf → Type 0) (t : Terminal) → Says (Means MemberOfG d K) d K t (member_of t)
-member_of_says d K (Number n) = tt
+member_of_says d K (Numeral n) = tt
 member_of_says d K (Text n) = tt
 member_of_says d K (Key n) = tt
 member_of_says d K Finish = tt
@@ -186,14 +186,14 @@ dimension_body_says d K (Name n) = tt
 dimension_body_says d K (Text n) = tt
 dimension_body_says d K (Key n) = tt
 dimension_body_says d K Finish = tt
-dimension_body_says d K (Number n) = λ ls w. record { part = dimension n; rest = w.rest; ok = tt; is = ap (λ (x : List Leaf). leaf (Sign mark.LeftParenthesis) ∷ leaf (Number n) ∷ x) w.is; goes = w.goes }
+dimension_body_says d K (Numeral n) = λ ls w. record { part = dimension n; rest = w.rest; ok = tt; is = ap (λ (x : List Leaf). leaf (Sign mark.LeftParenthesis) ∷ leaf (Numeral n) ∷ x) w.is; goes = w.goes }
 dimension_body_says d K (Sign m) = on_sign (Means DimensionBodyG d K) d K mark.Star (Sign m) _ Refused (λ ls w. record { part = implicit_dimension; rest = w.rest; ok = tt; is = ap (λ (x : List Leaf). leaf (Sign mark.LeftParenthesis) ∷ leaf (Sign mark.Star) ∷ x) w.is; goes = w.goes }) (λ h. tt)
 
 pub based_says : (d : ℕ) (K : List Leaf → Type 0) (t : Terminal) → Says (Means BasedG d K) d K t (based_rule t)
 based_says d K t = on_key (Means BasedG d K) d K key.Based t _ Over (λ ls w. w) (λ h l ls i w. record { part = None; rest = l ∷ ls; ok = tt; is = refl; goes = w })
 
 pub base_says : (d : ℕ) (K : List Leaf → Type 0) (t : Terminal) → Says (Means BaseG d K) d K t (base_rule t)
-base_says d K (Number n) = tt
+base_says d K (Numeral n) = tt
 base_says d K (Text n) = tt
 base_says d K (Key n) = tt
 base_says d K (Sign n) = tt
@@ -201,7 +201,7 @@ base_says d K Finish = tt
 base_says d K (Name n) = λ ls w. record { part = Some n; rest = ls; ok = tt; is = refl; goes = w }
 
 pub variable_says : (d : ℕ) (K : List Leaf → Type 0) (t : Terminal) → Says (Means VariableG d K) d K t (variable_rule t)
-variable_says d K (Number n) = tt
+variable_says d K (Numeral n) = tt
 variable_says d K (Text n) = tt
 variable_says d K (Key n) = tt
 variable_says d K (Sign n) = tt
@@ -217,7 +217,7 @@ more_variables_says d K t = on_sign (Means MoreVariablesG d K) d K mark.Comma t 
     (λ ls w xs h. let g = w.goes (variables xs w.part) tt in record { part = g.part; rest = g.rest; ok = g.ok; is = ap (λ (x : List Leaf). variable_list put_leaf xs (leaf (Sign mark.Comma) ∷ x)) w.is ∙ variable_next xs h w.part w.rest ∙ g.is; goes = g.goes })
     (λ i. on_sign (Means MoreVariablesG d K) d K mark.RightParenthesis t _ Refused (λ ls w xs h. record { part = xs; rest = ls; ok = h; is = refl; goes = w }) (λ j. tt))
 
--- what stands behind an element's names
+-- what stands after an element's names
 pub record Tail : Type 0 where
   pub bounds : DimensionT
   pub form : TypeT
@@ -261,14 +261,14 @@ element_lead_says d K t = on_key (Means ElementLeadG d K) d K key.Literally t _ 
 
 pub literal_text_says : (d : ℕ) (K : List Leaf → Type 0) (t : Terminal) → Says (Means LiteralTextG d K) d K t (literal_text t)
 literal_text_says d K (Name n) = tt
-literal_text_says d K (Number n) = tt
+literal_text_says d K (Numeral n) = tt
 literal_text_says d K (Key n) = tt
 literal_text_says d K (Sign n) = tt
 literal_text_says d K Finish = tt
 literal_text_says d K (Text s) = λ ls w n. record { part = LiteralElement n s; rest = ls; ok = tt; is = refl; goes = w }
 
 pub element_says : (d : ℕ) (K : List Leaf → Type 0) (t : Terminal) → Says (Means ElementG d K) d K t (element_rule t)
-element_says d K (Number n) = tt
+element_says d K (Numeral n) = tt
 element_says d K (Text n) = tt
 element_says d K (Key n) = tt
 element_says d K Finish = tt

@@ -1,9 +1,9 @@
--- Runs over a text with its end behind it, and without.
+-- Runs over a text with its end after it, and without.
 use Rattle.std.proofs.Common.{◌≡◌, ℕ, suc, ◌+◌, ◌≤◌, nat_lt, List, [], ◌∷◌, ◌++◌, Bool, true, false, None, Result, Ok, Err, refl, sym, ap, ◌∙◌, arith, length, length-append, ◌⊎◌, inl, inr}
 use Rattle.plm_syntax.specs.Terminal.{Finish, Leaf, leaf}
 use Rattle.plm_syntax.specs.Sentence.{BeginsWithin}
-use Rattle.plm_syntax.specs.Symbol.{Value, Symbol, depth}
-use Rattle.plm_syntax.specs.Machine.{Move, Stay, Next, Open, feed, Stop, Refusal, Deep, Reading, run, start}
+use Rattle.plm_syntax.specs.Inner.Symbol.{Value, Symbol, depth}
+use Rattle.plm_syntax.specs.Inner.Machine.{Move, Stay, Next, Open, feed, Stop, Refusal, Deep, Reading, run, start}
 use Rattle.plm_syntax.proofs.Along.{gone}
 use Rattle.plm_syntax.proofs.Limits.{ran}
 use Rattle.plm_syntax.proofs.Whole.{begun_within}
@@ -33,7 +33,7 @@ run_both (l ∷ ls) ys s v = by_move (λ s' v'. run_both ls ys s' v') (feed s v 
     by_move g (Next s' v') = g s' v'
     by_move g (Open s' v') = by_test s' v' (g s' v') (nat_lt 64 (depth s'))
 
--- a run that is over behind the last token
+-- a run that is over after the last token
 at_end : (r : Reading) (stop : Stop) → run 64 r.awaited r.read (leaf Finish ∷ []) ≡ Err stop → (stop ≡ Refusal 0) ⊎ (stop ≡ Deep 0)
 at_end r stop h = by_move (feed r.awaited r.read Finish None) h
   where

@@ -1,12 +1,12 @@
 -- Runs and modules: no two modules are spelled by one list, and what a run takes begins a module.
 use Rattle.std.proofs.Common.{◌≡◌, ℕ, suc, List, [], ◌∷◌, ◌++◌, Bool, true, false, cond, Option, Some, None, refl, sym, ap, ◌∙◌, subst, length}
-use Rattle.plm_syntax.specs.declared.tree.Place.{Place}
+use Rattle.plm_syntax.specs.declared.tree.Position.{Position}
 use Rattle.plm_syntax.specs.Terminal.{Terminal, Leaf, leaf, leaf_at, is_same}
 use Rattle.plm_syntax.specs.Tree.{ModuleT}
 use Rattle.plm_syntax.specs.Spelling.{module_leaves, put_leaf, leaves_of, levels_of}
 use Rattle.plm_syntax.specs.WellFormed.{WellModule}
-use Rattle.plm_syntax.specs.Symbol.{Value, Action, Goal, Symbol, depth, Rule, ModuleR, PrimaryG, SignedG, NegationG, MoreG, InsideG, AfterReferenceG, SubscriptsG, MoreSubscriptsG, SelectorG, MemberG, MemberSubscriptG, LocatedG, ValueG, NegativeG, MoreValuesG, StatementG, LeadG, TargetG, MoreTargetsG, CalledG, ReturnedG, ArmG, OtherwiseG, DoG, StepG, StatementsG, EndG, ItemsG, ItemLeadG, ItemColonG, ParametersG, ParameterG, MoreParametersG, ReturnedTypeG, InterruptG, InterruptNumberG, LinkageG, ElementG, ElementLeadG, LiteralTextG, VariableG, MoreVariablesG, BasedG, BaseG, DimensionG, DimensionBodyG, TypeG, MemberOfG, MemberNameG, MoreMemberNamesG, CountG, CountNumberG, MemberTypeG, MoreMembersG, AttributesG, AtG, AtBodyG, InitialG, MoreElementsG, ModuleG, StartG, Need, Want, Do, Leave, Refused, Over, Take, Keep}
-use Rattle.plm_syntax.specs.Machine.{again, rule, Move, kept, feed, Trace, trace, start, Stay, Next, Open, Ended, Then}
+use Rattle.plm_syntax.specs.Inner.Symbol.{Value, Action, Goal, Symbol, depth, Rule, ModuleR, PrimaryG, SignedG, NegationG, MoreG, InsideG, AfterReferenceG, SubscriptsG, MoreSubscriptsG, SelectorG, MemberG, MemberSubscriptG, LocatedG, ValueG, NegativeG, MoreValuesG, StatementG, LeadG, TargetG, MoreTargetsG, CalledG, ReturnedG, ArmG, OtherwiseG, DoG, StepG, StatementsG, EndG, ItemsG, ItemLeadG, ItemColonG, ParametersG, ParameterG, MoreParametersG, ReturnedTypeG, InterruptG, InterruptNumberG, LinkageG, ElementG, ElementLeadG, LiteralTextG, VariableG, MoreVariablesG, BasedG, BaseG, DimensionG, DimensionBodyG, TypeG, MemberOfG, MemberNameG, MoreMemberNamesG, CountG, CountNumberG, MemberTypeG, MoreMembersG, AttributesG, AtG, AtBodyG, InitialG, MoreElementsG, ModuleG, StartG, Need, Want, Do, Leave, Refused, Over, Take, Keep}
+use Rattle.plm_syntax.specs.Inner.Machine.{again, rule, Move, kept, feed, Trace, trace, start, Stay, Next, Open, Ended, Then}
 use Rattle.std.proofs.Common.{take, drop}
 use Rattle.std.proofs.lemmas.List.{append-nil}
 use Rattle.plm_syntax.specs.Sentence.{IsKept, Fits, AllWithin, Begins, BeginsWithin, SpellOnce}
@@ -118,7 +118,7 @@ MovesGood s K t Stay = Unit {0}
 MovesGood s K t (Next s' v') = (ls : List Leaf) → Awaits s' 0 K ls → Before s K t ls
 MovesGood s K t (Open s' v') = (ls : List Leaf) → Awaits s' 0 K ls → Before s K t ls
 
-pub want_good : (g : Goal) (s : List Symbol) (v : List Value) (K : List Leaf → Type 0) (t : Terminal) (p : Option Place) (r : Rule) → Says (Means g (depth s) (Awaits s 0 K)) (depth s) (Awaits s 0 K) t r → MovesGood s K (record { terminal = t; place = p }) (feed s v t p) → MovesGood (Want g ∷ s) K (record { terminal = t; place = p }) (ruled r s v t p)
+pub want_good : (g : Goal) (s : List Symbol) (v : List Value) (K : List Leaf → Type 0) (t : Terminal) (p : Option Position) (r : Rule) → Says (Means g (depth s) (Awaits s 0 K)) (depth s) (Awaits s 0 K) t r → MovesGood s K (record { terminal = t; place = p }) (feed s v t p) → MovesGood (Want g ∷ s) K (record { terminal = t; place = p }) (ruled r s v t p)
 want_good g s v K t p Refused h k = tt
 want_good g s v K t p Over h k = by_move (feed s v t p) k
   where
@@ -132,11 +132,11 @@ want_good g s v K t None (Keep b f) h k = tt
 want_good g s v K t (Some p) (Keep true f) h k = λ ls w. record { first = leaf_at t p; same = refl; kept = refl; stands = h p ls (taken (f p) s K ls w) }
 want_good g s v K t (Some p) (Keep false f) h k = λ ls w. record { first = leaf_at t p; same = refl; kept = refl; stands = h p ls (taken (f p) s K ls w) }
 
-pub need_good : (u : Terminal) (s : List Symbol) (v : List Value) (K : List Leaf → Type 0) (t : Terminal) (p : Option Place) (b : Bool) → is_same u t ≡ b → MovesGood (Need u ∷ s) K (record { terminal = t; place = p }) (cond b (Next s v) Stay)
+pub need_good : (u : Terminal) (s : List Symbol) (v : List Value) (K : List Leaf → Type 0) (t : Terminal) (p : Option Position) (b : Bool) → is_same u t ≡ b → MovesGood (Need u ∷ s) K (record { terminal = t; place = p }) (cond b (Next s v) Stay)
 need_good u s v K t p true e = λ ls w. record { first = leaf u; same = same_is u t e; kept = tt; stands = record { rest = ls; is = refl; goes = w } }
 need_good u s v K t p false e = tt
 
-pub moves_good : (s : List Symbol) (v : List Value) (K : List Leaf → Type 0) (t : Terminal) (p : Option Place) → MovesGood s K (record { terminal = t; place = p }) (feed s v t p)
+pub moves_good : (s : List Symbol) (v : List Value) (K : List Leaf → Type 0) (t : Terminal) (p : Option Position) → MovesGood s K (record { terminal = t; place = p }) (feed s v t p)
 moves_good [] v K t p = tt
 moves_good (Need u ∷ s) v K t p = need_good u s v K t p (is_same u t) refl
 moves_good (Want g ∷ s) v K t p = subst (MovesGood (Want g ∷ s) K (record { terminal = t; place = p })) (sym (feed_want g s v t p)) (want_good g s v K t p (rule g t) (table g (depth s) (Awaits s 0 K) t) (moves_good s v K t p))
@@ -190,33 +190,33 @@ module_path m w =
     (path_of (leaves_of m) start [] h.levels [] (ModuleR m ∷ []) (module_drives m w ∙ h.in_trace (Ended [] (ModuleR m ∷ []))))
 
 -- a token does what a leaf does that it fits
-pub kept_feed : (b : Bool) (f : Place → List Symbol) (s : List Symbol) (v : List Value) (p q : Option Place) → IsKept p q → (kept b f s v p ≡ Stay → ⊥) → kept b f s v q ≡ kept b f s v p
+pub kept_feed : (b : Bool) (f : Position → List Symbol) (s : List Symbol) (v : List Value) (p q : Option Position) → IsKept p q → (kept b f s v p ≡ Stay → ⊥) → kept b f s v q ≡ kept b f s v p
 kept_feed b f s v None q k some = absurd (some refl)
 kept_feed b f s v (Some p) q k some = ap (kept b f s v) k
 
-pub fit_ruled : (r : Rule) (s : List Symbol) (v : List Value) (t : Terminal) (p q : Option Place) → IsKept p q → ((feed s v t p ≡ Stay → ⊥) → feed s v t q ≡ feed s v t p) → (ruled r s v t p ≡ Stay → ⊥) → ruled r s v t q ≡ ruled r s v t p
+pub fit_ruled : (r : Rule) (s : List Symbol) (v : List Value) (t : Terminal) (p q : Option Position) → IsKept p q → ((feed s v t p ≡ Stay → ⊥) → feed s v t q ≡ feed s v t p) → (ruled r s v t p ≡ Stay → ⊥) → ruled r s v t q ≡ ruled r s v t p
 fit_ruled Refused s v t p q k same some = refl
 fit_ruled Over s v t p q k same some = same some
 fit_ruled (Take b x) s v t p q k same some = refl
 fit_ruled (Keep b f) s v t p q k same some = kept_feed b f s v p q k some
 
 -- what an action makes of a token
-abbrev pub then_feed : Option (List Value) → List Symbol → Terminal → Option Place → Move
+abbrev pub then_feed : Option (List Value) → List Symbol → Terminal → Option Position → Move
 then_feed None s t p = Stay
 then_feed (Some w) s t p = feed s w t p
 
-pub feed_do : (a : Action) (s : List Symbol) (v : List Value) (t : Terminal) (p : Option Place) → feed (Do a ∷ s) v t p ≡ then_feed (a v) s t p
+pub feed_do : (a : Action) (s : List Symbol) (v : List Value) (t : Terminal) (p : Option Position) → feed (Do a ∷ s) v t p ≡ then_feed (a v) s t p
 feed_do a s v t p = by_option (a v)
   where
     by_option : (o : Option (List Value)) → (elim o [ None ↦ Stay | Some w ↦ feed s w t p ]) ≡ then_feed o s t p
     by_option None = refl
     by_option (Some w) = refl
 
-pub fit_did : (o : Option (List Value)) (s : List Symbol) (t : Terminal) (p q : Option Place) → ((w : List Value) → (feed s w t p ≡ Stay → ⊥) → feed s w t q ≡ feed s w t p) → (then_feed o s t p ≡ Stay → ⊥) → then_feed o s t q ≡ then_feed o s t p
+pub fit_did : (o : Option (List Value)) (s : List Symbol) (t : Terminal) (p q : Option Position) → ((w : List Value) → (feed s w t p ≡ Stay → ⊥) → feed s w t q ≡ feed s w t p) → (then_feed o s t p ≡ Stay → ⊥) → then_feed o s t q ≡ then_feed o s t p
 fit_did None s t p q same some = refl
 fit_did (Some w) s t p q same some = same w some
 
-pub fit_feed : (s : List Symbol) (v : List Value) (t : Terminal) (p q : Option Place) → IsKept p q → (feed s v t p ≡ Stay → ⊥) → feed s v t q ≡ feed s v t p
+pub fit_feed : (s : List Symbol) (v : List Value) (t : Terminal) (p q : Option Position) → IsKept p q → (feed s v t p ≡ Stay → ⊥) → feed s v t q ≡ feed s v t p
 fit_feed [] v t p q k some = refl
 fit_feed (Need u ∷ s) v t p q k some = refl
 fit_feed (Want g ∷ s) v t p q k some = feed_want g s v t q ∙ fit_ruled (rule g t) s v t p q k (λ h. fit_feed s v t p q k h) (λ h. some (feed_want g s v t p ∙ h)) ∙ sym (feed_want g s v t p)

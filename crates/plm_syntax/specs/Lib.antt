@@ -4,14 +4,6 @@ pub mod View
 pub mod Spelling
 pub mod WellFormed
 pub mod Sentence
-pub mod Symbol
-pub mod Machine
-pub mod Runs
-pub mod Expand
-pub mod Quiet
-pub mod ExpandView
-pub mod Answers
-pub mod Parsed
-pub mod Parts
-pub mod Blocks
-pub mod Faults
+pub mod Literals
+pub mod Answer
+pub mod Inner

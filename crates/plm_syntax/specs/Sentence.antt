@@ -1,13 +1,13 @@
 -- Which tokens spell a module, and the token at which a list of tokens stops being one.
 use Rattle.std.specs.Prelude.{◌≡◌, ℕ, suc, ◌≤◌, ◌<◌, List, [], ◌∷◌, ◌++◌, length, take, Option, Some, None}
-use Rattle.plm_syntax.specs.declared.tree.Place.{Place}
+use Rattle.plm_syntax.specs.declared.tree.Position.{Position}
 use Rattle.plm_syntax.specs.Terminal.{Leaf}
 use Rattle.plm_syntax.specs.Tree.{ModuleT}
 use Rattle.plm_syntax.specs.Spelling.{leaves_of, levels_of}
 use Rattle.plm_syntax.specs.WellFormed.{WellModule}
 
 -- a leaf keeps no place, or the token's
-abbrev pub IsKept : Option Place → Option Place → Type 0
+abbrev pub IsKept : Option Position → Option Position → Type 0
 IsKept None q = Unit {0}
 IsKept (Some p) q = q ≡ Some p
 
@@ -22,7 +22,7 @@ Fits (l ∷ ls) [] = ⊥
 abbrev pub Spells : ModuleT → List Leaf → Type 0
 Spells m ts = Fits (leaves_of m) ts
 
--- no more than so many levels are opened
+-- none of these depths is above the limit
 abbrev pub AllWithin : ℕ → List ℕ → Type 0
 AllWithin limit [] = Unit {0}
 AllWithin limit (n ∷ ns) = (n ≤ limit) × AllWithin limit ns
@@ -36,7 +36,7 @@ pub record Begins (ts : List Leaf) : Type 0 where
   pub parts : leaves_of tree ≡ front ++ back
   pub fits : Fits front ts
 
--- The same of a module in which these tokens open no more than so many levels.
+-- The same of a module in which these tokens open no level above the limit.
 pub record BeginsWithin (limit : ℕ) (ts : List Leaf) : Type 0 where
   pub begun : Begins ts
   pub within : AllWithin limit (take (length ts) (levels_of begun.tree))

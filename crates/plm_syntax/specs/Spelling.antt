@@ -10,8 +10,8 @@ use Rattle.plm_syntax.specs.declared.tree.UnaryOperator.{UnaryOperator}
 use Rattle.plm_syntax.specs.declared.tree.UnaryOperator.TheVariants as unary
 use Rattle.plm_syntax.specs.declared.tree.BinaryOperator.{BinaryOperator}
 use Rattle.plm_syntax.specs.declared.tree.BinaryOperator.TheVariants as binary
-use Rattle.plm_syntax.specs.Terminal.{NameT, NumberT, Terminal, Name, Number, Text, Key, Sign, Finish, Leaf, leaf, leaf_at}
-use Rattle.plm_syntax.specs.Tree.{LocationForm, Pointer, Offset, ExpressionT, NumberE, TextE, ReferenceE, LocationE, ParenthesisedE, EmbeddedE, UnaryE, BinaryE, ReferenceT, ReferenceOf, ExpressionsT, no_expressions, expressions, SelectorT, no_member, member, member_at, LocationT, LocationOf, ConstantsOf, ValueT, NumberV, NegativeV, TextV, LocationV, ValuesT, no_values, values, NamesT, no_names, names, VariableT, VariableOf, VariablesT, no_variables, variables, DeclaredT, OneVariable, VariableList, DimensionT, no_dimension, dimension, implicit_dimension, MemberT, OneMember, MemberList, MembersT, no_members, members, TypeT, ScalarType, StructureType, AtT, no_at, at_number, at_location, InitialT, no_initial, initial, constant_data, AttributesT, External, Attributes, ElementT, LiteralElement, VariableElement, ElementsT, no_elements, elements, LinkageT, no_linkage, public_linkage, external_linkage, ReferencesT, no_references, references, StatementT, Labelled, BasicT, EmptyS, AssignS, CallS, ReturnS, ReturnValueS, EnableS, DisableS, HaltS, IfS, IfElseS, DoS, WhileS, CaseS, IterateS, StatementsT, no_statements, statements, BlockT, BlockOf, ItemsT, no_items, items, ItemT, DeclareI, ProcedureI, ModuleT, ModuleOf}
+use Rattle.plm_syntax.specs.Terminal.{NameT, NumeralT, Terminal, Name, Numeral, Text, Key, Sign, Finish, Leaf, leaf, leaf_at}
+use Rattle.plm_syntax.specs.Tree.{LocationForm, Pointer, Offset, ExpressionT, NumeralE, TextE, ReferenceE, LocationE, ParenthesisedE, EmbeddedE, UnaryE, BinaryE, ReferenceT, ReferenceOf, ExpressionsT, no_expressions, expressions, SelectorT, no_member, member, member_at, LocationT, LocationOf, ConstantsOf, ValueT, NumeralV, NegativeV, TextV, LocationV, ValuesT, no_values, values, NamesT, no_names, names, VariableT, VariableOf, VariablesT, no_variables, variables, DeclaredT, OneVariable, VariableList, DimensionT, no_dimension, dimension, implicit_dimension, MemberT, OneMember, MemberList, MembersT, no_members, members, TypeT, ScalarType, StructureType, AtT, no_at, at_number, at_location, InitialT, no_initial, initial, constant_data, AttributesT, External, Attributes, ElementT, LiteralElement, VariableElement, ElementsT, no_elements, elements, LinkageT, no_linkage, public_linkage, external_linkage, ReferencesT, no_references, references, StatementT, Labelled, BasicT, EmptyS, AssignS, CallS, ReturnS, ReturnValueS, EnableS, DisableS, HaltS, IfS, IfElseS, DoS, WhileS, CaseS, IterateS, StatementsT, no_statements, statements, BlockT, BlockOf, ItemsT, no_items, items, ItemT, DeclareI, ProcedureI, ModuleT, ModuleOf}
 
 abbrev pub unary_sign : UnaryOperator → Terminal
 unary_sign unary.Plus = Sign mark.Plus
@@ -49,7 +49,7 @@ abbrev pub last_name : NamesT → Option NameT
 last_name no_names = None
 last_name (names ns n) = Some n
 
--- what the first leaf behind a statement's labels opens up to, where its first leaf opens up to m
+-- what the first leaf after a statement's labels opens up to, where its first leaf opens up to m
 abbrev pub behind_labels : ℕ → NamesT → ℕ
 behind_labels m no_names = m
 behind_labels m (names ns n) = 0
@@ -69,7 +69,7 @@ module _ {A : Type 0} (put : Leaf → ℕ → A → A) where
 
   abbrev mutual
     pub expression : ℕ → ExpressionT → A → A
-    expression d (NumberE n) r = tok (Number n) r
+    expression d (NumeralE n) r = tok (Numeral n) r
     expression d (TextE s) r = tok (Text s) r
     expression d (ReferenceE x) r = reference 0 d x r
     expression d (LocationE l) r = location d l r
@@ -85,7 +85,7 @@ module _ {A : Type 0} (put : Leaf → ℕ → A → A) where
     subscripts d no_expressions r = r
     subscripts d (expressions es e) r = put (leaf (Sign mark.LeftParenthesis)) (suc d) (listed (suc d) es (expression (suc d) e (sign mark.RightParenthesis r)))
 
-    -- expressions, each with a comma behind it
+    -- expressions, each with a comma after it
     pub listed : ℕ → ExpressionsT → A → A
     listed d no_expressions r = r
     listed d (expressions es e) r = listed d es (expression d e (sign mark.Comma r))
@@ -100,8 +100,8 @@ module _ {A : Type 0} (put : Leaf → ℕ → A → A) where
     location d (ConstantsOf p f vs) r = put (leaf_at (form_sign f) p) 0 (sign mark.LeftParenthesis (value_list d vs (sign mark.RightParenthesis r)))
 
     pub value : ℕ → ValueT → A → A
-    value d (NumberV n) r = tok (Number n) r
-    value d (NegativeV n) r = sign mark.Minus (tok (Number n) r)
+    value d (NumeralV n) r = tok (Numeral n) r
+    value d (NegativeV n) r = sign mark.Minus (tok (Numeral n) r)
     value d (TextV s) r = tok (Text s) r
     value d (LocationV l) r = location d l r
 
@@ -110,12 +110,12 @@ module _ {A : Type 0} (put : Leaf → ℕ → A → A) where
     value_list d no_values r = r
     value_list d (values vs v) r = listed_values d vs (value d v r)
 
-    -- values, each with a comma behind it
+    -- values, each with a comma after it
     pub listed_values : ℕ → ValuesT → A → A
     listed_values d no_values r = r
     listed_values d (values vs v) r = listed_values d vs (value d v (sign mark.Comma r))
 
-  -- names, each with a comma behind it
+  -- names, each with a comma after it
   abbrev pub listed_names : NamesT → A → A
   listed_names no_names r = r
   listed_names (names ns n) r = listed_names ns (tok (Name n) (sign mark.Comma r))
@@ -152,12 +152,12 @@ module _ {A : Type 0} (put : Leaf → ℕ → A → A) where
 
   abbrev pub dimension_leaves : DimensionT → A → A
   dimension_leaves no_dimension r = r
-  dimension_leaves (dimension n) r = in_parentheses (Number n) r
+  dimension_leaves (dimension n) r = in_parentheses (Numeral n) r
   dimension_leaves implicit_dimension r = in_parentheses (Sign mark.Star) r
 
-  abbrev pub count : Option NumberT → A → A
+  abbrev pub count : Option NumeralT → A → A
   count None r = r
-  count (Some n) r = in_parentheses (Number n) r
+  count (Some n) r = in_parentheses (Numeral n) r
 
   abbrev pub member_leaves : MemberT → A → A
   member_leaves (OneMember n c s) r = tok (Name n) (count c (tok (scalar_key s) r))
@@ -177,7 +177,7 @@ module _ {A : Type 0} (put : Leaf → ℕ → A → A) where
 
   abbrev pub at_leaves : ℕ → AtT → A → A
   at_leaves d no_at r = r
-  at_leaves d (at_number n) r = word key.At (in_parentheses (Number n) r)
+  at_leaves d (at_number n) r = word key.At (in_parentheses (Numeral n) r)
   at_leaves d (at_location l) r = word key.At (sign mark.LeftParenthesis (location d l (sign mark.RightParenthesis r)))
 
   abbrev pub initial_leaves : ℕ → InitialT → A → A
@@ -209,9 +209,9 @@ module _ {A : Type 0} (put : Leaf → ℕ → A → A) where
   returned None r = r
   returned (Some s) r = tok (scalar_key s) r
 
-  abbrev pub interrupt : Option NumberT → A → A
+  abbrev pub interrupt : Option NumeralT → A → A
   interrupt None r = r
-  interrupt (Some n) r = word key.Interrupt (tok (Number n) r)
+  interrupt (Some n) r = word key.Interrupt (tok (Numeral n) r)
 
   abbrev pub linkage : LinkageT → A → A
   linkage no_linkage r = r

@@ -4,25 +4,25 @@ use Rattle.plm_token.specs.declared.token.Keyword.{Keyword}
 use Rattle.plm_token.specs.declared.token.Keyword.TheVariants as key
 use Rattle.plm_token.specs.declared.token.Mark.{Mark}
 use Rattle.plm_token.specs.declared.token.Mark.TheVariants as mark
-use Rattle.plm_syntax.specs.declared.tree.Place.{Place}
+use Rattle.plm_syntax.specs.declared.tree.Position.{Position}
 
 -- a name, a number and a string where they stand
 pub record NameT : Type 0 where
   pub text : List ℕ
-  pub place : Place
+  pub place : Position
 
-pub record NumberT : Type 0 where
+pub record NumeralT : Type 0 where
   pub value : ℕ
-  pub place : Place
+  pub place : Position
 
 pub record TextT : Type 0 where
   pub text : List ℕ
-  pub place : Place
+  pub place : Position
 
 -- what a token is; the end of the text counts as one
 pub data Terminal : Type 0 where
   Name : NameT → Terminal
-  Number : NumberT → Terminal
+  Numeral : NumeralT → Terminal
   Text : TextT → Terminal
   Key : Keyword → Terminal
   Sign : Mark → Terminal
@@ -31,12 +31,12 @@ pub data Terminal : Type 0 where
 -- a leaf of a tree: a token, and its place where the tree keeps it
 pub record Leaf : Type 0 where
   pub terminal : Terminal
-  pub place : Option Place
+  pub place : Option Position
 
 abbrev pub leaf : Terminal → Leaf
 leaf t = record { terminal = t; place = None }
 
-abbrev pub leaf_at : Terminal → Place → Leaf
+abbrev pub leaf_at : Terminal → Position → Leaf
 leaf_at t p = record { terminal = t; place = Some p }
 
 -- ---- tests

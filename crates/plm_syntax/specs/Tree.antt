@@ -1,28 +1,28 @@
 -- The syntax tree without where it lies in memory. Lists grow at their end.
 use Rattle.std.specs.Prelude.{Bool, Option}
-use Rattle.plm_syntax.specs.declared.tree.Place.{Place}
+use Rattle.plm_syntax.specs.declared.tree.Position.{Position}
 pub use Rattle.plm_syntax.specs.declared.tree.LocationForm.{LocationForm}
 pub use Rattle.plm_syntax.specs.declared.tree.LocationForm.TheVariants.{Pointer, Offset}
 use Rattle.plm_syntax.specs.declared.tree.Scalar.{Scalar}
 use Rattle.plm_syntax.specs.declared.tree.UnaryOperator.{UnaryOperator}
 use Rattle.plm_syntax.specs.declared.tree.BinaryOperator.{BinaryOperator}
-use Rattle.plm_syntax.specs.Terminal.{NameT, NumberT, TextT}
+use Rattle.plm_syntax.specs.Terminal.{NameT, NumeralT, TextT}
 
 -- ---- expressions
 
 mutual
   pub data ExpressionT : Type 0 where
-    NumberE : NumberT → ExpressionT
+    NumeralE : NumeralT → ExpressionT
     TextE : TextT → ExpressionT
     ReferenceE : ReferenceT → ExpressionT
     LocationE : LocationT → ExpressionT
     -- "(" e ")", with the place of "("
-    ParenthesisedE : Place → ExpressionT → ExpressionT
+    ParenthesisedE : Position → ExpressionT → ExpressionT
     -- "(" x ":=" e ")", with the place of "("
-    EmbeddedE : Place → ReferenceT → ExpressionT → ExpressionT
-    UnaryE : Place → UnaryOperator → ExpressionT → ExpressionT
+    EmbeddedE : Position → ReferenceT → ExpressionT → ExpressionT
+    UnaryE : Position → UnaryOperator → ExpressionT → ExpressionT
     -- with the place of the operator
-    BinaryE : Place → BinaryOperator → ExpressionT → ExpressionT → ExpressionT
+    BinaryE : Position → BinaryOperator → ExpressionT → ExpressionT → ExpressionT
 
   -- a name, its subscripts or arguments, none where there are no parentheses, and its member
   pub data ReferenceT : Type 0 where
@@ -39,12 +39,12 @@ mutual
 
   -- the place is that of "@" or "."
   pub data LocationT : Type 0 where
-    LocationOf : Place → LocationForm → ReferenceT → LocationT
-    ConstantsOf : Place → LocationForm → ValuesT → LocationT
+    LocationOf : Position → LocationForm → ReferenceT → LocationT
+    ConstantsOf : Position → LocationForm → ValuesT → LocationT
 
   pub data ValueT : Type 0 where
-    NumberV : NumberT → ValueT
-    NegativeV : NumberT → ValueT
+    NumeralV : NumeralT → ValueT
+    NegativeV : NumeralT → ValueT
     TextV : TextT → ValueT
     LocationV : LocationT → ValueT
 
@@ -73,14 +73,14 @@ pub data DeclaredT : Type 0 where
 
 pub data DimensionT : Type 0 where
   no_dimension : DimensionT
-  dimension : NumberT → DimensionT
+  dimension : NumeralT → DimensionT
   -- (*): as many as there are values
   implicit_dimension : DimensionT
 
 -- a structure's members: one name or a list in parentheses, how many elements each has, and their type
 pub data MemberT : Type 0 where
-  OneMember : NameT → Option NumberT → Scalar → MemberT
-  MemberList : NamesT → Option NumberT → Scalar → MemberT
+  OneMember : NameT → Option NumeralT → Scalar → MemberT
+  MemberList : NamesT → Option NumeralT → Scalar → MemberT
 
 pub data MembersT : Type 0 where
   no_members : MembersT
@@ -92,7 +92,7 @@ pub data TypeT : Type 0 where
 
 pub data AtT : Type 0 where
   no_at : AtT
-  at_number : NumberT → AtT
+  at_number : NumeralT → AtT
   at_location : LocationT → AtT
 
 pub data InitialT : Type 0 where
@@ -124,27 +124,27 @@ pub data ReferencesT : Type 0 where
   no_references : ReferencesT
   references : ReferencesT → ReferenceT → ReferencesT
 
--- a statement's place is that of its first token behind its labels; a block's last part is the name after its END
+-- a statement's place is that of its first token after its labels; a block's last part is the name after its END
 mutual
   pub data StatementT : Type 0 where
     Labelled : NamesT → BasicT → StatementT
 
   pub data BasicT : Type 0 where
-    EmptyS : Place → BasicT
+    EmptyS : Position → BasicT
     AssignS : ReferencesT → ExpressionT → BasicT
-    CallS : Place → ReferenceT → BasicT
-    ReturnS : Place → BasicT
-    ReturnValueS : Place → ExpressionT → BasicT
-    EnableS : Place → BasicT
-    DisableS : Place → BasicT
-    HaltS : Place → BasicT
-    IfS : Place → ExpressionT → StatementT → BasicT
-    IfElseS : Place → ExpressionT → StatementT → StatementT → BasicT
-    DoS : Place → BlockT → Option NameT → BasicT
-    WhileS : Place → ExpressionT → StatementsT → Option NameT → BasicT
-    CaseS : Place → ExpressionT → StatementsT → Option NameT → BasicT
+    CallS : Position → ReferenceT → BasicT
+    ReturnS : Position → BasicT
+    ReturnValueS : Position → ExpressionT → BasicT
+    EnableS : Position → BasicT
+    DisableS : Position → BasicT
+    HaltS : Position → BasicT
+    IfS : Position → ExpressionT → StatementT → BasicT
+    IfElseS : Position → ExpressionT → StatementT → StatementT → BasicT
+    DoS : Position → BlockT → Option NameT → BasicT
+    WhileS : Position → ExpressionT → StatementsT → Option NameT → BasicT
+    CaseS : Position → ExpressionT → StatementsT → Option NameT → BasicT
     -- DO i = a TO b [BY s]
-    IterateS : Place → NameT → ExpressionT → ExpressionT → Option ExpressionT → StatementsT → Option NameT → BasicT
+    IterateS : Position → NameT → ExpressionT → ExpressionT → Option ExpressionT → StatementsT → Option NameT → BasicT
 
   pub data StatementsT : Type 0 where
     no_statements : StatementsT
@@ -159,8 +159,8 @@ mutual
 
   -- a declaration, with the place of DECLARE, or a procedure
   pub data ItemT : Type 0 where
-    DeclareI : Place → ElementsT → ItemT
-    ProcedureI : NameT → NamesT → Option Scalar → Option NumberT → LinkageT → BlockT → Option NameT → ItemT
+    DeclareI : Position → ElementsT → ItemT
+    ProcedureI : NameT → NamesT → Option Scalar → Option NumeralT → LinkageT → BlockT → Option NameT → ItemT
 
 pub data ModuleT : Type 0 where
   ModuleOf : NameT → BlockT → Option NameT → ModuleT

@@ -1,7 +1,7 @@
 -- The Rust trees as plain ones.
 use Rattle.std.specs.Prelude.{List, [], ◌∷◌, Option, Some, None}
 use Rattle.plm_syntax.specs.declared.tree.Name.{Name}
-use Rattle.plm_syntax.specs.declared.tree.Number.{Number}
+use Rattle.plm_syntax.specs.declared.tree.Numeral.{Numeral}
 use Rattle.plm_syntax.specs.declared.tree.Text.{Text}
 use Rattle.plm_syntax.specs.declared.tree.Expression.{Expression, Row_of-Expression, end_of-Expression, more_of-Expression, Row_of-Operation, end_of-Operation, more_of-Operation}
 use Rattle.plm_syntax.specs.declared.tree.Expression.TheVariants as expression
@@ -42,13 +42,13 @@ use Rattle.plm_syntax.specs.declared.tree.Item.{Item}
 use Rattle.plm_syntax.specs.declared.tree.Item.TheVariants as item
 use Rattle.plm_syntax.specs.declared.tree.Procedure.{Procedure, Procedure'}
 use Rattle.plm_syntax.specs.declared.tree.Module.{Module}
-use Rattle.plm_syntax.specs.Terminal.{NameT, NumberT, TextT}
-use Rattle.plm_syntax.specs.Tree.{ExpressionT, NumberE, TextE, ReferenceE, LocationE, ParenthesisedE, EmbeddedE, UnaryE, BinaryE, ReferenceT, ReferenceOf, ExpressionsT, no_expressions, expressions, SelectorT, no_member, member, member_at, LocationT, LocationOf, ConstantsOf, ValueT, NumberV, NegativeV, TextV, LocationV, ValuesT, no_values, values, NamesT, no_names, names, VariableT, VariableOf, VariablesT, no_variables, variables, DeclaredT, OneVariable, VariableList, DimensionT, no_dimension, dimension, implicit_dimension, MemberT, OneMember, MemberList, MembersT, no_members, members, TypeT, ScalarType, StructureType, AtT, no_at, at_number, at_location, InitialT, no_initial, initial, constant_data, AttributesT, External, Attributes, ElementT, LiteralElement, VariableElement, ElementsT, no_elements, elements, LinkageT, no_linkage, public_linkage, external_linkage, ReferencesT, no_references, references, StatementT, Labelled, BasicT, EmptyS, AssignS, CallS, ReturnS, ReturnValueS, EnableS, DisableS, HaltS, IfS, IfElseS, DoS, WhileS, CaseS, IterateS, StatementsT, no_statements, statements, BlockT, BlockOf, ItemsT, no_items, items, ItemT, DeclareI, ProcedureI, ModuleT, ModuleOf}
+use Rattle.plm_syntax.specs.Terminal.{NameT, NumeralT, TextT}
+use Rattle.plm_syntax.specs.Tree.{ExpressionT, NumeralE, TextE, ReferenceE, LocationE, ParenthesisedE, EmbeddedE, UnaryE, BinaryE, ReferenceT, ReferenceOf, ExpressionsT, no_expressions, expressions, SelectorT, no_member, member, member_at, LocationT, LocationOf, ConstantsOf, ValueT, NumeralV, NegativeV, TextV, LocationV, ValuesT, no_values, values, NamesT, no_names, names, VariableT, VariableOf, VariablesT, no_variables, variables, DeclaredT, OneVariable, VariableList, DimensionT, no_dimension, dimension, implicit_dimension, MemberT, OneMember, MemberList, MembersT, no_members, members, TypeT, ScalarType, StructureType, AtT, no_at, at_number, at_location, InitialT, no_initial, initial, constant_data, AttributesT, External, Attributes, ElementT, LiteralElement, VariableElement, ElementsT, no_elements, elements, LinkageT, no_linkage, public_linkage, external_linkage, ReferencesT, no_references, references, StatementT, Labelled, BasicT, EmptyS, AssignS, CallS, ReturnS, ReturnValueS, EnableS, DisableS, HaltS, IfS, IfElseS, DoS, WhileS, CaseS, IterateS, StatementsT, no_statements, statements, BlockT, BlockOf, ItemsT, no_items, items, ItemT, DeclareI, ProcedureI, ModuleT, ModuleOf}
 
 abbrev pub name_of : Name → NameT
 name_of n = record { text = n.text.now; place = n.place }
 
-abbrev pub number_of : Number → NumberT
+abbrev pub number_of : Numeral → NumeralT
 number_of n = record { value = n.value; place = n.place }
 
 abbrev pub text_of : Text → TextT
@@ -56,7 +56,7 @@ text_of n = record { text = n.text.now; place = n.place }
 
 abbrev mutual
   pub expression_of : Expression → ExpressionT
-  expression_of (expression.Number n) = NumberE (number_of n)
+  expression_of (expression.Numeral n) = NumeralE (number_of n)
   expression_of (expression.Text s) = TextE (text_of s)
   expression_of (expression.Reference' n shape es m) = ReferenceE (ReferenceOf (name_of n) (expressions_in es no_expressions) (selector_of m))
   expression_of (expression.Location l) = LocationE (location_of l)
@@ -75,7 +75,7 @@ abbrev mutual
   location_of (location.Constants' p f shape vs) = ConstantsOf p f (values_in vs no_values)
 
   pub value_of : Value → ValueT
-  value_of (value.Number n) = NumberV (number_of n)
+  value_of (value.Numeral n) = NumeralV (number_of n)
   value_of (value.Negative n) = NegativeV (number_of n)
   value_of (value.Text s) = TextV (text_of s)
   value_of (value.Location l) = LocationV (location_of l)
@@ -99,7 +99,7 @@ expressions_from (e ∷ es) before = expressions_from es (expressions before (ex
 abbrev pub expressions_of : List Expression → ExpressionsT
 expressions_of es = expressions_from es no_expressions
 
--- operators from left to right, behind what stands to their left
+-- operators from left to right, after what stands to their left
 abbrev pub leaned : ExpressionT → List Operation → ExpressionT
 leaned left [] = left
 leaned left (x ∷ xs) = leaned (BinaryE x.place x.operator left (expression_of x.operand)) xs
@@ -118,7 +118,7 @@ abbrev pub base_of : Option Name → Option NameT
 base_of None = None
 base_of (Some n) = Some (name_of n)
 
-abbrev pub counted : Option Number → Option NumberT
+abbrev pub counted : Option Numeral → Option NumeralT
 counted None = None
 counted (Some n) = Some (number_of n)
 
@@ -144,10 +144,10 @@ declared_of (declared.List vs) = VariableList (variables_from vs.items no_variab
 
 abbrev pub dimension_of : Dimension → DimensionT
 dimension_of bounds.None = no_dimension
-dimension_of (bounds.Number n) = dimension (number_of n)
+dimension_of (bounds.Numeral n) = dimension (number_of n)
 dimension_of bounds.Implicit = implicit_dimension
 
-abbrev pub member_with : MemberNames → Option NumberT → Scalar → MemberT
+abbrev pub member_with : MemberNames → Option NumeralT → Scalar → MemberT
 member_with (member_names.One n) c s = OneMember (name_of n) c s
 member_with (member_names.List ns) c s = MemberList (names_of ns.items) c s
 
@@ -164,7 +164,7 @@ type_of (type.Structure ms) = StructureType (members_from ms.items no_members)
 
 abbrev pub at_of : At → AtT
 at_of at.None = no_at
-at_of (at.Number n) = at_number (number_of n)
+at_of (at.Numeral n) = at_number (number_of n)
 at_of (at.Location l) = at_location (location_of l)
 
 abbrev pub initial_of : Initial → InitialT

@@ -1,4 +1,4 @@
--- Which trees are well formed: operators stand at their level, equal levels lean left, lists that cannot be empty are not, ELSE stands at
+-- Which trees are well formed: operators stand at their precedence, equal levels lean left, lists that cannot be empty are not, ELSE stands at
 -- the nearest IF, and the name after END is the block's last label.
 use Rattle.std.specs.Prelude.{◌≡◌, ℕ, ◌≤◌, ◌<◌, Bool, true, false, Option, Some, None}
 use Rattle.plm_syntax.specs.declared.tree.UnaryOperator.{UnaryOperator}
@@ -8,58 +8,58 @@ use Rattle.plm_syntax.specs.declared.tree.BinaryOperator.TheVariants as binary
 use Rattle.plm_token.specs.Names.{names_equal}
 use Rattle.plm_syntax.specs.Terminal.{NameT}
 use Rattle.plm_syntax.specs.Spelling.{last_name}
-use Rattle.plm_syntax.specs.Tree.{ExpressionT, NumberE, TextE, ReferenceE, LocationE, ParenthesisedE, EmbeddedE, UnaryE, BinaryE, ReferenceT, ReferenceOf, ExpressionsT, no_expressions, expressions, SelectorT, no_member, member, member_at, LocationT, LocationOf, ConstantsOf, ValueT, NumberV, NegativeV, TextV, LocationV, ValuesT, no_values, values, NamesT, no_names, names, VariablesT, no_variables, variables, DeclaredT, OneVariable, VariableList, MemberT, OneMember, MemberList, MembersT, no_members, members, TypeT, ScalarType, StructureType, AtT, no_at, at_number, at_location, InitialT, no_initial, initial, constant_data, AttributesT, External, Attributes, ElementT, LiteralElement, VariableElement, ElementsT, no_elements, elements, ReferencesT, no_references, references, StatementT, Labelled, BasicT, EmptyS, AssignS, CallS, ReturnS, ReturnValueS, EnableS, DisableS, HaltS, IfS, IfElseS, DoS, WhileS, CaseS, IterateS, StatementsT, no_statements, statements, BlockT, BlockOf, ItemsT, no_items, items, ItemT, DeclareI, ProcedureI, ModuleT, ModuleOf}
+use Rattle.plm_syntax.specs.Tree.{ExpressionT, NumeralE, TextE, ReferenceE, LocationE, ParenthesisedE, EmbeddedE, UnaryE, BinaryE, ReferenceT, ReferenceOf, ExpressionsT, no_expressions, expressions, SelectorT, no_member, member, member_at, LocationT, LocationOf, ConstantsOf, ValueT, NumeralV, NegativeV, TextV, LocationV, ValuesT, no_values, values, NamesT, no_names, names, VariablesT, no_variables, variables, DeclaredT, OneVariable, VariableList, MemberT, OneMember, MemberList, MembersT, no_members, members, TypeT, ScalarType, StructureType, AtT, no_at, at_number, at_location, InitialT, no_initial, initial, constant_data, AttributesT, External, Attributes, ElementT, LiteralElement, VariableElement, ElementsT, no_elements, elements, ReferencesT, no_references, references, StatementT, Labelled, BasicT, EmptyS, AssignS, CallS, ReturnS, ReturnValueS, EnableS, DisableS, HaltS, IfS, IfElseS, DoS, WhileS, CaseS, IterateS, StatementsT, no_statements, statements, BlockT, BlockOf, ItemsT, no_items, items, ItemT, DeclareI, ProcedureI, ModuleT, ModuleOf}
 
 -- 0 a primary, 1 a sign, 2 a term, 3 a sum, 4 a relation, 5 NOT, 6 AND, 7 OR and XOR
-abbrev pub level_of : BinaryOperator → ℕ
-level_of binary.Multiply = 2
-level_of binary.Divide = 2
-level_of binary.Modulo = 2
-level_of binary.Add = 3
-level_of binary.Subtract = 3
-level_of binary.Equal = 4
-level_of binary.NotEqual = 4
-level_of binary.Less = 4
-level_of binary.LessEqual = 4
-level_of binary.Greater = 4
-level_of binary.GreaterEqual = 4
-level_of binary.And = 6
-level_of binary.Or = 7
-level_of binary.ExclusiveOr = 7
+abbrev pub precedence_of : BinaryOperator → ℕ
+precedence_of binary.Multiply = 2
+precedence_of binary.Divide = 2
+precedence_of binary.Modulo = 2
+precedence_of binary.Add = 3
+precedence_of binary.Subtract = 3
+precedence_of binary.Equal = 4
+precedence_of binary.NotEqual = 4
+precedence_of binary.Less = 4
+precedence_of binary.LessEqual = 4
+precedence_of binary.Greater = 4
+precedence_of binary.GreaterEqual = 4
+precedence_of binary.And = 6
+precedence_of binary.Or = 7
+precedence_of binary.ExclusiveOr = 7
 
 -- what an operator's left operand may be: there is one relation at most
-abbrev pub left_level : BinaryOperator → ℕ
-left_level binary.Equal = 3
-left_level binary.NotEqual = 3
-left_level binary.Less = 3
-left_level binary.LessEqual = 3
-left_level binary.Greater = 3
-left_level binary.GreaterEqual = 3
-left_level o = level_of o
+abbrev pub left_precedence : BinaryOperator → ℕ
+left_precedence binary.Equal = 3
+left_precedence binary.NotEqual = 3
+left_precedence binary.Less = 3
+left_precedence binary.LessEqual = 3
+left_precedence binary.Greater = 3
+left_precedence binary.GreaterEqual = 3
+left_precedence o = precedence_of o
 
-abbrev pub unary_level : UnaryOperator → ℕ
-unary_level unary.Not = 5
-unary_level o = 1
+abbrev pub unary_precedence : UnaryOperator → ℕ
+unary_precedence unary.Not = 5
+unary_precedence o = 1
 
-abbrev pub operand_level : UnaryOperator → ℕ
-operand_level unary.Not = 5
-operand_level o = 0
+abbrev pub operand_precedence : UnaryOperator → ℕ
+operand_precedence unary.Not = 5
+operand_precedence o = 0
 
-abbrev pub level : ExpressionT → ℕ
-level (UnaryE p o e) = unary_level o
-level (BinaryE p o a b) = level_of o
-level e = 0
+abbrev pub precedence : ExpressionT → ℕ
+precedence (UnaryE p o e) = unary_precedence o
+precedence (BinaryE p o a b) = precedence_of o
+precedence e = 0
 
 abbrev mutual
   pub Well : ExpressionT → Type 0
-  Well (NumberE n) = Unit {0}
+  Well (NumeralE n) = Unit {0}
   Well (TextE s) = Unit {0}
   Well (ReferenceE x) = WellReference x
   Well (LocationE l) = WellLocation l
   Well (ParenthesisedE p e) = Well e
   Well (EmbeddedE p x e) = WellReference x × Well e
-  Well (UnaryE p o e) = (level e ≤ operand_level o) × Well e
-  Well (BinaryE p o a b) = (level a ≤ left_level o) × (level b < level_of o) × Well a × Well b
+  Well (UnaryE p o e) = (precedence e ≤ operand_precedence o) × Well e
+  Well (BinaryE p o a b) = (precedence a ≤ left_precedence o) × (precedence b < precedence_of o) × Well a × Well b
 
   pub WellReference : ReferenceT → Type 0
   WellReference (ReferenceOf n es s) = WellExpressions es × WellSelector s
@@ -78,7 +78,7 @@ abbrev mutual
   WellLocation (ConstantsOf p f vs) = WellValues vs
 
   pub WellValue : ValueT → Type 0
-  WellValue (NumberV n) = Unit {0}
+  WellValue (NumeralV n) = Unit {0}
   WellValue (NegativeV n) = Unit {0}
   WellValue (TextV s) = Unit {0}
   WellValue (LocationV l) = WellLocation l

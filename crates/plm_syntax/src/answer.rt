@@ -2,12 +2,12 @@
 
 ghost use Rattle.std.specs.Prelude.{◌≡◌, ◌≤◌, ℕ, List, length};
 ghost use Rattle.plm_token.specs.declared.token.Keyword.TheVariants.{Procedure};
-ghost use Rattle.plm_syntax.specs.declared.tree.Place.{Place};
+ghost use Rattle.plm_syntax.specs.declared.tree.Position.{Position};
 ghost use Rattle.plm_syntax.specs.Terminal.{is_key};
-ghost use Rattle.plm_token.specs.Scanning.{lexemes};
-ghost use Rattle.plm_syntax.specs.Expand.{expanded};
-ghost use Rattle.plm_syntax.specs.Answers.{Answers, line_from, terminal_of, tokens_from, opening_token};
-ghost use Rattle.plm_syntax.specs.Faults.{refusal_at, deep_at, fault_of, LeftIn};
+ghost use Rattle.plm_token.specs.Scanner.{lexemes};
+ghost use Rattle.plm_syntax.specs.Literals.{expanded};
+ghost use Rattle.plm_syntax.specs.Answer.{Answers, line_from, terminal_of, tokens_from, opening_token};
+ghost use Rattle.plm_syntax.specs.Inner.Answer.{refusal_at, deep_at, fault_of, LeftIn};
 
 use crate::cursor::Cursor;
 use crate::failure::Failure;
@@ -49,12 +49,12 @@ fn opening(tokens: &[Token<'_>], number: usize) -> usize
 }
 
 fn is_procedure(kind: Kind) -> bool
-    ensures { (text : List ℕ) (p : Place) → result ≡ is_key Procedure (terminal_of kind text p) }
+    ensures { (text : List ℕ) (p : Position) → result ≡ is_key Procedure (terminal_of kind text p) }
 {
     matches!(kind, Kind::Reserved(Keyword::Procedure))
 }
 
-/// The fault of the token behind which so many are left, the end of the text counted; at the end that of the replacement comes first.
+/// The fault of the token after which `left` tokens are left, the end of the text counted; at the end that of the replacement comes first.
 fn refusal(tokens: &[Token<'_>], left: usize, stop: Option<(Number, u32)>) -> Fault
     requires { left ≤ length tokens.now }
     ensures { result ≡ refusal_at (lexemes tokens.now) left stop }

@@ -4,23 +4,23 @@ ghost use Rattle.std.specs.Prelude.{◌≡◌, ◌∷◌, ◌++◌, [], ℕ, Boo
 ghost use Rattle.plm_syntax.specs.Terminal.{NameT};
 ghost use Rattle.plm_syntax.specs.Tree.{ElementsT, AtT, no_variables, no_members, no_elements, no_names, no_dimension, no_at, no_initial, VariableOf, Attributes};
 ghost use Rattle.plm_syntax.specs.View.{name_of, variable_of, declared_of};
-ghost use Rattle.plm_syntax.specs.Symbol.{Want, Do, VariableR, VariablesR, DeclaredR, DimensionR, MembersR, CountR, AttributesR, ElementsR, NamesR, HeaderR, ElementG, MoreElementsG, VariableG, MoreVariablesG, BasedG, DimensionG, TypeG, MemberOfG, MoreMembersG, CountG, MemberTypeG, MemberNameG, MoreMemberNamesG, ParameterG, MoreParametersG, AttributesG, AtG, InitialG};
-ghost use Rattle.plm_syntax.specs.Machine.{add_element, add_variable, add_member, declared_tail};
-ghost use Rattle.plm_syntax.specs.Parsed.{Leads, Reads, Within};
-ghost use Rattle.plm_syntax.specs.Parts.{IsScalar, read_element, read_elements, read_variable, read_variables, read_dimension, read_type, read_member, read_members, read_names, read_parameters, read_count, read_attributes, read_at, read_initial, member_names_read, nothing_read, attributes_read};
+ghost use Rattle.plm_syntax.specs.Inner.Symbol.{Want, Do, VariableR, VariablesR, DeclaredR, DimensionR, MembersR, CountR, AttributesR, ElementsR, NamesR, HeaderR, ElementG, MoreElementsG, VariableG, MoreVariablesG, BasedG, DimensionG, TypeG, MemberOfG, MoreMembersG, CountG, MemberTypeG, MemberNameG, MoreMemberNamesG, ParameterG, MoreParametersG, AttributesG, AtG, InitialG};
+ghost use Rattle.plm_syntax.specs.Inner.Machine.{add_element, add_variable, add_member, declared_tail};
+ghost use Rattle.plm_syntax.specs.Inner.Parsed.{Leads, Reads, Within};
+ghost use Rattle.plm_syntax.specs.Inner.Parts.{IsScalar, read_element, read_elements, read_variable, read_variables, read_dimension, read_type, read_member, read_members, read_names, read_parameters, read_count, read_attributes, read_at, read_initial, member_names_read, nothing_read, attributes_read};
 
 use crate::cursor::Cursor;
 use crate::expression::{form_at, location, values};
 use crate::failure::Failure;
 use crate::parts::pushed;
 use crate::tree::{
-    At, Attributes, Declared, Dimension, Element, Initial, Member, MemberNames, Name, Number,
+    At, Attributes, Declared, Dimension, Element, Initial, Member, MemberNames, Name, Numeral,
     Scalar, Variable, VariableType,
 };
 use plm_token::{Keyword, Mark};
 use std::alloc::Global;
 
-/// The elements of a declaration, and the semicolon behind them.
+/// The elements of a declaration, and the semicolon after them.
 pub(crate) fn elements<'t, 'a>(
     alloc: Global,
     room: u8,
@@ -61,7 +61,7 @@ fn element<'t, 'a>(
     behind_names(alloc, room, Declared::One(variable), behind)
 }
 
-/// Variables parted by commas, and the parenthesis behind them.
+/// Variables parted by commas, and the parenthesis after them.
 fn variables<'t, 'a>(
     alloc: Global,
     cursor: Cursor<'t, 'a>,
@@ -107,7 +107,7 @@ fn based<'t, 'a>(
     ))
 }
 
-/// An element behind its names.
+/// An element after its names.
 fn behind_names<'t, 'a>(
     alloc: Global,
     room: u8,
@@ -143,10 +143,10 @@ fn dimension<'t, 'a>(cursor: Cursor<'t, 'a>) -> Result<(Dimension, Cursor<'t, 'a
         return behind.close(Dimension::Implicit, Mark::RightParenthesis);
     }
     let (number, behind) = inner.expect_number()?;
-    behind.close(Dimension::Number(number), Mark::RightParenthesis)
+    behind.close(Dimension::Numeral(number), Mark::RightParenthesis)
 }
 
-/// A scalar type where one comes next, and what is left behind it.
+/// A scalar type where one comes next, and what is left after it.
 pub(crate) fn scalar_at<'t, 'a>(cursor: Cursor<'t, 'a>) -> Option<(Scalar, Cursor<'t, 'a>)>
     ensures { IsScalar cursor.entry result }
 {
@@ -180,7 +180,7 @@ fn variable_type<'t, 'a>(
     Ok((VariableType::Structure(list), rest))
 }
 
-/// Members parted by commas, and the parenthesis behind them.
+/// Members parted by commas, and the parenthesis after them.
 fn members<'t, 'a>(
     alloc: Global,
     cursor: Cursor<'t, 'a>,
@@ -234,7 +234,7 @@ fn behind_member_names<'t, 'a>(
     }
 }
 
-/// Names parted by commas, and the parenthesis behind them: of a structure's members, or of a procedure's parameters.
+/// Names parted by commas, and the parenthesis after them: of a structure's members, or of a procedure's parameters.
 pub(crate) fn names<'t, 'a>(
     alloc: Global,
     cursor: Cursor<'t, 'a>,
@@ -255,7 +255,7 @@ pub(crate) fn names<'t, 'a>(
 }
 
 /// How many elements a member has, where a parenthesis comes next.
-fn count<'t, 'a>(cursor: Cursor<'t, 'a>) -> Result<(Option<Number>, Cursor<'t, 'a>), Failure>
+fn count<'t, 'a>(cursor: Cursor<'t, 'a>) -> Result<(Option<Numeral>, Cursor<'t, 'a>), Failure>
     ensures leads { Reads read_count (λ s. Want CountG ∷ s) (λ v. CountR None ∷ v) result cursor.entry }
     ensures within { Within result cursor.entry }
 {
@@ -320,7 +320,7 @@ fn at<'t, 'a>(
     };
     let inner = after.expect_mark(Mark::LeftParenthesis)?;
     if let Some((number, behind)) = inner.numeral() {
-        return behind.close(At::Number(number), Mark::RightParenthesis);
+        return behind.close(At::Numeral(number), Mark::RightParenthesis);
     }
     let Some((place, form, start)) = form_at(inner) else {
         return Err(inner.refuse());

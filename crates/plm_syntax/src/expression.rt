@@ -1,25 +1,25 @@
 //! Expressions, references, locations and values.
 //!
 //! `room` is how many more levels may be opened. Each function's contract leads a run, from a stack that awaits what the function
-//! reads to the stack behind it, over the tokens that it took (see `Leads`).
+//! reads to the stack after it, over the tokens that it took (see `Leads`).
 
 ghost use Rattle.std.specs.Prelude.{◌≡◌, ◌∷◌, ◌++◌, [], ℕ, List};
 ghost use Rattle.plm_syntax.specs.Terminal.{NameT};
 ghost use Rattle.plm_syntax.specs.Tree.{ExpressionT, ReferenceE, ReferenceOf, ExpressionsT, no_member};
 ghost use Rattle.plm_syntax.specs.View.{name_of, expression_of, reference_of};
 ghost use Rattle.plm_token.specs.declared.token.Mark.TheVariants.{RightParenthesis};
-ghost use Rattle.plm_syntax.specs.Symbol.{ExpressionR, need, Want, PrimaryG, SignedG, NegationG, MoreG, InsideG, AfterReferenceG, SubscriptsG, SelectorG, LocatedG, ValueG};
-ghost use Rattle.plm_syntax.specs.Machine.{operand, an_expression, a_value_list};
-ghost use Rattle.plm_syntax.specs.Parsed.{Leads, Within};
-ghost use Rattle.plm_syntax.specs.Parts.{level_view, read_expression, read_boxed, read_operations, read_reference, read_subscripts, read_selector, read_location, read_value, read_values, reference_read, nothing_read, joined, all_levels, IsForm, IsUnary};
+ghost use Rattle.plm_syntax.specs.Inner.Symbol.{ExpressionR, need, Want, PrimaryG, SignedG, NegationG, MoreG, InsideG, AfterReferenceG, SubscriptsG, SelectorG, LocatedG, ValueG};
+ghost use Rattle.plm_syntax.specs.Inner.Machine.{operand, an_expression, a_value_list};
+ghost use Rattle.plm_syntax.specs.Inner.Parsed.{Leads, Within};
+ghost use Rattle.plm_syntax.specs.Inner.Parts.{precedence_view, read_expression, read_boxed, read_operations, read_reference, read_subscripts, read_selector, read_location, read_value, read_values, reference_read, nothing_read, joined, all_precedences, IsForm, IsUnary};
 
 use crate::cursor::Cursor;
 use crate::failure::Failure;
-use crate::operator::{Level, operator_at};
+use crate::operator::{Precedence, operator_at};
 use crate::parts::{beside, boxed, closing, pushed};
 use crate::tree::{
-    Expression, Location, LocationForm, Name, Operation, Place, Reference, Selector, UnaryOperator,
-    Value,
+    Expression, Location, LocationForm, Name, Operation, Position, Reference, Selector,
+    UnaryOperator, Value,
 };
 use plm_token::{Keyword, Mark};
 use std::alloc::Global;
@@ -33,37 +33,37 @@ pub(crate) fn expression<'t, 'a>(
     ensures leads { Leads read_expression an_expression nothing_read result cursor.entry room }
     ensures within { Within result cursor.entry }
 {
-    binary(alloc, room, Level::Disjunctions, cursor)
+    binary(alloc, room, Precedence::Disjunctions, cursor)
 }
 
-/// Operands of a level, joined by its operators from left to right.
+/// Operands of a precedence, joined by its operators from left to right.
 #[cycle(expression)]
 fn binary<'t, 'a>(
     alloc: Global,
     room: u8,
-    level: Level,
+    precedence: Precedence,
     cursor: Cursor<'t, 'a>,
 ) -> Result<(Expression<'a>, Cursor<'t, 'a>), Failure>
-    ensures leads { Leads read_expression (joined (level_view level)) nothing_read result cursor.entry room }
+    ensures leads { Leads read_expression (joined (precedence_view precedence)) nothing_read result cursor.entry room }
     ensures within { Within result cursor.entry }
 {
-    let (left, rest) = operand(alloc, room, level, cursor)?;
-    more(alloc, room, level, left, rest)
+    let (left, rest) = operand(alloc, room, precedence, cursor)?;
+    more(alloc, room, precedence, left, rest)
 }
 
-/// The operators of a level behind their first operand, and their right operands; there is one relation at most.
+/// The operators of a precedence after their first operand, and their right operands; there is one relation at most.
 #[cycle(expression)]
 fn more<'t, 'a>(
     alloc: Global,
     room: u8,
-    level: Level,
+    precedence: Precedence,
     first: Expression<'a>,
     cursor: Cursor<'t, 'a>,
 ) -> Result<(Expression<'a>, Cursor<'t, 'a>), Failure>
-    ensures leads { Leads read_expression (λ s. Want (MoreG (level_view level)) ∷ s) (read_expression first.entry) result cursor.entry room }
+    ensures leads { Leads read_expression (λ s. Want (MoreG (precedence_view precedence)) ∷ s) (read_expression first.entry) result cursor.entry room }
     ensures within { Within result cursor.entry }
 {
-    let ((left, others), rest) = beside(first, operations(alloc, room, level, cursor))?;
+    let ((left, others), rest) = beside(first, operations(alloc, room, precedence, cursor))?;
     if others.is_empty() {
         return Ok((left, rest));
     }
@@ -71,51 +71,51 @@ fn more<'t, 'a>(
     Ok((Expression::Chain { first, others }, rest))
 }
 
-/// The operators of a level with their right operands; there is one relation at most.
+/// The operators of a precedence with their right operands; there is one relation at most.
 #[cycle(expression)]
 fn operations<'t, 'a>(
     alloc: Global,
     room: u8,
-    level: Level,
+    precedence: Precedence,
     cursor: Cursor<'t, 'a>,
 ) -> Result<(Vec<Operation<'a>>, Cursor<'t, 'a>), Failure>
-    ensures leads { (left : ExpressionT) → Leads (λ os. read_operations left os.items) (λ s. Want (MoreG (level_view level)) ∷ s) (λ v. ExpressionR left ∷ v) result cursor.entry room }
+    ensures leads { (left : ExpressionT) → Leads (λ os. read_operations left os.items) (λ s. Want (MoreG (precedence_view precedence)) ∷ s) (λ v. ExpressionR left ∷ v) result cursor.entry room }
     ensures within { Within result cursor.entry }
 {
     let mut list = Vec::new(alloc);
     let mut rest = cursor;
-    while let Some((place, operator, after)) = operator_at(level, rest) {
-        let (operand, behind) = operand(alloc, room, level, after)?;
+    while let Some((place, operator, after)) = operator_at(precedence, rest) {
+        let (operand, behind) = operand(alloc, room, precedence, after)?;
         list.push(Operation {
             place,
             operator,
             operand,
         })?;
         rest = behind;
-        if level.is_relations() {
+        if precedence.is_relations() {
             return Ok((list, rest));
         }
     }
     Ok((list, rest))
 }
 
-/// An operand of a level's operators.
+/// An operand of a precedence's operators.
 #[cycle(expression)]
 fn operand<'t, 'a>(
     alloc: Global,
     room: u8,
-    level: Level,
+    precedence: Precedence,
     cursor: Cursor<'t, 'a>,
 ) -> Result<(Expression<'a>, Cursor<'t, 'a>), Failure>
-    ensures leads { Leads read_expression (λ s. operand (level_view level) ++ s) nothing_read result cursor.entry room }
+    ensures leads { Leads read_expression (λ s. operand (precedence_view precedence) ++ s) nothing_read result cursor.entry room }
     ensures within { Within result cursor.entry }
 {
-    match level {
-        Level::Products => signed(alloc, room, cursor),
-        Level::Sums => binary(alloc, room, Level::Products, cursor),
-        Level::Relations => binary(alloc, room, Level::Sums, cursor),
-        Level::Conjunctions => negation(alloc, room, cursor),
-        Level::Disjunctions => binary(alloc, room, Level::Conjunctions, cursor),
+    match precedence {
+        Precedence::Products => signed(alloc, room, cursor),
+        Precedence::Sums => binary(alloc, room, Precedence::Products, cursor),
+        Precedence::Relations => binary(alloc, room, Precedence::Sums, cursor),
+        Precedence::Conjunctions => negation(alloc, room, cursor),
+        Precedence::Disjunctions => binary(alloc, room, Precedence::Conjunctions, cursor),
     }
 }
 
@@ -134,14 +134,14 @@ fn negation<'t, 'a>(
             let operand = negation(alloc, inner.level_down(room)?, inner);
             unary(alloc, place, UnaryOperator::Not, operand)
         }
-        None => binary(alloc, room, Level::Relations, cursor),
+        None => binary(alloc, room, Precedence::Relations, cursor),
     }
 }
 
-/// A sign or NOT, and the operand that was read behind it.
+/// A sign or NOT, and the operand that was read after it.
 fn unary<'t, 'a>(
     alloc: Global,
-    place: Place,
+    place: Position,
     operator: UnaryOperator,
     operand: Result<(Expression<'a>, Cursor<'t, 'a>), Failure>,
 ) -> Result<(Expression<'a>, Cursor<'t, 'a>), Failure>
@@ -187,7 +187,7 @@ fn primary<'t, 'a>(
         return Ok((Expression::Reference(reference), behind));
     }
     if let Some((number, rest)) = cursor.numeral() {
-        return Ok((Expression::Number(number), rest));
+        return Ok((Expression::Numeral(number), rest));
     }
     if let Some((text, rest)) = cursor.text() {
         return Ok((Expression::Text(text), rest));
@@ -202,10 +202,10 @@ fn primary<'t, 'a>(
     Err(cursor.refuse())
 }
 
-/// The mark of a location where it comes next, and what is left behind it.
+/// The mark of a location where it comes next, and what is left after it.
 pub(crate) fn form_at<'t, 'a>(
     cursor: Cursor<'t, 'a>,
-) -> Option<(Place, LocationForm, Cursor<'t, 'a>)>
+) -> Option<(Position, LocationForm, Cursor<'t, 'a>)>
     ensures { IsForm cursor.entry result }
 {
     if let Some((place, rest)) = cursor.mark(Mark::AtSign) {
@@ -215,12 +215,12 @@ pub(crate) fn form_at<'t, 'a>(
     Some((place, LocationForm::Offset, rest))
 }
 
-/// What stands behind a parenthesis: an expression, or a reference, `:=` and an expression.
+/// What stands after a parenthesis: an expression, or a reference, `:=` and an expression.
 #[cycle(expression)]
 fn parenthesised<'t, 'a>(
     alloc: Global,
     room: u8,
-    place: Place,
+    place: Position,
     cursor: Cursor<'t, 'a>,
 ) -> Result<(Expression<'a>, Cursor<'t, 'a>), Failure>
     ensures leads { Leads read_expression (λ s. Want (InsideG place) ∷ s) nothing_read result cursor.entry room }
@@ -234,7 +234,7 @@ fn parenthesised<'t, 'a>(
     Ok((Expression::Parenthesised(place, inside), rest))
 }
 
-/// An expression, and the parenthesis behind it.
+/// An expression, and the parenthesis after it.
 #[cycle(expression)]
 fn closed<'t, 'a>(
     alloc: Global,
@@ -244,16 +244,16 @@ fn closed<'t, 'a>(
     ensures leads { Leads read_boxed (λ s. an_expression (need RightParenthesis ∷ s)) nothing_read result cursor.entry room }
     ensures within { Within result cursor.entry }
 {
-    let inside = binary(alloc, room, Level::Disjunctions, cursor);
+    let inside = binary(alloc, room, Precedence::Disjunctions, cursor);
     boxed(alloc, closing(inside, Mark::RightParenthesis))
 }
 
-/// What stands behind a parenthesis and a reference.
+/// What stands after a parenthesis and a reference.
 #[cycle(expression)]
 fn behind_reference<'t, 'a>(
     alloc: Global,
     room: u8,
-    place: Place,
+    place: Position,
     first: Reference<'a>,
     cursor: Cursor<'t, 'a>,
 ) -> Result<(Expression<'a>, Cursor<'t, 'a>), Failure>
@@ -277,29 +277,29 @@ fn climb<'t, 'a>(
     first: Expression<'a>,
     cursor: Cursor<'t, 'a>,
 ) -> Result<(Expression<'a>, Cursor<'t, 'a>), Failure>
-    ensures leads { Leads read_expression all_levels (read_expression first.entry) result cursor.entry room }
+    ensures leads { Leads read_expression all_precedences (read_expression first.entry) result cursor.entry room }
     ensures within { Within result cursor.entry }
 {
-    let (term, after_term) = more(alloc, room, Level::Products, first, cursor)?;
-    let (sum, after_sum) = more(alloc, room, Level::Sums, term, after_term)?;
-    let (relation, after_relation) = more(alloc, room, Level::Relations, sum, after_sum)?;
+    let (term, after_term) = more(alloc, room, Precedence::Products, first, cursor)?;
+    let (sum, after_sum) = more(alloc, room, Precedence::Sums, term, after_term)?;
+    let (relation, after_relation) = more(alloc, room, Precedence::Relations, sum, after_sum)?;
     let (conjunction, after_conjunction) = more(
         alloc,
         room,
-        Level::Conjunctions,
+        Precedence::Conjunctions,
         relation,
         after_relation,
     )?;
     more(
         alloc,
         room,
-        Level::Disjunctions,
+        Precedence::Disjunctions,
         conjunction,
         after_conjunction,
     )
 }
 
-/// A reference behind its name.
+/// A reference after its name.
 #[cycle(expression)]
 pub(crate) fn reference<'t, 'a>(
     alloc: Global,
@@ -337,9 +337,15 @@ fn subscripts<'t, 'a>(
         return Ok((list, cursor));
     };
     let inside = inner.level_down(room)?;
-    let mut rest = pushed(&mut list, binary(alloc, inside, Level::Disjunctions, inner))?;
+    let mut rest = pushed(
+        &mut list,
+        binary(alloc, inside, Precedence::Disjunctions, inner),
+    )?;
     while let Some((_, after)) = rest.mark(Mark::Comma) {
-        rest = pushed(&mut list, binary(alloc, inside, Level::Disjunctions, after))?;
+        rest = pushed(
+            &mut list,
+            binary(alloc, inside, Precedence::Disjunctions, after),
+        )?;
     }
     rest.close(list, Mark::RightParenthesis)
 }
@@ -365,12 +371,12 @@ fn selector<'t, 'a>(
     Ok((Selector::Element(name, subscript), rest))
 }
 
-/// A location behind its `@` or `.`.
+/// A location after its `@` or `.`.
 #[cycle(expression)]
 pub(crate) fn location<'t, 'a>(
     alloc: Global,
     room: u8,
-    place: Place,
+    place: Position,
     form: LocationForm,
     cursor: Cursor<'t, 'a>,
 ) -> Result<(Location<'a>, Cursor<'t, 'a>), Failure>
@@ -386,7 +392,7 @@ pub(crate) fn location<'t, 'a>(
     Ok((Location::Reference(place, form, reference), rest))
 }
 
-/// Values parted by commas, and the parenthesis behind them.
+/// Values parted by commas, and the parenthesis after them.
 #[cycle(expression)]
 pub(crate) fn values<'t, 'a>(
     alloc: Global,
@@ -415,7 +421,7 @@ fn value<'t, 'a>(
     ensures within { Within result cursor.entry }
 {
     if let Some((number, rest)) = cursor.numeral() {
-        return Ok((Value::Number(number), rest));
+        return Ok((Value::Numeral(number), rest));
     }
     if let Some((text, rest)) = cursor.text() {
         return Ok((Value::Text(text), rest));

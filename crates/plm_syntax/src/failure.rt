@@ -9,7 +9,7 @@ use std::alloc::{AllocError, AllocFailed};
 #[derive(Clone, Copy)]
 pub(crate) enum Failure {
     Memory,
-    /// How many tokens are left behind the first with which no module begins, the end of the text counted.
+    /// How many tokens are left after the first with which no module begins; the end of the text counts as one.
     Refused(usize),
     /// The same of the token that opens the first level too deep.
     Deep(usize),

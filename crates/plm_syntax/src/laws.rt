@@ -1,6 +1,6 @@
 //! Laws of the definitions.
 
-ghost use Rattle.plm_syntax.specs.Runs.{RefusesFirst, StopsDeep, TakesModules};
+ghost use Rattle.plm_syntax.specs.Inner.Runs.{RefusesFirst, StopsDeep, TakesModules};
 ghost use Rattle.plm_syntax.specs.Sentence.{SpellOnce};
 
 /// No two well-formed modules are spelled by one list of tokens.

@@ -24,7 +24,7 @@ pub use laws::spell_once;
 pub use literals::{Expansion, expand};
 pub use tree::{
     At, Attributes, Basic, BinaryOperator, Block, Declared, Dimension, Element, Expression,
-    Initial, Item, Linkage, Location, LocationForm, Member, MemberNames, Module, Name, Number,
-    Operation, Place, Procedure, Reference, Scalar, Selector, Statement, Text, UnaryOperator,
+    Initial, Item, Linkage, Location, LocationForm, Member, MemberNames, Module, Name, Numeral,
+    Operation, Position, Procedure, Reference, Scalar, Selector, Statement, Text, UnaryOperator,
     Value, Variable, VariableType,
 };

@@ -1,13 +1,15 @@
 //! Names that LITERALLY declares are replaced by their texts' tokens.
 
-ghost use Rattle.std.specs.Prelude.{◌≡◌, ◌<◌, length, map, fold, OnOk, IfOk, IfErr, option_map};
+ghost use Rattle.std.specs.Prelude.{◌≡◌, ◌<◌, true, Some, length, map, fold, OnOk, IfOk, IfErr, option_map};
+ghost use Rattle.std.specs.List.{slice_get, slice_range};
 ghost use Rattle.word86.specs.declared.fault.Fault.TheVariants.{Memory};
-ghost use Rattle.plm_token.specs.Scanning.{lexeme, lexemes};
-ghost use Rattle.plm_syntax.specs.Expand.{ends, declares, is_keyword, is_string, over_limit, ends_block, declared_name, between, put, symbol_out, text_out, nothing_out, expanded};
-ghost use Rattle.plm_syntax.specs.Quiet.{symbol, text_at};
-ghost use Rattle.plm_syntax.specs.ExpandView.{out_of, text_view, text_for, with_text, source_view, put_with_text, out_with_text, expansion_view, expansion_of};
+ghost use Rattle.plm_token.specs.Scanner.{lexeme, lexemes};
+ghost use Rattle.plm_syntax.specs.Literals.{LiteralText, ends, declares, is_keyword, is_string, over_limit, ends_block, declared_name, between, put, symbol_out, text_out, nothing_out, expanded};
+ghost use Rattle.plm_syntax.specs.Inner.OpenBlocks.{symbol, text_at, is_quiet, is_quiet_text};
+ghost use Rattle.plm_syntax.specs.Inner.Literals.{out_of, text_view, text_for, with_text, source_view, put_with_text, out_with_text};
+ghost use Rattle.plm_syntax.specs.Literals.{expansion_view, expansion_of};
 
-use crate::open_blocks::{Literal, OpenBlocks, is_identifier};
+use crate::open_blocks::{OpenBlocks, QuietRun, is_identifier};
 use plm_token::{Keyword, Kind, Token, scan_literal};
 use std::alloc::Global;
 use word86::{Fault, Number};
@@ -64,7 +66,7 @@ fn over_limit(count: usize, line: u32) -> Option<(Number, u32)>
 }
 
 impl<'t, 'a> Expander<'t, 'a> {
-    /// Whether a semicolon ends a block here: behind END, or END and a name.
+    /// Whether a semicolon ends a block here: after END, or END and a name.
     fn ends_block(&self) -> bool
         ensures { result ≡ ends_block (option_map lexeme self.now.last) (option_map lexeme self.now.before) }
     {
@@ -77,7 +79,7 @@ impl<'t, 'a> Expander<'t, 'a> {
         }
     }
 
-    /// The name that a string declares here: behind an identifier and LITERALLY.
+    /// The name that a string declares here: after an identifier and LITERALLY.
     fn declared_name(&self, kind: Kind) -> Option<&'a [u8]>
         ensures { option_map (λ n. n.now) result ≡ declared_name kind (option_map lexeme self.now.last) (option_map lexeme self.now.before) }
     {
@@ -133,33 +135,60 @@ impl<'t, 'a> Expander<'t, 'a> {
         }
     }
 
-    /// Puts a literal's text out. One that is known to put nothing out is passed over, and one that is seen to is remembered.
+    /// Puts a literal's text out, its tokens with the line of the name that it replaces. Tokens that are known to put nothing out are passed
+    /// over, and those that are seen to are remembered.
     #[cycle(replace)]
     fn put_literal(&mut self, index: usize, line: u32, levels: u8) -> Result<(), Fault>
         requires { index < length self.old.blocks.literals.items }
         ensures ok { OnOk result (out_of self.new ≡ text_out levels line (text_at (out_of self.old).blocks.literals index) (out_of self.old)) }
         ensures err { IfErr result (λ f. f ≡ Memory) }
     {
-        if self.blocks.is_seen(index, levels) {
-            return Ok(());
-        }
-        let count = self.tokens.len();
-        let literal = self.blocks.literals[index];
-        self.put_text(literal.text, line, levels)?;
-        if self.stop.is_none() && self.tokens.len() == count {
-            self.blocks.remember(index, levels)?;
+        let text = self.blocks.literals[index].text;
+        let mut at = 0;
+        let mut from = 0;
+        while at < text.len() {
+            if let Some(to) = self.blocks.quiet_until(index, at, levels) {
+                at = to;
+                from = to;
+            } else {
+                let token = text[at];
+                let quiet = self.put_one(token, line, levels)?;
+                at += 1;
+                if quiet {
+                    self.remember(index, levels, from, at)?;
+                } else {
+                    from = at;
+                }
+            }
         }
         Ok(())
     }
 
-    /// Puts a literal's text out, its tokens with the line of the name that it replaces.
+    /// Puts a token of a literal's text out, and says whether nothing came of it.
     #[cycle(replace)]
-    fn put_text(&mut self, text: &'t [Token<'a>], line: u32, levels: u8) -> Result<(), Fault>
-        ensures ok { OnOk result (out_of self.new ≡ text_out levels line (map symbol text.now) (out_of self.old)) }
+    fn put_one(&mut self, token: Token<'a>, line: u32, levels: u8) -> Result<bool, Fault>
+        ensures ok { IfOk result (λ _. out_of self.new ≡ symbol_out levels line (symbol token.entry) (out_of self.old)) }
+        ensures quiet { IfOk result (λ q. q ≡ true → is_quiet levels (out_of self.old).blocks.literals (symbol token.entry) ≡ true) }
         ensures err { IfErr result (λ f. f ≡ Memory) }
     {
-        for token in text {
-            self.put_symbol(*token, line, levels)?;
+        let count = self.tokens.len();
+        self.put_symbol(token, line, levels)?;
+        Ok(self.stop.is_none() && self.tokens.len() == count)
+    }
+
+    /// Remembers that tokens of a literal put nothing out, where the literal is still there.
+    fn remember(&mut self, literal: usize, levels: u8, from: usize, to: usize) -> Result<(), Fault>
+        requires { (l : LiteralText) → slice_get (out_of self.old).blocks.literals literal ≡ Some l → is_quiet_text levels (out_of self.old).blocks.literals (slice_range l.text from to) ≡ true }
+        ensures same { out_of self.new ≡ out_of self.old }
+        ensures err { IfErr result (λ f. f ≡ Memory) }
+    {
+        if literal < self.blocks.literals.len() {
+            self.blocks.remember(QuietRun {
+                literal,
+                levels,
+                from,
+                to,
+            })?;
         }
         Ok(())
     }
@@ -175,10 +204,7 @@ impl<'t, 'a> Expander<'t, 'a> {
             None => Ok(()),
             Some(name) => match text {
                 Text::Absent => Ok(()),
-                Text::Tokens(tokens) => self.blocks.declare(Literal {
-                    name,
-                    text: tokens.as_slice(),
-                }),
+                Text::Tokens(tokens) => self.blocks.declare(name, tokens.as_slice()),
                 Text::Faulty(number) => {
                     self.stop = Some((*number, token.line));
                     Ok(())

@@ -1,19 +1,19 @@
 //! Binary operators and their levels.
 
 ghost use Rattle.std.specs.Prelude.{◌≡◌, ℕ, List, nat_eq};
-ghost use Rattle.plm_syntax.specs.declared.tree.Place.{Place as SomePlace};
-ghost use Rattle.plm_syntax.specs.WellFormed.{level_of};
-ghost use Rattle.plm_syntax.specs.Machine.{number_of, operator_of};
-ghost use Rattle.plm_syntax.specs.Answers.{terminal_of};
-ghost use Rattle.plm_syntax.specs.Parts.{level_view, is_relations, IsOperator};
+ghost use Rattle.plm_syntax.specs.declared.tree.Position.{Position as SomePlace};
+ghost use Rattle.plm_syntax.specs.WellFormed.{precedence_of};
+ghost use Rattle.plm_syntax.specs.Inner.Machine.{number_of, operator_of};
+ghost use Rattle.plm_syntax.specs.Answer.{terminal_of};
+ghost use Rattle.plm_syntax.specs.Inner.Parts.{precedence_view, is_relations, IsOperator};
 
 use crate::cursor::Cursor;
-use crate::tree::{BinaryOperator, Place};
+use crate::tree::{BinaryOperator, Position};
 use plm_token::{Keyword, Kind, Mark};
 
 /// The levels of binary operators, the tightest first.
 #[derive(Clone, Copy)]
-pub(crate) enum Level {
+pub(crate) enum Precedence {
     Products,
     Sums,
     Relations,
@@ -21,12 +21,12 @@ pub(crate) enum Level {
     Disjunctions,
 }
 
-impl Level {
-    /// Whether there is one operator of this level at most.
+impl Precedence {
+    /// Whether there is one operator of this precedence at most.
     pub fn is_relations(self) -> bool
-        ensures { result ≡ is_relations (level_view self) }
+        ensures { result ≡ is_relations (precedence_view self) }
     {
-        matches!(self, Level::Relations)
+        matches!(self, Precedence::Relations)
     }
 }
 
@@ -59,37 +59,40 @@ fn operator(kind: Kind) -> Option<BinaryOperator>
     }
 }
 
-/// Whether an operator is of this level.
-fn is_of(operator: BinaryOperator, level: Level) -> bool
-    ensures { result ≡ nat_eq (level_of operator) (number_of (level_view level)) }
+/// Whether an operator is of this precedence.
+fn is_of(operator: BinaryOperator, precedence: Precedence) -> bool
+    ensures { result ≡ nat_eq (precedence_of operator) (number_of (precedence_view precedence)) }
 {
     match operator {
         BinaryOperator::Multiply | BinaryOperator::Divide | BinaryOperator::Modulo => matches!(
-            level,
-            Level::Products
+            precedence,
+            Precedence::Products
         ),
-        BinaryOperator::Add | BinaryOperator::Subtract => matches!(level, Level::Sums),
-        BinaryOperator::And => matches!(level, Level::Conjunctions),
-        BinaryOperator::Or | BinaryOperator::ExclusiveOr => matches!(level, Level::Disjunctions),
+        BinaryOperator::Add | BinaryOperator::Subtract => matches!(precedence, Precedence::Sums),
+        BinaryOperator::And => matches!(precedence, Precedence::Conjunctions),
+        BinaryOperator::Or | BinaryOperator::ExclusiveOr => matches!(
+            precedence,
+            Precedence::Disjunctions
+        ),
         BinaryOperator::Equal
         | BinaryOperator::NotEqual
         | BinaryOperator::Less
         | BinaryOperator::LessEqual
         | BinaryOperator::Greater
-        | BinaryOperator::GreaterEqual => matches!(level, Level::Relations),
+        | BinaryOperator::GreaterEqual => matches!(precedence, Precedence::Relations),
     }
 }
 
-/// An operator of this level where it comes next, its place, and what is left behind it.
+/// An operator of this precedence where it comes next, its place, and what is left after it.
 pub(crate) fn operator_at<'t, 'a>(
-    level: Level,
+    precedence: Precedence,
     cursor: Cursor<'t, 'a>,
-) -> Option<(Place, BinaryOperator, Cursor<'t, 'a>)>
-    ensures { IsOperator (level_view level) cursor.entry result }
+) -> Option<(Position, BinaryOperator, Cursor<'t, 'a>)>
+    ensures { IsOperator (precedence_view precedence) cursor.entry result }
 {
     let (token, place, rest) = cursor.next()?;
     let operator = operator(token.kind)?;
-    if is_of(operator, level) {
+    if is_of(operator, precedence) {
         Some((place, operator, rest))
     } else {
         None

@@ -2,14 +2,14 @@
 //!
 //! These hold a value over a step that may fail, for values of any type: so what then becomes of the value is proved here alone.
 
-ghost use Rattle.plm_syntax.specs.Parsed.{Closes, IsBoxed, IsBeside, IsPushed};
+ghost use Rattle.plm_syntax.specs.Inner.Parsed.{Closes, IsBoxed, IsBeside, IsPushed};
 
 use crate::cursor::Cursor;
 use crate::failure::Failure;
 use plm_token::Mark;
 use std::alloc::Global;
 
-/// What was read, and what is left behind the special token that has to come next.
+/// What was read, and what is left after the special token that has to come next.
 pub(crate) fn closing<'t, 'a, T: Drop>(
     read: Result<(T, Cursor<'t, 'a>), Failure>,
     mark: Mark,
@@ -31,7 +31,7 @@ pub(crate) fn boxed<'t, 'a, T: Drop>(
     Ok((Box::new(alloc, value)?, rest))
 }
 
-/// What was read before, beside what was read behind it.
+/// What was read before, beside what was read after it.
 pub(crate) fn beside<'t, 'a, T: Drop, U>(
     first: T,
     read: Result<(U, Cursor<'t, 'a>), Failure>,
@@ -42,7 +42,7 @@ pub(crate) fn beside<'t, 'a, T: Drop, U>(
     Ok(((first, second), rest))
 }
 
-/// What is left behind what was read, which goes to the end of a list.
+/// What is left after what was read, which goes to the end of a list.
 pub(crate) fn pushed<'t, 'a, T: Drop>(
     list: &mut Vec<T>,
     read: Result<(T, Cursor<'t, 'a>), Failure>,

@@ -3,11 +3,11 @@
 ghost use Rattle.std.specs.Prelude.{◌≡◌, length, Ok};
 ghost use Rattle.plm_syntax.specs.declared.failure.Failure.TheVariants.{Refused};
 ghost use Rattle.plm_syntax.specs.Terminal.{key_number};
-ghost use Rattle.plm_syntax.specs.Parsed.{has_mark, has_keyword, IsNext, IsMark, IsKeyword, IsName, IsNumber, IsText, PassesMark, PassesKeyword, PassesName, PassesNumber, Closes, ClosesWord, Finishes, IsDown};
+ghost use Rattle.plm_syntax.specs.Inner.Parsed.{has_mark, has_keyword, IsNext, IsMark, IsKeyword, IsName, IsNumber, IsText, PassesMark, PassesKeyword, PassesName, PassesNumber, Closes, ClosesWord, Finishes, IsDown};
 
 use crate::cursor::Cursor;
 use crate::failure::Failure;
-use crate::tree::{Name, Number, Place, Text};
+use crate::tree::{Name, Numeral, Position, Text};
 use plm_token::{Keyword, Kind, Mark, Token};
 
 fn has_mark(kind: Kind, mark: Mark) -> bool
@@ -33,13 +33,13 @@ fn has_keyword(kind: Kind, keyword: Keyword) -> bool
 }
 
 impl<'t, 'a> Cursor<'t, 'a> {
-    /// The next token, its place, and what is left behind it.
-    pub fn next(self) -> Option<(Token<'a>, Place, Cursor<'t, 'a>)>
+    /// The next token, its place, and what is left after it.
+    pub fn next(self) -> Option<(Token<'a>, Position, Cursor<'t, 'a>)>
         ensures { IsNext self.entry result }
     {
         match self.tokens {
             [first, rest @ ..] => {
-                let place = Place {
+                let place = Position {
                     token: self.number,
                     line: first.line,
                 };
@@ -56,8 +56,8 @@ impl<'t, 'a> Cursor<'t, 'a> {
         }
     }
 
-    /// A special token where it comes next, and what is left behind it.
-    pub fn mark(self, mark: Mark) -> Option<(Place, Cursor<'t, 'a>)>
+    /// A special token where it comes next, and what is left after it.
+    pub fn mark(self, mark: Mark) -> Option<(Position, Cursor<'t, 'a>)>
         ensures { IsMark mark self.entry result }
     {
         let (token, place, rest) = self.next()?;
@@ -69,7 +69,7 @@ impl<'t, 'a> Cursor<'t, 'a> {
     }
 
     /// The same of a reserved word.
-    pub fn keyword(self, keyword: Keyword) -> Option<(Place, Cursor<'t, 'a>)>
+    pub fn keyword(self, keyword: Keyword) -> Option<(Position, Cursor<'t, 'a>)>
         ensures { IsKeyword keyword self.entry result }
     {
         let (token, place, rest) = self.next()?;
@@ -98,12 +98,12 @@ impl<'t, 'a> Cursor<'t, 'a> {
     }
 
     /// The same of a number.
-    pub fn numeral(self) -> Option<(Number, Cursor<'t, 'a>)>
+    pub fn numeral(self) -> Option<(Numeral, Cursor<'t, 'a>)>
         ensures { IsNumber self.entry result }
     {
         let (token, place, rest) = self.next()?;
         match token.kind {
-            Kind::Numeral(value) => Some((Number { value, place }, rest)),
+            Kind::Numeral(value) => Some((Numeral { value, place }, rest)),
             Kind::Reserved(_) | Kind::Identifier | Kind::String | Kind::Special(_) => None,
         }
     }
@@ -132,7 +132,7 @@ impl<'t, 'a> Cursor<'t, 'a> {
         Failure::Refused(self.tokens.len())
     }
 
-    /// What is left behind a special token that has to come next.
+    /// What is left after a special token that has to come next.
     pub fn expect_mark(self, mark: Mark) -> Result<Cursor<'t, 'a>, Failure>
         ensures { PassesMark mark self.entry result }
     {
@@ -152,7 +152,7 @@ impl<'t, 'a> Cursor<'t, 'a> {
         }
     }
 
-    /// A value, and what is left behind the special token that has to come next.
+    /// A value, and what is left after the special token that has to come next.
     pub fn close<T: Drop>(self, value: T, mark: Mark) -> Result<(T, Cursor<'t, 'a>), Failure>
         ensures { Closes mark (Ok (value, self.entry)) result }
     {
@@ -160,7 +160,7 @@ impl<'t, 'a> Cursor<'t, 'a> {
         Ok((value, rest))
     }
 
-    /// A value, and what is left behind the reserved word that has to come next.
+    /// A value, and what is left after the reserved word that has to come next.
     pub fn close_word<T: Drop>(
         self,
         value: T,
@@ -172,7 +172,7 @@ impl<'t, 'a> Cursor<'t, 'a> {
         Ok((value, rest))
     }
 
-    /// A name that has to come next, and what is left behind it.
+    /// A name that has to come next, and what is left after it.
     pub fn expect_name(self) -> Result<(Name<'a>, Cursor<'t, 'a>), Failure>
         ensures { PassesName self.entry result }
     {
@@ -182,8 +182,8 @@ impl<'t, 'a> Cursor<'t, 'a> {
         }
     }
 
-    /// A number that has to come next, and what is left behind it.
-    pub fn expect_number(self) -> Result<(Number, Cursor<'t, 'a>), Failure>
+    /// A number that has to come next, and what is left after it.
+    pub fn expect_number(self) -> Result<(Numeral, Cursor<'t, 'a>), Failure>
         ensures { PassesNumber self.entry result }
     {
         match self.numeral() {

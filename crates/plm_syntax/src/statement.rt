@@ -2,19 +2,19 @@
 
 ghost use Rattle.std.specs.Prelude.{◌≡◌, ◌∷◌, ◌++◌, [], ℕ, List, false, None, Option};
 ghost use Rattle.plm_token.specs.declared.token.Keyword.TheVariants.{If as TheIf, Do as TheDo};
-ghost use Rattle.plm_syntax.specs.declared.tree.Place.{Place as SomePlace};
+ghost use Rattle.plm_syntax.specs.declared.tree.Position.{Position as SomePlace};
 ghost use Rattle.plm_syntax.specs.declared.tree.Scalar.{Scalar as SomeScalar};
-ghost use Rattle.plm_syntax.specs.Terminal.{NameT, NumberT, Key, is_key};
+ghost use Rattle.plm_syntax.specs.Terminal.{NameT, NumeralT, Key, is_key};
 ghost use Rattle.plm_syntax.specs.Tree.{NamesT, ItemsT, no_names, no_statements, no_items, no_references, no_linkage};
 ghost use Rattle.plm_syntax.specs.View.{name_of, base_of};
-ghost use Rattle.plm_syntax.specs.Answers.{terminal_of};
+ghost use Rattle.plm_syntax.specs.Answer.{terminal_of};
 ghost use Rattle.plm_syntax.specs.WellFormed.{is_end_name};
-ghost use Rattle.plm_syntax.specs.Symbol.{Want, Need, Do, need, NamesR, NameR, ReferencesR, StatementsR, ItemsR, HeaderR, StepR, StatementG, ArmG, DoG, StatementsG, EndG, ItemsG, StepG, SubscriptsG, SelectorG, MoreTargetsG, CalledG, ReturnedG, ParametersG, InterruptG};
-ghost use Rattle.plm_syntax.specs.Parsed.{Leads, LeadsInside, Reads, Within, is_name, next_of, ahead};
-ghost use Rattle.plm_syntax.specs.Blocks.{is_label, begins_statement, IsBeginning, IsLabel, IsHeading, LeadsItem, WithinItem, LeadsReturned, LeadsLinkage, Parses, read_statement, read_arm, read_basic, read_block, read_body, read_end, read_governed, read_step, read_procedure, read_header, read_range, read_interrupt, Shrinks, condition_goals, governed_goals, iteration_goals, range_goals, procedure_goals, header_goals, no_parameters_read};
+ghost use Rattle.plm_syntax.specs.Inner.Symbol.{Want, Need, Do, need, NamesR, NameR, ReferencesR, StatementsR, ItemsR, HeaderR, StepR, StatementG, ArmG, DoG, StatementsG, EndG, ItemsG, StepG, SubscriptsG, SelectorG, MoreTargetsG, CalledG, ReturnedG, ParametersG, InterruptG};
+ghost use Rattle.plm_syntax.specs.Inner.Parsed.{Leads, LeadsInside, Reads, Within, is_name, next_of, ahead};
+ghost use Rattle.plm_syntax.specs.Inner.Blocks.{is_label, begins_statement, IsBeginning, IsLabel, IsHeading, LeadsItem, WithinItem, LeadsReturned, LeadsLinkage, Parses, read_statement, read_arm, read_basic, read_block, read_body, read_end, read_governed, read_step, read_procedure, read_header, read_range, read_interrupt, Shrinks, condition_goals, governed_goals, iteration_goals, range_goals, procedure_goals, header_goals, no_parameters_read};
 ghost use Rattle.plm_token.specs.declared.token.Mark.TheVariants.{Semicolon};
-ghost use Rattle.plm_syntax.specs.Machine.{make_call, an_expression};
-ghost use Rattle.plm_syntax.specs.Parts.{nothing_read, read_expression, reference_read, read_parameters};
+ghost use Rattle.plm_syntax.specs.Inner.Machine.{make_call, an_expression};
+ghost use Rattle.plm_syntax.specs.Inner.Parts.{nothing_read, read_expression, reference_read, read_parameters};
 
 use crate::cursor::Cursor;
 use crate::declaration::{elements, names, scalar_at};
@@ -22,7 +22,7 @@ use crate::expression::{expression, reference};
 use crate::failure::Failure;
 use crate::parts::{beside, boxed, closing, pushed};
 use crate::tree::{
-    Basic, Block, Expression, Item, Linkage, Module, Name, Number, Place, Procedure, Scalar,
+    Basic, Block, Expression, Item, Linkage, Module, Name, Numeral, Position, Procedure, Scalar,
     Statement,
 };
 use plm_token::{Keyword, Kind, Mark, Token, same_name};
@@ -43,7 +43,7 @@ pub(crate) fn module<'a>(alloc: Global, cursor: Cursor<'_, 'a>) -> Result<Module
     rest.finish(Module { name, block, end })
 }
 
-/// A block, and the name behind its END.
+/// A block, and the name after its END.
 #[cycle(statement)]
 fn block<'t, 'a>(
     alloc: Global,
@@ -86,7 +86,7 @@ fn item<'t, 'a>(
     Ok(Some((Item::Procedure(procedure), rest)))
 }
 
-/// A procedure's name where it comes next with a colon and the word PROCEDURE, and what is left behind these.
+/// A procedure's name where it comes next with a colon and the word PROCEDURE, and what is left after these.
 fn heading_at<'t, 'a>(cursor: Cursor<'t, 'a>) -> Option<(Name<'a>, Cursor<'t, 'a>)>
     ensures { IsHeading cursor.entry result }
 {
@@ -99,7 +99,7 @@ fn heading_at<'t, 'a>(cursor: Cursor<'t, 'a>) -> Option<(Name<'a>, Cursor<'t, 'a
     Some((name, rest))
 }
 
-/// A procedure behind the word PROCEDURE.
+/// A procedure after the word PROCEDURE.
 #[cycle(statement)]
 fn procedure<'t, 'a>(
     alloc: Global,
@@ -131,11 +131,11 @@ fn procedure<'t, 'a>(
 struct Signature<'a> {
     parameters: Vec<Name<'a>>,
     returned: Option<Scalar>,
-    interrupt: Option<Number>,
+    interrupt: Option<Numeral>,
     linkage: Linkage,
 }
 
-/// A procedure's signature behind the word PROCEDURE, and the semicolon behind it.
+/// A procedure's signature after the word PROCEDURE, and the semicolon after it.
 fn header<'t, 'a>(
     alloc: Global,
     cursor: Cursor<'t, 'a>,
@@ -184,7 +184,7 @@ fn returned<'t, 'a>(cursor: Cursor<'t, 'a>) -> (Option<Scalar>, Cursor<'t, 'a>)
 }
 
 /// The number of an interrupt procedure, where the word comes next.
-fn interrupt<'t, 'a>(cursor: Cursor<'t, 'a>) -> Result<(Option<Number>, Cursor<'t, 'a>), Failure>
+fn interrupt<'t, 'a>(cursor: Cursor<'t, 'a>) -> Result<(Option<Numeral>, Cursor<'t, 'a>), Failure>
     ensures leads { (n : NameT) (ps : NamesT) (t : Option SomeScalar) → Reads (read_interrupt n ps t) (λ s. Want InterruptG ∷ s) (λ v. HeaderR n ps t None no_linkage ∷ v) result cursor.entry }
     ensures within { Within result cursor.entry }
 {
@@ -208,7 +208,7 @@ fn linkage<'t, 'a>(cursor: Cursor<'t, 'a>) -> (Linkage, Cursor<'t, 'a>)
     (Linkage::None, cursor)
 }
 
-/// Statements up to their END, and the name behind it.
+/// Statements up to their END, and the name after it.
 #[cycle(statement)]
 fn statements<'t, 'a>(
     alloc: Global,
@@ -230,7 +230,7 @@ fn statements<'t, 'a>(
     }
 }
 
-/// The name behind END, if it is there, and the semicolon.
+/// The name after END, if it is there, and the semicolon.
 fn end<'t, 'a>(
     label: Option<Name<'a>>,
     cursor: Cursor<'t, 'a>,
@@ -249,7 +249,7 @@ fn end<'t, 'a>(
     Err(cursor.refuse())
 }
 
-/// Whether a name may stand behind the END of the block with this label.
+/// Whether a name may stand after the END of the block with this label.
 fn names_block(label: Option<Name<'_>>, name: Name<'_>) -> bool
     ensures { result ≡ is_end_name (base_of label.entry) (name_of name.entry) }
 {
@@ -281,7 +281,7 @@ fn statement<'t, 'a>(
     Ok((Statement { labels, basic }, behind))
 }
 
-/// A label and its colon where they come next, and what is left behind them.
+/// A label and its colon where they come next, and what is left after them.
 fn label_at<'t, 'a>(cursor: Cursor<'t, 'a>) -> Option<(Name<'a>, Cursor<'t, 'a>)>
     ensures { IsLabel cursor.entry result }
 {
@@ -294,7 +294,7 @@ fn label_at<'t, 'a>(cursor: Cursor<'t, 'a>) -> Option<(Name<'a>, Cursor<'t, 'a>)
     Some((name, rest))
 }
 
-/// A statement behind its labels, the last of which this is.
+/// A statement after its labels, the last of which this is.
 #[cycle(statement)]
 fn basic<'t, 'a>(
     alloc: Global,
@@ -319,7 +319,7 @@ fn basic<'t, 'a>(
     plain(alloc, room, cursor)
 }
 
-/// An assignment behind the name of its first target.
+/// An assignment after the name of its first target.
 fn assignment<'t, 'a>(
     alloc: Global,
     room: u8,
@@ -378,11 +378,11 @@ fn plain<'t, 'a>(
     Err(cursor.refuse())
 }
 
-/// A CALL behind its first word.
+/// A CALL after its first word.
 fn call<'t, 'a>(
     alloc: Global,
     room: u8,
-    place: Place,
+    place: Position,
     cursor: Cursor<'t, 'a>,
 ) -> Result<(Basic<'a>, Cursor<'t, 'a>), Failure>
     ensures leads { (ls : NamesT) → Leads (read_basic ls) (λ s. Want CalledG ∷ need Semicolon ∷ Do (make_call place) ∷ s) (λ v. NamesR ls ∷ v) result cursor.entry room }
@@ -393,11 +393,11 @@ fn call<'t, 'a>(
     Ok((Basic::Call(place, called), rest))
 }
 
-/// A RETURN behind its first word.
+/// A RETURN after its first word.
 fn return_from<'t, 'a>(
     alloc: Global,
     room: u8,
-    place: Place,
+    place: Position,
     cursor: Cursor<'t, 'a>,
 ) -> Result<(Basic<'a>, Cursor<'t, 'a>), Failure>
     ensures leads { (ls : NamesT) → Leads (read_basic ls) (λ s. Want (ReturnedG place) ∷ s) (λ v. NamesR ls ∷ v) result cursor.entry room }
@@ -410,7 +410,7 @@ fn return_from<'t, 'a>(
     Ok((Basic::ReturnValue(place, value), rest))
 }
 
-/// An expression, and the semicolon behind it.
+/// An expression, and the semicolon after it.
 fn closing_expression<'t, 'a>(
     alloc: Global,
     room: u8,
@@ -422,7 +422,7 @@ fn closing_expression<'t, 'a>(
     closing(expression(alloc, room, cursor), Mark::Semicolon)
 }
 
-/// An expression, and the reserved word behind it.
+/// An expression, and the reserved word after it.
 fn expression_before<'t, 'a>(
     alloc: Global,
     room: u8,
@@ -436,12 +436,12 @@ fn expression_before<'t, 'a>(
     behind.close_word(value, word)
 }
 
-/// An IF behind its first word.
+/// An IF after its first word.
 #[cycle(statement)]
 fn condition<'t, 'a>(
     alloc: Global,
     room: u8,
-    place: Place,
+    place: Position,
     cursor: Cursor<'t, 'a>,
 ) -> Result<(Basic<'a>, Cursor<'t, 'a>), Failure>
     ensures leads { (ls : NamesT) → Leads (read_basic ls) (condition_goals place) (λ v. NamesR ls ∷ v) result cursor.entry room }
@@ -473,8 +473,8 @@ fn arm<'t, 'a>(
     boxed(alloc, statement(alloc, inside, cursor))
 }
 
-/// A token that can begin a statement where one comes next, and what is left behind it.
-fn beginning<'t, 'a>(cursor: Cursor<'t, 'a>) -> Option<(Token<'a>, Place, Cursor<'t, 'a>)>
+/// A token that can begin a statement where one comes next, and what is left after it.
+fn beginning<'t, 'a>(cursor: Cursor<'t, 'a>) -> Option<(Token<'a>, Position, Cursor<'t, 'a>)>
     ensures { IsBeginning cursor.entry result }
 {
     let (token, place, rest) = cursor.next()?;
@@ -505,13 +505,13 @@ fn begins_statement(kind: Kind) -> bool
     )
 }
 
-/// A DO group behind the word DO.
+/// A DO group after the word DO.
 #[cycle(statement)]
 fn group<'t, 'a>(
     alloc: Global,
     room: u8,
     label: Option<Name<'a>>,
-    place: Place,
+    place: Position,
     cursor: Cursor<'t, 'a>,
 ) -> Result<(Basic<'a>, Cursor<'t, 'a>), Failure>
     ensures leads { (ls : NamesT) → Leads (read_basic ls) (λ s. Want (DoG place (base_of label.entry)) ∷ s) (λ v. NamesR ls ∷ v) result cursor.entry room }
@@ -535,7 +535,7 @@ fn group<'t, 'a>(
     Err(cursor.refuse())
 }
 
-/// The expression of a DO WHILE or DO CASE, its statements, and the name behind their END.
+/// The expression of a DO WHILE or DO CASE, its statements, and the name after their END.
 #[cycle(statement)]
 fn governed<'t, 'a>(
     alloc: Global,
@@ -556,13 +556,13 @@ fn governed<'t, 'a>(
     beside(value, statements(alloc, room, label, start))
 }
 
-/// `DO i = a TO b [BY s]` behind its index.
+/// `DO i = a TO b [BY s]` after its index.
 #[cycle(statement)]
 fn iteration<'t, 'a>(
     alloc: Global,
     room: u8,
     label: Option<Name<'a>>,
-    place: Place,
+    place: Position,
     index: Name<'a>,
     cursor: Cursor<'t, 'a>,
 ) -> Result<(Basic<'a>, Cursor<'t, 'a>), Failure>
@@ -593,7 +593,7 @@ struct Bounds<'a> {
     step: Option<Expression<'a>>,
 }
 
-/// `= a TO b [BY s]` and the semicolon behind it.
+/// `= a TO b [BY s]` and the semicolon after it.
 fn range<'t, 'a>(
     alloc: Global,
     room: u8,
@@ -609,7 +609,7 @@ fn range<'t, 'a>(
     Ok((Bounds { first, last, step }, rest))
 }
 
-/// The step of an iteration, where the word BY comes next, and the semicolon behind it.
+/// The step of an iteration, where the word BY comes next, and the semicolon after it.
 fn step<'t, 'a>(
     alloc: Global,
     room: u8,

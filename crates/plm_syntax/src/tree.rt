@@ -2,7 +2,7 @@
 
 /// Where a token stands: its number among the module's tokens once literals are replaced, from 0, and its line, from 1.
 #[derive(Debug, Clone, Copy, PartialEq, Eq)]
-pub struct Place {
+pub struct Position {
     pub token: u32,
     pub line: u32,
 }
@@ -55,37 +55,37 @@ pub enum LocationForm {
 #[derive(Debug, Clone, Copy)]
 pub struct Name<'a> {
     pub text: &'a [u8],
-    pub place: Place,
+    pub place: Position,
 }
 
 /// A number, 0 to 0FFFFFH, where it stands.
 #[derive(Debug, Clone, Copy)]
-pub struct Number {
+pub struct Numeral {
     pub value: u32,
-    pub place: Place,
+    pub place: Position,
 }
 
 /// A string where it stands, with its apostrophes; a doubled one is still two bytes.
 #[derive(Debug, Clone, Copy)]
 pub struct Text<'a> {
     pub text: &'a [u8],
-    pub place: Place,
+    pub place: Position,
 }
 
-/// An expression: operators stand at their level, those of one level in a chain, parentheses are nodes.
+/// An expression: operators stand by precedence, those of one precedence in a chain, parentheses are nodes.
 #[derive(Drop)]
 #[cycle(expression)]
 pub enum Expression<'a> {
-    Number(Number),
+    Numeral(Numeral),
     Text(Text<'a>),
     Reference(Reference<'a>),
     Location(Location<'a>),
     /// `( e )`, with the place of the parenthesis.
-    Parenthesised(Place, Box<Expression<'a>>),
+    Parenthesised(Position, Box<Expression<'a>>),
     /// `( x := e )`, with the place of the parenthesis.
-    Embedded(Place, Reference<'a>, Box<Expression<'a>>),
-    Unary(Place, UnaryOperator, Box<Expression<'a>>),
-    /// `a + b - c`: operators of one level from left to right, one at least. They lean left, as `(a + b) - c` does.
+    Embedded(Position, Reference<'a>, Box<Expression<'a>>),
+    Unary(Position, UnaryOperator, Box<Expression<'a>>),
+    /// `a + b - c`: operators of one precedence from left to right, one at least. They lean left, as `(a + b) - c` does.
     Chain {
         first: Box<Expression<'a>>,
         others: Vec<Operation<'a>>,
@@ -96,7 +96,7 @@ pub enum Expression<'a> {
 #[derive(Drop)]
 #[cycle(expression)]
 pub struct Operation<'a> {
-    pub place: Place,
+    pub place: Position,
     pub operator: BinaryOperator,
     pub operand: Expression<'a>,
 }
@@ -110,7 +110,7 @@ pub struct Reference<'a> {
     pub selector: Selector<'a>,
 }
 
-/// What stands behind a reference's period.
+/// What stands after a reference's period.
 #[derive(Drop)]
 #[cycle(expression)]
 pub enum Selector<'a> {
@@ -123,16 +123,16 @@ pub enum Selector<'a> {
 #[derive(Drop)]
 #[cycle(expression)]
 pub enum Location<'a> {
-    Reference(Place, LocationForm, Reference<'a>),
-    Constants(Place, LocationForm, Vec<Value<'a>>),
+    Reference(Position, LocationForm, Reference<'a>),
+    Constants(Position, LocationForm, Vec<Value<'a>>),
 }
 
 /// A value of INITIAL, DATA or a list of constants.
 #[derive(Drop)]
 #[cycle(expression)]
 pub enum Value<'a> {
-    Number(Number),
-    Negative(Number),
+    Numeral(Numeral),
+    Negative(Numeral),
     Text(Text<'a>),
     Location(Location<'a>),
 }
@@ -155,7 +155,7 @@ pub enum Declared<'a> {
 #[derive(Debug, Clone, Copy)]
 pub enum Dimension {
     None,
-    Number(Number),
+    Numeral(Numeral),
     /// `(*)`: as many as there are values.
     Implicit,
 }
@@ -171,7 +171,7 @@ pub enum MemberNames<'a> {
 #[derive(Drop)]
 pub struct Member<'a> {
     pub names: MemberNames<'a>,
-    pub count: Option<Number>,
+    pub count: Option<Numeral>,
     pub scalar: Scalar,
 }
 
@@ -186,7 +186,7 @@ pub enum VariableType<'a> {
 #[derive(Drop)]
 pub enum At<'a> {
     None,
-    Number(Number),
+    Numeral(Numeral),
     Location(Location<'a>),
 }
 
@@ -229,7 +229,7 @@ pub enum Linkage {
     External,
 }
 
-/// A statement behind its labels.
+/// A statement after its labels.
 #[derive(Drop)]
 #[cycle(statement)]
 pub struct Statement<'a> {
@@ -241,22 +241,22 @@ pub struct Statement<'a> {
 #[derive(Drop)]
 #[cycle(statement)]
 pub enum Basic<'a> {
-    Empty(Place),
+    Empty(Position),
     Assign(Vec<Reference<'a>>, Expression<'a>),
-    Call(Place, Reference<'a>),
-    Return(Place),
-    ReturnValue(Place, Expression<'a>),
-    Enable(Place),
-    Disable(Place),
-    Halt(Place),
-    If(Place, Expression<'a>, Box<Statement<'a>>),
-    IfElse(Place, Expression<'a>, Box<Statement<'a>>, Box<Statement<'a>>),
-    Do(Place, Block<'a>, Option<Name<'a>>),
-    While(Place, Expression<'a>, Vec<Statement<'a>>, Option<Name<'a>>),
-    Case(Place, Expression<'a>, Vec<Statement<'a>>, Option<Name<'a>>),
+    Call(Position, Reference<'a>),
+    Return(Position),
+    ReturnValue(Position, Expression<'a>),
+    Enable(Position),
+    Disable(Position),
+    Halt(Position),
+    If(Position, Expression<'a>, Box<Statement<'a>>),
+    IfElse(Position, Expression<'a>, Box<Statement<'a>>, Box<Statement<'a>>),
+    Do(Position, Block<'a>, Option<Name<'a>>),
+    While(Position, Expression<'a>, Vec<Statement<'a>>, Option<Name<'a>>),
+    Case(Position, Expression<'a>, Vec<Statement<'a>>, Option<Name<'a>>),
     /// `DO i = a TO b [BY s]`.
     Iterate(
-        Place,
+        Position,
         Name<'a>,
         Expression<'a>,
         Expression<'a>,
@@ -278,7 +278,7 @@ pub struct Block<'a> {
 #[derive(Drop)]
 #[cycle(statement)]
 pub enum Item<'a> {
-    Declare(Place, Vec<Element<'a>>),
+    Declare(Position, Vec<Element<'a>>),
     Procedure(Procedure<'a>),
 }
 
@@ -289,7 +289,7 @@ pub struct Procedure<'a> {
     pub name: Name<'a>,
     pub parameters: Vec<Name<'a>>,
     pub returned: Option<Scalar>,
-    pub interrupt: Option<Number>,
+    pub interrupt: Option<Numeral>,
     pub linkage: Linkage,
     pub block: Block<'a>,
     pub end: Option<Name<'a>>,

@@ -1,7 +1,7 @@
 -- Where a comment ends.
 use Rattle.std.proofs.Common.{◌≡◌, ℕ, zero, suc, ◌+◌, ◌<◌, ◌≤◌, List, [], ◌∷◌, ◌++◌, length, take, Bool, true, false, cond, ◌&&◌, nat_eq, Option, Some, None, refl, arith, codes}
 use Rattle.plm_token.specs.Forms.{ends_comment, is_empty}
-use Rattle.plm_token.specs.Front.{comment_length, further}
+use Rattle.plm_token.specs.Inner.Front.{comment_length, further}
 
 further_some : (o : Option ℕ) (n : ℕ) → further 1 o ≡ Some n → (m : ℕ) × (o ≡ Some m) × (n ≡ suc m)
 further_some None n h = absurd (cc h)

@@ -21,7 +21,7 @@ more : (b : ℕ) (bs : List ℕ) (n : ℕ) → parts bs ≡ take n bs ∷ parts_
 more b bs n behind true = rw (one-add n, behind) refl
 more b bs n behind false = refl
 
--- the first run, and what stands behind the character that ends it
+-- the first run, and what stands after the character that ends it
 first_part : (line : List ℕ) → parts line ≡ take (prefix_len is_name_character line) line ∷ parts_behind (drop (prefix_len is_name_character line) line)
 first_part [] = refl
 first_part (b ∷ bs) = more b bs (prefix_len is_name_character bs) (first_part bs) (is_name_character b)

@@ -4,7 +4,7 @@ pub mod Classes
 pub mod Runs
 pub mod Comments
 pub mod Quotes
-pub mod Normal
+pub mod NormalForm
 pub mod Spelled
 pub mod Fronts
 pub mod Includes

@@ -2,7 +2,7 @@
 use Rattle.std.proofs.Common.{◌≡◌, ℕ, zero, suc, ◌+◌, ◌<◌, ◌≤◌, List, [], ◌∷◌, ◌++◌, length, take, Bool, true, false, cond, not, ◌&&◌, refl, arith, codes}
 use Rattle.plm_token.specs.Characters.{is_apostrophe, is_printable}
 use Rattle.plm_token.specs.Strings.{ends_string}
-use Rattle.plm_token.specs.Front.{string_length, string_closed}
+use Rattle.plm_token.specs.Inner.Front.{string_length, string_closed}
 
 one-add : (n : ℕ) → 1 + n ≡ suc n
 one-add n = omega arith

@@ -1,20 +1,20 @@
 -- One piece after the other.
 use Rattle.std.proofs.Common.{◌≡◌, ◌∙◌, ℕ, zero, suc, ◌+◌, ◌-◌, ◌<◌, ◌≤◌, List, [], ◌∷◌, ◌++◌, Bool, true, false, cond, take, drop, length, fold, count_by, refl, ap, sym, arith, ◌≢◌}
 use Rattle.std.proofs.lemmas.List.Sums.{fold_push, sum_by-cons}
-use Rattle.plm_token.specs.declared.piece.Place.{Place}
-use Rattle.plm_token.specs.declared.piece.Place.TheVariants.{FirstColumn, Within, Literal}
+use Rattle.plm_token.specs.declared.piece.ScanState.{ScanState}
+use Rattle.plm_token.specs.declared.piece.ScanState.TheVariants.{FirstColumn, Within, Literal}
 use Rattle.plm_token.specs.declared.piece.Front.{Front}
 use Rattle.plm_token.specs.Characters.{is_line_feed}
 use Rattle.plm_token.specs.Forms.{is_literal}
 use Rattle.plm_token.proofs.CharacterTests.{not_eq}
-use Rattle.plm_token.specs.Pieces.{pieces, pieces_behind, place_behind, line_behind, front_of}
+use Rattle.plm_token.specs.Pieces.{pieces, pieces_behind, state_after, line_behind, front_of}
 
-pub skipped : (k : ℕ) (place : Place) (line : ℕ) (bs : List ℕ) → k ≤ length bs
-    → pieces_behind k place line bs ≡ pieces (fold place_behind place (take k bs)) (fold line_behind line (take k bs)) (drop k bs)
+pub skipped : (k : ℕ) (state : ScanState) (line : ℕ) (bs : List ℕ) → k ≤ length bs
+    → pieces_behind k state line bs ≡ pieces (fold state_after state (take k bs)) (fold line_behind line (take k bs)) (drop k bs)
 unfolding pieces_behind
-skipped zero place line bs inside = refl
-skipped (suc k) place line [] inside = absurd (omega arith)
-skipped (suc k) place line (b ∷ bs) inside = skipped k (place_behind place b) (line_behind line b) bs (omega arith)
+skipped zero state line bs inside = refl
+skipped (suc k) state line [] inside = absurd (omega arith)
+skipped (suc k) state line (b ∷ bs) inside = skipped k (state_after state b) (line_behind line b) bs (omega arith)
 
 feeds : (b : ℕ) (bs : List ℕ) → count_by is_line_feed (b ∷ bs) ≡ cond (is_line_feed b) 1 0 + count_by is_line_feed bs
 feeds b bs = sum_by-cons (λ c. cond (is_line_feed c) 1 0) b bs
@@ -27,26 +27,26 @@ pub line_behind-all : (line : ℕ) (bs : List ℕ) → fold line_behind line bs 
 line_behind-all line [] = omega arith
 line_behind-all line (b ∷ bs) = line_behind-all (line_behind line b) bs ∙ on_feed line (count_by is_line_feed bs) (is_line_feed b) ∙ ap (λ (n : ℕ). line + n) (sym (feeds b bs))
 
-first_piece : (place : Place) (line b : ℕ) (bs : List ℕ) (front : Front) (k : ℕ) → front ≡ front_of place (b ∷ bs) → front.length ≡ suc k → k ≤ length bs
-    → pieces place line (b ∷ bs) ≡ record { piece = front.piece; text = take (suc k) (b ∷ bs); line = line }
-    ∷ pieces (fold place_behind place (take (suc k) (b ∷ bs))) (line + count_by is_line_feed (take (suc k) (b ∷ bs))) (drop (suc k) (b ∷ bs))
+first_piece : (state : ScanState) (line b : ℕ) (bs : List ℕ) (front : Front) (k : ℕ) → front ≡ front_of state (b ∷ bs) → front.length ≡ suc k → k ≤ length bs
+    → pieces state line (b ∷ bs) ≡ record { piece = front.piece; text = take (suc k) (b ∷ bs); line = line }
+    ∷ pieces (fold state_after state (take (suc k) (b ∷ bs))) (line + count_by is_line_feed (take (suc k) (b ∷ bs))) (drop (suc k) (b ∷ bs))
 unfolding pieces_behind
-first_piece place line b bs front k e n inside =
+first_piece state line b bs front k e n inside =
     let less : suc k - 1 ≡ k = omega arith in
-    rw (← e, n, less, skipped k (place_behind place b) (line_behind line b) bs inside, ← line_behind-all line (take (suc k) (b ∷ bs))) refl
+    rw (← e, n, less, skipped k (state_after state b) (line_behind line b) bs inside, ← line_behind-all line (take (suc k) (b ∷ bs))) refl
 
--- the first piece of a text, and those behind it
-pub next_piece : (place : Place) (line : ℕ) (text front_text behind : List ℕ) (front : Front) → front ≡ front_of place text → 0 < front.length → front.length ≤ length text
+-- the first piece of a text, and those after it
+pub next_piece : (state : ScanState) (line : ℕ) (text front_text behind : List ℕ) (front : Front) → front ≡ front_of state text → 0 < front.length → front.length ≤ length text
     → front_text ≡ take front.length text → behind ≡ drop front.length text
-    → pieces place line text ≡ record { piece = front.piece; text = front_text; line = line } ∷ pieces (fold place_behind place front_text) (line + count_by is_line_feed front_text) behind
-next_piece place line [] front_text behind front e some inside f b = absurd (omega arith)
-next_piece place line (c ∷ cs) front_text behind front e some inside f b =
+    → pieces state line text ≡ record { piece = front.piece; text = front_text; line = line } ∷ pieces (fold state_after state front_text) (line + count_by is_line_feed front_text) behind
+next_piece state line [] front_text behind front e some inside f b = absurd (omega arith)
+next_piece state line (c ∷ cs) front_text behind front e some inside f b =
     let k : ℕ = front.length - 1 in
     let n : front.length ≡ suc k = omega arith in
-    let one = first_piece place line c cs front k e n (omega arith) in
+    let one = first_piece state line c cs front k e n (omega arith) in
     rw (f, b, n) one
 
-place_by : (place : Place) (b : ℕ) → place_behind place b ≡ cond (is_literal place) Literal (cond (is_line_feed b) FirstColumn Within)
+place_by : (state : ScanState) (b : ℕ) → state_after state b ≡ cond (is_literal state) Literal (cond (is_line_feed b) FirstColumn Within)
 place_by FirstColumn b = refl
 place_by Within b = refl
 place_by Literal b = refl
@@ -56,25 +56,25 @@ stays_by b true q = refl
 stays_by b false true = refl
 stays_by b false false = refl
 
-stays_literal : (place : Place) (bs : List ℕ) → is_literal (fold place_behind place bs) ≡ is_literal place
-stays_literal place [] = refl
-stays_literal place (b ∷ bs) = stays_literal (place_behind place b) bs ∙ ap is_literal (place_by place b) ∙ stays_by b (is_literal place) (is_line_feed b)
+stays_literal : (state : ScanState) (bs : List ℕ) → is_literal (fold state_after state bs) ≡ is_literal state
+stays_literal state [] = refl
+stays_literal state (b ∷ bs) = stays_literal (state_after state b) bs ∙ ap is_literal (place_by state b) ∙ stays_by b (is_literal state) (is_line_feed b)
 
--- the place behind characters is told by the last of them
-pub place_behind-all : (place : Place) (bs : List ℕ) (b : ℕ) → fold place_behind place (bs ++ b ∷ []) ≡ cond (is_literal place) Literal (cond (is_line_feed b) FirstColumn Within)
-place_behind-all place bs b = fold_push place_behind place bs b ∙ place_by (fold place_behind place bs) b ∙ ap (λ (p : Bool). cond p Literal (cond (is_line_feed b) FirstColumn Within)) (stays_literal place bs)
+-- the state after characters is told by the last of them
+pub state_after-all : (state : ScanState) (bs : List ℕ) (b : ℕ) → fold state_after state (bs ++ b ∷ []) ≡ cond (is_literal state) Literal (cond (is_line_feed b) FirstColumn Within)
+state_after-all state bs b = fold_push state_after state bs b ∙ place_by (fold state_after state bs) b ∙ ap (λ (p : Bool). cond p Literal (cond (is_line_feed b) FirstColumn Within)) (stays_literal state bs)
 
-literal_behind-all : (bs : List ℕ) → fold place_behind Literal bs ≡ Literal
+literal_behind-all : (bs : List ℕ) → fold state_after Literal bs ≡ Literal
 literal_behind-all [] = refl
 literal_behind-all (b ∷ bs) = literal_behind-all bs
 
-pub literal_stays : (place : Place) (text : List ℕ) → is_literal place ≡ true → place ≡ fold place_behind place text
+pub literal_stays : (state : ScanState) (text : List ℕ) → is_literal state ≡ true → state ≡ fold state_after state text
 literal_stays FirstColumn text e = absurd (cc e)
 literal_stays Within text e = absurd (cc e)
 literal_stays Literal text e = sym (literal_behind-all text)
 
-pub line_start : (place : Place) (text front : List ℕ) (b : ℕ) → is_literal place ≡ false → text ≡ front ++ b ∷ [] → b ≡ 10 → FirstColumn ≡ fold place_behind place text
-line_start place text front b p e h = rw (e, place_behind-all place front b, p, h) refl
+pub line_start : (state : ScanState) (text front : List ℕ) (b : ℕ) → is_literal state ≡ false → text ≡ front ++ b ∷ [] → b ≡ 10 → FirstColumn ≡ fold state_after state text
+line_start state text front b p e h = rw (e, state_after-all state front b, p, h) refl
 
-pub line_inside : (place : Place) (text front : List ℕ) (b : ℕ) → is_literal place ≡ false → text ≡ front ++ b ∷ [] → b ≢ 10 → Within ≡ fold place_behind place text
-line_inside place text front b p e h = rw (e, place_behind-all place front b, p, not_eq b 10 h) refl
+pub line_inside : (state : ScanState) (text front : List ℕ) (b : ℕ) → is_literal state ≡ false → text ≡ front ++ b ∷ [] → b ≢ 10 → Within ≡ fold state_after state text
+line_inside state text front b p e h = rw (e, state_after-all state front b, p, not_eq b 10 h) refl

@@ -3,7 +3,7 @@ use Rattle.std.proofs.Common.{◌≡◌, ◌∙◌, ℕ, List, [], ◌∷◌, �
 use Rattle.std.specs.Option.{option_eq}
 use Rattle.std.proofs.lemmas.Bool.Decides.{nat_tests}
 use Rattle.plm_token.specs.Names.{normal}
-use Rattle.plm_token.proofs.Normal.{normal-nil}
+use Rattle.plm_token.proofs.NormalForm.{normal-nil}
 
 unequal : (a b : ℕ) → not (eqb a b) ≡ true → (eqb a b ≡ false) × (eqb b a ≡ false)
 unequal a b h = let one : eqb a b ≡ false = grind (arith, nat_tests) in (one, grind (arith, nat_tests))

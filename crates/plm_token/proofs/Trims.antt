@@ -3,7 +3,7 @@ use Rattle.std.proofs.Common.{◌≡◌, ℕ, ◌+◌, ◌-◌, List, [], ◌∷
 use Rattle.std.specs.List.{suffix_len}
 use Rattle.std.proofs.lemmas.List.{reverse-append, take-append-le, take_all, length_push}
 use Rattle.plm_token.proofs.CharacterTests.{not_eq}
-use Rattle.plm_token.specs.Scanning.{trimmed}
+use Rattle.plm_token.specs.Scanner.{trimmed}
 
 abbrev is_mark : ℕ → Bool
 is_mark b = nat_eq b 26

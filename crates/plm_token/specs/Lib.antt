@@ -4,7 +4,7 @@ pub mod Numbers
 pub mod Strings
 pub mod Forms
 pub mod Pieces
-pub mod Front
-pub mod Scanning
+pub mod Scanner
 pub mod Literals
 pub mod Laws
+pub mod Inner

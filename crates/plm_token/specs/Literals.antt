@@ -5,11 +5,11 @@ use Rattle.word86.specs.declared.fault.Fault.TheVariants.{At}
 use Rattle.word86.specs.declared.number.Number.{Number}
 use Rattle.word86.specs.declared.number.Number.TheVariants.{E101, E103, E104, E105}
 use Rattle.plm_token.specs.declared.token.Kind.{Kind}
-use Rattle.plm_token.specs.declared.piece.Place.TheVariants.{Literal}
+use Rattle.plm_token.specs.declared.piece.ScanState.TheVariants.{Literal}
 use Rattle.plm_token.specs.declared.piece.Piece.{Piece}
 use Rattle.plm_token.specs.declared.piece.Piece.TheVariants.{Skipped, Token, Fault as Faulty}
 use Rattle.plm_token.specs.Pieces.{Cut, pieces}
-use Rattle.plm_token.specs.Scanning.{Lexeme}
+use Rattle.plm_token.specs.Scanner.{Lexeme}
 
 -- a token without its line
 pub record Symbol : Type 0 where
@@ -35,7 +35,7 @@ fault_in Skipped = None
 fault_in (Token kind) = None
 fault_in (Faulty number) = Some number
 
--- the least fault of pieces: scanning goes on behind each
+-- the least fault of pieces: scanning goes on after each
 abbrev pub least_fault : List Cut → Option Number
 least_fault [] = None
 least_fault (c ∷ cs) = lesser (fault_in c.piece) (least_fault cs)

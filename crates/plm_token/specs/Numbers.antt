@@ -13,7 +13,7 @@ digit_value b = cond (is_digit b) (b - 48) (b - 55)
 abbrev pub is_digit_of : ℕ → ℕ → Bool
 is_digit_of base b = (is_digit b || within 65 70 b) && nat_lt (digit_value b) base
 
--- what digits stand for, behind others that stand for a number
+-- what digits stand for, after others that stand for a number
 abbrev pub value_from : ℕ → ℕ → List ℕ → ℕ
 value_from base before digits = fold (λ n b. n * base + digit_value b) before digits
 

@@ -1,8 +1,8 @@
--- A text's pieces, one behind the other, each the longest that stands there.
+-- A text's pieces, one after the other, each the longest that stands there.
 use Rattle.std.specs.Prelude.{ℕ, zero, suc, ◌+◌, ◌-◌, List, [], ◌∷◌, length, take, drop, Bool, true, cond, not, ◌||◌, nat_lt, bytes_eq, codes, Option, Some, None}
 use Rattle.std.specs.List.{list_any, slice_split}
-use Rattle.plm_token.specs.declared.piece.Place.{Place}
-use Rattle.plm_token.specs.declared.piece.Place.TheVariants.{FirstColumn, Within, Literal}
+use Rattle.plm_token.specs.declared.piece.ScanState.{ScanState}
+use Rattle.plm_token.specs.declared.piece.ScanState.TheVariants.{FirstColumn, Within, Literal}
 use Rattle.plm_token.specs.declared.piece.Front.{Front}
 use Rattle.plm_token.specs.declared.piece.Piece.{Piece}
 use Rattle.plm_token.specs.declared.piece.Piece.TheVariants.{Skipped, Token, Fault}
@@ -41,7 +41,7 @@ abbrev pub at_line_end : List ℕ → Bool
 at_line_end [] = true
 at_line_end (b ∷ bs) = is_line_feed b || bytes_eq (take 2 (b ∷ bs)) (codes "\r\n")
 
--- what characters of a form are, with the text behind them. A string that is not closed ends at the end of its line, or
+-- what characters of a form are, with the text after them. A string that is not closed ends at the end of its line, or
 -- at a character that no string holds
 abbrev pub piece_of : Form → List ℕ → List ℕ → Piece
 piece_of Blank text behind = Skipped
@@ -59,10 +59,10 @@ abbrev pub or_shorter : Option Form → ℕ → Option (Form × ℕ) → Option 
 or_shorter None n shorter = shorter
 or_shorter (Some form) n shorter = Some (form, n)
 
--- the longest beginning of a text, of at most so many characters, that has a form, with its length
-abbrev pub longest_within : ℕ → Place → List ℕ → Option (Form × ℕ)
-longest_within zero place text = None
-longest_within (suc n) place text = or_shorter (form_of place (take (suc n) text)) (suc n) (longest_within n place text)
+-- the longest beginning of a text, of at most n characters, that has a form, with its length
+abbrev pub longest_within : ℕ → ScanState → List ℕ → Option (Form × ℕ)
+longest_within zero state text = None
+longest_within (suc n) state text = or_shorter (form_of state (take (suc n) text)) (suc n) (longest_within n state text)
 
 -- where no beginning has a form, the first character is a fault
 abbrev pub front_from : List ℕ → Option (Form × ℕ) → Front
@@ -70,8 +70,8 @@ front_from text None = record { piece = Fault E101; length = 1 }
 front_from text (Some longest) = record { piece = piece_of longest.0 (take longest.1 text) (drop longest.1 text); length = longest.1 }
 
 -- the piece at the front of a text: the longest beginning that has a form
-unfoldable pub front_of : Place → List ℕ → Front
-front_of place text = front_from text (longest_within (length text) place text)
+unfoldable pub front_of : ScanState → List ℕ → Front
+front_of state text = front_from text (longest_within (length text) state text)
 
 -- a piece with its characters and the line on which it begins
 pub record Cut : Type 0 where
@@ -79,23 +79,23 @@ pub record Cut : Type 0 where
   pub text : List ℕ
   pub line : ℕ
 
--- the place behind a character
-abbrev pub place_behind : Place → ℕ → Place
-place_behind Literal b = Literal
-place_behind FirstColumn b = cond (is_line_feed b) FirstColumn Within
-place_behind Within b = cond (is_line_feed b) FirstColumn Within
+-- the state after a character
+abbrev pub state_after : ScanState → ℕ → ScanState
+state_after Literal b = Literal
+state_after FirstColumn b = cond (is_line_feed b) FirstColumn Within
+state_after Within b = cond (is_line_feed b) FirstColumn Within
 
--- the line behind a character: a line feed ends its line
+-- the line after a character: a line feed ends its line
 abbrev pub line_behind : ℕ → ℕ → ℕ
 line_behind line b = cond (is_line_feed b) (line + 1) line
 
--- the pieces of a text that begins at a place and a line, behind so many characters of the piece before
-unfoldable pub pieces_behind : ℕ → Place → ℕ → List ℕ → List Cut
-pieces_behind skip place line [] = []
-pieces_behind (suc skip) place line (b ∷ bs) = pieces_behind skip (place_behind place b) (line_behind line b) bs
-pieces_behind zero place line (b ∷ bs) =
-    let front = front_of place (b ∷ bs) in
-    record { piece = front.piece; text = take front.length (b ∷ bs); line = line } ∷ pieces_behind (front.length - 1) (place_behind place b) (line_behind line b) bs
+-- the pieces of a text that begins in a state and on a line, once the rest of the piece before has been skipped
+unfoldable pub pieces_behind : ℕ → ScanState → ℕ → List ℕ → List Cut
+pieces_behind skip state line [] = []
+pieces_behind (suc skip) state line (b ∷ bs) = pieces_behind skip (state_after state b) (line_behind line b) bs
+pieces_behind zero state line (b ∷ bs) =
+    let front = front_of state (b ∷ bs) in
+    record { piece = front.piece; text = take front.length (b ∷ bs); line = line } ∷ pieces_behind (front.length - 1) (state_after state b) (line_behind line b) bs
 
-abbrev pub pieces : Place → ℕ → List ℕ → List Cut
-pieces place line text = pieces_behind 0 place line text
+abbrev pub pieces : ScanState → ℕ → List ℕ → List Cut
+pieces state line text = pieces_behind 0 state line text

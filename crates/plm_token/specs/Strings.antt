@@ -1,4 +1,4 @@
--- Strings, behind their opening apostrophe.
+-- Strings, after their opening apostrophe.
 use Rattle.std.specs.Prelude.{ℕ, List, [], ◌∷◌, Bool, true, false, cond, ◌&&◌}
 use Rattle.plm_token.specs.Characters.{is_apostrophe, is_printable}
 
@@ -9,7 +9,7 @@ ends_string pending [] = pending
 ends_string true (b ∷ bs) = is_apostrophe b && ends_string false bs
 ends_string false (b ∷ bs) = cond (is_apostrophe b) (ends_string true bs) (is_printable b && ends_string false bs)
 
--- what the characters behind the opening apostrophe stand for: a doubled apostrophe is one, the closing one is none
+-- what the characters after the opening apostrophe stand for: a doubled apostrophe is one, the closing one is none
 abbrev pub characters_from : Bool → List ℕ → List ℕ
 characters_from pending [] = []
 characters_from true (b ∷ bs) = b ∷ characters_from false bs

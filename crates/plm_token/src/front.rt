@@ -5,7 +5,7 @@ ghost use Rattle.plm_token.specs.Characters.{is_dollar};
 ghost use Rattle.plm_token.specs.Names.{normal};
 ghost use Rattle.plm_token.specs.Pieces.{front_of, holds_include, name_piece, number_piece, at_line_end};
 ghost use Rattle.plm_token.specs.Numbers.{numeral_of};
-ghost use Rattle.plm_token.specs.Front.{read_front, starts_with, special_front, string_front, slash_front, fault_front, single, double};
+ghost use Rattle.plm_token.specs.Inner.Front.{read_front, starts_with, special_front, string_front, slash_front, fault_front, single, double};
 ghost use Rattle.plm_token.specs.declared.piece.Piece.TheVariants.{Skipped, Fault};
 ghost use Rattle.word86.specs.declared.number.Number.TheVariants.{E106};
 
@@ -13,7 +13,7 @@ use crate::keywords::keyword;
 use crate::lengths::{comment_length, line_length, name_length, string_length};
 use crate::letters::spells;
 use crate::numbers::numeral;
-use crate::piece::{Front, Piece, Place};
+use crate::piece::{Front, Piece, ScanState};
 use crate::token::{Kind, Mark};
 use word86::Number;
 
@@ -22,22 +22,23 @@ const NAME_LIMIT: usize = 31;
 
 /// The longest piece at the front of a text that is not empty.
 #[tactic(auto, using(crate::proofs::Fronts::read_is_front))]
-pub fn front(place: Place, text: &[u8]) -> Front
+pub fn front(state: ScanState, text: &[u8]) -> Front
     requires { 0 < length text.now }
-    ensures value { result ≡ front_of place text.now }
+    ensures value { result ≡ front_of state text.now }
     ensures inside { result.length ≤ length text.now }
     ensures some { 0 < result.length }
 {
     match text.split_first() {
-        Some((first, rest)) => read(place, *first, rest, text),
+        Some((first, rest)) => read(state, *first, rest, text),
         None => unreachable!(),
     }
 }
 
-#[tactic(auto, using(std::proofs::lemmas::Bool::Decides::nat_tests), unfolding(crate::specs::Front::read_front))]
-fn read(place: Place, first: u8, rest: &[u8], text: &[u8]) -> Front
+/// The same, by its first byte.
+#[tactic(auto, using(std::proofs::lemmas::Bool::Decides::nat_tests), unfolding(crate::specs::Inner::Front::read_front))]
+fn read(state: ScanState, first: u8, rest: &[u8], text: &[u8]) -> Front
     requires { text.now ≡ first ∷ rest.now }
-    ensures value { result ≡ read_front place first rest.now }
+    ensures value { result ≡ read_front state first rest.now }
     ensures inside { result.length ≤ length text.now }
     ensures some { 0 < result.length }
 {
@@ -61,9 +62,9 @@ fn read(place: Place, first: u8, rest: &[u8], text: &[u8]) -> Front
             }
         }
         b'/' => slash(text, rest),
-        b'\'' if place == Place::Literal => fault(Number::E204),
+        b'\'' if state == ScanState::Literal => fault(Number::E204),
         b'\'' => string(text, rest),
-        b'$' if place == Place::FirstColumn => {
+        b'$' if state == ScanState::FirstColumn => {
             let length = 1 + line_length(rest);
             Front {
                 piece: control_line(&text[..length]),
@@ -74,6 +75,7 @@ fn read(place: Place, first: u8, rest: &[u8], text: &[u8]) -> Front
     }
 }
 
+/// A byte that is a fault of its own.
 fn fault(number: Number) -> Front
     ensures { result ≡ fault_front number }
 {
@@ -83,6 +85,7 @@ fn fault(number: Number) -> Front
     }
 }
 
+/// Whether a byte stands first.
 fn starts_with(bytes: &[u8], wanted: u8) -> bool
     ensures { result ≡ starts_with wanted bytes.now }
 {
@@ -92,7 +95,8 @@ fn starts_with(bytes: &[u8], wanted: u8) -> bool
     }
 }
 
-#[tactic(auto, using(crate::proofs::Normal::normal_length))]
+/// A reserved word or an identifier; E105 where the name is too long.
+#[tactic(auto, using(crate::proofs::NormalForm::normal_length))]
 fn name_piece(name: &[u8]) -> Piece
     ensures { result ≡ name_piece (normal name.now) }
 {
@@ -105,12 +109,14 @@ fn name_piece(name: &[u8]) -> Piece
     }
 }
 
+/// The characters of a name that count.
 fn letter_count(name: &[u8]) -> usize
     ensures { result ≡ count_by (λ b. not (is_dollar b)) name.now }
 {
     name.iter().filter(|b| **b != b'$').count()
 }
 
+/// A number, or E104.
 fn number_piece(number: &[u8]) -> Piece
     ensures { result ≡ number_piece (numeral_of (normal number.now)) }
 {
@@ -120,6 +126,7 @@ fn number_piece(number: &[u8]) -> Piece
     }
 }
 
+/// A comment, a slash, or E103 where the comment is not closed.
 fn slash(text: &[u8], rest: &[u8]) -> Front
     requires { length rest.now < length text.now }
     ensures value { result ≡ slash_front text.now rest.now }
@@ -141,6 +148,7 @@ fn slash(text: &[u8], rest: &[u8]) -> Front
     }
 }
 
+/// A string; E102 where its line ends before it is closed, E101 where it holds a character that none may.
 fn string(text: &[u8], rest: &[u8]) -> Front
     requires { text.now ≡ 39 ∷ rest.now }
     ensures value { result ≡ string_front text.now rest.now }
@@ -161,12 +169,14 @@ fn string(text: &[u8], rest: &[u8]) -> Front
     }
 }
 
+/// Whether a line, or the text, ends here.
 fn at_line_end(bytes: &[u8]) -> bool
     ensures { result ≡ at_line_end bytes.now }
 {
     matches!(bytes, [] | [b'\n', ..] | [b'\r', b'\n', ..])
 }
 
+/// A control line is skipped, or E106 where it holds the word INCLUDE.
 fn control_line(line: &[u8]) -> Piece
     ensures { result ≡ cond (holds_include line.now) (Fault E106) Skipped }
 {
@@ -177,6 +187,7 @@ fn control_line(line: &[u8]) -> Piece
     }
 }
 
+/// Whether one of a line's runs of name characters is the word INCLUDE.
 fn holds_include(line: &[u8]) -> bool
     ensures { result ≡ holds_include line.now }
 {
@@ -193,6 +204,7 @@ fn holds_include(line: &[u8]) -> bool
     }
 }
 
+/// The special token at the front, the longer where there are two, or E101.
 fn special(first: u8, rest: &[u8]) -> Front
     ensures value { result ≡ special_front first rest.now }
     ensures inside { result.length ≤ 1 + length rest.now }
@@ -220,6 +232,7 @@ fn special(first: u8, rest: &[u8]) -> Front
     }
 }
 
+/// A special token of one character.
 fn single(mark: Mark) -> Front
     ensures { result ≡ single mark }
 {
@@ -229,6 +242,7 @@ fn single(mark: Mark) -> Front
     }
 }
 
+/// A special token of two characters.
 fn double(mark: Mark) -> Front
     ensures { result ≡ double mark }
 {

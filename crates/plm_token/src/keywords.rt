@@ -53,6 +53,7 @@ static KEYWORDS: [Keyword; 44] = [
     Keyword::Xor,
 ];
 
+/// A reserved word in normal form.
 fn spelling(keyword: Keyword) -> &'static [u8]
     ensures { result.now ≡ spelling keyword }
 {

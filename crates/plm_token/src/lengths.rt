@@ -3,7 +3,7 @@
 ghost use Rattle.std.specs.Prelude.{◌≡◌, ◌≤◌, IfSome, length, false, not};
 ghost use Rattle.std.specs.List.{prefix_len};
 ghost use Rattle.plm_token.specs.Characters.{is_name_character, is_line_feed};
-ghost use Rattle.plm_token.specs.Front.{comment_length, string_length, string_closed};
+ghost use Rattle.plm_token.specs.Inner.Front.{comment_length, string_length, string_closed};
 
 /// Whether a name or a number may go on with this byte.
 pub fn is_name_character(byte: u8) -> bool
@@ -38,7 +38,7 @@ pub fn line_length(bytes: &[u8]) -> usize
     bytes.len()
 }
 
-/// How many bytes a comment has behind its opening, if it is closed.
+/// How many bytes a comment has after its opening, if it is closed.
 pub fn comment_length(bytes: &[u8]) -> Option<usize>
     ensures value { result ≡ comment_length false bytes.now }
     ensures inside { IfSome result (λ n. n ≤ length bytes.now) }
@@ -53,7 +53,7 @@ pub fn comment_length(bytes: &[u8]) -> Option<usize>
     None
 }
 
-/// How many bytes a string has behind its opening apostrophe, and whether it is closed.
+/// How many bytes a string has after its opening apostrophe, and whether it is closed.
 pub fn string_length(bytes: &[u8]) -> (usize, bool)
     ensures value { result.0 ≡ string_length false bytes.now }
     ensures closed { result.1 ≡ string_closed false bytes.now }

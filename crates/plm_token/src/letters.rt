@@ -1,7 +1,9 @@
 //! Names and numbers in normal form: capitals, without dollar signs.
 
-ghost use Rattle.std.specs.Prelude.{◌≡◌, ◌++◌, ◌<◌, [], length, option_to_list, IfSome, IfNone, bytes_eq};
+ghost use Rattle.std.specs.Prelude.{◌≡◌, ◌++◌, ◌<◌, [], length, option_to_list, IfOk, IfSome, IfNone, bytes_eq};
 ghost use Rattle.plm_token.specs.Names.{capital, normal, names_equal};
+
+use std::alloc::{AllocError, Global};
 
 /// The characters of a name or a number in normal form, one after the other.
 #[derive(Drop)]
@@ -34,6 +36,7 @@ impl<'a> Letters<'a> {
     }
 }
 
+/// A letter as a capital; all else as it is.
 fn capital(letter: u8) -> u8
     ensures { result ≡ capital letter }
 {
@@ -41,6 +44,20 @@ fn capital(letter: u8) -> u8
         b'a'..=b'z' => letter - 32,
         _ => letter,
     }
+}
+
+/// A name in normal form: in capitals, without its dollar signs. Memory is its only error.
+#[tactic(auto, unfolding(crate::specs::Names::normal))]
+pub fn normal(alloc: Global, name: &[u8]) -> Result<Vec<u8>, AllocError>
+    ensures { IfOk result (λ n. n.items ≡ normal name.now) }
+{
+    let mut letters = Vec::new(alloc);
+    for letter in name {
+        if *letter != b'$' {
+            letters.push(capital(*letter))?;
+        }
+    }
+    Ok(letters)
 }
 
 /// Whether two spellings are one name: case and dollar signs do not count.

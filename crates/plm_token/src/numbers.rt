@@ -6,6 +6,7 @@ ghost use Rattle.plm_token.specs.Numbers.{is_digit_of, digit_value, digits_from,
 
 use crate::letters::Letters;
 
+/// The greatest number that a text may have.
 const GREATEST: u32 = 0xF_FFFF;
 
 /// The value of a number of any base, where it is one and is at most 0FFFFFH.
@@ -26,6 +27,7 @@ pub fn numeral(text: &[u8]) -> Option<u32>
     value(number, 10)
 }
 
+/// The value of digits of a base, where all are and it is at most the greatest.
 fn value(digits: &[u8], base: u32) -> Option<u32>
     requires some { 0 < base }
     requires small { base ≤ 16 }
@@ -42,6 +44,7 @@ fn value(digits: &[u8], base: u32) -> Option<u32>
     Some(value)
 }
 
+/// The value of a digit of a base.
 fn digit(letter: u8, base: u32) -> Option<u32>
     ensures value { result ≡ cond (is_digit_of base letter) (Some (digit_value letter)) None }
     ensures below { IfSome result (λ d. d < base) }

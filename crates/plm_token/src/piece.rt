@@ -3,25 +3,26 @@
 use crate::token::Kind;
 use word86::Number;
 
-/// Where a piece stands.
+/// What the text before tells of the piece that follows.
 #[derive(Debug, Clone, Copy, PartialEq, Eq)]
-pub enum Place {
-    /// In the first column of a line, where a dollar sign begins a control line.
+pub enum ScanState {
+    /// It stands in the first column of a line, where a dollar sign begins a control line.
     FirstColumn,
-    /// Behind another piece of its line.
+    /// It stands after another piece of its line.
     Within,
-    /// In the text of a literal, which has no control lines and no strings.
+    /// It stands in the text of a literal, which has no control lines and no strings.
     Literal,
 }
 
-impl Place {
+impl ScanState {
     ghost use Rattle.std.specs.Prelude.{◌≡◌};
     ghost use Rattle.plm_token.specs.Forms.{is_literal};
 
+    /// Whether it is that of a literal's text.
     pub fn is_literal(self) -> bool
         ensures { result ≡ is_literal self }
     {
-        matches!(self, Place::Literal)
+        matches!(self, ScanState::Literal)
     }
 }
 

@@ -1,14 +1,14 @@
 //! The scanner.
 
 ghost use Rattle.std.specs.Prelude.{◌≡◌, ◌≤◌, ◌<◌, ◌+◌, ℕ, [], ◌∷◌, length, fold, count_by, IfSome, IfNone, Some};
-ghost use Rattle.plm_token.specs.declared.piece.Place.TheVariants.{FirstColumn};
+ghost use Rattle.plm_token.specs.declared.piece.ScanState.TheVariants.{FirstColumn};
 ghost use Rattle.plm_token.specs.Characters.{is_line_feed};
-ghost use Rattle.plm_token.specs.Pieces.{pieces, place_behind};
-ghost use Rattle.plm_token.specs.Scanning.{scan_of, tokens_of, trimmed, Answers};
+ghost use Rattle.plm_token.specs.Pieces.{pieces, state_after};
+ghost use Rattle.plm_token.specs.Scanner.{scan_of, tokens_of, trimmed, Answers};
 ghost use Rattle.plm_token.specs.Literals.{literal_of, at_line, lesser, rank};
 
 use crate::front::front;
-use crate::piece::{Piece, Place};
+use crate::piece::{Piece, ScanState};
 use crate::token::Token;
 use std::alloc::Global;
 use word86::{Fault, Number};
@@ -23,40 +23,42 @@ const END_MARK: u8 = 0x1A;
 #[derive(Drop)]
 struct Pieces<'a> {
     rest: &'a [u8],
-    place: Place,
+    state: ScanState,
 }
 
 impl<'a> Pieces<'a> {
     /// The next piece and its slice, if the text is not at its end.
     fn next(&mut self) -> Option<(Piece, &'a [u8])>
-        ensures some { IfSome result (λ p. (line : ℕ) → pieces self.old.place line self.old.rest.now ≡ record { piece = p.0; text = p.1.now; line = line } ∷ pieces self.new.place (line + count_by is_line_feed p.1.now) self.new.rest.now) }
+        ensures some { IfSome result (λ p. (line : ℕ) → pieces self.old.state line self.old.rest.now ≡ record { piece = p.0; text = p.1.now; line = line } ∷ pieces self.new.state (line + count_by is_line_feed p.1.now) self.new.rest.now) }
         ensures shorter { IfSome result (λ p. (0 < length p.1.now) × (length p.1.now + length self.new.rest.now ≡ length self.old.rest.now)) }
         ensures none { IfNone result (self.old.rest.now ≡ []) }
     {
         if self.rest.is_empty() {
             return None;
         }
-        let found = front(self.place, self.rest);
-        let (text, behind) = self.rest.split_at(found.length);
-        self.place = place_behind(self.place, text);
-        self.rest = behind;
+        let found = front(self.state, self.rest);
+        let (text, rest) = self.rest.split_at(found.length);
+        self.state = state_after(self.state, text);
+        self.rest = rest;
         Some((found.piece, text))
     }
 }
 
-fn place_behind(place: Place, text: &[u8]) -> Place
-    ensures { result ≡ fold place_behind place text.now }
+/// The state after a piece of this text.
+fn state_after(state: ScanState, text: &[u8]) -> ScanState
+    ensures { result ≡ fold state_after state text.now }
 {
-    if place.is_literal() {
-        return place;
+    if state.is_literal() {
+        return state;
     }
     match text.split_last() {
-        Some((last, _)) if *last == b'\n' => Place::FirstColumn,
-        Some(_) => Place::Within,
-        None => place,
+        Some((last, _)) if *last == b'\n' => ScanState::FirstColumn,
+        Some(_) => ScanState::Within,
+        None => state,
     }
 }
 
+/// How many lines end in a text.
 fn line_feeds(text: &[u8]) -> usize
     ensures value { result ≡ count_by is_line_feed text.now }
     ensures inside { result ≤ length text.now }
@@ -71,7 +73,7 @@ fn line_feeds(text: &[u8]) -> usize
 /// not closed on its line; E103 a comment that is not closed; E104 a number that is malformed or above 0FFFFFH; E105 an
 /// identifier of more than 31 characters; E106 a control line with the word INCLUDE. The line is that on which the piece
 /// begins. Bytes 1AH that end the text do not belong to it.
-#[tactic(auto, unfolding(crate::specs::Scanning::scan_of))]
+#[tactic(auto, unfolding(crate::specs::Scanner::scan_of))]
 pub fn scan(alloc: Global, text: &[u8]) -> Result<Vec<Token<'_>>, Fault>
     ensures { Answers (scan_of text.now) result }
 {
@@ -81,6 +83,7 @@ pub fn scan(alloc: Global, text: &[u8]) -> Result<Vec<Token<'_>>, Fault>
     tokens(alloc, trimmed(text))
 }
 
+/// A text without the end marks at its end.
 fn trimmed(text: &[u8]) -> &[u8]
     ensures value { result.now ≡ trimmed text.now }
     ensures inside { length result.now ≤ length text.now }
@@ -95,6 +98,7 @@ fn trimmed(text: &[u8]) -> &[u8]
     rest
 }
 
+/// The tokens of a text without end marks, or its first fault.
 fn tokens(alloc: Global, text: &[u8]) -> Result<Vec<Token<'_>>, Fault>
     requires { length text.now ≤ SOURCE_LIMIT }
     ensures { Answers (tokens_of (pieces FirstColumn 1 text.now)) result }
@@ -102,7 +106,7 @@ fn tokens(alloc: Global, text: &[u8]) -> Result<Vec<Token<'_>>, Fault>
     let mut tokens = Vec::new(alloc);
     let mut pieces = Pieces {
         rest: text,
-        place: Place::FirstColumn,
+        state: ScanState::FirstColumn,
     };
     let mut line = 1;
     while let Some((piece, text)) = pieces.next() {
@@ -119,7 +123,7 @@ fn tokens(alloc: Global, text: &[u8]) -> Result<Vec<Token<'_>>, Fault>
 /// The tokens of a literal's text, each with the given line, or the least of its faults, at that line.
 ///
 /// The text is what stands between the apostrophes of a string. It has no control lines. Each apostrophe outside a comment is
-/// E204, also one of a doubled pair; scanning goes on behind each fault, and the least of E101, E103, E104, E105
+/// E204, also one of a doubled pair; scanning goes on after each fault, and the least of E101, E103, E104, E105
 /// and E204 is answered.
 pub fn scan_literal<'a>(alloc: Global, text: &'a [u8], line: u32) -> Result<Vec<Token<'a>>, Fault>
     ensures { Answers (at_line line (literal_of text.now)) result }
@@ -127,7 +131,7 @@ pub fn scan_literal<'a>(alloc: Global, text: &'a [u8], line: u32) -> Result<Vec<
     let mut tokens = Vec::new(alloc);
     let mut pieces = Pieces {
         rest: text,
-        place: Place::Literal,
+        state: ScanState::Literal,
     };
     let mut least = None;
     while let Some((piece, text)) = pieces.next() {
@@ -143,6 +147,7 @@ pub fn scan_literal<'a>(alloc: Global, text: &'a [u8], line: u32) -> Result<Vec<
     }
 }
 
+/// The lesser of two faults of a literal's text.
 fn lesser(least: Option<Number>, number: Number) -> Number
     ensures { Some result ≡ lesser least (Some number) }
 {

@@ -18,6 +18,7 @@ pub fn string_value(alloc: Global, text: &[u8]) -> Result<Vec<u8>, AllocError>
     }
 }
 
+/// The same from the slice after the opening apostrophe.
 fn characters(alloc: Global, text: &[u8]) -> Result<Vec<u8>, AllocError>
     ensures { IfOk result (λ v. v.items ≡ characters_from false text.now) }
 {

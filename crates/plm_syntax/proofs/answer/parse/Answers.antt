@@ -1,7 +1,7 @@
 use Rattle.std.proofs.Common.{ap, sym, length, arith}
-use Rattle.plm_token.specs.Scanning.{lexemes}
-use Rattle.plm_syntax.specs.Expand.{expanded}
-use Rattle.plm_syntax.specs.ExpandView.{expansion_view}
+use Rattle.plm_token.specs.Scanner.{lexemes}
+use Rattle.plm_syntax.specs.Literals.{expanded}
+use Rattle.plm_syntax.specs.Literals.{expansion_view}
 use Rattle.plm_syntax.proofs.Bounded.{expansion_bounded}
 use Rattle.plm_syntax.proofs.Answered.{left_in, answer_failure, answer_tree, answer_stop}
 use Rattle.plm_syntax.proofs.answer.parse.Goals as goal

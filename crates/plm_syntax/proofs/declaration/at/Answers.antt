@@ -4,10 +4,10 @@ use Rattle.plm_syntax.specs.Terminal.{Sign}
 use Rattle.plm_syntax.specs.declared.tree.At.TheVariants as at_tree
 use Rattle.plm_syntax.specs.Tree.{no_at, at_number, at_location, no_initial, Attributes}
 use Rattle.plm_syntax.specs.View.{number_of, location_of}
-use Rattle.plm_syntax.specs.Symbol.{need, Want, Do, AttributesR, AtG, AtBodyG}
-use Rattle.plm_syntax.specs.Machine.{set_at, set_at_location}
-use Rattle.plm_syntax.specs.Parsed.{ahead, next_of}
-use Rattle.plm_syntax.specs.Parts.{attributes_read, read_at, read_location}
+use Rattle.plm_syntax.specs.Inner.Symbol.{need, Want, Do, AttributesR, AtG, AtBodyG}
+use Rattle.plm_syntax.specs.Inner.Machine.{set_at, set_at_location}
+use Rattle.plm_syntax.specs.Inner.Parsed.{ahead, next_of}
+use Rattle.plm_syntax.specs.Inner.Parts.{attributes_read, read_at, read_location}
 use Rattle.plm_syntax.proofs.Along.{quiet, taken, refused, need_refused, failed, refusal}
 use Rattle.plm_syntax.proofs.Joined.{closes_at}
 use Rattle.plm_syntax.proofs.NextDeclaration.{at_body_refused, located_at}
@@ -20,7 +20,7 @@ returns-in_err-inner-clause-leads c = λ b s v d. failed (read_at b) s v c.from_
     (refusal c.in_err-inner.field-0.0 c.in-Some.after c.in_err-inner.ensures.1 refl)
 
 pub returns-in-Some-numeral-clause-leads : goal.returns-in-Some-numeral-clause-leads
-returns-in-Some-numeral-clause-leads c = λ b s v d. closes_at (read_at b) mark.RightParenthesis s s v (AttributesR (Attributes b (at_number (number_of c.in-Some-numeral.number)) no_initial) ∷ v) (at_tree.Number c.in-Some-numeral.number) c.in-Some-numeral.behind c.close.result c.close.ensures
+returns-in-Some-numeral-clause-leads c = λ b s v d. closes_at (read_at b) mark.RightParenthesis s s v (AttributesR (Attributes b (at_number (number_of c.in-Some-numeral.number)) no_initial) ∷ v) (at_tree.Numeral c.in-Some-numeral.number) c.in-Some-numeral.behind c.close.result c.close.ensures
     (taken (Want AtG ∷ s) (attributes_read b no_at v) c.in-Some.ensures
     ∙ taken (need mark.LeftParenthesis ∷ Want AtBodyG ∷ need mark.RightParenthesis ∷ s) (attributes_read b no_at v) c.in_ok-inner.ensures.1
     ∙ taken (Want AtBodyG ∷ need mark.RightParenthesis ∷ s) (attributes_read b no_at v) c.in-Some-numeral.ensures

@@ -1,8 +1,8 @@
 use Rattle.std.proofs.Common.{◌∷◌, true, false, refl, ◌∙◌}
 use Rattle.plm_syntax.specs.Tree.{no_at, External}
-use Rattle.plm_syntax.specs.Symbol.{Want, Do, AttributesR, AttributesG, AtG, InitialG}
-use Rattle.plm_syntax.specs.Machine.{set_external, set_public}
-use Rattle.plm_syntax.specs.Parts.{read_attributes, attributes_read}
+use Rattle.plm_syntax.specs.Inner.Symbol.{Want, Do, AttributesR, AttributesG, AtG, InitialG}
+use Rattle.plm_syntax.specs.Inner.Machine.{set_external, set_public}
+use Rattle.plm_syntax.specs.Inner.Parts.{read_attributes, attributes_read}
 use Rattle.plm_syntax.proofs.Along.{quiet, taken, arrives_behind}
 use Rattle.plm_syntax.proofs.NextDeclaration.{attributes_go}
 use Rattle.plm_syntax.proofs.declaration.attributes.Goals as goal

@@ -1,10 +1,10 @@
 use Rattle.std.proofs.Common.{◌∷◌, Some, None, refl, ◌∙◌}
 use Rattle.plm_syntax.specs.Tree.{VariableOf}
 use Rattle.plm_syntax.specs.View.{name_of}
-use Rattle.plm_syntax.specs.Symbol.{Want, Do, VariableR, BasedG, BaseG}
-use Rattle.plm_syntax.specs.Machine.{set_base}
-use Rattle.plm_syntax.specs.Parsed.{next_of}
-use Rattle.plm_syntax.specs.Parts.{read_variable}
+use Rattle.plm_syntax.specs.Inner.Symbol.{Want, Do, VariableR, BasedG, BaseG}
+use Rattle.plm_syntax.specs.Inner.Machine.{set_base}
+use Rattle.plm_syntax.specs.Inner.Parsed.{next_of}
+use Rattle.plm_syntax.specs.Inner.Parts.{read_variable}
 use Rattle.plm_syntax.proofs.Along.{quiet, taken, refused, failed, refusal}
 use Rattle.plm_syntax.proofs.NextDeclaration.{base_refused}
 use Rattle.plm_syntax.proofs.declaration.based.Goals as goal

@@ -1,9 +1,9 @@
 use Rattle.std.proofs.Common.{◌∷◌, ◌∙◌}
 use Rattle.plm_syntax.specs.View.{counted, member_with}
-use Rattle.plm_syntax.specs.Symbol.{Want, Do, CountR, MemberR, MemberTypeG}
-use Rattle.plm_syntax.specs.Machine.{make_member}
-use Rattle.plm_syntax.specs.Parsed.{ahead, next_of}
-use Rattle.plm_syntax.specs.Parts.{member_names_read}
+use Rattle.plm_syntax.specs.Inner.Symbol.{Want, Do, CountR, MemberR, MemberTypeG}
+use Rattle.plm_syntax.specs.Inner.Machine.{make_member}
+use Rattle.plm_syntax.specs.Inner.Parsed.{ahead, next_of}
+use Rattle.plm_syntax.specs.Inner.Parts.{member_names_read}
 use Rattle.plm_syntax.proofs.Along.{quiet, taken, refused, refusal}
 use Rattle.plm_syntax.proofs.NextDeclaration.{doing, member_type_refused, member_type_taken, member_made}
 use Rattle.plm_syntax.proofs.declaration.behind_member_names.Goals as goal

@@ -1,9 +1,9 @@
 use Rattle.std.proofs.Common.{◌∷◌, ◌++◌, false, refl, ◌∙◌}
 use Rattle.plm_syntax.specs.Tree.{no_dimension, no_at, no_initial, Attributes, VariableElement, elements}
 use Rattle.plm_syntax.specs.View.{declared_of, dimension_of, type_of, attributes_of}
-use Rattle.plm_syntax.specs.Symbol.{push, Want, Do, DeclaredR, DimensionR, AttributesR, ElementsR, DimensionG, TypeG, AttributesG}
-use Rattle.plm_syntax.specs.Machine.{add_element, make_element, declared_tail}
-use Rattle.plm_syntax.specs.Parts.{read_element, read_dimension, read_type, read_attributes, attributes_read}
+use Rattle.plm_syntax.specs.Inner.Symbol.{push, Want, Do, DeclaredR, DimensionR, AttributesR, ElementsR, DimensionG, TypeG, AttributesG}
+use Rattle.plm_syntax.specs.Inner.Machine.{add_element, make_element, declared_tail}
+use Rattle.plm_syntax.specs.Inner.Parts.{read_element, read_dimension, read_type, read_attributes, attributes_read}
 use Rattle.plm_syntax.proofs.Along.{quiet, failed}
 use Rattle.plm_syntax.proofs.declaration.behind_names.Goals as goal
 

@@ -1,10 +1,10 @@
 use Rattle.std.proofs.Common.{◌∷◌, Some, None, refl, ◌∙◌}
 use Rattle.plm_token.specs.declared.token.Mark.TheVariants as mark
 use Rattle.plm_syntax.specs.View.{number_of}
-use Rattle.plm_syntax.specs.Symbol.{Want, Do, CountR, CountG, CountNumberG}
-use Rattle.plm_syntax.specs.Machine.{set_count}
-use Rattle.plm_syntax.specs.Parsed.{next_of}
-use Rattle.plm_syntax.specs.Parts.{read_count}
+use Rattle.plm_syntax.specs.Inner.Symbol.{Want, Do, CountR, CountG, CountNumberG}
+use Rattle.plm_syntax.specs.Inner.Machine.{set_count}
+use Rattle.plm_syntax.specs.Inner.Parsed.{next_of}
+use Rattle.plm_syntax.specs.Inner.Parts.{read_count}
 use Rattle.plm_syntax.proofs.Along.{quiet, taken, refused, failed, refusal}
 use Rattle.plm_syntax.proofs.Joined.{closes_at}
 use Rattle.plm_syntax.proofs.NextDeclaration.{count_refused}

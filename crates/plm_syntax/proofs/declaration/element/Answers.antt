@@ -1,10 +1,10 @@
 use Rattle.std.proofs.Common.{◌∷◌, ◌++◌, None, refl, ◌∙◌}
 use Rattle.plm_syntax.specs.Tree.{VariableOf, no_variables, OneVariable, VariableList, LiteralElement, elements}
 use Rattle.plm_syntax.specs.View.{name_of, text_of, variable_of, variables_from}
-use Rattle.plm_syntax.specs.Symbol.{push, Want, Do, VariableR, VariablesR, DeclaredR, ElementsR, ElementG, ElementLeadG, LiteralTextG, VariableG, MoreVariablesG}
-use Rattle.plm_syntax.specs.Machine.{add_element, make_literal, add_variable, one_variable, variable_group, declared_tail}
-use Rattle.plm_syntax.specs.Parsed.{next_of}
-use Rattle.plm_syntax.specs.Parts.{read_element, read_variable, read_variables}
+use Rattle.plm_syntax.specs.Inner.Symbol.{push, Want, Do, VariableR, VariablesR, DeclaredR, ElementsR, ElementG, ElementLeadG, LiteralTextG, VariableG, MoreVariablesG}
+use Rattle.plm_syntax.specs.Inner.Machine.{add_element, make_literal, add_variable, one_variable, variable_group, declared_tail}
+use Rattle.plm_syntax.specs.Inner.Parsed.{next_of}
+use Rattle.plm_syntax.specs.Inner.Parts.{read_element, read_variable, read_variables}
 use Rattle.plm_syntax.proofs.Along.{quiet, taken, refused, failed, refusal, arrives_behind}
 use Rattle.plm_syntax.proofs.NextDeclaration.{element_refused, literal_refused, lead_goes}
 use Rattle.plm_syntax.proofs.declaration.element.Goals as goal

@@ -2,10 +2,10 @@ use Rattle.std.proofs.Common.{◌∷◌, ◌++◌, [], List, refl, sym, ap, ◌�
 use Rattle.plm_syntax.specs.declared.tree.Element.{Element}
 use Rattle.plm_syntax.specs.Tree.{ElementsT, no_elements}
 use Rattle.plm_syntax.specs.View.{elements_of}
-use Rattle.plm_syntax.specs.Symbol.{Want, ElementsR, ElementG, MoreElementsG}
-use Rattle.plm_syntax.specs.Machine.{run}
-use Rattle.plm_syntax.specs.Parsed.{ahead, next_of}
-use Rattle.plm_syntax.specs.Parts.{read_element, read_elements}
+use Rattle.plm_syntax.specs.Inner.Symbol.{Want, ElementsR, ElementG, MoreElementsG}
+use Rattle.plm_syntax.specs.Inner.Machine.{run}
+use Rattle.plm_syntax.specs.Inner.Parsed.{ahead, next_of}
+use Rattle.plm_syntax.specs.Inner.Parts.{read_element, read_elements}
 use Rattle.plm_syntax.proofs.Rows.{element_pushed}
 use Rattle.plm_syntax.proofs.Along.{taken, refused, failed}
 use Rattle.plm_syntax.proofs.Joined.{arrived, lost, stays_within, closes_by, closes_within}

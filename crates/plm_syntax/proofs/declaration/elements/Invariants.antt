@@ -1,9 +1,9 @@
 use Rattle.std.proofs.Common.{◌≡◌, ◌∷◌, List, ◌+◌, ◌≤◌, length}
 use Rattle.plm_syntax.specs.Tree.{no_elements}
 use Rattle.plm_syntax.specs.View.{elements_of}
-use Rattle.plm_syntax.specs.Symbol.{Value, Symbol, depth, ElementsR, Want, ElementG, MoreElementsG}
-use Rattle.plm_syntax.specs.Machine.{run}
-use Rattle.plm_syntax.specs.Parsed.{ahead}
+use Rattle.plm_syntax.specs.Inner.Symbol.{Value, Symbol, depth, ElementsR, Want, ElementG, MoreElementsG}
+use Rattle.plm_syntax.specs.Inner.Machine.{run}
+use Rattle.plm_syntax.specs.Inner.Parsed.{ahead}
 use Rattle.plm_syntax.proofs.declaration.elements.Given as goal
 
 abbrev pub invariant-loop-after : goal.invariant-loop-after

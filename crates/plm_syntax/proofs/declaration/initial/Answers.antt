@@ -3,9 +3,9 @@ use Rattle.plm_token.specs.declared.token.Mark.TheVariants as mark
 use Rattle.plm_syntax.specs.Terminal.{Sign}
 use Rattle.plm_syntax.specs.Tree.{initial, constant_data, Attributes}
 use Rattle.plm_syntax.specs.View.{values_of}
-use Rattle.plm_syntax.specs.Symbol.{need, Want, Do, AttributesR, InitialG}
-use Rattle.plm_syntax.specs.Machine.{a_value_list, set_initial, set_data}
-use Rattle.plm_syntax.specs.Parts.{attributes_read, read_initial, read_values}
+use Rattle.plm_syntax.specs.Inner.Symbol.{need, Want, Do, AttributesR, InitialG}
+use Rattle.plm_syntax.specs.Inner.Machine.{a_value_list, set_initial, set_data}
+use Rattle.plm_syntax.specs.Inner.Parts.{attributes_read, read_initial, read_values}
 use Rattle.plm_syntax.proofs.Along.{quiet, taken, need_refused, failed, refusal}
 use Rattle.plm_syntax.proofs.declaration.initial.Goals as goal
 

@@ -1,9 +1,9 @@
 use Rattle.std.proofs.Common.{◌∷◌, None, refl, ◌∙◌}
 use Rattle.plm_syntax.specs.Tree.{no_names}
 use Rattle.plm_syntax.specs.View.{name_of}
-use Rattle.plm_syntax.specs.Symbol.{push, Want, CountR, NamesR, NameR, MemberOfG, MemberNameG, MoreMemberNamesG, CountG, MemberTypeG}
-use Rattle.plm_syntax.specs.Parsed.{next_of}
-use Rattle.plm_syntax.specs.Parts.{read_member, read_names}
+use Rattle.plm_syntax.specs.Inner.Symbol.{push, Want, CountR, NamesR, NameR, MemberOfG, MemberNameG, MoreMemberNamesG, CountG, MemberTypeG}
+use Rattle.plm_syntax.specs.Inner.Parsed.{next_of}
+use Rattle.plm_syntax.specs.Inner.Parts.{read_member, read_names}
 use Rattle.plm_syntax.proofs.Along.{quiet, taken, refused, failed, refusal, arrives_behind}
 use Rattle.plm_syntax.proofs.NextDeclaration.{member_of_refused}
 use Rattle.plm_syntax.proofs.declaration.member.Goals as goal

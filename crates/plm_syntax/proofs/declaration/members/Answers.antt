@@ -2,10 +2,10 @@ use Rattle.std.proofs.Common.{◌∷◌, ◌++◌, [], List, refl, sym, ap, ◌�
 use Rattle.plm_syntax.specs.declared.tree.Member.{Member}
 use Rattle.plm_syntax.specs.Tree.{MembersT, members, no_members}
 use Rattle.plm_syntax.specs.View.{member_of, members_from}
-use Rattle.plm_syntax.specs.Symbol.{Want, Do, MembersR, MemberOfG, MoreMembersG}
-use Rattle.plm_syntax.specs.Machine.{add_member, run}
-use Rattle.plm_syntax.specs.Parsed.{ahead, next_of}
-use Rattle.plm_syntax.specs.Parts.{read_member, read_members}
+use Rattle.plm_syntax.specs.Inner.Symbol.{Want, Do, MembersR, MemberOfG, MoreMembersG}
+use Rattle.plm_syntax.specs.Inner.Machine.{add_member, run}
+use Rattle.plm_syntax.specs.Inner.Parsed.{ahead, next_of}
+use Rattle.plm_syntax.specs.Inner.Parts.{read_member, read_members}
 use Rattle.plm_syntax.proofs.Rows.{member_pushed}
 use Rattle.plm_syntax.proofs.Along.{quiet, taken, refused, failed}
 use Rattle.plm_syntax.proofs.Joined.{arrived, lost, stays_within, closes_by, closes_within}

@@ -1,9 +1,9 @@
 use Rattle.std.proofs.Common.{◌≡◌, ◌∷◌, List, ◌≤◌, length}
 use Rattle.plm_syntax.specs.Tree.{no_members}
 use Rattle.plm_syntax.specs.View.{members_from}
-use Rattle.plm_syntax.specs.Symbol.{Value, Symbol, MembersR, Want, Do, MemberOfG, MoreMembersG}
-use Rattle.plm_syntax.specs.Machine.{add_member, run}
-use Rattle.plm_syntax.specs.Parsed.{ahead}
+use Rattle.plm_syntax.specs.Inner.Symbol.{Value, Symbol, MembersR, Want, Do, MemberOfG, MoreMembersG}
+use Rattle.plm_syntax.specs.Inner.Machine.{add_member, run}
+use Rattle.plm_syntax.specs.Inner.Parsed.{ahead}
 use Rattle.plm_syntax.proofs.declaration.members.Given as goal
 
 abbrev pub invariant-loop-after : goal.invariant-loop-after

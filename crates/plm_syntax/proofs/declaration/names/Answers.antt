@@ -2,10 +2,10 @@ use Rattle.std.proofs.Common.{◌∷◌, ◌++◌, [], List, None, refl, sym, ap
 use Rattle.plm_syntax.specs.declared.tree.Name.{Name as NameTree}
 use Rattle.plm_syntax.specs.Tree.{NamesT, names, no_names, no_linkage}
 use Rattle.plm_syntax.specs.View.{name_of, names_of}
-use Rattle.plm_syntax.specs.Symbol.{Want, Do, NamesR, HeaderR, MemberNameG, MoreMemberNamesG, ParameterG, MoreParametersG}
-use Rattle.plm_syntax.specs.Machine.{add_name, add_parameter, run}
-use Rattle.plm_syntax.specs.Parsed.{ahead, next_of}
-use Rattle.plm_syntax.specs.Parts.{read_names, read_parameters}
+use Rattle.plm_syntax.specs.Inner.Symbol.{Want, Do, NamesR, HeaderR, MemberNameG, MoreMemberNamesG, ParameterG, MoreParametersG}
+use Rattle.plm_syntax.specs.Inner.Machine.{add_name, add_parameter, run}
+use Rattle.plm_syntax.specs.Inner.Parsed.{ahead, next_of}
+use Rattle.plm_syntax.specs.Inner.Parts.{read_names, read_parameters}
 use Rattle.plm_syntax.proofs.Rows.{name_pushed}
 use Rattle.plm_syntax.proofs.Along.{quiet, taken, refused, failed, refusal}
 use Rattle.plm_syntax.proofs.Joined.{closes_by, closes_within}

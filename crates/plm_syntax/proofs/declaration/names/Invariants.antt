@@ -2,10 +2,10 @@ use Rattle.std.proofs.Common.{◌≡◌, ◌∷◌, [], List, ◌≤◌, length}
 use Rattle.plm_syntax.specs.Terminal.{NameT}
 use Rattle.plm_syntax.specs.Tree.{no_names}
 use Rattle.plm_syntax.specs.View.{names_of}
-use Rattle.plm_syntax.specs.Symbol.{Value, Symbol, NamesR, Want, MemberNameG, MoreMemberNamesG, ParameterG, MoreParametersG}
-use Rattle.plm_syntax.specs.Machine.{run}
-use Rattle.plm_syntax.specs.Parsed.{ahead}
-use Rattle.plm_syntax.specs.Parts.{read_parameters}
+use Rattle.plm_syntax.specs.Inner.Symbol.{Value, Symbol, NamesR, Want, MemberNameG, MoreMemberNamesG, ParameterG, MoreParametersG}
+use Rattle.plm_syntax.specs.Inner.Machine.{run}
+use Rattle.plm_syntax.specs.Inner.Parsed.{ahead}
+use Rattle.plm_syntax.specs.Inner.Parts.{read_parameters}
 use Rattle.plm_syntax.proofs.declaration.names.Given as goal
 
 abbrev pub invariant-loop-after : goal.invariant-loop-after

@@ -1,9 +1,9 @@
 use Rattle.std.proofs.Common.{◌∷◌, None, refl, ◌∙◌}
 use Rattle.plm_syntax.specs.Tree.{VariableOf}
 use Rattle.plm_syntax.specs.View.{name_of}
-use Rattle.plm_syntax.specs.Symbol.{push, Want, VariableR, VariableG, BasedG}
-use Rattle.plm_syntax.specs.Parsed.{next_of}
-use Rattle.plm_syntax.specs.Parts.{read_variable}
+use Rattle.plm_syntax.specs.Inner.Symbol.{push, Want, VariableR, VariableG, BasedG}
+use Rattle.plm_syntax.specs.Inner.Parsed.{next_of}
+use Rattle.plm_syntax.specs.Inner.Parts.{read_variable}
 use Rattle.plm_syntax.proofs.Along.{quiet, taken, refused, failed, refusal, arrives_behind}
 use Rattle.plm_syntax.proofs.NextDeclaration.{variable_refused}
 use Rattle.plm_syntax.proofs.declaration.variable.Goals as goal

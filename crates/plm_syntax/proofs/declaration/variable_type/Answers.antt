@@ -3,10 +3,10 @@ use Rattle.plm_token.specs.declared.token.Mark.TheVariants as mark
 use Rattle.plm_syntax.specs.Terminal.{Sign}
 use Rattle.plm_syntax.specs.Tree.{no_members, ScalarType, StructureType}
 use Rattle.plm_syntax.specs.View.{members_from}
-use Rattle.plm_syntax.specs.Symbol.{need, push, Want, Do, MembersR, TypeR, TypeG, MemberOfG, MoreMembersG}
-use Rattle.plm_syntax.specs.Machine.{add_member, make_structure}
-use Rattle.plm_syntax.specs.Parsed.{ahead, next_of}
-use Rattle.plm_syntax.specs.Parts.{read_type, read_members}
+use Rattle.plm_syntax.specs.Inner.Symbol.{need, push, Want, Do, MembersR, TypeR, TypeG, MemberOfG, MoreMembersG}
+use Rattle.plm_syntax.specs.Inner.Machine.{add_member, make_structure}
+use Rattle.plm_syntax.specs.Inner.Parsed.{ahead, next_of}
+use Rattle.plm_syntax.specs.Inner.Parts.{read_type, read_members}
 use Rattle.plm_syntax.proofs.Along.{quiet, taken, refused, need_refused, failed, refusal}
 use Rattle.plm_syntax.proofs.NextDeclaration.{type_refused, type_taken}
 use Rattle.plm_syntax.proofs.declaration.variable_type.Goals as goal

@@ -2,10 +2,10 @@ use Rattle.std.proofs.Common.{◌∷◌, ◌++◌, [], List, refl, sym, ap, ◌�
 use Rattle.plm_syntax.specs.declared.tree.Variable.{Variable}
 use Rattle.plm_syntax.specs.Tree.{VariablesT, variables, no_variables}
 use Rattle.plm_syntax.specs.View.{variable_of, variables_from}
-use Rattle.plm_syntax.specs.Symbol.{Want, Do, VariablesR, VariableG, MoreVariablesG}
-use Rattle.plm_syntax.specs.Machine.{add_variable, run}
-use Rattle.plm_syntax.specs.Parsed.{ahead, next_of}
-use Rattle.plm_syntax.specs.Parts.{read_variable, read_variables}
+use Rattle.plm_syntax.specs.Inner.Symbol.{Want, Do, VariablesR, VariableG, MoreVariablesG}
+use Rattle.plm_syntax.specs.Inner.Machine.{add_variable, run}
+use Rattle.plm_syntax.specs.Inner.Parsed.{ahead, next_of}
+use Rattle.plm_syntax.specs.Inner.Parts.{read_variable, read_variables}
 use Rattle.plm_syntax.proofs.Rows.{variable_pushed}
 use Rattle.plm_syntax.proofs.Along.{quiet, taken, refused, failed}
 use Rattle.plm_syntax.proofs.Joined.{arrived, lost, stays_within, closes_by, closes_within}

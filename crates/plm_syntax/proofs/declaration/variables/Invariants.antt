@@ -1,9 +1,9 @@
 use Rattle.std.proofs.Common.{◌≡◌, ◌∷◌, List, ◌≤◌, length}
 use Rattle.plm_syntax.specs.Tree.{no_variables}
 use Rattle.plm_syntax.specs.View.{variables_from}
-use Rattle.plm_syntax.specs.Symbol.{Value, Symbol, VariablesR, Want, Do, VariableG, MoreVariablesG}
-use Rattle.plm_syntax.specs.Machine.{add_variable, run}
-use Rattle.plm_syntax.specs.Parsed.{ahead}
+use Rattle.plm_syntax.specs.Inner.Symbol.{Value, Symbol, VariablesR, Want, Do, VariableG, MoreVariablesG}
+use Rattle.plm_syntax.specs.Inner.Machine.{add_variable, run}
+use Rattle.plm_syntax.specs.Inner.Parsed.{ahead}
 use Rattle.plm_syntax.proofs.declaration.variables.Given as goal
 
 abbrev pub invariant-loop-after : goal.invariant-loop-after

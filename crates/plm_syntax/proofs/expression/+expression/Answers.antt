@@ -3,19 +3,19 @@ use Rattle.std.proofs.lemmas.Grind.{common_steps}
 use Rattle.plm_token.specs.declared.token.Mark.TheVariants as mark
 use Rattle.plm_syntax.specs.declared.tree.UnaryOperator.TheVariants as unary
 use Rattle.std.specs.Global.{Vec}
-use Rattle.plm_syntax.specs.declared.tree.Place.{Place}
+use Rattle.plm_syntax.specs.declared.tree.Position.{Position}
 use Rattle.plm_syntax.specs.declared.tree.BinaryOperator.{BinaryOperator}
 use Rattle.plm_syntax.specs.declared.tree.Operation.{Operation}
 use Rattle.plm_syntax.specs.declared.tree.Expression.{Expression}
 use Rattle.plm_syntax.specs.declared.tree.Expression.TheVariants as expression
 use Rattle.plm_syntax.specs.declared.tree.Reference.{Reference}
 use Rattle.plm_syntax.specs.declared.tree.Value.{Value as ValueTree}
-use Rattle.plm_syntax.specs.Tree.{NumberE, TextE, ReferenceE, LocationE, ParenthesisedE, EmbeddedE, UnaryE, BinaryE, ReferenceOf, ExpressionsT, no_expressions, expressions, no_member, member, member_at, LocationOf, ConstantsOf, NumberV, NegativeV, TextV, LocationV, ValuesT, no_values, values}
+use Rattle.plm_syntax.specs.Tree.{NumeralE, TextE, ReferenceE, LocationE, ParenthesisedE, EmbeddedE, UnaryE, BinaryE, ReferenceOf, ExpressionsT, no_expressions, expressions, no_member, member, member_at, LocationOf, ConstantsOf, NumeralV, NegativeV, TextV, LocationV, ValuesT, no_values, values}
 use Rattle.plm_syntax.specs.View.{name_of, number_of, text_of, expression_of, leaned, expressions_of, reference_of, location_of, value_of, values_of}
-use Rattle.plm_syntax.specs.Symbol.{Symbol, depth, need, push, ExpressionR, ExpressionsR, ValueR, ValuesR, Want, Do, Leave, PrimaryG, SignedG, NegationG, MoreG, InsideG, AfterReferenceG, SubscriptsG, MoreSubscriptsG, SelectorG, MemberG, MemberSubscriptG, LocatedG, ValueG, NegativeG, MoreValuesG}
-use Rattle.plm_syntax.specs.Machine.{again, an_expression, a_value_list, reference_begun, closing, make_binary, make_unary, make_parenthesised, make_embedded, add_expression, set_subscripts, set_member, set_member_subscript, locate, locate_values, location_value, add_value, Stop, Reading, run}
-use Rattle.plm_syntax.specs.Parsed.{ahead, next_of}
-use Rattle.plm_syntax.specs.Parts.{level_view, read_expression, read_boxed, read_operations, read_reference, read_subscripts, read_selector, read_location, read_value, read_values, reference_read, all_levels}
+use Rattle.plm_syntax.specs.Inner.Symbol.{Symbol, depth, need, push, ExpressionR, ExpressionsR, ValueR, ValuesR, Want, Do, Leave, PrimaryG, SignedG, NegationG, MoreG, InsideG, AfterReferenceG, SubscriptsG, MoreSubscriptsG, SelectorG, MemberG, MemberSubscriptG, LocatedG, ValueG, NegativeG, MoreValuesG}
+use Rattle.plm_syntax.specs.Inner.Machine.{again, an_expression, a_value_list, reference_begun, closing, make_binary, make_unary, make_parenthesised, make_embedded, add_expression, set_subscripts, set_member, set_member_subscript, locate, locate_values, location_value, add_value, Stop, Reading, run}
+use Rattle.plm_syntax.specs.Inner.Parsed.{ahead, next_of}
+use Rattle.plm_syntax.specs.Inner.Parts.{precedence_view, read_expression, read_boxed, read_operations, read_reference, read_subscripts, read_selector, read_location, read_value, read_values, reference_read, all_precedences}
 use Rattle.plm_syntax.proofs.Rows.{expression_pushed, operation_pushed, value_pushed}
 use Rattle.plm_syntax.proofs.Seen.{seen, reference_laid, embedded_laid, constants_laid, location_laid, chain_laid}
 use Rattle.plm_syntax.proofs.Along.{out_of_memory, quiet, taken, refused, entered, too_deep, deeper, failed, refusal, depth_failure, arrives_behind, arrives_left, operator_taken}
@@ -39,13 +39,13 @@ behind_reference-returns-in-Some-clause-leads t c = λ s v d. taken (Want (After
 pub behind_reference-returns-in_err-inside-clause-leads : goal.behind_reference-returns-in_err-inside-clause-leads
 behind_reference-returns-in_err-inside-clause-leads t c = λ s v d. failed read_expression s v c.from_residual-in_err-inside.result c.in_err-inside.field-0.0 c.from_residual-in_err-inside.ensures.1
     (reference_goes c.args.place c.args.cursor s (read_reference c.args.first v) c.in_default.ensures
-    ∙ seen (all_levels (closing c.args.place ++ s)) v c.args.cursor (ap ReferenceE (reference_laid c.args.first)))
-    (boxes read_expression (Do (make_parenthesised c.args.place) ∷ s) v c.closing.result (Err c.in_err-inside.field-0.0) (run 64 (all_levels (closing c.args.place ++ s)) (read_expression (expression.Reference c.args.first) v) (ahead c.args.cursor)) c.in_err-inside.ensures (closes read_expression mark.RightParenthesis (Do (make_parenthesised c.args.place) ∷ s) v c.climb-begun.result c.closing.result (run 64 (all_levels (closing c.args.place ++ s)) (read_expression (expression.Reference c.args.first) v) (ahead c.args.cursor)) c.closing.ensures (c.climb-begun.ensures.leads (closing c.args.place ++ s) v d)))
+    ∙ seen (all_precedences (closing c.args.place ++ s)) v c.args.cursor (ap ReferenceE (reference_laid c.args.first)))
+    (boxes read_expression (Do (make_parenthesised c.args.place) ∷ s) v c.closing.result (Err c.in_err-inside.field-0.0) (run 64 (all_precedences (closing c.args.place ++ s)) (read_expression (expression.Reference c.args.first) v) (ahead c.args.cursor)) c.in_err-inside.ensures (closes read_expression mark.RightParenthesis (Do (make_parenthesised c.args.place) ∷ s) v c.climb-begun.result c.closing.result (run 64 (all_precedences (closing c.args.place ++ s)) (read_expression (expression.Reference c.args.first) v) (ahead c.args.cursor)) c.closing.ensures (c.climb-begun.ensures.leads (closing c.args.place ++ s) v d)))
 
 pub behind_reference-returns-clause-leads : goal.behind_reference-returns-clause-leads
 behind_reference-returns-clause-leads t c = λ s v d. reference_goes c.args.place c.args.cursor s (read_reference c.args.first v) c.in_default.ensures
-    ∙ seen (all_levels (closing c.args.place ++ s)) v c.args.cursor (ap ReferenceE (reference_laid c.args.first))
-    ∙ boxes read_expression (Do (make_parenthesised c.args.place) ∷ s) v c.closing.result (Ok (c.in_ok-inside.inside, c.in_ok-inside.rest)) (run 64 (all_levels (closing c.args.place ++ s)) (read_expression (expression.Reference c.args.first) v) (ahead c.args.cursor)) c.in_ok-inside.ensures (closes read_expression mark.RightParenthesis (Do (make_parenthesised c.args.place) ∷ s) v c.climb-begun.result c.closing.result (run 64 (all_levels (closing c.args.place ++ s)) (read_expression (expression.Reference c.args.first) v) (ahead c.args.cursor)) c.closing.ensures (c.climb-begun.ensures.leads (closing c.args.place ++ s) v d))
+    ∙ seen (all_precedences (closing c.args.place ++ s)) v c.args.cursor (ap ReferenceE (reference_laid c.args.first))
+    ∙ boxes read_expression (Do (make_parenthesised c.args.place) ∷ s) v c.closing.result (Ok (c.in_ok-inside.inside, c.in_ok-inside.rest)) (run 64 (all_precedences (closing c.args.place ++ s)) (read_expression (expression.Reference c.args.first) v) (ahead c.args.cursor)) c.in_ok-inside.ensures (closes read_expression mark.RightParenthesis (Do (make_parenthesised c.args.place) ∷ s) v c.climb-begun.result c.closing.result (run 64 (all_precedences (closing c.args.place ++ s)) (read_expression (expression.Reference c.args.first) v) (ahead c.args.cursor)) c.closing.ensures (c.climb-begun.ensures.leads (closing c.args.place ++ s) v d))
     ∙ quiet c.in_ok-inside.rest (Do (make_parenthesised c.args.place) ∷ s) s (read_boxed c.in_ok-inside.inside v) (ExpressionR (ParenthesisedE c.args.place (expression_of c.in_ok-inside.inside.value)) ∷ v) (λ t q. refl)
 
 pub location-returns-in-Some-clause-leads : goal.location-returns-in-Some-clause-leads
@@ -74,10 +74,10 @@ location-returns-clause-leads t c = λ s v d. taken (Want (LocatedG c.args.place
 
 pub more-returns-in_err-left-clause-leads : goal.more-returns-in_err-left-clause-leads
 more-returns-in_err-left-clause-leads t c = λ s v d. failed read_expression s v c.from_residual.result c.in_err-left.field-0.0 c.from_residual.ensures.1 refl
-    (ended (λ (os : Vec Operation). read_operations (expression_of c.args.first) os.items) s v (run 64 (Want (MoreG (level_view c.args.level)) ∷ s) (read_expression c.args.first v) (ahead c.args.cursor)) c.in_err-left.ensures (c.operations.ensures.leads (expression_of c.args.first) s v d))
+    (ended (λ (os : Vec Operation). read_operations (expression_of c.args.first) os.items) s v (run 64 (Want (MoreG (precedence_view c.args.precedence)) ∷ s) (read_expression c.args.first v) (ahead c.args.cursor)) c.in_err-left.ensures (c.operations.ensures.leads (expression_of c.args.first) s v d))
 
 pub more-returns-in_err-first-clause-leads : goal.more-returns-in_err-first-clause-leads
-more-returns-in_err-first-clause-leads t c = λ s v d. out_of_memory read_expression s v c.from_residual-in_err-first.result (run 64 (Want (MoreG (level_view c.args.level)) ∷ s) (read_expression c.args.first v) (ahead c.args.cursor)) c.from_residual-in_err-first.ensures.1
+more-returns-in_err-first-clause-leads t c = λ s v d. out_of_memory read_expression s v c.from_residual-in_err-first.result (run 64 (Want (MoreG (precedence_view c.args.precedence)) ∷ s) (read_expression c.args.first v) (ahead c.args.cursor)) c.from_residual-in_err-first.ensures.1
 
 pub more-returns-clause-leads : goal.more-returns-clause-leads
 more-returns-clause-leads t c = λ s v d. arrived (λ (os : Vec Operation). read_operations (expression_of c.args.first) os.items) s v c.in_ok-left.ensures.1 (c.operations.ensures.leads (expression_of c.args.first) s v d)
@@ -85,39 +85,39 @@ more-returns-clause-leads t c = λ s v d. arrived (λ (os : Vec Operation). read
     ∙ seen s v c.in_ok-left.rest (chain_laid c.in_ok-left.others c.in_ok-first.ensures.ok)
 
 -- an operator and its right operand
-abbrev operation : Place → BinaryOperator → Expression → Operation
+abbrev operation : Position → BinaryOperator → Expression → Operation
 operation p o e = record { place = p; operator = o; operand = e }
 
 pub operations-returns-in_err-operand-clause-leads : goal.operations-returns-in_err-operand-clause-leads
 operations-returns-in_err-operand-clause-leads t c = λ left s v d. failed (λ (os : Vec Operation). read_operations left os.items) s v c.from_residual.result c.in_err-operand.field-0.0 c.from_residual.ensures.1
     (c.loop-place.invariant.leads left s v d
-    ∙ taken (Want (MoreG (level_view c.args.level)) ∷ s) (read_operations left c.loop-place.list.items v) c.in-Some.ensures.0
-    ∙ operator_taken (level_view c.args.level) c.in-Some.operator c.in-Some.place s (read_operations left c.loop-place.list.items v) (ahead c.in-Some.after) c.in-Some.ensures.1)
-    (c.in_err-operand.ensures.leads (Do (make_binary c.in-Some.place c.in-Some.operator) ∷ (again (level_view c.args.level) ++ s)) (read_operations left c.loop-place.list.items v) (ap (λ (n : ℕ). n + c.args.room) (depth_again (level_view c.args.level) s) ∙ d))
+    ∙ taken (Want (MoreG (precedence_view c.args.precedence)) ∷ s) (read_operations left c.loop-place.list.items v) c.in-Some.ensures.0
+    ∙ operator_taken (precedence_view c.args.precedence) c.in-Some.operator c.in-Some.place s (read_operations left c.loop-place.list.items v) (ahead c.in-Some.after) c.in-Some.ensures.1)
+    (c.in_err-operand.ensures.leads (Do (make_binary c.in-Some.place c.in-Some.operator) ∷ (again (precedence_view c.args.precedence) ++ s)) (read_operations left c.loop-place.list.items v) (ap (λ (n : ℕ). n + c.args.room) (depth_again (precedence_view c.args.precedence) s) ∙ d))
 
 pub operations-returns-then-is_relations-clause-leads : goal.operations-returns-then-is_relations-clause-leads
 operations-returns-then-is_relations-clause-leads t c = λ left s v d. c.loop-place.invariant.leads left s v d
-    ∙ taken (Want (MoreG (level_view c.args.level)) ∷ s) (read_operations left c.loop-place.list.items v) c.in-Some.ensures.0
-    ∙ operator_taken (level_view c.args.level) c.in-Some.operator c.in-Some.place s (read_operations left c.loop-place.list.items v) (ahead c.in-Some.after) c.in-Some.ensures.1
-    ∙ c.in_ok-operand.ensures.leads (Do (make_binary c.in-Some.place c.in-Some.operator) ∷ (again (level_view c.args.level) ++ s)) (read_operations left c.loop-place.list.items v) (ap (λ (n : ℕ). n + c.args.room) (depth_again (level_view c.args.level) s) ∙ d)
-    ∙ quiet c.in_ok-operand.behind (Do (make_binary c.in-Some.place c.in-Some.operator) ∷ (again (level_view c.args.level) ++ s)) (again (level_view c.args.level) ++ s) (read_expression c.in_ok-operand.operand (read_operations left c.loop-place.list.items v)) (ExpressionR (BinaryE c.in-Some.place c.in-Some.operator (leaned left c.loop-place.list.items) (expression_of c.in_ok-operand.operand)) ∷ v) (λ t q. refl)
-    ∙ seen (again (level_view c.args.level) ++ s) v c.in_ok-operand.behind (sym (operation_pushed left c.loop-place.list.items (operation c.in-Some.place c.in-Some.operator c.in_ok-operand.operand)))
-    ∙ ap (λ (x : List Symbol). run 64 x (read_operations left (c.loop-place.list.items ++ operation c.in-Some.place c.in-Some.operator c.in_ok-operand.operand ∷ []) v) (ahead c.in_ok-operand.behind)) (again_relations (level_view c.args.level) (sym c.is_relations.ensures ∙ c.if-is_relations.true) s)
+    ∙ taken (Want (MoreG (precedence_view c.args.precedence)) ∷ s) (read_operations left c.loop-place.list.items v) c.in-Some.ensures.0
+    ∙ operator_taken (precedence_view c.args.precedence) c.in-Some.operator c.in-Some.place s (read_operations left c.loop-place.list.items v) (ahead c.in-Some.after) c.in-Some.ensures.1
+    ∙ c.in_ok-operand.ensures.leads (Do (make_binary c.in-Some.place c.in-Some.operator) ∷ (again (precedence_view c.args.precedence) ++ s)) (read_operations left c.loop-place.list.items v) (ap (λ (n : ℕ). n + c.args.room) (depth_again (precedence_view c.args.precedence) s) ∙ d)
+    ∙ quiet c.in_ok-operand.behind (Do (make_binary c.in-Some.place c.in-Some.operator) ∷ (again (precedence_view c.args.precedence) ++ s)) (again (precedence_view c.args.precedence) ++ s) (read_expression c.in_ok-operand.operand (read_operations left c.loop-place.list.items v)) (ExpressionR (BinaryE c.in-Some.place c.in-Some.operator (leaned left c.loop-place.list.items) (expression_of c.in_ok-operand.operand)) ∷ v) (λ t q. refl)
+    ∙ seen (again (precedence_view c.args.precedence) ++ s) v c.in_ok-operand.behind (sym (operation_pushed left c.loop-place.list.items (operation c.in-Some.place c.in-Some.operator c.in_ok-operand.operand)))
+    ∙ ap (λ (x : List Symbol). run 64 x (read_operations left (c.loop-place.list.items ++ operation c.in-Some.place c.in-Some.operator c.in_ok-operand.operand ∷ []) v) (ahead c.in_ok-operand.behind)) (again_relations (precedence_view c.args.precedence) (sym c.is_relations.ensures ∙ c.if-is_relations.true) s)
     ∙ ap (λ (os : List Operation). run 64 s (read_operations left os v) (ahead c.in_ok-operand.behind)) (sym c.in_ok-push.ensures.items)
 
 pub operations-loop-place-init : goal.operations-loop-place-init
-operations-loop-place-init t c = record { leads = λ left s v d. ap (λ (os : List Operation). run 64 (Want (MoreG (level_view c.args.level)) ∷ s) (read_operations left os v) (ahead c.args.cursor)) (sym c.new-list.ensures.items); shorter = omega arith }
+operations-loop-place-init t c = record { leads = λ left s v d. ap (λ (os : List Operation). run 64 (Want (MoreG (precedence_view c.args.precedence)) ∷ s) (read_operations left os v) (ahead c.args.cursor)) (sym c.new-list.ensures.items); shorter = omega arith }
 
 pub operations-loop-place-preserved : goal.operations-loop-place-preserved
 operations-loop-place-preserved t c = record {
   leads = λ left s v d. c.loop-place.invariant.leads left s v d
-      ∙ taken (Want (MoreG (level_view c.args.level)) ∷ s) (read_operations left c.loop-place.list.items v) c.in-Some.ensures.0
-      ∙ operator_taken (level_view c.args.level) c.in-Some.operator c.in-Some.place s (read_operations left c.loop-place.list.items v) (ahead c.in-Some.after) c.in-Some.ensures.1
-      ∙ c.in_ok-operand.ensures.leads (Do (make_binary c.in-Some.place c.in-Some.operator) ∷ (again (level_view c.args.level) ++ s)) (read_operations left c.loop-place.list.items v) (ap (λ (n : ℕ). n + c.args.room) (depth_again (level_view c.args.level) s) ∙ d)
-      ∙ quiet c.in_ok-operand.behind (Do (make_binary c.in-Some.place c.in-Some.operator) ∷ (again (level_view c.args.level) ++ s)) (again (level_view c.args.level) ++ s) (read_expression c.in_ok-operand.operand (read_operations left c.loop-place.list.items v)) (ExpressionR (BinaryE c.in-Some.place c.in-Some.operator (leaned left c.loop-place.list.items) (expression_of c.in_ok-operand.operand)) ∷ v) (λ t q. refl)
-      ∙ seen (again (level_view c.args.level) ++ s) v c.in_ok-operand.behind (sym (operation_pushed left c.loop-place.list.items (operation c.in-Some.place c.in-Some.operator c.in_ok-operand.operand)))
-      ∙ ap (λ (x : List Symbol). run 64 x (read_operations left (c.loop-place.list.items ++ operation c.in-Some.place c.in-Some.operator c.in_ok-operand.operand ∷ []) v) (ahead c.in_ok-operand.behind)) (again_others (level_view c.args.level) (sym c.is_relations.ensures ∙ c.if-is_relations.false) s)
-      ∙ ap (λ (os : List Operation). run 64 (Want (MoreG (level_view c.args.level)) ∷ s) (read_operations left os v) (ahead c.in_ok-operand.behind)) (sym c.in_ok-push.ensures.items);
+      ∙ taken (Want (MoreG (precedence_view c.args.precedence)) ∷ s) (read_operations left c.loop-place.list.items v) c.in-Some.ensures.0
+      ∙ operator_taken (precedence_view c.args.precedence) c.in-Some.operator c.in-Some.place s (read_operations left c.loop-place.list.items v) (ahead c.in-Some.after) c.in-Some.ensures.1
+      ∙ c.in_ok-operand.ensures.leads (Do (make_binary c.in-Some.place c.in-Some.operator) ∷ (again (precedence_view c.args.precedence) ++ s)) (read_operations left c.loop-place.list.items v) (ap (λ (n : ℕ). n + c.args.room) (depth_again (precedence_view c.args.precedence) s) ∙ d)
+      ∙ quiet c.in_ok-operand.behind (Do (make_binary c.in-Some.place c.in-Some.operator) ∷ (again (precedence_view c.args.precedence) ++ s)) (again (precedence_view c.args.precedence) ++ s) (read_expression c.in_ok-operand.operand (read_operations left c.loop-place.list.items v)) (ExpressionR (BinaryE c.in-Some.place c.in-Some.operator (leaned left c.loop-place.list.items) (expression_of c.in_ok-operand.operand)) ∷ v) (λ t q. refl)
+      ∙ seen (again (precedence_view c.args.precedence) ++ s) v c.in_ok-operand.behind (sym (operation_pushed left c.loop-place.list.items (operation c.in-Some.place c.in-Some.operator c.in_ok-operand.operand)))
+      ∙ ap (λ (x : List Symbol). run 64 x (read_operations left (c.loop-place.list.items ++ operation c.in-Some.place c.in-Some.operator c.in_ok-operand.operand ∷ []) v) (ahead c.in_ok-operand.behind)) (again_others (precedence_view c.args.precedence) (sym c.is_relations.ensures ∙ c.if-is_relations.false) s)
+      ∙ ap (λ (os : List Operation). run 64 (Want (MoreG (precedence_view c.args.precedence)) ∷ s) (read_operations left os v) (ahead c.in_ok-operand.behind)) (sym c.in_ok-push.ensures.items);
   shorter = omega (arith, c.loop-place.invariant.shorter, c.in-Some.ensures.0.shorter, c.in_ok-operand.ensures.within);
 }
 
@@ -179,7 +179,7 @@ primary-returns-in-Some-clause-leads t c = λ s v d. taken (Want PrimaryG ∷ s)
 
 pub primary-returns-in-Some-numeral-clause-leads : goal.primary-returns-in-Some-numeral-clause-leads
 primary-returns-in-Some-numeral-clause-leads t c = λ s v d. taken (Want PrimaryG ∷ s) v c.in-Some-numeral.ensures
-    ∙ quiet c.in-Some-numeral.rest (push (ExpressionR (NumberE (number_of c.in-Some-numeral.number))) ∷ s) s v (ExpressionR (NumberE (number_of c.in-Some-numeral.number)) ∷ v) (λ t q. refl)
+    ∙ quiet c.in-Some-numeral.rest (push (ExpressionR (NumeralE (number_of c.in-Some-numeral.number))) ∷ s) s v (ExpressionR (NumeralE (number_of c.in-Some-numeral.number)) ∷ v) (λ t q. refl)
 
 pub primary-returns-in-Some-text-clause-leads : goal.primary-returns-in-Some-text-clause-leads
 primary-returns-in-Some-text-clause-leads t c = λ s v d. taken (Want PrimaryG ∷ s) v c.in-Some-text.ensures
@@ -320,7 +320,7 @@ subscripts-returns-clause-within t c = closes_within mark.RightParenthesis c.arg
 
 pub value-returns-in-Some-clause-leads : goal.value-returns-in-Some-clause-leads
 value-returns-in-Some-clause-leads t c = λ s v d. taken (Want ValueG ∷ s) v c.in-Some.ensures
-    ∙ quiet c.in-Some.rest (push (ValueR (NumberV (number_of c.in-Some.number))) ∷ s) s v (ValueR (NumberV (number_of c.in-Some.number)) ∷ v) (λ t q. refl)
+    ∙ quiet c.in-Some.rest (push (ValueR (NumeralV (number_of c.in-Some.number))) ∷ s) s v (ValueR (NumeralV (number_of c.in-Some.number)) ∷ v) (λ t q. refl)
 
 pub value-returns-in-Some-text-clause-leads : goal.value-returns-in-Some-text-clause-leads
 value-returns-in-Some-text-clause-leads t c = λ s v d. taken (Want ValueG ∷ s) v c.in-Some-text.ensures

@@ -2,14 +2,14 @@ use Rattle.std.proofs.Common.{◌≡◌, ◌∷◌, ℕ, suc, List, ◌+◌, ◌
 use Rattle.plm_syntax.specs.Terminal.{NameT}
 use Rattle.plm_syntax.specs.Tree.{ExpressionT}
 use Rattle.plm_syntax.specs.View.{expressions_of, values_of}
-use Rattle.plm_syntax.specs.Symbol.{Value, Level, Symbol, depth, Products, Sums, Relations, Conjunctions, Disjunctions, ExpressionR, ExpressionsR, ValuesR, Want, Do, Leave, MoreG, SubscriptsG, MoreSubscriptsG, MoreValuesG}
-use Rattle.plm_syntax.specs.Machine.{a_value_list, set_subscripts, run}
-use Rattle.plm_syntax.specs.Parsed.{ahead}
-use Rattle.plm_syntax.specs.Parts.{level_view, read_operations, reference_read}
+use Rattle.plm_syntax.specs.Inner.Symbol.{Value, Precedence, Symbol, depth, Products, Sums, Relations, Conjunctions, Disjunctions, ExpressionR, ExpressionsR, ValuesR, Want, Do, Leave, MoreG, SubscriptsG, MoreSubscriptsG, MoreValuesG}
+use Rattle.plm_syntax.specs.Inner.Machine.{a_value_list, set_subscripts, run}
+use Rattle.plm_syntax.specs.Inner.Parsed.{ahead}
+use Rattle.plm_syntax.specs.Inner.Parts.{precedence_view, read_operations, reference_read}
 use Rattle.plm_syntax.proofs.expression.+expression.Given as goal
 
 -- how many calls may follow one at the same token
-abbrev pub rank : Level → ℕ
+abbrev pub rank : Precedence → ℕ
 rank Products = 2
 rank Sums = 4
 rank Relations = 6
@@ -53,10 +53,10 @@ abbrev pub decreases-signed : goal.decreases-signed
 decreases-signed l = 16 * length l.cursor.tokens.now + 1
 
 abbrev pub decreases-operand : goal.decreases-operand
-decreases-operand l = 16 * length l.cursor.tokens.now + rank (level_view l.level)
+decreases-operand l = 16 * length l.cursor.tokens.now + rank (precedence_view l.precedence)
 
 abbrev pub decreases-binary : goal.decreases-binary
-decreases-binary l = 16 * length l.cursor.tokens.now + (rank (level_view l.level) + 1)
+decreases-binary l = 16 * length l.cursor.tokens.now + (rank (precedence_view l.precedence) + 1)
 
 abbrev pub decreases-negation : goal.decreases-negation
 decreases-negation l = 16 * length l.cursor.tokens.now + 8
@@ -70,8 +70,8 @@ decreases-closed l = 16 * length l.cursor.tokens.now + 13
 abbrev pub invariant-operations-loop-place : goal.invariant-operations-loop-place
 invariant-operations-loop-place l = record {
   leads : (left : ExpressionT) (s : List Symbol) (v : List Value) → depth s + l.room ≡ 64
-      → run 64 (Want (MoreG (level_view l.level)) ∷ s) (ExpressionR left ∷ v) (ahead l.fn.cursor)
-      ≡ run 64 (Want (MoreG (level_view l.level)) ∷ s) (read_operations left l.list.items v) (ahead l.rest);
+      → run 64 (Want (MoreG (precedence_view l.precedence)) ∷ s) (ExpressionR left ∷ v) (ahead l.fn.cursor)
+      ≡ run 64 (Want (MoreG (precedence_view l.precedence)) ∷ s) (read_operations left l.list.items v) (ahead l.rest);
   shorter : length l.rest.tokens.now ≤ length l.fn.cursor.tokens.now;
 }
 

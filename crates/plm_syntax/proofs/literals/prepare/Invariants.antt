@@ -1,6 +1,6 @@
 use Rattle.std.proofs.Common.{◌≡◌, ◌++◌, drop, map}
-use Rattle.plm_token.specs.Scanning.{lexemes}
-use Rattle.plm_syntax.specs.ExpandView.{source_view, with_text}
+use Rattle.plm_token.specs.Scanner.{lexemes}
+use Rattle.plm_syntax.specs.Inner.Literals.{source_view, with_text}
 use Rattle.plm_syntax.proofs.literals.prepare.Given as goal
 
 abbrev pub invariant-loop-token : goal.invariant-loop-token

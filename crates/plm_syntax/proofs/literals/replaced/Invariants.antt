@@ -1,6 +1,6 @@
 use Rattle.std.proofs.Common.{◌≡◌, drop, map, fold}
-use Rattle.plm_syntax.specs.Expand.{nothing_out}
-use Rattle.plm_syntax.specs.ExpandView.{out_of, source_view, out_with_text}
+use Rattle.plm_syntax.specs.Literals.{nothing_out}
+use Rattle.plm_syntax.specs.Inner.Literals.{out_of, source_view, out_with_text}
 use Rattle.plm_syntax.proofs.literals.replaced.Given as goal
 
 abbrev pub invariant-loop-source : goal.invariant-loop-source

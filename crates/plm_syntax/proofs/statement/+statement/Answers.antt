@@ -1,5 +1,5 @@
 use Rattle.std.proofs.Common.{◌∷◌, ◌++◌, List, length, Some, None, refl, sym, ap, ◌∙◌, arith}
-use Rattle.plm_syntax.specs.declared.tree.Place.{Place}
+use Rattle.plm_syntax.specs.declared.tree.Position.{Position}
 use Rattle.plm_syntax.specs.declared.tree.Name.{Name as NameTree}
 use Rattle.plm_syntax.specs.declared.tree.Statement.{Statement}
 use Rattle.std.specs.Global.{Box}
@@ -8,12 +8,12 @@ use Rattle.plm_syntax.specs.declared.statement.Bounds.{Bounds}
 use Rattle.plm_syntax.specs.declared.tree.Item.{Item}
 use Rattle.plm_syntax.specs.Tree.{BlockT, ProcedureI, NamesT, names, no_names, ReferenceE, no_references, StatementsT, statements, no_statements, ItemsT, items, no_items, no_elements, DeclareI, Labelled, IfS, IfElseS, DoS, WhileS, CaseS, IterateS, BlockOf}
 use Rattle.plm_syntax.specs.View.{block_of, name_of, base_of, names_of, expression_of, elements_of, statement_of, statements_of, items_of, step_of, counted, linkage_of}
-use Rattle.plm_syntax.specs.Symbol.{Symbol, depth, push, Want, Do, Leave, ExpressionR, NameR, NamesR, ReferencesR, StatementR, StatementsR, ItemsR, ElementsR, StatementG, LeadG, ArmG, OtherwiseG, DoG, StatementsG, ItemsG, ElementG, MoreElementsG}
-use Rattle.plm_syntax.specs.Machine.{plain, add_label, join_arms, make_if, make_do, make_while, make_case, make_iterate, no_statement_yet, and_more, make_declare, make_procedure, procedure_symbols, run}
-use Rattle.plm_syntax.specs.Parsed.{ahead, next_of}
-use Rattle.plm_syntax.specs.Answers.{terminal_of}
-use Rattle.plm_syntax.specs.Blocks.{items_part, statements_part, read_statement, read_basic, read_block, read_body, read_governed, read_procedure, read_header, read_range, read_arm, iteration_goals, procedure_goals, no_parameters_read}
-use Rattle.plm_syntax.specs.Parts.{read_expression, reference_read, read_elements}
+use Rattle.plm_syntax.specs.Inner.Symbol.{Symbol, depth, push, Want, Do, Leave, ExpressionR, NameR, NamesR, ReferencesR, StatementR, StatementsR, ItemsR, ElementsR, StatementG, LeadG, ArmG, OtherwiseG, DoG, StatementsG, ItemsG, ElementG, MoreElementsG}
+use Rattle.plm_syntax.specs.Inner.Machine.{plain, add_label, join_arms, make_if, make_do, make_while, make_case, make_iterate, no_statement_yet, and_more, make_declare, make_procedure, procedure_symbols, run}
+use Rattle.plm_syntax.specs.Inner.Parsed.{ahead, next_of}
+use Rattle.plm_syntax.specs.Answer.{terminal_of}
+use Rattle.plm_syntax.specs.Inner.Blocks.{items_part, statements_part, read_statement, read_basic, read_block, read_body, read_governed, read_procedure, read_header, read_range, read_arm, iteration_goals, procedure_goals, no_parameters_read}
+use Rattle.plm_syntax.specs.Inner.Parts.{read_expression, reference_read, read_elements}
 use Rattle.plm_syntax.proofs.Rows.{name_pushed, statement_pushed, item_pushed, statement_row}
 use Rattle.plm_syntax.proofs.Along.{quiet, taken, refused, entered, too_deep, deeper, failed, refusal, depth_failure, arrives_behind, arrives_left, fails_behind, ahead_length}
 use Rattle.plm_syntax.proofs.Joined.{arrived, ended, lost, stays_less, boxes, besides}
@@ -59,7 +59,7 @@ arm-returns-clause-leads t c = λ s v d. arrives_left read_arm s v c.boxed.resul
     (boxes read_statement (Leave ∷ s) v c.statement.result c.boxed.result (run 64 (Want (StatementG None) ∷ Leave ∷ s) (NamesR no_names ∷ v) (ahead c.args.cursor)) c.boxed.ensures (c.statement.ensures.leads (Leave ∷ s) v (deeper (depth s) c.args.room c.in_ok-inside.inside d c.in_ok-inside.ensures)))
 
 -- what is awaited behind the word THEN, and behind its arm
-abbrev to_arms : Place → List Symbol → List Symbol
+abbrev to_arms : Position → List Symbol → List Symbol
 to_arms p s = Want ArmG ∷ Want OtherwiseG ∷ Do (make_if p) ∷ s
 
 pub condition-returns-in_err-choice-clause-leads : goal.condition-returns-in_err-choice-clause-leads

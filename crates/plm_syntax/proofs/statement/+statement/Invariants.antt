@@ -1,9 +1,9 @@
 use Rattle.std.proofs.Common.{◌≡◌, ◌∷◌, List, ◌+◌, ◌*◌, ◌≤◌, length, None}
 use Rattle.plm_syntax.specs.Tree.{no_names, no_statements, no_items}
 use Rattle.plm_syntax.specs.View.{base_of, names_of, statements_of, items_of}
-use Rattle.plm_syntax.specs.Symbol.{Value, Symbol, depth, NamesR, StatementsR, ItemsR, Want, StatementG, StatementsG, ItemsG}
-use Rattle.plm_syntax.specs.Machine.{run}
-use Rattle.plm_syntax.specs.Parsed.{ahead}
+use Rattle.plm_syntax.specs.Inner.Symbol.{Value, Symbol, depth, NamesR, StatementsR, ItemsR, Want, StatementG, StatementsG, ItemsG}
+use Rattle.plm_syntax.specs.Inner.Machine.{run}
+use Rattle.plm_syntax.specs.Inner.Parsed.{ahead}
 use Rattle.plm_syntax.proofs.statement.+statement.Given as goal
 
 abbrev pub decreases-condition : goal.decreases-condition

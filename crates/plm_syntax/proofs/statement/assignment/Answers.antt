@@ -3,11 +3,11 @@ use Rattle.plm_token.specs.declared.token.Mark.TheVariants as mark
 use Rattle.plm_syntax.specs.declared.tree.Reference.{Reference}
 use Rattle.plm_syntax.specs.Tree.{ReferenceE, ReferencesT, references, no_references, Labelled, AssignS}
 use Rattle.plm_syntax.specs.View.{name_of, expression_of, reference_of, references_from}
-use Rattle.plm_syntax.specs.Symbol.{need, push, Want, Do, ExpressionR, NamesR, ReferencesR, StatementR, TargetG, MoreTargetsG, SubscriptsG, SelectorG}
-use Rattle.plm_syntax.specs.Machine.{plain, an_expression, add_target, make_assign, run}
-use Rattle.plm_syntax.specs.Parsed.{ahead, next_of}
-use Rattle.plm_syntax.specs.Blocks.{read_basic}
-use Rattle.plm_syntax.specs.Parts.{read_expression, read_reference, reference_read}
+use Rattle.plm_syntax.specs.Inner.Symbol.{need, push, Want, Do, ExpressionR, NamesR, ReferencesR, StatementR, TargetG, MoreTargetsG, SubscriptsG, SelectorG}
+use Rattle.plm_syntax.specs.Inner.Machine.{plain, an_expression, add_target, make_assign, run}
+use Rattle.plm_syntax.specs.Inner.Parsed.{ahead, next_of}
+use Rattle.plm_syntax.specs.Inner.Blocks.{read_basic}
+use Rattle.plm_syntax.specs.Inner.Parts.{read_expression, read_reference, reference_read}
 use Rattle.plm_syntax.proofs.Rows.{reference_pushed}
 use Rattle.plm_syntax.proofs.Along.{quiet, taken, refused, failed, refusal}
 use Rattle.plm_syntax.proofs.NextBlock.{more_targets_refused, target_refused}

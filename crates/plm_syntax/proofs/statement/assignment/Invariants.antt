@@ -1,10 +1,10 @@
 use Rattle.std.proofs.Common.{◌≡◌, ◌∷◌, List, ◌+◌, ◌≤◌, length}
 use Rattle.plm_syntax.specs.Tree.{NamesT, no_references}
 use Rattle.plm_syntax.specs.View.{name_of, references_from}
-use Rattle.plm_syntax.specs.Symbol.{Value, Symbol, depth, NamesR, ReferencesR, Want, SubscriptsG, SelectorG, MoreTargetsG}
-use Rattle.plm_syntax.specs.Machine.{run}
-use Rattle.plm_syntax.specs.Parsed.{ahead}
-use Rattle.plm_syntax.specs.Parts.{reference_read, read_reference}
+use Rattle.plm_syntax.specs.Inner.Symbol.{Value, Symbol, depth, NamesR, ReferencesR, Want, SubscriptsG, SelectorG, MoreTargetsG}
+use Rattle.plm_syntax.specs.Inner.Machine.{run}
+use Rattle.plm_syntax.specs.Inner.Parsed.{ahead}
+use Rattle.plm_syntax.specs.Inner.Parts.{reference_read, read_reference}
 use Rattle.plm_syntax.proofs.statement.assignment.Given as goal
 
 abbrev pub invariant-loop-after : goal.invariant-loop-after

@@ -2,11 +2,11 @@ use Rattle.std.proofs.Common.{◌∷◌, Ok, Err, refl, ◌∙◌}
 use Rattle.plm_token.specs.declared.token.Mark.TheVariants as mark
 use Rattle.plm_syntax.specs.Tree.{ReferenceE, Labelled, CallS}
 use Rattle.plm_syntax.specs.View.{name_of, reference_of}
-use Rattle.plm_syntax.specs.Symbol.{need, push, Want, Do, ExpressionR, NamesR, StatementR, SubscriptsG, SelectorG, CalledG}
-use Rattle.plm_syntax.specs.Machine.{plain, make_call, run}
-use Rattle.plm_syntax.specs.Parsed.{ahead, next_of}
-use Rattle.plm_syntax.specs.Blocks.{read_basic}
-use Rattle.plm_syntax.specs.Parts.{read_reference, reference_read}
+use Rattle.plm_syntax.specs.Inner.Symbol.{need, push, Want, Do, ExpressionR, NamesR, StatementR, SubscriptsG, SelectorG, CalledG}
+use Rattle.plm_syntax.specs.Inner.Machine.{plain, make_call, run}
+use Rattle.plm_syntax.specs.Inner.Parsed.{ahead, next_of}
+use Rattle.plm_syntax.specs.Inner.Blocks.{read_basic}
+use Rattle.plm_syntax.specs.Inner.Parts.{read_reference, reference_read}
 use Rattle.plm_syntax.proofs.Along.{quiet, taken, refused, failed, refusal}
 use Rattle.plm_syntax.proofs.Joined.{closes}
 use Rattle.plm_syntax.proofs.NextBlock.{called_refused}

@@ -1,9 +1,9 @@
 use Rattle.std.proofs.Common.{◌∷◌}
 use Rattle.plm_token.specs.declared.token.Mark.TheVariants as mark
-use Rattle.plm_syntax.specs.Symbol.{need}
-use Rattle.plm_syntax.specs.Machine.{an_expression, run}
-use Rattle.plm_syntax.specs.Parsed.{ahead}
-use Rattle.plm_syntax.specs.Parts.{read_expression}
+use Rattle.plm_syntax.specs.Inner.Symbol.{need}
+use Rattle.plm_syntax.specs.Inner.Machine.{an_expression, run}
+use Rattle.plm_syntax.specs.Inner.Parsed.{ahead}
+use Rattle.plm_syntax.specs.Inner.Parts.{read_expression}
 use Rattle.plm_syntax.proofs.Joined.{closes, closes_less}
 use Rattle.plm_syntax.proofs.statement.closing_expression.Goals as goal
 

@@ -2,9 +2,9 @@ use Rattle.std.proofs.Common.{◌∷◌, Some, None, refl, sym, ◌∙◌}
 use Rattle.plm_token.specs.declared.token.Mark.TheVariants as mark
 use Rattle.plm_syntax.specs.Terminal.{Sign}
 use Rattle.plm_syntax.specs.View.{name_of, base_of}
-use Rattle.plm_syntax.specs.Symbol.{need, push, Want, EndR, EndG}
-use Rattle.plm_syntax.specs.Parsed.{ahead, next_of}
-use Rattle.plm_syntax.specs.Blocks.{read_end}
+use Rattle.plm_syntax.specs.Inner.Symbol.{need, push, Want, EndR, EndG}
+use Rattle.plm_syntax.specs.Inner.Parsed.{ahead, next_of}
+use Rattle.plm_syntax.specs.Inner.Blocks.{read_end}
 use Rattle.plm_syntax.proofs.Along.{quiet, taken, refused, need_refused, failed, refusal}
 use Rattle.plm_syntax.proofs.NextBlock.{end_taken, end_other, end_refused}
 use Rattle.plm_syntax.proofs.statement.end.Goals as goal

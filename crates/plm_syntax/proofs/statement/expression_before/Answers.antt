@@ -1,7 +1,7 @@
 use Rattle.std.proofs.Common.{◌∷◌}
 use Rattle.plm_syntax.specs.Terminal.{Key}
-use Rattle.plm_syntax.specs.Symbol.{Need}
-use Rattle.plm_syntax.specs.Parts.{read_expression}
+use Rattle.plm_syntax.specs.Inner.Symbol.{Need}
+use Rattle.plm_syntax.specs.Inner.Parts.{read_expression}
 use Rattle.plm_syntax.proofs.Joined.{closes_word, word_less}
 use Rattle.plm_syntax.proofs.statement.expression_before.Goals as goal
 

@@ -2,8 +2,8 @@ use Rattle.std.proofs.Common.{◌∷◌, refl, ◌∙◌}
 use Rattle.plm_token.specs.declared.token.Mark.TheVariants as mark
 use Rattle.plm_syntax.specs.Terminal.{Sign}
 use Rattle.plm_syntax.specs.View.{names_of, counted, linkage_of}
-use Rattle.plm_syntax.specs.Symbol.{need, Want, HeaderR, ReturnedTypeG, InterruptG, LinkageG}
-use Rattle.plm_syntax.specs.Blocks.{read_header}
+use Rattle.plm_syntax.specs.Inner.Symbol.{need, Want, HeaderR, ReturnedTypeG, InterruptG, LinkageG}
+use Rattle.plm_syntax.specs.Inner.Blocks.{read_header}
 use Rattle.plm_syntax.proofs.Along.{taken, need_refused, failed, refusal}
 use Rattle.plm_syntax.proofs.statement.header.Goals as goal
 

@@ -2,7 +2,7 @@ use Rattle.std.proofs.Common.{◌∷◌, List, ap, ◌∙◌, arith}
 use Rattle.plm_token.specs.declared.token.Mark.TheVariants as mark
 use Rattle.plm_syntax.specs.Terminal.{Name, Sign, Leaf, leaf_at}
 use Rattle.plm_syntax.specs.View.{name_of}
-use Rattle.plm_syntax.specs.Parsed.{ahead}
+use Rattle.plm_syntax.specs.Inner.Parsed.{ahead}
 use Rattle.plm_syntax.proofs.NextBlock.{unheaded, no_procedure}
 use Rattle.plm_syntax.proofs.statement.heading_at.Goals as goal
 

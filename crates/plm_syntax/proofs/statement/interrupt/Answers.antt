@@ -1,10 +1,10 @@
 use Rattle.std.proofs.Common.{◌∷◌, Some, None, refl, ◌∙◌}
 use Rattle.plm_syntax.specs.Tree.{no_linkage}
 use Rattle.plm_syntax.specs.View.{number_of}
-use Rattle.plm_syntax.specs.Symbol.{Want, Do, HeaderR, InterruptG, InterruptNumberG}
-use Rattle.plm_syntax.specs.Machine.{set_interrupt}
-use Rattle.plm_syntax.specs.Parsed.{next_of}
-use Rattle.plm_syntax.specs.Blocks.{read_interrupt}
+use Rattle.plm_syntax.specs.Inner.Symbol.{Want, Do, HeaderR, InterruptG, InterruptNumberG}
+use Rattle.plm_syntax.specs.Inner.Machine.{set_interrupt}
+use Rattle.plm_syntax.specs.Inner.Parsed.{next_of}
+use Rattle.plm_syntax.specs.Inner.Blocks.{read_interrupt}
 use Rattle.plm_syntax.proofs.Along.{quiet, taken, refused, failed, refusal}
 use Rattle.plm_syntax.proofs.NextBlock.{interrupt_refused, no_interrupt_there}
 use Rattle.plm_syntax.proofs.statement.interrupt.Goals as goal

@@ -1,7 +1,7 @@
 use Rattle.std.proofs.Common.{◌∷◌, refl, ◌∙◌, arith}
 use Rattle.plm_syntax.specs.Tree.{no_linkage, public_linkage, external_linkage}
-use Rattle.plm_syntax.specs.Symbol.{Want, Do, HeaderR, LinkageG}
-use Rattle.plm_syntax.specs.Machine.{set_linkage}
+use Rattle.plm_syntax.specs.Inner.Symbol.{Want, Do, HeaderR, LinkageG}
+use Rattle.plm_syntax.specs.Inner.Machine.{set_linkage}
 use Rattle.plm_syntax.proofs.Along.{quiet, taken}
 use Rattle.plm_syntax.proofs.NextBlock.{no_linkage_there}
 use Rattle.plm_syntax.proofs.statement.linkage.Goals as goal

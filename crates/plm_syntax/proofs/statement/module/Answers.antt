@@ -3,11 +3,11 @@ use Rattle.plm_token.specs.declared.token.Mark.TheVariants as mark
 use Rattle.plm_syntax.specs.Terminal.{Finish, Sign}
 use Rattle.plm_syntax.specs.Tree.{BlockT, ModuleOf, no_items, BlockOf}
 use Rattle.plm_syntax.specs.View.{block_of, name_of, base_of}
-use Rattle.plm_syntax.specs.Symbol.{ModuleR, need, push, Need, Want, Do, Leave, ItemsR, ItemsG, ModuleG, StartG}
-use Rattle.plm_syntax.specs.Machine.{make_module, start, run}
-use Rattle.plm_syntax.specs.Parsed.{next_of, stream}
+use Rattle.plm_syntax.specs.Inner.Symbol.{ModuleR, need, push, Need, Want, Do, Leave, ItemsR, ItemsG, ModuleG, StartG}
+use Rattle.plm_syntax.specs.Inner.Machine.{make_module, start, run}
+use Rattle.plm_syntax.specs.Inner.Parsed.{next_of, stream}
 use Rattle.plm_token.specs.declared.token.Token.{Token}
-use Rattle.plm_syntax.specs.Blocks.{items_part, statements_part, read_block}
+use Rattle.plm_syntax.specs.Inner.Blocks.{items_part, statements_part, read_block}
 use Rattle.plm_syntax.proofs.Along.{quiet, taken, refused, need_refused, refusal, fails_behind}
 use Rattle.plm_syntax.proofs.NextBlock.{start_refused, module_refused, block_parts, failed_module, finishes, finished}
 use Rattle.plm_syntax.proofs.statement.module.Goals as goal

@@ -1,9 +1,9 @@
 use Rattle.std.proofs.Common.{◌∷◌, [], List, sym, ap, ◌∙◌}
 use Rattle.plm_syntax.specs.declared.tree.Name.{Name as NameTree}
-use Rattle.plm_syntax.specs.Symbol.{Want, ParametersG}
-use Rattle.plm_syntax.specs.Machine.{run}
-use Rattle.plm_syntax.specs.Parsed.{ahead}
-use Rattle.plm_syntax.specs.Parts.{read_parameters}
+use Rattle.plm_syntax.specs.Inner.Symbol.{Want, ParametersG}
+use Rattle.plm_syntax.specs.Inner.Machine.{run}
+use Rattle.plm_syntax.specs.Inner.Parsed.{ahead}
+use Rattle.plm_syntax.specs.Inner.Parts.{read_parameters}
 use Rattle.plm_syntax.proofs.Along.{taken, arrives_behind}
 use Rattle.plm_syntax.proofs.NextBlock.{no_parameters_there}
 use Rattle.plm_syntax.proofs.statement.parameters.Goals as goal

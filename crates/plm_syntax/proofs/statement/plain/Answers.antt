@@ -1,10 +1,10 @@
 use Rattle.std.proofs.Common.{◌∷◌, refl, ◌∙◌}
 use Rattle.plm_token.specs.declared.token.Mark.TheVariants as mark
 use Rattle.plm_syntax.specs.Tree.{Labelled, EmptyS, EnableS, DisableS, HaltS}
-use Rattle.plm_syntax.specs.Symbol.{Want, Do, NamesR, StatementR, StatementG}
-use Rattle.plm_syntax.specs.Machine.{make_simple}
-use Rattle.plm_syntax.specs.Parsed.{next_of}
-use Rattle.plm_syntax.specs.Blocks.{read_basic}
+use Rattle.plm_syntax.specs.Inner.Symbol.{Want, Do, NamesR, StatementR, StatementG}
+use Rattle.plm_syntax.specs.Inner.Machine.{make_simple}
+use Rattle.plm_syntax.specs.Inner.Parsed.{next_of}
+use Rattle.plm_syntax.specs.Inner.Blocks.{read_basic}
 use Rattle.plm_syntax.specs.declared.tree.Basic.TheVariants as basic
 use Rattle.plm_syntax.proofs.Along.{quiet, taken, refused, refusal, arrives_behind}
 use Rattle.plm_syntax.proofs.Joined.{closes_at}

@@ -4,11 +4,11 @@ use Rattle.plm_token.specs.declared.token.Keyword.TheVariants as key
 use Rattle.plm_syntax.specs.declared.tree.Expression.{Expression}
 use Rattle.plm_syntax.specs.Terminal.{Sign, Key}
 use Rattle.plm_syntax.specs.View.{expression_of, step_of}
-use Rattle.plm_syntax.specs.Symbol.{Symbol, need, push, Need, Want, Do, NameR, StepR, RangeR, StepG}
-use Rattle.plm_syntax.specs.Machine.{an_expression, make_range, run}
-use Rattle.plm_syntax.specs.Parsed.{ahead}
-use Rattle.plm_syntax.specs.Blocks.{read_range, read_step}
-use Rattle.plm_syntax.specs.Parts.{read_expression}
+use Rattle.plm_syntax.specs.Inner.Symbol.{Symbol, need, push, Need, Want, Do, NameR, StepR, RangeR, StepG}
+use Rattle.plm_syntax.specs.Inner.Machine.{an_expression, make_range, run}
+use Rattle.plm_syntax.specs.Inner.Parsed.{ahead}
+use Rattle.plm_syntax.specs.Inner.Blocks.{read_range, read_step}
+use Rattle.plm_syntax.specs.Inner.Parts.{read_expression}
 use Rattle.plm_syntax.proofs.Along.{quiet, taken, need_refused, failed, refusal}
 use Rattle.plm_syntax.proofs.Joined.{arrived, ended, stays_within, stays_less}
 use Rattle.plm_syntax.proofs.statement.range.Goals as goal

@@ -1,10 +1,10 @@
 use Rattle.std.proofs.Common.{◌∷◌, refl, ◌∙◌}
 use Rattle.plm_syntax.specs.Tree.{Labelled, ReturnS, ReturnValueS}
 use Rattle.plm_syntax.specs.View.{expression_of}
-use Rattle.plm_syntax.specs.Symbol.{Want, Do, NamesR, StatementR, ReturnedG}
-use Rattle.plm_syntax.specs.Machine.{make_simple, make_return}
-use Rattle.plm_syntax.specs.Blocks.{read_basic}
-use Rattle.plm_syntax.specs.Parts.{read_expression}
+use Rattle.plm_syntax.specs.Inner.Symbol.{Want, Do, NamesR, StatementR, ReturnedG}
+use Rattle.plm_syntax.specs.Inner.Machine.{make_simple, make_return}
+use Rattle.plm_syntax.specs.Inner.Blocks.{read_basic}
+use Rattle.plm_syntax.specs.Inner.Parts.{read_expression}
 use Rattle.plm_syntax.proofs.Along.{quiet, taken, failed}
 use Rattle.plm_syntax.proofs.NextBlock.{returned_goes}
 use Rattle.plm_syntax.proofs.statement.return_from.Goals as goal

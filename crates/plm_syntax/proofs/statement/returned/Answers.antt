@@ -1,8 +1,8 @@
 use Rattle.std.proofs.Common.{◌∷◌, Some, None, refl, ◌∙◌, arith}
 use Rattle.plm_syntax.specs.Tree.{no_linkage}
-use Rattle.plm_syntax.specs.Symbol.{Want, Do, HeaderR, ReturnedTypeG}
-use Rattle.plm_syntax.specs.Machine.{set_returned}
-use Rattle.plm_syntax.specs.Parsed.{ahead}
+use Rattle.plm_syntax.specs.Inner.Symbol.{Want, Do, HeaderR, ReturnedTypeG}
+use Rattle.plm_syntax.specs.Inner.Machine.{set_returned}
+use Rattle.plm_syntax.specs.Inner.Parsed.{ahead}
 use Rattle.plm_syntax.proofs.Along.{quiet, taken}
 use Rattle.plm_syntax.proofs.NextDeclaration.{returned_taken}
 use Rattle.plm_syntax.proofs.NextBlock.{no_type_there}

@@ -1,11 +1,11 @@
 use Rattle.std.proofs.Common.{◌∷◌, Some, None, Ok, refl, ◌∙◌, arith}
 use Rattle.plm_token.specs.declared.token.Mark.TheVariants as mark
 use Rattle.plm_syntax.specs.View.{expression_of}
-use Rattle.plm_syntax.specs.Symbol.{need, Want, Do, StepR, StepG}
-use Rattle.plm_syntax.specs.Machine.{set_step, run}
-use Rattle.plm_syntax.specs.Parsed.{ahead}
-use Rattle.plm_syntax.specs.Blocks.{read_step}
-use Rattle.plm_syntax.specs.Parts.{read_expression}
+use Rattle.plm_syntax.specs.Inner.Symbol.{need, Want, Do, StepR, StepG}
+use Rattle.plm_syntax.specs.Inner.Machine.{set_step, run}
+use Rattle.plm_syntax.specs.Inner.Parsed.{ahead}
+use Rattle.plm_syntax.specs.Inner.Blocks.{read_step}
+use Rattle.plm_syntax.specs.Inner.Parts.{read_expression}
 use Rattle.plm_syntax.proofs.Along.{quiet, taken, failed}
 use Rattle.plm_syntax.proofs.Joined.{closes, closes_less}
 use Rattle.plm_syntax.proofs.NextBlock.{no_step}

@@ -2,4 +2,4 @@ use Rattle.plm_token.proofs.Lawful.{all_covered}
 use Rattle.plm_token.proofs.laws.pieces_cover.Goals as goal
 
 pub returns : goal.returns
-returns c = λ place line. all_covered place line c.args.text.now
+returns c = λ state line. all_covered state line c.args.text.now

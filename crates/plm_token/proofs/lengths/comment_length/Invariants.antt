@@ -1,5 +1,5 @@
 use Rattle.std.proofs.Common.{◌≡◌, drop, false}
-use Rattle.plm_token.specs.Front.{comment_length, further}
+use Rattle.plm_token.specs.Inner.Front.{comment_length, further}
 use Rattle.plm_token.proofs.lengths.comment_length.Given as goal
 
 abbrev pub invariant-loop-i : goal.invariant-loop-i

@@ -1,5 +1,5 @@
 use Rattle.std.proofs.Common.{◌≡◌, ◌+◌, drop, false}
-use Rattle.plm_token.specs.Front.{string_length, string_closed}
+use Rattle.plm_token.specs.Inner.Front.{string_length, string_closed}
 use Rattle.plm_token.proofs.lengths.string_length.Given as goal
 
 abbrev pub invariant-loop-i : goal.invariant-loop-i

@@ -1,6 +1,6 @@
 use Rattle.std.proofs.Common.{◌∙◌, sym, ap}
 use Rattle.plm_token.specs.Names.{normal}
-use Rattle.plm_token.proofs.Normal.{normal-nil}
+use Rattle.plm_token.proofs.NormalForm.{normal-nil}
 use Rattle.plm_token.proofs.Spelled.{differs_right, ends_right}
 use Rattle.plm_token.proofs.letters.same_name.Goals as goal
 

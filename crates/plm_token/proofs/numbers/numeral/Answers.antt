@@ -3,7 +3,7 @@ use Rattle.std.proofs.lemmas.Bool.Decides.{nat_tests}
 use Rattle.plm_token.specs.Characters.{is_dollar}
 use Rattle.plm_token.specs.Names.{capital}
 use Rattle.plm_token.specs.Numbers.{base_of}
-use Rattle.plm_token.proofs.Normal.{dollar_dropped, numeral_by, numeral_decimal, numeral_none}
+use Rattle.plm_token.proofs.NormalForm.{dollar_dropped, numeral_by, numeral_decimal, numeral_none}
 use Rattle.plm_token.proofs.numbers.numeral.Goals as goal
 
 pub loop-last-preserved : goal.loop-last-preserved

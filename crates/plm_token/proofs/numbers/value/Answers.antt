@@ -1,7 +1,7 @@
 use Rattle.plm_token.specs.Names.{normal}
 use Rattle.std.proofs.Common.{◌∙◌, ap}
 use Rattle.plm_token.specs.Numbers.{digits_from}
-use Rattle.plm_token.proofs.Normal.{past_limit, no_more_digits}
+use Rattle.plm_token.proofs.NormalForm.{past_limit, no_more_digits}
 use Rattle.plm_token.proofs.numbers.value.Goals as goal
 
 pub returns-then-value-gt-GREATEST : goal.returns-then-value-gt-GREATEST

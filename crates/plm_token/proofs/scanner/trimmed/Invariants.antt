@@ -1,5 +1,5 @@
 use Rattle.std.proofs.Common.{◌≡◌, ◌≤◌, length}
-use Rattle.plm_token.specs.Scanning.{trimmed}
+use Rattle.plm_token.specs.Scanner.{trimmed}
 use Rattle.plm_token.proofs.scanner.trimmed.Given as goal
 
 abbrev pub invariant-loop-last : goal.invariant-loop-last

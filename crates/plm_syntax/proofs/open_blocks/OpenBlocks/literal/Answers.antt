@@ -1,6 +1,6 @@
 use Rattle.std.proofs.Common.{◌∙◌, ap, sym, map, find, cond, Bool, None}
 use Rattle.plm_token.specs.Names.{names_equal}
-use Rattle.plm_syntax.specs.Quiet.{literal_text, literal_at}
+use Rattle.plm_syntax.specs.Inner.OpenBlocks.{literal_text, literal_at}
 use Rattle.plm_syntax.proofs.Known.{place_named}
 use Rattle.plm_syntax.proofs.open_blocks.OpenBlocks.literal.Goals as goal
 

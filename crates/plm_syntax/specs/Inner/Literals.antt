@@ -3,16 +3,15 @@ use Rattle.std.specs.Prelude.{ℕ, List, map, reverse, cond, Option, Some, None,
 use Rattle.std.specs.Option.{option_map}
 use Rattle.word86.specs.declared.number.Number.{Number}
 use Rattle.plm_token.specs.declared.token.Kind.{Kind}
-use Rattle.plm_token.specs.Scanning.{Lexeme, lexeme, lexemes}
+use Rattle.plm_token.specs.Scanner.{Lexeme, lexeme, lexemes}
 use Rattle.plm_token.specs.Literals.{Symbol, literal_of}
 use Rattle.plm_syntax.specs.declared.open_blocks.OpenBlocks.{OpenBlocks}
 use Rattle.plm_syntax.specs.declared.literals.Expander.{Expander}
-use Rattle.plm_syntax.specs.declared.literals.Expansion.{Expansion}
 use Rattle.plm_syntax.specs.declared.literals.Source.{Source}
 use Rattle.plm_syntax.specs.declared.literals.Text.{Text}
 use Rattle.plm_syntax.specs.declared.literals.Text.TheVariants.{Absent, Tokens, Faulty}
-use Rattle.plm_syntax.specs.Expand.{Blocks, Out, is_string, between, declare, declared_name, put, literal_for, by_literal, or_else, text_out}
-pub use Rattle.plm_syntax.specs.Quiet.{symbol, literal_text}
+use Rattle.plm_syntax.specs.Literals.{Blocks, Out, is_string, between, declare, declared_name, put, literal_for, by_literal, or_else, text_out}
+pub use Rattle.plm_syntax.specs.Inner.OpenBlocks.{symbol, literal_text}
 
 abbrev pub blocks_of : OpenBlocks → Blocks
 blocks_of b = record { literals = map literal_text b.literals.items; starts = reverse b.starts.items }
@@ -52,14 +51,3 @@ put_with_text t text o = declare_text (declared_name t.kind o.last o.before) tex
 
 abbrev pub out_with_text : Lexeme × Option (Result (List Symbol) Number) → Out → Out
 out_with_text p o = or_else o.stop o (by_literal (λ l. text_out 7 p.0.line l.text o) (literal_for o.blocks.literals p.0.kind p.0.text) (put_with_text p.0 p.1 o))
-
--- the tokens that came out, and where it stopped
-pub record Expanded : Type 0 where
-  pub tokens : List Lexeme
-  pub stop : Option (Number × ℕ)
-
-abbrev pub expansion_of : Out → Expanded
-expansion_of o = record { tokens = o.tokens; stop = o.stop }
-
-abbrev pub expansion_view : Expansion → Expanded
-expansion_view e = record { tokens = lexemes e.tokens.items; stop = e.stop }

@@ -1,11 +1,11 @@
--- Literals whose texts put nothing out, which are remembered so that texts of nothing but empty literals are read once.
-use Rattle.std.specs.Prelude.{ℕ, zero, suc, List, [], map, Bool, false, ◌&&◌, nat_eq, nat_le, Option, Some, None}
-use Rattle.std.specs.List.{list_all, list_any, slice_get}
+-- Tokens of literals that put nothing out, which are remembered so that each is read once.
+use Rattle.std.specs.Prelude.{ℕ, zero, suc, List, [], map, Bool, false, Option, Some, None}
+use Rattle.std.specs.List.{list_all, slice_get, slice_range}
 use Rattle.plm_token.specs.declared.token.Token.{Token}
 use Rattle.plm_token.specs.Literals.{Symbol}
 use Rattle.plm_syntax.specs.declared.open_blocks.Literal.{Literal}
-use Rattle.plm_syntax.specs.declared.open_blocks.Quiet.{Quiet}
-use Rattle.plm_syntax.specs.Expand.{LiteralText, literal_for}
+use Rattle.plm_syntax.specs.declared.open_blocks.QuietRun.{QuietRun}
+use Rattle.plm_syntax.specs.Literals.{LiteralText, literal_for}
 
 abbrev pub symbol : Token → Symbol
 symbol t = record { kind = t.kind; text = t.text.now }
@@ -32,7 +32,7 @@ abbrev pub each_quiet : (Symbol → Bool) → Option LiteralText → Bool
 each_quiet quiet None = false
 each_quiet quiet (Some l) = list_all quiet l.text
 
--- A token of a literal's text puts nothing out where so many replacements may be made: it names a literal, and each token of that
+-- A token of a literal's text puts nothing out where `levels` replacements may be made one inside the other: it names a literal, and each token of that
 -- literal's text puts nothing out where one less may be made.
 unfoldable pub is_quiet : ℕ → List LiteralText → Symbol → Bool
 is_quiet zero literals s = false
@@ -41,15 +41,13 @@ is_quiet (suc levels) literals s = each_quiet (λ x. is_quiet levels literals x)
 abbrev pub is_quiet_text : ℕ → List LiteralText → List Symbol → Bool
 is_quiet_text levels literals text = list_all (λ s. is_quiet levels literals s) text
 
--- the same of a literal, by its number
-abbrev pub names_quiet : ℕ → List LiteralText → ℕ → Bool
-names_quiet levels literals i = each_quiet (λ s. is_quiet levels literals s) (slice_get literals i)
+abbrev pub is_quiet_in : ℕ → List LiteralText → ℕ → ℕ → Option LiteralText → Bool
+is_quiet_in levels literals from to None = false
+is_quiet_in levels literals from to (Some l) = is_quiet_text levels literals (slice_range l.text from to)
 
--- ---- what is remembered
+-- the same of tokens of a literal, by its number
+abbrev pub is_quiet_between : ℕ → List LiteralText → ℕ → ℕ → ℕ → Bool
+is_quiet_between levels literals i from to = is_quiet_in levels literals from to (slice_get literals i)
 
-abbrev pub all_known : List LiteralText → List Quiet → Bool
-all_known literals quiet = list_all (λ q. names_quiet q.levels literals q.literal) quiet
-
--- a literal is among those seen to put nothing out where so many replacements may be made
-abbrev pub is_seen : ℕ → ℕ → List Quiet → Bool
-is_seen i levels quiet = list_any (λ q. nat_eq q.literal i && nat_le q.levels levels) quiet
+abbrev pub is_quiet_run : List LiteralText → QuietRun → Bool
+is_quiet_run literals r = is_quiet_between r.levels literals r.literal r.from r.to

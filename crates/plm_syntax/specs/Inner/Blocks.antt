@@ -5,9 +5,9 @@ use Rattle.plm_token.specs.declared.token.Keyword.{Keyword}
 use Rattle.plm_token.specs.declared.token.Mark.{Mark}
 use Rattle.plm_token.specs.declared.token.Keyword.TheVariants as key
 use Rattle.plm_token.specs.declared.token.Mark.TheVariants as mark
-use Rattle.plm_syntax.specs.declared.tree.Place.{Place}
+use Rattle.plm_syntax.specs.declared.tree.Position.{Position}
 use Rattle.plm_syntax.specs.declared.tree.Name.{Name as NameTree}
-use Rattle.plm_syntax.specs.declared.tree.Number.{Number as NumberTree}
+use Rattle.plm_syntax.specs.declared.tree.Numeral.{Numeral as NumberTree}
 use Rattle.plm_syntax.specs.declared.tree.Scalar.{Scalar}
 use Rattle.plm_syntax.specs.declared.tree.Linkage.{Linkage}
 use Rattle.plm_syntax.specs.declared.tree.Expression.{Expression}
@@ -21,14 +21,14 @@ use Rattle.plm_syntax.specs.declared.statement.Signature.{Signature}
 use Rattle.plm_syntax.specs.declared.statement.Bounds.{Bounds}
 use Rattle.plm_syntax.specs.declared.cursor.Cursor.{Cursor}
 use Rattle.plm_syntax.specs.declared.failure.Failure.{Failure}
-use Rattle.plm_syntax.specs.Terminal.{NameT, NumberT, Terminal, Name, Number, Text, Key, Sign, Finish, Leaf, leaf_at, is_key, is_sign}
+use Rattle.plm_syntax.specs.Terminal.{NameT, NumeralT, Terminal, Name, Numeral, Text, Key, Sign, Finish, Leaf, leaf_at, is_key, is_sign}
 use Rattle.plm_syntax.specs.Tree.{BlockT, BlockOf, StatementsT, NamesT, no_names, ItemsT, items, no_items, no_statements, no_linkage, Labelled}
 use Rattle.plm_syntax.specs.View.{name_of, counted, base_of, names_of, expression_of, step_of, linkage_of, basic_of, statement_of, statements_of, item_of, block_of, procedure_of, module_of}
-use Rattle.plm_syntax.specs.Symbol.{Value, Symbol, depth, need, push, Need, Want, Do, Leave, ExpressionR, StatementR, StatementsR, ItemsR, EndR, StepR, RangeR, HeaderR, ModuleR, ArmG, OtherwiseG, StepG, StatementsG, ItemsG, ParametersG, ReturnedTypeG, InterruptG, LinkageG}
-use Rattle.plm_syntax.specs.Machine.{an_expression, make_if, make_range, make_iterate, no_statement_yet, make_procedure, run, start}
+use Rattle.plm_syntax.specs.Inner.Symbol.{Value, Symbol, depth, need, push, Need, Want, Do, Leave, ExpressionR, StatementR, StatementsR, ItemsR, EndR, StepR, RangeR, HeaderR, ModuleR, ArmG, OtherwiseG, StepG, StatementsG, ItemsG, ParametersG, ReturnedTypeG, InterruptG, LinkageG}
+use Rattle.plm_syntax.specs.Inner.Machine.{an_expression, make_if, make_range, make_iterate, no_statement_yet, make_procedure, run, start}
 use Rattle.plm_token.specs.declared.token.Token.{Token}
-use Rattle.plm_syntax.specs.Answers.{terminal_of}
-use Rattle.plm_syntax.specs.Parsed.{next_of, ahead, is_name, Takes, Fails}
+use Rattle.plm_syntax.specs.Answer.{terminal_of}
+use Rattle.plm_syntax.specs.Inner.Parsed.{next_of, ahead, is_name, Takes, Fails}
 
 -- ---- the tokens that come next
 
@@ -50,9 +50,9 @@ abbrev pub is_heading : List Leaf → Bool
 is_heading [] = false
 is_heading (l ∷ ls) = is_name l.terminal && (begins (is_sign mark.Colon) ls && begins_second (is_key key.Procedure) ls)
 
--- a name and a colon come next, and these are left behind them
+-- a name and a colon come next, and these are left after them
 pub record Labels (c : Cursor) (n : NameTree) (rest : Cursor) : Type 0 where
-  pub place : Place
+  pub place : Position
   pub is : ahead c ≡ leaf_at (Name (name_of n)) n.place ∷ leaf_at (Sign mark.Colon) place ∷ ahead rest
   pub shorter : length c.tokens.now ≡ suc (suc (length rest.tokens.now))
 
@@ -61,8 +61,8 @@ IsLabel c None = is_label (ahead c) ≡ false
 IsLabel c (Some x) = Labels c x.0 x.1
 
 pub record Heads (c : Cursor) (n : NameTree) (rest : Cursor) : Type 0 where
-  pub colon : Place
-  pub word : Place
+  pub colon : Position
+  pub word : Position
   pub is : ahead c ≡ leaf_at (Name (name_of n)) n.place ∷ leaf_at (Sign mark.Colon) colon ∷ leaf_at (Key key.Procedure) word ∷ ahead rest
   pub shorter : length c.tokens.now ≡ suc (suc (suc (length rest.tokens.now)))
 
@@ -86,13 +86,13 @@ begins_sign m = false
 
 abbrev pub begins_statement : Terminal → Bool
 begins_statement (Name n) = true
-begins_statement (Number n) = false
+begins_statement (Numeral n) = false
 begins_statement (Text s) = false
 begins_statement (Key k) = begins_keyword k
 begins_statement (Sign m) = begins_sign m
 begins_statement Finish = false
 
-abbrev pub IsBeginning : Cursor → Option (Token × Place × Cursor) → Type 0
+abbrev pub IsBeginning : Cursor → Option (Token × Position × Cursor) → Type 0
 IsBeginning c None = begins_statement (next_of c) ≡ false
 IsBeginning c (Some x) = Takes c (terminal_of x.0.kind x.0.text.now x.1) x.1 x.2 × (begins_statement (terminal_of x.0.kind x.0.text.now x.1) ≡ true)
 
@@ -146,7 +146,7 @@ no_parameters_read n is v = HeaderR n no_names None None no_linkage ∷ ItemsR i
 
 -- ---- what is awaited
 
-abbrev pub condition_goals : Place → List Symbol → List Symbol
+abbrev pub condition_goals : Position → List Symbol → List Symbol
 condition_goals p s = an_expression (Need (Key key.Then) ∷ Want ArmG ∷ Want OtherwiseG ∷ Do (make_if p) ∷ s)
 
 abbrev pub governed_goals : Option NameT → List Symbol → List Symbol
@@ -155,7 +155,7 @@ governed_goals l s = an_expression (need mark.Semicolon ∷ no_statement_yet ∷
 abbrev pub range_goals : List Symbol → List Symbol
 range_goals s = need mark.Equal ∷ an_expression (Need (Key key.To) ∷ an_expression (Do make_range ∷ push (StepR None) ∷ Want StepG ∷ need mark.Semicolon ∷ s))
 
-abbrev pub iteration_goals : Place → Option NameT → List Symbol → List Symbol
+abbrev pub iteration_goals : Position → Option NameT → List Symbol → List Symbol
 iteration_goals p l s = range_goals (no_statement_yet ∷ Want (StatementsG l) ∷ Do (make_iterate p) ∷ s)
 
 abbrev pub header_goals : List Symbol → List Symbol
@@ -171,7 +171,7 @@ pub record LeadsReturned (c : Cursor) (x : Option Scalar × Cursor) : Type 0 whe
   pub within : length x.1.tokens.now ≤ length c.tokens.now
 
 pub record LeadsLinkage (c : Cursor) (x : Linkage × Cursor) : Type 0 where
-  pub leads : (n : NameT) (ps : NamesT) (t : Option Scalar) (k : Option NumberT) (s : List Symbol) (v : List Value) → run 64 (Want LinkageG ∷ s) (HeaderR n ps t k no_linkage ∷ v) (ahead c) ≡ run 64 s (HeaderR n ps t k (linkage_of x.0) ∷ v) (ahead x.1)
+  pub leads : (n : NameT) (ps : NamesT) (t : Option Scalar) (k : Option NumeralT) (s : List Symbol) (v : List Value) → run 64 (Want LinkageG ∷ s) (HeaderR n ps t k no_linkage ∷ v) (ahead c) ≡ run 64 s (HeaderR n ps t k (linkage_of x.0) ∷ v) (ahead x.1)
   pub within : length x.1.tokens.now ≤ length c.tokens.now
 
 -- an item leads on within its block; where there is none, the statements begin

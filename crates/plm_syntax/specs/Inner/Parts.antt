@@ -1,6 +1,6 @@
 -- What the parser's functions read.
 use Rattle.std.specs.Prelude.{◌≡◌, nat_eq, List, ◌∷◌, ◌++◌, Bool, true, false, Option, Some, None, Result, Ok, Err}
-use Rattle.plm_syntax.specs.declared.tree.Place.{Place}
+use Rattle.plm_syntax.specs.declared.tree.Position.{Position}
 use Rattle.plm_syntax.specs.declared.tree.BinaryOperator.{BinaryOperator}
 use Rattle.plm_syntax.specs.declared.tree.UnaryOperator.{UnaryOperator}
 use Rattle.plm_syntax.specs.declared.tree.Expression.{Expression}
@@ -13,11 +13,11 @@ use Rattle.plm_syntax.specs.declared.tree.Selector.{Selector}
 use Rattle.plm_syntax.specs.declared.tree.Location.{Location}
 use Rattle.plm_syntax.specs.declared.tree.Value.{Value as ValueTree}
 use Rattle.plm_syntax.specs.declared.cursor.Cursor.{Cursor}
-use Rattle.plm_syntax.specs.declared.operator.Level.{Level as CodeLevel}
-use Rattle.plm_syntax.specs.declared.operator.Level.TheVariants as levels
+use Rattle.plm_syntax.specs.declared.operator.Precedence.{Precedence as CodePrecedence}
+use Rattle.plm_syntax.specs.declared.operator.Precedence.TheVariants as precedences
 use Rattle.plm_token.specs.declared.token.Mark.TheVariants as mark
 use Rattle.plm_syntax.specs.declared.tree.Name.{Name}
-use Rattle.plm_syntax.specs.declared.tree.Number.{Number}
+use Rattle.plm_syntax.specs.declared.tree.Numeral.{Numeral}
 use Rattle.plm_syntax.specs.declared.tree.Scalar.{Scalar}
 use Rattle.plm_syntax.specs.declared.tree.Variable.{Variable}
 use Rattle.plm_syntax.specs.declared.tree.Dimension.{Dimension}
@@ -33,30 +33,30 @@ use Rattle.plm_syntax.specs.Terminal.{NameT, is_sign}
 use Rattle.plm_syntax.specs.Tree.{ExpressionT, ElementsT, elements, no_variables, no_members, no_linkage, no_initial, AtT, Attributes, LocationForm, ReferenceE, LocationE, UnaryE, ReferenceOf, ExpressionsT, no_expressions, no_member}
 use Rattle.plm_syntax.specs.View.{name_of, counted, names_of, variable_of, variables_from, dimension_of, member_of, members_from, type_of, at_of, initial_of, attributes_of, element_of, elements_of, expression_of, leaned, expressions_of, reference_of, selector_of, location_of, value_of, values_of}
 use Rattle.plm_syntax.specs.Spelling.{binary_sign, form_sign, scalar_key}
-use Rattle.plm_syntax.specs.WellFormed.{level_of}
-use Rattle.plm_syntax.specs.Symbol.{NamesR, NameR, VariableR, VariablesR, DimensionR, CountR, MembersR, MemberR, TypeR, AttributesR, ElementsR, HeaderR, Value, Level, Symbol, Over, Want, MoreG, ExpressionR, ValueR, ValuesR, Products, Sums, Relations, Conjunctions, Disjunctions}
-use Rattle.plm_syntax.specs.Machine.{operand, number_of, more, scalar_of}
-use Rattle.plm_syntax.specs.Parsed.{next_of, Takes}
+use Rattle.plm_syntax.specs.WellFormed.{precedence_of}
+use Rattle.plm_syntax.specs.Inner.Symbol.{NamesR, NameR, VariableR, VariablesR, DimensionR, CountR, MembersR, MemberR, TypeR, AttributesR, ElementsR, HeaderR, Value, Precedence, Symbol, Over, Want, MoreG, ExpressionR, ValueR, ValuesR, Products, Sums, Relations, Conjunctions, Disjunctions}
+use Rattle.plm_syntax.specs.Inner.Machine.{operand, number_of, more, scalar_of}
+use Rattle.plm_syntax.specs.Inner.Parsed.{next_of, Takes}
 
-abbrev pub level_view : CodeLevel → Level
-level_view levels.Products = Products
-level_view levels.Sums = Sums
-level_view levels.Relations = Relations
-level_view levels.Conjunctions = Conjunctions
-level_view levels.Disjunctions = Disjunctions
+abbrev pub precedence_view : CodePrecedence → Precedence
+precedence_view precedences.Products = Products
+precedence_view precedences.Sums = Sums
+precedence_view precedences.Relations = Relations
+precedence_view precedences.Conjunctions = Conjunctions
+precedence_view precedences.Disjunctions = Disjunctions
 
-abbrev pub is_relations : Level → Bool
+abbrev pub is_relations : Precedence → Bool
 is_relations Products = false
 is_relations Sums = false
 is_relations Relations = true
 is_relations Conjunctions = false
 is_relations Disjunctions = false
 
-abbrev pub IsOperator : Level → Cursor → Option (Place × BinaryOperator × Cursor) → Type 0
+abbrev pub IsOperator : Precedence → Cursor → Option (Position × BinaryOperator × Cursor) → Type 0
 IsOperator l c None = more l (next_of c) ≡ Over
-IsOperator l c (Some x) = Takes c (binary_sign x.1) x.0 x.2 × (nat_eq (level_of x.1) (number_of l) ≡ true)
+IsOperator l c (Some x) = Takes c (binary_sign x.1) x.0 x.2 × (nat_eq (precedence_of x.1) (number_of l) ≡ true)
 
-abbrev pub IsForm : Cursor → Option (Place × LocationForm × Cursor) → Type 0
+abbrev pub IsForm : Cursor → Option (Position × LocationForm × Cursor) → Type 0
 IsForm c None = (is_sign mark.AtSign (next_of c) ≡ false) × (is_sign mark.Period (next_of c) ≡ false)
 IsForm c (Some x) = Takes c (form_sign x.1) x.0 x.2
 
@@ -69,12 +69,12 @@ read_expression e v = ExpressionR (expression_of e) ∷ v
 abbrev pub read_boxed : Box Expression → List Value → List Value
 read_boxed b v = ExpressionR (expression_of b.value) ∷ v
 
--- operators with their right operands, behind what stands to their left
+-- operators with their right operands, after what stands to their left
 abbrev pub read_operations : ExpressionT → List Operation → List Value → List Value
 read_operations left os v = ExpressionR (leaned left os) ∷ v
 
 -- an operator before the operand that was read
-abbrev pub IsUnary : Place → UnaryOperator → Result (Expression × Cursor) Failure → Result (Expression × Cursor) Failure → Type 0
+abbrev pub IsUnary : Position → UnaryOperator → Result (Expression × Cursor) Failure → Result (Expression × Cursor) Failure → Type 0
 IsUnary p o (Ok x) (Ok y) = (expression_of y.0 ≡ UnaryE p o (expression_of x.0)) × (y.1 ≡ x.1)
 IsUnary p o (Ok x) (Err f) = f ≡ failure.Memory
 IsUnary p o (Err e) r = r ≡ Err e
@@ -106,18 +106,18 @@ abbrev pub nothing_read : List Value → List Value
 nothing_read v = v
 
 -- operands of a level, joined by its operators
-abbrev pub joined : Level → List Symbol → List Symbol
+abbrev pub joined : Precedence → List Symbol → List Symbol
 joined l s = operand l ++ (Want (MoreG l) ∷ s)
 
--- the operators of all levels behind a primary
-abbrev pub all_levels : List Symbol → List Symbol
-all_levels s = Want (MoreG Products) ∷ Want (MoreG Sums) ∷ Want (MoreG Relations) ∷ Want (MoreG Conjunctions) ∷ Want (MoreG Disjunctions) ∷ s
+-- the operators of all levels after a primary
+abbrev pub all_precedences : List Symbol → List Symbol
+all_precedences s = Want (MoreG Products) ∷ Want (MoreG Sums) ∷ Want (MoreG Relations) ∷ Want (MoreG Conjunctions) ∷ Want (MoreG Disjunctions) ∷ s
 
 -- ---- declarations
 
 abbrev pub IsScalar : Cursor → Option (Scalar × Cursor) → Type 0
 IsScalar c None = scalar_of (next_of c) ≡ None
-IsScalar c (Some x) = (p : Place) × Takes c (scalar_key x.0) p x.1
+IsScalar c (Some x) = (p : Position) × Takes c (scalar_key x.0) p x.1
 
 abbrev pub read_element : ElementsT → Element → List Value → List Value
 read_element es e v = ElementsR (elements es (element_of e)) ∷ v
@@ -149,7 +149,7 @@ read_names ns v = NamesR (names_of ns) ∷ v
 abbrev pub read_parameters : NameT → List Name → List Value → List Value
 read_parameters n ns v = HeaderR n (names_of ns) None None no_linkage ∷ v
 
-abbrev pub read_count : Option Number → List Value → List Value
+abbrev pub read_count : Option Numeral → List Value → List Value
 read_count n v = CountR (counted n) ∷ v
 
 abbrev pub member_names_read : MemberNames → List Value → List Value

@@ -7,7 +7,7 @@ use Rattle.word86.specs.declared.fault.Fault.TheVariants.{Memory, At}
 use Rattle.word86.specs.declared.number.Number.TheVariants.{E107}
 use Rattle.plm_token.specs.declared.token.Kind.{Kind}
 use Rattle.plm_token.specs.declared.token.Token.{Token}
-use Rattle.plm_token.specs.declared.piece.Place.TheVariants.{FirstColumn}
+use Rattle.plm_token.specs.declared.piece.ScanState.TheVariants.{FirstColumn}
 use Rattle.plm_token.specs.declared.piece.Piece.{Piece}
 use Rattle.plm_token.specs.declared.piece.Piece.TheVariants as is_piece
 use Rattle.plm_token.specs.Pieces.{Cut, pieces}
@@ -24,7 +24,7 @@ lexeme t = record { kind = t.kind; text = t.text.now; line = t.line }
 abbrev pub lexemes : List Token → List Lexeme
 lexemes tokens = map lexeme tokens
 
--- one piece before what the pieces behind it give: the first fault ends the text
+-- one piece before what the pieces after it give: the first fault ends the text
 abbrev pub put_before : Lexeme → Result (List Lexeme) Fault → Result (List Lexeme) Fault
 put_before t (Ok ts) = Ok (t ∷ ts)
 put_before t (Err f) = Err f
@@ -47,7 +47,7 @@ trimmed text = take (length text - suffix_len (λ b. nat_eq b 26) text) text
 unfoldable pub scan_of : List ℕ → Result (List Lexeme) Fault
 scan_of text = cond (nat_lt 1048576 (length text)) (Err (At 0 1 E107)) (tokens_of (pieces FirstColumn 1 (trimmed text)))
 
--- what a call may answer where so much is right: that, or want of memory
+-- what a call may answer: what is right, or want of memory
 abbrev pub Answers : Result (List Lexeme) Fault → Result (Vec Token) Fault → Type 0
 Answers right (Ok v) = right ≡ Ok (lexemes v.items)
 Answers right (Err Memory) = Unit {0}

@@ -9,7 +9,8 @@ use Rattle.plm_token.specs.declared.token.Mark.TheVariants as marks
 use Rattle.plm_token.specs.declared.token.Kind.{Kind}
 use Rattle.plm_token.specs.declared.token.Kind.TheVariants.{Reserved, Identifier, Numeral, String, Special}
 use Rattle.plm_token.specs.Names.{names_equal}
-use Rattle.plm_token.specs.Scanning.{Lexeme}
+use Rattle.plm_token.specs.Scanner.{Lexeme, lexemes}
+use Rattle.plm_syntax.specs.declared.literals.Expansion.{Expansion}
 use Rattle.plm_token.specs.Literals.{Symbol, on_line, literal_of}
 
 abbrev pub opens : Keyword → Bool
@@ -89,13 +90,13 @@ closed literals (n ∷ ns) = record { literals = take n literals; starts = ns }
 abbrev pub with_literal : LiteralText → Blocks → Blocks
 with_literal l b = record { literals = b.literals ++ l ∷ []; starts = b.starts }
 
--- whether a semicolon behind these two tokens ends a block: they are END, or END and a name
+-- whether a semicolon after these two tokens ends a block: they are END, or END and a name
 abbrev pub ends_block : Option Lexeme → Option Lexeme → Bool
 ends_block None before = false
 ends_block (Some last) None = is_keyword ends last.kind
 ends_block (Some last) (Some before) = is_keyword ends last.kind || (is_identifier last.kind && is_keyword ends before.kind)
 
--- A block begins at DO or PROCEDURE, and ends behind the semicolon of its END.
+-- A block begins at DO or PROCEDURE, and ends after the semicolon of its END.
 abbrev pub blocks_behind : Kind → Bool → Blocks → Blocks
 blocks_behind kind ending b = cond (is_keyword opens kind) (opened b) (cond (is_semicolon kind && ending) (closed b.literals b.starts) b)
 
@@ -113,7 +114,7 @@ put t o = record {
   stop = over_limit (length o.tokens + 1) t.line;
 }
 
--- the name that a string behind these two tokens declares: they are an identifier and LITERALLY
+-- the name that a string after these two tokens declares: they are an identifier and LITERALLY
 abbrev pub name_of : Bool → List ℕ → Option (List ℕ)
 name_of true name = Some name
 name_of false name = None
@@ -151,7 +152,7 @@ abbrev pub or_else : Option (Number × ℕ) → Out → Out → Out
 or_else None o next = next
 or_else (Some stop) o next = o
 
--- a token of a literal's text, with the line of the name that it replaces, where so many more replacements may be made
+-- a token of a literal's text, with the line of the name that it replaces, where `levels` more replacements may be made one inside the other
 unfoldable pub symbol_out : ℕ → ℕ → Symbol → Out → Out
 symbol_out zero line s o = or_else o.stop o (by_literal (λ l. stop_at E202 line o) (literal_for o.blocks.literals s.kind s.text) (put (on_line line s) o))
 symbol_out (suc levels) line s o = or_else o.stop o (by_literal (λ l. fold (λ p x. symbol_out levels line x p) o l.text) (literal_for o.blocks.literals s.kind s.text) (put (on_line line s) o))
@@ -170,3 +171,14 @@ nothing_out = record { tokens = []; blocks = no_blocks; last = None; before = No
 -- the tokens of a source with its literals replaced, up to the first fault
 unfoldable pub expanded : List Lexeme → Out
 expanded tokens = fold (λ o t. source_out t o) nothing_out tokens
+
+-- the tokens that came out, and where it stopped
+pub record Expanded : Type 0 where
+  pub tokens : List Lexeme
+  pub stop : Option (Number × ℕ)
+
+abbrev pub expansion_of : Out → Expanded
+expansion_of o = record { tokens = o.tokens; stop = o.stop }
+
+abbrev pub expansion_view : Expansion → Expanded
+expansion_view e = record { tokens = lexemes e.tokens.items; stop = e.stop }

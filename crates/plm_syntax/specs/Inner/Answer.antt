@@ -1,13 +1,13 @@
--- The faults of a token behind which so many are left, the end of the text counted.
+-- The faults of a token, told by how many tokens are left after it, the end of the text counted.
 use Rattle.std.specs.Prelude.{ℕ, zero, suc, ◌-◌, ◌≤◌, List, length, Option, Some, None}
 use Rattle.word86.specs.declared.fault.Fault.{Fault}
 use Rattle.word86.specs.declared.fault.Fault.TheVariants.{Memory, At}
 use Rattle.word86.specs.declared.number.Number.{Number}
 use Rattle.word86.specs.declared.number.Number.TheVariants.{E201, E203}
-use Rattle.plm_token.specs.Scanning.{Lexeme}
+use Rattle.plm_token.specs.Scanner.{Lexeme}
 use Rattle.plm_syntax.specs.declared.failure.Failure.{Failure}
 use Rattle.plm_syntax.specs.declared.failure.Failure.TheVariants as failure
-use Rattle.plm_syntax.specs.Answers.{tokens_from, line_from, opening_token}
+use Rattle.plm_syntax.specs.Answer.{tokens_from, line_from, opening_token}
 
 -- at the end of the text the fault at which the replacement stopped comes first
 abbrev pub refusal_at : List Lexeme → ℕ → Option (Number × ℕ) → Fault

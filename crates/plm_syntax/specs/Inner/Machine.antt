@@ -2,24 +2,24 @@
 use Rattle.std.specs.Prelude.{ℕ, nat_lt, nat_eq, List, [], ◌∷◌, ◌++◌, length, Bool, true, false, cond, Option, Some, None, Result, Ok, Err}
 use Rattle.plm_token.specs.declared.token.Keyword.TheVariants as key
 use Rattle.plm_token.specs.declared.token.Mark.TheVariants as mark
-use Rattle.plm_syntax.specs.declared.tree.Place.{Place}
+use Rattle.plm_syntax.specs.declared.tree.Position.{Position}
 use Rattle.plm_syntax.specs.declared.tree.Scalar.{Scalar}
 use Rattle.plm_syntax.specs.declared.tree.Scalar.TheVariants as scalar
 use Rattle.plm_syntax.specs.declared.tree.UnaryOperator.{UnaryOperator}
 use Rattle.plm_syntax.specs.declared.tree.UnaryOperator.TheVariants as unary
 use Rattle.plm_syntax.specs.declared.tree.BinaryOperator.{BinaryOperator}
 use Rattle.plm_syntax.specs.declared.tree.BinaryOperator.TheVariants as binary
-use Rattle.plm_syntax.specs.Terminal.{NameT, NumberT, TextT, Terminal, Name, Number, Text, Key, Sign, Finish, Leaf, is_key, is_sign, is_same}
-use Rattle.plm_syntax.specs.WellFormed.{level_of, is_end_name}
-use Rattle.plm_syntax.specs.Tree.{LocationForm, Pointer, Offset, NumberE, TextE, ReferenceE, LocationE, ParenthesisedE, EmbeddedE, UnaryE, BinaryE, ReferenceT, ReferenceOf, no_expressions, expressions, no_member, member, member_at, LocationOf, ConstantsOf, NumberV, NegativeV, TextV, LocationV, no_values, values, no_names, names, VariableOf, no_variables, variables, OneVariable, VariableList, DimensionT, no_dimension, dimension, implicit_dimension, OneMember, MemberList, no_members, members, ScalarType, StructureType, AtT, no_at, at_number, at_location, no_initial, initial, constant_data, External, Attributes, LiteralElement, VariableElement, no_elements, elements, LinkageT, no_linkage, public_linkage, external_linkage, no_references, references, Labelled, BasicT, EmptyS, AssignS, CallS, ReturnS, ReturnValueS, EnableS, DisableS, HaltS, IfS, IfElseS, DoS, WhileS, CaseS, IterateS, no_statements, statements, BlockOf, no_items, items, DeclareI, ProcedureI, ModuleOf}
-use Rattle.plm_syntax.specs.Symbol.{Value, Action, Level, Goal, Symbol, depth, Rule, behind, otherwise, before, opened, need, push, ExpressionR, ExpressionsR, NameR, ValueR, ValuesR, ReferencesR, NamesR, StatementR, ArmsR, StatementsR, ItemsR, StepR, EndR, VariableR, VariablesR, DimensionR, CountR, MembersR, MemberR, TypeR, AttributesR, ElementR, ElementsR, DeclaredR, RangeR, HeaderR, ModuleR, Products, Sums, Relations, Conjunctions, Disjunctions, PrimaryG, SignedG, NegationG, MoreG, InsideG, AfterReferenceG, SubscriptsG, MoreSubscriptsG, SelectorG, MemberG, MemberSubscriptG, LocatedG, ValueG, NegativeG, MoreValuesG, StatementG, LeadG, TargetG, MoreTargetsG, CalledG, ReturnedG, ArmG, OtherwiseG, DoG, StepG, StatementsG, EndG, ItemsG, ItemLeadG, ItemColonG, ParametersG, ParameterG, MoreParametersG, ReturnedTypeG, InterruptG, InterruptNumberG, LinkageG, ElementG, ElementLeadG, LiteralTextG, VariableG, MoreVariablesG, BasedG, BaseG, DimensionG, DimensionBodyG, TypeG, MemberOfG, MemberNameG, MoreMemberNamesG, CountG, CountNumberG, MemberTypeG, MoreMembersG, AttributesG, AtG, AtBodyG, InitialG, MoreElementsG, ModuleG, StartG, Need, Want, Do, Leave, Refused, Over, Take, Keep}
+use Rattle.plm_syntax.specs.Terminal.{NameT, NumeralT, TextT, Terminal, Name, Numeral, Text, Key, Sign, Finish, Leaf, is_key, is_sign, is_same}
+use Rattle.plm_syntax.specs.WellFormed.{precedence_of, is_end_name}
+use Rattle.plm_syntax.specs.Tree.{LocationForm, Pointer, Offset, NumeralE, TextE, ReferenceE, LocationE, ParenthesisedE, EmbeddedE, UnaryE, BinaryE, ReferenceT, ReferenceOf, no_expressions, expressions, no_member, member, member_at, LocationOf, ConstantsOf, NumeralV, NegativeV, TextV, LocationV, no_values, values, no_names, names, VariableOf, no_variables, variables, OneVariable, VariableList, DimensionT, no_dimension, dimension, implicit_dimension, OneMember, MemberList, no_members, members, ScalarType, StructureType, AtT, no_at, at_number, at_location, no_initial, initial, constant_data, External, Attributes, LiteralElement, VariableElement, no_elements, elements, LinkageT, no_linkage, public_linkage, external_linkage, no_references, references, Labelled, BasicT, EmptyS, AssignS, CallS, ReturnS, ReturnValueS, EnableS, DisableS, HaltS, IfS, IfElseS, DoS, WhileS, CaseS, IterateS, no_statements, statements, BlockOf, no_items, items, DeclareI, ProcedureI, ModuleOf}
+use Rattle.plm_syntax.specs.Inner.Symbol.{Value, Action, Precedence, Goal, Symbol, depth, Rule, behind, otherwise, before, opened, need, push, ExpressionR, ExpressionsR, NameR, ValueR, ValuesR, ReferencesR, NamesR, StatementR, ArmsR, StatementsR, ItemsR, StepR, EndR, VariableR, VariablesR, DimensionR, CountR, MembersR, MemberR, TypeR, AttributesR, ElementR, ElementsR, DeclaredR, RangeR, HeaderR, ModuleR, Products, Sums, Relations, Conjunctions, Disjunctions, PrimaryG, SignedG, NegationG, MoreG, InsideG, AfterReferenceG, SubscriptsG, MoreSubscriptsG, SelectorG, MemberG, MemberSubscriptG, LocatedG, ValueG, NegativeG, MoreValuesG, StatementG, LeadG, TargetG, MoreTargetsG, CalledG, ReturnedG, ArmG, OtherwiseG, DoG, StepG, StatementsG, EndG, ItemsG, ItemLeadG, ItemColonG, ParametersG, ParameterG, MoreParametersG, ReturnedTypeG, InterruptG, InterruptNumberG, LinkageG, ElementG, ElementLeadG, LiteralTextG, VariableG, MoreVariablesG, BasedG, BaseG, DimensionG, DimensionBodyG, TypeG, MemberOfG, MemberNameG, MoreMemberNamesG, CountG, CountNumberG, MemberTypeG, MoreMembersG, AttributesG, AtG, AtBodyG, InitialG, MoreElementsG, ModuleG, StartG, Need, Want, Do, Leave, Refused, Over, Take, Keep}
 
 -- ---- expressions
 
 abbrev pub plain : NameT → ReferenceT
 plain n = ReferenceOf n no_expressions no_member
 
-abbrev pub operand : Level → List Symbol
+abbrev pub operand : Precedence → List Symbol
 operand Products = Want SignedG ∷ []
 operand Sums = Want SignedG ∷ Want (MoreG Products) ∷ []
 operand Relations = Want SignedG ∷ Want (MoreG Products) ∷ Want (MoreG Sums) ∷ []
@@ -27,11 +27,11 @@ operand Conjunctions = Want NegationG ∷ []
 operand Disjunctions = Want NegationG ∷ Want (MoreG Conjunctions) ∷ []
 
 -- one relation at most
-abbrev pub again : Level → List Symbol
+abbrev pub again : Precedence → List Symbol
 again Relations = []
 again l = Want (MoreG l) ∷ []
 
-abbrev pub number_of : Level → ℕ
+abbrev pub number_of : Precedence → ℕ
 number_of Products = 2
 number_of Sums = 3
 number_of Relations = 4
@@ -58,19 +58,19 @@ operator_of (Key key.Or) = Some binary.Or
 operator_of (Key key.Xor) = Some binary.ExclusiveOr
 operator_of t = None
 
-abbrev pub make_binary : Place → BinaryOperator → Action
+abbrev pub make_binary : Position → BinaryOperator → Action
 make_binary p o (ExpressionR b ∷ ExpressionR a ∷ vs) = Some (ExpressionR (BinaryE p o a b) ∷ vs)
 make_binary p o vs = None
 
-abbrev pub make_unary : Place → UnaryOperator → Action
+abbrev pub make_unary : Position → UnaryOperator → Action
 make_unary p o (ExpressionR e ∷ vs) = Some (ExpressionR (UnaryE p o e) ∷ vs)
 make_unary p o vs = None
 
-abbrev pub make_parenthesised : Place → Action
+abbrev pub make_parenthesised : Position → Action
 make_parenthesised p (ExpressionR e ∷ vs) = Some (ExpressionR (ParenthesisedE p e) ∷ vs)
 make_parenthesised p vs = None
 
-abbrev pub make_embedded : Place → Action
+abbrev pub make_embedded : Position → Action
 make_embedded p (ExpressionR e ∷ ExpressionR (ReferenceE x) ∷ vs) = Some (ExpressionR (EmbeddedE p x e) ∷ vs)
 make_embedded p vs = None
 
@@ -90,10 +90,10 @@ abbrev pub set_member_subscript : Action
 set_member_subscript (ExpressionR e ∷ ExpressionR (ReferenceE (ReferenceOf n es (member m))) ∷ vs) = Some (ExpressionR (ReferenceE (ReferenceOf n es (member_at m e))) ∷ vs)
 set_member_subscript vs = None
 
-abbrev pub operation : Level → BinaryOperator → Rule
-operation l o = cond (nat_eq (level_of o) (number_of l)) (Keep false (λ p. operand l ++ (Do (make_binary p o) ∷ again l))) Over
+abbrev pub operation : Precedence → BinaryOperator → Rule
+operation l o = cond (nat_eq (precedence_of o) (number_of l)) (Keep false (λ p. operand l ++ (Do (make_binary p o) ∷ again l))) Over
 
-abbrev pub more : Level → Terminal → Rule
+abbrev pub more : Precedence → Terminal → Rule
 more l t = elim (operator_of t) [ None ↦ Over | Some o ↦ operation l o ]
 
 abbrev pub reference_begun : NameT → List Symbol → List Symbol
@@ -101,7 +101,7 @@ reference_begun n s = push (ExpressionR (ReferenceE (plain n))) ∷ Want Subscri
 
 abbrev pub primary : Terminal → Rule
 primary (Name n) = Take false (reference_begun n [])
-primary (Number n) = Take false (push (ExpressionR (NumberE n)) ∷ [])
+primary (Numeral n) = Take false (push (ExpressionR (NumeralE n)) ∷ [])
 primary (Text s) = Take false (push (ExpressionR (TextE s)) ∷ [])
 primary t = cond (is_sign mark.LeftParenthesis t) (Keep true (λ p. Want (InsideG p) ∷ Leave ∷ []))
     (cond (is_sign mark.AtSign t) (Keep false (λ p. Want (LocatedG p Pointer) ∷ []))
@@ -120,14 +120,14 @@ negation t = cond (is_key key.Not t) (Keep true (λ p. Want NegationG ∷ Leave 
 abbrev pub expression_at : Terminal → Rule
 expression_at t = behind (negation t) (Want (MoreG Conjunctions) ∷ Want (MoreG Disjunctions) ∷ [])
 
-abbrev pub closing : Place → List Symbol
+abbrev pub closing : Position → List Symbol
 closing p = need mark.RightParenthesis ∷ Do (make_parenthesised p) ∷ []
 
-abbrev pub inside : Place → Terminal → Rule
+abbrev pub inside : Position → Terminal → Rule
 inside p (Name n) = Take false (reference_begun n (Want (AfterReferenceG p) ∷ []))
 inside p t = behind (expression_at t) (closing p)
 
-abbrev pub after_reference : Place → Terminal → Rule
+abbrev pub after_reference : Position → Terminal → Rule
 after_reference p t = cond (is_sign mark.Assign t) (Take false (an_expression (need mark.RightParenthesis ∷ Do (make_embedded p) ∷ [])))
     (otherwise (behind (more Products t) (Want (MoreG Sums) ∷ Want (MoreG Relations) ∷ Want (MoreG Conjunctions) ∷ Want (MoreG Disjunctions) ∷ closing p))
     (otherwise (behind (more Sums t) (Want (MoreG Relations) ∷ Want (MoreG Conjunctions) ∷ Want (MoreG Disjunctions) ∷ closing p))
@@ -156,11 +156,11 @@ member_subscript t = cond (is_sign mark.LeftParenthesis t) (Take true (an_expres
 
 -- ---- locations and values
 
-abbrev pub locate : Place → LocationForm → Action
+abbrev pub locate : Position → LocationForm → Action
 locate p f (ExpressionR (ReferenceE x) ∷ vs) = Some (ExpressionR (LocationE (LocationOf p f x)) ∷ vs)
 locate p f vs = None
 
-abbrev pub locate_values : Place → LocationForm → Action
+abbrev pub locate_values : Position → LocationForm → Action
 locate_values p f (ValuesR ws ∷ vs) = Some (ExpressionR (LocationE (ConstantsOf p f ws)) ∷ vs)
 locate_values p f vs = None
 
@@ -175,12 +175,12 @@ add_value vs = None
 abbrev pub a_value_list : List Symbol → List Symbol
 a_value_list s = push (ValuesR no_values) ∷ Want ValueG ∷ Do add_value ∷ Want MoreValuesG ∷ s
 
-abbrev pub located : Place → LocationForm → Terminal → Rule
+abbrev pub located : Position → LocationForm → Terminal → Rule
 located p f (Name n) = Take false (reference_begun n (Do (locate p f) ∷ []))
 located p f t = cond (is_sign mark.LeftParenthesis t) (Take false (a_value_list (Do (locate_values p f) ∷ []))) Refused
 
 abbrev pub value_rule : Terminal → Rule
-value_rule (Number n) = Take false (push (ValueR (NumberV n)) ∷ [])
+value_rule (Numeral n) = Take false (push (ValueR (NumeralV n)) ∷ [])
 value_rule (Text s) = Take false (push (ValueR (TextV s)) ∷ [])
 value_rule t = cond (is_sign mark.Minus t) (Take false (Want NegativeG ∷ []))
     (cond (is_sign mark.AtSign t) (Keep false (λ p. Want (LocatedG p Pointer) ∷ Do location_value ∷ []))
@@ -188,7 +188,7 @@ value_rule t = cond (is_sign mark.Minus t) (Take false (Want NegativeG ∷ []))
     Refused))
 
 abbrev pub negative : Terminal → Rule
-negative (Number n) = Take false (push (ValueR (NegativeV n)) ∷ [])
+negative (Numeral n) = Take false (push (ValueR (NegativeV n)) ∷ [])
 negative t = Refused
 
 abbrev pub more_values : Terminal → Rule
@@ -213,11 +213,11 @@ abbrev pub make_assign : Action
 make_assign (ExpressionR e ∷ ReferencesR xs ∷ NamesR ls ∷ vs) = Some (StatementR (Labelled ls (AssignS xs e)) ∷ vs)
 make_assign vs = None
 
-abbrev pub make_call : Place → Action
+abbrev pub make_call : Position → Action
 make_call p (ExpressionR (ReferenceE x) ∷ NamesR ls ∷ vs) = Some (StatementR (Labelled ls (CallS p x)) ∷ vs)
 make_call p vs = None
 
-abbrev pub make_return : Place → Action
+abbrev pub make_return : Position → Action
 make_return p (ExpressionR e ∷ NamesR ls ∷ vs) = Some (StatementR (Labelled ls (ReturnValueS p e)) ∷ vs)
 make_return p vs = None
 
@@ -225,7 +225,7 @@ abbrev pub join_arms : Action
 join_arms (StatementR t ∷ StatementR s ∷ vs) = Some (ArmsR s t ∷ vs)
 join_arms vs = None
 
-abbrev pub make_if : Place → Action
+abbrev pub make_if : Position → Action
 make_if p (StatementR s ∷ ExpressionR e ∷ NamesR ls ∷ vs) = Some (StatementR (Labelled ls (IfS p e s)) ∷ vs)
 make_if p (ArmsR s t ∷ ExpressionR e ∷ NamesR ls ∷ vs) = Some (StatementR (Labelled ls (IfElseS p e s t)) ∷ vs)
 make_if p vs = None
@@ -234,15 +234,15 @@ abbrev pub add_statement : Action
 add_statement (StatementR s ∷ StatementsR ss ∷ vs) = Some (StatementsR (statements ss s) ∷ vs)
 add_statement vs = None
 
-abbrev pub make_do : Place → Action
+abbrev pub make_do : Position → Action
 make_do p (EndR n ∷ StatementsR ss ∷ ItemsR is ∷ NamesR ls ∷ vs) = Some (StatementR (Labelled ls (DoS p (BlockOf is ss) n)) ∷ vs)
 make_do p vs = None
 
-abbrev pub make_while : Place → Action
+abbrev pub make_while : Position → Action
 make_while p (EndR n ∷ StatementsR ss ∷ ExpressionR e ∷ NamesR ls ∷ vs) = Some (StatementR (Labelled ls (WhileS p e ss n)) ∷ vs)
 make_while p vs = None
 
-abbrev pub make_case : Place → Action
+abbrev pub make_case : Position → Action
 make_case p (EndR n ∷ StatementsR ss ∷ ExpressionR e ∷ NamesR ls ∷ vs) = Some (StatementR (Labelled ls (CaseS p e ss n)) ∷ vs)
 make_case p vs = None
 
@@ -254,11 +254,11 @@ abbrev pub set_step : Action
 set_step (ExpressionR e ∷ StepR s ∷ vs) = Some (StepR (Some e) ∷ vs)
 set_step vs = None
 
-abbrev pub make_iterate : Place → Action
+abbrev pub make_iterate : Position → Action
 make_iterate p (EndR n ∷ StatementsR ss ∷ StepR s ∷ RangeR i a b ∷ NamesR ls ∷ vs) = Some (StatementR (Labelled ls (IterateS p i a b s ss n)) ∷ vs)
 make_iterate p vs = None
 
--- a statement that stands behind this label, if there is one
+-- a statement that stands after this label, if there is one
 abbrev pub statement_rule : Option NameT → Terminal → Rule
 statement_rule l (Name n) = Take false (push (ReferencesR no_references) ∷ push (ExpressionR (ReferenceE (plain n))) ∷ Want (LeadG n) ∷ [])
 statement_rule l t = cond (is_sign mark.Semicolon t) (Keep false (λ p. Do (make_simple (EmptyS p)) ∷ []))
@@ -275,7 +275,7 @@ abbrev pub more_targets : Terminal → Rule
 more_targets t = cond (is_sign mark.Comma t) (Take false (Do add_target ∷ Want TargetG ∷ []))
     (cond (is_sign mark.Equal t) (Take false (Do add_target ∷ an_expression (need mark.Semicolon ∷ Do make_assign ∷ []))) Refused)
 
--- behind the name of an assignment's first target
+-- after the name of an assignment's first target
 abbrev pub assignment_rule : Terminal → Rule
 assignment_rule t = otherwise (behind (subscripts_rule t) (Want SelectorG ∷ Want MoreTargetsG ∷ []))
     (otherwise (behind (selector_rule t) (Want MoreTargetsG ∷ []))
@@ -292,7 +292,7 @@ abbrev pub called : Terminal → Rule
 called (Name n) = Take false (reference_begun n [])
 called t = Refused
 
-abbrev pub returned_rule : Place → Terminal → Rule
+abbrev pub returned_rule : Position → Terminal → Rule
 returned_rule p t = cond (is_sign mark.Semicolon t) (Take false (Do (make_simple (ReturnS p)) ∷ [])) (behind (expression_at t) (need mark.Semicolon ∷ Do (make_return p) ∷ []))
 
 abbrev pub no_labels : Symbol
@@ -307,7 +307,7 @@ arm t = before (no_labels ∷ []) (opened (statement_rule None t))
 abbrev pub otherwise_rule : Terminal → Rule
 otherwise_rule t = cond (is_key key.Else t) (Take false (Want ArmG ∷ Do join_arms ∷ [])) Over
 
-abbrev pub do_rule : Place → Option NameT → Terminal → Rule
+abbrev pub do_rule : Position → Option NameT → Terminal → Rule
 do_rule p l (Name i) = Take false (push (NameR i) ∷ need mark.Equal ∷ an_expression (Need (Key key.To) ∷ an_expression (Do make_range ∷ push (StepR None) ∷ Want StepG ∷ need mark.Semicolon ∷ no_statement_yet ∷ Want (StatementsG l) ∷ Do (make_iterate p) ∷ [])))
 do_rule p l t = cond (is_sign mark.Semicolon t) (Take false (push (ItemsR no_items) ∷ Want (ItemsG l) ∷ Do (make_do p) ∷ []))
     (cond (is_key key.While t) (Take false (an_expression (need mark.Semicolon ∷ no_statement_yet ∷ Want (StatementsG l) ∷ Do (make_while p) ∷ [])))
@@ -330,7 +330,7 @@ statements_rule l t = cond (is_key key.End t) (Take false (Want (EndG l) ∷ [])
 
 -- ---- blocks and procedures
 
-abbrev pub make_declare : Place → Action
+abbrev pub make_declare : Position → Action
 make_declare p (ElementsR es ∷ ItemsR is ∷ vs) = Some (ItemsR (items is (DeclareI p es)) ∷ vs)
 make_declare p vs = None
 
@@ -346,7 +346,7 @@ abbrev pub set_returned : Scalar → Action
 set_returned t (HeaderR n ps s i l ∷ vs) = Some (HeaderR n ps (Some t) i l ∷ vs)
 set_returned t vs = None
 
-abbrev pub set_interrupt : NumberT → Action
+abbrev pub set_interrupt : NumeralT → Action
 set_interrupt k (HeaderR n ps s i l ∷ vs) = Some (HeaderR n ps s (Some k) l ∷ vs)
 set_interrupt k vs = None
 
@@ -383,7 +383,7 @@ abbrev pub interrupt_rule : Terminal → Rule
 interrupt_rule t = cond (is_key key.Interrupt t) (Take false (Want InterruptNumberG ∷ [])) Over
 
 abbrev pub interrupt_number : Terminal → Rule
-interrupt_number (Number n) = Take false (Do (set_interrupt n) ∷ [])
+interrupt_number (Numeral n) = Take false (Do (set_interrupt n) ∷ [])
 interrupt_number t = Refused
 
 abbrev pub linkage_rule : Terminal → Rule
@@ -437,7 +437,7 @@ abbrev pub set_dimension : DimensionT → Action
 set_dimension c (DimensionR d ∷ vs) = Some (DimensionR c ∷ vs)
 set_dimension c vs = None
 
-abbrev pub set_count : NumberT → Action
+abbrev pub set_count : NumeralT → Action
 set_count n (CountR c ∷ vs) = Some (CountR (Some n) ∷ vs)
 set_count n vs = None
 
@@ -519,7 +519,7 @@ abbrev pub dimension_rule : Terminal → Rule
 dimension_rule t = cond (is_sign mark.LeftParenthesis t) (Take false (Want DimensionBodyG ∷ [])) Over
 
 abbrev pub dimension_body : Terminal → Rule
-dimension_body (Number n) = Take false (need mark.RightParenthesis ∷ Do (set_dimension (dimension n)) ∷ [])
+dimension_body (Numeral n) = Take false (need mark.RightParenthesis ∷ Do (set_dimension (dimension n)) ∷ [])
 dimension_body t = cond (is_sign mark.Star t) (Take false (need mark.RightParenthesis ∷ Do (set_dimension implicit_dimension) ∷ [])) Refused
 
 abbrev pub type_rule : Terminal → Rule
@@ -541,7 +541,7 @@ abbrev pub count_rule : Terminal → Rule
 count_rule t = cond (is_sign mark.LeftParenthesis t) (Take false (Want CountNumberG ∷ [])) Over
 
 abbrev pub count_number : Terminal → Rule
-count_number (Number n) = Take false (need mark.RightParenthesis ∷ Do (set_count n) ∷ [])
+count_number (Numeral n) = Take false (need mark.RightParenthesis ∷ Do (set_count n) ∷ [])
 count_number t = Refused
 
 abbrev pub member_type : Terminal → Rule
@@ -555,7 +555,7 @@ abbrev pub at_rule : Terminal → Rule
 at_rule t = cond (is_key key.At t) (Take false (need mark.LeftParenthesis ∷ Want AtBodyG ∷ need mark.RightParenthesis ∷ [])) Over
 
 abbrev pub at_body : Terminal → Rule
-at_body (Number n) = Take false (Do (set_at (at_number n)) ∷ [])
+at_body (Numeral n) = Take false (Do (set_at (at_number n)) ∷ [])
 at_body t = cond (is_sign mark.AtSign t) (Keep false (λ p. Want (LocatedG p Pointer) ∷ Do set_at_location ∷ []))
     (cond (is_sign mark.Period t) (Keep false (λ p. Want (LocatedG p Offset) ∷ Do set_at_location ∷ [])) Refused)
 
@@ -568,7 +568,7 @@ attributes_rule t = cond (is_key key.External t) (Take false (Do set_external �
     (cond (is_key key.Public t) (Take false (Do set_public ∷ Want AtG ∷ Want InitialG ∷ []))
     (otherwise (behind (at_rule t) (Want InitialG ∷ [])) (initial_rule t)))
 
--- behind an element's first name
+-- after an element's first name
 abbrev pub element_lead : Terminal → Rule
 element_lead t = cond (is_key key.Literally t) (Take false (Want LiteralTextG ∷ []))
     (otherwise (behind (based_rule t) (Do one_variable ∷ declared_tail))
@@ -652,7 +652,7 @@ rule StartG t = start_rule t
 
 -- ---- runs
 
--- a token is refused, or what is awaited and read behind it; Open where it opens a level
+-- a token is refused, or what is awaited and read after it; Open where it opens a level
 pub data Move : Type 0 where
   Stay : Move
   Next : List Symbol → List Value → Move
@@ -662,18 +662,18 @@ abbrev pub moved : Bool → List Symbol → List Value → Move
 moved true s v = Open s v
 moved false s v = Next s v
 
-abbrev pub kept : Bool → (Place → List Symbol) → List Symbol → List Value → Option Place → Move
+abbrev pub kept : Bool → (Position → List Symbol) → List Symbol → List Value → Option Position → Move
 kept b f s v None = Stay
 kept b f s v (Some p) = moved b (f p ++ s) v
 
-abbrev pub feed : List Symbol → List Value → Terminal → Option Place → Move
+abbrev pub feed : List Symbol → List Value → Terminal → Option Position → Move
 feed [] v t p = Stay
 feed (Need u ∷ s) v t p = cond (is_same u t) (Next s v) Stay
 feed (Want g ∷ s) v t p = elim (rule g t) [ Refused ↦ Stay | Over ↦ feed s v t p | Take b r ↦ moved b (r ++ s) v | Keep b f ↦ kept b f s v p ]
 feed (Do a ∷ s) v t p = elim (a v) [ None ↦ Stay | Some w ↦ feed s w t p ]
 feed (Leave ∷ s) v t p = feed s v t p
 
--- the levels that tokens open, as levels_of counts them, and how it ends: behind the last token, or how many are left behind a refused one
+-- the levels that tokens open, as levels_of counts them, and how it ends: after the last token, or how many are left after a refused one
 pub data Trace : Type 0 where
   Ended : List Symbol → List Value → Trace
   Wrong : ℕ → Trace
@@ -683,7 +683,7 @@ abbrev pub trace : List Symbol → List Value → List Leaf → Trace
 trace s v [] = Ended s v
 trace s v (l ∷ ls) = elim (feed s v l.terminal l.place) [ Stay ↦ Wrong (length ls) | Next s' v' ↦ Then 0 (trace s' v' ls) | Open s' v' ↦ Then (depth s') (trace s' v' ls) ]
 
--- The same within a limit: what is awaited and read at the end, or how many tokens are left behind the one at which it stops.
+-- The same within a limit: what is awaited and read at the end, or how many tokens are left after the one at which it stops.
 pub data Stop : Type 0 where
   Refusal : ℕ → Stop
   Deep : ℕ → Stop

@@ -5,8 +5,8 @@ use Rattle.plm_syntax.specs.Tree.{ModuleT}
 use Rattle.plm_syntax.specs.Spelling.{levels_of}
 use Rattle.plm_syntax.specs.WellFormed.{WellModule}
 use Rattle.plm_syntax.specs.Sentence.{Spells, AllWithin, IsFirstWrong, IsFirstDeep}
-use Rattle.plm_syntax.specs.Symbol.{ModuleR}
-use Rattle.plm_syntax.specs.Machine.{Refusal, Deep, start, run}
+use Rattle.plm_syntax.specs.Inner.Symbol.{ModuleR}
+use Rattle.plm_syntax.specs.Inner.Machine.{Refusal, Deep, start, run}
 
 -- what a run within a limit takes is what a well-formed module within the limit spells, and it makes that module
 abbrev pub TakesModules : Type 0

@@ -1,9 +1,9 @@
 -- What the machine of proofs awaits, the trees that it has read, and what a rule says. No public clause speaks of it.
 use Rattle.std.specs.Prelude.{ℕ, suc, List, [], ◌∷◌, ◌++◌, Bool, true, Option, Some}
 use Rattle.plm_token.specs.declared.token.Mark.{Mark}
-use Rattle.plm_syntax.specs.declared.tree.Place.{Place}
+use Rattle.plm_syntax.specs.declared.tree.Position.{Position}
 use Rattle.plm_syntax.specs.declared.tree.Scalar.{Scalar}
-use Rattle.plm_syntax.specs.Terminal.{NameT, NumberT, Terminal, Sign}
+use Rattle.plm_syntax.specs.Terminal.{NameT, NumeralT, Terminal, Sign}
 use Rattle.plm_syntax.specs.Tree.{LocationForm, ExpressionT, ExpressionsT, ValueT, ValuesT, NamesT, VariableT, VariablesT, DeclaredT, DimensionT, MemberT, MembersT, TypeT, AtT, InitialT, AttributesT, ElementT, ElementsT, LinkageT, ReferencesT, StatementT, StatementsT, ItemsT, ModuleT}
 
 -- ---- the trees read so far, the newest first
@@ -25,7 +25,7 @@ pub data Value : Type 0 where
   VariableR : VariableT → Value
   VariablesR : VariablesT → Value
   DimensionR : DimensionT → Value
-  CountR : Option NumberT → Value
+  CountR : Option NumeralT → Value
   MembersR : MembersT → Value
   MemberR : MemberT → Value
   TypeR : TypeT → Value
@@ -39,7 +39,7 @@ pub data Value : Type 0 where
   -- the index and the bounds of DO .. TO
   RangeR : NameT → ExpressionT → ExpressionT → Value
   -- a procedure's name, parameters, type, interrupt and linkage
-  HeaderR : NameT → NamesT → Option Scalar → Option NumberT → LinkageT → Value
+  HeaderR : NameT → NamesT → Option Scalar → Option NumeralT → LinkageT → Value
   ModuleR : ModuleT → Value
 
 abbrev pub Action : Type 0
@@ -47,41 +47,41 @@ Action = List Value → Option (List Value)
 
 -- ---- what is awaited
 
-pub data Level : Type 0 where
-  Products : Level
-  Sums : Level
-  Relations : Level
-  Conjunctions : Level
-  Disjunctions : Level
+pub data Precedence : Type 0 where
+  Products : Precedence
+  Sums : Precedence
+  Relations : Precedence
+  Conjunctions : Precedence
+  Disjunctions : Precedence
 
 pub data Goal : Type 0 where
   PrimaryG : Goal
   SignedG : Goal
   NegationG : Goal
   -- the operators of a level, and their right operands
-  MoreG : Level → Goal
-  -- behind "(" of an expression, and behind the reference there
-  InsideG : Place → Goal
-  AfterReferenceG : Place → Goal
+  MoreG : Precedence → Goal
+  -- after "(" of an expression, and after the reference there
+  InsideG : Position → Goal
+  AfterReferenceG : Position → Goal
   SubscriptsG : Goal
   MoreSubscriptsG : Goal
   SelectorG : Goal
   MemberG : Goal
   MemberSubscriptG : Goal
-  LocatedG : Place → LocationForm → Goal
+  LocatedG : Position → LocationForm → Goal
   ValueG : Goal
   NegativeG : Goal
   MoreValuesG : Goal
-  -- a statement, behind a label where there is one
+  -- a statement, after a label where there is one
   StatementG : Option NameT → Goal
   LeadG : NameT → Goal
   TargetG : Goal
   MoreTargetsG : Goal
   CalledG : Goal
-  ReturnedG : Place → Goal
+  ReturnedG : Position → Goal
   ArmG : Goal
   OtherwiseG : Goal
-  DoG : Place → Option NameT → Goal
+  DoG : Position → Option NameT → Goal
   StepG : Goal
   StatementsG : Option NameT → Goal
   EndG : Option NameT → Goal
@@ -146,9 +146,9 @@ pub data Rule : Type 0 where
   Over : Rule
   Take : Bool → List Symbol → Rule
   -- the same, where the tree keeps the token's place
-  Keep : Bool → (Place → List Symbol) → Rule
+  Keep : Bool → (Position → List Symbol) → Rule
 
--- with further symbols behind
+-- with further symbols after
 abbrev pub behind : Rule → List Symbol → Rule
 behind Refused s = Refused
 behind Over s = Over

@@ -6,26 +6,26 @@ use Rattle.word86.specs.declared.number.Number.{Number as FaultNumber}
 use Rattle.word86.specs.declared.number.Number.TheVariants.{E201, E203}
 use Rattle.plm_token.specs.declared.token.Keyword.TheVariants as key
 use Rattle.plm_token.specs.declared.token.Kind.{Kind}
-use Rattle.plm_token.specs.declared.token.Kind.TheVariants.{Reserved, Identifier, Numeral, String, Special}
-use Rattle.plm_token.specs.Scanning.{Lexeme}
-use Rattle.plm_syntax.specs.declared.tree.Place.{Place}
+use Rattle.plm_token.specs.declared.token.Kind.TheVariants.{Reserved, Identifier, Numeral as NumeralKind, String, Special}
+use Rattle.plm_token.specs.Scanner.{Lexeme}
+use Rattle.plm_syntax.specs.declared.tree.Position.{Position}
 use Rattle.plm_syntax.specs.declared.tree.Module.{Module}
-use Rattle.plm_syntax.specs.Terminal.{Terminal, Name, Number, Text, Key, Sign, Finish, Leaf, leaf, leaf_at, is_key}
+use Rattle.plm_syntax.specs.Terminal.{Terminal, Name, Numeral, Text, Key, Sign, Finish, Leaf, leaf, leaf_at, is_key}
 use Rattle.plm_syntax.specs.View.{module_of}
 use Rattle.plm_syntax.specs.Spelling.{levels_of}
 use Rattle.plm_syntax.specs.WellFormed.{WellModule}
 use Rattle.plm_syntax.specs.Sentence.{Spells, AllWithin, BeginsWithin, IsFirstWrong, IsFirstDeep}
-use Rattle.plm_syntax.specs.Expand.{Out}
+use Rattle.plm_syntax.specs.Literals.{Out}
 
 -- a token, where it stands
-abbrev pub terminal_of : Kind → List ℕ → Place → Terminal
+abbrev pub terminal_of : Kind → List ℕ → Position → Terminal
 terminal_of (Reserved k) text p = Key k
 terminal_of Identifier text p = Name (record { text = text; place = p })
-terminal_of (Numeral v) text p = Number (record { value = v; place = p })
+terminal_of (NumeralKind v) text p = Numeral (record { value = v; place = p })
 terminal_of String text p = Text (record { text = text; place = p })
 terminal_of (Special m) text p = Sign m
 
-abbrev pub place_of : ℕ → Lexeme → Place
+abbrev pub place_of : ℕ → Lexeme → Position
 place_of n t = record { token = n; line = t.line }
 
 -- tokens, the first of which has this number

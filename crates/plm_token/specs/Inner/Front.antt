@@ -1,7 +1,7 @@
 -- How the scanner finds the longest piece, byte by byte. That this is `front_of` is a lemma.
 use Rattle.std.specs.Prelude.{ℕ, ◌+◌, List, [], ◌∷◌, length, take, drop, Bool, false, cond, not, ◌&&◌, nat_eq, Option, Some, None}
 use Rattle.std.specs.List.{prefix_len}
-use Rattle.plm_token.specs.declared.piece.Place.{Place}
+use Rattle.plm_token.specs.declared.piece.ScanState.{ScanState}
 use Rattle.plm_token.specs.declared.piece.Front.{Front}
 use Rattle.plm_token.specs.declared.piece.Piece.TheVariants.{Skipped, Token, Fault}
 use Rattle.plm_token.specs.declared.token.Mark.{Mark}
@@ -17,12 +17,12 @@ abbrev pub further : ℕ → Option ℕ → Option ℕ
 further n None = None
 further n (Some m) = Some (n + m)
 
--- the bytes behind a comment's opening, through its end; star says that a star stands before
+-- the bytes after a comment's opening, through its end; star says that a star stands before
 abbrev pub comment_length : Bool → List ℕ → Option ℕ
 comment_length star [] = None
 comment_length star (b ∷ bs) = cond (star && nat_eq b 47) (Some 1) (further 1 (comment_length (nat_eq b 42) bs))
 
--- the bytes behind a string's opening, through its end, and whether it is closed; pending says that an apostrophe stands before
+-- the bytes after a string's opening, through its end, and whether it is closed; pending says that an apostrophe stands before
 abbrev pub string_length : Bool → List ℕ → ℕ
 string_length pending [] = 0
 string_length pending (b ∷ bs) = cond (is_apostrophe b) (1 + string_length (not pending) bs) (cond (not pending && is_printable b) (1 + string_length false bs) 0)
@@ -35,7 +35,7 @@ abbrev pub starts_with : ℕ → List ℕ → Bool
 starts_with a [] = false
 starts_with a (b ∷ bs) = nat_eq b a
 
--- a form that has so many characters
+-- the first n characters as a form
 abbrev pub cut_at : Form → List ℕ → ℕ → Front
 cut_at form text n = record { piece = piece_of form (take n text) (drop n text); length = n }
 
@@ -77,12 +77,12 @@ special_front b bs =
     (fault_front E101)))))))))))))
 
 -- the piece at the front, by its first byte
-unfoldable pub read_front : Place → ℕ → List ℕ → Front
-read_front place b bs =
+unfoldable pub read_front : ScanState → ℕ → List ℕ → Front
+read_front state b bs =
     cond (is_blank b) (record { piece = Skipped; length = 1 })
     (cond (is_letter b) (cut_at Name (b ∷ bs) (1 + prefix_len is_name_character bs))
     (cond (is_digit b) (cut_at Number (b ∷ bs) (1 + prefix_len is_name_character bs))
     (cond (nat_eq b 47) (slash_front (b ∷ bs) bs)
-    (cond (is_apostrophe b) (cond (is_literal place) (fault_front E204) (string_front (b ∷ bs) bs))
-    (cond (is_dollar b && is_first_column place) (cut_at ControlLine (b ∷ bs) (1 + prefix_len (λ c. not (is_line_feed c)) bs))
+    (cond (is_apostrophe b) (cond (is_literal state) (fault_front E204) (string_front (b ∷ bs) bs))
+    (cond (is_dollar b && is_first_column state) (cut_at ControlLine (b ∷ bs) (1 + prefix_len (λ c. not (is_line_feed c)) bs))
     (special_front b bs))))))

@@ -1,0 +1,10 @@
+-- What private contracts cite: the machine over tokens, the parts that it reads, and views of the code's own values.
+pub mod Symbol
+pub mod Machine
+pub mod Runs
+pub mod Parsed
+pub mod Parts
+pub mod Blocks
+pub mod OpenBlocks
+pub mod Literals
+pub mod Answer
