@@ -1,6 +1,6 @@
 -- From the tests to the placement.
 use Rattle.std.proofs.Common.{◌≡◌, ℕ, ◌<◌, ◌≤◌, ◌↔◌, List, true, false, IsTrue, slice_index, refl, sym, subst, true≢false, arith}
-use Rattle.plm_decl.specs.Placed.{Has, HoldsByte, IsWithin}
+use Rattle.plm_decl.specs.Placement.{Has, HoldsByte, IsWithin}
 
 abbrev pub AreApart : ℕ → ℕ → ℕ → ℕ → Type 0
 AreApart o s p l = (b : ℕ) → Has p l b → ¬ Has o s b

@@ -2,8 +2,8 @@
 use Rattle.std.proofs.Common.{◌≡◌, List, true, ◌&&◌, length}
 use Rattle.std.specs.List.{list_all}
 use Rattle.plm_decl.specs.declared.names.Variable.{Variable}
-use Rattle.plm_decl.specs.Layouts.{StructureR}
-use Rattle.plm_decl.specs.Known.{ObjectR, ProcedureR, DeclaredLocationR, MainR}
+use Rattle.plm_decl.specs.Layout.{StructureR}
+use Rattle.plm_decl.specs.Names.{ObjectR, ProcedureR, DeclaredLocationR, MainR}
 use Rattle.plm_decl.specs.Ranges.{Counts, variable_within, object_within, procedure_within, declared_location_within, main_within, names_within}
 use Rattle.plm_decl.proofs.Kept.{left, right}
 

@@ -7,11 +7,12 @@ use Rattle.std.proofs.lemmas.List.{length-append}
 use Rattle.std.proofs.lemmas.List.Folds.{list_all-append}
 use Rattle.std.proofs.lemmas.Bool.Decides.{nat_tests}
 use Rattle.word86.specs.declared.number.Number.{Number}
-use Rattle.plm_syntax.specs.declared.tree.Place.{Place}
+use Rattle.plm_syntax.specs.declared.tree.Position.{Position}
 use Rattle.plm_decl.specs.declared.names.Item.{Item}
-use Rattle.plm_decl.specs.Scopes.{Level}
-use Rattle.plm_decl.specs.Known.{Known, ExternalR, note, note_unless}
-use Rattle.plm_decl.specs.Ranges.{Counts, Within, item_within, entries_within}
+use Rattle.plm_decl.specs.Scope.{Frame}
+use Rattle.plm_decl.specs.Resolver.{Known, ExternalR, note, note_unless}
+use Rattle.plm_decl.specs.Ranges.{Counts}
+use Rattle.plm_decl.specs.Inner.Ranges.{Within, item_within, entries_within}
 
 -- ---- tests
 
@@ -64,14 +65,14 @@ not_nil (y ∷ xs) x e = cc
 
 -- ---- what is known
 
--- no fault was met, and the tables have no more entries than so many
+-- no fault was met, and the tables have no more entries than this many
 abbrev pub Ends : Counts → Known → Type 0
 Ends c k =
     (length k.variables ≤ c.variables) × (length k.structures ≤ c.structures) × (length k.objects ≤ c.objects) × (length k.procedures ≤ c.procedures)
     × (k.faults ≡ [])
 
-abbrev pub levels_within : Counts → List Level → Bool
-levels_within c levels = list_all (λ l. entries_within c l.names) levels
+abbrev pub frames_within : Counts → List Frame → Bool
+frames_within c frames = list_all (λ l. entries_within c l.names) frames
 
 abbrev pub external_within : Counts → ExternalR → Bool
 external_within c e = item_within c e.item
@@ -88,26 +89,26 @@ pub kept : (c : Counts) (k : Known) → Kept c k k
 kept c k = record { ends = λ h. h; within = λ h w. w }
 
 -- the same where it is read in a scope
-pub record Reads (c : Counts) (levels : List Level) (k q : Known) : Type 0 where
+pub record Reads (c : Counts) (frames : List Frame) (k q : Known) : Type 0 where
   pub ends : Ends c q → Ends c k
-  pub within : levels_within c levels ≡ true → Ends c q → Within c k → Within c q
+  pub within : frames_within c frames ≡ true → Ends c q → Within c k → Within c q
 
-pub reads : {c : Counts} {levels : List Level} {k q : Known} → Kept c k q → Reads c levels k q
+pub reads : {c : Counts} {frames : List Frame} {k q : Known} → Kept c k q → Reads c frames k q
 reads a = record { ends = a.ends; within = λ h e w. a.within e w }
 
-pub reads_then : {c : Counts} {levels : List Level} {k q r : Known} → Reads c levels k q → Reads c levels q r → Reads c levels k r
+pub reads_then : {c : Counts} {frames : List Frame} {k q r : Known} → Reads c frames k q → Reads c frames q r → Reads c frames k r
 reads_then a b = record { ends = λ e. a.ends (b.ends e); within = λ h e w. b.within h e (a.within h (b.ends e) w) }
 
 -- and where names are declared on the way
-pub record Declares (c : Counts) (levels : List Level) (k : Known) (after : List Level) (q : Known) : Type 0 where
+pub record Declares (c : Counts) (frames : List Frame) (k : Known) (after : List Frame) (q : Known) : Type 0 where
   pub ends : Ends c q → Ends c k
-  pub within : levels_within c levels ≡ true → Ends c q → Within c k → Within c q × (levels_within c after ≡ true)
+  pub within : frames_within c frames ≡ true → Ends c q → Within c k → Within c q × (frames_within c after ≡ true)
 
-pub declares_none : (c : Counts) (levels : List Level) (k : Known) → Declares c levels k levels k
-declares_none c levels k = record { ends = λ e. e; within = λ h e w. (w, h) }
+pub declares_none : (c : Counts) (frames : List Frame) (k : Known) → Declares c frames k frames k
+declares_none c frames k = record { ends = λ e. e; within = λ h e w. (w, h) }
 
-pub declares_then : {c : Counts} {levels : List Level} {k : Known} {after : List Level} {q : Known} {last : List Level} {r : Known}
-    → Declares c levels k after q → Declares c after q last r → Declares c levels k last r
+pub declares_then : {c : Counts} {frames : List Frame} {k : Known} {after : List Frame} {q : Known} {last : List Frame} {r : Known}
+    → Declares c frames k after q → Declares c after q last r → Declares c frames k last r
 declares_then a b = record { ends = λ e. a.ends (b.ends e); within = λ h e w. let one = a.within h (b.ends e) w in b.within one.1 e one.0 }
 
 pub unless_kept : (c : Counts) (b : Bool) (k q : Known) → Kept c k q → Kept c k (cond b k q)
@@ -116,17 +117,17 @@ unless_kept c false k q h = h
 
 -- ---- faults
 
-pub noted : (c : Counts) (n : Number) (p : Place) (k : Known) → Ends c (note n p k) → ⊥
+pub noted : (c : Counts) (n : Number) (p : Position) (k : Known) → Ends c (note n p k) → ⊥
 noted c n p k h = not_nil k.faults _ h.4
 
-pub note_kept : (c : Counts) (n : Number) (p : Place) (k : Known) → Kept c k (note n p k)
+pub note_kept : (c : Counts) (n : Number) (p : Position) (k : Known) → Kept c k (note n p k)
 note_kept c n p k = record { ends = λ h. absurd (noted c n p k h); within = λ h w. absurd (noted c n p k h) }
 
-pub note_unless_kept : (c : Counts) (b : Bool) (n : Number) (p : Place) (k : Known) → Kept c k (note_unless b n p k)
+pub note_unless_kept : (c : Counts) (b : Bool) (n : Number) (p : Position) (k : Known) → Kept c k (note_unless b n p k)
 note_unless_kept c true n p k = kept c k
 note_unless_kept c false n p k = note_kept c n p k
 
-pub note_unless_holds : (c : Counts) (b : Bool) (n : Number) (p : Place) (k : Known) → Ends c (note_unless b n p k) → b ≡ true
+pub note_unless_holds : (c : Counts) (b : Bool) (n : Number) (p : Position) (k : Known) → Ends c (note_unless b n p k) → b ≡ true
 note_unless_holds c true n p k h = refl
 note_unless_holds c false n p k h = absurd (noted c n p k h)
 

@@ -9,6 +9,8 @@ pub mod Least
 pub mod Joined
 pub mod Procedures
 pub mod Kept
+pub mod BlockNames
+pub mod Lying
 pub mod RangesNames
 pub mod RangesExpressions
 pub mod RangesShapes

@@ -12,15 +12,16 @@ use Rattle.plm_syntax.specs.declared.tree.Item.{Item}
 use Rattle.plm_syntax.specs.declared.tree.Statement.{Statement}
 use Rattle.plm_syntax.specs.Tree.{ValuesT, values, NamesT, no_names, names, VariablesT, variables, MembersT, members, ElementsT, elements, ReferencesT, references, ItemsT, items, StatementsT, statements}
 use Rattle.plm_syntax.specs.View.{item_of, items_from, statement_of, statements_from, value_of, values_from, name_of, names_from, names_of, variable_of, variables_from, member_of, members_from, element_of, elements_from, reference_of, references_from}
-use Rattle.plm_syntax.specs.declared.tree.Place.{Place}
+use Rattle.plm_syntax.specs.declared.tree.Position.{Position}
 use Rattle.plm_syntax.specs.declared.tree.Scalar.{Scalar}
 use Rattle.plm_syntax.specs.declared.tree.MemberNames.{MemberNames}
 use Rattle.plm_syntax.specs.declared.tree.MemberNames.TheVariants as written
-use Rattle.plm_syntax.specs.Terminal.{NumberT}
+use Rattle.plm_syntax.specs.Terminal.{NumeralT}
 use Rattle.plm_syntax.specs.View.{counted, member_with}
-use Rattle.plm_decl.specs.Layouts.{StructureR, scalar_of}
-use Rattle.plm_decl.specs.Known.{Known}
-use Rattle.plm_decl.specs.Shapes.{names_of_member, number_of_elements, with_member_names, with_members}
+use Rattle.plm_decl.specs.Layout.{StructureR, scalar_of}
+use Rattle.plm_decl.specs.Resolver.{Known}
+use Rattle.plm_decl.specs.Inner.Shape.{names_of_member}
+use Rattle.plm_decl.specs.Shape.{number_of_elements, with_member_names, with_members}
 use Rattle.plm_decl.specs.Lists.{value_list, name_list, variable_list, member_list, element_list, reference_list, item_list, statement_list}
 use Rattle.plm_decl.specs.Statements.{last_name}
 
@@ -66,13 +67,13 @@ last_name_is (n ∷ ns) =
     let e : length ns ≡ length (n ∷ ns) - 1 = omega arith in
     last_behind ns n no_names ∙ ap (λ i. option_map name_of (slice_get (n ∷ ns) i)) e
 
-members_named : (place : Place) (m : MemberNames) (c : Option NumberT) (t : Scalar) (s : StructureR) (k : Known)
+members_named : (place : Position) (m : MemberNames) (c : Option NumeralT) (t : Scalar) (s : StructureR) (k : Known)
     → with_members place (member_with m c t) s k ≡ with_member_names (names_of_member m) (scalar_of t) (number_of_elements place c k).0 s (number_of_elements place c k).1
 members_named place (written.One n) c t s k = refl
 members_named place (written.List ns) c t s k =
     ap (λ names. with_member_names names (scalar_of t) (number_of_elements place c k).0 s (number_of_elements place c k).1) (name_list_from ns.items no_names)
 
 -- the members of one type, by their names
-pub with_members_is : (place : Place) (m : Member) (s : StructureR) (k : Known)
+pub with_members_is : (place : Position) (m : Member) (s : StructureR) (k : Known)
     → with_members place (member_of m) s k ≡ with_member_names (names_of_member m.names) (scalar_of m.scalar) (number_of_elements place (counted m.count) k).0 s (number_of_elements place (counted m.count) k).1
 with_members_is place m s k = members_named place m.names (counted m.count) m.scalar s k

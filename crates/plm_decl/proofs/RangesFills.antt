@@ -5,8 +5,8 @@ use Rattle.std.specs.Option.{option_map_or}
 use Rattle.std.proofs.lemmas.List.{length-set}
 use Rattle.word86.specs.declared.number.Number.TheVariants.{E305}
 use Rattle.plm_token.specs.Strings.{string_characters}
-use Rattle.plm_syntax.specs.declared.tree.Place.{Place}
-use Rattle.plm_syntax.specs.Tree.{VariableT, ValueT, NumberV, NegativeV, TextV, LocationV, LocationT, ElementT, LiteralElement, VariableElement, AttributesT, DimensionT, TypeT}
+use Rattle.plm_syntax.specs.declared.tree.Position.{Position}
+use Rattle.plm_syntax.specs.Tree.{VariableT, ValueT, NumeralV, NegativeV, TextV, LocationV, LocationT, ElementT, LiteralElement, VariableElement, AttributesT, DimensionT, TypeT}
 use Rattle.plm_decl.specs.declared.layout.ScalarType.{ScalarType}
 use Rattle.plm_decl.specs.declared.layout.ScalarType.TheVariants.{Byte, Word, Pointer}
 use Rattle.plm_decl.specs.declared.names.Datum.{Datum}
@@ -14,19 +14,22 @@ use Rattle.plm_decl.specs.declared.names.Datum.TheVariants as datum
 use Rattle.plm_decl.specs.declared.names.Region.{Region}
 use Rattle.plm_decl.specs.declared.names.Region.TheVariants as region
 use Rattle.plm_decl.specs.declared.names.Variable.{Variable}
-use Rattle.plm_decl.specs.declared.resolved.Meaning.TheVariants as meaning
+use Rattle.plm_decl.specs.declared.resolved.Binding.TheVariants as binding
 use Rattle.plm_decl.specs.declared.fill.Cursor.{Cursor}
-use Rattle.plm_decl.specs.Layouts.{counted}
-use Rattle.plm_decl.specs.Scopes.{Level}
-use Rattle.plm_decl.specs.Known.{Known, ObjectR}
+use Rattle.plm_decl.specs.Layout.{counted}
+use Rattle.plm_decl.specs.Scope.{Frame}
+use Rattle.plm_decl.specs.Resolver.{Known}
+use Rattle.plm_decl.specs.Names.{ObjectR}
 use Rattle.plm_decl.specs.Resolved.{LocationR', LocationOf, ConstantsOf, ReferenceR', Use}
-use Rattle.plm_decl.specs.Values.{number_datum, text_datum, word_datum, character_datum, is_byte, takes}
+use Rattle.plm_decl.specs.Datum.{number_datum, text_datum, word_datum, character_datum, is_byte, takes}
 use Rattle.plm_decl.specs.Expressions.{location}
-use Rattle.plm_decl.specs.Shapes.{scalar_at, shape_for}
+use Rattle.plm_decl.specs.Shape.{scalar_at, shape_for}
 use Rattle.plm_decl.specs.Elements.{distance, declared_variables, declared_list, element_values, has_values, is_placed, first_site, place_of_variable}
-use Rattle.plm_decl.specs.Fills.{address_at, address_datum, variable_datum, reference_datum, location_datum, form_of_location, location_in, datum_for, FillingR, with_datum, given_at, given_in, put_datum, too_many, put_at, put_value, put_characters, put_single, filled_with, filled_from, traits_for, filled_element, declared_at, declared_names, element}
-use Rattle.plm_decl.specs.Ranges.{Counts, datum_within, object_within, expressions_within, selector_within, reference_within, location_within, Within}
-use Rattle.plm_decl.proofs.Kept.{Ends, Kept, Reads, Declares, reads, reads_then, declares_none, kept, kept_then, left, levels_within, note_kept, note_unless_kept, all_pushed, all_set, maybe, got, maybe_unless}
+use Rattle.plm_decl.specs.Fill.{address_at, address_datum, variable_datum, reference_datum, location_datum, form_of_location, location_in, datum_for, FillingR, with_datum, given_at, given_in, put_datum, too_many, put_at, put_value, past_at, unless_past, put_characters, put_single, filled_with, filled_from, traits_for, filled_element, declared_at, declared_names, element}
+use Rattle.plm_decl.specs.Ranges.{Counts, datum_within, object_within, expressions_within, selector_within, reference_within, location_within}
+use Rattle.plm_decl.specs.Inner.Ranges.{Within}
+use Rattle.plm_decl.proofs.Kept.{Ends, Kept, Reads, Declares, reads, reads_then, declares_none, kept, kept_then, left, frames_within, note_kept, note_unless_kept, all_pushed, all_set, maybe, got, maybe_unless}
+use Rattle.plm_decl.proofs.Lying.{set_lie}
 use Rattle.plm_decl.proofs.RangesExpressions.{location_kept, location_is_within}
 use Rattle.plm_decl.proofs.RangesShapes.{shape_kept, shape_is_within}
 use Rattle.plm_decl.proofs.RangesElements.{first_reads, first_within, declared_variables_ends, declared_variables_within}
@@ -48,29 +51,29 @@ variable_datum_within c n None d h = refl
 variable_datum_within c n (Some v) d h = address_within c n v.region d h
 
 reference_datum_within : (c : Counts) (k : Known) (x : ReferenceR') → reference_within c x ≡ true → maybe (datum_within c) (reference_datum k x) ≡ true
-reference_datum_within c k (Use p (meaning.Variable n) es s) h =
-    variable_datum_within c n (slice_get k.variables n) (distance k (Use p (meaning.Variable n) es s)) (left (nat_lt n c.variables) (expressions_within c es && selector_within c s) h)
-reference_datum_within c k (Use p (meaning.Procedure q) es s) h = refl
-reference_datum_within c k (Use p (meaning.Builtin b) es s) h = refl
-reference_datum_within c k (Use p meaning.Nothing es s) h = refl
+reference_datum_within c k (Use p (binding.Variable n) es s) h =
+    variable_datum_within c n (slice_get k.variables n) (distance k (Use p (binding.Variable n) es s)) (left (nat_lt n c.variables) (expressions_within c es && selector_within c s) h)
+reference_datum_within c k (Use p (binding.Procedure q) es s) h = refl
+reference_datum_within c k (Use p (binding.Builtin b) es s) h = refl
+reference_datum_within c k (Use p binding.Nothing es s) h = refl
 
 location_datum_within : (c : Counts) (k : Known) (l : LocationR') → location_within c l ≡ true → maybe (datum_within c) (location_datum k l) ≡ true
 location_datum_within c k (LocationOf p f x) h = reference_datum_within c k x h
 location_datum_within c k (ConstantsOf p f o) h = h
 
-location_in_reads : (c : Counts) (levels : List Level) (s : ScalarType) (l : LocationT) (k : Known) → Reads c levels k (location_in levels s l k).1
-location_in_reads c levels s l k =
-    let r = location levels l k in
-    let here = location_kept c levels l k in
+location_in_reads : (c : Counts) (frames : List Frame) (s : ScalarType) (l : LocationT) (k : Known) → Reads c frames k (location_in frames s l k).1
+location_in_reads c frames s l k =
+    let r = location frames l k in
+    let here = location_kept c frames l k in
     record {
       ends = λ e. here.ends e;
-      within = λ h e w. let v = here.within e w in (v.0, v.1, v.2, all_pushed _ r.1.locations _ v.3 (location_is_within c levels l k h e), v.4, v.5, v.6);
+      within = λ h e w. let v = here.within e w in (v.0, v.1, v.2, all_pushed _ r.1.locations _ v.3 (location_is_within c frames l k h e), v.4, v.5, v.6, v.7);
     }
 
-location_in_within : (c : Counts) (levels : List Level) (s : ScalarType) (l : LocationT) (k : Known) → levels_within c levels ≡ true → Ends c (location_in levels s l k).1 → maybe (datum_within c) (location_in levels s l k).0 ≡ true
-location_in_within c levels s l k h e =
-    let r = location levels l k in
-    maybe_unless (datum_within c) (takes s (form_of_location l)) (location_datum r.1 r.0) (location_datum_within c r.1 r.0 (location_is_within c levels l k h e))
+location_in_within : (c : Counts) (frames : List Frame) (s : ScalarType) (l : LocationT) (k : Known) → frames_within c frames ≡ true → Ends c (location_in frames s l k).1 → maybe (datum_within c) (location_in frames s l k).0 ≡ true
+location_in_within c frames s l k h e =
+    let r = location frames l k in
+    maybe_unless (datum_within c) (takes s (form_of_location l)) (location_datum r.1 r.0) (location_datum_within c r.1 r.0 (location_is_within c frames l k h e))
 
 -- ---- one value in one scalar
 
@@ -103,17 +106,17 @@ character_within c Byte x = refl
 character_within c Word x = refl
 character_within c Pointer x = refl
 
-datum_reads : (c : Counts) (levels : List Level) (s : ScalarType) (v : ValueT) (k : Known) → Reads c levels k (datum_for levels s v k).1
-datum_reads c levels s (NumberV n) k = reads (kept c k)
-datum_reads c levels s (NegativeV n) k = reads (kept c k)
-datum_reads c levels s (TextV t) k = reads (kept c k)
-datum_reads c levels s (LocationV l) k = location_in_reads c levels s l k
+datum_reads : (c : Counts) (frames : List Frame) (s : ScalarType) (v : ValueT) (k : Known) → Reads c frames k (datum_for frames s v k).1
+datum_reads c frames s (NumeralV n) k = reads (kept c k)
+datum_reads c frames s (NegativeV n) k = reads (kept c k)
+datum_reads c frames s (TextV t) k = reads (kept c k)
+datum_reads c frames s (LocationV l) k = location_in_reads c frames s l k
 
-datum_is_within : (c : Counts) (levels : List Level) (s : ScalarType) (v : ValueT) (k : Known) → levels_within c levels ≡ true → Ends c (datum_for levels s v k).1 → maybe (datum_within c) (datum_for levels s v k).0 ≡ true
-datum_is_within c levels s (NumberV n) k h e = number_within c s n.value false
-datum_is_within c levels s (NegativeV n) k h e = number_within c s n.value true
-datum_is_within c levels s (TextV t) k h e = text_within c s (string_characters t.text)
-datum_is_within c levels s (LocationV l) k h e = location_in_within c levels s l k h e
+datum_is_within : (c : Counts) (frames : List Frame) (s : ScalarType) (v : ValueT) (k : Known) → frames_within c frames ≡ true → Ends c (datum_for frames s v k).1 → maybe (datum_within c) (datum_for frames s v k).0 ≡ true
+datum_is_within c frames s (NumeralV n) k h e = number_within c s n.value false
+datum_is_within c frames s (NegativeV n) k h e = number_within c s n.value true
+datum_is_within c frames s (TextV t) k h e = text_within c s (string_characters t.text)
+datum_is_within c frames s (LocationV l) k h e = location_in_within c frames s l k h e
 
 -- ---- filling
 
@@ -121,9 +124,9 @@ given_at_ends : (c : Counts) (o : ℕ) (d : Datum) (at : Option ObjectR) (k : Kn
 given_at_ends c o d None k e = e
 given_at_ends c o d (Some x) k e = (e.0, e.1, subst (λ n. n ≤ c.objects) (length-set k.objects o (with_datum d x)) e.2, e.3, e.4)
 
-given_at_within : (c : Counts) (o : ℕ) (d : Datum) (at : Option ObjectR) (k : Known) → datum_within c d ≡ true → maybe (object_within c) at ≡ true → Within c k → Within c (given_at o d at k)
-given_at_within c o d None k h g w = w
-given_at_within c o d (Some x) k h g w = (w.0, all_set (object_within c) k.objects o (with_datum d x) w.1 (all_pushed (datum_within c) x.initial d g h), w.2, w.3, w.4, w.5, w.6)
+given_at_within : (c : Counts) (o : ℕ) (d : Datum) (at : Option ObjectR) (k : Known) → slice_get k.objects o ≡ at → datum_within c d ≡ true → maybe (object_within c) at ≡ true → Within c k → Within c (given_at o d at k)
+given_at_within c o d None k is h g w = w
+given_at_within c o d (Some x) k is h g w = (w.0, all_set (object_within c) k.objects o (with_datum d x) w.1 (all_pushed (datum_within c) x.initial d g h), w.2, w.3, w.4, w.5, w.6, set_lie k.objects o x (with_datum d x) k.variables is refl w.7)
 
 given_in_ends : (c : Counts) (r : Region) (d : Datum) (k : Known) → Ends c (given_in r d k) → Ends c k
 given_in_ends c (region.Ram o x) d k e = given_at_ends c o d (slice_get k.objects o) k e
@@ -132,7 +135,7 @@ given_in_ends c (region.Based v) d k e = e
 given_in_ends c region.Nowhere d k e = e
 
 given_in_within : (c : Counts) (r : Region) (d : Datum) (k : Known) → datum_within c d ≡ true → Within c k → Within c (given_in r d k)
-given_in_within c (region.Ram o x) d k h w = given_at_within c o d (slice_get k.objects o) k h (got (object_within c) k.objects o w.1) w
+given_in_within c (region.Ram o x) d k h w = given_at_within c o d (slice_get k.objects o) k refl h (got (object_within c) k.objects o w.1) w
 given_in_within c (region.Screen x) d k h w = w
 given_in_within c (region.Based v) d k h w = w
 given_in_within c region.Nowhere d k h w = w
@@ -167,6 +170,10 @@ put_at_within : (c : Counts) (f : FillingR) (at : Cursor) (v : Option VariableT)
 put_at_within c f at None d k h e w = (too_many_kept c (slice_get f.names (length f.names - 1)) k).within e w
 put_at_within c f at (Some v) d k h e w = put_datum_within c f at.name v d k h e w
 
+past_kept : (c : Counts) (f : FillingR) (v : Option VariableT) (k : Known) → Kept c k (past_at f v k)
+past_kept c f None k = too_many_kept c (slice_get f.names (length f.names - 1)) k
+past_kept c f (Some v) k = kept c k
+
 put_characters_kept : (c : Counts) (f : FillingR) (at : Cursor) (xs : List ℕ) (k : Known) → Kept c k (put_characters f at xs k).1
 put_characters_kept c f at [] k = kept c k
 put_characters_kept c f at (x ∷ xs) k =
@@ -176,71 +183,71 @@ put_characters_kept c f at (x ∷ xs) k =
     let one : Kept c k r.1 = record { ends = λ e. put_at_ends c f at v d k e; within = λ e w. put_at_within c f at v d k (character_within c (scalar_at k f.shape.form at.scalar) x) e w } in
     kept_then one (put_characters_kept c f r.0 xs r.1)
 
-put_single_reads : (c : Counts) (levels : List Level) (f : FillingR) (at : Cursor) (v : ValueT) (k : Known) → Reads c levels k (put_single levels f at v k).1
-put_single_reads c levels f at v k =
+put_single_reads : (c : Counts) (frames : List Frame) (f : FillingR) (at : Cursor) (v : ValueT) (k : Known) → Reads c frames k (put_single frames f at v k).1
+put_single_reads c frames f at v k =
     let s = scalar_at k f.shape.form at.scalar in
-    let d = datum_for levels s v k in
+    let d = datum_for frames s v k in
     let n = slice_get f.names at.name in
-    let here = datum_reads c levels s v k in
+    let here = datum_reads c frames s v k in
     record {
       ends = λ e. here.ends (put_at_ends c f at n d.0 d.1 e);
       within = λ h e w.
           let before = put_at_ends c f at n d.0 d.1 e in
-          put_at_within c f at n d.0 d.1 (datum_is_within c levels s v k h before) e (here.within h before w);
+          put_at_within c f at n d.0 d.1 (datum_is_within c frames s v k h before) e (here.within h before w);
     }
 
-where_reads : (c : Counts) (levels : List Level) (b : Bool) (k : Known) (x y : Cursor × Known) → Reads c levels k x.1 → Reads c levels k y.1 → Reads c levels k (cond b x y).1
-where_reads c levels true k x y p q = p
-where_reads c levels false k x y p q = q
+where_reads : (c : Counts) (frames : List Frame) (b : Bool) (k : Known) (x y : Cursor × Known) → Reads c frames k x.1 → Reads c frames k y.1 → Reads c frames k (cond b x y).1
+where_reads c frames true k x y p q = p
+where_reads c frames false k x y p q = q
 
-filled_with_reads : (c : Counts) (levels : List Level) (f : FillingR) (at : Cursor) (v : ValueT) (k : Known) → Reads c levels k (filled_with levels f at v k).1
-filled_with_reads c levels f at (NumberV n) k = put_single_reads c levels f at (NumberV n) k
-filled_with_reads c levels f at (NegativeV n) k = put_single_reads c levels f at (NegativeV n) k
-filled_with_reads c levels f at (TextV s) k =
-    where_reads c levels (is_byte (scalar_at k f.shape.form at.scalar)) k _ _ (reads (put_characters_kept c f at (string_characters s.text) k)) (put_single_reads c levels f at (TextV s) k)
-filled_with_reads c levels f at (LocationV l) k = put_single_reads c levels f at (LocationV l) k
+filled_with_reads : (c : Counts) (frames : List Frame) (f : FillingR) (at : Cursor) (v : ValueT) (k : Known) → Reads c frames k (filled_with frames f at v k).1
+filled_with_reads c frames f at (NumeralV n) k = put_single_reads c frames f at (NumeralV n) k
+filled_with_reads c frames f at (NegativeV n) k = put_single_reads c frames f at (NegativeV n) k
+filled_with_reads c frames f at (TextV s) k =
+    where_reads c frames (is_byte (scalar_at k f.shape.form at.scalar)) k _ _ (reads (kept_then (past_kept c f (slice_get f.names at.name) k) (put_characters_kept c f at (string_characters s.text) (unless_past f at k)))) (put_single_reads c frames f at (TextV s) k)
+filled_with_reads c frames f at (LocationV l) k = put_single_reads c frames f at (LocationV l) k
 
-filled_from_reads : (c : Counts) (levels : List Level) (f : FillingR) (at : Cursor) (vs : List ValueT) (k : Known) → Reads c levels k (filled_from levels f at vs k).1
-filled_from_reads c levels f at [] k = reads (kept c k)
-filled_from_reads c levels f at (v ∷ vs) k = let r = filled_with levels f at v k in reads_then (filled_with_reads c levels f at v k) (filled_from_reads c levels f r.0 vs r.1)
+filled_from_reads : (c : Counts) (frames : List Frame) (f : FillingR) (at : Cursor) (vs : List ValueT) (k : Known) → Reads c frames k (filled_from frames f at vs k).1
+filled_from_reads c frames f at [] k = reads (kept c k)
+filled_from_reads c frames f at (v ∷ vs) k = let r = filled_with frames f at v k in reads_then (filled_with_reads c frames f at v k) (filled_from_reads c frames f r.0 vs r.1)
 
-unless_reads : (c : Counts) (levels : List Level) (b : Bool) (k x y : Known) → Reads c levels k x → Reads c levels k y → Reads c levels k (cond b x y)
-unless_reads c levels true k x y p q = p
-unless_reads c levels false k x y p q = q
+unless_reads : (c : Counts) (frames : List Frame) (b : Bool) (k x y : Known) → Reads c frames k x → Reads c frames k y → Reads c frames k (cond b x y)
+unless_reads c frames true k x y p q = p
+unless_reads c frames false k x y p q = q
 
-filled_element_reads : (c : Counts) (f : FillingR) (p : Place) (a : AttributesT) (levels : List Level) (k : Known) → Reads c levels k (filled_element f p a levels k)
-filled_element_reads c f p a levels k =
-    unless_reads c levels (is_placed a) k _ _ (reads (note_unless_kept c (not (has_values a)) E305 p k)) (filled_from_reads c levels f (record { name = 0; scalar = 0 }) (element_values a) k)
+filled_element_reads : (c : Counts) (f : FillingR) (p : Position) (a : AttributesT) (frames : List Frame) (k : Known) → Reads c frames k (filled_element f p a frames k)
+filled_element_reads c f p a frames k =
+    unless_reads c frames (is_placed a) k _ _ (reads (note_unless_kept c (not (has_values a)) E305 p k)) (filled_from_reads c frames f (record { name = 0; scalar = 0 }) (element_values a) k)
 
 -- ---- an element
 
-declared_at_declares : (c : Counts) (p : Place) (vs : List VariableT) (d : DimensionT) (t : TypeT) (a : AttributesT) (levels : List Level) (k : Known)
-    → Declares c levels k (declared_at p vs d t a levels k).0 (declared_at p vs d t a levels k).1
-declared_at_declares c p vs d t a levels k =
-    let s = first_site levels a k in
+declared_at_declares : (c : Counts) (p : Position) (vs : List VariableT) (d : DimensionT) (t : TypeT) (a : AttributesT) (frames : List Frame) (k : Known)
+    → Declares c frames k (declared_at p vs d t a frames k).0 (declared_at p vs d t a frames k).1
+declared_at_declares c p vs d t a frames k =
+    let s = first_site frames a k in
     let h = shape_for p (length vs) d t (element_values a) s.1 in
     let ts = traits_for h.0 a in
-    let r = declared_variables vs ts s.0 levels h.1 in
+    let r = declared_variables vs ts s.0 frames h.1 in
     let f : FillingR = record { names = vs; shape = h.0; number = length h.1.variables } in
-    let placed = first_reads c levels a k in
+    let placed = first_reads c frames a k in
     let shaped = shape_kept c p (length vs) d t (element_values a) s.1 in
     let full = filled_element_reads c f p a r.1 r.2 in
     record {
-      ends = λ e. placed.ends (shaped.ends (declared_variables_ends c vs ts s.0 levels h.1 (full.ends e)));
+      ends = λ e. placed.ends (shaped.ends (declared_variables_ends c vs ts s.0 frames h.1 (full.ends e)));
       within = λ l e w.
           let e2 = full.ends e in
-          let e1 = declared_variables_ends c vs ts s.0 levels h.1 e2 in
+          let e1 = declared_variables_ends c vs ts s.0 frames h.1 e2 in
           let e0 = shaped.ends e1 in
-          let done = declared_variables_within c vs ts s.0 levels h.1 (shape_is_within c p (length vs) d t (element_values a) s.1 e1)
-          (first_within c levels a k e0 w) l e2 (shaped.within e1 (placed.within l e0 w)) in
+          let done = declared_variables_within c vs ts s.0 frames h.1 (shape_is_within c p (length vs) d t (element_values a) s.1 e1)
+          (first_within c frames a k e0 w) l e2 (shaped.within e1 (placed.within l e0 w)) in
           (full.within done.1 e done.0, done.1);
     }
 
-declared_names_declare : (c : Counts) (vs : List VariableT) (d : DimensionT) (t : TypeT) (a : AttributesT) (levels : List Level) (k : Known)
-    → Declares c levels k (declared_names vs d t a levels k).0 (declared_names vs d t a levels k).1
-declared_names_declare c [] d t a levels k = declares_none c levels k
-declared_names_declare c (v ∷ vs) d t a levels k = declared_at_declares c (place_of_variable v) (v ∷ vs) d t a levels k
+declared_names_declare : (c : Counts) (vs : List VariableT) (d : DimensionT) (t : TypeT) (a : AttributesT) (frames : List Frame) (k : Known)
+    → Declares c frames k (declared_names vs d t a frames k).0 (declared_names vs d t a frames k).1
+declared_names_declare c [] d t a frames k = declares_none c frames k
+declared_names_declare c (v ∷ vs) d t a frames k = declared_at_declares c (place_of_variable v) (v ∷ vs) d t a frames k
 
-pub element_declares : (c : Counts) (x : ElementT) (levels : List Level) (k : Known) → Declares c levels k (element x levels k).0 (element x levels k).1
-element_declares c (LiteralElement n s) levels k = declares_none c levels k
-element_declares c (VariableElement d n t a) levels k = declared_names_declare c (declared_list d) n t a levels k
+pub element_declares : (c : Counts) (x : ElementT) (frames : List Frame) (k : Known) → Declares c frames k (element x frames k).0 (element x frames k).1
+element_declares c (LiteralElement n s) frames k = declares_none c frames k
+element_declares c (VariableElement d n t a) frames k = declared_names_declare c (declared_list d) n t a frames k

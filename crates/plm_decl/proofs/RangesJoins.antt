@@ -13,15 +13,19 @@ use Rattle.plm_decl.specs.declared.names.Object.{Object}
 use Rattle.plm_decl.specs.declared.names.Item.{Item}
 use Rattle.plm_decl.specs.declared.names.Item.TheVariants as item
 use Rattle.plm_decl.specs.declared.found.Found.{Found}
-use Rattle.plm_decl.specs.Layouts.{counted}
-use Rattle.plm_decl.specs.Scopes.{level, found_in}
-use Rattle.plm_decl.specs.Known.{Known, ProcedureR, ExternalR, nothing_known, object_of}
+use Rattle.plm_decl.specs.Layout.{counted}
+use Rattle.plm_decl.specs.Scope.{frame, found_in}
+use Rattle.plm_decl.specs.Resolver.{Known, ExternalR, nothing_known}
+use Rattle.plm_decl.specs.Names.{ProcedureR, object_of}
 use Rattle.plm_decl.specs.Resolved.{StatementsR}
 use Rattle.plm_decl.specs.Statements.{block}
 use Rattle.plm_decl.specs.Elements.{start}
-use Rattle.plm_decl.specs.Joins.{agree, with_region, with_entry_at, region_joined, entry_joined, joined, external_joined, externals_joined, bytes_from, have_room, program_fault, modules_joined, has_statements, with_main, at_module, with_module, modules_from, known_from}
-use Rattle.plm_decl.specs.Ranges.{Counts, counts_of, Within, item_within, form_within, region_within, variable_within, procedure_within, main_within, statements_within}
+use Rattle.plm_decl.specs.Joins.{same_type, agree, with_region, with_entry_at, region_joined, entry_joined, joined, external_joined, externals_joined, bytes_from, have_room, program_fault, modules_joined, has_statements, with_main, at_module, with_module, modules_from, known_from}
+use Rattle.plm_decl.specs.Ranges.{Counts, form_within, region_within, variable_within, procedure_within, main_within, statements_within}
+use Rattle.plm_decl.specs.Inner.Ranges.{counts_of, Within, item_within}
 use Rattle.plm_decl.proofs.Kept.{Ends, Kept, kept, kept_then, both, left, right, all_pushed, all_set, not_nil, maybe, got}
+use Rattle.plm_decl.specs.Inner.Regions.{lies_in}
+use Rattle.plm_decl.proofs.Lying.{joined_lies}
 use Rattle.plm_decl.proofs.RangesNames.{found_within}
 use Rattle.plm_decl.proofs.RangesStatements.{block_gives}
 
@@ -32,14 +36,14 @@ main_ends c true ss k e = e
 main_ends c false ss k e = e
 
 main_stays : (c : Counts) (b : Bool) (ss : StatementsR) (k : Known) → statements_within c ss ≡ true → Within c k → Within c (with_main b ss k)
-main_stays c true ss k h w = (w.0, w.1, w.2, w.3, all_pushed (main_within c) k.mains _ w.4 h, w.5, w.6)
+main_stays c true ss k h w = (w.0, w.1, w.2, w.3, all_pushed (main_within c) k.mains _ w.4 h, w.5, w.6, w.7)
 main_stays c false ss k h w = w
 
 module_kept : (c : Counts) (number : ℕ) (m : ModuleT) (k : Known) → Kept c k (with_module number m k)
 module_kept c number (ModuleOf n b e) k =
-    let levels = level (normal n.text) false ∷ [] in
-    let r = block levels b (at_module number k) in
-    let here = block_gives c levels b (at_module number k) in
+    let frames = frame (normal n.text) false ∷ [] in
+    let r = block frames b (at_module number k) in
+    let here = block_gives c frames b (at_module number k) in
     record {
       ends = λ d. here.ends (main_ends c (has_statements b) r.0 r.2 d);
       within = λ d w. let before = main_ends c (has_statements b) r.0 r.2 d in let done = here.within refl before w in main_stays c (has_statements b) r.0 r.2 done.2 done.0;
@@ -53,20 +57,21 @@ ends_here : (k : Known) → k.faults ≡ [] → Ends (counts_of k) k
 ends_here k h = (omega arith, omega arith, omega arith, omega arith, h)
 
 nothing_within : (c : Counts) → Within c nothing_known
-nothing_within c = (refl, refl, refl, refl, refl, refl, refl)
+nothing_within c = (refl, refl, refl, refl, refl, refl, refl, refl)
 
 pub known_within : (ms : List ModuleT) → (known_from ms).faults ≡ [] → Within (counts_of (known_from ms)) (known_from ms)
 known_within ms h = let k = known_from ms in (modules_kept (counts_of k) 0 ms nothing_known).within (ends_here k h) (nothing_within (counts_of k))
 
 -- ---- joining
 
-region_stays : (c : Counts) (m : ℕ) (v w : Option Variable) (k : Known) → maybe (variable_within c) v ≡ true → maybe (variable_within c) w ≡ true → Within c k → Within c (region_joined m v w k)
-region_stays c m None w k g h i = i
-region_stays c m (Some v) None k g h i = i
-region_stays c m (Some v) (Some w) k g h i =
+region_stays : (c : Counts) (m : ℕ) (v w : Option Variable) (k : Known) → maybe (variable_within c) v ≡ true → maybe (variable_within c) w ≡ true
+    → same_type k v w ≡ true → maybe (lies_in k.objects) w ≡ true → Within c k → Within c (region_joined m v w k)
+region_stays c m None w k g h a l i = i
+region_stays c m (Some v) None k g h a l i = i
+region_stays c m (Some v) (Some w) k g h a l i =
     let one = left (form_within c v.form) (region_within c v.region) g in
     let two = right (form_within c w.form) (region_within c w.region) h in
-    (all_set (variable_within c) k.variables m (with_region w.region v) i.0 (both one two), i.1, i.2, i.3, i.4, i.5, i.6)
+    (all_set (variable_within c) k.variables m (with_region w.region v) i.0 (both one two), i.1, i.2, i.3, i.4, i.5, i.6, all_set (lies_in k.objects) k.variables m (with_region w.region v) i.7 (joined_lies k k.objects v w a l))
 
 entry_stays : (c : Counts) (m : ℕ) (p : Option ProcedureR) (n : ℕ) (k : Known) → maybe (procedure_within c) p ≡ true → nat_lt n c.procedures ≡ true → Within c k → Within c (entry_joined m p n k)
 entry_stays c m None n k g h i = i
@@ -74,22 +79,23 @@ entry_stays c m (Some p) n k g h i =
     let ps = list_all (λ v. nat_lt v c.variables) p.parameters in
     let body = statements_within c p.body in
     let entry = nat_lt p.entry c.procedures in
-    (i.0, i.1, all_set (procedure_within c) k.procedures m (with_entry_at n p) i.2 (both (left ps (entry && body) g) (both h (right entry body (right ps (entry && body) g)))), i.3, i.4, i.5, i.6)
+    (i.0, i.1, all_set (procedure_within c) k.procedures m (with_entry_at n p) i.2 (both (left ps (entry && body) g) (both h (right entry body (right ps (entry && body) g)))), i.3, i.4, i.5, i.6, i.7)
 
-joined_stays : (c : Counts) (e p : Item) (k : Known) → item_within c p ≡ true → Within c k → Within c (joined e p k)
-joined_stays c (item.Variable m) (item.Variable n) k h w =
-    region_stays c m (slice_get k.variables m) (slice_get k.variables n) k (got (variable_within c) k.variables m w.0) (got (variable_within c) k.variables n w.0) w
-joined_stays c (item.Variable m) (item.Procedure n) k h w = w
-joined_stays c (item.Procedure m) (item.Variable n) k h w = w
-joined_stays c (item.Procedure m) (item.Procedure n) k h w = entry_stays c m (slice_get k.procedures m) n k (got (procedure_within c) k.procedures m w.2) h w
+joined_stays : (c : Counts) (e p : Item) (k : Known) → item_within c p ≡ true → agree k e p ≡ true → Within c k → Within c (joined e p k)
+joined_stays c (item.Variable m) (item.Variable n) k h a w =
+    region_stays c m (slice_get k.variables m) (slice_get k.variables n) k (got (variable_within c) k.variables m w.0) (got (variable_within c) k.variables n w.0)
+    a (got (lies_in k.objects) k.variables n w.7) w
+joined_stays c (item.Variable m) (item.Procedure n) k h a w = w
+joined_stays c (item.Procedure m) (item.Variable n) k h a w = w
+joined_stays c (item.Procedure m) (item.Procedure n) k h a w = entry_stays c m (slice_get k.procedures m) n k (got (procedure_within c) k.procedures m w.2) h w
 
-where_stays : (c : Counts) (b : Bool) (k q : Known) → Within c k → Within c q → Within c (cond b k q)
-where_stays c true k q g h = g
+where_stays : (c : Counts) (b : Bool) (k q : Known) → (b ≡ true → Within c k) → Within c q → Within c (cond b k q)
+where_stays c true k q g h = g refl
 where_stays c false k q g h = h
 
 external_stays : (c : Counts) (e : Item) (p : Option Item) (k : Known) → maybe (item_within c) p ≡ true → Within c k → Within c (external_joined e p k)
 external_stays c e None k h w = w
-external_stays c e (Some p) k h w = where_stays c (agree k e p) _ _ (joined_stays c e p k h w) w
+external_stays c e (Some p) k h w = where_stays c (agree k e p) _ _ (λ a. joined_stays c e p k h a w) w
 
 externals_stay : (c : Counts) (es : List ExternalR) (k : Known) → Within c k → Within c (externals_joined es k)
 externals_stay c [] k w = w
@@ -103,7 +109,7 @@ fault_stays c false f k w = w
 pub joined_within : (c : Counts) (k : Known) → Within c k → Within c (modules_joined k)
 joined_within c k w =
     let q = externals_joined k.externals (record k { externals = [] }) in
-    fault_stays c _ _ _ (fault_stays c (nat_eq (length q.mains) 1) _ q (externals_stay c k.externals (record k { externals = [] }) (w.0, w.1, w.2, w.3, w.4, w.5, refl)))
+    fault_stays c _ _ _ (fault_stays c (nat_eq (length q.mains) 1) _ q (externals_stay c k.externals (record k { externals = [] }) (w.0, w.1, w.2, w.3, w.4, w.5, refl, w.7)))
 
 -- as many of each as before
 region_counts : (m : ℕ) (v w : Option Variable) (k : Known) → counts_of (region_joined m v w k) ≡ counts_of k

@@ -7,12 +7,13 @@ use Rattle.word86.specs.declared.number.Number.TheVariants.{E301}
 use Rattle.plm_decl.specs.declared.builtin.Builtin.{Builtin}
 use Rattle.plm_decl.specs.declared.names.Item.{Item}
 use Rattle.plm_decl.specs.declared.names.Item.TheVariants as item
-use Rattle.plm_decl.specs.Builtins.{builtin_named}
-use Rattle.plm_decl.specs.Scopes.{Entries, Level, found_in, found_here, meant, with_entry, with_name}
-use Rattle.plm_decl.specs.Known.{Known}
-use Rattle.plm_decl.specs.Uses.{meaning_for, is_something, used}
-use Rattle.plm_decl.specs.Ranges.{Counts, meaning_within, item_within, entries_within}
-use Rattle.plm_decl.proofs.Kept.{Ends, Kept, both, left, right, levels_within, maybe, or_within, note_unless_kept, note_unless_holds, all_pushed}
+use Rattle.plm_decl.specs.Builtin.{builtin_named}
+use Rattle.plm_decl.specs.Scope.{Entries, Frame, found_in, found_here, meant, with_entry, with_name}
+use Rattle.plm_decl.specs.Resolver.{Known}
+use Rattle.plm_decl.specs.Uses.{binding_for, is_something, used}
+use Rattle.plm_decl.specs.Ranges.{Counts, binding_within}
+use Rattle.plm_decl.specs.Inner.Ranges.{item_within, entries_within}
+use Rattle.plm_decl.proofs.Kept.{Ends, Kept, both, left, right, frames_within, maybe, or_within, note_unless_kept, note_unless_holds, all_pushed}
 
 chosen : (c : Counts) (b : Bool) (i : Item) (o : Option Item) → item_within c i ≡ true → maybe (item_within c) o ≡ true → maybe (item_within c) (cond b (Some i) o) ≡ true
 chosen c true i o p q = p
@@ -23,15 +24,15 @@ found_within c name [] h = refl
 found_within c name (e ∷ es) h =
     chosen c (bytes_eq name e.0) e.1 (found_in name es) (left (item_within c e.1) (entries_within c es) h) (found_within c name es (right (item_within c e.1) (entries_within c es) h))
 
-pub meant_within : (c : Counts) (name : List ℕ) (levels : List Level) → levels_within c levels ≡ true → maybe (item_within c) (meant name levels) ≡ true
+pub meant_within : (c : Counts) (name : List ℕ) (frames : List Frame) → frames_within c frames ≡ true → maybe (item_within c) (meant name frames) ≡ true
 meant_within c name [] h = refl
 meant_within c name (l ∷ ls) h =
-    or_within c (found_in name l.names) (meant name ls) (found_within c name l.names (left (entries_within c l.names) (levels_within c ls) h))
-    (meant_within c name ls (right (entries_within c l.names) (levels_within c ls) h))
+    or_within c (found_in name l.names) (meant name ls) (found_within c name l.names (left (entries_within c l.names) (frames_within c ls) h))
+    (meant_within c name ls (right (entries_within c l.names) (frames_within c ls) h))
 
-pub here_within : (c : Counts) (name : List ℕ) (levels : List Level) → levels_within c levels ≡ true → maybe (item_within c) (found_here name levels) ≡ true
+pub here_within : (c : Counts) (name : List ℕ) (frames : List Frame) → frames_within c frames ≡ true → maybe (item_within c) (found_here name frames) ≡ true
 here_within c name [] h = refl
-here_within c name (l ∷ ls) h = found_within c name l.names (left (entries_within c l.names) (levels_within c ls) h)
+here_within c name (l ∷ ls) h = found_within c name l.names (left (entries_within c l.names) (frames_within c ls) h)
 
 entry_within : (c : Counts) (b : Bool) (name : List ℕ) (i : Item) (es : Entries) → entries_within c es ≡ true → item_within c i ≡ true → entries_within c (cond b es (es ++ (name, i) ∷ [])) ≡ true
 entry_within c true name i es h e = h
@@ -40,20 +41,20 @@ entry_within c false name i es h e = all_pushed (λ (x : List ℕ × Item). item
 pub with_entry_within : (c : Counts) (name : List ℕ) (i : Item) (es : Entries) → entries_within c es ≡ true → item_within c i ≡ true → entries_within c (with_entry name i es) ≡ true
 with_entry_within c name i es h e = entry_within c _ name i es h e
 
-pub with_name_within : (c : Counts) (name : List ℕ) (i : Item) (levels : List Level) → levels_within c levels ≡ true → item_within c i ≡ true → levels_within c (with_name name i levels) ≡ true
+pub with_name_within : (c : Counts) (name : List ℕ) (i : Item) (frames : List Frame) → frames_within c frames ≡ true → item_within c i ≡ true → frames_within c (with_name name i frames) ≡ true
 with_name_within c name i [] h e = refl
 with_name_within c name i (l ∷ ls) h e =
-    both (with_entry_within c name i l.names (left (entries_within c l.names) (levels_within c ls) h) e) (right (entries_within c l.names) (levels_within c ls) h)
+    both (with_entry_within c name i l.names (left (entries_within c l.names) (frames_within c ls) h) e) (right (entries_within c l.names) (frames_within c ls) h)
 
-something_within : (c : Counts) (o : Option Item) (b : Option Builtin) → maybe (item_within c) o ≡ true → is_something (meaning_for o b) ≡ true → meaning_within c (meaning_for o b) ≡ true
+something_within : (c : Counts) (o : Option Item) (b : Option Builtin) → maybe (item_within c) o ≡ true → is_something (binding_for o b) ≡ true → binding_within c (binding_for o b) ≡ true
 something_within c (Some (item.Variable v)) b h e = h
 something_within c (Some (item.Procedure p)) b h e = h
 something_within c None (Some b) h e = refl
 something_within c None None h e = e
 
-pub used_kept : (c : Counts) (levels : List Level) (n : NameT) (k : Known) → Kept c k (used levels n k).1
-used_kept c levels n k = note_unless_kept c _ E301 n.place k
+pub used_kept : (c : Counts) (frames : List Frame) (n : NameT) (k : Known) → Kept c k (used frames n k).1
+used_kept c frames n k = note_unless_kept c _ E301 n.place k
 
-pub used_within : (c : Counts) (levels : List Level) (n : NameT) (k : Known) → levels_within c levels ≡ true → Ends c (used levels n k).1 → meaning_within c (used levels n k).0 ≡ true
-used_within c levels n k h ends =
-    something_within c (meant (normal n.text) levels) (builtin_named (normal n.text)) (meant_within c (normal n.text) levels h) (note_unless_holds c _ E301 n.place k ends)
+pub used_within : (c : Counts) (frames : List Frame) (n : NameT) (k : Known) → frames_within c frames ≡ true → Ends c (used frames n k).1 → binding_within c (used frames n k).0 ≡ true
+used_within c frames n k h ends =
+    something_within c (meant (normal n.text) frames) (builtin_named (normal n.text)) (meant_within c (normal n.text) frames h) (note_unless_holds c _ E301 n.place k ends)

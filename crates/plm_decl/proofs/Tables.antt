@@ -9,7 +9,8 @@ use Rattle.indexmap.specs.IndexMap.{IndexMap, insert_entry}
 use Rattle.indexmap.proofs.CallerLemmas.{insert_entry-new}
 use Rattle.plm_decl.specs.declared.names.Item.{Item}
 use Rattle.plm_decl.specs.declared.table.Table.{Table}
-use Rattle.plm_decl.specs.Scopes.{entries_of, found_in, with_entry}
+use Rattle.plm_decl.specs.Inner.Scope.{entries_of}
+use Rattle.plm_decl.specs.Scope.{found_in, with_entry}
 
 found_among : (name : List ℕ) (es : List (Vec ℕ × Item)) → lookup (λ (k : Vec ℕ). bytes_eq name k.items) es ≡ found_in name (map (λ (e : Vec ℕ × Item). (e.0.items, e.1)) es)
 found_among name [] = refl

@@ -20,9 +20,10 @@ use Rattle.std.proofs.lemmas.Bool.Decides.{nat_tests}
 use Rattle.plm_syntax.specs.declared.tree.Statement.{Statement}
 use Rattle.plm_decl.specs.Joins.{has_statements}
 use Rattle.plm_syntax.specs.Terminal.{NameT}
-use Rattle.plm_decl.specs.Strays.{stray_of, stray_in, stray_items, first_statement}
-use Rattle.plm_decl.specs.StatementsView.{stray_for, name_for, header_for}
-use Rattle.plm_decl.specs.Known.{Known, ProcedureR}
+use Rattle.plm_decl.specs.Stray.{stray_of, stray_in, stray_items, first_statement}
+use Rattle.plm_decl.specs.Inner.Statements.{stray_for, name_for, header_for}
+use Rattle.plm_decl.specs.Resolver.{Known}
+use Rattle.plm_decl.specs.Names.{ProcedureR}
 use Rattle.plm_decl.specs.Statements.{header}
 use Rattle.plm_decl.proofs.ListViews.{item_list_from, statement_list_from}
 
@@ -35,10 +36,10 @@ reference_laid x = ap (λ (es : ExpressionsT). ReferenceOf (name_of x.name) es (
 
 -- the same of a resolved one
 abbrev pub placed : resolved.Reference → ReferenceR'
-placed x = Use x.place x.meaning (view.expressions_in (block.hidden-the_row-Expression-0 x.subscripts)) (view.selector_of x.selector)
+placed x = Use x.place x.binding (view.expressions_in (block.hidden-the_row-Expression-0 x.subscripts)) (view.selector_of x.selector)
 
 pub reference_placed : (x : resolved.Reference) → placed x ≡ view.reference_of x
-reference_placed x = ap (λ (es : ExpressionsR). Use x.place x.meaning es (view.selector_of x.selector)) (rows.expression_row x.subscripts)
+reference_placed x = ap (λ (es : ExpressionsR). Use x.place x.binding es (view.selector_of x.selector)) (rows.expression_row x.subscripts)
 
 -- ---- blocks and procedures, by their parts
 

@@ -5,7 +5,7 @@ use Rattle.std.specs.Option.{option_map_or}
 use Rattle.word86.specs.declared.number.Number.{Number}
 use Rattle.word86.specs.declared.number.Number.TheVariants.{E302, E303, E304, E307}
 use Rattle.plm_token.specs.Names.{normal}
-use Rattle.plm_syntax.specs.declared.tree.Place.{Place}
+use Rattle.plm_syntax.specs.declared.tree.Position.{Position}
 use Rattle.plm_syntax.specs.declared.tree.Linkage.{Linkage}
 use Rattle.plm_syntax.specs.declared.tree.Linkage.TheVariants as linkage
 use Rattle.plm_syntax.specs.Terminal.{NameT}
@@ -19,21 +19,22 @@ use Rattle.plm_decl.specs.declared.names.Region.TheVariants as region
 use Rattle.plm_decl.specs.declared.names.Variable.{Variable}
 use Rattle.plm_decl.specs.declared.names.Item.{Item}
 use Rattle.plm_decl.specs.declared.names.Item.TheVariants as item
-use Rattle.plm_decl.specs.declared.resolved.Meaning.{Meaning}
-use Rattle.plm_decl.specs.declared.resolved.Meaning.TheVariants as meaning
+use Rattle.plm_decl.specs.declared.resolved.Binding.{Binding}
+use Rattle.plm_decl.specs.declared.resolved.Binding.TheVariants as binding
 use Rattle.plm_decl.specs.declared.found.Found.{Found}
 use Rattle.plm_decl.specs.declared.elements.Site.{Site}
 use Rattle.plm_decl.specs.declared.elements.Site.TheVariants as site
 use Rattle.plm_decl.specs.declared.elements.Traits.{Traits}
-use Rattle.plm_decl.specs.Layouts.{counted, size_of}
-use Rattle.plm_decl.specs.Scopes.{Level, with_name, is_fresh, is_external, path_in, found_in, with_entry}
-use Rattle.plm_decl.specs.Paths.{name_behind}
-use Rattle.plm_decl.specs.Known.{Known, note, note_unless, note_whole}
+use Rattle.plm_decl.specs.Layout.{counted, size_of}
+use Rattle.plm_decl.specs.Scope.{Frame, with_name, is_fresh, is_external, path_in, found_in, with_entry}
+use Rattle.plm_decl.specs.Spelling.{name_after}
+use Rattle.plm_decl.specs.Regions.{size_at}
+use Rattle.plm_decl.specs.Resolver.{Known, note, note_unless, note_whole}
 use Rattle.plm_decl.specs.Lists.{value_list, variable_list}
 use Rattle.plm_decl.specs.Uses.{used}
 use Rattle.plm_decl.specs.Resolved.{ExpressionR, NumberR, ExpressionsR, no_expressions, expressions, SelectorR, no_member, member, member_at, ReferenceR', Use, LocationOf}
 use Rattle.plm_decl.specs.Expressions.{variable_meant, reference}
-use Rattle.plm_decl.specs.Shapes.{size_of_shape}
+use Rattle.plm_decl.specs.Shape.{size_of_shape}
 
 -- ---- where a location with number subscripts lies
 
@@ -57,20 +58,20 @@ member_distance (member p (Some m)) = Some m.offset
 member_distance (member_at p None e) = bind (number_in e) (λ n. Some 0)
 member_distance (member_at p (Some m) e) = bind (number_in e) (λ n. Some (counted (m.offset + counted (n * size_of m.scalar))))
 
--- how many bytes behind the first of its variable a reference lies
+-- how many bytes after the first of its variable a reference lies
 abbrev pub distance : Known → ReferenceR' → Option ℕ
 distance k (Use p m es s) =
     bind (variable_meant k m) (λ v. bind (first_number es) (λ n. bind (member_distance s) (λ d. Some (counted (counted (n * v.stride) + d)))))
 
 -- ---- AT
 
--- the next name of an element stands behind this one
-abbrev pub site_behind : Site → ℕ → Site
-site_behind (site.Ram object offset) size = site.Ram object (counted (offset + size))
-site_behind (site.Screen offset) size = site.Screen (counted (offset + size))
-site_behind site.Own size = site.Own
-site_behind site.Nowhere size = site.Nowhere
-site_behind site.Outside size = site.Outside
+-- the next name of an element stands after this one
+abbrev pub site_after : Site → ℕ → Site
+site_after (site.Ram object offset) size = site.Ram object (counted (offset + size))
+site_after (site.Screen offset) size = site.Screen (counted (offset + size))
+site_after site.Own size = site.Own
+site_after site.Nowhere size = site.Nowhere
+site_after site.Outside size = site.Outside
 
 abbrev pub site_within : Region → Option ℕ → Site
 site_within (region.Ram object offset) (Some d) = site.Ram object (counted (offset + d))
@@ -79,36 +80,58 @@ site_within (region.Screen offset) d = site.Outside
 site_within (region.Based v) d = site.Outside
 site_within region.Nowhere d = site.Outside
 
-abbrev pub site_for : Meaning → Option Variable → Option ℕ → Site
-site_for (meaning.Variable n) (Some v) d = site_within v.region d
-site_for (meaning.Variable n) None d = site.Outside
-site_for (meaning.Procedure p) v d = site.Outside
-site_for (meaning.Builtin b) v d = site.Outside
-site_for meaning.Nothing v d = site.Nowhere
+abbrev pub are_none : ExpressionsR → Bool
+are_none no_expressions = true
+are_none (expressions e es) = false
 
--- AT a variable: into the RAM object in which it lies, if it is not based and not EXTERNAL, and subscripts are numbers
+-- an array takes one subscript, which may be missing here
+abbrev pub takes_subscripts : Option ℕ → ExpressionsR → Bool
+takes_subscripts d no_expressions = true
+takes_subscripts d (expressions e es) = is_some d && are_none es
+
+-- a structure takes one of its members, which may be missing here
+abbrev pub takes_member : Form → SelectorR → Bool
+takes_member f no_member = true
+takes_member (form.Scalar s) (member p m) = false
+takes_member (form.Scalar s) (member_at p m e) = false
+takes_member (form.Structure n) (member p m) = is_some m
+takes_member (form.Structure n) (member_at p None e) = false
+takes_member (form.Structure n) (member_at p (Some m) e) = is_some m.dimension
+
+abbrev pub has_shape : Variable → ExpressionsR → SelectorR → Bool
+has_shape v es s = takes_subscripts v.dimension es && takes_member v.form s
+
+abbrev pub variable_site : Option Variable → ExpressionsR → SelectorR → Option ℕ → Site
+variable_site None es s d = site.Outside
+variable_site (Some v) es s d = cond (has_shape v es s) (site_within v.region d) site.Nowhere
+
+-- AT a variable: into the RAM object in which it lies, if it is not based and not EXTERNAL, and subscripts are numbers.
+-- A reference that names nothing, or is not of its variable's shape, is a fault of its own and places nothing.
 abbrev pub site_of : Known → ReferenceR' → Site
-site_of k (Use p m es s) = site_for m (variable_meant k m) (distance k (Use p m es s))
+site_of k (Use p (binding.Variable n) es s) = variable_site (slice_get k.variables n) es s (distance k (Use p (binding.Variable n) es s))
+site_of k (Use p (binding.Procedure q) es s) = site.Outside
+site_of k (Use p (binding.Builtin b) es s) = site.Outside
+site_of k (Use p binding.Nothing es s) = site.Nowhere
 
 -- the screen begins at 0B8000H
 abbrev pub screen_site : ℕ → Site
 screen_site n = cond (nat_le 0xB8000 n) (site.Screen (n - 0xB8000)) site.Outside
 
-abbrev pub location_site : List Level → LocationT → Known → Site × Known
-location_site levels (tree.ConstantsOf p f vs) k = (site.Outside, k)
-location_site levels (tree.LocationOf p f x) k =
-    let r = reference levels x k in
+abbrev pub location_site : List Frame → LocationT → Known → Site × Known
+location_site frames (tree.ConstantsOf p f vs) k = (site.Outside, k)
+location_site frames (tree.LocationOf p f x) k =
+    let r = reference frames x k in
     (site_of r.1 r.0, record r.1 { locations = r.1.locations ++ record { «module» = r.1.module; location = LocationOf p f r.0 } ∷ [] })
 
-abbrev pub at_site : List Level → AtT → Known → Site × Known
-at_site levels no_at k = (site.Own, k)
-at_site levels (at_number n) k = (screen_site n.value, k)
-at_site levels (at_location l) k = location_site levels l k
+abbrev pub at_site : List Frame → AtT → Known → Site × Known
+at_site frames no_at k = (site.Own, k)
+at_site frames (at_number n) k = (screen_site n.value, k)
+at_site frames (at_location l) k = location_site frames l k
 
 -- where an element's first name goes
-abbrev pub first_site : List Level → AttributesT → Known → Site × Known
-first_site levels External k = (site.Nowhere, k)
-first_site levels (Attributes public at fill) k = at_site levels at k
+abbrev pub first_site : List Frame → AttributesT → Known → Site × Known
+first_site frames External k = (site.Nowhere, k)
+first_site frames (Attributes public at fill) k = at_site frames at k
 
 -- ---- bases
 
@@ -129,49 +152,46 @@ abbrev pub is_plain_base : Variable → Bool
 is_plain_base v = not (is_some v.dimension) && (is_plain_form v.form && not (is_based v.region))
 
 -- an undeclared base is no bad one
-abbrev pub is_base : Known → Meaning → Bool
-is_base k (meaning.Variable n) = option_map_or is_plain_base (slice_get k.variables n) false
-is_base k (meaning.Procedure p) = false
-is_base k (meaning.Builtin b) = false
-is_base k meaning.Nothing = true
+abbrev pub is_base : Known → Binding → Bool
+is_base k (binding.Variable n) = option_map_or is_plain_base (slice_get k.variables n) false
+is_base k (binding.Procedure p) = false
+is_base k (binding.Builtin b) = false
+is_base k binding.Nothing = true
 
-abbrev pub based_region : Meaning → Region
-based_region (meaning.Variable n) = region.Based n
-based_region (meaning.Procedure p) = region.Nowhere
-based_region (meaning.Builtin b) = region.Nowhere
-based_region meaning.Nothing = region.Nowhere
+abbrev pub based_region : Binding → Region
+based_region (binding.Variable n) = region.Based n
+based_region (binding.Procedure p) = region.Nowhere
+based_region (binding.Builtin b) = region.Nowhere
+based_region binding.Nothing = region.Nowhere
 
-abbrev pub base_for : List Level → NameT → NameT → Bool → Known → Region × Known
-base_for levels n base attributed k =
-    let m = used levels base k in
+abbrev pub base_for : List Frame → NameT → NameT → Bool → Known → Region × Known
+base_for frames n base attributed k =
+    let m = used frames base k in
     (based_region m.0, note_unless (is_base m.1 m.0 && not attributed) E304 n.place m.1)
 
 -- ---- regions
 
-abbrev pub own_region : List Level → List ℕ → ℕ → Known → Region × Known
-own_region levels name size k = cond (is_external levels) (region.Nowhere, k)
-    (region.Ram (length k.objects) 0, record k { objects = k.objects ++ record { path = name_behind (path_in levels) name; size = size; initial = [] } ∷ [] })
-
-abbrev pub object_size : Known → ℕ → ℕ
-object_size k object = option_map_or (λ o. o.size) (slice_get k.objects object) 0
+abbrev pub own_region : List Frame → List ℕ → ℕ → Known → Region × Known
+own_region frames name size k = cond (is_external frames) (region.Nowhere, k)
+    (region.Ram (length k.objects) 0, record k { objects = k.objects ++ record { path = name_after (path_in frames) name; size = size; initial = [] } ∷ [] })
 
 -- what an EXTERNAL procedure declares is no name of the program's on the screen
-abbrev pub with_screen_name : List Level → List ℕ → ℕ → ℕ → Known → Known
-with_screen_name levels name size offset k = cond (is_external levels) k
-    (record k { screen_names = k.screen_names ++ record { path = name_behind (path_in levels) name; size = size; offset = offset; objects_before = length k.objects } ∷ [] })
+abbrev pub with_screen_name : List Frame → List ℕ → ℕ → ℕ → Known → Known
+with_screen_name frames name size offset k = cond (is_external frames) k
+    (record k { screen_names = k.screen_names ++ record { path = name_after (path_in frames) name; size = size; offset = offset; objects_before = length k.objects } ∷ [] })
 
 -- a name that is not based lies wholly in its object, or in the screen's 4,000 bytes
-abbrev pub region_for : List Level → NameT → List ℕ → ℕ → Site → Known → Region × Known
-region_for levels n name size site.Own k = own_region levels name size k
-region_for levels n name size site.Nowhere k = (region.Nowhere, k)
-region_for levels n name size site.Outside k = (region.Nowhere, note E303 n.place k)
-region_for levels n name size (site.Ram object offset) k = (region.Ram object offset, note_unless (nat_le (counted (offset + size)) (object_size k object)) E303 n.place k)
-region_for levels n name size (site.Screen offset) k =
-    (region.Screen offset, with_screen_name levels name size offset (note_unless (nat_le (counted (offset + size)) 4000) E303 n.place k))
+abbrev pub region_for : List Frame → NameT → List ℕ → ℕ → Site → Known → Region × Known
+region_for frames n name size site.Own k = own_region frames name size k
+region_for frames n name size site.Nowhere k = (region.Nowhere, k)
+region_for frames n name size site.Outside k = (region.Nowhere, note E303 n.place k)
+region_for frames n name size (site.Ram object offset) k = (region.Ram object offset, note_unless (nat_le (counted (offset + size)) (size_at k.objects object)) E303 n.place k)
+region_for frames n name size (site.Screen offset) k =
+    (region.Screen offset, with_screen_name frames name size offset (note_unless (nat_le (counted (offset + size)) 4000) E303 n.place k))
 
 -- ---- names of several modules
 
-abbrev pub start : Place
+abbrev pub start : Position
 start = record { token = 0; line = 1 }
 
 abbrev pub found_item : Known → Item → Number → Found
@@ -183,49 +203,49 @@ abbrev pub with_public : List ℕ → Item → Option Item → Known → Known
 with_public name i None k = record k { publics = with_entry name i k.publics }
 with_public name i (Some first) k = note_whole (found_item k first E307) k
 
--- what an EXTERNAL procedure declares is no PUBLIC
-abbrev pub linked : List Level → Linkage → List ℕ → Item → Known → Known
-linked levels linkage.None name i k = k
-linked levels linkage.Public name i k = cond (is_external levels) k (with_public name i (found_in name k.publics) k)
-linked levels linkage.External name i k = record k { externals = k.externals ++ record { name = name; item = i } ∷ [] }
+abbrev pub with_external : List ℕ → Item → Known → Known
+with_external name i k = record k { externals = k.externals ++ record { name = name; item = i } ∷ [] }
+
+-- what an EXTERNAL procedure declares joins nothing
+abbrev pub linked : List Frame → Linkage → List ℕ → Item → Known → Known
+linked frames linkage.None name i k = k
+linked frames linkage.Public name i k = cond (is_external frames) k (with_public name i (found_in name k.publics) k)
+linked frames linkage.External name i k = cond (is_external frames) k (with_external name i k)
 
 -- ---- declared names
 
-abbrev pub size_of_traits : Traits → ℕ
-size_of_traits t = size_of_shape t.shape
-
 -- a name is declared once in its block
-abbrev pub declared : NameT → Item → List Level → Known → List Level × Known
-declared n i levels k = (with_name (normal n.text) i levels, note_unless (is_fresh (normal n.text) levels) E302 n.place k)
+abbrev pub declared : NameT → Item → List Frame → Known → List Frame × Known
+declared n i frames k = (with_name (normal n.text) i frames, note_unless (is_fresh (normal n.text) frames) E302 n.place k)
 
 abbrev pub with_variable : Variable → Known → Known
 with_variable v k = record k { variables = k.variables ++ v ∷ [] }
 
-abbrev pub variable_in : Traits → Place → Region → Known → Variable
+abbrev pub variable_in : Traits → Position → Region → Known → Variable
 variable_in t place r k = record { «module» = k.module; place = place; form = t.shape.form; dimension = t.shape.dimension; stride = t.shape.stride; region = r; is_data = t.is_data }
 
 -- the region of a name, given in normal form too: its base's, or that of its site
-abbrev pub region_at : List Level → NameT → Option NameT → List ℕ → Traits → Site → Known → Region × Known
-region_at levels n (Some base) key t s k = base_for levels n base t.has_attribute k
-region_at levels n None key t s k = region_for levels n key (size_of_shape t.shape) s k
+abbrev pub region_at : List Frame → NameT → Option NameT → List ℕ → Traits → Site → Known → Region × Known
+region_at frames n (Some base) key t s k = base_for frames n base t.has_attribute k
+region_at frames n None key t s k = region_for frames n key (size_of_shape t.shape) s k
 
-abbrev pub region_of_variable : List Level → NameT → Option NameT → Traits → Site → Known → Region × Known
-region_of_variable levels n base t s k = region_at levels n base (normal n.text) t s k
+abbrev pub region_of_variable : List Frame → NameT → Option NameT → Traits → Site → Known → Region × Known
+region_of_variable frames n base t s k = region_at frames n base (normal n.text) t s k
 
 -- a variable is numbered in order of declaration
-abbrev pub variable_declared : NameT → Traits → Region × Known → List Level → List Level × Known
-variable_declared n t r levels =
+abbrev pub variable_declared : NameT → Traits → Region × Known → List Frame → List Frame × Known
+variable_declared n t r frames =
     let i = item.Variable (length r.1.variables) in
-    declared n i levels (linked levels t.linkage (normal n.text) i (with_variable (variable_in t n.place r.0 r.1) r.1))
+    declared n i frames (linked frames t.linkage (normal n.text) i (with_variable (variable_in t n.place r.0 r.1) r.1))
 
-abbrev pub declared_variable : VariableT → Traits → Site → List Level → Known → List Level × Known
-declared_variable (VariableOf n base) t s levels k = variable_declared n t (region_of_variable levels n base t s k) levels
+abbrev pub declared_variable : VariableT → Traits → Site → List Frame → Known → List Frame × Known
+declared_variable (VariableOf n base) t s frames k = variable_declared n t (region_of_variable frames n base t s k) frames
 
 -- the names of an element, one after another, and where the next would go
-abbrev pub declared_variables : List VariableT → Traits → Site → List Level → Known → Site × List Level × Known
-declared_variables [] t s levels k = (s, levels, k)
-declared_variables (v ∷ vs) t s levels k =
-    let r = declared_variable v t s levels k in declared_variables vs t (site_behind s (size_of_shape t.shape)) r.0 r.1
+abbrev pub declared_variables : List VariableT → Traits → Site → List Frame → Known → Site × List Frame × Known
+declared_variables [] t s frames k = (s, frames, k)
+declared_variables (v ∷ vs) t s frames k =
+    let r = declared_variable v t s frames k in declared_variables vs t (site_after s (size_of_shape t.shape)) r.0 r.1
 
 -- ---- attributes
 
@@ -270,5 +290,5 @@ abbrev pub declared_list : DeclaredT → List VariableT
 declared_list (OneVariable v) = v ∷ []
 declared_list (VariableList vs) = variable_list vs
 
-abbrev pub place_of_variable : VariableT → Place
+abbrev pub place_of_variable : VariableT → Position
 place_of_variable (VariableOf n base) = n.place

@@ -13,10 +13,11 @@ use Rattle.plm_decl.specs.declared.names.Variable.{Variable}
 use Rattle.plm_decl.specs.declared.names.Item.{Item}
 use Rattle.plm_decl.specs.declared.names.Item.TheVariants as item
 use Rattle.plm_decl.specs.declared.found.Found.{Found}
-use Rattle.plm_decl.specs.Layouts.{FieldR, StructureR, counted}
-use Rattle.plm_decl.specs.Least.{precedes}
-use Rattle.plm_decl.specs.Scopes.{level, found_in}
-use Rattle.plm_decl.specs.Known.{Known, ObjectR, ProcedureR, ExternalR, note_whole, nothing_known}
+use Rattle.plm_decl.specs.Layout.{FieldR, StructureR, counted}
+use Rattle.plm_decl.specs.Found.{precedes}
+use Rattle.plm_decl.specs.Scope.{frame, found_in}
+use Rattle.plm_decl.specs.Resolver.{Known, ExternalR, note_whole, nothing_known}
+use Rattle.plm_decl.specs.Names.{ObjectR, ProcedureR}
 use Rattle.plm_decl.specs.Resolved.{StatementsR}
 use Rattle.plm_decl.specs.Elements.{start, found_item}
 use Rattle.plm_decl.specs.Statements.{block}
@@ -59,7 +60,7 @@ same_form k (form.Structure m) (form.Structure n) = same_structure (slice_get k.
 abbrev pub same_type : Known → Option Variable → Option Variable → Bool
 same_type k None w = false
 same_type k (Some v) None = false
-same_type k (Some v) (Some w) = same_dimension v.dimension w.dimension && same_form k v.form w.form
+same_type k (Some v) (Some w) = same_dimension v.dimension w.dimension && (nat_eq v.stride w.stride && same_form k v.form w.form)
 
 abbrev pub same_variable : Known → ℕ → ℕ → Bool
 same_variable k m n = same_type k (slice_get k.variables m) (slice_get k.variables n)
@@ -163,7 +164,7 @@ at_module number k = record k { «module» = number; blocks = 0; constants = 0 }
 
 abbrev pub with_module : ℕ → ModuleT → Known → Known
 with_module number (ModuleOf n b e) k =
-    let r = block (level (normal n.text) false ∷ []) b (at_module number k) in
+    let r = block (frame (normal n.text) false ∷ []) b (at_module number k) in
     with_main (has_statements b) r.0 r.2
 
 abbrev pub modules_from : ℕ → List ModuleT → Known → Known

@@ -1,5 +1,5 @@
 -- The numbers that stand in a program's tables and trees: each is below the length of the table that it is of, and no name means nothing.
-use Rattle.std.specs.Prelude.{◌≡◌, ℕ, List, length, Bool, true, false, ◌&&◌, nat_lt, Option, Some, None}
+use Rattle.std.specs.Prelude.{ℕ, List, length, Bool, true, false, ◌&&◌, nat_lt, Option, Some, None}
 use Rattle.std.specs.List.{list_all}
 use Rattle.plm_decl.specs.declared.layout.Form.{Form}
 use Rattle.plm_decl.specs.declared.layout.Form.TheVariants as form
@@ -8,13 +8,10 @@ use Rattle.plm_decl.specs.declared.names.Region.TheVariants as region
 use Rattle.plm_decl.specs.declared.names.Variable.{Variable}
 use Rattle.plm_decl.specs.declared.names.Datum.{Datum}
 use Rattle.plm_decl.specs.declared.names.Datum.TheVariants as datum
-use Rattle.plm_decl.specs.declared.resolved.Meaning.{Meaning}
-use Rattle.plm_decl.specs.declared.resolved.Meaning.TheVariants as meaning
-use Rattle.plm_decl.specs.declared.names.Item.{Item}
-use Rattle.plm_decl.specs.declared.names.Item.TheVariants as item
-use Rattle.plm_decl.specs.Layouts.{StructureR}
-use Rattle.plm_decl.specs.Scopes.{Entries}
-use Rattle.plm_decl.specs.Known.{Known, ObjectR, ProcedureR, DeclaredLocationR, MainR, ExternalR}
+use Rattle.plm_decl.specs.declared.resolved.Binding.{Binding}
+use Rattle.plm_decl.specs.declared.resolved.Binding.TheVariants as binding
+use Rattle.plm_decl.specs.Layout.{StructureR}
+use Rattle.plm_decl.specs.Names.{ObjectR, ProcedureR, DeclaredLocationR, MainR}
 use Rattle.plm_decl.specs.Resolved.{ExpressionR, NumberR, TextR, ReferenceR, LocationR, ParenthesisedR, EmbeddedR, UnaryR, BinaryR, ReferenceR', Use, ExpressionsR, no_expressions, expressions, SelectorR, no_member, member, member_at, LocationR', LocationOf, ConstantsOf, ReferencesR, no_references, references, StatementR, EmptyR, AssignR, CallR, ReturnR, ReturnValueR, EnableR, DisableR, HaltR, IfR, IfElseR, DoR, WhileR, CaseR, IterateR, StatementsR, no_statements, statements}
 
 -- how many variables, structures, RAM objects and procedures there are
@@ -24,11 +21,11 @@ pub record Counts : Type 0 where
   pub objects : ℕ
   pub procedures : ℕ
 
-abbrev pub meaning_within : Counts → Meaning → Bool
-meaning_within c (meaning.Variable v) = nat_lt v c.variables
-meaning_within c (meaning.Procedure p) = nat_lt p c.procedures
-meaning_within c (meaning.Builtin b) = true
-meaning_within c meaning.Nothing = false
+abbrev pub binding_within : Counts → Binding → Bool
+binding_within c (binding.Variable v) = nat_lt v c.variables
+binding_within c (binding.Procedure p) = nat_lt p c.procedures
+binding_within c (binding.Builtin b) = true
+binding_within c binding.Nothing = false
 
 -- ---- trees
 
@@ -44,7 +41,7 @@ abbrev mutual
   expression_within c (BinaryR p o a b) = expression_within c a && expression_within c b
 
   pub reference_within : Counts → ReferenceR' → Bool
-  reference_within c (Use p m es s) = meaning_within c m && (expressions_within c es && selector_within c s)
+  reference_within c (Use p m es s) = binding_within c m && (expressions_within c es && selector_within c s)
 
   pub expressions_within : Counts → ExpressionsR → Bool
   expressions_within c no_expressions = true
@@ -83,7 +80,7 @@ abbrev mutual
   statement_within c (WhileR p e ss) = expression_within c e && statements_within c ss
   statement_within c (CaseR p e ss) = expression_within c e && statements_within c ss
   statement_within c (IterateR p q m a b s ss) =
-      meaning_within c m && (expression_within c a && (expression_within c b && (step_within c s && statements_within c ss)))
+      binding_within c m && (expression_within c a && (expression_within c b && (step_within c s && statements_within c ss)))
 
   pub statements_within : Counts → StatementsR → Bool
   statements_within c no_statements = true
@@ -119,30 +116,8 @@ procedure_within c p = list_all (λ v. nat_lt v c.variables) p.parameters && (na
 abbrev pub declared_location_within : Counts → DeclaredLocationR → Bool
 declared_location_within c l = location_within c l.location
 
--- ---- what is known
-
-abbrev pub counts_of : Known → Counts
-counts_of k = record { variables = length k.variables; structures = length k.structures; objects = length k.objects; procedures = length k.procedures }
-
-abbrev pub item_within : Counts → Item → Bool
-item_within c (item.Variable v) = nat_lt v c.variables
-item_within c (item.Procedure p) = nat_lt p c.procedures
-
-abbrev pub entries_within : Counts → Entries → Bool
-entries_within c es = list_all (λ e. item_within c e.1) es
-
-abbrev pub external_within : Counts → ExternalR → Bool
-external_within c e = item_within c e.item
-
 abbrev pub main_within : Counts → MainR → Bool
 main_within c m = statements_within c m.statements
-
-abbrev pub Within : Counts → Known → Type 0
-Within c k =
-    (list_all (variable_within c) k.variables ≡ true) × (list_all (object_within c) k.objects ≡ true)
-    × (list_all (procedure_within c) k.procedures ≡ true) × (list_all (declared_location_within c) k.locations ≡ true)
-    × (list_all (main_within c) k.mains ≡ true) × (entries_within c k.publics ≡ true)
-    × (list_all (external_within c) k.externals ≡ true)
 
 -- ---- the names of a program
 

@@ -41,7 +41,7 @@ abbrev mutual
   leaned_in left end_of-Operation = left
   leaned_in left (more_of-Operation p o e os) = leaned_in (BinaryR p o left (expression_of e)) os
 
--- operators from left to right, behind what stands to their left
+-- operators from left to right, after what stands to their left
 abbrev pub leaned : ExpressionR → List Operation → ExpressionR
 leaned left [] = left
 leaned left (x ∷ xs) = leaned (BinaryR x.place x.operator left (expression_of x.operand)) xs
@@ -51,7 +51,7 @@ expressions_of [] = no_expressions
 expressions_of (e ∷ es) = expressions (expression_of e) (expressions_of es)
 
 abbrev pub reference_of : Reference → ReferenceR'
-reference_of r = Use r.place r.meaning (expressions_of r.subscripts.items) (selector_of r.selector)
+reference_of r = Use r.place r.binding (expressions_of r.subscripts.items) (selector_of r.selector)
 
 abbrev pub references_of : List Reference → ReferencesR
 references_of [] = no_references

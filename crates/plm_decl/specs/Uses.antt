@@ -6,29 +6,29 @@ use Rattle.plm_syntax.specs.Terminal.{NameT}
 use Rattle.plm_decl.specs.declared.builtin.Builtin.{Builtin}
 use Rattle.plm_decl.specs.declared.names.Item.{Item}
 use Rattle.plm_decl.specs.declared.names.Item.TheVariants as item
-use Rattle.plm_decl.specs.declared.resolved.Meaning.{Meaning}
-use Rattle.plm_decl.specs.declared.resolved.Meaning.TheVariants as meaning
-use Rattle.plm_decl.specs.Builtins.{builtin_named}
-use Rattle.plm_decl.specs.Scopes.{Level, meant}
-use Rattle.plm_decl.specs.Known.{Known, note_unless}
+use Rattle.plm_decl.specs.declared.resolved.Binding.{Binding}
+use Rattle.plm_decl.specs.declared.resolved.Binding.TheVariants as binding
+use Rattle.plm_decl.specs.Builtin.{builtin_named}
+use Rattle.plm_decl.specs.Scope.{Frame, meant}
+use Rattle.plm_decl.specs.Resolver.{Known, note_unless}
 
-abbrev pub item_meaning : Item → Meaning
-item_meaning (item.Variable v) = meaning.Variable v
-item_meaning (item.Procedure p) = meaning.Procedure p
+abbrev pub item_binding : Item → Binding
+item_binding (item.Variable v) = binding.Variable v
+item_binding (item.Procedure p) = binding.Procedure p
 
-abbrev pub meaning_for : Option Item → Option Builtin → Meaning
-meaning_for (Some i) builtin = item_meaning i
-meaning_for None (Some b) = meaning.Builtin b
-meaning_for None None = meaning.Nothing
+abbrev pub binding_for : Option Item → Option Builtin → Binding
+binding_for (Some i) builtin = item_binding i
+binding_for None (Some b) = binding.Builtin b
+binding_for None None = binding.Nothing
 
-abbrev pub is_something : Meaning → Bool
-is_something (meaning.Variable v) = true
-is_something (meaning.Procedure p) = true
-is_something (meaning.Builtin b) = true
-is_something meaning.Nothing = false
+abbrev pub is_something : Binding → Bool
+is_something (binding.Variable v) = true
+is_something (binding.Procedure p) = true
+is_something (binding.Builtin b) = true
+is_something binding.Nothing = false
 
-abbrev pub meaning_of : List Level → NameT → Meaning
-meaning_of levels n = meaning_for (meant (normal n.text) levels) (builtin_named (normal n.text))
+abbrev pub binding_of : List Frame → NameT → Binding
+binding_of frames n = binding_for (meant (normal n.text) frames) (builtin_named (normal n.text))
 
-abbrev pub used : List Level → NameT → Known → Meaning × Known
-used levels n k = (meaning_of levels n, note_unless (is_something (meaning_of levels n)) E301 n.place k)
+abbrev pub used : List Frame → NameT → Known → Binding × Known
+used frames n k = (binding_of frames n, note_unless (is_something (binding_of frames n)) E301 n.place k)

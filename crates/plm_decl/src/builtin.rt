@@ -1,7 +1,7 @@
 //! The built-in procedures: their names are not reserved.
 
 ghost use Rattle.std.specs.Prelude.{◌≡◌, bytes_eq, find};
-ghost use Rattle.plm_decl.specs.Builtins.{builtin_named, spelling};
+ghost use Rattle.plm_decl.specs.Builtin.{builtin_named, spelling};
 
 /// A built-in procedure.
 #[derive(Debug, Clone, Copy, PartialEq, Eq)]
@@ -63,7 +63,7 @@ impl Builtin {
     }
 
     /// The built-in of a name in normal form.
-    #[tactic(auto, unfolding(crate::specs::Builtins::builtin_named))]
+    #[tactic(auto, unfolding(crate::specs::Builtin::builtin_named))]
     pub fn named(name: &[u8]) -> Option<Builtin>
         ensures { result ≡ builtin_named name.now }
     {

@@ -4,8 +4,8 @@ ghost use Rattle.std.specs.Prelude.{◌≡◌, ◌++◌, IfOk, OnOk, map, length
 ghost use Rattle.plm_token.specs.Strings.{string_characters};
 ghost use Rattle.plm_syntax.specs.View.{value_of};
 ghost use Rattle.plm_decl.specs.declared.names.Datum.TheVariants as datum;
-ghost use Rattle.plm_decl.specs.Scopes.{levels_of};
-ghost use Rattle.plm_decl.specs.Known.{known_of};
+ghost use Rattle.plm_decl.specs.Inner.Scope.{frames_of};
+ghost use Rattle.plm_decl.specs.Inner.Resolver.{known_of};
 ghost use Rattle.plm_decl.specs.Expressions.{is_constant, constant_data, all_constant_data, are_constants, with_constants, constant_bytes};
 
 use crate::datum::number_datum;
@@ -14,19 +14,19 @@ use crate::names::{Datum, Object};
 use crate::resolver::{Resolver, next};
 use crate::scope::Scope;
 use crate::spelling::constants_path;
-use plm_syntax::{Place, Value};
+use plm_syntax::{Position, Value};
 use plm_token::string_value;
 use std::alloc::AllocError;
 use word86::Number;
 
 impl Resolver {
-    /// Puts a value of constant bytes behind the others; false where it is no byte and no string.
+    /// Puts a value of constant bytes after the others; false where it is no byte and no string.
     fn constant_value(&self, value: &Value<'_>, bytes: &mut Vec<Datum>) -> Result<bool, AllocError>
         ensures byte { IfOk result (λ b. b ≡ is_constant (value_of value.now)) }
         ensures bytes { OnOk result (bytes.new.items ≡ bytes.old.items ++ constant_data (value_of value.now)) }
     {
         let datum = match value {
-            Value::Number(number) => number_datum(ScalarType::Byte, number.value, false),
+            Value::Numeral(number) => number_datum(ScalarType::Byte, number.value, false),
             Value::Negative(number) => number_datum(ScalarType::Byte, number.value, true),
             Value::Text(text) => {
                 self.characters(text.text, bytes)?;
@@ -43,7 +43,7 @@ impl Resolver {
         }
     }
 
-    /// Puts a string's characters behind the others.
+    /// Puts a string's characters after the others.
     fn characters(&self, text: &[u8], bytes: &mut Vec<Datum>) -> Result<(), AllocError>
         ensures { OnOk result (bytes.new.items ≡ bytes.old.items ++ map (λ c. datum.Byte c) (string_characters text.now)) }
     {
@@ -70,7 +70,7 @@ impl Resolver {
     /// Makes an object of these bytes, and answers its number.
     fn put_constants(&mut self, scope: &Scope<'_>, bytes: Vec<Datum>) -> Result<usize, AllocError>
         ensures object { IfOk result (λ o. o ≡ length (known_of self.old).objects) }
-        ensures known { OnOk result (known_of self.new ≡ with_constants (levels_of scope.now) bytes.items (known_of self.old)) }
+        ensures known { OnOk result (known_of self.new ≡ with_constants (frames_of scope.now) bytes.items (known_of self.old)) }
     {
         self.constants = next(self.constants);
         let path = constants_path(self.alloc, scope.path(), self.constants)?;
@@ -88,11 +88,11 @@ impl Resolver {
     pub fn constant_bytes(
         &mut self,
         scope: &Scope<'_>,
-        place: Place,
+        place: Position,
         values: &[Value<'_>],
     ) -> Result<usize, AllocError>
-        ensures object { IfOk result (λ o. o ≡ (constant_bytes (levels_of scope.now) place (map value_of values.now) (known_of self.old)).0) }
-        ensures known { OnOk result (known_of self.new ≡ (constant_bytes (levels_of scope.now) place (map value_of values.now) (known_of self.old)).1) }
+        ensures object { IfOk result (λ o. o ≡ (constant_bytes (frames_of scope.now) place (map value_of values.now) (known_of self.old)).0) }
+        ensures known { OnOk result (known_of self.new ≡ (constant_bytes (frames_of scope.now) place (map value_of values.now) (known_of self.old)).1) }
     {
         let (bytes, are_bytes) = self.constant_values(values)?;
         self.note_unless(are_bytes, Number::E305, place)?;

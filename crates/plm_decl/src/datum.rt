@@ -1,7 +1,7 @@
 //! What a value fills a scalar with.
 
 ghost use Rattle.std.specs.Prelude.{◌≡◌};
-ghost use Rattle.plm_decl.specs.Values.{character_datum, number_datum, takes, text_datum};
+ghost use Rattle.plm_decl.specs.Datum.{character_datum, number_datum, takes, text_datum};
 
 use crate::layout::ScalarType;
 use crate::names::Datum;

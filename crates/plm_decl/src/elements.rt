@@ -4,26 +4,31 @@ ghost use Rattle.std.specs.Prelude.{◌≡◌, ◌+◌, ◌*◌, IfOk, OnOk, map
 ghost use Rattle.plm_syntax.specs.View.{name_of, base_of, location_of, variable_of, declared_of, dimension_of, type_of, attributes_of, element_of, value_of};
 ghost use Rattle.word86.specs.declared.number.Number.TheVariants.{E302};
 ghost use Rattle.plm_decl.specs.declared.names.Item.TheVariants as item;
-ghost use Rattle.plm_decl.specs.Scopes.{levels_of, found_in, is_fresh, with_name};
-ghost use Rattle.plm_decl.specs.Known.{known_of, note_unless};
+ghost use Rattle.plm_decl.specs.Inner.Scope.{frames_of};
+ghost use Rattle.plm_decl.specs.Scope.{found_in, is_fresh, with_name};
+ghost use Rattle.plm_decl.specs.Inner.Resolver.{known_of};
+ghost use Rattle.plm_decl.specs.Resolver.{note_unless};
+ghost use Rattle.plm_decl.specs.Regions.{size_at};
 ghost use Rattle.plm_decl.specs.ResolvedView as view;
+ghost use Rattle.plm_decl.specs.Shape.{size_of_shape};
 ghost use Rattle.plm_decl.specs.Elements as spec;
-ghost use Rattle.plm_decl.specs.Fills as fills;
-ghost use Rattle.plm_decl.specs.FillsView.{filling_of};
+ghost use Rattle.plm_decl.specs.Fill as fills;
+ghost use Rattle.plm_decl.specs.Inner.Fill.{filling_of};
 
 use crate::fill::Filling;
 use crate::found::Found;
 use crate::layout::{Form, ScalarType};
 use crate::names::{DeclaredLocation, Item, Object, Region, ScreenName, Variable};
-use crate::resolved::{Expression, Location, Meaning, Reference, Selector};
+use crate::resolved::{Binding, Expression, Location, Reference, Selector};
 use crate::resolver::{External, Resolver};
 use crate::scope::Scope;
 use crate::shape::Shape;
-use crate::spelling::{name_path, normal};
+use crate::spelling::name_path;
 use plm_syntax::{
-    At, Attributes, Declared, Dimension, Element, Initial, Linkage, Name, Place, Value,
+    At, Attributes, Declared, Dimension, Element, Initial, Linkage, Name, Position, Value,
     Variable as SyntaxVariable, VariableType,
 };
+use plm_token::normal;
 use std::alloc::AllocError;
 use std::slice;
 use word86::Number;
@@ -38,9 +43,9 @@ const SCREEN_LENGTH: u64 = 4000;
 enum Site {
     /// Into an object of its own.
     Own,
-    /// Into a RAM object, so many bytes behind its first.
+    /// Into a RAM object, this many bytes after its first.
     Ram(usize, u64),
-    /// Onto the screen, so many bytes behind its first.
+    /// Onto the screen, this many bytes after its first.
     Screen(u64),
     /// It takes no bytes.
     Nowhere,
@@ -58,9 +63,9 @@ struct Traits {
 }
 
 impl Site {
-    /// Where the name behind one of this size goes.
-    fn behind(self, size: u64) -> Site
-        ensures { result ≡ spec.site_behind self size }
+    /// Where the name after one of this size goes.
+    fn after(self, size: u64) -> Site
+        ensures { result ≡ spec.site_after self size }
     {
         match self {
             Site::Ram(object, offset) => Site::Ram(object, offset.saturating_add(size)),
@@ -210,12 +215,65 @@ fn member_distance(selector: &Selector) -> Option<u64>
     }
 }
 
+/// Whether there are no subscripts.
+fn are_none(subscripts: &[Expression]) -> bool
+    ensures { result ≡ spec.are_none (view.expressions_of subscripts.now) }
+{
+    match subscripts {
+        [] => true,
+        [_, ..] => false,
+    }
+}
+
+/// Whether something of this dimension may have these subscripts: an array takes one, which may be missing in a location.
+fn takes_subscripts(dimension: Option<u32>, subscripts: &[Expression]) -> bool
+    ensures { result ≡ spec.takes_subscripts dimension (view.expressions_of subscripts.now) }
+{
+    match subscripts {
+        [] => true,
+        [_, others @ ..] => dimension.is_some() && are_none(others),
+    }
+}
+
+/// Whether something of this form may have this member: a structure takes one of its own, which may be missing in a location.
+fn takes_member(form: Form, selector: &Selector) -> bool
+    ensures { result ≡ spec.takes_member form (view.selector_of selector.now) }
+{
+    match (form, selector) {
+        (_, Selector::None) => true,
+        (Form::Scalar(_), _) => false,
+        (Form::Structure(_), Selector::Member(_, member)) => member.is_some(),
+        (Form::Structure(_), Selector::Element(_, Some(member), _)) => member.dimension.is_some(),
+        (Form::Structure(_), Selector::Element(_, None, _)) => false,
+    }
+}
+
+/// Whether a location of this variable may have these subscripts and this member.
+fn has_shape(variable: &Variable, subscripts: &[Expression], selector: &Selector) -> bool
+    ensures { result ≡ spec.has_shape variable.now (view.expressions_of subscripts.now) (view.selector_of selector.now) }
+{
+    takes_subscripts(variable.dimension, subscripts) && takes_member(variable.form, selector)
+}
+
+/// The place this many bytes after the first of a region, which has to lie in RAM.
+fn site_within(region: Region, distance: Option<u64>) -> Site
+    ensures { result ≡ spec.site_within region distance }
+{
+    match (region, distance) {
+        (Region::Ram(object, offset), Some(distance)) => Site::Ram(
+            object,
+            offset.saturating_add(distance),
+        ),
+        _ => Site::Outside,
+    }
+}
+
 impl Resolver {
-    /// How many bytes behind the first of its variable a reference lies, where its subscripts are numbers.
+    /// How many bytes after the first of its variable a reference lies, where its subscripts are numbers.
     pub fn distance(&self, reference: &Reference) -> Option<u64>
         ensures { result ≡ spec.distance (known_of self.now) (view.reference_of reference.now) }
     {
-        let Meaning::Variable(variable) = reference.meaning else {
+        let Binding::Variable(variable) = reference.binding else {
             return None;
         };
         let stride = self.variables.get(variable)?.stride;
@@ -224,28 +282,20 @@ impl Resolver {
         Some(element.saturating_mul(stride).saturating_add(inside))
     }
 
-    /// The place in a RAM object that a location names.
+    /// The place in a RAM object that a location names. One that is faulty itself (E301, or E401 for its shape) places nothing.
     fn site_of(&self, reference: &Reference) -> Site
         ensures { result ≡ spec.site_of (known_of self.now) (view.reference_of reference.now) }
     {
-        let Meaning::Variable(variable) = reference.meaning else {
-            return if matches!(reference.meaning, Meaning::Nothing) {
-                Site::Nowhere
-            } else {
-                Site::Outside
-            };
-        };
-        match (self.variables.get(variable), self.distance(reference)) {
-            (
-                Some(
-                    Variable {
-                        region: Region::Ram(object, offset),
-                        ..
-                    },
-                ),
-                Some(distance),
-            ) => Site::Ram(*object, offset.saturating_add(distance)),
-            _ => Site::Outside,
+        match reference.binding {
+            Binding::Variable(number) => match self.variables.get(number) {
+                Some(variable)
+                    if !has_shape(variable, &reference.subscripts, &reference.selector) =>
+                    Site::Nowhere,
+                Some(variable) => site_within(variable.region, self.distance(reference)),
+                None => Site::Outside,
+            },
+            Binding::Procedure(_) | Binding::Builtin(_) => Site::Outside,
+            Binding::Nothing => Site::Nowhere,
         }
     }
 
@@ -255,8 +305,8 @@ impl Resolver {
         scope: &Scope<'_>,
         location: &plm_syntax::Location<'_>,
     ) -> Result<Site, AllocError>
-        ensures value { IfOk result (λ r. r ≡ (spec.location_site (levels_of scope.now) (location_of location.now) (known_of self.old)).0) }
-        ensures known { OnOk result (known_of self.new ≡ (spec.location_site (levels_of scope.now) (location_of location.now) (known_of self.old)).1) }
+        ensures value { IfOk result (λ r. r ≡ (spec.location_site (frames_of scope.now) (location_of location.now) (known_of self.old)).0) }
+        ensures known { OnOk result (known_of self.new ≡ (spec.location_site (frames_of scope.now) (location_of location.now) (known_of self.old)).1) }
     {
         match location {
             plm_syntax::Location::Constants(..) => Ok(Site::Outside),
@@ -275,28 +325,28 @@ impl Resolver {
 
     /// Where an element's first name goes.
     fn site(&mut self, scope: &Scope<'_>, attributes: &Attributes<'_>) -> Result<Site, AllocError>
-        ensures value { IfOk result (λ r. r ≡ (spec.first_site (levels_of scope.now) (attributes_of attributes.now) (known_of self.old)).0) }
-        ensures known { OnOk result (known_of self.new ≡ (spec.first_site (levels_of scope.now) (attributes_of attributes.now) (known_of self.old)).1) }
+        ensures value { IfOk result (λ r. r ≡ (spec.first_site (frames_of scope.now) (attributes_of attributes.now) (known_of self.old)).0) }
+        ensures known { OnOk result (known_of self.new ≡ (spec.first_site (frames_of scope.now) (attributes_of attributes.now) (known_of self.old)).1) }
     {
         let Attributes::Own { at, .. } = attributes else {
             return Ok(Site::Nowhere);
         };
         match at {
             At::None => Ok(Site::Own),
-            At::Number(number) if number.value >= SCREEN => Ok(Site::Screen(u64::from(
+            At::Numeral(number) if number.value >= SCREEN => Ok(Site::Screen(u64::from(
                 number.value - SCREEN,
             ))),
-            At::Number(_) => Ok(Site::Outside),
+            At::Numeral(_) => Ok(Site::Outside),
             At::Location(location) => self.location_site(scope, location),
         }
     }
 
     /// Whether a base may be this: a plain scalar, WORD or POINTER, that is not itself based.
-    fn is_base(&self, meaning: Meaning) -> bool
-        ensures { result ≡ spec.is_base (known_of self.now) meaning }
+    fn is_base(&self, binding: Binding) -> bool
+        ensures { result ≡ spec.is_base (known_of self.now) binding }
     {
-        let Meaning::Variable(number) = meaning else {
-            return matches!(meaning, Meaning::Nothing);
+        let Binding::Variable(number) = binding else {
+            return matches!(binding, Binding::Nothing);
         };
         match self.variables.get(number) {
             Some(variable) => {
@@ -319,14 +369,14 @@ impl Resolver {
         base: &Name<'_>,
         has_attribute: bool,
     ) -> Result<Region, AllocError>
-        ensures value { IfOk result (λ r. r ≡ (spec.base_for (levels_of scope.now) (name_of name.now) (name_of base.now) has_attribute (known_of self.old)).0) }
-        ensures known { OnOk result (known_of self.new ≡ (spec.base_for (levels_of scope.now) (name_of name.now) (name_of base.now) has_attribute (known_of self.old)).1) }
+        ensures value { IfOk result (λ r. r ≡ (spec.base_for (frames_of scope.now) (name_of name.now) (name_of base.now) has_attribute (known_of self.old)).0) }
+        ensures known { OnOk result (known_of self.new ≡ (spec.base_for (frames_of scope.now) (name_of name.now) (name_of base.now) has_attribute (known_of self.old)).1) }
     {
-        let meaning = self.used(scope, base)?;
-        let is_base = self.is_base(meaning);
+        let binding = self.used(scope, base)?;
+        let is_base = self.is_base(binding);
         self.note_unless(is_base && !has_attribute, Number::E304, name.place)?;
-        match meaning {
-            Meaning::Variable(variable) => Ok(Region::Based(variable)),
+        match binding {
+            Binding::Variable(variable) => Ok(Region::Based(variable)),
             _ => Ok(Region::Nowhere),
         }
     }
@@ -338,8 +388,8 @@ impl Resolver {
         name: &[u8],
         size: u64,
     ) -> Result<Region, AllocError>
-        ensures value { IfOk result (λ r. r ≡ (spec.own_region (levels_of scope.now) name.now size (known_of self.old)).0) }
-        ensures known { OnOk result (known_of self.new ≡ (spec.own_region (levels_of scope.now) name.now size (known_of self.old)).1) }
+        ensures value { IfOk result (λ r. r ≡ (spec.own_region (frames_of scope.now) name.now size (known_of self.old)).0) }
+        ensures known { OnOk result (known_of self.new ≡ (spec.own_region (frames_of scope.now) name.now size (known_of self.old)).1) }
     {
         if scope.is_external() {
             return Ok(Region::Nowhere);
@@ -356,7 +406,7 @@ impl Resolver {
 
     /// The bytes of a RAM object.
     fn object_size(&self, object: usize) -> u64
-        ensures { result ≡ spec.object_size (known_of self.now) object }
+        ensures { result ≡ size_at (known_of self.now).objects object }
     {
         match self.objects.get(object) {
             Some(object) => object.size,
@@ -372,7 +422,7 @@ impl Resolver {
         size: u64,
         offset: u64,
     ) -> Result<(), AllocError>
-        ensures { OnOk result (known_of self.new ≡ spec.with_screen_name (levels_of scope.now) name.now size offset (known_of self.old)) }
+        ensures { OnOk result (known_of self.new ≡ spec.with_screen_name (frames_of scope.now) name.now size offset (known_of self.old)) }
     {
         if scope.is_external() {
             return Ok(());
@@ -397,8 +447,8 @@ impl Resolver {
         size: u64,
         site: Site,
     ) -> Result<Region, AllocError>
-        ensures value { IfOk result (λ r. r ≡ (spec.region_for (levels_of scope.now) (name_of name.now) key.now size site (known_of self.old)).0) }
-        ensures known { OnOk result (known_of self.new ≡ (spec.region_for (levels_of scope.now) (name_of name.now) key.now size site (known_of self.old)).1) }
+        ensures value { IfOk result (λ r. r ≡ (spec.region_for (frames_of scope.now) (name_of name.now) key.now size site (known_of self.old)).0) }
+        ensures known { OnOk result (known_of self.new ≡ (spec.region_for (frames_of scope.now) (name_of name.now) key.now size site (known_of self.old)).1) }
     {
         match site {
             Site::Own => self.own_region(scope, key, size),
@@ -442,7 +492,7 @@ impl Resolver {
                 .get(procedure)
                 .map(|procedure| (procedure.module, procedure.place)),
         };
-        let (module, place) = at.unwrap_or((0, Place { token: 0, line: 1 }));
+        let (module, place) = at.unwrap_or((0, Position { token: 0, line: 1 }));
         Found {
             module,
             place,
@@ -463,7 +513,16 @@ impl Resolver {
         Ok(())
     }
 
-    /// Joins a name, given in normal form, with those of other modules. What an EXTERNAL procedure declares is no PUBLIC.
+    /// Keeps an EXTERNAL name, given in normal form, to be joined with its PUBLIC.
+    fn put_external(&mut self, name: &[u8], item: Item) -> Result<(), AllocError>
+        ensures { OnOk result (known_of self.new ≡ spec.with_external name.now item (known_of self.old)) }
+    {
+        let name = Vec::from_slice(self.alloc, name)?;
+        self.externals.push(External { name, item })?;
+        Ok(())
+    }
+
+    /// Joins a name, given in normal form, with those of other modules. What an EXTERNAL procedure declares joins nothing.
     pub fn link(
         &mut self,
         scope: &Scope<'_>,
@@ -471,21 +530,12 @@ impl Resolver {
         name: &[u8],
         item: Item,
     ) -> Result<(), AllocError>
-        ensures { OnOk result (known_of self.new ≡ spec.linked (levels_of scope.now) linkage name.now item (known_of self.old)) }
+        ensures { OnOk result (known_of self.new ≡ spec.linked (frames_of scope.now) linkage name.now item (known_of self.old)) }
     {
-        match linkage {
-            Linkage::None => Ok(()),
-            Linkage::External => {
-                let name = Vec::from_slice(self.alloc, name)?;
-                self.externals.push(External { name, item })?;
-                Ok(())
-            }
-            Linkage::Public => {
-                if scope.is_external() {
-                    return Ok(());
-                }
-                self.put_public(name, item)
-            }
+        match (linkage, scope.is_external()) {
+            (Linkage::Public, false) => self.put_public(name, item),
+            (Linkage::External, false) => self.put_external(name, item),
+            _ => Ok(()),
         }
     }
 
@@ -493,13 +543,13 @@ impl Resolver {
     pub fn enter(
         &mut self,
         scope: &mut Scope<'_>,
-        place: Place,
+        place: Position,
         name: Vec<u8>,
         linkage: Linkage,
         item: Item,
     ) -> Result<(), AllocError>
-        ensures names { OnOk result (levels_of scope.new ≡ with_name name.items item (levels_of scope.old)) }
-        ensures known { OnOk result (known_of self.new ≡ note_unless (is_fresh name.items (levels_of scope.old)) E302 place (spec.linked (levels_of scope.old) linkage name.items item (known_of self.old))) }
+        ensures names { OnOk result (frames_of scope.new ≡ with_name name.items item (frames_of scope.old)) }
+        ensures known { OnOk result (known_of self.new ≡ note_unless (is_fresh name.items (frames_of scope.old)) E302 place (spec.linked (frames_of scope.old) linkage name.items item (known_of self.old))) }
     {
         self.link(scope, linkage, &name, item)?;
         let is_fresh = scope.declare(name, item)?;
@@ -515,8 +565,8 @@ impl Resolver {
         traits: Traits,
         site: Site,
     ) -> Result<Region, AllocError>
-        ensures value { IfOk result (λ r. r ≡ (spec.region_at (levels_of scope.now) (name_of variable.now.name) (base_of variable.now.base) key.now traits site (known_of self.old)).0) }
-        ensures known { OnOk result (known_of self.new ≡ (spec.region_at (levels_of scope.now) (name_of variable.now.name) (base_of variable.now.base) key.now traits site (known_of self.old)).1) }
+        ensures value { IfOk result (λ r. r ≡ (spec.region_at (frames_of scope.now) (name_of variable.now.name) (base_of variable.now.base) key.now traits site (known_of self.old)).0) }
+        ensures known { OnOk result (known_of self.new ≡ (spec.region_at (frames_of scope.now) (name_of variable.now.name) (base_of variable.now.base) key.now traits site (known_of self.old)).1) }
     {
         match &variable.base {
             Some(base) => self.base(scope, &variable.name, base, traits.has_attribute),
@@ -527,7 +577,7 @@ impl Resolver {
     /// Keeps a variable that stands at this place, and answers it.
     fn put_variable(
         &mut self,
-        place: Place,
+        place: Position,
         traits: Traits,
         region: Region,
     ) -> Result<Item, AllocError>
@@ -560,19 +610,19 @@ impl Resolver {
         traits: Traits,
         site: Site,
     ) -> Result<Site, AllocError>
-        ensures site { IfOk result (λ s. s ≡ spec.site_behind site (spec.size_of_traits traits)) }
-        ensures names { OnOk result (levels_of scope.new ≡ (spec.declared_variable (variable_of variable.now) traits site (levels_of scope.old) (known_of self.old)).0) }
-        ensures known { OnOk result (known_of self.new ≡ (spec.declared_variable (variable_of variable.now) traits site (levels_of scope.old) (known_of self.old)).1) }
+        ensures site { IfOk result (λ s. s ≡ spec.site_after site (size_of_shape traits.shape)) }
+        ensures names { OnOk result (frames_of scope.new ≡ (spec.declared_variable (variable_of variable.now) traits site (frames_of scope.old) (known_of self.old)).0) }
+        ensures known { OnOk result (known_of self.new ≡ (spec.declared_variable (variable_of variable.now) traits site (frames_of scope.old) (known_of self.old)).1) }
     {
         let place = variable.name.place;
         let key = normal(self.alloc, variable.name.text)?;
         let region = self.variable_region(scope, variable, &key, traits, site)?;
         let item = self.put_variable(place, traits, region)?;
         self.enter(scope, place, key, traits.linkage, item)?;
-        Ok(site.behind(traits.shape.size()))
+        Ok(site.after(traits.shape.size()))
     }
 
-    /// Declares names, one behind another from this site on.
+    /// Declares names, one after another from this site on.
     fn declare_names(
         &mut self,
         scope: &mut Scope<'_>,
@@ -580,8 +630,8 @@ impl Resolver {
         traits: Traits,
         first: Site,
     ) -> Result<(), AllocError>
-        ensures names { OnOk result (levels_of scope.new ≡ (spec.declared_variables (map variable_of names.now) traits first (levels_of scope.old) (known_of self.old)).1) }
-        ensures known { OnOk result (known_of self.new ≡ (spec.declared_variables (map variable_of names.now) traits first (levels_of scope.old) (known_of self.old)).2) }
+        ensures names { OnOk result (frames_of scope.new ≡ (spec.declared_variables (map variable_of names.now) traits first (frames_of scope.old) (known_of self.old)).1) }
+        ensures known { OnOk result (known_of self.new ≡ (spec.declared_variables (map variable_of names.now) traits first (frames_of scope.old) (known_of self.old)).2) }
     {
         let mut site = first;
         for name in names {
@@ -595,10 +645,10 @@ impl Resolver {
         &mut self,
         scope: &Scope<'_>,
         filling: Filling<'_, '_>,
-        place: Place,
+        place: Position,
         attributes: &Attributes<'_>,
     ) -> Result<(), AllocError>
-        ensures { OnOk result (known_of self.new ≡ fills.filled_element (filling_of filling.entry) place (attributes_of attributes.now) (levels_of scope.now) (known_of self.old)) }
+        ensures { OnOk result (known_of self.new ≡ fills.filled_element (filling_of filling.entry) place (attributes_of attributes.now) (frames_of scope.now) (known_of self.old)) }
     {
         if is_placed(attributes) {
             return self.note_unless(!has_values(attributes), Number::E305, place);
@@ -610,14 +660,14 @@ impl Resolver {
     fn names(
         &mut self,
         scope: &mut Scope<'_>,
-        place: Place,
+        place: Position,
         names: &[SyntaxVariable<'_>],
         dimension: &Dimension,
         form: &VariableType<'_>,
         attributes: &Attributes<'_>,
     ) -> Result<(), AllocError>
-        ensures names { OnOk result (levels_of scope.new ≡ (fills.declared_at place (map variable_of names.now) (dimension_of dimension.now) (type_of form.now) (attributes_of attributes.now) (levels_of scope.old) (known_of self.old)).0) }
-        ensures known { OnOk result (known_of self.new ≡ (fills.declared_at place (map variable_of names.now) (dimension_of dimension.now) (type_of form.now) (attributes_of attributes.now) (levels_of scope.old) (known_of self.old)).1) }
+        ensures names { OnOk result (frames_of scope.new ≡ (fills.declared_at place (map variable_of names.now) (dimension_of dimension.now) (type_of form.now) (attributes_of attributes.now) (frames_of scope.old) (known_of self.old)).0) }
+        ensures known { OnOk result (known_of self.new ≡ (fills.declared_at place (map variable_of names.now) (dimension_of dimension.now) (type_of form.now) (attributes_of attributes.now) (frames_of scope.old) (known_of self.old)).1) }
     {
         let site = self.site(scope, attributes)?;
         let shape = self.shape(place, names.len(), dimension, form, values(attributes))?;
@@ -638,8 +688,8 @@ impl Resolver {
         scope: &mut Scope<'_>,
         element: &Element<'_>,
     ) -> Result<(), AllocError>
-        ensures names { OnOk result (levels_of scope.new ≡ (fills.element (element_of element.now) (levels_of scope.old) (known_of self.old)).0) }
-        ensures known { OnOk result (known_of self.new ≡ (fills.element (element_of element.now) (levels_of scope.old) (known_of self.old)).1) }
+        ensures names { OnOk result (frames_of scope.new ≡ (fills.element (element_of element.now) (frames_of scope.old) (known_of self.old)).0) }
+        ensures known { OnOk result (known_of self.new ≡ (fills.element (element_of element.now) (frames_of scope.old) (known_of self.old)).1) }
     {
         match element {
             Element::Literal(..) => Ok(()),

@@ -3,30 +3,29 @@
 ghost use Rattle.std.specs.Prelude.{◌≡◌, IfOk, OnOk, option_map};
 ghost use Rattle.plm_syntax.specs.View.{name_of};
 ghost use Rattle.plm_syntax.specs.View as tree;
-ghost use Rattle.plm_decl.specs.Scopes.{levels_of};
-ghost use Rattle.plm_decl.specs.Layouts.{structure_of};
-ghost use Rattle.plm_decl.specs.Known.{known_of};
+ghost use Rattle.plm_decl.specs.Inner.Scope.{frames_of};
+ghost use Rattle.plm_decl.specs.Layout.{structure_of};
+ghost use Rattle.plm_decl.specs.Inner.Resolver.{known_of};
 ghost use Rattle.plm_decl.specs.Resolved.{ExpressionR};
 ghost use Rattle.plm_decl.specs.ResolvedView as view;
 ghost use Rattle.plm_decl.specs.Expressions as spec;
-ghost use Rattle.plm_decl.specs.ExpressionsView.{chained};
+ghost use Rattle.plm_decl.specs.Inner.Expressions.{chained};
 
 use crate::layout::{Form, Member, Structure};
-use crate::resolved::{Expression, Location, Meaning, Operation, Reference, Selector};
+use crate::resolved::{Binding, Expression, Location, Operation, Reference, Selector};
 use crate::resolver::Resolver;
 use crate::scope::Scope;
-use crate::spelling::normal;
 use plm_syntax::Name;
-use plm_token::string_value;
+use plm_token::{normal, string_value};
 use std::alloc::AllocError;
 use word86::Number;
 
 impl Resolver {
     /// The structure of a variable that a name stands for.
-    fn structure(&self, meaning: Meaning) -> Option<&Structure>
-        ensures { option_map (λ s. structure_of s.now) result ≡ spec.structure_meant (known_of self.now) meaning }
+    fn structure(&self, binding: Binding) -> Option<&Structure>
+        ensures { option_map (λ s. structure_of s.now) result ≡ spec.structure_meant (known_of self.now) binding }
     {
-        let Meaning::Variable(variable) = meaning else {
+        let Binding::Variable(variable) = binding else {
             return None;
         };
         match self.variables.get(variable)?.form {
@@ -36,12 +35,12 @@ impl Resolver {
     }
 
     /// A structure's member. What is no structure has none, which is no fault of names.
-    fn member(&mut self, meaning: Meaning, name: &Name<'_>) -> Result<Option<Member>, AllocError>
-        ensures member { IfOk result (λ m. m ≡ (spec.member_meant meaning (name_of name.now) (known_of self.old)).0) }
-        ensures known { OnOk result (known_of self.new ≡ (spec.member_meant meaning (name_of name.now) (known_of self.old)).1) }
+    fn member(&mut self, binding: Binding, name: &Name<'_>) -> Result<Option<Member>, AllocError>
+        ensures member { IfOk result (λ m. m ≡ (spec.member_meant binding (name_of name.now) (known_of self.old)).0) }
+        ensures known { OnOk result (known_of self.new ≡ (spec.member_meant binding (name_of name.now) (known_of self.old)).1) }
     {
         let key = normal(self.alloc, name.text)?;
-        let Some(structure) = self.structure(meaning) else {
+        let Some(structure) = self.structure(binding) else {
             return Ok(None);
         };
         let member = structure.member(&key);
@@ -56,11 +55,11 @@ impl Resolver {
         e: &plm_syntax::Expression<'_>,
         scope: &Scope<'_>,
     ) -> Result<Expression, AllocError>
-        ensures value { IfOk result (λ r. view.expression_of r ≡ (spec.expression (levels_of scope.now) (tree.expression_of e.now) (known_of self.old)).0) }
-        ensures known { OnOk result (known_of self.new ≡ (spec.expression (levels_of scope.now) (tree.expression_of e.now) (known_of self.old)).1) }
+        ensures value { IfOk result (λ r. view.expression_of r ≡ (spec.expression (frames_of scope.now) (tree.expression_of e.now) (known_of self.old)).0) }
+        ensures known { OnOk result (known_of self.new ≡ (spec.expression (frames_of scope.now) (tree.expression_of e.now) (known_of self.old)).1) }
     {
         match e {
-            plm_syntax::Expression::Number(number) => Ok(Expression::Number(*number)),
+            plm_syntax::Expression::Numeral(number) => Ok(Expression::Number(*number)),
             plm_syntax::Expression::Text(text) => Ok(Expression::Text(
                 text.place,
                 string_value(self.alloc, text.text)?,
@@ -95,8 +94,8 @@ impl Resolver {
         e: &plm_syntax::Expression<'_>,
         scope: &Scope<'_>,
     ) -> Result<Box<Expression>, AllocError>
-        ensures value { IfOk result (λ r. view.expression_of r.value ≡ (spec.expression (levels_of scope.now) (tree.expression_of e.now) (known_of self.old)).0) }
-        ensures known { OnOk result (known_of self.new ≡ (spec.expression (levels_of scope.now) (tree.expression_of e.now) (known_of self.old)).1) }
+        ensures value { IfOk result (λ r. view.expression_of r.value ≡ (spec.expression (frames_of scope.now) (tree.expression_of e.now) (known_of self.old)).0) }
+        ensures known { OnOk result (known_of self.new ≡ (spec.expression (frames_of scope.now) (tree.expression_of e.now) (known_of self.old)).1) }
     {
         let expression = self.expression(e, scope)?;
         Ok(Box::new(self.alloc, expression)?)
@@ -109,8 +108,8 @@ impl Resolver {
         operations: &[plm_syntax::Operation<'_>],
         scope: &Scope<'_>,
     ) -> Result<Vec<Operation>, AllocError>
-        ensures value { IfOk result (λ r. (left : ExpressionR) → view.leaned left r.items ≡ (chained (levels_of scope.now) left operations.now (known_of self.old)).0) }
-        ensures known { OnOk result ((left : ExpressionR) → known_of self.new ≡ (chained (levels_of scope.now) left operations.now (known_of self.old)).1) }
+        ensures value { IfOk result (λ r. (left : ExpressionR) → view.leaned left r.items ≡ (chained (frames_of scope.now) left operations.now (known_of self.old)).0) }
+        ensures known { OnOk result ((left : ExpressionR) → known_of self.new ≡ (chained (frames_of scope.now) left operations.now (known_of self.old)).1) }
     {
         let mut resolved = Vec::new(self.alloc);
         for operation in operations {
@@ -130,15 +129,15 @@ impl Resolver {
         reference: &plm_syntax::Reference<'_>,
         scope: &Scope<'_>,
     ) -> Result<Reference, AllocError>
-        ensures value { IfOk result (λ r. view.reference_of r ≡ (spec.reference (levels_of scope.now) (tree.reference_of reference.now) (known_of self.old)).0) }
-        ensures known { OnOk result (known_of self.new ≡ (spec.reference (levels_of scope.now) (tree.reference_of reference.now) (known_of self.old)).1) }
+        ensures value { IfOk result (λ r. view.reference_of r ≡ (spec.reference (frames_of scope.now) (tree.reference_of reference.now) (known_of self.old)).0) }
+        ensures known { OnOk result (known_of self.new ≡ (spec.reference (frames_of scope.now) (tree.reference_of reference.now) (known_of self.old)).1) }
     {
-        let meaning = self.used(scope, &reference.name)?;
+        let binding = self.used(scope, &reference.name)?;
         let subscripts = self.subscripts(&reference.subscripts, scope)?;
-        let selector = self.selector(&reference.selector, scope, meaning)?;
+        let selector = self.selector(&reference.selector, scope, binding)?;
         Ok(Reference {
             place: reference.name.place,
-            meaning,
+            binding,
             subscripts,
             selector,
         })
@@ -150,8 +149,8 @@ impl Resolver {
         subscripts: &[plm_syntax::Expression<'_>],
         scope: &Scope<'_>,
     ) -> Result<Vec<Expression>, AllocError>
-        ensures value { IfOk result (λ r. view.expressions_of r.items ≡ (spec.subscripts (levels_of scope.now) (tree.expressions_of subscripts.now) (known_of self.old)).0) }
-        ensures known { OnOk result (known_of self.new ≡ (spec.subscripts (levels_of scope.now) (tree.expressions_of subscripts.now) (known_of self.old)).1) }
+        ensures value { IfOk result (λ r. view.expressions_of r.items ≡ (spec.subscripts (frames_of scope.now) (tree.expressions_of subscripts.now) (known_of self.old)).0) }
+        ensures known { OnOk result (known_of self.new ≡ (spec.subscripts (frames_of scope.now) (tree.expressions_of subscripts.now) (known_of self.old)).1) }
     {
         let mut resolved = Vec::new(self.alloc);
         for subscript in subscripts {
@@ -165,19 +164,19 @@ impl Resolver {
         &mut self,
         selector: &plm_syntax::Selector<'_>,
         scope: &Scope<'_>,
-        meaning: Meaning,
+        binding: Binding,
     ) -> Result<Selector, AllocError>
-        ensures value { IfOk result (λ r. view.selector_of r ≡ (spec.selector (levels_of scope.now) meaning (tree.selector_of selector.now) (known_of self.old)).0) }
-        ensures known { OnOk result (known_of self.new ≡ (spec.selector (levels_of scope.now) meaning (tree.selector_of selector.now) (known_of self.old)).1) }
+        ensures value { IfOk result (λ r. view.selector_of r ≡ (spec.selector (frames_of scope.now) binding (tree.selector_of selector.now) (known_of self.old)).0) }
+        ensures known { OnOk result (known_of self.new ≡ (spec.selector (frames_of scope.now) binding (tree.selector_of selector.now) (known_of self.old)).1) }
     {
         match selector {
             plm_syntax::Selector::None => Ok(Selector::None),
             plm_syntax::Selector::Member(name) => {
-                let member = self.member(meaning, name)?;
+                let member = self.member(binding, name)?;
                 Ok(Selector::Member(name.place, member))
             }
             plm_syntax::Selector::Element(name, subscript) => {
-                let member = self.member(meaning, name)?;
+                let member = self.member(binding, name)?;
                 let subscript = self.boxed_expression(subscript, scope)?;
                 Ok(Selector::Element(name.place, member, subscript))
             }
@@ -191,8 +190,8 @@ impl Resolver {
         location: &plm_syntax::Location<'_>,
         scope: &Scope<'_>,
     ) -> Result<Location, AllocError>
-        ensures value { IfOk result (λ r. view.location_of r ≡ (spec.location (levels_of scope.now) (tree.location_of location.now) (known_of self.old)).0) }
-        ensures known { OnOk result (known_of self.new ≡ (spec.location (levels_of scope.now) (tree.location_of location.now) (known_of self.old)).1) }
+        ensures value { IfOk result (λ r. view.location_of r ≡ (spec.location (frames_of scope.now) (tree.location_of location.now) (known_of self.old)).0) }
+        ensures known { OnOk result (known_of self.new ≡ (spec.location (frames_of scope.now) (tree.location_of location.now) (known_of self.old)).1) }
     {
         match location {
             plm_syntax::Location::Reference(place, form, reference) => {

@@ -3,16 +3,16 @@
 ghost use Rattle.std.specs.Prelude.{◌≡◌, ◌+◌, ◌-◌, ◌^◌, ◌<◌, IfOk, OnOk, map, length, slice_get};
 ghost use Rattle.plm_syntax.specs.View.{value_of, variable_of};
 ghost use Rattle.plm_syntax.specs.View as tree;
-ghost use Rattle.plm_decl.specs.Scopes.{levels_of};
-ghost use Rattle.plm_decl.specs.Known.{known_of};
+ghost use Rattle.plm_decl.specs.Inner.Scope.{frames_of};
+ghost use Rattle.plm_decl.specs.Inner.Resolver.{known_of};
 ghost use Rattle.plm_decl.specs.ResolvedView as view;
-ghost use Rattle.plm_decl.specs.Fills as spec;
-ghost use Rattle.plm_decl.specs.FillsView.{filling_of};
+ghost use Rattle.plm_decl.specs.Fill as spec;
+ghost use Rattle.plm_decl.specs.Inner.Fill.{filling_of};
 
 use crate::datum::{character_datum, number_datum, takes, text_datum};
 use crate::layout::ScalarType;
 use crate::names::{Datum, DeclaredLocation, Region, Variable};
-use crate::resolved::{Location, Meaning};
+use crate::resolved::{Binding, Location};
 use crate::resolver::Resolver;
 use crate::scope::Scope;
 use crate::shape::{Shape, elements};
@@ -29,7 +29,7 @@ pub struct Filling<'f, 'a> {
     pub number: usize,
 }
 
-/// The scalar that the next value fills: that of a name, so many behind its first.
+/// The scalar that the next value fills: that of a name, this many after its first.
 #[derive(Clone, Copy)]
 struct Cursor {
     name: usize,
@@ -37,10 +37,10 @@ struct Cursor {
 }
 
 impl Cursor {
-    /// The next one, where a name has so many scalars.
-    fn behind(self, scalars: u64) -> Cursor
+    /// The next one, where a name has this many scalars.
+    fn after(self, scalars: u64) -> Cursor
         requires { self.name + 1 < 2 ^ 64 }
-        ensures { result ≡ spec.cursor_behind scalars self }
+        ensures { result ≡ spec.cursor_after scalars self }
     {
         let scalar = self.scalar.saturating_add(1);
         if scalar < scalars {
@@ -76,7 +76,7 @@ impl Resolver {
             Location::Constants(_, _, object) => return Some(Datum::Constants(*object)),
             Location::Reference(_, _, reference) => reference,
         };
-        let Meaning::Variable(number) = reference.meaning else {
+        let Binding::Variable(number) = reference.binding else {
             return Some(Datum::Word(0));
         };
         match self.variables.get(number) {
@@ -92,8 +92,8 @@ impl Resolver {
         scalar: ScalarType,
         location: &plm_syntax::Location<'_>,
     ) -> Result<Option<Datum>, AllocError>
-        ensures value { IfOk result (λ r. r ≡ (spec.location_in (levels_of scope.now) scalar (tree.location_of location.now) (known_of self.old)).0) }
-        ensures known { OnOk result (known_of self.new ≡ (spec.location_in (levels_of scope.now) scalar (tree.location_of location.now) (known_of self.old)).1) }
+        ensures value { IfOk result (λ r. r ≡ (spec.location_in (frames_of scope.now) scalar (tree.location_of location.now) (known_of self.old)).0) }
+        ensures known { OnOk result (known_of self.new ≡ (spec.location_in (frames_of scope.now) scalar (tree.location_of location.now) (known_of self.old)).1) }
     {
         let form = match location {
             plm_syntax::Location::Reference(_, form, _) => *form,
@@ -115,11 +115,11 @@ impl Resolver {
         scalar: ScalarType,
         value: &Value<'_>,
     ) -> Result<Option<Datum>, AllocError>
-        ensures value { IfOk result (λ r. r ≡ (spec.datum_for (levels_of scope.now) scalar (value_of value.now) (known_of self.old)).0) }
-        ensures known { OnOk result (known_of self.new ≡ (spec.datum_for (levels_of scope.now) scalar (value_of value.now) (known_of self.old)).1) }
+        ensures value { IfOk result (λ r. r ≡ (spec.datum_for (frames_of scope.now) scalar (value_of value.now) (known_of self.old)).0) }
+        ensures known { OnOk result (known_of self.new ≡ (spec.datum_for (frames_of scope.now) scalar (value_of value.now) (known_of self.old)).1) }
     {
         match value {
-            Value::Number(number) => Ok(number_datum(scalar, number.value, false)),
+            Value::Numeral(number) => Ok(number_datum(scalar, number.value, false)),
             Value::Negative(number) => Ok(number_datum(scalar, number.value, true)),
             Value::Text(text) => Ok(text_datum(scalar, &string_value(self.alloc, text.text)?)),
             Value::Location(location) => self.location_in(scope, scalar, location),
@@ -199,12 +199,22 @@ impl Resolver {
         match filling.names.get(cursor.name) {
             Some(name) => {
                 self.put_datum(filling, cursor.name, name, datum)?;
-                Ok(cursor.behind(self.scalars_in_name(filling.shape)))
+                Ok(cursor.after(self.scalars_in_name(filling.shape)))
             }
             None => {
                 self.note_too_many(filling.names)?;
                 Ok(cursor)
             }
+        }
+    }
+
+    /// Notes that a value which begins at the cursor stands after the last element: an empty string, too, is one too many there.
+    fn note_past(&mut self, filling: Filling<'_, '_>, cursor: Cursor) -> Result<(), AllocError>
+        ensures { OnOk result (known_of self.new ≡ spec.unless_past (filling_of filling.entry) cursor (known_of self.old)) }
+    {
+        match filling.names.get(cursor.name) {
+            Some(_) => Ok(()),
+            None => self.note_too_many(filling.names),
         }
     }
 
@@ -234,13 +244,14 @@ impl Resolver {
         cursor: Cursor,
         value: &Value<'_>,
     ) -> Result<Cursor, AllocError>
-        ensures value { IfOk result (λ r. r ≡ (spec.filled_with (levels_of scope.now) (filling_of filling.entry) cursor (value_of value.now) (known_of self.old)).0) }
-        ensures known { OnOk result (known_of self.new ≡ (spec.filled_with (levels_of scope.now) (filling_of filling.entry) cursor (value_of value.now) (known_of self.old)).1) }
+        ensures value { IfOk result (λ r. r ≡ (spec.filled_with (frames_of scope.now) (filling_of filling.entry) cursor (value_of value.now) (known_of self.old)).0) }
+        ensures known { OnOk result (known_of self.new ≡ (spec.filled_with (frames_of scope.now) (filling_of filling.entry) cursor (value_of value.now) (known_of self.old)).1) }
     {
         let scalar = self.scalar_at(filling.shape.form, cursor.scalar);
         match value {
             Value::Text(text) if scalar == ScalarType::Byte => {
                 let characters = string_value(self.alloc, text.text)?;
+                self.note_past(filling, cursor)?;
                 self.put_characters(filling, cursor, &characters)
             }
             _ => {
@@ -257,7 +268,7 @@ impl Resolver {
         filling: Filling<'_, '_>,
         values: &[Value<'_>],
     ) -> Result<(), AllocError>
-        ensures { OnOk result (known_of self.new ≡ spec.filled (levels_of scope.now) (filling_of filling.entry) (map value_of values.now) (known_of self.old)) }
+        ensures { OnOk result (known_of self.new ≡ spec.filled (frames_of scope.now) (filling_of filling.entry) (map value_of values.now) (known_of self.old)) }
     {
         let mut cursor = Cursor { name: 0, scalar: 0 };
         for value in values {

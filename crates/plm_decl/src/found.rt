@@ -1,16 +1,16 @@
 //! Faults where they stand, and the least of them.
 
 ghost use Rattle.std.specs.Prelude.{◌≡◌, min, None};
-ghost use Rattle.plm_decl.specs.Least.{code_of, precedes, least, fault_at};
+ghost use Rattle.plm_decl.specs.Found.{code_of, precedes, least, fault_at};
 
-use plm_syntax::Place;
+use plm_syntax::Position;
 use word86::{Fault, Number};
 
 /// A fault of a declaration, a name, a type or the whole program, where it stands.
 #[derive(Clone, Copy)]
 pub struct Found {
     pub module: usize,
-    pub place: Place,
+    pub place: Position,
     pub number: Number,
 }
 

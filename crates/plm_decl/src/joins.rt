@@ -1,15 +1,15 @@
 //! What joins the modules: EXTERNAL names and their PUBLIC ones, and the faults of the whole program.
 
 ghost use Rattle.std.specs.Prelude.{◌≡◌, IfOk, OnOk, map, slice_get};
-ghost use Rattle.plm_decl.specs.Layouts.{field_of};
-ghost use Rattle.plm_decl.specs.Known.{known_of, external_of};
+ghost use Rattle.plm_decl.specs.Layout.{field_of};
+ghost use Rattle.plm_decl.specs.Inner.Resolver.{known_of, external_of};
 ghost use Rattle.plm_decl.specs.Joins as spec;
 
 use crate::found::Found;
 use crate::layout::{Field, Form, Member};
 use crate::names::Item;
 use crate::resolver::{External, Resolver};
-use plm_syntax::Place;
+use plm_syntax::Position;
 use std::alloc::AllocError;
 use std::mem::replace;
 use word86::Number;
@@ -18,7 +18,7 @@ use word86::Number;
 const DATA_LIMIT: u64 = 61_438;
 
 /// The token before a program's first.
-const START: Place = Place { token: 0, line: 1 };
+const START: Position = Position { token: 0, line: 1 };
 
 /// Whether two members have the same type and dimension.
 fn same_member(a: Member, b: Member) -> bool
@@ -67,7 +67,9 @@ impl Resolver {
         ensures { result ≡ spec.same_variable (known_of self.now) a b }
     {
         match (self.variables.get(a), self.variables.get(b)) {
-            (Some(a), Some(b)) => a.dimension == b.dimension && self.same_form(a.form, b.form),
+            (Some(a), Some(b)) => a.dimension == b.dimension
+                && a.stride == b.stride
+                && self.same_form(a.form, b.form),
             _ => false,
         }
     }

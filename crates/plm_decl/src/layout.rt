@@ -1,7 +1,7 @@
 //! What the bytes of a variable are.
 
 ghost use Rattle.std.specs.Prelude.{◌≡◌};
-ghost use Rattle.plm_decl.specs.Layouts.{scalar_of, width_of, size_of, structure_of, field_named};
+ghost use Rattle.plm_decl.specs.Layout.{scalar_of, width_of, size_of, structure_of, field_named};
 
 use plm_syntax::Scalar;
 use word86::Width;
@@ -74,7 +74,7 @@ pub struct Structure {
 }
 
 /// What an element is: a scalar, or a structure by its number.
-#[derive(Clone, Copy)]
+#[derive(Debug, Clone, Copy, PartialEq, Eq)]
 pub enum Form {
     Scalar(ScalarType),
     Structure(usize),

@@ -10,6 +10,7 @@ mod expressions;
 mod fill;
 pub mod found;
 mod joins;
+mod laws;
 mod layout;
 mod modules;
 mod names;
@@ -24,10 +25,11 @@ mod stray;
 mod table;
 
 pub use builtin::Builtin;
+pub use laws::{declared_once, innermost_counts};
 pub use layout::{Field, Form, Member, ScalarType, Structure};
 pub use modules::resolve;
 pub use names::{
     Datum, DeclaredLocation, Item, Main, Names, Object, Procedure, Region, ScreenName, Variable,
 };
 pub use placement::Placement;
-pub use resolved::{Expression, Location, Meaning, Operation, Reference, Selector, Statement};
+pub use resolved::{Binding, Expression, Location, Operation, Reference, Selector, Statement};

@@ -2,21 +2,23 @@
 
 ghost use Rattle.std.specs.Prelude.{◌≡◌, IfOk, IfErr, OnOk, [], map, length, true};
 ghost use Rattle.plm_syntax.specs.View.{module_of};
-ghost use Rattle.plm_decl.specs.Known.{known_of, nothing_known};
-ghost use Rattle.plm_decl.specs.Least.{IsRefusal};
+ghost use Rattle.plm_decl.specs.Inner.Resolver.{known_of};
+ghost use Rattle.plm_decl.specs.Resolver.{nothing_known};
+ghost use Rattle.plm_decl.specs.Found.{IsRefusal};
 ghost use Rattle.plm_decl.specs.ResolvedView as view;
 ghost use Rattle.plm_decl.specs.Joins as spec;
-ghost use Rattle.plm_decl.specs.Ranges.{Within, counts_of};
-ghost use Rattle.plm_decl.specs.Answers.{AreNames, AreAnswered, AreTables, IsRefused, faults_of, whole_faults_of};
+ghost use Rattle.plm_decl.specs.Inner.Ranges.{Within, counts_of};
+ghost use Rattle.plm_decl.specs.Modules.{AreNames, AreAnswered, faults_of, whole_faults_of};
+ghost use Rattle.plm_decl.specs.Inner.Modules.{AreTables, IsRefused};
 
 use crate::found::least;
 use crate::names::{Main, Names};
 use crate::resolved::Statement;
 use crate::resolver::Resolver;
 use crate::scope::Scope;
-use crate::spelling::normal;
 use crate::table::Table;
 use plm_syntax::Module;
+use plm_token::normal;
 use std::alloc::{AllocError, Global};
 use word86::Fault;
 

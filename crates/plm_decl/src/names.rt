@@ -2,20 +2,21 @@
 
 ghost use Rattle.std.specs.Prelude.{◌≡◌, ◌≤◌, map, true};
 ghost use Rattle.std.specs.List.{sum_by};
-ghost use Rattle.plm_decl.specs.Layouts.{structure_of};
-ghost use Rattle.plm_decl.specs.Known.{object_of, procedure_of, declared_location_of, main_of};
+ghost use Rattle.plm_decl.specs.Layout.{structure_of};
+ghost use Rattle.plm_decl.specs.Names.{object_of, procedure_of, declared_location_of, main_of};
 ghost use Rattle.plm_decl.specs.Ranges.{names_within};
+ghost use Rattle.plm_decl.specs.Regions.{views_lie};
 
 use crate::layout::{Form, ScalarType, Structure};
 use crate::resolved::{Location, Statement};
-use plm_syntax::{Linkage, Place};
+use plm_syntax::{Linkage, Position};
 
 /// Where a variable's bytes lie.
-#[derive(Clone, Copy)]
+#[derive(Debug, Clone, Copy, PartialEq, Eq)]
 pub enum Region {
-    /// In a RAM object, by its number, from so many bytes behind its first on.
+    /// In a RAM object, by its number, from this many bytes after its first on.
     Ram(usize, u64),
-    /// On the screen, so many bytes behind 0B8000H.
+    /// On the screen, this many bytes after 0B8000H.
     Screen(u64),
     /// Where the variable of this number says.
     Based(usize),
@@ -27,7 +28,7 @@ pub enum Region {
 #[derive(Clone, Copy)]
 pub struct Variable {
     pub module: usize,
-    pub place: Place,
+    pub place: Position,
     pub form: Form,
     pub dimension: Option<u32>,
     /// How many bytes an element has.
@@ -45,11 +46,11 @@ pub enum Item {
 }
 
 /// An initial value.
-#[derive(Clone, Copy)]
+#[derive(Debug, Clone, Copy, PartialEq, Eq)]
 pub enum Datum {
     Byte(u8),
     Word(u16),
-    /// The address that lies so many bytes, modulo 65,536, behind the first of a variable.
+    /// The address that lies this many bytes, modulo 65,536, after the first of a variable.
     Variable(usize, u16),
     /// The address of constant bytes, by the number of their object.
     Constants(usize),
@@ -78,7 +79,7 @@ pub struct ScreenName {
 pub struct Procedure {
     pub path: Vec<u8>,
     pub module: usize,
-    pub place: Place,
+    pub place: Position,
     /// The variables that get the arguments.
     pub parameters: Vec<usize>,
     pub returned: Option<ScalarType>,
@@ -86,7 +87,7 @@ pub struct Procedure {
     pub interrupt: Option<u32>,
     pub linkage: Linkage,
     /// What stands first in an EXTERNAL procedure besides the declarations of its parameters.
-    pub stray: Option<Place>,
+    pub stray: Option<Position>,
     /// The procedure whose body a call runs: itself, or for an EXTERNAL procedure its PUBLIC one.
     pub entry: usize,
     pub body: Vec<Statement>,
@@ -118,6 +119,8 @@ pub struct Names {
     pub main: Main,
     // Each number that stands in the tables and in main's statements is below the length of the table that it is of.
     ghost in_range: { names_within variables.items (map structure_of structures.items) (map object_of objects.items) (map procedure_of procedures.items) (map declared_location_of locations.items) (main_of main) ≡ true },
+    // All bytes of a variable in RAM lie in its object, and those of one on the screen in the screen.
+    ghost views_lie: { views_lie (map object_of objects.items) variables.items ≡ true },
     // The objects have together at most 61,438 bytes.
     ghost has_room: { sum_by (λ o. o.size) objects.items ≤ 61438 },
 }

@@ -1,8 +1,8 @@
 //! Where the objects of a program lie.
 
 ghost use Rattle.std.specs.Prelude.{◌≡◌, ℕ, ◌+◌, ◌<◌, ◌≤◌, ◌↔◌, IsTrue, map, length, slice_index};
-ghost use Rattle.plm_decl.specs.Placed.{Has, IsApart, IsPlacement};
-ghost use Rattle.plm_decl.specs.Placed.{sizes_of};
+ghost use Rattle.plm_decl.specs.Placement.{Has, IsApart, IsPlacement};
+ghost use Rattle.plm_decl.specs.Placement.{sizes_of};
 
 use crate::names::{Names, Object};
 

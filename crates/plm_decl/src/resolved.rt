@@ -5,11 +5,11 @@
 
 use crate::builtin::Builtin;
 use crate::layout::Member;
-use plm_syntax::{BinaryOperator, LocationForm, Number, Place, UnaryOperator};
+use plm_syntax::{BinaryOperator, LocationForm, Numeral, Position, UnaryOperator};
 
 /// What a name stands for where it is used.
 #[derive(Clone, Copy)]
-pub enum Meaning {
+pub enum Binding {
     /// A variable, by its number.
     Variable(usize),
     /// A procedure, by its number.
@@ -23,16 +23,16 @@ pub enum Meaning {
 #[derive(Drop)]
 #[cycle(resolved)]
 pub enum Expression {
-    Number(Number),
+    Number(Numeral),
     /// A string's characters.
-    Text(Place, Vec<u8>),
+    Text(Position, Vec<u8>),
     Reference(Reference),
     Location(Location),
     /// `( e )`, with the place of the parenthesis.
-    Parenthesised(Place, Box<Expression>),
+    Parenthesised(Position, Box<Expression>),
     /// `( x := e )`, with the place of the parenthesis.
-    Embedded(Place, Reference, Box<Expression>),
-    Unary(Place, UnaryOperator, Box<Expression>),
+    Embedded(Position, Reference, Box<Expression>),
+    Unary(Position, UnaryOperator, Box<Expression>),
     /// `a + b - c`: operators of one level from left to right. They lean left, as `(a + b) - c` does.
     Chain {
         first: Box<Expression>,
@@ -44,7 +44,7 @@ pub enum Expression {
 #[derive(Drop)]
 #[cycle(resolved)]
 pub struct Operation {
-    pub place: Place,
+    pub place: Position,
     pub operator: BinaryOperator,
     pub operand: Expression,
 }
@@ -53,46 +53,54 @@ pub struct Operation {
 #[derive(Drop)]
 #[cycle(resolved)]
 pub struct Reference {
-    pub place: Place,
-    pub meaning: Meaning,
+    pub place: Position,
+    pub binding: Binding,
     pub subscripts: Vec<Expression>,
     pub selector: Selector,
 }
 
-/// The member behind a reference's period, and its place: none where the name stands for no structure.
+/// The member after a reference's period, and its place: none where the name stands for no structure.
 #[derive(Drop)]
 #[cycle(resolved)]
 pub enum Selector {
     None,
-    Member(Place, Option<Member>),
-    Element(Place, Option<Member>, Box<Expression>),
+    Member(Position, Option<Member>),
+    Element(Position, Option<Member>, Box<Expression>),
 }
 
 /// A location, with the place of its `@` or `.`: of a reference, or of constant bytes, by the number of their object.
 #[derive(Drop)]
 #[cycle(resolved)]
 pub enum Location {
-    Reference(Place, LocationForm, Reference),
-    Constants(Place, LocationForm, usize),
+    Reference(Position, LocationForm, Reference),
+    Constants(Position, LocationForm, usize),
 }
 
-/// A statement, with the place of its first token behind its labels (an assignment's is that of its first target).
+/// A statement, with the place of its first token after its labels (an assignment's is that of its first target).
 #[derive(Drop)]
 #[cycle(resolved_statement)]
 pub enum Statement {
-    Empty(Place),
+    Empty(Position),
     Assign(Vec<Reference>, Expression),
-    Call(Place, Reference),
-    Return(Place),
-    ReturnValue(Place, Expression),
-    Enable(Place),
-    Disable(Place),
-    Halt(Place),
-    If(Place, Expression, Box<Statement>),
-    IfElse(Place, Expression, Box<Statement>, Box<Statement>),
-    Do(Place, Vec<Statement>),
-    While(Place, Expression, Vec<Statement>),
-    Case(Place, Expression, Vec<Statement>),
+    Call(Position, Reference),
+    Return(Position),
+    ReturnValue(Position, Expression),
+    Enable(Position),
+    Disable(Position),
+    Halt(Position),
+    If(Position, Expression, Box<Statement>),
+    IfElse(Position, Expression, Box<Statement>, Box<Statement>),
+    Do(Position, Vec<Statement>),
+    While(Position, Expression, Vec<Statement>),
+    Case(Position, Expression, Vec<Statement>),
     /// `DO i = a TO b [BY s]`, with the place of the index.
-    Iterate(Place, Place, Meaning, Expression, Expression, Option<Expression>, Vec<Statement>),
+    Iterate(
+        Position,
+        Position,
+        Binding,
+        Expression,
+        Expression,
+        Option<Expression>,
+        Vec<Statement>,
+    ),
 }

@@ -2,20 +2,21 @@
 
 ghost use Rattle.std.specs.Prelude.{◌≡◌, ◌+◌, IfOk, OnOk};
 ghost use Rattle.plm_syntax.specs.View.{name_of};
-ghost use Rattle.plm_decl.specs.Scopes.{levels_of};
-ghost use Rattle.plm_decl.specs.Known.{known_of, note, note_unless, note_whole};
-ghost use Rattle.plm_decl.specs.Uses.{item_meaning, meaning_for, used};
-ghost use Rattle.plm_decl.specs.Layouts.{counted};
+ghost use Rattle.plm_decl.specs.Inner.Scope.{frames_of};
+ghost use Rattle.plm_decl.specs.Inner.Resolver.{known_of};
+ghost use Rattle.plm_decl.specs.Resolver.{note, note_unless, note_whole};
+ghost use Rattle.plm_decl.specs.Uses.{item_binding, binding_for, used};
+ghost use Rattle.plm_decl.specs.Layout.{counted};
 
 use crate::builtin::Builtin;
 use crate::found::Found;
 use crate::layout::Structure;
 use crate::names::{DeclaredLocation, Item, Main, Object, Procedure, ScreenName, Variable};
-use crate::resolved::Meaning;
+use crate::resolved::Binding;
 use crate::scope::Scope;
-use crate::spelling::normal;
 use crate::table::Table;
-use plm_syntax::{Name, Place};
+use plm_syntax::{Name, Position};
+use plm_token::normal;
 use std::alloc::{AllocError, Global};
 use word86::Number;
 
@@ -57,30 +58,30 @@ pub fn next(count: usize) -> usize
 
 impl Item {
     /// What a name that stands for it means.
-    pub fn meaning(self) -> Meaning
-        ensures { result ≡ item_meaning self }
+    pub fn binding(self) -> Binding
+        ensures { result ≡ item_binding self }
     {
         match self {
-            Item::Variable(variable) => Meaning::Variable(variable),
-            Item::Procedure(procedure) => Meaning::Procedure(procedure),
+            Item::Variable(variable) => Binding::Variable(variable),
+            Item::Procedure(procedure) => Binding::Procedure(procedure),
         }
     }
 }
 
 /// What a name means: what it is declared as, else a built-in of that name.
-fn meaning(item: Option<Item>, builtin: Option<Builtin>) -> Meaning
-    ensures { result ≡ meaning_for item builtin }
+fn binding(item: Option<Item>, builtin: Option<Builtin>) -> Binding
+    ensures { result ≡ binding_for item builtin }
 {
     match (item, builtin) {
-        (Some(item), _) => item.meaning(),
-        (None, Some(builtin)) => Meaning::Builtin(builtin),
-        (None, None) => Meaning::Nothing,
+        (Some(item), _) => item.binding(),
+        (None, Some(builtin)) => Binding::Builtin(builtin),
+        (None, None) => Binding::Nothing,
     }
 }
 
 impl Resolver {
     /// Notes a fault.
-    pub fn note(&mut self, number: Number, place: Place) -> Result<(), AllocError>
+    pub fn note(&mut self, number: Number, place: Position) -> Result<(), AllocError>
         ensures { OnOk result (known_of self.new ≡ note number place (known_of self.old)) }
     {
         self.faults.push(Found {
@@ -96,7 +97,7 @@ impl Resolver {
         &mut self,
         holds: bool,
         number: Number,
-        place: Place,
+        place: Position,
     ) -> Result<(), AllocError>
         ensures { OnOk result (known_of self.new ≡ note_unless holds number place (known_of self.old)) }
     {
@@ -115,17 +116,17 @@ impl Resolver {
     }
 
     /// What a name that is used means.
-    pub fn used(&mut self, scope: &Scope<'_>, name: &Name<'_>) -> Result<Meaning, AllocError>
-        ensures meaning { IfOk result (λ m. m ≡ (used (levels_of scope.now) (name_of name.now) (known_of self.old)).0) }
-        ensures known { OnOk result (known_of self.new ≡ (used (levels_of scope.now) (name_of name.now) (known_of self.old)).1) }
+    pub fn used(&mut self, scope: &Scope<'_>, name: &Name<'_>) -> Result<Binding, AllocError>
+        ensures binding { IfOk result (λ m. m ≡ (used (frames_of scope.now) (name_of name.now) (known_of self.old)).0) }
+        ensures known { OnOk result (known_of self.new ≡ (used (frames_of scope.now) (name_of name.now) (known_of self.old)).1) }
     {
         let key = normal(self.alloc, name.text)?;
-        let meaning = meaning(scope.item(&key), Builtin::named(&key));
+        let binding = binding(scope.item(&key), Builtin::named(&key));
         self.note_unless(
-            !matches!(meaning, Meaning::Nothing),
+            !matches!(binding, Binding::Nothing),
             Number::E301,
             name.place,
         )?;
-        Ok(meaning)
+        Ok(binding)
     }
 }

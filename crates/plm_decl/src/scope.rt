@@ -1,7 +1,8 @@
 //! The names in scope, block by block.
 
 ghost use Rattle.std.specs.Prelude.{◌≡◌, ◌∷◌, [], false, IfOk, OnOk};
-ghost use Rattle.plm_decl.specs.Scopes.{levels_of, level, meant, found_here, path_in, is_external, is_fresh, with_name};
+ghost use Rattle.plm_decl.specs.Inner.Scope.{frames_of};
+ghost use Rattle.plm_decl.specs.Scope.{frame, meant, found_here, path_in, is_external, is_fresh, with_name};
 
 use crate::names::Item;
 use crate::table::Table;
@@ -19,7 +20,7 @@ pub struct Scope<'s> {
 impl<'s> Scope<'s> {
     /// A module's block, which has this path.
     pub fn outermost(alloc: Global, path: Vec<u8>) -> Scope<'s>
-        ensures { levels_of result ≡ level path.items false ∷ [] }
+        ensures { frames_of result ≡ frame path.items false ∷ [] }
     {
         Scope {
             names: Table::new(alloc),
@@ -36,7 +37,7 @@ impl<'s> Scope<'s> {
         path: Vec<u8>,
         external: bool,
     ) -> Scope<'s>
-        ensures { levels_of result ≡ level path.items external ∷ levels_of outer.now }
+        ensures { frames_of result ≡ frame path.items external ∷ frames_of outer.now }
     {
         Scope {
             names: Table::new(alloc),
@@ -48,7 +49,7 @@ impl<'s> Scope<'s> {
 
     /// What the name stands for: the innermost declaration counts.
     pub fn item(&self, name: &[u8]) -> Option<Item>
-        ensures { result ≡ meant name.now (levels_of self.now) }
+        ensures { result ≡ meant name.now (frames_of self.now) }
     {
         match self.names.find(name) {
             Some(item) => Some(item),
@@ -61,29 +62,29 @@ impl<'s> Scope<'s> {
 
     /// What the name stands for in this block.
     pub fn here(&self, name: &[u8]) -> Option<Item>
-        ensures { result ≡ found_here name.now (levels_of self.now) }
+        ensures { result ≡ found_here name.now (frames_of self.now) }
     {
         self.names.find(name)
     }
 
     /// The names of the blocks around it and its own, parted by dots.
     pub fn path(&self) -> &[u8]
-        ensures { result.now ≡ path_in (levels_of self.now) }
+        ensures { result.now ≡ path_in (frames_of self.now) }
     {
         self.path.as_slice()
     }
 
     /// Whether it is the block of an EXTERNAL procedure.
     pub fn is_external(&self) -> bool
-        ensures { result ≡ is_external (levels_of self.now) }
+        ensures { result ≡ is_external (frames_of self.now) }
     {
         self.external
     }
 
-    /// Gives the name a meaning in this block. False: it has one here, and keeps it.
+    /// Lets the name stand for an item in this block. False: it stands for one here, and keeps it.
     pub fn declare(&mut self, name: Vec<u8>, item: Item) -> Result<bool, AllocError>
-        ensures fresh { IfOk result (λ fresh. fresh ≡ is_fresh name.items (levels_of self.old)) }
-        ensures names { OnOk result (levels_of self.new ≡ with_name name.items item (levels_of self.old)) }
+        ensures fresh { IfOk result (λ fresh. fresh ≡ is_fresh name.items (frames_of self.old)) }
+        ensures names { OnOk result (frames_of self.new ≡ with_name name.items item (frames_of self.old)) }
     {
         self.names.add(name, item)
     }

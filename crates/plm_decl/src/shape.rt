@@ -1,20 +1,19 @@
 //! The types of declarations: structures, dimensions and sizes.
 
-ghost use Rattle.std.specs.Prelude.{◌≡◌, ◌+◌, ◌*◌, IfOk, OnOk, map, length, option_map, min};
+ghost use Rattle.std.specs.Prelude.{◌≡◌, ◌+◌, ◌*◌, IfOk, OnOk, map, length, option_map, true, Some};
 ghost use Rattle.plm_syntax.specs.View.{name_of, counted as number_view, member_of, type_of, dimension_of, value_of};
 ghost use Rattle.plm_decl.specs.Lists.{member_list};
-ghost use Rattle.plm_decl.specs.Layouts.{structure_of, counted, elements, is_dimension, scalar_in, with_field, has_field, scalar_of, no_fields};
-ghost use Rattle.plm_decl.specs.Known.{known_of};
-ghost use Rattle.plm_decl.specs.Shapes as shape;
+ghost use Rattle.plm_decl.specs.Layout.{structure_of, counted, elements, is_dimension, scalar_in, with_field, has_field, scalar_of, no_fields};
+ghost use Rattle.plm_decl.specs.Inner.Resolver.{known_of};
+ghost use Rattle.plm_decl.specs.Shape as shape;
+ghost use Rattle.plm_decl.specs.Inner.Shape.{names_of_member};
 
 use crate::layout::{Field, Form, Member, ScalarType, Structure};
 use crate::resolver::Resolver;
-use crate::spelling::normal;
 use plm_syntax::{
-    Dimension, Member as SyntaxMember, MemberNames, Name, Number as SyntaxNumber, Place, Value,
-    VariableType,
+    Dimension, Member as SyntaxMember, MemberNames, Name, Numeral, Position, Value, VariableType,
 };
-use plm_token::string_value;
+use plm_token::{normal, string_value};
 use std::alloc::AllocError;
 use std::slice;
 use word86::Number;
@@ -49,7 +48,7 @@ fn is_dimension(number: u64) -> bool
 
 /// The names of a member.
 fn member_names<'m, 'a>(names: &'m MemberNames<'a>) -> &'m [Name<'a>]
-    ensures { map name_of result.now ≡ shape.names_of_member names.now }
+    ensures { map name_of result.now ≡ names_of_member names.now }
 {
     match names {
         MemberNames::One(name) => slice::from_ref(name),
@@ -67,7 +66,7 @@ impl Shape {
 }
 
 impl Structure {
-    /// The scalar that stands so many scalars behind the first.
+    /// The scalar that stands this many scalars after the first.
     fn scalar_at(&self, position: u64) -> ScalarType
         ensures { result ≡ scalar_in (structure_of self.now).fields position }
     {
@@ -82,7 +81,7 @@ impl Structure {
         ScalarType::Byte
     }
 
-    /// Puts a member behind the others.
+    /// Puts a member after the others.
     fn add(
         &mut self,
         name: Vec<u8>,
@@ -120,27 +119,40 @@ impl Structure {
 }
 
 impl Resolver {
+    /// A dimension that holds, or a fault at this place: then it counts as 1.
+    fn dimension_if(&mut self, holds: bool, count: u64, place: Position) -> Result<u32, AllocError>
+        requires { holds ≡ true → is_dimension count ≡ true }
+        ensures value { IfOk result (λ n. Some n ≡ (shape.dimension_if holds count place (known_of self.old)).0) }
+        ensures known { OnOk result (known_of self.new ≡ (shape.dimension_if holds count place (known_of self.old)).1) }
+    {
+        self.note_unless(holds, Number::E305, place)?;
+        Ok(if holds { count as u32 } else { 1 })
+    }
+
     /// A dimension that is a number; the fault stands at this place.
     fn number_of_elements(
         &mut self,
-        place: Place,
-        number: Option<SyntaxNumber>,
+        place: Position,
+        number: Option<Numeral>,
     ) -> Result<Option<u32>, AllocError>
         ensures value { IfOk result (λ r. r ≡ (shape.number_of_elements place (number_view number) (known_of self.old)).0) }
         ensures known { OnOk result (known_of self.new ≡ (shape.number_of_elements place (number_view number) (known_of self.old)).1) }
     {
-        let Some(number) = number else {
-            return Ok(None);
-        };
-        self.note_unless(is_dimension(u64::from(number.value)), Number::E305, place)?;
-        Ok(Some(number.value))
+        match number {
+            Some(number) => {
+                let count = u64::from(number.value);
+                let dimension = self.dimension_if(is_dimension(count), count, place)?;
+                Ok(Some(dimension))
+            }
+            None => Ok(None),
+        }
     }
 
     /// The names of one type among a structure's members.
     #[tactic(auto, using(crate::proofs::ListViews::with_members_is))]
     fn add_members(
         &mut self,
-        place: Place,
+        place: Position,
         member: &SyntaxMember<'_>,
         structure: &mut Structure,
     ) -> Result<(), AllocError>
@@ -159,7 +171,7 @@ impl Resolver {
     /// A structure with these members; a fault of their dimensions stands at this place.
     fn structure_with(
         &mut self,
-        place: Place,
+        place: Position,
         members: &[SyntaxMember<'_>],
     ) -> Result<Structure, AllocError>
         ensures structure { IfOk result (λ s. structure_of s ≡ (shape.structure_for place (map member_of members.now) no_fields (known_of self.old)).0) }
@@ -178,7 +190,7 @@ impl Resolver {
 
     /// What an element is; a fault of its dimensions stands at the first of its names.
     #[tactic(auto, using(crate::proofs::ListViews::member_list_from))]
-    pub fn form(&mut self, place: Place, form: &VariableType<'_>) -> Result<Form, AllocError>
+    pub fn form(&mut self, place: Position, form: &VariableType<'_>) -> Result<Form, AllocError>
         ensures value { IfOk result (λ r. r ≡ (shape.form_for place (type_of form.now) (known_of self.old)).0) }
         ensures known { OnOk result (known_of self.new ≡ (shape.form_for place (type_of form.now) (known_of self.old)).1) }
     {
@@ -219,7 +231,7 @@ impl Resolver {
         }
     }
 
-    /// The scalar that stands so many scalars behind the first of a variable.
+    /// The scalar that stands this many scalars after the first of a variable.
     pub fn scalar_at(&self, form: Form, position: u64) -> ScalarType
         ensures { result ≡ shape.scalar_at (known_of self.now) form position }
     {
@@ -274,7 +286,7 @@ impl Resolver {
     /// The dimension of an element's names; a fault stands at the first of them. `(*)` is for one name, with values.
     pub fn dimension(
         &mut self,
-        place: Place,
+        place: Position,
         names: usize,
         dimension: &Dimension,
         form: Form,
@@ -285,19 +297,20 @@ impl Resolver {
     {
         match dimension {
             Dimension::None => Ok(None),
-            Dimension::Number(number) => self.number_of_elements(place, Some(*number)),
+            Dimension::Numeral(number) => self.number_of_elements(place, Some(*number)),
             Dimension::Implicit => {
                 let count = self.elements_filled(form, values)?;
-                self.note_unless(names == 1 && is_dimension(count), Number::E305, place)?;
-                Ok(Some(u32::try_from(count).unwrap_or(u32::MAX)))
+                let holds = names == 1 && is_dimension(count);
+                let dimension = self.dimension_if(holds, count, place)?;
+                Ok(Some(dimension))
             }
         }
     }
 
-    /// What so many names of an element have in common; a fault stands at the first of them.
+    /// What this many names of an element have in common; a fault stands at the first of them.
     pub fn shape(
         &mut self,
-        place: Place,
+        place: Position,
         names: usize,
         dimension: &Dimension,
         form: &VariableType<'_>,

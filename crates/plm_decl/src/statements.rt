@@ -1,40 +1,43 @@
 //! The names of statements, procedures and blocks.
 
-ghost use Rattle.std.specs.Prelude.{◌≡◌, ◌||◌, [], IfOk, OnOk, map, length, option_map, None};
+ghost use Rattle.std.specs.Prelude.{◌≡◌, ◌||◌, [], IfOk, OnOk, map, length, slice_get, option_map, None};
 ghost use Rattle.plm_token.specs.Names.{normal};
 ghost use Rattle.plm_syntax.specs.Tree.{no_references, AssignS, CallS, ReturnValueS, IfS, DoS, WhileS, CaseS};
 ghost use Rattle.plm_syntax.specs.View.{counted, name_of, names_of, element_of, reference_of, item_of, items_of, basic_of, block_of, statement_of, statements_of, procedure_of};
 ghost use Rattle.plm_syntax.specs.View as tree;
-ghost use Rattle.plm_decl.specs.Paths.{name_behind};
-ghost use Rattle.plm_decl.specs.Scopes.{levels_of, entries_of, is_external, path_in};
-ghost use Rattle.plm_decl.specs.Strays.{is_external_linkage};
-ghost use Rattle.plm_decl.specs.Known.{known_of};
-ghost use Rattle.plm_decl.specs.Layouts.{scalar_of};
+ghost use Rattle.plm_decl.specs.Spelling.{name_after};
+ghost use Rattle.plm_decl.specs.Inner.Scope.{frames_of, entries_of};
+ghost use Rattle.plm_decl.specs.Scope.{is_external, path_in};
+ghost use Rattle.plm_decl.specs.Stray.{is_external_linkage};
+ghost use Rattle.plm_decl.specs.Elements.{with_variable};
+ghost use Rattle.plm_decl.specs.Inner.Resolver.{known_of};
+ghost use Rattle.plm_decl.specs.Layout.{scalar_of};
 ghost use Rattle.plm_decl.specs.Resolved as resolved;
 ghost use Rattle.plm_decl.specs.ResolvedView as view;
 ghost use Rattle.plm_decl.specs.Statements as spec;
-ghost use Rattle.plm_decl.specs.StatementsView.{header_for, procedure_declared, finished, bounds_of, bounds_for, iterated};
+ghost use Rattle.plm_decl.specs.Inner.Statements.{header_for, procedure_declared, finished, bounds_of, bounds_for, iterated};
 
 use crate::found::Found;
-use crate::layout::ScalarType;
-use crate::names::{Item, Procedure};
-use crate::resolved::{Expression, Meaning, Reference, Statement};
+use crate::layout::{Form, ScalarType};
+use crate::names::{Item, Procedure, Region, Variable};
+use crate::resolved::{Binding, Expression, Reference, Statement};
 use crate::resolver::{Resolver, next};
 use crate::scope::Scope;
-use crate::spelling::{block_path, name_path, normal};
+use crate::spelling::{block_path, name_path};
 use crate::stray::first_stray;
 use crate::table::Table;
 use plm_syntax::{
-    Basic, Block, Element, Item as SyntaxItem, Linkage, Name, Number as SyntaxNumber, Place,
+    Basic, Block, Element, Item as SyntaxItem, Linkage, Name, Numeral, Position,
     Procedure as SyntaxProcedure, Scalar,
 };
+use plm_token::normal;
 use std::alloc::AllocError;
 use word86::Number;
 
 /// What stands before the body of an iterative DO block: what its index means, and its bounds.
 #[derive(Drop)]
 struct Bounds {
-    meaning: Meaning,
+    binding: Binding,
     from: Expression,
     to: Expression,
     step: Option<Expression>,
@@ -42,13 +45,13 @@ struct Bounds {
 
 /// Whether nothing takes room in a procedure of this linkage: it is EXTERNAL, or stands in one that is.
 fn takes_no_room(linkage: Linkage, scope: &Scope<'_>) -> bool
-    ensures { result ≡ (is_external_linkage linkage || is_external (levels_of scope.now)) }
+    ensures { result ≡ (is_external_linkage linkage || is_external (frames_of scope.now)) }
 {
     linkage == Linkage::External || scope.is_external()
 }
 
 /// The number of INTERRUPT.
-fn interrupt_number(number: Option<SyntaxNumber>) -> Option<u32>
+fn interrupt_number(number: Option<Numeral>) -> Option<u32>
     ensures { result ≡ option_map (λ m. m.value) (counted number) }
 {
     number.map(|number| number.value)
@@ -64,8 +67,8 @@ fn returned_type(scalar: Option<Scalar>) -> Option<ScalarType>
 impl Resolver {
     /// The path of a `DO;` block: that of its last label, or the number of an unnamed one.
     fn do_path(&mut self, scope: &Scope<'_>, labels: &[Name<'_>]) -> Result<Vec<u8>, AllocError>
-        ensures value { IfOk result (λ r. r.items ≡ (spec.block_path (levels_of scope.now) (spec.last_name (names_of labels.now)) (known_of self.old)).0) }
-        ensures known { OnOk result (known_of self.new ≡ (spec.block_path (levels_of scope.now) (spec.last_name (names_of labels.now)) (known_of self.old)).1) }
+        ensures value { IfOk result (λ r. r.items ≡ (spec.block_path (frames_of scope.now) (spec.last_name (names_of labels.now)) (known_of self.old)).0) }
+        ensures known { OnOk result (known_of self.new ≡ (spec.block_path (frames_of scope.now) (spec.last_name (names_of labels.now)) (known_of self.old)).1) }
     {
         match labels.last() {
             Some(label) => {
@@ -85,8 +88,8 @@ impl Resolver {
         scope: &Scope<'_>,
         references: &[plm_syntax::Reference<'_>],
     ) -> Result<Vec<Reference>, AllocError>
-        ensures value { IfOk result (λ r. view.references_of r.items ≡ (spec.targets_from (levels_of scope.now) resolved.no_references (map reference_of references.now) (known_of self.old)).0) }
-        ensures known { OnOk result (known_of self.new ≡ (spec.targets_from (levels_of scope.now) resolved.no_references (map reference_of references.now) (known_of self.old)).1) }
+        ensures value { IfOk result (λ r. view.references_of r.items ≡ (spec.targets_from (frames_of scope.now) resolved.no_references (map reference_of references.now) (known_of self.old)).0) }
+        ensures known { OnOk result (known_of self.new ≡ (spec.targets_from (frames_of scope.now) resolved.no_references (map reference_of references.now) (known_of self.old)).1) }
     {
         let mut resolved = Vec::new(self.alloc);
         for reference in references {
@@ -100,8 +103,8 @@ impl Resolver {
         scope: &Scope<'_>,
         step: &Option<plm_syntax::Expression<'_>>,
     ) -> Result<Option<Expression>, AllocError>
-        ensures value { IfOk result (λ r. view.step_of r ≡ (spec.step_for (levels_of scope.now) (tree.step_of step.now) (known_of self.old)).0) }
-        ensures known { OnOk result (known_of self.new ≡ (spec.step_for (levels_of scope.now) (tree.step_of step.now) (known_of self.old)).1) }
+        ensures value { IfOk result (λ r. view.step_of r ≡ (spec.step_for (frames_of scope.now) (tree.step_of step.now) (known_of self.old)).0) }
+        ensures known { OnOk result (known_of self.new ≡ (spec.step_for (frames_of scope.now) (tree.step_of step.now) (known_of self.old)).1) }
     {
         match step {
             Some(step) => Ok(Some(self.expression(step, scope)?)),
@@ -115,8 +118,8 @@ impl Resolver {
         statement: &plm_syntax::Statement<'_>,
         scope: &Scope<'_>,
     ) -> Result<Statement, AllocError>
-        ensures value { IfOk result (λ r. view.statement_of r ≡ (spec.statement (levels_of scope.now) (statement_of statement.now) (known_of self.old)).0) }
-        ensures known { OnOk result (known_of self.new ≡ (spec.statement (levels_of scope.now) (statement_of statement.now) (known_of self.old)).1) }
+        ensures value { IfOk result (λ r. view.statement_of r ≡ (spec.statement (frames_of scope.now) (statement_of statement.now) (known_of self.old)).0) }
+        ensures known { OnOk result (known_of self.new ≡ (spec.statement (frames_of scope.now) (statement_of statement.now) (known_of self.old)).1) }
     {
         Resolver::basic(&statement.basic, self, scope, &statement.labels)
     }
@@ -127,8 +130,8 @@ impl Resolver {
         statements: &[plm_syntax::Statement<'_>],
         scope: &Scope<'_>,
     ) -> Result<Vec<Statement>, AllocError>
-        ensures value { IfOk result (λ r. view.statements_of r.items ≡ (spec.statements (levels_of scope.now) (statements_of statements.now) (known_of self.old)).0) }
-        ensures known { OnOk result (known_of self.new ≡ (spec.statements (levels_of scope.now) (statements_of statements.now) (known_of self.old)).1) }
+        ensures value { IfOk result (λ r. view.statements_of r.items ≡ (spec.statements (frames_of scope.now) (statements_of statements.now) (known_of self.old)).0) }
+        ensures known { OnOk result (known_of self.new ≡ (spec.statements (frames_of scope.now) (statements_of statements.now) (known_of self.old)).1) }
     {
         let mut resolved = Vec::new(self.alloc);
         for statement in statements {
@@ -146,15 +149,15 @@ impl Resolver {
         step: &Option<plm_syntax::Expression<'_>>,
         scope: &Scope<'_>,
     ) -> Result<Bounds, AllocError>
-        ensures value { IfOk result (λ r. bounds_of r ≡ (bounds_for (levels_of scope.now) (name_of index.now) (tree.expression_of from.now) (tree.expression_of to.now) (tree.step_of step.now) (known_of self.old)).0) }
-        ensures known { OnOk result (known_of self.new ≡ (bounds_for (levels_of scope.now) (name_of index.now) (tree.expression_of from.now) (tree.expression_of to.now) (tree.step_of step.now) (known_of self.old)).1) }
+        ensures value { IfOk result (λ r. bounds_of r ≡ (bounds_for (frames_of scope.now) (name_of index.now) (tree.expression_of from.now) (tree.expression_of to.now) (tree.step_of step.now) (known_of self.old)).0) }
+        ensures known { OnOk result (known_of self.new ≡ (bounds_for (frames_of scope.now) (name_of index.now) (tree.expression_of from.now) (tree.expression_of to.now) (tree.step_of step.now) (known_of self.old)).1) }
     {
-        let meaning = self.used(scope, index)?;
+        let binding = self.used(scope, index)?;
         let from = self.expression(from, scope)?;
         let to = self.expression(to, scope)?;
         let step = self.step(scope, step)?;
         Ok(Bounds {
-            meaning,
+            binding,
             from,
             to,
             step,
@@ -169,8 +172,8 @@ impl Resolver {
         value: &plm_syntax::Expression<'_>,
         scope: &Scope<'_>,
     ) -> Result<Statement, AllocError>
-        ensures value { IfOk result (λ r. view.statement_of r ≡ (spec.basic (levels_of scope.now) None (AssignS (tree.references_from targets.now no_references) (tree.expression_of value.now)) (known_of self.old)).0) }
-        ensures known { OnOk result (known_of self.new ≡ (spec.basic (levels_of scope.now) None (AssignS (tree.references_from targets.now no_references) (tree.expression_of value.now)) (known_of self.old)).1) }
+        ensures value { IfOk result (λ r. view.statement_of r ≡ (spec.basic (frames_of scope.now) None (AssignS (tree.references_from targets.now no_references) (tree.expression_of value.now)) (known_of self.old)).0) }
+        ensures known { OnOk result (known_of self.new ≡ (spec.basic (frames_of scope.now) None (AssignS (tree.references_from targets.now no_references) (tree.expression_of value.now)) (known_of self.old)).1) }
     {
         let targets = self.references(scope, targets)?;
         Ok(Statement::Assign(targets, self.expression(value, scope)?))
@@ -180,11 +183,11 @@ impl Resolver {
     fn call(
         &mut self,
         procedure: &plm_syntax::Reference<'_>,
-        place: Place,
+        place: Position,
         scope: &Scope<'_>,
     ) -> Result<Statement, AllocError>
-        ensures value { IfOk result (λ r. view.statement_of r ≡ (spec.basic (levels_of scope.now) None (CallS place (reference_of procedure.now)) (known_of self.old)).0) }
-        ensures known { OnOk result (known_of self.new ≡ (spec.basic (levels_of scope.now) None (CallS place (reference_of procedure.now)) (known_of self.old)).1) }
+        ensures value { IfOk result (λ r. view.statement_of r ≡ (spec.basic (frames_of scope.now) None (CallS place (reference_of procedure.now)) (known_of self.old)).0) }
+        ensures known { OnOk result (known_of self.new ≡ (spec.basic (frames_of scope.now) None (CallS place (reference_of procedure.now)) (known_of self.old)).1) }
     {
         Ok(Statement::Call(place, self.reference(procedure, scope)?))
     }
@@ -193,11 +196,11 @@ impl Resolver {
     fn return_value(
         &mut self,
         value: &plm_syntax::Expression<'_>,
-        place: Place,
+        place: Position,
         scope: &Scope<'_>,
     ) -> Result<Statement, AllocError>
-        ensures value { IfOk result (λ r. view.statement_of r ≡ (spec.basic (levels_of scope.now) None (ReturnValueS place (tree.expression_of value.now)) (known_of self.old)).0) }
-        ensures known { OnOk result (known_of self.new ≡ (spec.basic (levels_of scope.now) None (ReturnValueS place (tree.expression_of value.now)) (known_of self.old)).1) }
+        ensures value { IfOk result (λ r. view.statement_of r ≡ (spec.basic (frames_of scope.now) None (ReturnValueS place (tree.expression_of value.now)) (known_of self.old)).0) }
+        ensures known { OnOk result (known_of self.new ≡ (spec.basic (frames_of scope.now) None (ReturnValueS place (tree.expression_of value.now)) (known_of self.old)).1) }
     {
         Ok(Statement::ReturnValue(place, self.expression(value, scope)?))
     }
@@ -208,41 +211,41 @@ impl Resolver {
         statement: &plm_syntax::Statement<'_>,
         scope: &Scope<'_>,
     ) -> Result<Box<Statement>, AllocError>
-        ensures value { IfOk result (λ r. view.statement_of r.value ≡ (spec.statement (levels_of scope.now) (statement_of statement.now) (known_of self.old)).0) }
-        ensures known { OnOk result (known_of self.new ≡ (spec.statement (levels_of scope.now) (statement_of statement.now) (known_of self.old)).1) }
+        ensures value { IfOk result (λ r. view.statement_of r.value ≡ (spec.statement (frames_of scope.now) (statement_of statement.now) (known_of self.old)).0) }
+        ensures known { OnOk result (known_of self.new ≡ (spec.statement (frames_of scope.now) (statement_of statement.now) (known_of self.old)).1) }
     {
         let statement = self.statement(statement, scope)?;
         Ok(Box::new(self.alloc, statement)?)
     }
 
-    /// What stands behind IF, where there is no ELSE.
+    /// What stands after IF, where there is no ELSE.
     #[cycle(statement)]
     fn conditional(
         &mut self,
         body: &plm_syntax::Statement<'_>,
         test: &plm_syntax::Expression<'_>,
-        place: Place,
+        place: Position,
         scope: &Scope<'_>,
     ) -> Result<Statement, AllocError>
-        ensures value { IfOk result (λ r. view.statement_of r ≡ (spec.basic (levels_of scope.now) None (IfS place (tree.expression_of test.now) (statement_of body.now)) (known_of self.old)).0) }
-        ensures known { OnOk result (known_of self.new ≡ (spec.basic (levels_of scope.now) None (IfS place (tree.expression_of test.now) (statement_of body.now)) (known_of self.old)).1) }
+        ensures value { IfOk result (λ r. view.statement_of r ≡ (spec.basic (frames_of scope.now) None (IfS place (tree.expression_of test.now) (statement_of body.now)) (known_of self.old)).0) }
+        ensures known { OnOk result (known_of self.new ≡ (spec.basic (frames_of scope.now) None (IfS place (tree.expression_of test.now) (statement_of body.now)) (known_of self.old)).1) }
     {
         let test = self.expression(test, scope)?;
         Ok(Statement::If(place, test, self.boxed_statement(body, scope)?))
     }
 
-    /// What stands behind ELSE, where this test and this statement stand before it.
+    /// What stands after ELSE, where this test and this statement stand before it.
     #[cycle(statement)]
     fn alternative(
         &mut self,
         other: &plm_syntax::Statement<'_>,
         test: Expression,
         body: Box<Statement>,
-        place: Place,
+        place: Position,
         scope: &Scope<'_>,
     ) -> Result<Statement, AllocError>
-        ensures value { IfOk result (λ r. view.statement_of r ≡ resolved.IfElseR place (view.expression_of test) (view.statement_of body.value) (spec.statement (levels_of scope.now) (statement_of other.now) (known_of self.old)).0) }
-        ensures known { OnOk result (known_of self.new ≡ (spec.statement (levels_of scope.now) (statement_of other.now) (known_of self.old)).1) }
+        ensures value { IfOk result (λ r. view.statement_of r ≡ resolved.IfElseR place (view.expression_of test) (view.statement_of body.value) (spec.statement (frames_of scope.now) (statement_of other.now) (known_of self.old)).0) }
+        ensures known { OnOk result (known_of self.new ≡ (spec.statement (frames_of scope.now) (statement_of other.now) (known_of self.old)).1) }
     {
         let other = self.boxed_statement(other, scope)?;
         Ok(Statement::IfElse(place, test, body, other))
@@ -253,12 +256,12 @@ impl Resolver {
     fn do_block(
         &mut self,
         block: &Block<'_>,
-        place: Place,
+        place: Position,
         scope: &Scope<'_>,
         labels: &[Name<'_>],
     ) -> Result<Statement, AllocError>
-        ensures value { IfOk result (λ r. view.statement_of r ≡ (spec.basic (levels_of scope.now) (spec.last_name (names_of labels.now)) (DoS place (block_of block.now) None) (known_of self.old)).0) }
-        ensures known { OnOk result (known_of self.new ≡ (spec.basic (levels_of scope.now) (spec.last_name (names_of labels.now)) (DoS place (block_of block.now) None) (known_of self.old)).1) }
+        ensures value { IfOk result (λ r. view.statement_of r ≡ (spec.basic (frames_of scope.now) (spec.last_name (names_of labels.now)) (DoS place (block_of block.now) None) (known_of self.old)).0) }
+        ensures known { OnOk result (known_of self.new ≡ (spec.basic (frames_of scope.now) (spec.last_name (names_of labels.now)) (DoS place (block_of block.now) None) (known_of self.old)).1) }
     {
         let path = self.do_path(scope, labels)?;
         let mut inside = Scope::inside(self.alloc, scope, path, scope.is_external());
@@ -272,11 +275,11 @@ impl Resolver {
         &mut self,
         body: &[plm_syntax::Statement<'_>],
         test: &plm_syntax::Expression<'_>,
-        place: Place,
+        place: Position,
         scope: &Scope<'_>,
     ) -> Result<Statement, AllocError>
-        ensures value { IfOk result (λ r. view.statement_of r ≡ (spec.basic (levels_of scope.now) None (WhileS place (tree.expression_of test.now) (statements_of body.now) None) (known_of self.old)).0) }
-        ensures known { OnOk result (known_of self.new ≡ (spec.basic (levels_of scope.now) None (WhileS place (tree.expression_of test.now) (statements_of body.now) None) (known_of self.old)).1) }
+        ensures value { IfOk result (λ r. view.statement_of r ≡ (spec.basic (frames_of scope.now) None (WhileS place (tree.expression_of test.now) (statements_of body.now) None) (known_of self.old)).0) }
+        ensures known { OnOk result (known_of self.new ≡ (spec.basic (frames_of scope.now) None (WhileS place (tree.expression_of test.now) (statements_of body.now) None) (known_of self.old)).1) }
     {
         let test = self.expression(test, scope)?;
         Ok(Statement::While(place, test, self.statements(body, scope)?))
@@ -289,11 +292,11 @@ impl Resolver {
         &mut self,
         cases: &[plm_syntax::Statement<'_>],
         selector: &plm_syntax::Expression<'_>,
-        place: Place,
+        place: Position,
         scope: &Scope<'_>,
     ) -> Result<Statement, AllocError>
-        ensures value { IfOk result (λ r. view.statement_of r ≡ (spec.basic (levels_of scope.now) None (CaseS place (tree.expression_of selector.now) (statements_of cases.now) None) (known_of self.old)).0) }
-        ensures known { OnOk result (known_of self.new ≡ (spec.basic (levels_of scope.now) None (CaseS place (tree.expression_of selector.now) (statements_of cases.now) None) (known_of self.old)).1) }
+        ensures value { IfOk result (λ r. view.statement_of r ≡ (spec.basic (frames_of scope.now) None (CaseS place (tree.expression_of selector.now) (statements_of cases.now) None) (known_of self.old)).0) }
+        ensures known { OnOk result (known_of self.new ≡ (spec.basic (frames_of scope.now) None (CaseS place (tree.expression_of selector.now) (statements_of cases.now) None) (known_of self.old)).1) }
     {
         let selector = self.expression(selector, scope)?;
         Ok(Statement::Case(place, selector, self.statements(cases, scope)?))
@@ -305,21 +308,21 @@ impl Resolver {
         &mut self,
         body: &[plm_syntax::Statement<'_>],
         bounds: Bounds,
-        place: Place,
-        index: Place,
+        place: Position,
+        index: Position,
         scope: &Scope<'_>,
     ) -> Result<Statement, AllocError>
-        ensures value { IfOk result (λ r. view.statement_of r ≡ iterated place index (bounds_of bounds) (spec.statements (levels_of scope.now) (statements_of body.now) (known_of self.old)).0) }
-        ensures known { OnOk result (known_of self.new ≡ (spec.statements (levels_of scope.now) (statements_of body.now) (known_of self.old)).1) }
+        ensures value { IfOk result (λ r. view.statement_of r ≡ iterated place index (bounds_of bounds) (spec.statements (frames_of scope.now) (statements_of body.now) (known_of self.old)).0) }
+        ensures known { OnOk result (known_of self.new ≡ (spec.statements (frames_of scope.now) (statements_of body.now) (known_of self.old)).1) }
     {
         let body = self.statements(body, scope)?;
         let Bounds {
-            meaning,
+            binding,
             from,
             to,
             step,
         } = bounds;
-        Ok(Statement::Iterate(place, index, meaning, from, to, step, body))
+        Ok(Statement::Iterate(place, index, binding, from, to, step, body))
     }
 
     // The tree stands before the resolver, where a check finds its parts at once.
@@ -330,8 +333,8 @@ impl Resolver {
         scope: &Scope<'_>,
         labels: &[Name<'_>],
     ) -> Result<Statement, AllocError>
-        ensures value { IfOk result (λ r. view.statement_of r ≡ (spec.basic (levels_of scope.now) (spec.last_name (names_of labels.now)) (basic_of basic.now) (known_of resolver.old)).0) }
-        ensures known { OnOk result (known_of resolver.new ≡ (spec.basic (levels_of scope.now) (spec.last_name (names_of labels.now)) (basic_of basic.now) (known_of resolver.old)).1) }
+        ensures value { IfOk result (λ r. view.statement_of r ≡ (spec.basic (frames_of scope.now) (spec.last_name (names_of labels.now)) (basic_of basic.now) (known_of resolver.old)).0) }
+        ensures known { OnOk result (known_of resolver.new ≡ (spec.basic (frames_of scope.now) (spec.last_name (names_of labels.now)) (basic_of basic.now) (known_of resolver.old)).1) }
     {
         match basic {
             Basic::Empty(place) => Ok(Statement::Empty(*place)),
@@ -363,8 +366,8 @@ impl Resolver {
     /// The items of a block.
     #[cycle(statement)]
     fn items(&mut self, items: &[SyntaxItem<'_>], scope: &mut Scope<'_>) -> Result<(), AllocError>
-        ensures names { OnOk result (levels_of scope.new ≡ (spec.with_items (levels_of scope.old) (items_of items.now) (known_of self.old)).0) }
-        ensures known { OnOk result (known_of self.new ≡ (spec.with_items (levels_of scope.old) (items_of items.now) (known_of self.old)).1) }
+        ensures names { OnOk result (frames_of scope.new ≡ (spec.with_items (frames_of scope.old) (items_of items.now) (known_of self.old)).0) }
+        ensures known { OnOk result (known_of self.new ≡ (spec.with_items (frames_of scope.old) (items_of items.now) (known_of self.old)).1) }
     {
         for item in items {
             self.item(item, scope)?;
@@ -379,9 +382,9 @@ impl Resolver {
         resolver: &mut Resolver,
         scope: &mut Scope<'_>,
     ) -> Result<Vec<Statement>, AllocError>
-        ensures value { IfOk result (λ r. view.statements_of r.items ≡ (spec.block (levels_of scope.old) (block_of block.now) (known_of resolver.old)).0) }
-        ensures names { OnOk result (levels_of scope.new ≡ (spec.block (levels_of scope.old) (block_of block.now) (known_of resolver.old)).1) }
-        ensures known { OnOk result (known_of resolver.new ≡ (spec.block (levels_of scope.old) (block_of block.now) (known_of resolver.old)).2) }
+        ensures value { IfOk result (λ r. view.statements_of r.items ≡ (spec.block (frames_of scope.old) (block_of block.now) (known_of resolver.old)).0) }
+        ensures names { OnOk result (frames_of scope.new ≡ (spec.block (frames_of scope.old) (block_of block.now) (known_of resolver.old)).1) }
+        ensures known { OnOk result (known_of resolver.new ≡ (spec.block (frames_of scope.old) (block_of block.now) (known_of resolver.old)).2) }
     {
         let Block { items, statements } = block;
         resolver.items(items, scope)?;
@@ -392,8 +395,8 @@ impl Resolver {
     #[cycle(statement)]
     #[tactic(auto, using(crate::proofs::ListViews::element_list_from))]
     fn item(&mut self, item: &SyntaxItem<'_>, scope: &mut Scope<'_>) -> Result<(), AllocError>
-        ensures names { OnOk result (levels_of scope.new ≡ (spec.with_item (levels_of scope.old) (item_of item.now) (known_of self.old)).0) }
-        ensures known { OnOk result (known_of self.new ≡ (spec.with_item (levels_of scope.old) (item_of item.now) (known_of self.old)).1) }
+        ensures names { OnOk result (frames_of scope.new ≡ (spec.with_item (frames_of scope.old) (item_of item.now) (known_of self.old)).0) }
+        ensures known { OnOk result (known_of self.new ≡ (spec.with_item (frames_of scope.old) (item_of item.now) (known_of self.old)).1) }
     {
         match item {
             SyntaxItem::Declare(_, elements) => self.elements(scope, elements),
@@ -406,8 +409,8 @@ impl Resolver {
         scope: &mut Scope<'_>,
         elements: &[Element<'_>],
     ) -> Result<(), AllocError>
-        ensures names { OnOk result (levels_of scope.new ≡ (spec.with_elements (map element_of elements.now) (levels_of scope.old) (known_of self.old)).0) }
-        ensures known { OnOk result (known_of self.new ≡ (spec.with_elements (map element_of elements.now) (levels_of scope.old) (known_of self.old)).1) }
+        ensures names { OnOk result (frames_of scope.new ≡ (spec.with_elements (map element_of elements.now) (frames_of scope.old) (known_of self.old)).0) }
+        ensures known { OnOk result (known_of self.new ≡ (spec.with_elements (map element_of elements.now) (frames_of scope.old) (known_of self.old)).1) }
     {
         for element in elements {
             self.element(scope, element)?;
@@ -430,7 +433,7 @@ impl Resolver {
     /// Notes that another procedure handles the interrupt of this one.
     fn note_handler(
         &mut self,
-        place: Place,
+        place: Position,
         linkage: Linkage,
         interrupt: Option<u32>,
     ) -> Result<(), AllocError>
@@ -451,7 +454,7 @@ impl Resolver {
 
     /// The path of a name that stands in a block.
     fn path_of(&self, scope: &Scope<'_>, name: &Name<'_>) -> Result<Vec<u8>, AllocError>
-        ensures { IfOk result (λ p. p.items ≡ name_behind (path_in (levels_of scope.now)) (normal (name_of name.now).text)) }
+        ensures { IfOk result (λ p. p.items ≡ name_after (path_in (frames_of scope.now)) (normal (name_of name.now).text)) }
     {
         let key = normal(self.alloc, name.text)?;
         name_path(self.alloc, scope.path(), &key)
@@ -498,8 +501,8 @@ impl Resolver {
         procedure: &SyntaxProcedure<'_>,
     ) -> Result<usize, AllocError>
         ensures number { IfOk result (λ n. n ≡ length (known_of self.old).procedures) }
-        ensures names { OnOk result (levels_of scope.new ≡ (procedure_declared (levels_of scope.old) procedure.now (known_of self.old)).0) }
-        ensures known { OnOk result (known_of self.new ≡ (procedure_declared (levels_of scope.old) procedure.now (known_of self.old)).1) }
+        ensures names { OnOk result (frames_of scope.new ≡ (procedure_declared (frames_of scope.old) procedure.now (known_of self.old)).0) }
+        ensures known { OnOk result (known_of self.new ≡ (procedure_declared (frames_of scope.old) procedure.now (known_of self.old)).1) }
     {
         let SyntaxProcedure { name, linkage, .. } = procedure;
         let path = self.path_of(scope, name)?;
@@ -515,8 +518,8 @@ impl Resolver {
         inside: &Scope<'_>,
         names: &[Name<'_>],
     ) -> Result<Vec<usize>, AllocError>
-        ensures value { IfOk result (λ r. r.items ≡ (spec.parameters_from (levels_of inside.now) [] [] (map name_of names.now) (known_of self.old)).0) }
-        ensures known { OnOk result (known_of self.new ≡ (spec.parameters_from (levels_of inside.now) [] [] (map name_of names.now) (known_of self.old)).1) }
+        ensures value { IfOk result (λ r. r.items ≡ (spec.parameters_from (frames_of inside.now) [] [] (map name_of names.now) (known_of self.old)).0) }
+        ensures known { OnOk result (known_of self.new ≡ (spec.parameters_from (frames_of inside.now) [] [] (map name_of names.now) (known_of self.old)).1) }
     {
         let mut listed = Table::new(self.alloc);
         let mut parameters = Vec::new(self.alloc);
@@ -535,8 +538,8 @@ impl Resolver {
         parameters: &mut Vec<usize>,
     ) -> Result<(), AllocError>
         ensures listed { OnOk result (entries_of listed.new ≡ spec.with_parameter (name_of name.now) (entries_of listed.old)) }
-        ensures parameters { OnOk result (parameters.new.items ≡ (spec.parameter_for (levels_of inside.now) (entries_of listed.old) parameters.old.items (name_of name.now) (known_of self.old)).0) }
-        ensures known { OnOk result (known_of self.new ≡ (spec.parameter_for (levels_of inside.now) (entries_of listed.old) parameters.old.items (name_of name.now) (known_of self.old)).1) }
+        ensures parameters { OnOk result (parameters.new.items ≡ (spec.parameter_for (frames_of inside.now) (entries_of listed.old) parameters.old.items (name_of name.now) (known_of self.old)).0) }
+        ensures known { OnOk result (known_of self.new ≡ (spec.parameter_for (frames_of inside.now) (entries_of listed.old) parameters.old.items (name_of name.now) (known_of self.old)).1) }
     {
         let key = normal(self.alloc, name.text)?;
         let declared = inside.here(&key);
@@ -547,8 +550,33 @@ impl Resolver {
                 parameters.push(variable)?;
                 Ok(())
             }
-            _ => self.note(Number::E301, name.place),
+            Some(Item::Procedure(procedure)) => {
+                parameters.push(self.variables.len())?;
+                self.put_in_place_of(procedure, name.place)
+            }
+            None => self.note(Number::E301, name.place),
         }
+    }
+
+    /// Keeps a variable in place of a parameter that is declared as a procedure: an array, which is a fault of types at the
+    /// procedure's name, as a parameter has to be a scalar.
+    fn put_in_place_of(&mut self, procedure: usize, place: Position) -> Result<(), AllocError>
+        ensures { OnOk result (known_of self.new ≡ with_variable (spec.in_place_of (slice_get (known_of self.old).procedures procedure) place (known_of self.old)) (known_of self.old)) }
+    {
+        let place = match self.procedures.get(procedure) {
+            Some(procedure) => procedure.place,
+            None => place,
+        };
+        self.variables.push(Variable {
+            module: self.module,
+            place,
+            form: Form::Scalar(ScalarType::Byte),
+            dimension: Some(1),
+            stride: 1,
+            region: Region::Nowhere,
+            is_data: false,
+        })?;
+        Ok(())
     }
 
     /// Gives a procedure its parameters and its body.
@@ -569,7 +597,7 @@ impl Resolver {
         names: &[Name<'_>],
         body: Vec<Statement>,
     ) -> Result<(), AllocError>
-        ensures { OnOk result (known_of self.new ≡ finished number (levels_of inside.now) (map name_of names.now) (view.statements_of body.items) (known_of self.old)) }
+        ensures { OnOk result (known_of self.new ≡ finished number (frames_of inside.now) (map name_of names.now) (view.statements_of body.items) (known_of self.old)) }
     {
         let parameters = self.parameters(inside, names)?;
         self.complete(number, parameters, body);
@@ -582,8 +610,8 @@ impl Resolver {
         procedure: &SyntaxProcedure<'_>,
         scope: &mut Scope<'_>,
     ) -> Result<(), AllocError>
-        ensures names { OnOk result (levels_of scope.new ≡ (spec.with_item (levels_of scope.old) (procedure_of procedure.now) (known_of self.old)).0) }
-        ensures known { OnOk result (known_of self.new ≡ (spec.with_item (levels_of scope.old) (procedure_of procedure.now) (known_of self.old)).1) }
+        ensures names { OnOk result (frames_of scope.new ≡ (spec.with_item (frames_of scope.old) (procedure_of procedure.now) (known_of self.old)).0) }
+        ensures known { OnOk result (known_of self.new ≡ (spec.with_item (frames_of scope.old) (procedure_of procedure.now) (known_of self.old)).1) }
     {
         let SyntaxProcedure {
             name,

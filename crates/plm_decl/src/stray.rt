@@ -2,11 +2,11 @@
 
 ghost use Rattle.std.specs.Prelude.{◌≡◌, map};
 ghost use Rattle.plm_syntax.specs.View.{name_of, variable_of, element_of, item_of, statement_of, block_of};
-ghost use Rattle.plm_decl.specs.Strays as spec;
-ghost use Rattle.plm_decl.specs.StatementsView.{stray_for};
+ghost use Rattle.plm_decl.specs.Stray as spec;
+ghost use Rattle.plm_decl.specs.Inner.Statements.{stray_for};
 
 use plm_syntax::{
-    Basic, Block, Declared, Element, Item, Linkage, Name, Place, Procedure, Statement, Variable,
+    Basic, Block, Declared, Element, Item, Linkage, Name, Position, Procedure, Statement, Variable,
 };
 use plm_token::same_name;
 
@@ -23,7 +23,7 @@ fn is_among(name: &Name<'_>, names: &[Name<'_>]) -> bool
 }
 
 /// The first variable that is no parameter.
-fn stray_variable(variables: &[Variable<'_>], parameters: &[Name<'_>]) -> Option<Place>
+fn stray_variable(variables: &[Variable<'_>], parameters: &[Name<'_>]) -> Option<Position>
     ensures { result ≡ spec.stray_variable (map name_of parameters.now) (map variable_of variables.now) }
 {
     for variable in variables {
@@ -36,7 +36,7 @@ fn stray_variable(variables: &[Variable<'_>], parameters: &[Name<'_>]) -> Option
 
 /// The first name of an element that is no parameter.
 #[tactic(auto, using(crate::proofs::ListViews::variable_list_from))]
-fn stray_name(element: &Element<'_>, parameters: &[Name<'_>]) -> Option<Place>
+fn stray_name(element: &Element<'_>, parameters: &[Name<'_>]) -> Option<Position>
     ensures { result ≡ spec.stray_name (map name_of parameters.now) (element_of element.now) }
 {
     match element {
@@ -52,7 +52,7 @@ fn stray_name(element: &Element<'_>, parameters: &[Name<'_>]) -> Option<Place>
     }
 }
 
-fn stray_element(elements: &[Element<'_>], parameters: &[Name<'_>]) -> Option<Place>
+fn stray_element(elements: &[Element<'_>], parameters: &[Name<'_>]) -> Option<Position>
     ensures { result ≡ spec.stray_element (map name_of parameters.now) (map element_of elements.now) }
 {
     for element in elements {
@@ -64,7 +64,7 @@ fn stray_element(elements: &[Element<'_>], parameters: &[Name<'_>]) -> Option<Pl
 }
 
 #[tactic(auto, using(crate::proofs::ListViews::element_list_from))]
-fn stray_item(item: &Item<'_>, parameters: &[Name<'_>]) -> Option<Place>
+fn stray_item(item: &Item<'_>, parameters: &[Name<'_>]) -> Option<Position>
     ensures { result ≡ spec.stray_item (map name_of parameters.now) (item_of item.now) }
 {
     match item {
@@ -73,7 +73,7 @@ fn stray_item(item: &Item<'_>, parameters: &[Name<'_>]) -> Option<Place>
     }
 }
 
-fn stray_items(items: &[Item<'_>], parameters: &[Name<'_>]) -> Option<Place>
+fn stray_items(items: &[Item<'_>], parameters: &[Name<'_>]) -> Option<Position>
     ensures { result ≡ spec.stray_items (map name_of parameters.now) (map item_of items.now) }
 {
     for item in items {
@@ -84,9 +84,9 @@ fn stray_items(items: &[Item<'_>], parameters: &[Name<'_>]) -> Option<Place>
     None
 }
 
-/// Where a statement begins behind its labels.
+/// Where a statement begins after its labels.
 #[tactic(auto, using(crate::proofs::ListViews::reference_list_from))]
-fn place_of(statement: &Statement<'_>) -> Option<Place>
+fn place_of(statement: &Statement<'_>) -> Option<Position>
     ensures { result ≡ spec.place_of_statement (statement_of statement.now) }
 {
     match &statement.basic {
@@ -107,8 +107,8 @@ fn place_of(statement: &Statement<'_>) -> Option<Place>
     }
 }
 
-/// Where the first statement begins behind its labels.
-fn first_place(statements: &[Statement<'_>]) -> Option<Place>
+/// Where the first statement begins after its labels.
+fn first_place(statements: &[Statement<'_>]) -> Option<Position>
     ensures { result ≡ spec.first_statement (map statement_of statements.now) }
 {
     place_of(statements.first()?)
@@ -116,7 +116,7 @@ fn first_place(statements: &[Statement<'_>]) -> Option<Place>
 
 /// What stands first in a block besides the declarations of these parameters.
 #[tactic(auto, using(crate::proofs::TreeViews::stray_in_parts))]
-fn stray_in(block: &Block<'_>, parameters: &[Name<'_>]) -> Option<Place>
+fn stray_in(block: &Block<'_>, parameters: &[Name<'_>]) -> Option<Position>
     ensures { result ≡ spec.stray_in (map name_of parameters.now) (block_of block.now) }
 {
     let Block { items, statements } = block;
@@ -128,7 +128,7 @@ fn stray_in(block: &Block<'_>, parameters: &[Name<'_>]) -> Option<Place>
 
 /// What stands first in an EXTERNAL procedure besides the declarations of its parameters.
 #[tactic(auto, using(crate::proofs::TreeViews::stray_for_parts))]
-pub fn first_stray(procedure: &Procedure<'_>) -> Option<Place>
+pub fn first_stray(procedure: &Procedure<'_>) -> Option<Position>
     ensures { result ≡ stray_for procedure.now }
 {
     if procedure.linkage == Linkage::External {

@@ -1,7 +1,8 @@
 //! Declared names and what they stand for.
 
 ghost use Rattle.std.specs.Prelude.{◌≡◌, [], not, is_some, IfOk, OnOk};
-ghost use Rattle.plm_decl.specs.Scopes.{entries_of, found_in, with_entry};
+ghost use Rattle.plm_decl.specs.Inner.Scope.{entries_of};
+ghost use Rattle.plm_decl.specs.Scope.{found_in, with_entry};
 
 use crate::names::Item;
 use indexmap::IndexMap;
@@ -29,7 +30,7 @@ impl Table {
         self.names.get(name).copied()
     }
 
-    /// Puts a name behind the others. False: it is there, and keeps what it stands for.
+    /// Puts a name after the others. False: it is there, and keeps what it stands for.
     pub fn add(&mut self, name: Vec<u8>, item: Item) -> Result<bool, AllocError>
         ensures fresh { IfOk result (λ fresh. fresh ≡ not (is_some (found_in name.items (entries_of self.old)))) }
         ensures entries { OnOk result (entries_of self.new ≡ with_entry name.items item (entries_of self.old)) }

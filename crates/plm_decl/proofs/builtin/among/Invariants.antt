@@ -1,5 +1,5 @@
 use Rattle.std.proofs.Common.{◌≡◌, drop, bytes_eq, find}
-use Rattle.plm_decl.specs.Builtins.{spelling}
+use Rattle.plm_decl.specs.Builtin.{spelling}
 use Rattle.plm_decl.proofs.builtin.among.Given as goal
 
 abbrev pub invariant-loop-builtin : goal.invariant-loop-builtin

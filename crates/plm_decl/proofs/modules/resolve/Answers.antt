@@ -3,10 +3,12 @@ use Rattle.std.proofs.lemmas.List.{at_drop_all}
 use Rattle.std.proofs.lemmas.Result.{IfOk-weaker, IfErr-weaker}
 use Rattle.plm_syntax.specs.declared.tree.Module.{Module}
 use Rattle.plm_syntax.specs.View.{module_of}
-use Rattle.plm_decl.specs.Known.{Known, known_of}
+use Rattle.plm_decl.specs.Resolver.{Known}
+use Rattle.plm_decl.specs.Inner.Resolver.{known_of}
 use Rattle.plm_decl.specs.Joins.{known_from, modules_from}
-use Rattle.plm_decl.specs.Answers.{AreAnswered, IsRefused}
-use Rattle.plm_decl.specs.Ranges.{Within, counts_of}
+use Rattle.plm_decl.specs.Modules.{AreAnswered}
+use Rattle.plm_decl.specs.Inner.Modules.{IsRefused}
+use Rattle.plm_decl.specs.Inner.Ranges.{Within, counts_of}
 use Rattle.plm_decl.proofs.RangesJoins.{known_within}
 use Rattle.plm_decl.proofs.modules.resolve.Goals as goal
 

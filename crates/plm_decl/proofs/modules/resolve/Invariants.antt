@@ -1,6 +1,7 @@
 use Rattle.std.proofs.Common.{◌≡◌, map, drop}
 use Rattle.plm_syntax.specs.View.{module_of}
-use Rattle.plm_decl.specs.Known.{known_of, nothing_known}
+use Rattle.plm_decl.specs.Inner.Resolver.{known_of}
+use Rattle.plm_decl.specs.Resolver.{nothing_known}
 use Rattle.plm_decl.specs.Joins.{modules_from}
 use Rattle.plm_decl.proofs.modules.resolve.Given as goal
 

@@ -3,7 +3,7 @@ use Rattle.std.specs.Prelude.{slice_get}
 use Rattle.plm_syntax.specs.declared.tree.Statement.{Statement}
 use Rattle.plm_syntax.specs.View.{statement_of}
 use Rattle.plm_decl.specs.Lists.{bind}
-use Rattle.plm_decl.specs.Strays.{place_of_statement, first_statement}
+use Rattle.plm_decl.specs.Stray.{place_of_statement, first_statement}
 use Rattle.plm_decl.proofs.stray.first_place.Goals as goal
 
 first_is : (ss : List Statement) → bind (slice_get ss 0) (λ s. place_of_statement (statement_of s)) ≡ first_statement (map statement_of ss)

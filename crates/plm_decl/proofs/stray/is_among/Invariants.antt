@@ -1,6 +1,6 @@
 use Rattle.std.proofs.Common.{◌≡◌, map, drop}
 use Rattle.plm_syntax.specs.View.{name_of}
-use Rattle.plm_decl.specs.Strays.{is_parameter}
+use Rattle.plm_decl.specs.Stray.{is_parameter}
 use Rattle.plm_decl.proofs.stray.is_among.Given as goal
 
 abbrev pub invariant-loop-other : goal.invariant-loop-other

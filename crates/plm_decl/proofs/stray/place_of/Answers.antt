@@ -4,7 +4,7 @@ use Rattle.plm_syntax.specs.declared.tree.Reference.{Reference}
 use Rattle.plm_syntax.specs.declared.tree.Basic.{Basic}
 use Rattle.plm_syntax.specs.Tree.{no_references}
 use Rattle.plm_syntax.specs.View.{reference_of, basic_of}
-use Rattle.plm_decl.specs.Strays.{first_target, place_of_basic}
+use Rattle.plm_decl.specs.Stray.{first_target, place_of_basic}
 use Rattle.plm_decl.proofs.ListViews.{reference_list_from}
 use Rattle.plm_decl.proofs.stray.place_of.Goals as goal
 

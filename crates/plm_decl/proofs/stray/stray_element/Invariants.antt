@@ -1,6 +1,6 @@
 use Rattle.std.proofs.Common.{◌≡◌, map, drop}
 use Rattle.plm_syntax.specs.View.{name_of, element_of}
-use Rattle.plm_decl.specs.Strays.{stray_element}
+use Rattle.plm_decl.specs.Stray.{stray_element}
 use Rattle.plm_decl.proofs.stray.stray_element.Given as goal
 
 abbrev pub invariant-loop-element : goal.invariant-loop-element

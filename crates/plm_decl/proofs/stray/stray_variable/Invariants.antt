@@ -1,6 +1,6 @@
 use Rattle.std.proofs.Common.{◌≡◌, map, drop}
 use Rattle.plm_syntax.specs.View.{name_of, variable_of}
-use Rattle.plm_decl.specs.Strays.{stray_variable}
+use Rattle.plm_decl.specs.Stray.{stray_variable}
 use Rattle.plm_decl.proofs.stray.stray_variable.Given as goal
 
 abbrev pub invariant-loop-variable : goal.invariant-loop-variable

@@ -1,5 +1,5 @@
 use Rattle.std.proofs.Common.{◌≡◌, drop, map}
-use Rattle.plm_decl.specs.Layouts.{field_of, field_named}
+use Rattle.plm_decl.specs.Layout.{field_of, field_named}
 use Rattle.plm_decl.proofs.layout.Structure.member.Given as goal
 
 abbrev pub invariant-loop-field : goal.invariant-loop-field

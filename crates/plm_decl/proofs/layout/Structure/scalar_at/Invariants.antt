@@ -1,5 +1,5 @@
 use Rattle.std.proofs.Common.{◌≡◌, map, drop}
-use Rattle.plm_decl.specs.Layouts.{field_of, scalar_in}
+use Rattle.plm_decl.specs.Layout.{field_of, scalar_in}
 use Rattle.plm_decl.proofs.layout.Structure.scalar_at.Given as goal
 
 abbrev pub invariant-loop-field : goal.invariant-loop-field

@@ -1,5 +1,5 @@
 use Rattle.std.proofs.Common.{ℕ, map, sym, ◌∙◌, arith, below_more, true≢false}
-use Rattle.plm_decl.specs.Placed.{IsApart, HoldsByte}
+use Rattle.plm_decl.specs.Placement.{IsApart, HoldsByte}
 use Rattle.plm_decl.proofs.Apart.{refuses, grants, apart_from, apart_of}
 use Rattle.plm_decl.proofs.placement.Placement.is_apart.Goals as goal
 

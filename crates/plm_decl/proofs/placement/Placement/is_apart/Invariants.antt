@@ -1,5 +1,5 @@
 use Rattle.std.proofs.Common.{map}
-use Rattle.plm_decl.specs.Placed.{IsApart}
+use Rattle.plm_decl.specs.Placement.{IsApart}
 use Rattle.plm_decl.proofs.placement.Placement.is_apart.Given as goal
 
 abbrev pub invariant-loop-j : goal.invariant-loop-j

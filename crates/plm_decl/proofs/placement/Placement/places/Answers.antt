@@ -1,6 +1,6 @@
 use Rattle.std.proofs.Common.{◌<◌, map, length, sym, subst, ◌∙◌, arith, below_more, true≢false}
 use Rattle.std.proofs.lemmas.List.{length-map}
-use Rattle.plm_decl.specs.Placed.{IsApart, IsWithin, IsPlacement}
+use Rattle.plm_decl.specs.Placement.{IsApart, IsWithin, IsPlacement}
 use Rattle.plm_decl.proofs.Apart.{refuses, grants, within_from, within_of}
 use Rattle.plm_decl.proofs.placement.Placement.places.Goals as goal
 

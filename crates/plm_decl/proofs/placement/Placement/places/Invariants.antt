@@ -1,5 +1,5 @@
 use Rattle.std.proofs.Common.{map, ℕ, ◌<◌}
-use Rattle.plm_decl.specs.Placed.{IsApart, IsWithin}
+use Rattle.plm_decl.specs.Placement.{IsApart, IsWithin}
 use Rattle.plm_decl.proofs.placement.Placement.places.Given as goal
 
 abbrev pub invariant-loop-k : goal.invariant-loop-k

@@ -1,14 +1,14 @@
 use Rattle.std.proofs.Common.{◌≡◌, take}
 use Rattle.plm_syntax.specs.View.{statements_of, items_of}
-use Rattle.plm_decl.specs.Scopes.{levels_of}
-use Rattle.plm_decl.specs.Known.{known_of}
+use Rattle.plm_decl.specs.Inner.Scope.{frames_of}
+use Rattle.plm_decl.specs.Inner.Resolver.{known_of}
 use Rattle.plm_decl.specs.ResolvedView as view
 use Rattle.plm_decl.specs.Statements.{statements, with_items}
 use Rattle.plm_decl.proofs.resolver.Resolver.+statement.Given as goal
 
 abbrev pub invariant-statements-loop-statement : goal.invariant-statements-loop-statement
 invariant-statements-loop-statement l =
-    let done = statements (levels_of l.scope) (statements_of (take l.statement-index l.statements)) (known_of l.initial.self) in
+    let done = statements (frames_of l.scope) (statements_of (take l.statement-index l.statements)) (known_of l.initial.self) in
     record {
       value : view.statements_of l.resolved.items ≡ done.0;
       known : known_of l.self ≡ done.1;
@@ -16,8 +16,8 @@ invariant-statements-loop-statement l =
 
 abbrev pub invariant-items-loop-item : goal.invariant-items-loop-item
 invariant-items-loop-item l =
-    let done = with_items (levels_of l.initial.scope) (items_of (take l.item-index l.items)) (known_of l.initial.self) in
+    let done = with_items (frames_of l.initial.scope) (items_of (take l.item-index l.items)) (known_of l.initial.self) in
     record {
-      names : levels_of l.scope ≡ done.0;
+      names : frames_of l.scope ≡ done.0;
       known : known_of l.self ≡ done.1;
     }

@@ -2,9 +2,10 @@ use Rattle.std.proofs.Common.{◌≡◌, List, map, sym, ap, ◌∙◌}
 use Rattle.std.proofs.lemmas.List.{at_drop_all}
 use Rattle.plm_syntax.specs.declared.tree.Name.{Name}
 use Rattle.plm_syntax.specs.View.{name_of, member_of}
-use Rattle.plm_decl.specs.Layouts.{StructureR, structure_of, scalar_of}
-use Rattle.plm_decl.specs.Known.{Known, known_of}
-use Rattle.plm_decl.specs.Shapes.{with_member_names, with_members}
+use Rattle.plm_decl.specs.Layout.{StructureR, structure_of, scalar_of}
+use Rattle.plm_decl.specs.Resolver.{Known}
+use Rattle.plm_decl.specs.Inner.Resolver.{known_of}
+use Rattle.plm_decl.specs.Shape.{with_member_names, with_members}
 use Rattle.plm_decl.proofs.ListViews.{with_members_is}
 use Rattle.plm_decl.proofs.resolver.Resolver.add_members.Goals as goal
 

@@ -1,8 +1,8 @@
 use Rattle.std.proofs.Common.{◌≡◌, map, drop}
 use Rattle.plm_syntax.specs.View.{name_of}
-use Rattle.plm_decl.specs.Layouts.{structure_of, scalar_of}
-use Rattle.plm_decl.specs.Known.{known_of}
-use Rattle.plm_decl.specs.Shapes.{with_member_names}
+use Rattle.plm_decl.specs.Layout.{structure_of, scalar_of}
+use Rattle.plm_decl.specs.Inner.Resolver.{known_of}
+use Rattle.plm_decl.specs.Shape.{with_member_names}
 use Rattle.plm_decl.proofs.resolver.Resolver.add_members.Given as goal
 
 abbrev pub invariant-loop-name : goal.invariant-loop-name

@@ -1,7 +1,7 @@
 use Rattle.std.proofs.Common.{◌≡◌, map, drop}
 use Rattle.plm_syntax.specs.View.{value_of}
-use Rattle.plm_decl.specs.Known.{known_of}
-use Rattle.plm_decl.specs.Shapes.{all_scalars_filled}
+use Rattle.plm_decl.specs.Inner.Resolver.{known_of}
+use Rattle.plm_decl.specs.Shape.{all_scalars_filled}
 use Rattle.plm_decl.proofs.resolver.Resolver.elements_filled.Given as goal
 
 abbrev pub invariant-loop-value : goal.invariant-loop-value

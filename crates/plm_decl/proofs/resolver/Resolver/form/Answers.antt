@@ -4,9 +4,10 @@ use Rattle.plm_syntax.specs.declared.tree.Member.{Member}
 use Rattle.plm_syntax.specs.Tree.{MemberT, TypeT, no_members}
 use Rattle.plm_syntax.specs.View.{member_of, type_of}
 use Rattle.plm_decl.specs.declared.layout.Form.TheVariants as form
-use Rattle.plm_decl.specs.Layouts.{StructureR, structure_of, no_fields}
-use Rattle.plm_decl.specs.Known.{Known, known_of}
-use Rattle.plm_decl.specs.Shapes.{structure_for, with_structure, form_for}
+use Rattle.plm_decl.specs.Layout.{StructureR, structure_of, no_fields}
+use Rattle.plm_decl.specs.Resolver.{Known}
+use Rattle.plm_decl.specs.Inner.Resolver.{known_of}
+use Rattle.plm_decl.specs.Shape.{structure_for, with_structure, form_for}
 use Rattle.plm_decl.proofs.ListViews.{member_list_from}
 use Rattle.plm_decl.proofs.resolver.Resolver.form.Goals as goal
 

@@ -1,8 +1,9 @@
 use Rattle.std.proofs.Common.{◌<◌, refl, map, length, subst, sym, ap, ◌∙◌}
 use Rattle.std.proofs.Math.ListN.{set}
 use Rattle.std.proofs.lemmas.List.{map-set}
-use Rattle.plm_decl.specs.Known.{known_of, object_of}
-use Rattle.plm_decl.specs.Fills.{given_at}
+use Rattle.plm_decl.specs.Inner.Resolver.{known_of}
+use Rattle.plm_decl.specs.Names.{object_of}
+use Rattle.plm_decl.specs.Fill.{given_at}
 use Rattle.plm_decl.proofs.Updates.{seen_at}
 use Rattle.plm_decl.proofs.resolver.Resolver.give_object.Goals as goal
 

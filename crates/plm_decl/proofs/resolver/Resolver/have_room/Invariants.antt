@@ -1,5 +1,5 @@
 use Rattle.std.proofs.Common.{◌≡◌, map, drop}
-use Rattle.plm_decl.specs.Known.{object_of}
+use Rattle.plm_decl.specs.Names.{object_of}
 use Rattle.plm_decl.specs.Joins.{bytes_from}
 use Rattle.plm_decl.proofs.resolver.Resolver.have_room.Given as goal
 

@@ -4,10 +4,12 @@ use Rattle.plm_token.specs.Names.{normal}
 use Rattle.plm_syntax.specs.declared.tree.Basic.TheViews.{out-Procedure}
 use Rattle.plm_syntax.specs.View.{name_of}
 use Rattle.plm_decl.specs.declared.names.Item.TheVariants as item
-use Rattle.plm_decl.specs.Paths.{name_behind}
-use Rattle.plm_decl.specs.Scopes.{levels_of, path_in, is_fresh}
-use Rattle.plm_decl.specs.Known.{Known, known_of, note_unless}
-use Rattle.plm_decl.specs.StatementsView.{header_for}
+use Rattle.plm_decl.specs.Spelling.{name_after}
+use Rattle.plm_decl.specs.Inner.Scope.{frames_of}
+use Rattle.plm_decl.specs.Scope.{path_in, is_fresh}
+use Rattle.plm_decl.specs.Resolver.{Known, note_unless}
+use Rattle.plm_decl.specs.Inner.Resolver.{known_of}
+use Rattle.plm_decl.specs.Inner.Statements.{header_for}
 use Rattle.plm_decl.specs.Elements.{linked}
 use Rattle.plm_decl.specs.Statements.{declared_procedure, with_header}
 use Rattle.plm_decl.proofs.TreeViews.{name_for_parts, header_for_parts}
@@ -18,15 +20,15 @@ returns-clause-known c =
     let p = c.args.procedure.now in
     let o = out-Procedure p in
     let k = known_of c.args.self.now in
-    let levels = levels_of c.args.scope.now in
+    let frames = frames_of c.args.scope.now in
     let n = name_of o.name in
-    let path = name_behind (path_in levels) (normal n.text) in
+    let path = name_after (path_in frames) (normal n.text) in
     let did = c.in_ok-number.ensures in
-    let entered = λ (key : List ℕ) (number : ℕ) (q : Known). note_unless (is_fresh key levels) E302 n.place (linked levels o.linkage key (item.Procedure number) q) in
+    let entered = λ (key : List ℕ) (number : ℕ) (q : Known). note_unless (is_fresh key frames) E302 n.place (linked frames o.linkage key (item.Procedure number) q) in
     let headed : known_of c.put_procedure.new.resolver ≡ with_header (header_for path p k) k =
     did.known ∙ (λ j. with_header (header_for (c.in_ok-path.ensures j) p k) k) in
     c.in_ok-enter.ensures.known
     ∙ (λ j. entered (c.in_ok-key.ensures j) (did.number j) (headed j))
     ∙ (λ j. entered (normal n.text) (length k.procedures) (with_header (header_for_parts path p k j) k))
-    ∙ (λ j. (declared_procedure levels n (sym (header_for_parts path p k) j) k).1)
-    ∙ sym (λ j. (declared_procedure levels (name_for_parts p j) (header_for (name_behind (path_in levels) (normal (name_for_parts p j).text)) p k) k).1)
+    ∙ (λ j. (declared_procedure frames n (sym (header_for_parts path p k) j) k).1)
+    ∙ sym (λ j. (declared_procedure frames (name_for_parts p j) (header_for (name_after (path_in frames) (normal (name_for_parts p j).text)) p k) k).1)

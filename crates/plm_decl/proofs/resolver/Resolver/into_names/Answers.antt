@@ -1,11 +1,14 @@
 use Rattle.std.proofs.Common.{◌≡◌, map, length, refl, sym, ap, ◌∙◌, arith}
 use Rattle.std.proofs.lemmas.List.{length-map, map-append}
-use Rattle.plm_decl.specs.Known.{known_of, main_of}
-use Rattle.plm_decl.specs.Ranges.{counts_of, main_within}
+use Rattle.plm_decl.specs.Inner.Resolver.{known_of}
+use Rattle.plm_decl.specs.Names.{main_of}
+use Rattle.plm_decl.specs.Inner.Ranges.{counts_of}
+use Rattle.plm_decl.specs.Ranges.{main_within}
 use Rattle.std.specs.List.{list_all}
 use Rattle.plm_decl.proofs.Kept.{both, last_of}
 use Rattle.plm_decl.proofs.RangesJoins.{sizes_within}
 use Rattle.plm_decl.proofs.Joined.{only}
+use Rattle.plm_decl.proofs.Lying.{lie_plainly}
 use Rattle.plm_decl.proofs.resolver.Resolver.into_names.Goals as goal
 
 pub unreachable-requires : goal.unreachable-requires
@@ -24,6 +27,7 @@ invariant_of-result c =
     let test = main_within (counts_of k) in
     let last = last_of test (map main_of left) (main_of main) (ap (list_all test) (sym mains) ∙ within.4) in
     record {
+      views_lie = lie_plainly k.objects k.variables c.requires.room within.7;
       in_range = both within.0 (both within.1 (both within.2 (both within.3 last)));
       has_room = sizes_within c.args.self.objects.items c.requires.room;
     }

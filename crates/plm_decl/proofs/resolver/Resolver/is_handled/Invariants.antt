@@ -1,6 +1,6 @@
 use Rattle.std.proofs.Common.{◌≡◌, map, drop}
 use Rattle.std.specs.List.{list_any}
-use Rattle.plm_decl.specs.Known.{procedure_of}
+use Rattle.plm_decl.specs.Names.{procedure_of}
 use Rattle.plm_decl.specs.Statements.{handles}
 use Rattle.plm_decl.proofs.resolver.Resolver.is_handled.Given as goal
 

@@ -1,6 +1,7 @@
 use Rattle.std.proofs.Common.{◌<◌, refl, length, subst, sym, ap, ◌∙◌}
 use Rattle.std.proofs.lemmas.List.{map-set}
-use Rattle.plm_decl.specs.Known.{known_of, procedure_of}
+use Rattle.plm_decl.specs.Inner.Resolver.{known_of}
+use Rattle.plm_decl.specs.Names.{procedure_of}
 use Rattle.plm_decl.specs.Joins.{entry_joined, joined}
 use Rattle.plm_decl.proofs.Updates.{seen_at}
 use Rattle.plm_decl.proofs.resolver.Resolver.join.Goals as goal

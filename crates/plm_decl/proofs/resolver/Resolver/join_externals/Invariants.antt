@@ -1,5 +1,5 @@
 use Rattle.std.proofs.Common.{◌≡◌, map, drop}
-use Rattle.plm_decl.specs.Known.{known_of, external_of}
+use Rattle.plm_decl.specs.Inner.Resolver.{known_of, external_of}
 use Rattle.plm_decl.specs.Joins.{externals_joined}
 use Rattle.plm_decl.proofs.resolver.Resolver.join_externals.Given as goal
 

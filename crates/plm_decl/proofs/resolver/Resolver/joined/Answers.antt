@@ -1,10 +1,12 @@
 use Rattle.std.proofs.Common.{◌≡◌, length, None, Some, inr, refl, sym, subst, ap, ◌∙◌}
 use Rattle.word86.specs.declared.fault.Fault.{Fault}
-use Rattle.plm_decl.specs.Least.{least}
-use Rattle.plm_decl.specs.Known.{Known, known_of}
+use Rattle.plm_decl.specs.Found.{least}
+use Rattle.plm_decl.specs.Resolver.{Known}
+use Rattle.plm_decl.specs.Inner.Resolver.{known_of}
 use Rattle.plm_decl.specs.Joins.{have_room, modules_joined}
-use Rattle.plm_decl.specs.Ranges.{Counts, counts_of, Within}
-use Rattle.plm_decl.specs.Answers.{IsRefused}
+use Rattle.plm_decl.specs.Ranges.{Counts}
+use Rattle.plm_decl.specs.Inner.Ranges.{counts_of, Within}
+use Rattle.plm_decl.specs.Inner.Modules.{IsRefused}
 use Rattle.plm_decl.proofs.RangesJoins.{joined_within, joined_counts, joined_room}
 use Rattle.plm_decl.proofs.Least.{none_is, least_found}
 use Rattle.plm_decl.proofs.Joined.{one_main}

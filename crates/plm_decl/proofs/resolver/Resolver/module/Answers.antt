@@ -1,8 +1,8 @@
 use Rattle.std.proofs.Common.{ℕ, List, [], ◌∷◌, false, not, nat_eq, sym, ap, ◌∙◌}
 use Rattle.plm_syntax.specs.declared.tree.Basic.TheViews.{out-Block}
 use Rattle.plm_syntax.specs.View.{block_of, items_of}
-use Rattle.plm_decl.specs.Scopes.{level}
-use Rattle.plm_decl.specs.Known.{known_of}
+use Rattle.plm_decl.specs.Scope.{frame}
+use Rattle.plm_decl.specs.Inner.Resolver.{known_of}
 use Rattle.plm_decl.specs.Statements.{block}
 use Rattle.plm_decl.specs.Joins.{at_module, has_statements, with_main}
 use Rattle.plm_decl.proofs.TreeViews.{block_parts, has_statements_from}
@@ -14,9 +14,9 @@ returns c =
     let k = at_module c.args.number (known_of c.args.resolver.now) in
     let ss = (out-Block b).statements in
     let did = c.in_ok-statements.ensures in
-    let levels = c.outermost-scope.ensures ∙ ap (λ (p : List ℕ). level p false ∷ []) c.in_ok-path.ensures in
+    let frames = c.outermost-scope.ensures ∙ ap (λ (p : List ℕ). frame p false ∷ []) c.in_ok-path.ensures in
     let is_main = ap not c.is_empty.ensures ∙ ap (λ (n : ℕ). not (nat_eq n 0)) ss.ok.0
     ∙ sym (has_statements_from (items_of (out-Block b).items.items) ss.items) ∙ sym (ap has_statements (block_parts b)) in
     c.in_ok-put_main.ensures
     ∙ (λ j. with_main (is_main j) (did.value j) (did.known j))
-    ∙ (λ j. let r = block (levels j) (block_of b) k in with_main (has_statements (block_of b)) r.0 r.2)
+    ∙ (λ j. let r = block (frames j) (block_of b) k in with_main (has_statements (block_of b)) r.0 r.2)

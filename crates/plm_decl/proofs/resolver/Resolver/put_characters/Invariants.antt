@@ -1,7 +1,7 @@
 use Rattle.std.proofs.Common.{◌≡◌, drop}
-use Rattle.plm_decl.specs.Known.{known_of}
-use Rattle.plm_decl.specs.FillsView.{filling_of}
-use Rattle.plm_decl.specs.Fills.{put_characters}
+use Rattle.plm_decl.specs.Inner.Resolver.{known_of}
+use Rattle.plm_decl.specs.Inner.Fill.{filling_of}
+use Rattle.plm_decl.specs.Fill.{put_characters}
 use Rattle.plm_decl.proofs.resolver.Resolver.put_characters.Given as goal
 
 abbrev pub invariant-loop-character : goal.invariant-loop-character

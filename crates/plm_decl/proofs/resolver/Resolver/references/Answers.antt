@@ -1,7 +1,7 @@
 use Rattle.std.proofs.Common.{◌+◌, ◌∷◌, map, drop, drop-cons, add-one, sym, ap, ◌∙◌}
 use Rattle.plm_syntax.specs.View as tree
-use Rattle.plm_decl.specs.Scopes.{levels_of}
-use Rattle.plm_decl.specs.Known.{known_of}
+use Rattle.plm_decl.specs.Inner.Scope.{frames_of}
+use Rattle.plm_decl.specs.Inner.Resolver.{known_of}
 use Rattle.plm_decl.specs.Resolved.{and_reference}
 use Rattle.plm_decl.specs.ResolvedView as view
 use Rattle.plm_decl.specs.Statements.{targets_from}
@@ -11,7 +11,7 @@ use Rattle.plm_decl.proofs.resolver.Resolver.references.Goals as goal
 pub loop-reference-preserved : goal.loop-reference-preserved
 loop-reference-preserved c =
     let here = c.loop-reference in
-    let levels = levels_of c.args.scope.now in
+    let frames = frames_of c.args.scope.now in
     let xs = c.args.references.now in
     let i = here.reference-index in
     let x = c.reference-item.result in
@@ -22,6 +22,6 @@ loop-reference-preserved c =
     let pushed = ap view.references_of c.in_ok-push.ensures.items ∙ reference_pushed here.resolved.items did.field-0
     ∙ ap (and_reference (view.references_of here.resolved.items)) did.ensures.value in
     let at = ap (map tree.reference_of) (drop-cons xs i x c.loop-reference-test.true) ∙ (λ j. tree.reference_of (is j) ∷ map tree.reference_of (drop (one j) xs)) in
-    (λ j. targets_from levels (pushed j) rest (did.ensures.known j))
-    ∙ ap (λ l. targets_from levels (view.references_of here.resolved.items) l (known_of here.self)) (sym at)
+    (λ j. targets_from frames (pushed j) rest (did.ensures.known j))
+    ∙ ap (λ l. targets_from frames (view.references_of here.resolved.items) l (known_of here.self)) (sym at)
     ∙ here.invariant

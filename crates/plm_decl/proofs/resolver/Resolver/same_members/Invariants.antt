@@ -1,5 +1,5 @@
 use Rattle.std.proofs.Common.{◌≡◌, map, drop}
-use Rattle.plm_decl.specs.Layouts.{field_of}
+use Rattle.plm_decl.specs.Layout.{field_of}
 use Rattle.plm_decl.specs.Joins.{same_members}
 use Rattle.plm_decl.proofs.resolver.Resolver.same_members.Given as goal
 

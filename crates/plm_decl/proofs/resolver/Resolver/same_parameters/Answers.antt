@@ -1,6 +1,6 @@
 use Rattle.std.proofs.Common.{ℕ, List, [], drop, drop-cons, sym, ap, ◌∙◌}
 use Rattle.std.proofs.lemmas.List.{nil_from_length}
-use Rattle.plm_decl.specs.Known.{known_of}
+use Rattle.plm_decl.specs.Inner.Resolver.{known_of}
 use Rattle.plm_decl.specs.Joins.{same_parameters}
 use Rattle.plm_decl.proofs.resolver.Resolver.same_parameters.Goals as goal
 

@@ -1,5 +1,5 @@
 use Rattle.std.proofs.Common.{◌≡◌, drop}
-use Rattle.plm_decl.specs.Known.{known_of}
+use Rattle.plm_decl.specs.Inner.Resolver.{known_of}
 use Rattle.plm_decl.specs.Joins.{same_parameters}
 use Rattle.plm_decl.proofs.resolver.Resolver.same_parameters.Given as goal
 

@@ -2,9 +2,10 @@ use Rattle.std.proofs.Common.{◌≡◌, List, map, sym, ap, ◌∙◌}
 use Rattle.std.proofs.lemmas.List.{at_drop_all}
 use Rattle.plm_syntax.specs.declared.tree.Member.{Member}
 use Rattle.plm_syntax.specs.View.{member_of}
-use Rattle.plm_decl.specs.Layouts.{StructureR, structure_of, no_fields}
-use Rattle.plm_decl.specs.Known.{Known, known_of}
-use Rattle.plm_decl.specs.Shapes.{structure_for}
+use Rattle.plm_decl.specs.Layout.{StructureR, structure_of, no_fields}
+use Rattle.plm_decl.specs.Resolver.{Known}
+use Rattle.plm_decl.specs.Inner.Resolver.{known_of}
+use Rattle.plm_decl.specs.Shape.{structure_for}
 use Rattle.plm_decl.proofs.resolver.Resolver.structure_with.Goals as goal
 
 pub returns : goal.returns

@@ -1,8 +1,8 @@
 use Rattle.std.proofs.Common.{◌≡◌, map, drop}
 use Rattle.plm_syntax.specs.View.{member_of}
-use Rattle.plm_decl.specs.Layouts.{structure_of, no_fields}
-use Rattle.plm_decl.specs.Known.{known_of}
-use Rattle.plm_decl.specs.Shapes.{structure_for}
+use Rattle.plm_decl.specs.Layout.{structure_of, no_fields}
+use Rattle.plm_decl.specs.Inner.Resolver.{known_of}
+use Rattle.plm_decl.specs.Shape.{structure_for}
 use Rattle.plm_decl.proofs.resolver.Resolver.structure_with.Given as goal
 
 abbrev pub invariant-loop-member : goal.invariant-loop-member

@@ -3,9 +3,9 @@ use Rattle.std.specs.Prelude.{ℕ, ◌+◌, ◌-◌, ◌*◌, ◌%◌, List, [],
 use Rattle.std.specs.Option.{option_map_or}
 use Rattle.word86.specs.declared.number.Number.TheVariants.{E305}
 use Rattle.plm_token.specs.Strings.{string_characters}
-use Rattle.plm_syntax.specs.declared.tree.Place.{Place}
+use Rattle.plm_syntax.specs.declared.tree.Position.{Position}
 use Rattle.plm_syntax.specs.declared.tree.LocationForm.{LocationForm}
-use Rattle.plm_syntax.specs.Tree.{VariableT, ValueT, NumberV, NegativeV, TextV, LocationV, LocationT, ElementT, LiteralElement, VariableElement, AttributesT, DimensionT, TypeT}
+use Rattle.plm_syntax.specs.Tree.{VariableT, ValueT, NumeralV, NegativeV, TextV, LocationV, LocationT, ElementT, LiteralElement, VariableElement, AttributesT, DimensionT, TypeT}
 use Rattle.plm_syntax.specs.Tree as tree
 use Rattle.plm_decl.specs.declared.layout.ScalarType.{ScalarType}
 use Rattle.plm_decl.specs.declared.names.Datum.{Datum}
@@ -13,17 +13,18 @@ use Rattle.plm_decl.specs.declared.names.Datum.TheVariants as datum
 use Rattle.plm_decl.specs.declared.names.Region.{Region}
 use Rattle.plm_decl.specs.declared.names.Region.TheVariants as region
 use Rattle.plm_decl.specs.declared.names.Variable.{Variable}
-use Rattle.plm_decl.specs.declared.resolved.Meaning.TheVariants as meaning
+use Rattle.plm_decl.specs.declared.resolved.Binding.TheVariants as binding
 use Rattle.plm_decl.specs.declared.fill.Cursor.{Cursor}
 use Rattle.plm_decl.specs.declared.shape.Shape.{Shape}
 use Rattle.plm_decl.specs.declared.elements.Traits.{Traits}
-use Rattle.plm_decl.specs.Layouts.{counted, elements}
-use Rattle.plm_decl.specs.Scopes.{Level}
-use Rattle.plm_decl.specs.Known.{Known, ObjectR, note, note_unless}
+use Rattle.plm_decl.specs.Layout.{counted, elements}
+use Rattle.plm_decl.specs.Scope.{Frame}
+use Rattle.plm_decl.specs.Resolver.{Known, note, note_unless}
+use Rattle.plm_decl.specs.Names.{ObjectR}
 use Rattle.plm_decl.specs.Resolved.{LocationR', LocationOf, ConstantsOf, ReferenceR', Use}
-use Rattle.plm_decl.specs.Values.{number_datum, text_datum, character_datum, is_byte, takes}
+use Rattle.plm_decl.specs.Datum.{number_datum, text_datum, character_datum, is_byte, takes}
 use Rattle.plm_decl.specs.Expressions.{location}
-use Rattle.plm_decl.specs.Shapes.{scalars_of, scalar_at, shape_for}
+use Rattle.plm_decl.specs.Shape.{scalars_of, scalar_at, shape_for}
 use Rattle.plm_decl.specs.Elements.{distance, place_of_variable, first_site, declared_variables, declared_list, element_values, has_values, is_placed, is_data, linkage_for, has_attribute}
 
 -- ---- locations
@@ -45,10 +46,10 @@ variable_datum n (Some v) d = address_datum n v.region d
 
 -- what is no variable is no fault here
 abbrev pub reference_datum : Known → ReferenceR' → Option Datum
-reference_datum k (Use p (meaning.Variable n) es s) = variable_datum n (slice_get k.variables n) (distance k (Use p (meaning.Variable n) es s))
-reference_datum k (Use p (meaning.Procedure q) es s) = Some (datum.Word 0)
-reference_datum k (Use p (meaning.Builtin b) es s) = Some (datum.Word 0)
-reference_datum k (Use p meaning.Nothing es s) = Some (datum.Word 0)
+reference_datum k (Use p (binding.Variable n) es s) = variable_datum n (slice_get k.variables n) (distance k (Use p (binding.Variable n) es s))
+reference_datum k (Use p (binding.Procedure q) es s) = Some (datum.Word 0)
+reference_datum k (Use p (binding.Builtin b) es s) = Some (datum.Word 0)
+reference_datum k (Use p binding.Nothing es s) = Some (datum.Word 0)
 
 abbrev pub location_datum : Known → LocationR' → Option Datum
 location_datum k (LocationOf p f x) = reference_datum k x
@@ -61,18 +62,18 @@ form_of_location (tree.ConstantsOf p f vs) = f
 abbrev pub with_location : LocationR' → Known → Known
 with_location l k = record k { locations = k.locations ++ record { «module» = k.module; location = l } ∷ [] }
 
-abbrev pub location_in : List Level → ScalarType → LocationT → Known → Option Datum × Known
-location_in levels scalar l k =
-    let r = location levels l k in
+abbrev pub location_in : List Frame → ScalarType → LocationT → Known → Option Datum × Known
+location_in frames scalar l k =
+    let r = location frames l k in
     (cond (takes scalar (form_of_location l)) (location_datum r.1 r.0) None, with_location r.0 r.1)
 
 -- ---- one value in one scalar
 
-abbrev pub datum_for : List Level → ScalarType → ValueT → Known → Option Datum × Known
-datum_for levels scalar (NumberV n) k = (number_datum scalar n.value false, k)
-datum_for levels scalar (NegativeV n) k = (number_datum scalar n.value true, k)
-datum_for levels scalar (TextV s) k = (text_datum scalar (string_characters s.text), k)
-datum_for levels scalar (LocationV l) k = location_in levels scalar l k
+abbrev pub datum_for : List Frame → ScalarType → ValueT → Known → Option Datum × Known
+datum_for frames scalar (NumeralV n) k = (number_datum scalar n.value false, k)
+datum_for frames scalar (NegativeV n) k = (number_datum scalar n.value true, k)
+datum_for frames scalar (TextV s) k = (text_datum scalar (string_characters s.text), k)
+datum_for frames scalar (LocationV l) k = location_in frames scalar l k
 
 -- what values fill: names, their shape, and the number of the first one's variable
 pub record FillingR : Type 0 where
@@ -105,8 +106,8 @@ put_datum f name v None k = note E305 (place_of_variable v) k
 abbrev pub scalars_in_name : Known → Shape → ℕ
 scalars_in_name k s = counted (scalars_of k s.form * elements s.dimension)
 
-abbrev pub cursor_behind : ℕ → Cursor → Cursor
-cursor_behind scalars c = cond (nat_lt (counted (c.scalar + 1)) scalars) (record { name = c.name; scalar = counted (c.scalar + 1) }) (record { name = c.name + 1; scalar = 0 })
+abbrev pub cursor_after : ℕ → Cursor → Cursor
+cursor_after scalars c = cond (nat_lt (counted (c.scalar + 1)) scalars) (record { name = c.name; scalar = counted (c.scalar + 1) }) (record { name = c.name + 1; scalar = 0 })
 
 abbrev pub too_many : Option VariableT → Known → Known
 too_many None k = k
@@ -115,10 +116,18 @@ too_many (Some v) k = note E305 (place_of_variable v) k
 -- a value at the cursor; one too many does not fit the last name
 abbrev pub put_at : FillingR → Cursor → Option VariableT → Option Datum → Known → Cursor × Known
 put_at f c None d k = (c, too_many (slice_get f.names (length f.names - 1)) k)
-put_at f c (Some v) d k = let q = put_datum f c.name v d k in (cursor_behind (scalars_in_name q f.shape) c, q)
+put_at f c (Some v) d k = let q = put_datum f c.name v d k in (cursor_after (scalars_in_name q f.shape) c, q)
 
 abbrev pub put_value : FillingR → Cursor → Option Datum → Known → Cursor × Known
 put_value f c d k = put_at f c (slice_get f.names c.name) d k
+
+abbrev pub past_at : FillingR → Option VariableT → Known → Known
+past_at f None k = too_many (slice_get f.names (length f.names - 1)) k
+past_at f (Some v) k = k
+
+-- a value that stands after the last element is one too many
+abbrev pub unless_past : FillingR → Cursor → Known → Known
+unless_past f c k = past_at f (slice_get f.names c.name) k
 
 -- a string fills a BYTE with each of its characters
 abbrev pub put_characters : FillingR → Cursor → List ℕ → Known → Cursor × Known
@@ -127,22 +136,22 @@ put_characters f c (x ∷ xs) k =
     let r = put_value f c (character_datum (scalar_at k f.shape.form c.scalar) x) k in
     put_characters f r.0 xs r.1
 
-abbrev pub put_single : List Level → FillingR → Cursor → ValueT → Known → Cursor × Known
-put_single levels f c v k = let d = datum_for levels (scalar_at k f.shape.form c.scalar) v k in put_value f c d.0 d.1
+abbrev pub put_single : List Frame → FillingR → Cursor → ValueT → Known → Cursor × Known
+put_single frames f c v k = let d = datum_for frames (scalar_at k f.shape.form c.scalar) v k in put_value f c d.0 d.1
 
-abbrev pub filled_with : List Level → FillingR → Cursor → ValueT → Known → Cursor × Known
-filled_with levels f c (NumberV n) k = put_single levels f c (NumberV n) k
-filled_with levels f c (NegativeV n) k = put_single levels f c (NegativeV n) k
-filled_with levels f c (TextV s) k =
-    cond (is_byte (scalar_at k f.shape.form c.scalar)) (put_characters f c (string_characters s.text) k) (put_single levels f c (TextV s) k)
-filled_with levels f c (LocationV l) k = put_single levels f c (LocationV l) k
+abbrev pub filled_with : List Frame → FillingR → Cursor → ValueT → Known → Cursor × Known
+filled_with frames f c (NumeralV n) k = put_single frames f c (NumeralV n) k
+filled_with frames f c (NegativeV n) k = put_single frames f c (NegativeV n) k
+filled_with frames f c (TextV s) k =
+    cond (is_byte (scalar_at k f.shape.form c.scalar)) (put_characters f c (string_characters s.text) (unless_past f c k)) (put_single frames f c (TextV s) k)
+filled_with frames f c (LocationV l) k = put_single frames f c (LocationV l) k
 
-abbrev pub filled_from : List Level → FillingR → Cursor → List ValueT → Known → Cursor × Known
-filled_from levels f c [] k = (c, k)
-filled_from levels f c (v ∷ vs) k = let r = filled_with levels f c v k in filled_from levels f r.0 vs r.1
+abbrev pub filled_from : List Frame → FillingR → Cursor → List ValueT → Known → Cursor × Known
+filled_from frames f c [] k = (c, k)
+filled_from frames f c (v ∷ vs) k = let r = filled_with frames f c v k in filled_from frames f r.0 vs r.1
 
-abbrev pub filled : List Level → FillingR → List ValueT → Known → Known
-filled levels f vs k = (filled_from levels f (record { name = 0; scalar = 0 }) vs k).1
+abbrev pub filled : List Frame → FillingR → List ValueT → Known → Known
+filled frames f vs k = (filled_from frames f (record { name = 0; scalar = 0 }) vs k).1
 
 -- ---- an element
 
@@ -150,22 +159,22 @@ abbrev pub traits_for : Shape → AttributesT → Traits
 traits_for shape a = record { shape = shape; linkage = linkage_for a; is_data = is_data a; has_attribute = has_attribute a }
 
 -- values beside AT fill nothing
-abbrev pub filled_element : FillingR → Place → AttributesT → List Level → Known → Known
-filled_element f place a levels k = cond (is_placed a) (note_unless (not (has_values a)) E305 place k) (filled levels f (element_values a) k)
+abbrev pub filled_element : FillingR → Position → AttributesT → List Frame → Known → Known
+filled_element f place a frames k = cond (is_placed a) (note_unless (not (has_values a)) E305 place k) (filled frames f (element_values a) k)
 
 -- names of which the first stands at this place: AT sees the names before the element, values see its own
-abbrev pub declared_at : Place → List VariableT → DimensionT → TypeT → AttributesT → List Level → Known → List Level × Known
-declared_at place vs d t a levels k =
-    let s = first_site levels a k in
+abbrev pub declared_at : Position → List VariableT → DimensionT → TypeT → AttributesT → List Frame → Known → List Frame × Known
+declared_at place vs d t a frames k =
+    let s = first_site frames a k in
     let h = shape_for place (length vs) d t (element_values a) s.1 in
-    let r = declared_variables vs (traits_for h.0 a) s.0 levels h.1 in
+    let r = declared_variables vs (traits_for h.0 a) s.0 frames h.1 in
     (r.1, filled_element (record { names = vs; shape = h.0; number = length h.1.variables }) place a r.1 r.2)
 
-abbrev pub declared_names : List VariableT → DimensionT → TypeT → AttributesT → List Level → Known → List Level × Known
-declared_names [] d t a levels k = (levels, k)
-declared_names (v ∷ vs) d t a levels k = declared_at (place_of_variable v) (v ∷ vs) d t a levels k
+abbrev pub declared_names : List VariableT → DimensionT → TypeT → AttributesT → List Frame → Known → List Frame × Known
+declared_names [] d t a frames k = (frames, k)
+declared_names (v ∷ vs) d t a frames k = declared_at (place_of_variable v) (v ∷ vs) d t a frames k
 
 -- a literal's name is none of the program's
-abbrev pub element : ElementT → List Level → Known → List Level × Known
-element (LiteralElement n s) levels k = (levels, k)
-element (VariableElement d n t a) levels k = declared_names (declared_list d) n t a levels k
+abbrev pub element : ElementT → List Frame → Known → List Frame × Known
+element (LiteralElement n s) frames k = (frames, k)
+element (VariableElement d n t a) frames k = declared_names (declared_list d) n t a frames k

@@ -75,7 +75,7 @@ has_field name fs = list_any (λ f. bytes_eq f.name name) fs
 abbrev pub field_named : List ℕ → List FieldR → Option Member
 field_named name fs = option_map (λ f. f.member) (find (λ f. bytes_eq f.name name) fs)
 
--- the scalar that stands so many scalars behind the first
+-- the scalar that stands this many scalars after the first
 abbrev pub scalar_in : List FieldR → ℕ → ScalarType
 scalar_in [] position = Byte
 scalar_in (f ∷ fs) position = cond (nat_lt position (elements f.member.dimension)) f.member.scalar (scalar_in fs (position - elements f.member.dimension))

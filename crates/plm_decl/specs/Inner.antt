@@ -1,0 +1,9 @@
+pub mod Expressions
+pub mod Fill
+pub mod Modules
+pub mod Ranges
+pub mod Regions
+pub mod Resolver
+pub mod Scope
+pub mod Shape
+pub mod Statements

@@ -1,0 +1,76 @@
+-- What `Names` holds, as plain values.
+use Rattle.std.specs.Prelude.{ℕ, List, Option}
+use Rattle.plm_syntax.specs.declared.tree.Position.{Position}
+use Rattle.plm_syntax.specs.declared.tree.Linkage.{Linkage}
+use Rattle.plm_decl.specs.declared.layout.ScalarType.{ScalarType}
+use Rattle.plm_decl.specs.declared.names.Datum.{Datum}
+use Rattle.plm_decl.specs.declared.names.Object.{Object}
+use Rattle.plm_decl.specs.declared.names.ScreenName.{ScreenName}
+use Rattle.plm_decl.specs.declared.names.Procedure.{Procedure}
+use Rattle.plm_decl.specs.declared.names.DeclaredLocation.{DeclaredLocation}
+use Rattle.plm_decl.specs.declared.names.Main.{Main}
+use Rattle.plm_decl.specs.Resolved.{LocationR', StatementsR}
+use Rattle.plm_decl.specs.ResolvedView.{location_of, statements_of}
+
+-- a RAM object: its path, its bytes, and the values that its first bytes have at start
+pub record ObjectR : Type 0 where
+  pub path : List ℕ
+  pub size : ℕ
+  pub initial : List Datum
+
+-- a name on the screen, how many bytes after 0B8000H it begins, and how many RAM objects are declared before it
+pub record ScreenNameR : Type 0 where
+  pub path : List ℕ
+  pub size : ℕ
+  pub offset : ℕ
+  pub objects_before : ℕ
+
+-- a procedure; a call of it runs the body of its entry: itself, or the PUBLIC procedure that it is joined with
+pub record ProcedureR : Type 0 where
+  pub path : List ℕ
+  pub «module» : ℕ
+  pub place : Position
+  pub parameters : List ℕ
+  pub returned : Option ScalarType
+  pub interrupt : Option ℕ
+  pub linkage : Linkage
+  pub stray : Option Position
+  pub entry : ℕ
+  pub body : StatementsR
+
+-- a location of an AT, INITIAL or DATA
+pub record DeclaredLocationR : Type 0 where
+  pub «module» : ℕ
+  pub location : LocationR'
+
+pub record MainR : Type 0 where
+  pub «module» : ℕ
+  pub statements : StatementsR
+
+-- ---- the Rust values as plain ones
+
+abbrev pub object_of : Object → ObjectR
+object_of o = record { path = o.path.items; size = o.size; initial = o.initial.items }
+
+abbrev pub screen_name_of : ScreenName → ScreenNameR
+screen_name_of s = record { path = s.path.items; size = s.size; offset = s.offset; objects_before = s.objects_before }
+
+abbrev pub procedure_of : Procedure → ProcedureR
+procedure_of p = record {
+  path = p.path.items;
+  «module» = p.module;
+  place = p.place;
+  parameters = p.parameters.items;
+  returned = p.returned;
+  interrupt = p.interrupt;
+  linkage = p.linkage;
+  stray = p.stray;
+  entry = p.entry;
+  body = statements_of p.body.items;
+}
+
+abbrev pub declared_location_of : DeclaredLocation → DeclaredLocationR
+declared_location_of l = record { «module» = l.module; location = location_of l.location }
+
+abbrev pub main_of : Main → MainR
+main_of m = record { «module» = m.module; statements = statements_of m.statements.items }
