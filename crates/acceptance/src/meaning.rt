@@ -154,7 +154,33 @@ fn loops_and_cases(rt: HostRuntime) -> Result<(), Fail> {
 
 #[test]
 fn accesses_lie_in_what_is_declared(rt: HostRuntime) -> Result<(), Fail> {
-    let rows: [Row<'static>; 8] = [
+    let rows: [Row<'static>; 12] = [
+        // One past what is declared, within the object that holds it.
+        (
+            b"M: DO; DECLARE A(4) BYTE, B(2) BYTE AT (@A(1));\nB(2) = 1; END M;",
+            &[0x100],
+            &[],
+            Some(Line { module: 0, line: 2 }),
+        ),
+        (
+            b"M: DO; DECLARE A(4) BYTE, B(2) BYTE AT (@A(1)); B(1) = 7; OUTPUT(300H) = A(2); END M;",
+            &[0x100],
+            &[Label::Out(0x300, 7)],
+            None,
+        ),
+        // One past an array on the screen, within the screen.
+        (
+            b"M: DO; DECLARE S(2) BYTE AT (0B8000H), I BYTE; I = 2;\nS(I) = 1; END M;",
+            &[0x100],
+            &[],
+            Some(Line { module: 0, line: 2 }),
+        ),
+        (
+            b"M: DO; DECLARE S(2) BYTE AT (0B8000H), I BYTE; I = 1; S(I) = 41H; END M;",
+            &[0x100],
+            &[Label::Scr(1, 0x41)],
+            None,
+        ),
         (
             b"M: DO; DECLARE A(3) BYTE; A(3) = 1; END M;",
             &[2],
@@ -212,7 +238,25 @@ fn accesses_lie_in_what_is_declared(rt: HostRuntime) -> Result<(), Fail> {
 
 #[test]
 fn objects_have_their_first_bytes(rt: HostRuntime) -> Result<(), Fail> {
-    let rows: [Row<'static>; 3] = [
+    let rows: [Row<'static>; 5] = [
+        // A string's first character is the high byte of its value, in an expression and in a WORD.
+        (
+            b"M: DO; DECLARE W WORD INITIAL ('AB'), B BYTE AT (@W); OUTWORD(300H) = W; OUTWORD(302H) = 'AB'; OUTPUT(304H) = B; END M;",
+            &[2],
+            &[
+                Label::OutW(0x300, 0x4142),
+                Label::OutW(0x302, 0x4142),
+                Label::Out(0x304, 0x42),
+            ],
+            None,
+        ),
+        // BYTEs take its characters in order.
+        (
+            b"M: DO; DECLARE A(2) BYTE INITIAL ('AB'); OUTPUT(300H) = A(0); OUTPUT(301H) = A(1); END M;",
+            &[2],
+            &[Label::Out(0x300, 0x41), Label::Out(0x301, 0x42)],
+            None,
+        ),
         (
             b"M: DO; DECLARE S(2) STRUCTURE (X BYTE, Y WORD) INITIAL (1, 2, 3, 0405H); OUTWORD(300H) = S(1).Y; OUTPUT(302H) = SIZE(S); OUTPUT(303H) = LAST(S); END M;",
             &[2],
@@ -288,7 +332,7 @@ fn parts_are_evaluated_in_order(rt: HostRuntime) -> Result<(), Fail> {
             ],
             None,
         ),
-        // The port before the store, behind the right side.
+        // The port before the store, after the right side.
         (
             b"M: DO; F: PROCEDURE BYTE; OUTPUT(1) = 1; RETURN 5; END F; OUTPUT(F) = F + 1; END M;",
             &[],
@@ -355,7 +399,7 @@ fn interrupts_enter_within_statements(rt: HostRuntime) -> Result<(), Fail> {
         Label::Out(0x43, 0x14),
         Label::Out(0x40, 2),
     ];
-    // Six outputs of three steps each, ENABLE, and seven reads, of which three come before the event, and four behind the procedure.
+    // Six outputs of three steps each, ENABLE, and seven reads, of which three come before the event, and four after the procedure.
     let labels = trace(alloc, text, &[2, 4], &[(22, Event::Tick(3))], 200)?;
     let mut expected = setup.to_vec(alloc)?;
     for label in [
@@ -425,5 +469,86 @@ fn chooses_what_is_allowed(rt: HostRuntime) -> Result<(), Fail> {
             label: Some(Label::Key(3))
         })
     );
+    Ok(())
+}
+
+/// A program whose interrupts from the timer are set up by eighteen steps, and come with automatic end.
+const SET_UP: u32 = 18;
+
+/// Whether this many of the program's steps are made without a label.
+fn goes_silently(meaning: &mut Meaning<'_>, steps: u32) -> bool {
+    for _ in 0..steps {
+        if meaning.step(Choice::Program) != Ok(Step { label: None }) {
+            return false;
+        }
+    }
+    true
+}
+
+/// The program's state once it is set up, and the interrupt is asked for.
+fn asked<'a>(
+    alloc: Global,
+    program: &'a Program,
+    placement: &'a Placement,
+) -> Result<Meaning<'a>, Fault> {
+    let mut meaning = opened(alloc, program, placement, 0)?;
+    for _ in 0..SET_UP {
+        let _ = meaning.step(Choice::Program);
+    }
+    let _ = meaning.step(Choice::Event(Event::Tick(3)));
+    Ok(meaning)
+}
+
+#[test]
+fn interrupts_come_promptly(rt: HostRuntime) -> Result<(), Fail> {
+    let alloc = rt.alloc();
+    let text =
+        b"M: DO; H: PROCEDURE INTERRUPT 8; END H; OUTPUT(20H) = 13H; OUTPUT(21H) = 8; OUTPUT(21H) = 3; OUTPUT(21H) = 0FEH; OUTPUT(43H) = 14H; OUTPUT(40H) = 2; ENABLE; ; ; ; ; ; ; ; ; ; ; END M;";
+    let program = program_of(alloc, text)?;
+    let placement = Placement::of(Vec::new(alloc));
+    let mut meaning = asked(alloc, &program, &placement)?;
+    // Interrupts are off: it may not be entered.
+    assert_eq!(rt; meaning.step(Choice::Enter), Err(Stop::NotAllowed));
+    // ENABLE, and then eight silent steps and no ninth.
+    assert_eq!(rt; goes_silently(&mut meaning, 1), true);
+    assert_eq!(rt; goes_silently(&mut meaning, 8), true);
+    assert_eq!(rt; meaning.step(Choice::Program), Err(Stop::NotAllowed));
+    let entered = Ok(Step {
+        label: Some(Label::Ack(8)),
+    });
+    assert_eq!(rt; meaning.step(Choice::Enter), entered);
+    // It runs with interrupts off, and is used up at once.
+    assert_eq!(rt; meaning.step(Choice::Enter), Err(Stop::NotAllowed));
+    assert_eq!(rt; meaning.step(Choice::Program), Err(Stop::NotAllowed));
+    assert_eq!(rt; meaning.step(Choice::Leave), Ok(Step { label: None }));
+    assert_eq!(rt; meaning.step(Choice::Enter), Err(Stop::NotAllowed));
+    // The ninth step comes now, and so does a second interrupt.
+    assert_eq!(rt; goes_silently(&mut meaning, 1), true);
+    let ticked = Ok(Step {
+        label: Some(Label::Tick(4)),
+    });
+    assert_eq!(rt; meaning.step(Choice::Event(Event::Tick(4))), ticked);
+    assert_eq!(rt; meaning.step(Choice::Enter), entered);
+    assert_eq!(rt; meaning.step(Choice::Leave), Ok(Step { label: None }));
+    Ok(())
+}
+
+#[test]
+fn interrupts_come_after_one_enable(rt: HostRuntime) -> Result<(), Fail> {
+    let alloc = rt.alloc();
+    let text =
+        b"M: DO; OUTPUT(20H) = 13H; OUTPUT(21H) = 8; OUTPUT(21H) = 3; OUTPUT(21H) = 0FEH; OUTPUT(43H) = 14H; OUTPUT(40H) = 2; ENABLE; ENABLE; ENABLE; END M;";
+    let program = program_of(alloc, text)?;
+    let placement = Placement::of(Vec::new(alloc));
+    let mut meaning = asked(alloc, &program, &placement)?;
+    // The first switches interrupts on; one more may come before the interrupt, and no second.
+    assert_eq!(rt; goes_silently(&mut meaning, 2), true);
+    assert_eq!(rt; meaning.step(Choice::Program), Err(Stop::NotAllowed));
+    let entered = Ok(Step {
+        label: Some(Label::Ack(8)),
+    });
+    assert_eq!(rt; meaning.step(Choice::Enter), entered);
+    assert_eq!(rt; meaning.step(Choice::Leave), Ok(Step { label: None }));
+    assert_eq!(rt; goes_silently(&mut meaning, 1), true);
     Ok(())
 }

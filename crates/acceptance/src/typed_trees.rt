@@ -148,3 +148,15 @@ fn handlers(rt: HostRuntime) {
     assert_eq!(rt; program.procedures().len(), 2);
     assert_eq!(rt; program.names().procedures.len(), 2);
 }
+
+#[test]
+fn procedures_follow_what_they_call(rt: HostRuntime) {
+    let alloc = rt.alloc();
+    // A, B, C, D in order of declaration: A calls C, C calls B and D, D calls B.
+    let text: &[u8] =
+        b"M: DO; A: PROCEDURE; B: PROCEDURE; END B; C: PROCEDURE; D: PROCEDURE; CALL B; END D; CALL B; CALL D; END C; CALL C; END A; ; END M;";
+    let Ok(program) = program_of(alloc, text) else {
+        panic!(rt; "it is typed");
+    };
+    assert_eq!(rt; program.order(), [1, 3, 2, 0].as_slice());
+}

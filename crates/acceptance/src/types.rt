@@ -580,6 +580,146 @@ fn indices_and_data(rt: HostRuntime) {
 }
 
 #[test]
+fn data_keeps_its_type(rt: HostRuntime) {
+    let alloc = rt.alloc();
+    let rows: [(&[u8], Outcome); 6] = [
+        // both stand at the target: the lower number
+        (
+            b"M: DO; DECLARE D BYTE DATA (1), B BYTE;\nD = @B; END M;",
+            at(2, Number::E401),
+        ),
+        // the fault of the types stands before that of the store
+        (
+            b"M: DO; DECLARE P POINTER, D BYTE DATA (1), B BYTE;\nP,\nD = @B; END M;",
+            at(2, Number::E401),
+        ),
+        (
+            b"M: DO; DECLARE D BYTE DATA (1), B BYTE; B = 1 +\n(\nD := @B); END M;",
+            at(2, Number::E401),
+        ),
+        (
+            b"M: DO; DECLARE D BYTE DATA (1), P POINTER;\nP,\nD = 1; END M;",
+            at(2, Number::E401),
+        ),
+        (
+            b"M: DO; DECLARE D BYTE DATA (1), B BYTE;\nB,\nD = 'ABC'; END M;",
+            at(3, Number::E403),
+        ),
+        (
+            b"M: DO; DECLARE D(2) BYTE DATA (1, 2), B BYTE;\nB,\nD = @B; END M;",
+            at(2, Number::E401),
+        ),
+    ];
+    for (text, wanted) in rows {
+        assert_eq!(rt; outcome(program_of(alloc, text)), wanted, "in {text:?}");
+    }
+}
+
+#[test]
+fn counts_hide_no_types(rt: HostRuntime) {
+    let alloc = rt.alloc();
+    let rows: [(&[u8], Outcome); 14] = [
+        (
+            b"M: DO; DECLARE B BYTE; B =\nLOW(@B, 1); END M;",
+            at(2, Number::E401),
+        ),
+        (
+            b"M: DO; DECLARE B BYTE; B =\nSHL(@B); END M;",
+            at(2, Number::E401),
+        ),
+        (
+            b"M: DO; DECLARE B BYTE; B =\nSHL(1, @B, 1); END M;",
+            at(2, Number::E401),
+        ),
+        (
+            b"M: DO; DECLARE B BYTE;\nOUTPUT(@B, 1) = 1; END M;",
+            at(2, Number::E401),
+        ),
+        (
+            b"M: DO; DECLARE B BYTE; F: PROCEDURE (A); DECLARE A BYTE; END F; CALL\nF(@B, 1); END M;",
+            at(2, Number::E401),
+        ),
+        (
+            b"M: DO; DECLARE B BYTE; F: PROCEDURE (A, C); DECLARE A BYTE, C POINTER; END F; CALL\nF(@B); END M;",
+            at(2, Number::E401),
+        ),
+        (
+            b"M: DO; DECLARE B BYTE; F: PROCEDURE (A, C) BYTE; DECLARE A BYTE, C POINTER; END F; B =\nF(@B); END M;",
+            at(2, Number::E401),
+        ),
+        (
+            b"M: DO; DECLARE W WORD; W =\nLENGTH(1, W); END M;",
+            at(2, Number::E401),
+        ),
+        // what has no parameter is compared with none
+        (
+            b"M: DO; DECLARE B BYTE; B =\nLOW(1, @B); END M;",
+            at(2, Number::E402),
+        ),
+        (
+            b"M: DO; DECLARE B BYTE;\nOUTPUT(1, @B) = 1; END M;",
+            at(2, Number::E402),
+        ),
+        (
+            b"M: DO; DECLARE B BYTE; F: PROCEDURE (A); DECLARE A BYTE; END F; CALL\nF(1, @B); END M;",
+            at(2, Number::E402),
+        ),
+        (
+            b"M: DO; DECLARE W WORD; W =\nLENGTH(W, @W); END M;",
+            at(2, Number::E402),
+        ),
+        // what is counted wrongly has no type
+        (
+            b"M: DO; DECLARE P POINTER; P =\nLOW(1, 2); END M;",
+            at(2, Number::E402),
+        ),
+        (
+            b"M: DO; DECLARE P POINTER; F: PROCEDURE BYTE; END F; P =\nF(1); END M;",
+            at(2, Number::E402),
+        ),
+    ];
+    for (text, wanted) in rows {
+        assert_eq!(rt; outcome(program_of(alloc, text)), wanted, "in {text:?}");
+    }
+}
+
+#[test]
+fn targets_agree_without_a_value(rt: HostRuntime) {
+    let alloc = rt.alloc();
+    let rows: [(&[u8], Outcome); 6] = [
+        (
+            b"M: DO; DECLARE P POINTER, B BYTE;\nP,\nB =\n'ABC'; END M;",
+            at(2, Number::E401),
+        ),
+        (
+            b"M: DO; DECLARE P POINTER, B BYTE;\nB,\nP =\n'ABC'; END M;",
+            at(2, Number::E401),
+        ),
+        (
+            b"M: DO; DECLARE P POINTER, (B, W) WORD;\nB,\nW,\nP = B(1); END M;",
+            at(2, Number::E401),
+        ),
+        // of one kind: the value's own fault
+        (
+            b"M: DO; DECLARE W WORD, B BYTE;\nW,\nB =\n'ABC'; END M;",
+            at(4, Number::E401),
+        ),
+        (
+            b"M: DO; DECLARE (P, Q) POINTER;\nP,\nQ =\n'ABC'; END M;",
+            at(4, Number::E401),
+        ),
+        // a target of no known type agrees with all
+        (
+            b"M: DO; DECLARE A(2) BYTE, P POINTER;\nP,\nA = @A; END M;",
+            at(3, Number::E401),
+        ),
+    ];
+    for (text, wanted) in rows {
+        assert_eq!(rt; outcome(program_of(alloc, text)), wanted, "in {text:?}");
+    }
+}
+
+#[test]
 fn external_procedures_have_parameters_alone(rt: HostRuntime) {
     let alloc = rt.alloc();
     let other: &[u8] = b"N: DO; P: PROCEDURE (A) PUBLIC; DECLARE A BYTE; END P; END N;";

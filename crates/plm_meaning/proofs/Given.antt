@@ -11,8 +11,8 @@ use Rattle.plm_type.specs.declared.program.Operation.{Operation}
 use Rattle.plm_type.specs.Rest as rest
 use Rattle.plm_type.specs.Next.{value_of}
 use Rattle.plm_type.specs.View.{expression_of, chained_in, chained, statements_of}
-use Rattle.plm_meaning.specs.Parts.{given}
-use Rattle.plm_meaning.specs.Depth.{depth}
+use Rattle.plm_meaning.specs.Context.{given}
+use Rattle.plm_meaning.specs.Inner.Start.{depth}
 
 pub given_last : (vs : List ℕ) (v : ℕ) (es : Expressions) → given (vs ++ v ∷ []) es ≡ given vs (More (Value v) es)
 given_last [] v es = refl

@@ -13,7 +13,7 @@ counted_map f true (Enable r) s w = refl
 counted_map f true (Disable r) s w = refl
 counted_map f true (Halt r) s w = refl
 counted_map f true Over s w = refl
-counted_map f true (Bad file line) s w = refl
+counted_map f true (Bad module_index line) s w = refl
 
 pub on_map : {A R S : Type 0} (f : R → S) (a : Action A R) (on : Bool) → on_after (map_action f a) on ≡ on_after a on
 on_map f (Silent r) on = refl
@@ -22,7 +22,7 @@ on_map f (Enable r) on = refl
 on_map f (Disable r) on = refl
 on_map f (Halt r) on = refl
 on_map f Over on = refl
-on_map f (Bad file line) on = refl
+on_map f (Bad module_index line) on = refl
 
 pub halted_map : {A R S : Type 0} (f : R → S) (a : Action A R) → halted_after (map_action f a) ≡ halted_after a
 halted_map f (Silent r) = refl
@@ -31,7 +31,7 @@ halted_map f (Enable r) = refl
 halted_map f (Disable r) = refl
 halted_map f (Halt r) = refl
 halted_map f Over = refl
-halted_map f (Bad file line) = refl
+halted_map f (Bad module_index line) = refl
 
 module _ (sh : Shared) {R S : Type 0} (f : R → S) where
   abbrev put : Option (R × sh.State × List sh.Label) → Option (S × sh.State × List sh.Label)
@@ -45,7 +45,7 @@ module _ (sh : Shared) {R S : Type 0} (f : R → S) where
   perform_map (Disable r) v = refl
   perform_map (Halt r) v = refl
   perform_map Over v = refl
-  perform_map (Bad file line) v = refl
+  perform_map (Bad module_index line) v = refl
 
 -- ---- steps
 

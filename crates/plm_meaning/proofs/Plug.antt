@@ -19,7 +19,7 @@ use Rattle.plm_meaning.specs.declared.context.Hole.{Hole}
 use Rattle.plm_meaning.specs.declared.context.Hole.TheVariants as hole
 use Rattle.plm_meaning.specs.declared.context.Frame.{Frame}
 use Rattle.plm_meaning.specs.declared.context.Frame.TheVariants as frame
-use Rattle.plm_meaning.specs.Parts.{Part, Expr, Todo, expression_in, statements_in, aimed, purposed, later_of, given, in_hole, around, plug, todo_in}
+use Rattle.plm_meaning.specs.Context.{Part, Expr, Todo, expression_in, statements_in, aimed, purposed, later_of, given, in_hole, around, plug, todo_in}
 use Rattle.plm_meaning.proofs.Actions.{map_twice, map_same, map_alike}
 
 pub behind_assoc : (a b c : Statements) → behind (behind a b) c ≡ behind a (behind b c)
@@ -241,21 +241,21 @@ module _ (offsets sizes : List ℕ) (procedures : List Procedure) where
   aimed_step (destination.Assigned v ts) t F a h = assigned_step ts.now v t F a (h v)
 
   -- a reference that has subscripts left
-  indexed_step : (file line : ℕ) (anchor : rest.Anchor) (offset stride : ℕ) (more : Subscripts) (x : Purpose) (e : Expression) → value_of e ≡ None
-      → next_part (purposed x (Refer file line anchor offset (Subscript stride e more))) ≡ map_action (λ r. purposed x (indexed file line anchor offset stride (value_of r) r more)) (E e)
-  indexed_step file line anchor offset stride more (purpose.Read width) e h = ap (map_action Expr) (map_twice _ _ (E e)) ∙ map_twice _ _ (E e)
-  indexed_step file line anchor offset stride more purpose.Locate e h = ap (map_action Expr) (map_twice _ _ (E e)) ∙ map_twice _ _ (E e)
-  indexed_step file line anchor offset stride more (purpose.Store width d) e h =
-      aimed_step d (rest.ToVariable width (Refer file line anchor offset (Subscript stride e more))) (λ r. rest.ToVariable width (indexed file line anchor offset stride (value_of r) r more)) (E e) (λ v. map_twice _ _ (E e))
+  indexed_step : (module_index line : ℕ) (anchor : rest.Anchor) (offset stride : ℕ) (more : Subscripts) (x : Purpose) (e : Expression) → value_of e ≡ None
+      → next_part (purposed x (Refer module_index line anchor offset (Subscript stride e more))) ≡ map_action (λ r. purposed x (indexed module_index line anchor offset stride (value_of r) r more)) (E e)
+  indexed_step module_index line anchor offset stride more (purpose.Read width) e h = ap (map_action Expr) (map_twice _ _ (E e)) ∙ map_twice _ _ (E e)
+  indexed_step module_index line anchor offset stride more purpose.Locate e h = ap (map_action Expr) (map_twice _ _ (E e)) ∙ map_twice _ _ (E e)
+  indexed_step module_index line anchor offset stride more (purpose.Store width d) e h =
+      aimed_step d (rest.ToVariable width (Refer module_index line anchor offset (Subscript stride e more))) (λ r. rest.ToVariable width (indexed module_index line anchor offset stride (value_of r) r more)) (E e) (λ v. map_twice _ _ (E e))
 
-  indexed_none : (file line : ℕ) (anchor : rest.Anchor) (offset stride : ℕ) (n : Option ℕ) (e : Expression) (more : Subscripts) → n ≡ None → indexed file line anchor offset stride n e more ≡ Refer file line anchor offset (Subscript stride e more)
-  indexed_none file line anchor offset stride None e more h = refl
-  indexed_none file line anchor offset stride (Some v) e more h = cc
+  indexed_none : (module_index line : ℕ) (anchor : rest.Anchor) (offset stride : ℕ) (n : Option ℕ) (e : Expression) (more : Subscripts) → n ≡ None → indexed module_index line anchor offset stride n e more ≡ Refer module_index line anchor offset (Subscript stride e more)
+  indexed_none module_index line anchor offset stride None e more h = refl
+  indexed_none module_index line anchor offset stride (Some v) e more h = cc
 
-  subscript_step : (file line : ℕ) (anchor : rest.Anchor) (offset stride : ℕ) (more : Subscripts) (x : Purpose) (e : Expression) → value_of e ≡ None
-      → next_part (purposed x (indexed file line anchor offset stride (value_of e) e more)) ≡ map_action (λ r. purposed x (indexed file line anchor offset stride (value_of r) r more)) (E e)
-  subscript_step file line anchor offset stride more x e h =
-      ap (λ r. next_part (purposed x r)) (indexed_none file line anchor offset stride (value_of e) e more h) ∙ indexed_step file line anchor offset stride more x e h
+  subscript_step : (module_index line : ℕ) (anchor : rest.Anchor) (offset stride : ℕ) (more : Subscripts) (x : Purpose) (e : Expression) → value_of e ≡ None
+      → next_part (purposed x (indexed module_index line anchor offset stride (value_of e) e more)) ≡ map_action (λ r. purposed x (indexed module_index line anchor offset stride (value_of r) r more)) (E e)
+  subscript_step module_index line anchor offset stride more x e h =
+      ap (λ r. next_part (purposed x r)) (indexed_none module_index line anchor offset stride (value_of e) e more h) ∙ indexed_step module_index line anchor offset stride more x e h
 
   port_step : (width : Width) (d : Destination) (e : Expression) → value_of e ≡ None → next_part (aimed d (rest.ToPort width e)) ≡ map_action (λ r. aimed d (rest.ToPort width r)) (E e)
   port_step width d e h = aimed_step d (rest.ToPort width e) (rest.ToPort width) (E e) (λ v. ap (λ n. next.next_port width n v (E e)) h)

@@ -28,8 +28,8 @@ use Rattle.std.proofs.Common.{map, drop}
 use Rattle.std.specs.List.{slice_get}
 use Rattle.plm_type.specs.declared.program.Scalar as declared_scalar
 use Rattle.plm_type.specs.View.{scalar_of}
-use Rattle.plm_meaning.specs.Parts.{Part, Expr, Todo, given, part_of, redex_part, aimed, purposed, todo_in}
-use Rattle.plm_meaning.specs.Steps.{offsets_of, sizes_of, procedures_in, next_part, stored, targets_left, value_in, IsStep, FitsIn, SaysEnd}
+use Rattle.plm_meaning.specs.Context.{Part, Expr, Todo, given, part_of, redex_part, aimed, purposed, todo_in}
+use Rattle.plm_meaning.specs.Inner.Redex.{offsets_of, sizes_of, procedures_in, next_part, stored, targets_left, value_in, IsStep, FitsIn, SaysEnd}
 use Rattle.plm_meaning.proofs.Actions.{map_twice}
 use Rattle.plm_meaning.proofs.Plug as plug
 use Rattle.plm_meaning.proofs.Plug.{Active}
@@ -86,19 +86,19 @@ module _ (s : Surroundings) where
   abbrev seat : Width → Anchor → ℕ → Option Where
   seat width a address = placed (offsets_of s) (sizes_of s) width a address
 
-  pub base_step : (x : Purpose) (file line : ℕ) (base : Where) (offset : ℕ)
-      → Touch (Read widths.Word base) (λ v. purposed x (Refer file line (There v) offset NoSubscripts)) ≡ next_part s (purposed x (Refer file line (Behind base) offset NoSubscripts))
-  base_step (purpose.Read width) file line base offset = refl
-  base_step purpose.Locate file line base offset = refl
-  base_step (purpose.Store width d) file line base offset =
-      let r = Refer file line (Behind base) offset NoSubscripts in
+  pub base_step : (x : Purpose) (module_index line : ℕ) (base : Where) (offset : ℕ)
+      → Touch (Read widths.Word base) (λ v. purposed x (Refer module_index line (There v) offset NoSubscripts)) ≡ next_part s (purposed x (Refer module_index line (Behind base) offset NoSubscripts))
+  base_step (purpose.Read width) module_index line base offset = refl
+  base_step purpose.Locate module_index line base offset = refl
+  base_step (purpose.Store width d) module_index line base offset =
+      let r = Refer module_index line (Behind base) offset NoSubscripts in
       sym (same s (aimed d (rest.ToVariable width r))
       ∙ plug.aimed_step (offsets_of s) (sizes_of s) (procedures_in s) d (rest.ToVariable width r) (rest.ToVariable width) (next_reference (offsets_of s) (sizes_of s) (procedures_in s) r) (λ v. refl))
 
-  pub read_step : (width : Width) (file line : ℕ) (a : Anchor) (offset address : ℕ) (p : Option Where) → Some address ≡ at a offset → p ≡ seat width a address
-      → map_action Expr (read_at width (Refer file line a offset NoSubscripts) p) ≡ next_part s (Expr (rest.Variable width (Refer file line a offset NoSubscripts)))
-  read_step width file line a offset address p e h =
-      let r = Refer file line a offset NoSubscripts in
+  pub read_step : (width : Width) (module_index line : ℕ) (a : Anchor) (offset address : ℕ) (p : Option Where) → Some address ≡ at a offset → p ≡ seat width a address
+      → map_action Expr (read_at width (Refer module_index line a offset NoSubscripts) p) ≡ next_part s (Expr (rest.Variable width (Refer module_index line a offset NoSubscripts)))
+  read_step width module_index line a offset address p e h =
+      let r = Refer module_index line a offset NoSubscripts in
       ap (λ q. map_action Expr (read_at width r q)) h
       ∙ ap (λ o. map_action Expr (next_variable (offsets_of s) (sizes_of s) (procedures_in s) width r o (next_reference (offsets_of s) (sizes_of s) (procedures_in s) r))) e
 
@@ -118,15 +118,15 @@ module _ (s : Surroundings) where
   stored_step (destination.Assigned v ts) t a h = sym (assigned_to ts.now v t _ h ∙ ap (λ q. Touch a (λ _. q)) (left_over ts.now v t))
 
   -- a target whose store is a Bad step
-  pub bad_step : (d : Destination) (t : rest.Target) (file line : ℕ) → next_target (offsets_of s) (sizes_of s) (procedures_in s) t (value_in d) ≡ Bad file line
-      → Bad file line ≡ next_part s (aimed d t)
-  bad_step (destination.Embedded v) t file line h = sym (ap (λ x. map_action Expr (map_action (embedded_after v) x)) h)
-  bad_step (destination.Assigned v ts) t file line h = sym (assigned_to ts.now v t _ h)
+  pub bad_step : (d : Destination) (t : rest.Target) (module_index line : ℕ) → next_target (offsets_of s) (sizes_of s) (procedures_in s) t (value_in d) ≡ Bad module_index line
+      → Bad module_index line ≡ next_part s (aimed d t)
+  bad_step (destination.Embedded v) t module_index line h = sym (ap (λ x. map_action Expr (map_action (embedded_after v) x)) h)
+  bad_step (destination.Assigned v ts) t module_index line h = sym (assigned_to ts.now v t _ h)
 
-  pub written : (width : Width) (file line : ℕ) (a : Anchor) (offset address v : ℕ) (p : Option Where) → Some address ≡ at a offset → p ≡ seat width a address
-      → next_target (offsets_of s) (sizes_of s) (procedures_in s) (rest.ToVariable width (Refer file line a offset NoSubscripts)) v ≡ written_at width (Refer file line a offset NoSubscripts) p v
-  written width file line a offset address v p e h =
-      let r = Refer file line a offset NoSubscripts in
+  pub written : (width : Width) (module_index line : ℕ) (a : Anchor) (offset address v : ℕ) (p : Option Where) → Some address ≡ at a offset → p ≡ seat width a address
+      → next_target (offsets_of s) (sizes_of s) (procedures_in s) (rest.ToVariable width (Refer module_index line a offset NoSubscripts)) v ≡ written_at width (Refer module_index line a offset NoSubscripts) p v
+  written width module_index line a offset address v p e h =
+      let r = Refer module_index line a offset NoSubscripts in
       ap (λ o. next_written (offsets_of s) (sizes_of s) (procedures_in s) width r o v (next_reference (offsets_of s) (sizes_of s) (procedures_in s) r)) (sym e)
       ∙ ap (λ q. written_at width r q v) (sym h)
 

@@ -1,8 +1,8 @@
 pub mod Store
-pub mod First
+pub mod Opening
 pub mod System
-pub mod Parts
-pub mod Depth
-pub mod Steps
+pub mod Context
+pub mod Around
 pub mod Shown
-pub mod Run
+pub mod Meaning
+pub mod Inner

@@ -1,8 +1,7 @@
 -- What a run of the code stands for, where its chips stand for this state.
-use Rattle.std.specs.Prelude.{◌≡◌, List, [], ◌∷◌, map, Option, Some, None}
+use Rattle.std.specs.Prelude.{List, [], ◌∷◌, map, Option, Some, None}
 use Rattle.word86.specs.declared.label.Label.{Label}
 use Rattle.ppi_kbd.specs.Chips.{ChipState}
-use Rattle.ppi_kbd.specs.ShownPorts.{Shows}
 use Rattle.plm_meaning.specs.declared.store.Store as declared_store
 use Rattle.plm_meaning.specs.Store.{Store}
 
@@ -12,7 +11,3 @@ labels_of (Some l) = l ∷ []
 
 abbrev pub store_of : declared_store.Store → ChipState → Store ChipState
 store_of s c = record { objects = map (λ v. v.items) s.objects.items; screen = s.screen.items; chips = c }
-
--- the code's store stands for this one
-abbrev pub Leaves : declared_store.Store → Store ChipState → Type 0
-Leaves s t = (c : ChipState) × Shows s.ports c × (store_of s c ≡ t)

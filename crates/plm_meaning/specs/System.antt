@@ -108,14 +108,14 @@ module _ (sh : Shared) (R : Type 0) (next : R → Action sh.Access R) (body : �
 
 -- ---- what a choice leads to
 
--- a step with its labels, a Bad step with its file and line, or neither
+-- a step with its labels, a Bad step with its module and line, or neither
 pub data Taken (S R L : Type 0) : Type 0 where
   Makes : System S R → List L → Taken S R L
-  BadAt : (file line : ℕ) → Taken S R L
+  BadAt : (module_index line : ℕ) → Taken S R L
   Refused : Taken S R L
 
 abbrev pub bad_place : {A R : Type 0} → Action A R → Option (ℕ × ℕ)
-bad_place (Bad file line) = Some (file, line)
+bad_place (Bad module_index line) = Some (module_index, line)
 bad_place _ = None
 
 abbrev pub unless : {A : Type 0} → Bool → Option A → Option A
@@ -128,7 +128,7 @@ taken_of None (Some b) = BadAt b.0 b.1
 taken_of None None = Refused
 
 module _ (sh : Shared) (R : Type 0) (next : R → Action sh.Access R) (body : ℕ → R) where
-  -- the file and the line of the program's next step, where promptness lets it come and it is a Bad one
+  -- the module and the line of the program's next step, where promptness lets it come and it is a Bad one
   abbrev pub bad_next : Choice sh.Event → System sh.State R → Option (ℕ × ℕ)
   bad_next Program (State main (Some h) on halted w silents switches) = bad_place (next h)
   bad_next Program (State main None on true w silents switches) = None
@@ -164,6 +164,6 @@ module _ (sh : Shared) (R : Type 0) (next : R → Action sh.Access R) (body : �
       (cs : List (Choice sh.Event)) (t : System sh.State R) (made more : List sh.Label)
       → steps sh R next body cs s ≡ Some (t, made) → made ++ more ≡ labels → BadIsNext sh R next body t → ⊥
 
--- so many pieces in sequence, wherever they begin, hold a step that is no event
+-- most pieces in sequence, wherever they begin, hold a step that is no event
 abbrev pub KeepsPace : {E : Type 0} → ℕ → List (List (Choice E)) → Type 0
 KeepsPace most pieces = (i : ℕ) → i + most ≤ length pieces → some_step (joined (take most (drop i pieces))) ≡ true

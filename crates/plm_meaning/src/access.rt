@@ -4,8 +4,8 @@ ghost use Rattle.std.specs.Prelude.{◌≡◌, Some, slice_index, option_map};
 ghost use Rattle.plm_type.specs.Places.{bytes, covers, held, placed, anchored};
 ghost use Rattle.plm_type.specs.Next.{address_at};
 ghost use Rattle.plm_type.specs.View.{where_of};
-ghost use Rattle.plm_meaning.specs.Parts.{origin_of};
-ghost use Rattle.plm_meaning.specs.Steps.{sizes_in};
+ghost use Rattle.plm_meaning.specs.Context.{origin_of};
+ghost use Rattle.plm_meaning.specs.Inner.Redex.{sizes_in};
 
 use plm_decl::Object;
 use plm_type::Place;
@@ -23,9 +23,9 @@ pub enum Access {
 /// Where a reference's bytes begin, once its base is read.
 #[derive(Clone, Copy)]
 pub enum Origin {
-    /// In a RAM object, by its number: so many bytes behind its first; the size in bytes of what the name declares.
+    /// In a RAM object: its number, the index of the first byte in it, and the size in bytes of what the name declares.
     Ram(usize, u64, u64),
-    /// On the screen: so many bytes behind 0B8000H; the size in bytes.
+    /// On the screen: how many bytes after 0B8000H the first lies, and the size in bytes.
     Screen(u64, u64),
     /// At the address that the base held.
     There(u16),
@@ -33,7 +33,7 @@ pub enum Origin {
 
 /// The RAM objects and their offsets.
 #[derive(Clone, Copy)]
-pub struct Layout<'a> {
+pub struct PlacedObjects<'a> {
     pub offsets: &'a [u16],
     pub objects: &'a [Object],
 }
@@ -48,7 +48,7 @@ fn bytes(width: Width) -> u64
     }
 }
 
-// Whether so many bytes from the address on are among the size bytes from the first on.
+// Whether `count` bytes from `address` on are among the `size` bytes from `first` on.
 fn covers(first: u128, size: u64, address: u16, count: u64) -> bool
     ensures { result ≡ covers first size address count }
 {
@@ -56,7 +56,7 @@ fn covers(first: u128, size: u64, address: u16, count: u64) -> bool
         && u128::from(address) + u128::from(count) <= first + u128::from(size)
 }
 
-impl Layout<'_> {
+impl PlacedObjects<'_> {
     // The RAM object that holds all the bytes, and the index of the first.
     fn held(self, address: u16, count: u64) -> Option<Place>
         ensures { option_map where_of result ≡ held 0 self.entry.offsets.now (sizes_in self.entry) address count }
@@ -83,7 +83,7 @@ impl Layout<'_> {
         }
     }
 
-    /// The address of a reference whose bytes begin so many behind its origin, modulo 65,536.
+    /// The address of a reference whose bytes begin `offset` bytes after its origin, modulo 65,536.
     pub fn address(self, origin: Origin, offset: u64) -> u16
         ensures { Some result ≡ address_at (anchored self.entry.offsets.now (sizes_in self.entry) (origin_of origin)) offset }
     {

@@ -5,10 +5,11 @@ ghost use Rattle.plm_type.specs.Next.{parameters_of, body_of, address_at};
 ghost use Rattle.plm_type.specs.Places.{placed, anchored};
 ghost use Rattle.plm_type.specs.Programs.{main_tree, handler_tree};
 ghost use Rattle.plm_type.specs.View.{where_of, scalar_of, statements_of};
-ghost use Rattle.plm_meaning.specs.Parts.{origin_of};
-ghost use Rattle.plm_meaning.specs.Steps.{names_of, offsets_of, sizes_of, sizes_in, procedures_in};
+ghost use Rattle.plm_meaning.specs.Context.{origin_of};
+ghost use Rattle.plm_meaning.specs.Around.{names_of};
+ghost use Rattle.plm_meaning.specs.Inner.Redex.{offsets_of, sizes_of, sizes_in, procedures_in};
 
-use crate::access::{Layout, Origin};
+use crate::access::{Origin, PlacedObjects};
 use plm_decl::Placement;
 use plm_type::{Place, Program, Scalar, Statement};
 use word86::Width;
@@ -22,11 +23,11 @@ pub struct Surroundings<'a> {
 
 impl<'a> Surroundings<'a> {
     // The RAM objects and their offsets.
-    fn layout(self) -> Layout<'a>
+    fn objects(self) -> PlacedObjects<'a>
         ensures offsets { result.offsets.now ≡ offsets_of self.entry }
         ensures sizes { sizes_in result ≡ sizes_of self.entry }
     {
-        Layout {
+        PlacedObjects {
             offsets: self.placement.offsets(),
             objects: &self.program.names().objects,
         }
@@ -36,14 +37,14 @@ impl<'a> Surroundings<'a> {
     pub fn offset(self, object: usize) -> u16
         ensures { result ≡ slice_index (offsets_of self.entry) object }
     {
-        self.layout().offset(object)
+        self.objects().offset(object)
     }
 
-    /// The address of a reference whose bytes begin so many behind its origin, modulo 65,536.
+    /// The address of a reference whose bytes begin `offset` bytes after its origin, modulo 65,536.
     pub fn address(self, origin: Origin, offset: u64) -> u16
         ensures { Some result ≡ address_at (anchored (offsets_of self.entry) (sizes_of self.entry) (origin_of origin)) offset }
     {
-        self.layout().address(origin, offset)
+        self.objects().address(origin, offset)
     }
 
     /// The place of an access at an address: none where its bytes do not all lie in what the name declares, or for a based
@@ -51,7 +52,7 @@ impl<'a> Surroundings<'a> {
     pub fn place(self, width: Width, origin: Origin, address: u16) -> Option<Place>
         ensures { option_map where_of result ≡ placed (offsets_of self.entry) (sizes_of self.entry) width (origin_of origin) address }
     {
-        self.layout().place(width, origin, address)
+        self.objects().place(width, origin, address)
     }
 
     /// The parameters and the body of a procedure: none where there is no such procedure.

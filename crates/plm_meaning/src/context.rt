@@ -20,7 +20,7 @@ pub enum Purpose<'a> {
     Store(Width, Destination<'a>),
 }
 
-/// What comes behind the statements of a block or a round.
+/// What comes after the statements of a block or a round.
 #[derive(Clone, Copy)]
 pub enum Later<'a> {
     /// The end of a block.
@@ -41,7 +41,7 @@ pub enum Hole<'a> {
     Right(u16, &'a Operation, &'a [Operation]),
     Embedded(&'a Target),
     Input(Width),
-    /// A subscript of a reference: its element's size, and those behind it.
+    /// A subscript of a reference: its element's size, and the subscripts after it.
     Subscript(Purpose<'a>, Line, plm_type::Anchor, u64, u64, &'a [Subscript]),
     Port(Width, Destination<'a>),
     Assign(&'a Target, &'a [Target]),
@@ -64,7 +64,7 @@ pub enum Frame<'a> {
     Argument(usize, Vec<u16>, &'a [Expression]),
     /// The body of a call.
     Running,
-    /// Statements come behind.
+    /// Statements come after.
     Behind(&'a [Box<Statement>]),
     Later(Later<'a>),
 }
@@ -142,7 +142,7 @@ pub enum Focus<'a> {
     Statement(&'a Statement),
     /// What a RETURN leaves.
     Returned(u16),
-    /// Statements, and what comes behind them.
+    /// Statements, and what comes after them.
     Within(Later<'a>, &'a [Box<Statement>]),
     /// The body of a call begins.
     Entering(&'a [Box<Statement>]),

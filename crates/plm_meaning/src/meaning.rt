@@ -1,19 +1,21 @@
-//! The runnable meaning: the system of main, its interrupt procedures and the events from outside.
+//! The runnable meaning of a program: its state, the choice of what comes next (a step of the program, an event, an interrupt's
+//! beginning or end, waiting), and what each choice does or why it does not come.
 
 ghost use Rattle.std.specs.Prelude.{◌≡◌, List, IfOk, IfErr, IsSome, None, true};
 ghost use Rattle.word86.specs.Action.{on_after, halted_after};
 ghost use Rattle.word86.specs.declared.fault.Fault.TheVariants as fault;
 ghost use Rattle.ppi_kbd.specs.BoardChips.{board_chips};
 ghost use Rattle.ppi_kbd.specs.Chips.{ChipState};
-ghost use Rattle.ppi_kbd.specs.ShownPorts.{Shows, is_up};
-ghost use Rattle.plm_decl.specs.Placed as placed;
-ghost use Rattle.plm_decl.specs.Placed.{IsPlacement};
+ghost use Rattle.ppi_kbd.specs.Ports.{Shows, int_line};
+ghost use Rattle.plm_decl.specs.Placement as placed;
+ghost use Rattle.plm_decl.specs.Placement.{IsPlacement};
 ghost use Rattle.plm_type.specs.Rest.{Procedure as Blocks};
 ghost use Rattle.plm_meaning.specs.declared.meaning.Stop.TheVariants as stop;
 ghost use Rattle.plm_meaning.specs.Store.{shared};
 ghost use Rattle.plm_meaning.specs.System.{settled, counted, Program as Moves, Occurs, Enter, Leave, Idle};
-ghost use Rattle.plm_meaning.specs.Steps.{action_of, FitsIn};
-ghost use Rattle.plm_meaning.specs.Run.{choice_of, state_of, can_enter, Opens, Made, Stopped, Performed, StopsAt};
+ghost use Rattle.plm_meaning.specs.Inner.Redex.{action_of, FitsIn};
+ghost use Rattle.plm_meaning.specs.Meaning.{choice_of, state_of, Opens, Made, Stopped};
+ghost use Rattle.plm_meaning.specs.Inner.Meaning.{can_enter, Performed, StopsAt};
 
 use crate::around::Surroundings;
 use crate::context::{Context, Focus};
@@ -86,7 +88,7 @@ const QUIET: Step = Step { label: None };
 
 impl<'a> Meaning<'a> {
     /// The first state of a program: main begins, interrupts are off, the chips are at reset, and each object has its initial
-    /// bytes, and behind them those of RAM at its place. Asks that the placement fits the program's objects.
+    /// bytes, and after them those of RAM at its place. Asks that the placement fits the program's objects.
     ///
     /// # Errors
     ///
@@ -147,7 +149,7 @@ impl<'a> Meaning<'a> {
     // Whether an interrupt can be taken.
     fn is_pending(&self) -> bool
         ensures pending { (p : ChipState) → Shows self.now.store.ports p → result ≡ can_enter self.now p }
-        ensures up { result ≡ true → is_up self.now.store.ports ≡ true }
+        ensures up { result ≡ true → int_line self.now.store.ports ≡ true }
     {
         self.handler.is_none() && self.on && self.store.ports.int_line()
     }
@@ -168,7 +170,7 @@ impl<'a> Meaning<'a> {
         ensures made { Made self.old self.new (Occurs event) result.label }
         ensures run { self.new.around ≡ self.old.around }
     {
-        self.store.ports.event(event);
+        self.store.ports.comes(event);
         self.settle_counts();
         Step {
             label: Some(event.label()),

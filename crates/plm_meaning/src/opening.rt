@@ -1,9 +1,10 @@
-//! The objects when the power comes on.
+//! The bytes of the program's objects when the power comes on: initial values, and what RAM holds.
 
 ghost use Rattle.std.specs.Prelude.{◌≡◌, ◌<◌, ◌^◌, ◌++◌, IfOk, slice_get, map, take, drop};
-ghost use Rattle.plm_decl.specs.Known.{object_of};
-ghost use Rattle.plm_meaning.specs.First.{word as word_bytes, variable_address, datum_bytes, object_at, objects_at};
-ghost use Rattle.plm_meaning.specs.Steps.{names_of, offsets_of};
+ghost use Rattle.plm_decl.specs.Names.{object_of};
+ghost use Rattle.plm_meaning.specs.Opening.{word as word_bytes, variable_address, datum_bytes, object_at, objects_at};
+ghost use Rattle.plm_meaning.specs.Around.{names_of};
+ghost use Rattle.plm_meaning.specs.Inner.Redex.{offsets_of};
 
 use crate::around::Surroundings;
 use plm_decl::{Datum, Object, Region};
@@ -12,7 +13,7 @@ use std::alloc::{AllocError, Global};
 // Where the data segment begins in RAM.
 const DATA: usize = 0x400;
 
-// The first so many bytes, or all.
+// The first `count` bytes, or all where there are fewer.
 fn first(bytes: &[u8], count: usize) -> &[u8]
     ensures { result.now ≡ take count bytes.now }
 {
@@ -23,7 +24,7 @@ fn first(bytes: &[u8], count: usize) -> &[u8]
     }
 }
 
-// What is behind the first so many bytes.
+// What comes after the first `count` bytes.
 fn without_first(bytes: &[u8], count: usize) -> &[u8]
     ensures { result.now ≡ drop count bytes.now }
 {
@@ -68,15 +69,15 @@ impl Surroundings<'_> {
                 Ok(())
             }
             Datum::Word(word) => put_word(bytes, u128::from(word)),
-            Datum::Variable(variable, behind) => put_word(
+            Datum::Variable(variable, offset) => put_word(
                 bytes,
-                self.variable(variable) + u128::from(behind),
+                self.variable(variable) + u128::from(offset),
             ),
             Datum::Constants(object) => put_word(bytes, u128::from(self.offset(object))),
         }
     }
 
-    // The bytes of an object: its initial ones, and behind them those of RAM.
+    // The bytes of an object: its initial ones, and after them those of RAM.
     fn object(
         self,
         alloc: Global,

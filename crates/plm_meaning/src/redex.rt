@@ -1,4 +1,5 @@
-//! The step of the part that is rewritten next.
+//! The step of the part that is rewritten next: the access, the switch of interrupts or the silent step that it makes, and what
+//! stands in its place afterwards.
 
 ghost use Rattle.std.specs.Prelude.{◌≡◌, ℕ, List, ◌+◌, ◌<◌, Bool, if◌then◌else◌, nat_lt, Some, None, map, slice_get, drop, length};
 ghost use Rattle.word86.specs.Access.{Write, Access as Accessed, values};
@@ -7,8 +8,9 @@ ghost use Rattle.word86.specs.Arithmetic.{low};
 ghost use Rattle.plm_type.specs.Rest.{Expression as Tree, Passing as Stored, Refer, NoSubscripts, Round, While, Then, End, Stepping as Steps, Procedure as Blocks, Main, Handler};
 ghost use Rattle.plm_type.specs.Next.{is_odd, operated, next, next_case, next_passing, next_statements, behind, rounds_of, step_of, parameters_of, body_of};
 ghost use Rattle.plm_type.specs.View.{where_of, scalar_of, expression_of, statements_of, loop_of, procedures_of};
-ghost use Rattle.plm_meaning.specs.Parts.{Part, Expr, Todo, purposed, origin_of, part_of, phase_of, redex_part, todo_in, todo_of, IsSettled};
-ghost use Rattle.plm_meaning.specs.Steps.{offsets_of, sizes_of, procedures_in, next_part, stored, passed as passed_part, after_part, action_of, context_action, value_in, IsStep, SaysEnd, HasHalted, FitsIn};
+ghost use Rattle.plm_meaning.specs.Context.{Part, Expr, Todo, purposed, origin_of, part_of, phase_of, redex_part, todo_in, todo_of};
+ghost use Rattle.plm_meaning.specs.Inner.Context.{IsSettled};
+ghost use Rattle.plm_meaning.specs.Inner.Redex.{offsets_of, sizes_of, procedures_in, next_part, stored, passed as passed_part, after_part, action_of, context_action, value_in, IsStep, SaysEnd, HasHalted, FitsIn};
 
 use crate::access::{Access, Origin};
 use crate::around::Surroundings;
@@ -158,7 +160,7 @@ fn arm<'a>(v: u16, arm: &'a [Box<Statement>], other: &'a [Box<Statement>]) -> Fo
     }
 }
 
-// A DO WHILE behind its test.
+// A DO WHILE after its test.
 fn repeat<'a>(v: u16, condition: &'a Expression, body: &'a [Box<Statement>]) -> Focus<'a>
     ensures { part_of result ≡ Todo (if is_odd v then behind (statements_of body.now) (Then (While (expression_of condition.now) (expression_of condition.now) (statements_of body.now)) End) else End) }
 {
@@ -169,7 +171,7 @@ fn repeat<'a>(v: u16, condition: &'a Expression, body: &'a [Box<Statement>]) -> 
     }
 }
 
-// A DO with an index, behind the comparison with its bound.
+// A DO with an index, after the comparison with its bound.
 fn compare<'a>(index: u16, bound: u16, rounds: &'a Loop) -> Focus<'a>
     ensures { part_of result ≡ Todo (if nat_lt bound index then End else behind (rounds_of (loop_of rounds.now)) (Then (Steps (step_of (loop_of rounds.now)) (loop_of rounds.now)) End)) }
 {
@@ -190,7 +192,7 @@ fn values(width: Width) -> u32
     }
 }
 
-// A DO with an index, behind its store: the next round, unless the sum does not fit the index.
+// A DO with an index, after the store of its sum: the next round, unless the sum does not fit the index.
 fn end_round<'a>(sum: u32, rounds: &'a Loop) -> Focus<'a>
     ensures { part_of result ≡ Todo (if nat_lt sum (values rounds.now.index.width) then Then (Round (loop_of rounds.now)) End else End) }
 {

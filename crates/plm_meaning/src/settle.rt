@@ -3,8 +3,9 @@
 ghost use Rattle.std.specs.Prelude.{◌≡◌, suc, ◌<◌, OnOk, IfSome, IfNone, vec_len, vec_capacity};
 ghost use Rattle.plm_type.specs.Rest.{Call, More, Then, End, Returned, Value as Known};
 ghost use Rattle.plm_type.specs.View.{expression_of, expressions_of, statement_of, statements_of};
-ghost use Rattle.plm_meaning.specs.Depth.{depth, start_depth};
-ghost use Rattle.plm_meaning.specs.Parts.{Expr, Todo, given, around, start_part, todo_in, todo_of, IsSettled};
+ghost use Rattle.plm_meaning.specs.Inner.Start.{depth, start_depth};
+ghost use Rattle.plm_meaning.specs.Context.{Expr, Todo, given, around, todo_in, todo_of};
+ghost use Rattle.plm_meaning.specs.Inner.Context.{start_part, IsSettled};
 
 use crate::context::{Context, Focus, Frame, Hole, Redex, Start};
 use crate::start::{expression_start, statement_start, target_start};
@@ -118,7 +119,7 @@ fn begin_statement<'a>(
     begin(alloc, statement_start(s), context)
 }
 
-// Nothing is left to do here: what comes behind it is next.
+// Nothing is left to do here: what comes after it is next.
 #[tactic(auto, using(crate::proofs::Plug::todo_last))]
 fn at_end<'a>(alloc: Global, context: &mut Context<'a>) -> Result<(), AllocError>
     ensures rest { todo_of context.new ≡ todo_in context.old.frames.items (Todo End) }
@@ -148,7 +149,7 @@ fn at_end<'a>(alloc: Global, context: &mut Context<'a>) -> Result<(), AllocError
     Ok(())
 }
 
-// A RETURN leaves what comes behind it.
+// A RETURN leaves out what comes after it.
 #[tactic(auto, using(crate::proofs::Plug::todo_last))]
 fn give<'a>(v: u16, context: &mut Context<'a>)
     ensures rest { todo_of context.new ≡ todo_in context.old.frames.items (Todo (Returned v)) }

@@ -3,8 +3,9 @@
 ghost use Rattle.std.specs.Prelude.{◌≡◌, ◌+◌, ◌*◌, ◌%◌, ◌≤◌};
 ghost use Rattle.plm_type.specs.Rest.{Refer, NoSubscripts, Then, End, Value as Known};
 ghost use Rattle.plm_type.specs.View.{anchor_of, expression_of, reference_of, subscripts_of, target_of, statement_of};
-ghost use Rattle.plm_meaning.specs.Parts.{Expr, Todo, aimed, purposed, later_of, in_hole, redex_part, start_part};
-ghost use Rattle.plm_meaning.specs.Depth.{depth, reference_depth, subscripts_depth, start_depth};
+ghost use Rattle.plm_meaning.specs.Context.{Expr, Todo, aimed, purposed, later_of, in_hole, redex_part};
+ghost use Rattle.plm_meaning.specs.Inner.Context.{start_part};
+ghost use Rattle.plm_meaning.specs.Inner.Start.{depth, reference_depth, subscripts_depth, start_depth};
 
 use crate::access::Origin;
 use crate::context::{Destination, Hole, Later, Phase, Purpose, Redex, Start};
@@ -31,7 +32,7 @@ fn refer<'a>(purpose: Purpose<'a>, line: Line, anchor: Anchor, offset: u64) -> R
     }
 }
 
-// The offset behind a subscript, modulo 65,536.
+// The offset once a subscript has its value, modulo 65,536.
 fn indexed(offset: u64, stride: u64, index: u16) -> u64
     ensures { result ≡ (offset + stride * index) % 65536 }
 {

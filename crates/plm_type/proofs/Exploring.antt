@@ -4,7 +4,8 @@ use Rattle.std.proofs.Math.ListN.{replicate}
 use Rattle.std.proofs.lemmas.Bool.Decides.{nat_tests}
 use Rattle.std.proofs.lemmas.Option.{slice_get_past}
 use Rattle.std.proofs.lemmas.List.Elements.{Contains-push, Contains-push_cases}
-use Rattle.plm_type.specs.Reach.{Graph, row_of, LeadsBy, Leads, IsMarked, Marks, IsOnCycle}
+use Rattle.plm_type.specs.Reach.{Graph, row_of, LeadsBy, Leads, IsOnCycle}
+use Rattle.plm_type.specs.Inner.Reach.{IsMarked, Marks}
 use Rattle.plm_type.proofs.Marking.{contains_more}
 
 pub record Explored (g : Graph) (first : List ℕ) (marks : List Bool) (work : List ℕ) : Type 0 where

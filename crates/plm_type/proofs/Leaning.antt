@@ -1,17 +1,17 @@
 -- Operators of one level, one after the other, are the tree that leans left.
 use Rattle.std.proofs.Common.{◌≡◌, ℕ, List, [], ◌∷◌, ◌++◌, length, arith, append_assoc, refl, sym, ◌∙◌}
 use Rattle.std.proofs.lemmas.List.{append-nil}
-use Rattle.plm_syntax.specs.declared.tree.Place.{Place}
+use Rattle.plm_syntax.specs.declared.tree.Position.{Position}
 use Rattle.plm_syntax.specs.declared.tree.BinaryOperator.{BinaryOperator}
 use Rattle.plm_decl.specs.declared.names.Variable.{Variable}
 use Rattle.plm_decl.specs.declared.resolved.Operation.{Operation}
-use Rattle.plm_decl.specs.Known.{ProcedureR}
+use Rattle.plm_decl.specs.Names.{ProcedureR}
 use Rattle.plm_decl.specs.Resolved.{ExpressionR, BinaryR}
 use Rattle.plm_decl.specs.ResolvedView.{expression_of, leaned}
 use Rattle.plm_type.specs.Typing.{type_of}
 use Rattle.plm_type.specs.Faults.{first_place, faults_of}
 use Rattle.plm_type.specs.Trees.{tree_of}
-use Rattle.plm_type.specs.Chains.{joined_type, joined_faults, chain_type, chain_faults, chain_tree}
+use Rattle.plm_type.specs.Inner.Chains.{joined_type, joined_faults, chain_type, chain_faults, chain_tree}
 
 abbrev with_right : ExpressionR → Operation → ExpressionR
 with_right e o = BinaryR o.place o.operator e (expression_of o.operand)
@@ -25,28 +25,28 @@ pub leaned_type : (vs : List Variable) (ps : List ProcedureR) (e : ExpressionR) 
 leaned_type vs ps e [] = refl
 leaned_type vs ps e (o ∷ os) = leaned_type vs ps (with_right e o) os
 
-pub leaned_tree : (vs : List Variable) (ps : List ProcedureR) (sizes : List ℕ) (file : ℕ) (e : ExpressionR) (os : List Operation)
-    → chain_tree vs ps sizes file (tree_of vs ps sizes file e) (type_of vs ps e) os ≡ tree_of vs ps sizes file (leaned e os)
-leaned_tree vs ps sizes file e [] = refl
-leaned_tree vs ps sizes file e (o ∷ os) = leaned_tree vs ps sizes file (with_right e o) os
+pub leaned_tree : (vs : List Variable) (ps : List ProcedureR) (sizes : List ℕ) (module_index : ℕ) (e : ExpressionR) (os : List Operation)
+    → chain_tree vs ps sizes module_index (tree_of vs ps sizes module_index e) (type_of vs ps e) os ≡ tree_of vs ps sizes module_index (leaned e os)
+leaned_tree vs ps sizes module_index e [] = refl
+leaned_tree vs ps sizes module_index e (o ∷ os) = leaned_tree vs ps sizes module_index (with_right e o) os
 
-pub leaned_faults : (vs : List Variable) (ps : List ProcedureR) (file : ℕ) (e : ExpressionR) (os : List Operation)
-    → faults_of vs ps file e ++ chain_faults vs ps file (first_place e) (type_of vs ps e) os ≡ faults_of vs ps file (leaned e os)
-leaned_faults vs ps file e [] = append-nil (faults_of vs ps file e)
-leaned_faults vs ps file e (o ∷ os) =
-    sym (append_assoc (faults_of vs ps file e) (joined_faults vs ps file (first_place e) (type_of vs ps e) o) (chain_faults vs ps file (first_place e) (joined_type vs ps (type_of vs ps e) o) os))
-    ∙ leaned_faults vs ps file (with_right e o) os
+pub leaned_faults : (vs : List Variable) (ps : List ProcedureR) (module_index : ℕ) (e : ExpressionR) (os : List Operation)
+    → faults_of vs ps module_index e ++ chain_faults vs ps module_index (first_place e) (type_of vs ps e) os ≡ faults_of vs ps module_index (leaned e os)
+leaned_faults vs ps module_index e [] = append-nil (faults_of vs ps module_index e)
+leaned_faults vs ps module_index e (o ∷ os) =
+    sym (append_assoc (faults_of vs ps module_index e) (joined_faults vs ps module_index (first_place e) (type_of vs ps e) o) (chain_faults vs ps module_index (first_place e) (joined_type vs ps (type_of vs ps e) o) os))
+    ∙ leaned_faults vs ps module_index (with_right e o) os
 
 -- ---- one with operators is no reference
 
 pub record IsJoined (e : ExpressionR) : Type 0 where
-  pub place : Place
+  pub place : Position
   pub operator : BinaryOperator
   pub left : ExpressionR
   pub right : ExpressionR
   pub is : e ≡ BinaryR place operator left right
 
-joined_more : (p : Place) (o : BinaryOperator) (a b : ExpressionR) (os : List Operation) → IsJoined (leaned (BinaryR p o a b) os)
+joined_more : (p : Position) (o : BinaryOperator) (a b : ExpressionR) (os : List Operation) → IsJoined (leaned (BinaryR p o a b) os)
 joined_more p o a b [] = record { place = p; operator = o; left = a; right = b; is = refl }
 joined_more p o a b (x ∷ xs) = joined_more x.place x.operator (BinaryR p o a b) (expression_of x.operand) xs
 

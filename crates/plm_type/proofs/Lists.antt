@@ -14,15 +14,15 @@ use Rattle.plm_type.specs.View as view
 use Rattle.plm_decl.specs.declared.layout.ScalarType.{ScalarType}
 use Rattle.plm_type.specs.Types.{may_be_number, may_be_numbers, is_known_number, are_known_numbers}
 use Rattle.plm_type.specs.Trees.{strided, measured_value}
-use Rattle.plm_type.specs.Typers.{with_stride}
+use Rattle.plm_type.specs.Inner.Typer.{with_stride}
 use Rattle.plm_type.specs.Statements.{targets, assignment}
 use Rattle.word86.specs.declared.number.Number.TheVariants.{E402}
-use Rattle.plm_syntax.specs.declared.tree.Place.{Place}
+use Rattle.plm_syntax.specs.declared.tree.Position.{Position}
 use Rattle.plm_decl.specs.declared.builtin.Builtin.{Builtin}
 use Rattle.plm_decl.specs.declared.names.Variable.{Variable}
-use Rattle.plm_decl.specs.Known.{ProcedureR}
+use Rattle.plm_decl.specs.Names.{ProcedureR}
 use Rattle.plm_type.specs.Typing.{measured_type}
-use Rattle.plm_type.specs.Faults.{fault_unless, measured_faults}
+use Rattle.plm_type.specs.Faults.{fault_unless, argument_faults, measured_faults}
 
 pub drop_at : {X : Type 0} → (xs : List X) (i : ℕ) (x : X) → i < length xs → x ≡ get_or xs i x → drop i xs ≡ x ∷ drop (i + 1) xs
 drop_at xs i x h e = drop-cons xs i x h ∙ (λ j. sym e j ∷ drop (sym (add-one i) j) xs)
@@ -118,11 +118,13 @@ many_types vs ps b [] h = absurd (omega arith)
 many_types vs ps b (e ∷ []) h = absurd (omega arith)
 many_types vs ps b (e ∷ d ∷ es) h = refl
 
-pub many_faults : (vs : List Variable) (ps : List ProcedureR) (file : ℕ) (p : Place) (b : Builtin) (es : List declared_resolved.Expression) → 2 ≤ length es
-    → fault_unless file false E402 p ≡ measured_faults vs ps file p b (resolved.expressions_of es)
-many_faults vs ps file p b [] h = absurd (omega arith)
-many_faults vs ps file p b (e ∷ []) h = absurd (omega arith)
-many_faults vs ps file p b (e ∷ d ∷ es) h = refl
+pub many_faults : (vs : List Variable) (ps : List ProcedureR) (module_index : ℕ) (p : Position) (b : Builtin) (es : List declared_resolved.Expression) (x : declared_resolved.Expression) → 2 ≤ length es
+    → x ≡ get_or es 0 x
+    → argument_faults vs ps module_index p b (resolved.expression_of x) ++ fault_unless module_index false E402 p ≡ measured_faults vs ps module_index p b (resolved.expressions_of es)
+many_faults vs ps module_index p b [] x h is = absurd (omega (arith, h))
+many_faults vs ps module_index p b (e ∷ []) x h is = absurd (omega (arith, h))
+many_faults vs ps module_index p b (e ∷ d ∷ es) x h is =
+    ap (λ (y : declared_resolved.Expression). argument_faults vs ps module_index p b (resolved.expression_of y) ++ fault_unless module_index false E402 p) is
 
 -- ---- targets
 

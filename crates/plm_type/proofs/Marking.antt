@@ -4,7 +4,7 @@ use Rattle.std.proofs.Math.ListN.{set, length-set}
 use Rattle.std.proofs.lemmas.Bool.Decides.{nat_tests}
 use Rattle.std.proofs.lemmas.List.Sums.{sum_by-set}
 use Rattle.std.proofs.lemmas.List.Elements.{Contains-append_left, Contains-push, Contains-push_cases}
-use Rattle.plm_type.specs.Reach.{IsMarked, Marks}
+use Rattle.plm_type.specs.Inner.Reach.{IsMarked, Marks}
 
 pub none_marked : (m : List Bool) (w : List ℕ) → Marks m m w w []
 none_marked m w = record {

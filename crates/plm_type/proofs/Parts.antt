@@ -12,9 +12,10 @@ use Rattle.plm_type.specs.declared.program.Expression.TheViews.{out-Reference, r
 use Rattle.plm_type.specs.Rest as rest
 use Rattle.plm_type.specs.View.{expression_of, expressions_of, chained, reference_of, anchor_of, subscripts_of, target_of, targets_of}
 use Rattle.plm_type.specs.Trees.{the_only, shifted}
-use Rattle.plm_decl.specs.Layouts.{counted}
+use Rattle.plm_decl.specs.Layout.{counted}
 use Rattle.plm_type.specs.Shapes.{capped, fixed_place}
-use Rattle.plm_type.specs.Calls.{calls_in, operation_calls, target_calls, all_target_calls, targets_calls}
+use Rattle.plm_type.specs.Calls.{calls_in, target_calls, targets_calls}
+use Rattle.plm_type.specs.Inner.Calls.{operation_calls, all_target_calls}
 use Rattle.plm_type.specs.declared.program.Target.{Target}
 use Rattle.plm_type.specs.declared.program.Line.{Line}
 use Rattle.std.proofs.lemmas.Bool.Decides.{nat_tests}
@@ -43,25 +44,25 @@ not_one [] h = refl
 not_one (e ∷ []) h = absurd (h refl)
 not_one (e ∷ d ∷ es) h = refl
 
-pub not_two : (file line : ℕ) (o : BinaryOperation) (w : Width) (es : List Expression) → (length es ≡ 2 → ⊥) → shifted file line o w (expressions_of es) ≡ rest.Constant 0
-not_two file line o w [] h = refl
-not_two file line o w (e ∷ []) h = refl
-not_two file line o w (e ∷ d ∷ []) h = absurd (h refl)
-not_two file line o w (e ∷ d ∷ f ∷ es) h = refl
+pub not_two : (module_index line : ℕ) (o : BinaryOperation) (w : Width) (es : List Expression) → (length es ≡ 2 → ⊥) → shifted module_index line o w (expressions_of es) ≡ rest.Constant 0
+not_two module_index line o w [] h = refl
+not_two module_index line o w (e ∷ []) h = refl
+not_two module_index line o w (e ∷ d ∷ []) h = absurd (h refl)
+not_two module_index line o w (e ∷ d ∷ f ∷ es) h = refl
 
 -- ---- fixed places
 
-pub moved : (file line : ℕ) (a : rest.Anchor) (offset : ℕ) (ss : List Subscript) → (length ss ≡ 0 → ⊥) → fixed_place (rest.Refer file line a offset (subscripts_of ss)) ≡ None
-moved file line a offset [] h = absurd (h refl)
-moved file line (rest.InObject k start size) offset (s ∷ ss) h = refl
-moved file line (rest.OnScreen start size) offset (s ∷ ss) h = refl
-moved file line (rest.Behind b) offset (s ∷ ss) h = refl
-moved file line (rest.There b) offset (s ∷ ss) h = refl
+pub moved : (module_index line : ℕ) (a : rest.Anchor) (offset : ℕ) (ss : List Subscript) → (length ss ≡ 0 → ⊥) → fixed_place (rest.Refer module_index line a offset (subscripts_of ss)) ≡ None
+moved module_index line a offset [] h = absurd (h refl)
+moved module_index line (rest.InObject k start size) offset (s ∷ ss) h = refl
+moved module_index line (rest.OnScreen start size) offset (s ∷ ss) h = refl
+moved module_index line (rest.Behind b) offset (s ∷ ss) h = refl
+moved module_index line (rest.There b) offset (s ∷ ss) h = refl
 
-pub unmoved : (file line : ℕ) (a b : Anchor) (offset : ℕ) (ss : List Subscript) → length ss ≡ 0 → a ≡ b
-    → fixed_place (rest.Refer file line (anchor_of a) offset (subscripts_of ss)) ≡ fixed_place (rest.Refer file line (anchor_of b) offset rest.NoSubscripts)
-unmoved file line a b offset [] h e = ap (λ (x : Anchor). fixed_place (rest.Refer file line (anchor_of x) offset rest.NoSubscripts)) e
-unmoved file line a b offset (s ∷ ss) h e = cc
+pub unmoved : (module_index line : ℕ) (a b : Anchor) (offset : ℕ) (ss : List Subscript) → length ss ≡ 0 → a ≡ b
+    → fixed_place (rest.Refer module_index line (anchor_of a) offset (subscripts_of ss)) ≡ fixed_place (rest.Refer module_index line (anchor_of b) offset rest.NoSubscripts)
+unmoved module_index line a b offset [] h e = ap (λ (x : Anchor). fixed_place (rest.Refer module_index line (anchor_of x) offset rest.NoSubscripts)) e
+unmoved module_index line a b offset (s ∷ ss) h e = cc
 
 -- a sum that is cut at 2^64 - 1 first
 pub capped_counted : (n : ℕ) → capped (counted n) ≡ capped n

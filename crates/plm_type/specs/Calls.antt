@@ -1,8 +1,6 @@
 -- Which procedures a body calls, and which it reaches by calls.
 use Rattle.std.specs.Prelude.{ℕ, List, [], ◌∷◌, ◌++◌, map}
 use Rattle.plm_type.specs.Reach.{Graph, IsOnCycle}
-use Rattle.plm_type.specs.declared.program.Operation as declared
-use Rattle.plm_type.specs.View.{expression_of}
 use Rattle.plm_type.specs.Rest.{Expression, Constant, Plain, Variable, Location, Unary, Binary, Embedded, Input, Call, Value, Passing, Running, Expressions, NoMore, More, Reference, Refer, Subscripts, NoSubscripts, Subscript, Target, ToPlain, ToVariable, ToPort, Targets, Only, Also, Loop, Count, Statement, Assign, Evaluate, ReturnValue, If, Block, While, Case, Iterate, Statements, End, Then, Returned, Procedure}
 
 abbrev mutual
@@ -12,7 +10,7 @@ abbrev mutual
   calls_in (Variable w r) = reference_calls r
   calls_in (Location r) = reference_calls r
   calls_in (Unary o w e) = calls_in e
-  calls_in (Binary file line o w a b) = calls_in a ++ calls_in b
+  calls_in (Binary module_index line o w a b) = calls_in a ++ calls_in b
   calls_in (Embedded t e) = calls_in e ++ target_calls t
   calls_in (Input w e) = calls_in e
   calls_in (Call p es) = p ∷ argument_calls es
@@ -25,7 +23,7 @@ abbrev mutual
   argument_calls (More e es) = calls_in e ++ argument_calls es
 
   pub reference_calls : Reference → List ℕ
-  reference_calls (Refer file line a o s) = subscript_calls s
+  reference_calls (Refer module_index line a o s) = subscript_calls s
 
   pub subscript_calls : Subscripts → List ℕ
   subscript_calls NoSubscripts = []
@@ -35,15 +33,6 @@ abbrev mutual
   target_calls (ToPlain w x) = []
   target_calls (ToVariable w r) = reference_calls r
   target_calls (ToPort w e) = calls_in e
-
--- of the right operands of a chain
-abbrev pub operation_calls : List declared.Operation → List ℕ
-operation_calls [] = []
-operation_calls (o ∷ os) = calls_in (expression_of o.operand) ++ operation_calls os
-
-abbrev pub all_target_calls : List Target → List ℕ
-all_target_calls [] = []
-all_target_calls (t ∷ ts) = target_calls t ++ all_target_calls ts
 
 abbrev pub targets_calls : Targets → List ℕ
 targets_calls (Only t) = target_calls t

@@ -6,20 +6,23 @@ use Rattle.word86.specs.declared.fault.Fault.TheVariants.{Memory, At}
 use Rattle.plm_decl.specs.declared.names.Names.{Names}
 use Rattle.plm_decl.specs.declared.names.Procedure as declared
 use Rattle.plm_decl.specs.declared.found.Found.{Found}
-use Rattle.plm_decl.specs.Least.{IsLeast, fault_at}
+use Rattle.plm_decl.specs.Found.{IsLeast, fault_at}
 use Rattle.plm_type.specs.declared.checked.Program.{Program}
 use Rattle.plm_type.specs.Rest.{Procedure}
 use Rattle.plm_type.specs.Programs.{faults, main_tree, procedures_of}
-use Rattle.plm_type.specs.Calls.{IsRecursive}
+use Rattle.plm_type.specs.Calls.{graph_of, IsRecursive}
+use Rattle.plm_type.specs.Order.{IsOrder}
 use Rattle.plm_type.specs.View as view
 
--- ---- a program: names without fault, their trees, and no procedure that reaches itself
+-- ---- a program: names without fault, their trees, and no procedure that reaches itself, so that there is an order of them in
+-- which each stands after those that it calls
 pub record AreTyped (program : Program) (names : Names) : Type 0 where
   pub kept : program.names ≡ names
   pub main : view.statements_of program.main.items ≡ main_tree names
   pub procedures : map view.procedure_of program.procedures.items ≡ procedures_of names
   pub no_fault : faults names ≡ []
   pub no_recursion : (p : ℕ) → ¬ IsRecursive (procedures_of names) p
+  pub order : IsOrder program.order.items (graph_of (procedures_of names))
 
 -- ---- a refusal: the least of the faults, or, where there is none, the first procedure that reaches itself
 

@@ -1,5 +1,4 @@
 pub mod Rest
-pub mod Sets
 pub mod Places
 pub mod Next
 pub mod View
@@ -8,11 +7,11 @@ pub mod Shapes
 pub mod Typing
 pub mod Faults
 pub mod Trees
-pub mod Chains
 pub mod Statements
 pub mod Programs
-pub mod Typers
 pub mod Reach
+pub mod Order
 pub mod Calls
 pub mod Checked
-pub mod Warnings
+pub mod Sharing
+pub mod Inner

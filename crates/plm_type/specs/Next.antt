@@ -68,19 +68,19 @@ body_of None = End
 
 -- ---- operators
 
-abbrev pub operated : (file line : ℕ) → Option ℕ → Action Access Expression
-operated file line (Some v) = Silent (Value v)
-operated file line None = Bad file line
+abbrev pub operated : (module_index line : ℕ) → Option ℕ → Action Access Expression
+operated module_index line (Some v) = Silent (Value v)
+operated module_index line None = Bad module_index line
 
 abbrev pub next_unary : UnaryOperation → Width → Option ℕ → Action Access Expression → Action Access Expression
 next_unary o width None operand = map_action (Unary o width) operand
 next_unary o width (Some v) operand = Silent (Value (unary_value o width v))
 
 -- of two operands, the left one comes first
-abbrev pub next_binary : (file line : ℕ) → BinaryOperation → Width → Option ℕ → Option ℕ → Expression → Expression → Action Access Expression → Action Access Expression → Action Access Expression
-next_binary file line o width None y a b left right = map_action (λ r. Binary file line o width r b) left
-next_binary file line o width (Some x) None a b left right = map_action (λ r. Binary file line o width a r) right
-next_binary file line o width (Some x) (Some y) a b left right = operated file line (binary_value o width x y)
+abbrev pub next_binary : (module_index line : ℕ) → BinaryOperation → Width → Option ℕ → Option ℕ → Expression → Expression → Action Access Expression → Action Access Expression → Action Access Expression
+next_binary module_index line o width None y a b left right = map_action (λ r. Binary module_index line o width r b) left
+next_binary module_index line o width (Some x) None a b left right = map_action (λ r. Binary module_index line o width a r) right
+next_binary module_index line o width (Some x) (Some y) a b left right = operated module_index line (binary_value o width x y)
 
 abbrev pub next_input : Width → Option ℕ → Action Access Expression → Action Access Expression
 next_input width None port = map_action (rest.Input width) port
@@ -88,25 +88,25 @@ next_input width (Some p) port = Touch (Input width p) Value
 
 -- ---- subscripts from left to right, then the base
 
--- a subscript that has its value leads on by so many elements
-abbrev pub indexed : (file line : ℕ) → Anchor → (offset stride : ℕ) → Option ℕ → Expression → Subscripts → Reference
-indexed file line anchor offset stride (Some v) e more = Refer file line anchor ((offset + stride * v) % 65536) more
-indexed file line anchor offset stride None e more = Refer file line anchor offset (Subscript stride e more)
+-- a subscript that has its value moves the offset on by its stride for each element
+abbrev pub indexed : (module_index line : ℕ) → Anchor → (offset stride : ℕ) → Option ℕ → Expression → Subscripts → Reference
+indexed module_index line anchor offset stride (Some v) e more = Refer module_index line anchor ((offset + stride * v) % 65536) more
+indexed module_index line anchor offset stride None e more = Refer module_index line anchor offset (Subscript stride e more)
 
-abbrev pub next_anchor : (file line : ℕ) → Anchor → (offset : ℕ) → Action Access Reference
-next_anchor file line (Behind base) offset = Touch (Read widths.Word base) (λ v. Refer file line (There v) offset NoSubscripts)
-next_anchor file line _ offset = Over
+abbrev pub next_anchor : (module_index line : ℕ) → Anchor → (offset : ℕ) → Action Access Reference
+next_anchor module_index line (Behind base) offset = Touch (Read widths.Word base) (λ v. Refer module_index line (There v) offset NoSubscripts)
+next_anchor module_index line _ offset = Over
 
 -- ---- an access at a place, or a Bad step
 
 abbrev pub read_at : Width → Reference → Option Where → Action Access Expression
 read_at width r (Some x) = Touch (Read width x) Value
-read_at width (Refer file line anchor offset s) None = Bad file line
+read_at width (Refer module_index line anchor offset s) None = Bad module_index line
 
 -- a target that has its value is left out
 abbrev pub written_at : Width → Reference → Option Where → ℕ → Action Access (Option Target)
 written_at width r (Some x) v = Touch (Write width x (low width v)) (λ _. None)
-written_at width (Refer file line anchor offset s) None v = Bad file line
+written_at width (Refer module_index line anchor offset s) None v = Bad module_index line
 
 abbrev pub next_port : Width → Option ℕ → ℕ → Action Access Expression → Action Access (Option Target)
 next_port width None v port = map_action (λ r. Some (ToPort width r)) port
@@ -213,11 +213,11 @@ next_ending sum l later = Silent (if nat_lt sum (values (index_of l).width) then
 module _ (offsets sizes : List ℕ) (procedures : List Procedure) where
   -- a reference's address, once its subscripts have their values and its base is read
   abbrev pub address_of : Reference → Option ℕ
-  address_of (Refer file line anchor offset NoSubscripts) = address_at (anchored offsets sizes anchor) offset
-  address_of (Refer file line anchor offset (Subscript stride e more)) = None
+  address_of (Refer module_index line anchor offset NoSubscripts) = address_at (anchored offsets sizes anchor) offset
+  address_of (Refer module_index line anchor offset (Subscript stride e more)) = None
 
   abbrev pub place_of : Width → Reference → ℕ → Option Where
-  place_of width (Refer file line anchor offset s) address = placed offsets sizes width anchor address
+  place_of width (Refer module_index line anchor offset s) address = placed offsets sizes width anchor address
 
   abbrev pub next_variable : Width → Reference → Option ℕ → Action Access Reference → Action Access Expression
   next_variable width r None part = map_action (Variable width) part
@@ -238,7 +238,7 @@ module _ (offsets sizes : List ℕ) (procedures : List Procedure) where
     next_expression (Variable width r) = next_variable width r (address_of r) (next_reference r)
     next_expression (Location r) = next_location (address_of r) (next_reference r)
     next_expression (Unary o width e) = next_unary o width (value_of e) (next_expression e)
-    next_expression (Binary file line o width a b) = next_binary file line o width (value_of a) (value_of b) a b (next_expression a) (next_expression b)
+    next_expression (Binary module_index line o width a b) = next_binary module_index line o width (value_of a) (value_of b) a b (next_expression a) (next_expression b)
     next_expression (Embedded t e) = next_embedded t (value_of e) (next_target t) (next_expression e)
     next_expression (rest.Input width p) = next_input width (value_of p) (next_expression p)
     next_expression (Call p es) = next_call p (values_of es) (slice_get procedures p) (next_expressions es)
@@ -251,9 +251,9 @@ module _ (offsets sizes : List ℕ) (procedures : List Procedure) where
     next_expressions (More e es) = next_argument (value_of e) e es (next_expression e) (next_expressions es)
 
     pub next_reference : Reference → Action Access Reference
-    next_reference (Refer file line anchor offset NoSubscripts) = next_anchor file line anchor offset
-    next_reference (Refer file line anchor offset (Subscript stride e more)) =
-        map_action (λ r. indexed file line anchor offset stride (value_of r) r more) (next_expression e)
+    next_reference (Refer module_index line anchor offset NoSubscripts) = next_anchor module_index line anchor offset
+    next_reference (Refer module_index line anchor offset (Subscript stride e more)) =
+        map_action (λ r. indexed module_index line anchor offset stride (value_of r) r more) (next_expression e)
 
     -- the target gets this value, of which the low bits are stored
     pub next_target : Target → ℕ → Action Access (Option Target)

@@ -1,11 +1,11 @@
 -- What the names of a program say: the faults of its types, its trees, and what its contexts have to do at first.
-use Rattle.std.specs.Prelude.{ℕ, List, [], ◌∷◌, ◌++◌, map, cond, Option, Some, None}
+use Rattle.std.specs.Prelude.{ℕ, List, [], ◌∷◌, ◌++◌, map, cond}
 use Rattle.plm_decl.specs.declared.names.Variable.{Variable}
 use Rattle.plm_decl.specs.declared.names.Names.{Names}
 use Rattle.plm_decl.specs.declared.found.Found.{Found}
-use Rattle.plm_decl.specs.Known.{ProcedureR, procedure_of, declared_location_of, main_of}
+use Rattle.plm_decl.specs.Names.{ProcedureR, procedure_of, declared_location_of, main_of}
 use Rattle.plm_decl.specs.Statements.{handles}
-use Rattle.plm_decl.specs.Placed.{sizes_of}
+use Rattle.plm_decl.specs.Placement.{sizes_of}
 use Rattle.plm_type.specs.Rest.{Rest, Main, Handler, Statements, End, Procedure}
 use Rattle.plm_type.specs.Statements.{of_locations, of_procedures, of_main, main_for, body_for, procedure_for}
 
@@ -38,8 +38,3 @@ module _ (names : Names) where
 
   abbrev pub handler_rest : (vector : ℕ) → Rest
   handler_rest vector = Handler (handler_tree vector)
-
--- of a procedure that is looked up
-abbrev pub body_at : Option Procedure → Statements
-body_at (Some p) = p.body
-body_at None = End

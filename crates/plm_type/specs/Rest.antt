@@ -6,8 +6,8 @@ use Rattle.word86.specs.declared.operation.UnaryOperation.{UnaryOperation}
 use Rattle.word86.specs.declared.operation.BinaryOperation.{BinaryOperation}
 use Rattle.word86.specs.Access.{Where}
 
--- where a variable's bytes begin: so many bytes behind the first of a RAM object or of the screen, with the bytes that its
--- declaration takes, or at the address that its base holds
+-- where a variable's bytes begin: at this index of a RAM object or of the screen, with the size of what its declaration takes, or
+-- at the address that its base holds
 pub data Anchor : Type 0 where
   InObject : (object start size : ℕ) → Anchor
   OnScreen : (start size : ℕ) → Anchor
@@ -32,8 +32,8 @@ mutual
     Location : Reference → Expression
     -- with the width of the operand
     Unary : UnaryOperation → Width → Expression → Expression
-    -- with the file and the line of the operator, and the width of the value
-    Binary : (file line : ℕ) → BinaryOperation → Width → Expression → Expression → Expression
+    -- with the module and the line of the operator, and the width of the value
+    Binary : (module_index line : ℕ) → BinaryOperation → Width → Expression → Expression → Expression
     -- ( t := e )
     Embedded : Target → Expression → Expression
     Input : Width → Expression → Expression
@@ -49,10 +49,10 @@ mutual
     More : Expression → Expressions → Expressions
     deriving IsSet as Expressions-set
 
-  -- with the file and the line of its name; its bytes begin so many bytes behind its anchor, and behind its subscripts, of which
-  -- those that have their values are among these bytes
+  -- with the module and the line of its name; its bytes begin offset bytes after its anchor, and after its subscripts: what those
+  -- that have their values pass over is in the offset
   pub data Reference : Type 0 where
-    Refer : (file line : ℕ) → Anchor → (offset : ℕ) → Subscripts → Reference
+    Refer : (module_index line : ℕ) → Anchor → (offset : ℕ) → Subscripts → Reference
     deriving IsSet as Reference-set
 
   -- each with how many bytes an element has
@@ -101,7 +101,7 @@ mutual
     -- a round of a DO with an index begins; its index is compared with the bound
     Round : Loop → Statement
     Comparing : (index : ℕ) → Expression → Loop → Statement
-    -- behind the body: the step; the index, to which the step is added; the sum, which the index gets, and which is tested
+    -- after the body: the step; the index, to which the step is added; the sum, which the index gets, and which is tested
     Stepping : Expression → Loop → Statement
     Adding : (index step : ℕ) → Loop → Statement
     Storing : (sum : ℕ) → Loop → Statement

@@ -7,7 +7,7 @@ use Rattle.plm_decl.specs.declared.layout.Form.TheVariants as form
 use Rattle.plm_decl.specs.declared.names.Region.{Region}
 use Rattle.plm_decl.specs.declared.names.Region.TheVariants as region
 use Rattle.plm_decl.specs.declared.names.Variable.{Variable}
-use Rattle.plm_decl.specs.Layouts.{counted, elements, size_of}
+use Rattle.plm_decl.specs.Layout.{counted, elements, size_of}
 use Rattle.plm_decl.specs.Resolved.{SelectorR, no_member, member, member_at}
 use Rattle.plm_type.specs.Rest.{Anchor, InObject, OnScreen, Behind, Expression, Plain, Reference, Refer, Subscripts, NoSubscripts, Target, ToPlain, ToVariable, Scalar}
 use Rattle.plm_type.specs.Rest as rest
@@ -115,8 +115,8 @@ is_based _ = false
 
 -- a place that no subscript and no base moves
 abbrev pub fixed_place : Reference → Option Where
-fixed_place (Refer file line (InObject k start size) offset NoSubscripts) = Some (In k (capped (start + offset)))
-fixed_place (Refer file line (OnScreen start size) offset NoSubscripts) = Some (Screen (capped (start + offset)))
+fixed_place (Refer module_index line (InObject k start size) offset NoSubscripts) = Some (In k (capped (start + offset)))
+fixed_place (Refer module_index line (OnScreen start size) offset NoSubscripts) = Some (Screen (capped (start + offset)))
 fixed_place _ = None
 
 abbrev pub read_of : ScalarType → Reference → Expression

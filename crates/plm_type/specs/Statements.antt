@@ -1,23 +1,23 @@
 -- Statements, procedures and main: their faults, and what they do with types known and names as places.
-use Rattle.std.specs.Prelude.{ℕ, Bool, true, false, not, ◌&&◌, nat_le, cond, List, [], ◌∷◌, ◌++◌, slice_get, Option, Some, None, is_some}
+use Rattle.std.specs.Prelude.{ℕ, Bool, true, false, not, ◌&&◌, ◌||◌, nat_le, cond, List, [], ◌∷◌, ◌++◌, slice_get, Option, Some, None, is_some}
 use Rattle.word86.specs.declared.number.Number.TheVariants.{E401, E403}
 use Rattle.word86.specs.declared.width.Width.{Width}
 use Rattle.word86.specs.declared.width.Width.TheVariants as width
 use Rattle.word86.specs.Access.{In}
-use Rattle.plm_syntax.specs.declared.tree.Place.{Place}
+use Rattle.plm_syntax.specs.declared.tree.Position.{Position}
 use Rattle.plm_syntax.specs.declared.tree.Linkage.{Linkage}
 use Rattle.plm_syntax.specs.declared.tree.Linkage.TheVariants as linkage
 use Rattle.plm_decl.specs.declared.layout.ScalarType.{ScalarType}
 use Rattle.plm_decl.specs.declared.names.Variable.{Variable}
-use Rattle.plm_decl.specs.declared.resolved.Meaning.{Meaning}
-use Rattle.plm_decl.specs.declared.resolved.Meaning.TheVariants as meaning
+use Rattle.plm_decl.specs.declared.resolved.Binding.{Binding}
+use Rattle.plm_decl.specs.declared.resolved.Binding.TheVariants as binding
 use Rattle.plm_decl.specs.declared.found.Found.{Found}
-use Rattle.plm_decl.specs.Known.{ProcedureR, DeclaredLocationR, MainR}
+use Rattle.plm_decl.specs.Names.{ProcedureR, DeclaredLocationR, MainR}
 use Rattle.plm_decl.specs.Resolved.{ExpressionR, ReferenceR', Use, ReferencesR, no_references, references, StatementR, EmptyR, AssignR, CallR, ReturnR, ReturnValueR, EnableR, DisableR, HaltR, IfR, IfElseR, DoR, WhileR, CaseR, IterateR, StatementsR, no_statements, statements}
 use Rattle.plm_type.specs.declared.statements.Around.{Around}
 use Rattle.plm_type.specs.declared.statements.Around.TheVariants as stands
 use Rattle.plm_type.specs.Rest.{Expression, Constant, Call, Target, Targets, Only, Also, Scalar, Count, Statement, Empty, Assign, Evaluate, Return, ReturnValue, Enabling, Disabling, Halting, If, Block, While, Case, Iterate, Statements, End, Then, Procedure}
-use Rattle.plm_type.specs.Types.{width_of, may_be_number, takes}
+use Rattle.plm_type.specs.Types.{width_of, may_be_number, may_be_pointer, takes, may_be_numbers, may_be_pointers}
 use Rattle.plm_type.specs.Shapes.{form_type, is_based, scalar_for}
 use Rattle.plm_type.specs.Typing.{type_of, types_of, target_type, may_be_assigned}
 use Rattle.plm_type.specs.Faults.{first_place, fault_unless, faults_of, faults_in, call_faults, target_faults, location_faults}
@@ -50,12 +50,11 @@ abbrev pub index_for : Option Variable → Scalar
 index_for (Some v) = scalar_for v
 index_for None = record { width = width.Word; place = In 0 0 }
 
--- the value is taken by every target
+-- of the types that are known, targets' and value's, no two are of different kinds: all are numbers, or all are POINTERs
 abbrev pub all_take : List (Option ScalarType) → Option ScalarType → Bool
-all_take [] t = true
-all_take (x ∷ xs) t = takes x t && all_take xs t
+all_take xs t = (may_be_number t && may_be_numbers xs) || (may_be_pointer t && may_be_pointers xs)
 
-abbrev pub first_target : ReferencesR → ExpressionR → Place
+abbrev pub first_target : ReferencesR → ExpressionR → Position
 first_target no_references e = first_place e
 first_target (references (Use p m es s) xs) e = p
 
@@ -68,8 +67,8 @@ assignment [] e = Evaluate e
 assignment (t ∷ ts) e = Assign (targets t ts) e
 
 module _ (variables : List Variable) where
-  abbrev pub variable_meant : Meaning → Option Variable
-  variable_meant (meaning.Variable v) = slice_get variables v
+  abbrev pub variable_meant : Binding → Option Variable
+  variable_meant (binding.Variable v) = slice_get variables v
   variable_meant _ = None
 
 module _ (variables : List Variable) (procedures : List ProcedureR) where
@@ -78,47 +77,47 @@ module _ (variables : List Variable) (procedures : List ProcedureR) where
   target_types (references x xs) = target_type variables procedures x ∷ target_types xs
 
 -- ---- faults
-module _ (variables : List Variable) (procedures : List ProcedureR) (file : ℕ) where
+module _ (variables : List Variable) (procedures : List ProcedureR) (module_index : ℕ) where
   abbrev pub of_expression : ExpressionR → List Found
-  of_expression e = faults_of variables procedures file e
+  of_expression e = faults_of variables procedures module_index e
 
   -- a condition, a bound, the value of DO CASE
-  abbrev pub of_number : Place → ExpressionR → List Found
-  of_number p e = of_expression e ++ fault_unless file (may_be_number (type_of variables procedures e)) E401 p
+  abbrev pub of_number : Position → ExpressionR → List Found
+  of_number p e = of_expression e ++ fault_unless module_index (may_be_number (type_of variables procedures e)) E401 p
 
   abbrev pub of_targets : ReferencesR → List Found
   of_targets no_references = []
-  of_targets (references x xs) = target_faults variables procedures file x ++ of_targets xs
+  of_targets (references x xs) = target_faults variables procedures module_index x ++ of_targets xs
 
   -- CALL names a procedure
-  abbrev pub of_call : Place → ReferenceR' → List Found
-  of_call p (Use q (meaning.Procedure n) es s) =
-      faults_in variables procedures file es ++ call_faults variables file q (slice_get procedures n) s (types_of variables procedures es)
-  of_call p (Use q _ es s) = fault_unless file false E401 p
+  abbrev pub of_call : Position → ReferenceR' → List Found
+  of_call p (Use q (binding.Procedure n) es s) =
+      faults_in variables procedures module_index es ++ call_faults variables module_index q (slice_get procedures n) s (types_of variables procedures es)
+  of_call p (Use q _ es s) = fault_unless module_index false E401 p
 
-  abbrev pub of_index : Place → Place → Meaning → List Found
+  abbrev pub of_index : Position → Position → Binding → List Found
   of_index p q m =
-      fault_unless file (is_index (variable_meant variables m)) E401 p
-      ++ fault_unless file (may_be_assigned (variable_meant variables m)) E403 q
+      fault_unless module_index (is_index (variable_meant variables m)) E401 p
+      ++ fault_unless module_index (may_be_assigned (variable_meant variables m)) E403 q
 
-  abbrev pub of_step : Place → Option ExpressionR → List Found
+  abbrev pub of_step : Position → Option ExpressionR → List Found
   of_step p None = []
   of_step p (Some e) = of_number p e
 
   abbrev pub of_assignment : ReferencesR → ExpressionR → List Found
   of_assignment xs e =
       of_targets xs ++ (of_expression e
-      ++ fault_unless file (all_take (target_types variables procedures xs) (type_of variables procedures e)) E401 (first_target xs e))
+      ++ fault_unless module_index (all_take (target_types variables procedures xs) (type_of variables procedures e)) E401 (first_target xs e))
 
-  abbrev pub of_returned : Around → Place → ExpressionR → List Found
-  of_returned around p e = of_expression e ++ fault_unless file (may_return_value around (type_of variables procedures e)) E401 p
+  abbrev pub of_returned : Around → Position → ExpressionR → List Found
+  of_returned around p e = of_expression e ++ fault_unless module_index (may_return_value around (type_of variables procedures e)) E401 p
 
   abbrev mutual
     pub of_statement : Around → StatementR → List Found
     of_statement around (EmptyR p) = []
     of_statement around (AssignR xs e) = of_assignment xs e
     of_statement around (CallR p x) = of_call p x
-    of_statement around (ReturnR p) = fault_unless file (may_return around) E401 p
+    of_statement around (ReturnR p) = fault_unless module_index (may_return around) E401 p
     of_statement around (ReturnValueR p e) = of_returned around p e
     of_statement around (EnableR p) = []
     of_statement around (DisableR p) = []
@@ -136,16 +135,16 @@ module _ (variables : List Variable) (procedures : List ProcedureR) (file : ℕ)
     of_statements around (statements s ss) = of_statement around s ++ of_statements around ss
 
 -- ---- trees
-module _ (variables : List Variable) (procedures : List ProcedureR) (sizes : List ℕ) (file : ℕ) where
+module _ (variables : List Variable) (procedures : List ProcedureR) (sizes : List ℕ) (module_index : ℕ) where
   abbrev pub tree_for : ExpressionR → Expression
-  tree_for e = tree_of variables procedures sizes file e
+  tree_for e = tree_of variables procedures sizes module_index e
 
   abbrev pub target_trees : ReferencesR → List Target
   target_trees no_references = []
-  target_trees (references x xs) = target_of variables procedures sizes file x ∷ target_trees xs
+  target_trees (references x xs) = target_of variables procedures sizes module_index x ∷ target_trees xs
 
   abbrev pub called : ReferenceR' → Expression
-  called (Use q (meaning.Procedure n) es s) = Call (entry_of (slice_get procedures n)) (trees_of variables procedures sizes file es)
+  called (Use q (binding.Procedure n) es s) = Call (entry_of (slice_get procedures n)) (trees_of variables procedures sizes module_index es)
   called (Use q _ es s) = Constant 0
 
   -- the step is 1 if it is missing
@@ -185,16 +184,16 @@ is_external _ = false
 module _ (variables : List Variable) where
   -- a parameter is a scalar that is not based
   abbrev pub of_parameter : ℕ → Option Variable → List Found
-  of_parameter file None = []
-  of_parameter file (Some v) = fault_unless file (is_plain_scalar v) E401 v.place
+  of_parameter module_index None = []
+  of_parameter module_index (Some v) = fault_unless module_index (is_plain_scalar v) E401 v.place
 
   abbrev pub of_parameters : ℕ → List ℕ → List Found
-  of_parameters file [] = []
-  of_parameters file (x ∷ xs) = of_parameter file (slice_get variables x) ++ of_parameters file xs
+  of_parameters module_index [] = []
+  of_parameters module_index (x ∷ xs) = of_parameter module_index (slice_get variables x) ++ of_parameters module_index xs
 
-abbrev pub of_stray : ℕ → Option Place → List Found
-of_stray file None = []
-of_stray file (Some p) = fault_unless file false E401 p
+abbrev pub of_stray : ℕ → Option Position → List Found
+of_stray module_index None = []
+of_stray module_index (Some p) = fault_unless module_index false E401 p
 
 -- the number of INTERRUPT is 0 to 255
 abbrev pub interrupt_fits : Option ℕ → Bool

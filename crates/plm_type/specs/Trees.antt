@@ -10,8 +10,8 @@ use Rattle.plm_decl.specs.declared.builtin.Builtin.{Builtin}
 use Rattle.plm_decl.specs.declared.builtin.Builtin.TheVariants as builtin
 use Rattle.plm_decl.specs.declared.layout.ScalarType.TheVariants.{Word}
 use Rattle.plm_decl.specs.declared.names.Variable.{Variable}
-use Rattle.plm_decl.specs.declared.resolved.Meaning.TheVariants as meaning
-use Rattle.plm_decl.specs.Known.{ProcedureR}
+use Rattle.plm_decl.specs.declared.resolved.Binding.TheVariants as binding
+use Rattle.plm_decl.specs.Names.{ProcedureR}
 use Rattle.plm_decl.specs.Resolved.{ExpressionR, NumberR, TextR, ReferenceR, LocationR, ParenthesisedR, EmbeddedR, UnaryR, BinaryR, ReferenceR', Use, ExpressionsR, no_expressions, expressions, SelectorR, no_member, member, member_at, LocationR', LocationOf, ConstantsOf}
 use Rattle.plm_type.specs.Rest.{Expression, Constant, Location, Unary, Binary, Embedded, Input, Call, Expressions, NoMore, More, Reference, Refer, Subscripts, NoSubscripts, Subscript, Target, ToPort, InObject}
 use Rattle.plm_type.specs.Types.{width_of, binary_type, unary_operation, binary_operation}
@@ -48,7 +48,7 @@ abbrev pub to_port : Builtin → Expressions → Target
 to_port b (More e NoMore) = ToPort (width_of (port_type b)) e
 to_port b _ = ToPort width.Word (Constant 0)
 
--- subscripts over elements of so many bytes, before others
+-- subscripts over elements of stride bytes, before others
 abbrev pub strided : (stride : ℕ) → Expressions → Subscripts → Subscripts
 strided stride NoMore others = others
 strided stride (More e es) others = Subscript stride e (strided stride es others)
@@ -70,13 +70,13 @@ use_stored None s r = store_to Word r
 use_stored (Some v) s r = elim (designated v s) [ Some t ↦ store_to t r | None ↦ store_to Word r ]
 
 -- ---- references and built-ins, in the module of this number
-module _ (file : ℕ) where
+module _ (module_index : ℕ) where
   -- constant bytes: the object of this number, with its size
   abbrev pub constants_at : (line object size : ℕ) → Reference
-  constants_at line k size = Refer file line (InObject k 0 size) 0 NoSubscripts
+  constants_at line k size = Refer module_index line (InObject k 0 size) 0 NoSubscripts
 
   abbrev pub shifted : (line : ℕ) → BinaryOperation → Width → Expressions → Expression
-  shifted line o w (More a (More b NoMore)) = Binary file line o w a b
+  shifted line o w (More a (More b NoMore)) = Binary module_index line o w a b
   shifted line o w _ = Constant 0
 
   abbrev pub builtin_value : (line : ℕ) → Builtin → Width → Expressions → Expression
@@ -91,16 +91,16 @@ module _ (file : ℕ) where
   builtin_value line builtin.InputWord w es = read_port width.Word es
   builtin_value line _ w es = Constant 0
 
-module _ (variables : List Variable) (file : ℕ) where
+module _ (variables : List Variable) (module_index : ℕ) where
   -- with its subscripts, and a member's subscript
   abbrev pub refer : (line : ℕ) → Option Variable → SelectorR → Expressions → Expressions → Reference
-  refer line None s es fs = Refer file line (InObject 0 0 0) 0 NoSubscripts
-  refer line (Some v) s es fs = Refer file line (anchor_for variables v) (member_offset s) (strided v.stride es (strided (member_stride s) fs NoSubscripts))
+  refer line None s es fs = Refer module_index line (InObject 0 0 0) 0 NoSubscripts
+  refer line (Some v) s es fs = Refer module_index line (anchor_for variables v) (member_offset s) (strided v.stride es (strided (member_stride s) fs NoSubscripts))
 
 -- ---- LENGTH, LAST and SIZE are constants
 module _ (variables : List Variable) (procedures : List ProcedureR) where
   abbrev pub reference_value : Builtin → ReferenceR' → Expression
-  reference_value b (Use p (meaning.Variable v) es s) = constant (measure b (slice_get variables v) (length (types_of variables procedures es)) s)
+  reference_value b (Use p (binding.Variable v) es s) = constant (measure b (slice_get variables v) (length (types_of variables procedures es)) s)
   reference_value b (Use p _ es s) = Constant 0
 
   abbrev pub argument_value : Builtin → ExpressionR → Expression
@@ -113,7 +113,7 @@ module _ (variables : List Variable) (procedures : List ProcedureR) where
   measured_value b (expressions e (expressions d es)) = Constant 0
 
 -- ---- trees of expressions, in a program that declares these; its objects have these sizes
-module _ (variables : List Variable) (procedures : List ProcedureR) (sizes : List ℕ) (file : ℕ) where
+module _ (variables : List Variable) (procedures : List ProcedureR) (sizes : List ℕ) (module_index : ℕ) where
   abbrev mutual
     pub tree_of : ExpressionR → Expression
     tree_of (NumberR n) = constant n.value
@@ -123,7 +123,7 @@ module _ (variables : List Variable) (procedures : List ProcedureR) (sizes : Lis
     tree_of (ParenthesisedR p e) = tree_of e
     tree_of (EmbeddedR p x e) = Embedded (target_of x) (tree_of e)
     tree_of (UnaryR p o e) = Unary (unary_operation o) (width_of (type_of variables procedures e)) (tree_of e)
-    tree_of (BinaryR p o a b) = Binary file p.line (binary_operation o) (width_of (binary_type o (type_of variables procedures a) (type_of variables procedures b))) (tree_of a) (tree_of b)
+    tree_of (BinaryR p o a b) = Binary module_index p.line (binary_operation o) (width_of (binary_type o (type_of variables procedures a) (type_of variables procedures b))) (tree_of a) (tree_of b)
 
     pub trees_of : ExpressionsR → Expressions
     trees_of no_expressions = NoMore
@@ -136,17 +136,17 @@ module _ (variables : List Variable) (procedures : List ProcedureR) (sizes : Lis
     selector_trees (member_at p m e) = More (tree_of e) NoMore
 
     pub value_of : ReferenceR' → Expression
-    value_of (Use p (meaning.Variable v) es s) = use_read (slice_get variables v) s (refer variables file p.line (slice_get variables v) s (trees_of es) (selector_trees s))
-    value_of (Use p (meaning.Procedure q) es s) = Call (entry_of (slice_get procedures q)) (trees_of es)
-    value_of (Use p (meaning.Builtin b) es s) = cond (is_measure b) (measured_value variables procedures b es) (builtin_value file p.line b (width_of (first_type (types_of variables procedures es))) (trees_of es))
-    value_of (Use p meaning.Nothing es s) = Constant 0
+    value_of (Use p (binding.Variable v) es s) = use_read (slice_get variables v) s (refer variables module_index p.line (slice_get variables v) s (trees_of es) (selector_trees s))
+    value_of (Use p (binding.Procedure q) es s) = Call (entry_of (slice_get procedures q)) (trees_of es)
+    value_of (Use p (binding.Builtin b) es s) = cond (is_measure b) (measured_value variables procedures b es) (builtin_value module_index p.line b (width_of (first_type (types_of variables procedures es))) (trees_of es))
+    value_of (Use p binding.Nothing es s) = Constant 0
 
     pub location_of : LocationR' → Expression
-    location_of (LocationOf p f (Use q (meaning.Variable v) es s)) = Location (refer variables file q.line (slice_get variables v) s (trees_of es) (selector_trees s))
+    location_of (LocationOf p f (Use q (binding.Variable v) es s)) = Location (refer variables module_index q.line (slice_get variables v) s (trees_of es) (selector_trees s))
     location_of (LocationOf p f (Use q _ es s)) = Constant 0
-    location_of (ConstantsOf p f k) = Location (constants_at file p.line k (object_size (slice_get sizes k)))
+    location_of (ConstantsOf p f k) = Location (constants_at module_index p.line k (object_size (slice_get sizes k)))
 
     pub target_of : ReferenceR' → Target
-    target_of (Use p (meaning.Variable v) es s) = use_stored (slice_get variables v) s (refer variables file p.line (slice_get variables v) s (trees_of es) (selector_trees s))
-    target_of (Use p (meaning.Builtin b) es s) = to_port b (trees_of es)
+    target_of (Use p (binding.Variable v) es s) = use_stored (slice_get variables v) s (refer variables module_index p.line (slice_get variables v) s (trees_of es) (selector_trees s))
+    target_of (Use p (binding.Builtin b) es s) = to_port b (trees_of es)
     target_of (Use p _ es s) = ToPort width.Word (Constant 0)

@@ -94,6 +94,10 @@ abbrev pub may_be_numbers : List (Option ScalarType) → Bool
 may_be_numbers [] = true
 may_be_numbers (t ∷ ts) = may_be_number t && may_be_numbers ts
 
+abbrev pub may_be_pointers : List (Option ScalarType) → Bool
+may_be_pointers [] = true
+may_be_pointers (t ∷ ts) = may_be_pointer t && may_be_pointers ts
+
 abbrev pub are_known : List (Option ScalarType) → Bool
 are_known [] = true
 are_known (t ∷ ts) = is_some t && are_known ts

@@ -7,16 +7,16 @@ use Rattle.plm_decl.specs.declared.builtin.Builtin.TheVariants as builtin
 use Rattle.plm_decl.specs.declared.layout.ScalarType.{ScalarType}
 use Rattle.plm_decl.specs.declared.layout.ScalarType.TheVariants.{Byte, Word, Pointer}
 use Rattle.plm_decl.specs.declared.names.Variable.{Variable}
-use Rattle.plm_decl.specs.declared.resolved.Meaning.TheVariants as meaning
-use Rattle.plm_decl.specs.Known.{ProcedureR}
-use Rattle.plm_decl.specs.Layouts.{counted}
+use Rattle.plm_decl.specs.declared.resolved.Binding.TheVariants as binding
+use Rattle.plm_decl.specs.Names.{ProcedureR}
+use Rattle.plm_decl.specs.Layout.{counted}
 use Rattle.plm_decl.specs.Resolved.{ExpressionR, NumberR, TextR, ReferenceR, LocationR, ParenthesisedR, EmbeddedR, UnaryR, BinaryR, ReferenceR', Use, ExpressionsR, no_expressions, expressions, SelectorR, no_member, member, member_at, LocationR', LocationOf, ConstantsOf}
 use Rattle.plm_type.specs.Types.{are_known_numbers, are_known, takes, number_type, text_type, binary_type, unary_type}
 use Rattle.plm_type.specs.Shapes.{shape_fits, designated, form_type, element_count, element_size, is_on_screen}
 
 -- ---- types
 
--- arguments of the right number are taken by their parameters
+-- each argument that has a parameter is taken by it
 abbrev pub take_all : List (Option ScalarType) → List (Option ScalarType) → Bool
 take_all [] [] = true
 take_all (p ∷ ps) (t ∷ ts) = takes p t && take_all ps ts
@@ -116,16 +116,13 @@ abbrev pub may_be_located : Option Variable → Bool
 may_be_located None = true
 may_be_located (Some v) = not (is_on_screen v.region)
 
--- DATA may not be assigned
+-- DATA may not be assigned; it keeps its type as a target all the same
 abbrev pub may_be_assigned : Option Variable → Bool
 may_be_assigned None = true
 may_be_assigned (Some v) = not v.is_data
 
 abbrev pub located_type : LocationForm → Option Variable → SelectorR → List (Option ScalarType) → List (Option ScalarType) → Option ScalarType
 located_type f v s ts us = given_if (may_be_located v && use_fits true v s ts us) (Some (location_type f))
-
-abbrev pub stored_type : Option Variable → SelectorR → List (Option ScalarType) → List (Option ScalarType) → Option ScalarType
-stored_type v s ts us = given_if (may_be_assigned v) (use_type v s ts us)
 
 -- ---- the types of expressions, in a program that declares these
 module _ (variables : List Variable) where
@@ -164,10 +161,10 @@ module _ (variables : List Variable) (procedures : List ProcedureR) where
     selector_types (member_at p m e) = type_of e ∷ []
 
     pub value_type : ReferenceR' → Option ScalarType
-    value_type (Use p (meaning.Variable v) es s) = use_type (slice_get variables v) s (types_of es) (selector_types s)
-    value_type (Use p (meaning.Procedure q) es s) = called_type variables (slice_get procedures q) s (types_of es)
-    value_type (Use p (meaning.Builtin b) es s) = cond (is_measure b) (given_if (is_plain s) (measured_type b es)) (given_if (builtin_fits b s (types_of es)) (builtin_type b (types_of es)))
-    value_type (Use p meaning.Nothing es s) = None
+    value_type (Use p (binding.Variable v) es s) = use_type (slice_get variables v) s (types_of es) (selector_types s)
+    value_type (Use p (binding.Procedure q) es s) = called_type variables (slice_get procedures q) s (types_of es)
+    value_type (Use p (binding.Builtin b) es s) = cond (is_measure b) (given_if (is_plain s) (measured_type b es)) (given_if (builtin_fits b s (types_of es)) (builtin_type b (types_of es)))
+    value_type (Use p binding.Nothing es s) = None
 
     pub measured_type : Builtin → ExpressionsR → Option ScalarType
     measured_type b no_expressions = None
@@ -180,15 +177,15 @@ module _ (variables : List Variable) (procedures : List ProcedureR) where
     argument_type b _ = None
 
     pub reference_type : Builtin → ReferenceR' → Option ScalarType
-    reference_type b (Use p (meaning.Variable v) es s) = measure_type b (slice_get variables v) s (types_of es) (selector_types s)
+    reference_type b (Use p (binding.Variable v) es s) = measure_type b (slice_get variables v) s (types_of es) (selector_types s)
     reference_type b (Use p _ es s) = None
 
     pub address_type : LocationR' → Option ScalarType
-    address_type (LocationOf p f (Use q (meaning.Variable v) es s)) = located_type f (slice_get variables v) s (types_of es) (selector_types s)
+    address_type (LocationOf p f (Use q (binding.Variable v) es s)) = located_type f (slice_get variables v) s (types_of es) (selector_types s)
     address_type (LocationOf p f (Use q _ es s)) = None
     address_type (ConstantsOf p f k) = Some (location_type f)
 
     pub target_type : ReferenceR' → Option ScalarType
-    target_type (Use p (meaning.Variable v) es s) = stored_type (slice_get variables v) s (types_of es) (selector_types s)
-    target_type (Use p (meaning.Builtin b) es s) = given_if (builtin_fits b s (types_of es)) (port_type b)
+    target_type (Use p (binding.Variable v) es s) = use_type (slice_get variables v) s (types_of es) (selector_types s)
+    target_type (Use p (binding.Builtin b) es s) = given_if (builtin_fits b s (types_of es)) (port_type b)
     target_type (Use p _ es s) = None

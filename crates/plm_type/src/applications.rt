@@ -1,10 +1,10 @@
-//! Procedures and built-ins with arguments that are typed.
+//! Calls of procedures and of built-ins, whose arguments are typed already: their faults, types and trees.
 
-ghost use Rattle.std.specs.Prelude.{◌≡◌, ◌++◌, IfOk, OnOk, option_map};
-ghost use Rattle.plm_decl.specs.Known.{procedure_of};
+ghost use Rattle.std.specs.Prelude.{◌≡◌, ◌++◌, IfOk, OnOk, option_map, take};
+ghost use Rattle.plm_decl.specs.Names.{procedure_of};
 ghost use Rattle.plm_decl.specs.ResolvedView as resolved;
 ghost use Rattle.plm_type.specs.Rest.{Call};
-ghost use Rattle.plm_type.specs.Typers.{variables};
+ghost use Rattle.plm_type.specs.Inner.Typer.{variables};
 ghost use Rattle.plm_type.specs.Types as scalars;
 ghost use Rattle.plm_type.specs.Typing as typing;
 ghost use Rattle.plm_type.specs.Faults as found;
@@ -22,7 +22,7 @@ use crate::typer::{Typed, TypedList, Typer};
 use crate::types::{are_known, may_be_numbers, takes};
 use plm_decl::found::Found;
 use plm_decl::{Builtin, Procedure, Reference, ScalarType, Selector, Variable};
-use plm_syntax::Place;
+use plm_syntax::Position;
 use std::alloc::AllocError;
 use word86::Number;
 
@@ -53,8 +53,19 @@ pub fn entry_of(procedure: Option<&Procedure>) -> usize
     }
 }
 
+/// The types of as many arguments, or of all where there are fewer.
+fn first(types: &[Option<ScalarType>], count: usize) -> &[Option<ScalarType>]
+    ensures { result.now ≡ take count types.now }
+{
+    if count <= types.len() {
+        types.split_at(count).0
+    } else {
+        types
+    }
+}
+
 impl Typer<'_> {
-    /// Whether arguments of the right number are taken by their parameters.
+    /// Whether each argument that has a parameter is taken by it.
     fn take_all(&self, parameters: &[usize], types: &[Option<ScalarType>]) -> bool
         ensures { result ≡ typing.take_all (typing.parameter_types (variables self.now) parameters.now) types.now }
     {
@@ -92,7 +103,7 @@ impl Typer<'_> {
     /// Notes the faults of a call: the number and the types of its arguments.
     pub fn note_call(
         &self,
-        place: Place,
+        place: Position,
         procedure: Option<&Procedure>,
         selector: &Selector,
         types: &[Option<ScalarType>],
@@ -104,9 +115,8 @@ impl Typer<'_> {
             return self.note_unless(false, Number::E401, place, faults);
         };
         self.note_unless(is_plain(selector), Number::E401, place, faults)?;
-        if procedure.parameters.len() != types.len() {
-            return self.note_unless(false, Number::E402, place, faults);
-        }
+        let has_all = procedure.parameters.len() == types.len();
+        self.note_unless(has_all, Number::E402, place, faults)?;
         let are_taken = self.take_all(&procedure.parameters, types);
         self.note_unless(are_taken, Number::E401, place, faults)
     }
@@ -139,9 +149,10 @@ impl Typer<'_> {
         })
     }
 
+    /// Notes the faults of a built-in: the number and the types of its arguments.
     fn note_builtin(
         &self,
-        place: Place,
+        place: Position,
         builtin: Builtin,
         selector: &Selector,
         types: &[Option<ScalarType>],
@@ -150,10 +161,10 @@ impl Typer<'_> {
         ensures { OnOk result (faults.new.items ≡ faults.old.items ++ found.builtin_faults self.now.module place builtin (resolved.selector_of selector.now) types.now) }
     {
         self.note_unless(is_plain(selector), Number::E401, place, faults)?;
-        if types.len() != arity(builtin) {
-            return self.note_unless(false, Number::E402, place, faults);
-        }
-        self.note_unless(may_be_numbers(types), Number::E401, place, faults)
+        let has_all = types.len() == arity(builtin);
+        self.note_unless(has_all, Number::E402, place, faults)?;
+        let are_taken = may_be_numbers(first(types, arity(builtin)));
+        self.note_unless(are_taken, Number::E401, place, faults)
     }
 
     /// A built-in as a value, but LENGTH, LAST and SIZE.

@@ -1,4 +1,4 @@
-//! Built-in procedures: what they take and answer.
+//! Built-in procedures: how many arguments each takes, the type of its value, and the tree that stands for its call.
 
 ghost use Rattle.std.specs.Prelude.{◌≡◌, ◌∷◌, [], IfOk, option_map};
 ghost use Rattle.plm_decl.specs.ResolvedView.{selector_of};
@@ -24,7 +24,7 @@ pub fn arity(builtin: Builtin) -> usize
     }
 }
 
-/// What LENGTH, LAST and SIZE answer of so many elements of so many bytes.
+/// What LENGTH, LAST and SIZE answer where there are `elements` elements of `size` bytes each.
 pub fn measured(builtin: Builtin, elements: u64, size: u64) -> u64
     ensures { result ≡ typing.measured builtin elements size }
 {
@@ -88,7 +88,7 @@ pub fn port_type(builtin: Builtin) -> Option<ScalarType>
     }
 }
 
-/// Whether a name has no member behind it.
+/// Whether no member follows a name.
 pub fn is_plain(selector: &Selector) -> bool
     ensures { result ≡ typing.is_plain (selector_of selector.now) }
 {

@@ -1,8 +1,9 @@
-//! Which procedures a body calls.
+//! Which procedures a body calls, by the calls that stand in its typed tree.
 
 ghost use Rattle.std.specs.Prelude.{◌≡◌, ◌++◌, IfOk, OnOk, map};
 ghost use Rattle.plm_type.specs.Calls as spec;
-ghost use Rattle.plm_type.specs.Reach.{rows};
+ghost use Rattle.plm_type.specs.Inner.Calls as inner;
+ghost use Rattle.plm_type.specs.Inner.Reach.{rows};
 ghost use Rattle.plm_type.specs.View as view;
 
 use crate::program::{Expression, Loop, Operation, Procedure, Reference, Statement, Target};
@@ -36,7 +37,7 @@ fn add_calls(e: &Expression, called: &mut Vec<usize>) -> Result<(), AllocError>
 
 #[cycle(calls)]
 fn add_operations(operations: &[Operation], called: &mut Vec<usize>) -> Result<(), AllocError>
-    ensures { OnOk result (called.new.items ≡ called.old.items ++ spec.operation_calls operations.now) }
+    ensures { OnOk result (called.new.items ≡ called.old.items ++ inner.operation_calls operations.now) }
 {
     for operation in operations {
         add_calls(&operation.operand, called)?;
@@ -76,7 +77,7 @@ fn add_target(target: &Target, called: &mut Vec<usize>) -> Result<(), AllocError
 }
 
 fn add_targets(targets: &[Target], called: &mut Vec<usize>) -> Result<(), AllocError>
-    ensures { OnOk result (called.new.items ≡ called.old.items ++ spec.all_target_calls (map view.target_of targets.now)) }
+    ensures { OnOk result (called.new.items ≡ called.old.items ++ inner.all_target_calls (map view.target_of targets.now)) }
 {
     for target in targets {
         add_target(target, called)?;

@@ -1,12 +1,14 @@
-//! A program that is typed.
+//! A typed program, and what its type keeps: its trees are what its names say, and its procedures have an order.
 
-ghost use Rattle.std.specs.Prelude.{◌≡◌, ℕ, [], slice_get};
-ghost use Rattle.plm_decl.specs.Known.{procedure_of};
+ghost use Rattle.std.specs.Prelude.{◌≡◌, ℕ, ◌<◌, [], slice_get, length, Some, Contains};
+ghost use Rattle.plm_decl.specs.Names.{procedure_of};
 ghost use Rattle.plm_decl.specs.Statements as declared;
-ghost use Rattle.plm_type.specs.Sets.{Statements-set, Procedures-set};
-ghost use Rattle.plm_type.specs.Programs as spec;
+ghost use Rattle.plm_type.specs.Inner.Sets.{Statements-set, Procedures-set};
+ghost use Rattle.plm_type.specs.Inner.Checked.{body_at};
 ghost use Rattle.plm_type.specs.Programs.{faults, main_tree, handler_tree, procedures_of};
-ghost use Rattle.plm_type.specs.Calls.{IsRecursive};
+ghost use Rattle.plm_type.specs.Reach.{row_of};
+ghost use Rattle.plm_type.specs.Order.{place_in};
+ghost use Rattle.plm_type.specs.Calls.{graph_of, IsRecursive};
 ghost use Rattle.plm_type.specs.View as view;
 
 use crate::program::{Procedure, Statement};
@@ -20,6 +22,7 @@ pub struct Program {
     pub(crate) names: Names,
     pub(crate) main: Vec<Box<Statement>>,
     pub(crate) procedures: Vec<Procedure>,
+    pub(crate) order: Vec<usize>,
     // Main does what the names say, and so does each procedure.
     ghost main_is: { view.statements_of main.items ≡ main_tree names } by { Statements-set (view.statements_of main.items) (main_tree names) },
     ghost procedures_are: { view.procedures_of procedures.items ≡ procedures_of names } by { Procedures-set (view.procedures_of procedures.items) (procedures_of names) },
@@ -27,6 +30,11 @@ pub struct Program {
     ghost no_fault: { faults names ≡ [] },
     // No procedure reaches itself.
     ghost no_recursion: { (p : ℕ) → ¬ IsRecursive (procedures_of names) p },
+    // Each procedure stands in the order once, after those that it calls.
+    ghost only: { length order.items ≡ length (graph_of (procedures_of names)) },
+    ghost each: { (p : ℕ) → p < length (graph_of (procedures_of names)) → slice_get order.items (place_in order.items p) ≡ Some p },
+    ghost once: { (i p : ℕ) → slice_get order.items i ≡ Some p → place_in order.items p ≡ i },
+    ghost later: { (p q : ℕ) → p < length (graph_of (procedures_of names)) → q < length (graph_of (procedures_of names)) → Contains (row_of (slice_get (graph_of (procedures_of names)) p)) q → place_in order.items q < place_in order.items p },
 }
 
 /// Whether an interrupt of this vector enters the procedure.
@@ -38,7 +46,7 @@ fn handles(procedure: &plm_decl::Procedure, vector: u8) -> bool
 
 /// The statements of the procedure of this number, none where there is no such procedure.
 fn body_at(procedures: &[Procedure], number: usize) -> &[Box<Statement>]
-    ensures { view.statements_of result.now ≡ spec.body_at (slice_get (view.procedures_of procedures.now) number) }
+    ensures { view.statements_of result.now ≡ body_at (slice_get (view.procedures_of procedures.now) number) }
 {
     match procedures.get(number) {
         Some(procedure) => procedure.body.as_slice(),
@@ -50,7 +58,7 @@ impl Program {
     ghost use Rattle.plm_type.specs.Checked.{AreTyped};
 
     /// What the modules declare. The program is what these names say, its types have no fault, and no procedure reaches
-    /// itself.
+    /// itself: there is an order in which each stands after those that it calls.
     pub fn names(&self) -> &Names
         ensures names { result.now ≡ self.now.names }
         ensures typed { AreTyped self.now result.now }
@@ -70,6 +78,13 @@ impl Program {
         ensures { result.now ≡ self.now.procedures.items }
     {
         self.procedures.as_slice()
+    }
+
+    /// The numbers of all procedures, each once, after those of all that it calls.
+    pub fn order(&self) -> &[usize]
+        ensures { result.now ≡ self.now.order.items }
+    {
+        self.order.as_slice()
     }
 
     /// The statements of the procedure that an interrupt of this vector enters: none where it has no procedure.

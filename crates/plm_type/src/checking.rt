@@ -1,42 +1,46 @@
-//! From names to a program that is typed.
+//! `check`: from names to a typed program, or to the least of their faults.
 
-ghost use Rattle.std.specs.Prelude.{◌≡◌, ℕ, IfOk, IfErr, IfSome, IfNone, length};
-ghost use Rattle.plm_type.specs.Calls.{IsRecursive};
+ghost use Rattle.std.specs.Prelude.{◌≡◌, ℕ, IfOk, IfErr, length};
+ghost use Rattle.plm_type.specs.Calls.{graph_of, IsRecursive};
+ghost use Rattle.plm_type.specs.Order.{IsOrder};
 ghost use Rattle.plm_type.specs.Checked as spec;
 ghost use Rattle.plm_type.specs.View.{procedures_of};
 
 use crate::calls::call_graph;
 use crate::checked::Program;
+use crate::order::by_level;
 use crate::program::Procedure;
-use crate::reach::first_on_cycle;
+use crate::reach::levels_or_cycle;
 use crate::typer::Typer;
 use plm_decl::Names;
 use plm_decl::found::{Found, least};
 use std::alloc::{AllocError, Global};
 use word86::{Fault, Number};
 
-/// The first procedure that reaches itself, as a fault of the whole program.
-fn recursion(
+/// The procedures in an order in which each stands after those that it calls; or the first procedure that reaches itself,
+/// as a fault of the whole program.
+fn order_of(
     alloc: Global,
     names: &Names,
     procedures: &[Procedure],
-) -> Result<Option<Found>, AllocError>
+) -> Result<Result<Vec<usize>, Found>, AllocError>
     requires { length procedures.now ≡ length names.now.procedures.items }
-    ensures found { IfOk result (λ found. IfSome found (λ f. spec.IsRecursion (procedures_of procedures.now) names.now f)) }
-    ensures none { IfOk result (λ found. IfNone found ((p : ℕ) → ¬ IsRecursive (procedures_of procedures.now) p)) }
+    ensures order { IfOk result (λ found. IfOk found (λ order. IsOrder order.items (graph_of (procedures_of procedures.now)))) }
+    ensures none { IfOk result (λ found. IfOk found (λ order. (p : ℕ) → ¬ IsRecursive (procedures_of procedures.now) p)) }
+    ensures cycle { IfOk result (λ found. IfErr found (λ f. spec.IsRecursion (procedures_of procedures.now) names.now f)) }
 {
     let graph = call_graph(alloc, procedures)?;
-    let Some(number) = first_on_cycle(alloc, &graph)? else {
-        return Ok(None);
-    };
-    let Some(procedure) = names.procedures.get(number) else {
-        return Ok(None);
-    };
-    Ok(Some(Found {
-        module: procedure.module,
-        place: procedure.place,
-        number: Number::E404,
-    }))
+    match levels_or_cycle(alloc, &graph)? {
+        Ok(levels) => Ok(Ok(by_level(alloc, &levels)?)),
+        Err(number) => {
+            let procedure = &names.procedures[number];
+            Ok(Err(Found {
+                module: procedure.module,
+                place: procedure.place,
+                number: Number::E404,
+            }))
+        }
+    }
 }
 
 /// The program that these names declare, with the types of all expressions; or the least fault by module, token and
@@ -58,12 +62,13 @@ pub fn check(alloc: Global, names: Names) -> Result<Program, Fault>
     if let Some(found) = least(&faults) {
         return Err(found.fault());
     }
-    if let Some(found) = recursion(alloc, &names, &procedures)? {
-        return Err(found.fault());
+    match order_of(alloc, &names, &procedures)? {
+        Ok(order) => Ok(Program {
+            names,
+            main,
+            procedures,
+            order,
+        }),
+        Err(found) => Err(found.fault()),
     }
-    Ok(Program {
-        names,
-        main,
-        procedures,
-    })
 }

@@ -5,12 +5,12 @@ ghost use Rattle.word86.specs.declared.number.Number.TheVariants.{E401, E402};
 ghost use Rattle.plm_decl.specs.ResolvedView as resolved;
 ghost use Rattle.plm_type.specs.Rest.{Constant, Unary, Binary, Embedded};
 ghost use Rattle.plm_type.specs.Rest as rest;
-ghost use Rattle.plm_type.specs.Typers.{variables, procedures, sizes};
+ghost use Rattle.plm_type.specs.Inner.Typer.{variables, procedures, sizes};
 ghost use Rattle.plm_type.specs.Types as scalars;
 ghost use Rattle.plm_type.specs.Typing as typing;
 ghost use Rattle.plm_type.specs.Faults as found;
 ghost use Rattle.plm_type.specs.Trees as spec;
-ghost use Rattle.plm_type.specs.Chains as chains;
+ghost use Rattle.plm_type.specs.Inner.Chains as chains;
 ghost use Rattle.plm_type.specs.View as view;
 
 use crate::builtins::{applied, constant, is_measure, is_plain, is_target, operation, text_value};
@@ -22,14 +22,14 @@ use crate::types::{
     unary_operation, unary_type, width_of,
 };
 use plm_decl::found::Found;
-use plm_decl::{Builtin, Location, Meaning, Selector};
-use plm_syntax::{BinaryOperator, LocationForm, Place, UnaryOperator};
+use plm_decl::{Builtin, Location, Binding, Selector};
+use plm_syntax::{BinaryOperator, LocationForm, Position, UnaryOperator};
 use std::alloc::{AllocError, Global};
 use word86::{Number, Width};
 
 /// Where an expression begins.
 #[cycle(first_place)]
-pub fn first_place(e: &plm_decl::Expression) -> Place
+pub fn first_place(e: &plm_decl::Expression) -> Position
     ensures { result ≡ found.first_place (resolved.expression_of e.now) }
 {
     match e {
@@ -69,7 +69,7 @@ fn assigned(alloc: Global, target: Target, value: Expression) -> Result<Expressi
 impl Typer<'_> {
     fn number(
         &self,
-        number: plm_syntax::Number,
+        number: plm_syntax::Numeral,
         faults: &mut Vec<Found>,
     ) -> Result<Typed, AllocError>
         ensures tree { IfOk result (λ r. view.expression_of r.tree ≡ spec.constant number.value) }
@@ -86,7 +86,7 @@ impl Typer<'_> {
 
     fn text(
         &self,
-        place: Place,
+        place: Position,
         characters: &[u8],
         faults: &mut Vec<Found>,
     ) -> Result<Typed, AllocError>
@@ -104,7 +104,7 @@ impl Typer<'_> {
 
     fn embedded(
         &self,
-        place: Place,
+        place: Position,
         target: TypedTarget,
         value: Typed,
         faults: &mut Vec<Found>,
@@ -126,7 +126,7 @@ impl Typer<'_> {
 
     fn unary(
         &self,
-        place: Place,
+        place: Position,
         operator: UnaryOperator,
         operand: Typed,
         faults: &mut Vec<Found>,
@@ -147,9 +147,9 @@ impl Typer<'_> {
     /// An operator between two operands, of which the first begins at the second place.
     fn binary(
         &self,
-        place: Place,
+        place: Position,
         operator: BinaryOperator,
-        first: Place,
+        first: Position,
         left: Typed,
         right: Typed,
         faults: &mut Vec<Found>,
@@ -175,7 +175,7 @@ impl Typer<'_> {
     }
 
     /// What is faulty, and has no value.
-    fn refused(&self, place: Place, faults: &mut Vec<Found>) -> Result<Typed, AllocError>
+    fn refused(&self, place: Position, faults: &mut Vec<Found>) -> Result<Typed, AllocError>
         ensures tree { IfOk result (λ r. view.expression_of r.tree ≡ Constant 0) }
         ensures scalar { IfOk result (λ r. r.scalar ≡ None) }
         ensures faults { OnOk result (faults.new.items ≡ faults.old.items ++ found.fault_unless self.now.module false E401 place) }
@@ -185,7 +185,7 @@ impl Typer<'_> {
     }
 
     /// A call with the wrong number of arguments, which has no value.
-    fn miscounted(&self, place: Place, faults: &mut Vec<Found>) -> Result<Typed, AllocError>
+    fn miscounted(&self, place: Position, faults: &mut Vec<Found>) -> Result<Typed, AllocError>
         ensures tree { IfOk result (λ r. view.expression_of r.tree ≡ Constant 0) }
         ensures scalar { IfOk result (λ r. r.scalar ≡ None) }
         ensures faults { OnOk result (faults.new.items ≡ faults.old.items ++ found.fault_unless self.now.module false E402 place) }
@@ -205,7 +205,7 @@ impl Typer<'_> {
     }
 
     /// The location of constant bytes.
-    fn constants(&self, place: Place, form: LocationForm, object: usize) -> Typed
+    fn constants(&self, place: Position, form: LocationForm, object: usize) -> Typed
         ensures tree { view.expression_of result.tree ≡ rest.Location (spec.constants_at self.now.module place.line object (spec.object_size (slice_get (sizes self.now) object))) }
         ensures scalar { result.scalar ≡ Some (typing.location_type form) }
     {
@@ -253,12 +253,12 @@ impl Typer<'_> {
         }
     }
 
-    /// Operators of one level with their right operands, behind a left operand that begins at the place.
+    /// Operators of one level with their right operands, after a left operand that begins at the place `first`.
     #[cycle(expression)]
     fn operations(
         &self,
         operations: &[plm_decl::Operation],
-        first: Place,
+        first: Position,
         left: Typed,
         faults: &mut Vec<Found>,
     ) -> Result<Typed, AllocError>
@@ -349,16 +349,16 @@ impl Typer<'_> {
         ensures scalar { IfOk result (λ r. r.scalar ≡ typing.value_type (variables self.now) (procedures self.now) (resolved.reference_of reference.now)) }
         ensures faults { OnOk result (faults.new.items ≡ faults.old.items ++ found.value_faults (variables self.now) (procedures self.now) self.now.module (resolved.reference_of reference.now)) }
     {
-        match reference.meaning {
-            Meaning::Variable(variable) => {
+        match reference.binding {
+            Binding::Variable(variable) => {
                 let parts = self.parts(reference, faults)?;
                 self.read(reference, self.variable(variable), parts, faults)
             }
-            Meaning::Procedure(procedure) => {
+            Binding::Procedure(procedure) => {
                 let arguments = self.list(&reference.subscripts, faults)?;
                 self.called(reference, self.procedure(procedure), arguments, faults)
             }
-            Meaning::Builtin(builtin) => {
+            Binding::Builtin(builtin) => {
                 self.note_unless(!is_target(builtin), Number::E401, reference.place, faults)?;
                 if is_measure(builtin) {
                     return self.measure_call(reference, builtin, faults);
@@ -366,7 +366,7 @@ impl Typer<'_> {
                 let arguments = self.list(&reference.subscripts, faults)?;
                 self.operated(reference, builtin, arguments, faults)
             }
-            Meaning::Nothing => self.refused(reference.place, faults),
+            Binding::Nothing => self.refused(reference.place, faults),
         }
     }
 
@@ -388,11 +388,11 @@ impl Typer<'_> {
         Ok(typed.given_if(plain))
     }
 
-    /// LENGTH, LAST or SIZE of one argument.
+    /// LENGTH, LAST or SIZE of one argument; the first of several is judged all the same.
     #[cycle(expression)]
     fn arguments(
         &self,
-        place: Place,
+        place: Position,
         builtin: Builtin,
         es: &[plm_decl::Expression],
         faults: &mut Vec<Found>,
@@ -404,7 +404,10 @@ impl Typer<'_> {
         match es {
             [] => self.miscounted(place, faults),
             [argument] => self.argument(place, builtin, argument, faults),
-            [_, _, ..] => self.miscounted(place, faults),
+            [first, _, ..] => {
+                self.argument(place, builtin, first, faults)?;
+                self.miscounted(place, faults)
+            }
         }
     }
 
@@ -412,7 +415,7 @@ impl Typer<'_> {
     #[cycle(expression)]
     fn argument(
         &self,
-        place: Place,
+        place: Position,
         builtin: Builtin,
         argument: &plm_decl::Expression,
         faults: &mut Vec<Found>,
@@ -423,7 +426,7 @@ impl Typer<'_> {
     {
         match argument {
             plm_decl::Expression::Reference(reference) => {
-                let Meaning::Variable(variable) = reference.meaning else {
+                let Binding::Variable(variable) = reference.binding else {
                     return self.refused(place, faults);
                 };
                 let parts = self.parts(reference, faults)?;
@@ -458,7 +461,7 @@ impl Typer<'_> {
     {
         match location {
             Location::Reference(place, form, reference) => {
-                let Meaning::Variable(variable) = reference.meaning else {
+                let Binding::Variable(variable) = reference.binding else {
                     return self.refused(*place, faults);
                 };
                 let parts = self.parts(reference, faults)?;
@@ -487,16 +490,16 @@ impl Typer<'_> {
         ensures scalar { IfOk result (λ r. r.scalar ≡ typing.target_type (variables self.now) (procedures self.now) (resolved.reference_of reference.now)) }
         ensures faults { OnOk result (faults.new.items ≡ faults.old.items ++ found.target_faults (variables self.now) (procedures self.now) self.now.module (resolved.reference_of reference.now)) }
     {
-        match reference.meaning {
-            Meaning::Variable(variable) => {
+        match reference.binding {
+            Binding::Variable(variable) => {
                 let parts = self.parts(reference, faults)?;
                 self.stored(reference, self.variable(variable), parts, faults)
             }
-            Meaning::Builtin(builtin) => {
+            Binding::Builtin(builtin) => {
                 let arguments = self.list(&reference.subscripts, faults)?;
                 self.port(reference, builtin, arguments, faults)
             }
-            Meaning::Procedure(_) | Meaning::Nothing => {
+            Binding::Procedure(_) | Binding::Nothing => {
                 self.note_unless(false, Number::E401, reference.place, faults)?;
                 Ok(TypedTarget {
                     tree: Target::Port(Width::Word, Expression::Constant(0)),

@@ -1,40 +1,41 @@
-//! An order of procedures in which each stands before those that it calls. Where there is one, none reaches itself.
+//! An order of procedures in which each stands after those that it calls. Where there is one, none reaches itself.
 
-ghost use Rattle.std.specs.Prelude.{◌≡◌, ℕ, ◌<◌, IsTrue, Contains, slice_index_or};
-ghost use Rattle.plm_type.specs.Reach.{rows, IsOrder};
+ghost use Rattle.std.specs.Prelude.{◌≡◌, ℕ, ◌<◌, IsTrue, IfOk, Contains, length, slice_index_or};
+ghost use Rattle.plm_type.specs.Inner.Reach.{rows, AreLevels};
+ghost use Rattle.plm_type.specs.Inner.Order.{IsOrdered};
 
 use crate::reach::row_at;
 use std::alloc::{AllocError, Global};
 
-/// Where the procedure stands, counted from 1; 0 where it has no place.
-fn place_of(places: &[usize], procedure: usize) -> usize
-    ensures { result ≡ slice_index_or places.now procedure 0 }
+/// The procedure's level, counted from 1; 0 where it has none.
+fn level_of(levels: &[usize], procedure: usize) -> usize
+    ensures { result ≡ slice_index_or levels.now procedure 0 }
 {
-    match places.get(procedure) {
-        Some(place) => *place,
+    match levels.get(procedure) {
+        Some(level) => *level,
         None => 0,
     }
 }
 
-/// Whether the procedure stands before each of these.
-fn is_before(places: &[usize], procedure: usize, called: &[usize]) -> bool
-    ensures { IsTrue result → (q : ℕ) → Contains called.now q → slice_index_or places.now procedure 0 < slice_index_or places.now q 0 }
+/// Whether the procedure stands above each of these.
+fn is_above(levels: &[usize], procedure: usize, called: &[usize]) -> bool
+    ensures { IsTrue result → (q : ℕ) → Contains called.now q → slice_index_or levels.now q 0 < slice_index_or levels.now procedure 0 }
 {
-    let place = place_of(places, procedure);
+    let level = level_of(levels, procedure);
     for other in called {
-        if place_of(places, *other) <= place {
+        if level <= level_of(levels, *other) {
             return false;
         }
     }
     true
 }
 
-/// Whether each procedure stands before those that it calls.
-pub fn is_order(places: &[usize], graph: &[Vec<usize>]) -> bool
-    ensures { IsTrue result → IsOrder places.now (rows graph.now) }
+/// Whether each procedure stands above those that it calls.
+pub fn are_levels(levels: &[usize], graph: &[Vec<usize>]) -> bool
+    ensures { IsTrue result → AreLevels levels.now (rows graph.now) }
 {
     for (procedure, called) in graph.iter().enumerate() {
-        if !is_before(places, procedure, called) {
+        if !is_above(levels, procedure, called) {
             return false;
         }
     }
@@ -87,20 +88,33 @@ fn take_calls(
     Ok(())
 }
 
-/// The place of each procedure, counted from 1, such that each stands before those that it calls, as far as there are such
-/// places: each step places one that no procedure left calls. Nothing rests on it that `is_order` does not test.
-pub fn places_for(alloc: Global, graph: &[Vec<usize>]) -> Result<Vec<usize>, AllocError> {
+/// A level for each procedure, counted from 1, such that each stands above those that it calls, as far as there are such
+/// levels: each step takes the highest level that is left for a procedure that no procedure without a level calls. Nothing
+/// rests on it that `are_levels` does not test.
+pub fn levels_for(alloc: Global, graph: &[Vec<usize>]) -> Result<Vec<usize>, AllocError> {
     let mut calls = count_calls(alloc, graph)?;
     let mut free = uncalled(alloc, &calls)?;
-    let mut places = vec![in alloc; 0; graph.len()]?;
-    for place in 1..=graph.len() {
+    let mut levels = vec![in alloc; 0; graph.len()]?;
+    for taken in 0..graph.len() {
         let Some(procedure) = free.pop() else {
-            return Ok(places);
+            return Ok(levels);
         };
-        if let Some(free_place) = places.get_mut(procedure) {
-            *free_place = place;
+        if let Some(level) = levels.get_mut(procedure) {
+            *level = graph.len() - taken;
         }
         take_calls(&mut calls, &mut free, row_at(graph, procedure))?;
     }
-    Ok(places)
+    Ok(levels)
+}
+
+/// The procedures by their levels, from the lowest on.
+pub fn by_level(alloc: Global, levels: &[usize]) -> Result<Vec<usize>, AllocError>
+    ensures { IfOk result (λ order. IsOrdered levels.now order.items) }
+{
+    let mut order = Vec::new(alloc);
+    for procedure in 0..levels.len() {
+        order.push(procedure)?;
+    }
+    order.sort_by_key(|procedure| level_of(levels, *procedure))?;
+    Ok(order)
 }

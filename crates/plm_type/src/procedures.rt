@@ -1,8 +1,9 @@
-//! Procedures, main, and the locations of declarations.
+//! The types of whole declarations: procedures with their parameters and bodies, main, and the locations in AT, INITIAL and
+//! DATA.
 
 ghost use Rattle.std.specs.Prelude.{◌≡◌, ◌++◌, IfOk, OnOk, map, slice_get};
-ghost use Rattle.plm_decl.specs.Known.{procedure_of, declared_location_of, main_of};
-ghost use Rattle.plm_type.specs.Typers.{variables, procedures, sizes};
+ghost use Rattle.plm_decl.specs.Names.{procedure_of, declared_location_of, main_of};
+ghost use Rattle.plm_type.specs.Inner.Typer.{variables, procedures, sizes};
 ghost use Rattle.plm_type.specs.Statements as spec;
 ghost use Rattle.plm_type.specs.View as view;
 
@@ -11,7 +12,7 @@ use crate::statements::{Around, index_for, is_plain_scalar};
 use crate::typer::Typer;
 use plm_decl::DeclaredLocation;
 use plm_decl::found::Found;
-use plm_syntax::{Linkage, Place};
+use plm_syntax::{Linkage, Position};
 use std::alloc::AllocError;
 use word86::Number;
 
@@ -58,7 +59,7 @@ impl Typer<'_> {
     }
 
     /// Notes what stands first in an EXTERNAL procedure besides the declarations of its parameters.
-    fn note_stray(&self, stray: Option<Place>, faults: &mut Vec<Found>) -> Result<(), AllocError>
+    fn note_stray(&self, stray: Option<Position>, faults: &mut Vec<Found>) -> Result<(), AllocError>
         ensures { OnOk result (faults.new.items ≡ faults.old.items ++ spec.of_stray self.now.module stray) }
     {
         match stray {

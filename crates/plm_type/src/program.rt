@@ -13,9 +13,9 @@ pub struct Line {
 /// Where a scalar's first byte lies.
 #[derive(Debug, Clone, Copy, PartialEq, Eq)]
 pub enum Place {
-    /// In a RAM object, by its number: so many bytes behind its first.
+    /// In a RAM object: its number, and the index of the byte in it.
     Ram(usize, u16),
-    /// On the screen: so many bytes behind 0B8000H.
+    /// On the screen: how many bytes after 0B8000H.
     Screen(u16),
 }
 
@@ -29,9 +29,9 @@ pub struct Scalar {
 /// Where a variable's bytes begin, and how many its declaration takes.
 #[derive(Debug, Clone, Copy, PartialEq, Eq)]
 pub enum Anchor {
-    /// In a RAM object, by its number: so many bytes behind its first; the size in bytes.
+    /// In a RAM object: its number, the index of the first byte in it, and the size in bytes.
     Ram(usize, u64, u64),
-    /// On the screen: so many bytes behind 0B8000H; the size in bytes.
+    /// On the screen: how many bytes after 0B8000H the first lies, and the size in bytes.
     Screen(u64, u64),
     /// At the address that the base holds.
     Based(Place),
@@ -69,7 +69,8 @@ pub struct Operation {
     pub operand: Expression,
 }
 
-/// A variable whose place is computed, with the line of its name: its bytes begin so many behind its anchor and its subscripts.
+/// A variable whose place is computed, with the line of its name. Its bytes begin `offset` bytes after its anchor, and after the
+/// elements that its subscripts pass over.
 #[derive(Drop)]
 #[cycle(program)]
 pub struct Reference {

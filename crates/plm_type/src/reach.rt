@@ -1,9 +1,10 @@
-//! What calls lead to.
+//! Which procedures calls lead to, by a search; and from that a level for each procedure, or the first that reaches itself.
 
-ghost use Rattle.std.specs.Prelude.{◌≡◌, ◌++◌, ◌∷◌, [], ◌↔◌, ◌<◌, ℕ, true, false, cond, length, slice_get, OnOk, IfOk, IfSome, IfNone, slice_set, slice_index_or};
-ghost use Rattle.plm_type.specs.Reach.{rows, row_of, IsMarked, Leads, IsOnCycle, Marks};
+ghost use Rattle.std.specs.Prelude.{◌≡◌, ◌++◌, ◌∷◌, [], ◌↔◌, ◌<◌, ℕ, true, false, cond, length, slice_get, OnOk, IfOk, IfErr, slice_set, slice_index_or, count_by};
+ghost use Rattle.plm_type.specs.Inner.Reach.{rows, IsMarked, AreLevels, Marks};
+ghost use Rattle.plm_type.specs.Reach.{row_of, Leads, IsOnCycle};
 
-use crate::order::{is_order, places_for};
+use crate::order::{are_levels, levels_for};
 use std::alloc::{AllocError, Global};
 
 /// Whether the procedure is marked.
@@ -83,33 +84,59 @@ pub fn reached(
     Ok(marks)
 }
 
-/// The first procedure that reaches itself, by a search from each.
-fn find_on_cycle(alloc: Global, graph: &[Vec<usize>]) -> Result<Option<usize>, AllocError>
-    ensures cycle { IfOk result (λ found. IfSome found (λ p. IsOnCycle (rows graph.now) p)) }
-    ensures first { IfOk result (λ found. IfSome found (λ p. (q : ℕ) → q < p → ¬ IsOnCycle (rows graph.now) q)) }
-    ensures within { IfOk result (λ found. IfSome found (λ p. p < length graph.now)) }
-    ensures none { IfOk result (λ found. IfNone found ((q : ℕ) → ¬ IsOnCycle (rows graph.now) q)) }
+/// How many of these are marked.
+fn count_marks(marks: &[bool]) -> usize
+    ensures { result ≡ count_by (λ mark. mark) marks.now }
 {
+    let mut count = 0;
+    for mark in marks {
+        if *mark {
+            count += 1;
+        }
+    }
+    count
+}
+
+/// A level for each procedure, above those of all that it reaches: one more than how many these are. Or the first that
+/// reaches itself.
+fn search_levels(
+    alloc: Global,
+    graph: &[Vec<usize>],
+) -> Result<Result<Vec<usize>, usize>, AllocError>
+    ensures levels { IfOk result (λ found. IfOk found (λ levels. AreLevels levels.items (rows graph.now))) }
+    ensures length { IfOk result (λ found. IfOk found (λ levels. length levels.items ≡ length graph.now)) }
+    ensures none { IfOk result (λ found. IfOk found (λ levels. (q : ℕ) → ¬ IsOnCycle (rows graph.now) q)) }
+    ensures cycle { IfOk result (λ found. IfErr found (λ p. IsOnCycle (rows graph.now) p)) }
+    ensures first { IfOk result (λ found. IfErr found (λ p. (q : ℕ) → q < p → ¬ IsOnCycle (rows graph.now) q)) }
+    ensures within { IfOk result (λ found. IfErr found (λ p. p < length graph.now)) }
+{
+    let mut levels = Vec::new(alloc);
     for procedure in 0..graph.len() {
         let marks = reached(alloc, graph, row_at(graph, procedure))?;
         if is_marked(&marks, procedure) {
-            return Ok(Some(procedure));
+            return Ok(Err(procedure));
         }
+        levels.push(1 + count_marks(&marks))?;
     }
-    Ok(None)
+    Ok(Ok(levels))
 }
 
-/// The first procedure that reaches itself. It takes time in proportion to the procedures and calls where none does, and at
-/// most that for each procedure where one does.
-pub fn first_on_cycle(alloc: Global, graph: &[Vec<usize>]) -> Result<Option<usize>, AllocError>
-    ensures cycle { IfOk result (λ found. IfSome found (λ p. IsOnCycle (rows graph.now) p)) }
-    ensures first { IfOk result (λ found. IfSome found (λ p. (q : ℕ) → q < p → ¬ IsOnCycle (rows graph.now) q)) }
-    ensures within { IfOk result (λ found. IfSome found (λ p. p < length graph.now)) }
-    ensures none { IfOk result (λ found. IfNone found ((q : ℕ) → ¬ IsOnCycle (rows graph.now) q)) }
+/// A level for each procedure, above those of all that it calls, or the first procedure that reaches itself. It takes time
+/// in proportion to the procedures and calls where none does, and at most that for each procedure where one does.
+pub fn levels_or_cycle(
+    alloc: Global,
+    graph: &[Vec<usize>],
+) -> Result<Result<Vec<usize>, usize>, AllocError>
+    ensures levels { IfOk result (λ found. IfOk found (λ levels. AreLevels levels.items (rows graph.now))) }
+    ensures length { IfOk result (λ found. IfOk found (λ levels. length levels.items ≡ length graph.now)) }
+    ensures none { IfOk result (λ found. IfOk found (λ levels. (q : ℕ) → ¬ IsOnCycle (rows graph.now) q)) }
+    ensures cycle { IfOk result (λ found. IfErr found (λ p. IsOnCycle (rows graph.now) p)) }
+    ensures first { IfOk result (λ found. IfErr found (λ p. (q : ℕ) → q < p → ¬ IsOnCycle (rows graph.now) q)) }
+    ensures within { IfOk result (λ found. IfErr found (λ p. p < length graph.now)) }
 {
-    let places = places_for(alloc, graph)?;
-    if is_order(&places, graph) {
-        return Ok(None);
+    let levels = levels_for(alloc, graph)?;
+    if levels.len() == graph.len() && are_levels(&levels, graph) {
+        return Ok(Ok(levels));
     }
-    find_on_cycle(alloc, graph)
+    search_levels(alloc, graph)
 }

@@ -1,10 +1,11 @@
-//! References whose subscripts are typed.
+//! References to variables, whose subscripts are typed already: as values, as targets, as locations, and what LENGTH, LAST and
+//! SIZE say of them.
 
 ghost use Rattle.std.specs.Prelude.{◌≡◌, ◌++◌, true, false, IfOk, OnOk, length, map, option_map};
 ghost use Rattle.plm_decl.specs.ResolvedView as resolved;
 ghost use Rattle.word86.specs.declared.number.Number.TheVariants.{E401, E403};
 ghost use Rattle.plm_type.specs.Rest.{Location};
-ghost use Rattle.plm_type.specs.Typers.{variables, with_stride};
+ghost use Rattle.plm_type.specs.Inner.Typer.{variables, with_stride};
 ghost use Rattle.plm_type.specs.Types as scalars;
 ghost use Rattle.plm_type.specs.Typing as typing;
 ghost use Rattle.plm_type.specs.Faults as found;
@@ -21,7 +22,7 @@ use crate::typer::{Typed, TypedList, Typer};
 use crate::types::{are_known_numbers, may_be_numbers, number_type};
 use plm_decl::found::Found;
 use plm_decl::{Builtin, ScalarType, Selector, Variable};
-use plm_syntax::{LocationForm, Place};
+use plm_syntax::{LocationForm, Position};
 use std::alloc::AllocError;
 use word86::Number;
 
@@ -32,7 +33,7 @@ pub struct Parts {
     pub member: TypedList,
 }
 
-/// A target's tree, and its type: none where it has a fault.
+/// A target's tree, and its type: none where it has a fault, that of DATA aside.
 #[derive(Drop)]
 pub struct TypedTarget {
     pub tree: Target,
@@ -57,7 +58,7 @@ impl Parts {
     }
 }
 
-/// Puts a subscript over elements of so many bytes for each of these behind the others.
+/// Adds a subscript for each of these trees, over elements of `stride` bytes.
 fn strided(
     stride: u64,
     trees: Vec<Expression>,
@@ -121,7 +122,7 @@ pub fn use_type(
     }
 }
 
-/// Whether the variable may be assigned: DATA declares it not.
+/// Whether the variable may be assigned: what DATA declares may not.
 pub fn may_be_assigned(variable: Option<Variable>) -> bool
     ensures { result ≡ typing.may_be_assigned variable }
 {
@@ -137,16 +138,6 @@ fn may_be_located(variable: Option<Variable>) -> bool
     match variable {
         Some(variable) => !is_on_screen(variable.region),
         None => true,
-    }
-}
-
-fn stored_type(variable: Option<Variable>, selector: &Selector, parts: &Parts) -> Option<ScalarType>
-    ensures { result ≡ typing.stored_type variable (resolved.selector_of selector.now) parts.now.subscripts.types.items parts.now.member.types.items }
-{
-    if may_be_assigned(variable) {
-        use_type(variable, selector, parts)
-    } else {
-        None
     }
 }
 
@@ -231,7 +222,7 @@ impl Typer<'_> {
     /// A reference, with its subscripts.
     fn refer(
         &self,
-        place: Place,
+        place: Position,
         variable: Option<Variable>,
         selector: &Selector,
         parts: Parts,
@@ -289,7 +280,7 @@ impl Typer<'_> {
         })
     }
 
-    /// A variable as a target.
+    /// A variable as a target. One of DATA is a fault of its own, and keeps its type.
     pub fn stored(
         &self,
         reference: &plm_decl::Reference,
@@ -298,7 +289,7 @@ impl Typer<'_> {
         faults: &mut Vec<Found>,
     ) -> Result<TypedTarget, AllocError>
         ensures tree { IfOk result (λ r. view.target_of r.tree ≡ spec.use_stored variable (resolved.selector_of reference.now.selector) (spec.refer (variables self.now) self.now.module reference.now.place.line variable (resolved.selector_of reference.now.selector) (view.expressions_of parts.subscripts.trees.items) (view.expressions_of parts.member.trees.items))) }
-        ensures scalar { IfOk result (λ r. r.scalar ≡ typing.stored_type variable (resolved.selector_of reference.now.selector) parts.subscripts.types.items parts.member.types.items) }
+        ensures scalar { IfOk result (λ r. r.scalar ≡ typing.use_type variable (resolved.selector_of reference.now.selector) parts.subscripts.types.items parts.member.types.items) }
         ensures faults { OnOk result (faults.new.items ≡ faults.old.items ++ (found.use_faults self.now.module false reference.now.place variable (resolved.selector_of reference.now.selector) parts.subscripts.types.items parts.member.types.items ++ found.fault_unless self.now.module (typing.may_be_assigned variable) E403 reference.now.place)) }
     {
         let selector = &reference.selector;
@@ -314,18 +305,18 @@ impl Typer<'_> {
             reference.place,
             faults,
         )?;
-        let scalar = stored_type(variable, selector, &parts);
+        let kept = use_type(variable, selector, &parts);
         let place = self.refer(reference.place, variable, selector, parts)?;
         Ok(TypedTarget {
             tree: use_stored(variable, selector, place),
-            scalar,
+            scalar: kept,
         })
     }
 
     /// The location of a variable.
     pub fn located(
         &self,
-        place: Place,
+        place: Position,
         form: LocationForm,
         reference: &plm_decl::Reference,
         variable: Option<Variable>,
@@ -355,7 +346,7 @@ impl Typer<'_> {
     /// LENGTH, LAST or SIZE of a variable.
     pub fn measured(
         &self,
-        place: Place,
+        place: Position,
         builtin: Builtin,
         reference: &plm_decl::Reference,
         variable: Option<Variable>,

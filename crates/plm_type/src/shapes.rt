@@ -1,7 +1,8 @@
-//! What a reference to a variable designates.
+//! What a reference to a variable designates: whether it has the variable's shape, the type and the size of what it names, and
+//! where that lies.
 
 ghost use Rattle.std.specs.Prelude.{◌≡◌, option_map};
-ghost use Rattle.plm_decl.specs.Layouts as layout;
+ghost use Rattle.plm_decl.specs.Layout as layout;
 ghost use Rattle.plm_decl.specs.ResolvedView.{selector_of};
 ghost use Rattle.plm_type.specs.Shapes as spec;
 ghost use Rattle.plm_type.specs.View as view;
@@ -38,7 +39,7 @@ fn selector_fits(part: bool, form: Form, selector: &Selector) -> bool
     }
 }
 
-/// Whether a reference with so many subscripts and this selector has the shape of the variable: of a whole one, or of a
+/// Whether a reference with `count` subscripts and this selector has the shape of the variable: of a whole one, or of a
 /// part that a location, LENGTH, LAST or SIZE may name.
 pub fn shape_fits(part: bool, variable: &Variable, count: usize, selector: &Selector) -> bool
     ensures { result ≡ spec.shape_fits part variable.now count (selector_of selector.now) }

@@ -1,9 +1,9 @@
-//! Procedures that main and an interrupt procedure share.
+//! The warning for procedures that main and an interrupt procedure share, or two interrupt procedures.
 
 ghost use Rattle.std.specs.Prelude.{◌≡◌, false, IfOk, IfErr};
-ghost use Rattle.plm_type.specs.Reach.{rows, marks_of, AreReached, marked_twice};
+ghost use Rattle.plm_type.specs.Inner.Reach.{rows, marks_of, AreReached, marked_twice};
 ghost use Rattle.word86.specs.declared.fault.Fault.TheVariants.{Memory};
-ghost use Rattle.plm_type.specs.Warnings as spec;
+ghost use Rattle.plm_type.specs.Sharing as spec;
 
 use crate::calls::{add_statements, call_graph};
 use crate::checked::Program;

@@ -3,7 +3,7 @@
 ghost use Rattle.std.specs.Prelude.{◌≡◌, ◌∷◌, [], ◌++◌, IfOk, OnOk, map, option_map};
 ghost use Rattle.word86.specs.declared.number.Number.TheVariants.{E401};
 ghost use Rattle.plm_decl.specs.ResolvedView as resolved;
-ghost use Rattle.plm_type.specs.Typers.{variables, procedures, sizes};
+ghost use Rattle.plm_type.specs.Inner.Typer.{variables, procedures, sizes};
 ghost use Rattle.plm_type.specs.Rest as rest;
 ghost use Rattle.plm_type.specs.Faults.{fault_unless};
 ghost use Rattle.plm_type.specs.Trees as trees;
@@ -16,10 +16,12 @@ use crate::program::{Expression, Loop, Place as StoragePlace, Scalar, Statement,
 use crate::references::{TypedTarget, may_be_assigned};
 use crate::shapes::{form_type, is_based, scalar};
 use crate::typer::Typer;
-use crate::types::{may_be_number, takes, width_of};
+use crate::types::{
+    may_be_number, may_be_numbers, may_be_pointer, may_be_pointers, takes, width_of,
+};
 use plm_decl::found::Found;
-use plm_decl::{Meaning, ScalarType, Statement as Resolved, Variable};
-use plm_syntax::Place;
+use plm_decl::{Binding, ScalarType, Statement as Resolved, Variable};
+use plm_syntax::Position;
 use std::alloc::AllocError;
 use word86::{Number, Width};
 
@@ -94,7 +96,7 @@ struct Range {
 }
 
 impl TypedTargets {
-    /// One more, behind the others.
+    /// Adds one at the end.
     fn push(&mut self, target: TypedTarget) -> Result<(), AllocError>
         ensures trees { OnOk result (self.new.trees.items ≡ self.old.trees.items ++ target.tree ∷ []) }
         ensures types { OnOk result (self.new.types.items ≡ self.old.types.items ++ target.scalar ∷ []) }
@@ -135,20 +137,16 @@ pub fn index_for(variable: Option<Variable>) -> Scalar
     }
 }
 
-/// Whether each target takes the value.
+/// Whether targets and value, as far as their types are known, are all numbers, or all POINTERs.
 fn all_take(targets: &[Option<ScalarType>], value: Option<ScalarType>) -> bool
     ensures { result ≡ spec.all_take targets.now value }
 {
-    for target in targets {
-        if !takes(*target, value) {
-            return false;
-        }
-    }
-    true
+    (may_be_number(value) && may_be_numbers(targets))
+        || (may_be_pointer(value) && may_be_pointers(targets))
 }
 
 /// Where an assignment begins.
-fn first_target(targets: &[plm_decl::Reference], value: &plm_decl::Expression) -> Place
+fn first_target(targets: &[plm_decl::Reference], value: &plm_decl::Expression) -> Position
     ensures { result ≡ spec.first_target (resolved.references_of targets.now) (resolved.expression_of value.now) }
 {
     match targets.first() {
@@ -170,11 +168,11 @@ fn assignment(mut targets: Vec<Target>, value: Expression) -> Statement
 
 impl Typer<'_> {
     /// The variable that a name stands for.
-    fn variable_meant(&self, meaning: Meaning) -> Option<Variable>
+    fn variable_meant(&self, meaning: Binding) -> Option<Variable>
         ensures { result ≡ spec.variable_meant (variables self.now) meaning }
     {
         match meaning {
-            Meaning::Variable(variable) => self.variable(variable),
+            Binding::Variable(variable) => self.variable(variable),
             _ => None,
         }
     }
@@ -182,7 +180,7 @@ impl Typer<'_> {
     /// A condition, a bound, or the value of DO CASE.
     fn number_in(
         &self,
-        place: Place,
+        place: Position,
         e: &plm_decl::Expression,
         faults: &mut Vec<Found>,
     ) -> Result<Expression, AllocError>
@@ -233,14 +231,14 @@ impl Typer<'_> {
     /// CALL of a procedure.
     fn call(
         &self,
-        place: Place,
+        place: Position,
         reference: &plm_decl::Reference,
         faults: &mut Vec<Found>,
     ) -> Result<Expression, AllocError>
         ensures tree { IfOk result (λ r. view.expression_of r ≡ spec.called (variables self.now) (procedures self.now) (sizes self.now) self.now.module (resolved.reference_of reference.now)) }
         ensures faults { OnOk result (faults.new.items ≡ faults.old.items ++ spec.of_call (variables self.now) (procedures self.now) self.now.module place (resolved.reference_of reference.now)) }
     {
-        let Meaning::Procedure(number) = reference.meaning else {
+        let Binding::Procedure(number) = reference.binding else {
             self.note_unless(false, Number::E401, place, faults)?;
             return Ok(Expression::Constant(0));
         };
@@ -260,7 +258,7 @@ impl Typer<'_> {
     fn returned(
         &self,
         around: Around,
-        place: Place,
+        place: Position,
         e: &plm_decl::Expression,
         faults: &mut Vec<Found>,
     ) -> Result<Expression, AllocError>
@@ -276,9 +274,9 @@ impl Typer<'_> {
     /// The index of an iterative DO.
     fn index(
         &self,
-        place: Place,
-        name: Place,
-        meaning: Meaning,
+        place: Position,
+        name: Position,
+        meaning: Binding,
         faults: &mut Vec<Found>,
     ) -> Result<Scalar, AllocError>
         ensures tree { IfOk result (λ r. view.scalar_of r ≡ spec.index_for (spec.variable_meant (variables self.now) meaning)) }
@@ -293,7 +291,7 @@ impl Typer<'_> {
     /// The step of an iterative DO: 1 if it is missing.
     fn step(
         &self,
-        place: Place,
+        place: Position,
         step: &Option<plm_decl::Expression>,
         faults: &mut Vec<Found>,
     ) -> Result<Expression, AllocError>
@@ -309,7 +307,7 @@ impl Typer<'_> {
     /// The first value of an iterative DO, its bound and its step.
     fn range(
         &self,
-        place: Place,
+        place: Position,
         from: &plm_decl::Expression,
         to: &plm_decl::Expression,
         by: &Option<plm_decl::Expression>,
@@ -329,7 +327,7 @@ impl Typer<'_> {
     /// CALL as a statement: a value is dropped.
     fn call_statement(
         &self,
-        place: Place,
+        place: Position,
         reference: &plm_decl::Reference,
         faults: &mut Vec<Found>,
     ) -> Result<Statement, AllocError>
@@ -344,7 +342,7 @@ impl Typer<'_> {
     fn return_alone(
         &self,
         around: Around,
-        place: Place,
+        place: Position,
         faults: &mut Vec<Found>,
     ) -> Result<Statement, AllocError>
         ensures tree { IfOk result (λ r. view.statement_of r ≡ rest.Return) }
@@ -358,7 +356,7 @@ impl Typer<'_> {
     fn return_value(
         &self,
         around: Around,
-        place: Place,
+        place: Position,
         value: &plm_decl::Expression,
         faults: &mut Vec<Found>,
     ) -> Result<Statement, AllocError>
@@ -417,7 +415,7 @@ impl Typer<'_> {
         &self,
         around: Around,
         then: &Resolved,
-        place: Place,
+        place: Position,
         test: &plm_decl::Expression,
         faults: &mut Vec<Found>,
     ) -> Result<Condition, AllocError>
@@ -466,7 +464,7 @@ impl Typer<'_> {
         &self,
         around: Around,
         body: &[Resolved],
-        place: Place,
+        place: Position,
         test: &plm_decl::Expression,
         faults: &mut Vec<Found>,
     ) -> Result<Statement, AllocError>
@@ -484,7 +482,7 @@ impl Typer<'_> {
         &self,
         around: Around,
         cases: &[Resolved],
-        place: Place,
+        place: Position,
         value: &plm_decl::Expression,
         faults: &mut Vec<Found>,
     ) -> Result<Statement, AllocError>

@@ -1,15 +1,15 @@
-//! What is known while statements are typed.
+//! What is known while statements are typed: the names and the module; and what is said of an expression: its tree and its type.
 
 ghost use Rattle.std.specs.Prelude.{◌≡◌, ◌∷◌, [], ◌++◌, OnOk, option_map, slice_get};
-ghost use Rattle.plm_decl.specs.Known as known;
-ghost use Rattle.plm_type.specs.Typers.{variables, procedures};
+ghost use Rattle.plm_decl.specs.Names as known;
+ghost use Rattle.plm_type.specs.Inner.Typer.{variables, procedures};
 ghost use Rattle.plm_type.specs.Typing.{given_if};
 ghost use Rattle.plm_type.specs.Faults as found;
 
 use crate::program::{Expression, Line};
 use plm_decl::found::Found;
 use plm_decl::{Names, Procedure, ScalarType, Variable};
-use plm_syntax::Place;
+use plm_syntax::Position;
 use std::alloc::{AllocError, Global};
 use word86::Number;
 
@@ -60,7 +60,7 @@ impl TypedList {
         }
     }
 
-    /// One more, behind the others.
+    /// Adds one at the end.
     pub fn push(&mut self, typed: Typed) -> Result<(), AllocError>
         ensures trees { OnOk result (self.new.trees.items ≡ self.old.trees.items ++ typed.tree ∷ []) }
         ensures types { OnOk result (self.new.types.items ≡ self.old.types.items ++ typed.scalar ∷ []) }
@@ -84,7 +84,7 @@ impl Typer<'_> {
         &self,
         holds: bool,
         number: Number,
-        place: Place,
+        place: Position,
         faults: &mut Vec<Found>,
     ) -> Result<(), AllocError>
         ensures { OnOk result (faults.new.items ≡ faults.old.items ++ found.fault_unless self.now.module holds number place) }
@@ -101,7 +101,7 @@ impl Typer<'_> {
     }
 
     /// The line of a place.
-    pub fn line(&self, place: Place) -> Line
+    pub fn line(&self, place: Position) -> Line
         ensures module { result.module ≡ self.now.module }
         ensures line { result.line ≡ place.line }
     {

@@ -27,7 +27,8 @@ pub fn may_be_number(scalar: Option<ScalarType>) -> bool
     }
 }
 
-fn may_be_pointer(scalar: Option<ScalarType>) -> bool
+/// Whether it is POINTER, or not known.
+pub fn may_be_pointer(scalar: Option<ScalarType>) -> bool
     ensures { result ≡ spec.may_be_pointer scalar }
 {
     match scalar {
@@ -185,6 +186,18 @@ pub fn may_be_numbers(types: &[Option<ScalarType>]) -> bool
 {
     for scalar in types {
         if !may_be_number(*scalar) {
+            return false;
+        }
+    }
+    true
+}
+
+/// Whether each of the types is POINTER, or not known.
+pub fn may_be_pointers(types: &[Option<ScalarType>]) -> bool
+    ensures { result ≡ spec.may_be_pointers types.now }
+{
+    for scalar in types {
+        if !may_be_pointer(*scalar) {
             return false;
         }
     }

@@ -1,9 +1,10 @@
 use Rattle.std.proofs.Common.{◌≡◌, ℕ, List, [], ◌∷◌, ◌++◌, ◌≤◌, length, map, drop, refl, sym, ap, ◌∙◌, arith, append-nil}
 use Rattle.std.proofs.lemmas.List.{drop_all}
 use Rattle.plm_decl.specs.declared.names.Variable.{Variable}
-use Rattle.plm_decl.specs.Known.{object_of}
-use Rattle.plm_meaning.specs.First.{objects_at}
-use Rattle.plm_meaning.specs.Steps.{names_of, offsets_of}
+use Rattle.plm_decl.specs.Names.{object_of}
+use Rattle.plm_meaning.specs.Opening.{objects_at}
+use Rattle.plm_meaning.specs.Around.{names_of}
+use Rattle.plm_meaning.specs.Inner.Redex.{offsets_of}
 use Rattle.plm_meaning.proofs.opening.first_objects.Goals as goal
 
 -- where no object is left

@@ -1,7 +1,8 @@
 use Rattle.std.proofs.Common.{◌≡◌, ◌++◌, drop, map}
-use Rattle.plm_decl.specs.Known.{object_of}
-use Rattle.plm_meaning.specs.First.{objects_at}
-use Rattle.plm_meaning.specs.Steps.{names_of, offsets_of}
+use Rattle.plm_decl.specs.Names.{object_of}
+use Rattle.plm_meaning.specs.Opening.{objects_at}
+use Rattle.plm_meaning.specs.Around.{names_of}
+use Rattle.plm_meaning.specs.Inner.Redex.{offsets_of}
 use Rattle.plm_meaning.proofs.opening.first_objects.Given as goal
 
 -- the objects so far, then those that are left, are all

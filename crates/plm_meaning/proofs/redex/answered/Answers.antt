@@ -1,6 +1,6 @@
 use Rattle.std.proofs.Common.{ap, ◌∙◌}
-use Rattle.plm_meaning.specs.Parts.{todo_in}
-use Rattle.plm_meaning.specs.Steps.{procedures_in, after_part}
+use Rattle.plm_meaning.specs.Context.{todo_in}
+use Rattle.plm_meaning.specs.Inner.Redex.{procedures_in, after_part}
 use Rattle.plm_meaning.proofs.redex.answered.Goals as goal
 
 pub returns : goal.returns

@@ -1,16 +1,16 @@
 use Rattle.std.proofs.Common.{sym, ap, ◌∙◌, refl}
 use Rattle.word86.specs.Action.{map_action}
-use Rattle.plm_meaning.specs.Parts.{Expr, redex_part, part_of, todo_in}
-use Rattle.plm_meaning.specs.Steps.{action_of, procedures_in, offsets_of, sizes_of}
+use Rattle.plm_meaning.specs.Context.{Expr, redex_part, part_of, todo_in}
+use Rattle.plm_meaning.specs.Inner.Redex.{action_of, procedures_in, offsets_of, sizes_of}
 use Rattle.plm_meaning.proofs.Steps as steps
 use Rattle.std.proofs.Common.{map, drop, ◌+◌}
 use Rattle.std.specs.List.{slice_get}
 use Rattle.plm_type.specs.Rest.{Call, Passing, NoMore}
 use Rattle.plm_type.specs.View.{scalar_of, statements_of}
 use Rattle.plm_type.specs.Next.{returned, next_statements, next_passing, parameters_of, body_of}
-use Rattle.plm_meaning.specs.Parts.{given}
-use Rattle.plm_meaning.specs.Steps.{passed}
-use Rattle.plm_meaning.specs.Parts.{todo_of}
+use Rattle.plm_meaning.specs.Context.{given}
+use Rattle.plm_meaning.specs.Inner.Redex.{passed}
+use Rattle.plm_meaning.specs.Context.{todo_of}
 use Rattle.plm_meaning.proofs.Plug as plug
 use Rattle.plm_meaning.proofs.redex.next_action.Goals as goal
 

@@ -5,8 +5,8 @@ use Rattle.word86.specs.Arithmetic.{low}
 use Rattle.plm_type.specs.Rest as rest
 use Rattle.plm_type.specs.Rest.{Refer, NoSubscripts, Value}
 use Rattle.plm_type.specs.View.{where_of}
-use Rattle.plm_meaning.specs.Parts.{Expr, redex_part}
-use Rattle.plm_meaning.specs.Steps.{action_of, next_part, procedures_in, stored, value_in}
+use Rattle.plm_meaning.specs.Context.{Expr, redex_part}
+use Rattle.plm_meaning.specs.Inner.Redex.{action_of, next_part, procedures_in, stored, value_in}
 use Rattle.plm_meaning.proofs.Steps as steps
 use Rattle.plm_type.specs.Next.{operated}
 use Rattle.plm_meaning.proofs.redex.redex_step.Goals as goal

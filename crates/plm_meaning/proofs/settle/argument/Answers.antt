@@ -1,7 +1,7 @@
 use Rattle.std.proofs.Common.{sym, ap, ◌∙◌}
 use Rattle.plm_type.specs.Rest.{Call, More, Value}
 use Rattle.plm_type.specs.Rest as rest
-use Rattle.plm_meaning.specs.Parts.{Expr, given, todo_in}
+use Rattle.plm_meaning.specs.Context.{Expr, given, todo_in}
 use Rattle.plm_meaning.proofs.Given.{no_arguments, given_last}
 use Rattle.plm_meaning.proofs.settle.argument.Goals as goal
 

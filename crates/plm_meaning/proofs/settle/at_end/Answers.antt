@@ -1,7 +1,7 @@
 use Rattle.std.proofs.Common.{sym, ap, ◌∙◌, [], ◌∷◌, ◌++◌}
 use Rattle.plm_type.specs.Rest.{End}
 use Rattle.plm_meaning.specs.declared.context.Frame.TheVariants as frame
-use Rattle.plm_meaning.specs.Parts.{Todo, todo_in}
+use Rattle.plm_meaning.specs.Context.{Todo, todo_in}
 use Rattle.plm_meaning.proofs.Given.{no_statements}
 use Rattle.plm_meaning.proofs.Plug.{todo_last}
 use Rattle.plm_meaning.proofs.settle.at_end.Goals as goal

@@ -1,6 +1,6 @@
 use Rattle.std.proofs.Common.{◌≡◌, vec_len}
 use Rattle.plm_type.specs.Rest.{End}
-use Rattle.plm_meaning.specs.Parts.{Todo, todo_in}
+use Rattle.plm_meaning.specs.Context.{Todo, todo_in}
 use Rattle.plm_meaning.proofs.settle.at_end.Given as goal
 
 -- what is left behind the frames taken off so far is what was to do

@@ -1,6 +1,7 @@
 use Rattle.std.proofs.Common.{◌≡◌, ◌<◌, vec_len, vec_capacity}
-use Rattle.plm_meaning.specs.Depth.{start_depth}
-use Rattle.plm_meaning.specs.Parts.{start_part, todo_in}
+use Rattle.plm_meaning.specs.Inner.Start.{start_depth}
+use Rattle.plm_meaning.specs.Inner.Context.{start_part}
+use Rattle.plm_meaning.specs.Context.{todo_in}
 use Rattle.plm_meaning.proofs.settle.begin.Given as goal
 
 -- what comes first in the frames put down so far is what was to come first, and there is room for one more

@@ -3,7 +3,8 @@ use Rattle.plm_type.specs.Rest.{End}
 use Rattle.plm_type.specs.Next.{evaluated}
 use Rattle.plm_type.specs.View.{expression_of}
 use Rattle.plm_meaning.specs.declared.context.Frame.TheVariants as frame
-use Rattle.plm_meaning.specs.Parts.{Expr, Todo, start_part, todo_in}
+use Rattle.plm_meaning.specs.Context.{Expr, Todo, todo_in}
+use Rattle.plm_meaning.specs.Inner.Context.{start_part}
 use Rattle.plm_meaning.proofs.Given.{source_value}
 use Rattle.plm_meaning.proofs.Plug.{todo_last}
 use Rattle.plm_meaning.proofs.settle.put_down.Goals as goal

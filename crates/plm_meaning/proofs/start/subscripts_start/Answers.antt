@@ -2,7 +2,7 @@ use Rattle.std.proofs.Common.{sym, ap, ◌∙◌}
 use Rattle.plm_type.specs.Rest.{Refer}
 use Rattle.plm_type.specs.Next.{indexed}
 use Rattle.plm_type.specs.View.{expression_of, subscripts_of, anchor_of}
-use Rattle.plm_meaning.specs.Parts.{purposed}
+use Rattle.plm_meaning.specs.Context.{purposed}
 use Rattle.plm_meaning.proofs.Given.{source_value}
 use Rattle.plm_meaning.proofs.start.subscripts_start.Goals as goal
 

@@ -1,5 +1,6 @@
 use Rattle.std.proofs.Common.{◌≡◌, ℕ, ◌+◌, drop, [], ◌∷◌, ◌++◌, OnOk, List, append_assoc, subst, sym, ap, ◌∙◌}
 use Rattle.plm_type.specs.Calls as spec
+use Rattle.plm_type.specs.Inner.Calls as inner
 use Rattle.plm_type.specs.Rest as rest
 use Rattle.plm_type.specs.View as view
 use Rattle.plm_type.proofs.Lists.{drop_at}
@@ -17,8 +18,8 @@ add_calls-returns-in_ok-add_calls-in-Chain t c =
     let e = view.expression_of c.in-Chain.first.value in
     let first = c.in_ok-add_calls-in-Chain.ensures ∙ (λ j. old ++ spec.calls_in (view.expression_of (c.deref-in-Chain.ensures j))) in
     let path =
-    (λ j. first j ++ spec.operation_calls (c.deref-in-Chain-2.ensures.value j))
-    ∙ append_assoc old (spec.calls_in e) (spec.operation_calls os.items)
+    (λ j. first j ++ inner.operation_calls (c.deref-in-Chain-2.ensures.value j))
+    ∙ append_assoc old (spec.calls_in e) (inner.operation_calls os.items)
     ∙ ap (λ (l : List ℕ). old ++ l) (sym (chain_calls e os.items))
     ∙ ap (λ (x : rest.Expression). old ++ spec.calls_in x) (sym (ap view.expression_of c.in-Chain.is ∙ operation_row os e)) in
     subst (λ (l : List ℕ). OnOk c.add_operations.result (c.add_operations.new.called.items ≡ l)) path c.add_operations.ensures
@@ -57,7 +58,7 @@ add_operations-loop-operation-preserved t c =
     let xs = c.args.operations.now in
     let i = here.operation-index in
     let x = c.operation-item.result in
-    let calls = λ (l : List Operation). spec.operation_calls l in
+    let calls = λ (l : List Operation). inner.operation_calls l in
     ap (λ (l : List ℕ). l ++ calls (drop (i + 1) xs)) c.in_ok-add_calls.ensures
     ∙ append_assoc here.called.items _ _
     ∙ ap (λ (l : List Operation). here.called.items ++ calls l) (sym (drop_at xs i x c.loop-operation-test.true c.operation-item.is))

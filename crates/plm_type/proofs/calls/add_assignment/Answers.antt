@@ -1,5 +1,6 @@
 use Rattle.std.proofs.Common.{◌≡◌, ℕ, ◌++◌, OnOk, List, map, append_assoc, subst, sym, ap, ◌∙◌}
 use Rattle.plm_type.specs.Calls as spec
+use Rattle.plm_type.specs.Inner.Calls as inner
 use Rattle.plm_type.specs.View as view
 use Rattle.plm_type.proofs.Parts.{targets_calls_are}
 use Rattle.plm_type.proofs.calls.add_assignment.Goals as goal
@@ -9,7 +10,7 @@ returns c =
     let old = c.args.called.now.items in
     let a = spec.calls_in (view.expression_of c.args.value.now) in
     let b = spec.target_calls (view.target_of c.args.first.now) in
-    let d = spec.all_target_calls (map view.target_of c.args.others.now) in
+    let d = inner.all_target_calls (map view.target_of c.args.others.now) in
     let path =
     ap (λ (l : List ℕ). l ++ d) (c.in_ok-add_target.ensures ∙ ap (λ (l : List ℕ). l ++ b) c.in_ok-add_calls.ensures)
     ∙ append_assoc (old ++ a) b d ∙ append_assoc old a (b ++ d)

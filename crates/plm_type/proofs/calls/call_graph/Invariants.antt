@@ -1,5 +1,5 @@
 use Rattle.std.proofs.Common.{◌≡◌, map, take}
-use Rattle.plm_type.specs.Reach.{rows}
+use Rattle.plm_type.specs.Inner.Reach.{rows}
 use Rattle.plm_type.specs.Calls.{graph_of}
 use Rattle.plm_type.specs.View as view
 use Rattle.plm_type.proofs.calls.call_graph.Given as goal

@@ -1,19 +1,21 @@
-use Rattle.std.proofs.Common.{ℕ, ◌++◌, List, Option, IfSome, IfNone, length, map, inl, inr, append_assoc, refl, sym, subst, ap, ◌∙◌}
+use Rattle.std.proofs.Common.{ℕ, ◌++◌, List, Result, IfOk, IfErr, length, map, inl, inr, append_assoc, refl, sym, subst, ap, ◌∙◌}
 use Rattle.std.proofs.lemmas.List.{length-map}
 use Rattle.word86.specs.declared.fault.Fault.{Fault}
 use Rattle.plm_decl.specs.declared.found.Found.{Found}
-use Rattle.plm_decl.specs.Known.{procedure_of, declared_location_of, main_of}
-use Rattle.plm_decl.specs.Least.{IsLeast}
+use Rattle.plm_decl.specs.Names.{procedure_of, declared_location_of, main_of}
+use Rattle.plm_decl.specs.Found.{IsLeast}
 use Rattle.plm_decl.proofs.Least.{none_is, least_found}
 use Rattle.plm_type.specs.Rest.{Procedure}
 use Rattle.plm_type.specs.Statements as statements
-use Rattle.plm_type.specs.Calls.{IsRecursive}
+use Rattle.std.specs.Global.{Vec}
+use Rattle.plm_type.specs.Order.{IsOrder}
+use Rattle.plm_type.specs.Calls.{graph_of, IsRecursive}
 use Rattle.plm_type.specs.Checked as spec
 use Rattle.plm_type.specs.View as view
 use Rattle.plm_type.proofs.checking.check.Goals as goal
 
-pub recursion-requires : goal.recursion-requires
-recursion-requires c =
+pub order_of-requires : goal.order_of-requires
+order_of-requires c =
     let made = c.in_ok-procedures.procedures.items in
     ap length c.deref-2.ensures.value ∙ sym (length-map made view.procedure_of) ∙ ap length c.in_ok-procedures.ensures.tree
     ∙ length-map (map procedure_of c.args.names.procedures.items) _ ∙ length-map c.args.names.procedures.items procedure_of
@@ -32,8 +34,8 @@ returns-in-Some-clause-refused c =
     subst (λ (f : Fault). spec.IsRefusal f names) (sym c.fault.ensures)
     (c.in-Some.found, inl (subst (λ (fs : List Found). IsLeast fs c.in-Some.found) all (least_found c.deref.result.now c.in-Some.found (sym c.least.ensures ∙ c.in-Some.is))), refl)
 
-pub returns-in-Some-2-clause-refused : goal.returns-in-Some-2-clause-refused
-returns-in-Some-2-clause-refused c =
+pub returns-in-Err-clause-refused : goal.returns-in-Err-clause-refused
+returns-in-Err-clause-refused c =
     let names = c.args.names in
     let vs = names.variables.items in
     let ps = map procedure_of names.procedures.items in
@@ -45,9 +47,9 @@ returns-in-Some-2-clause-refused c =
     ∙ append_assoc l p m in
     let made = ap (map view.procedure_of) c.deref-2.ensures.value ∙ c.in_ok-procedures.ensures.tree in
     let none = sym all ∙ none_is c.deref.result.now (sym c.least.ensures ∙ c.in_default.is) in
-    let found = subst (λ (o : Option Found). IfSome o (λ f. spec.IsRecursion (map view.procedure_of c.deref-2.result.now) names f)) c.in-Some-2.is c.in_ok-found.ensures.found in
-    subst (λ (f : Fault). spec.IsRefusal f names) (sym c.fault-in-Some-2.ensures)
-    (c.in-Some-2.found, inr (none, subst (λ (qs : List Procedure). spec.IsRecursion qs names c.in-Some-2.found) made found), refl)
+    let cycle = subst (λ (r : Result (Vec ℕ) Found). IfErr r (λ f. spec.IsRecursion (map view.procedure_of c.deref-2.result.now) names f)) c.in-Err.is c.in_ok-order.ensures.cycle in
+    subst (λ (f : Fault). spec.IsRefusal f names) (sym c.fault-in-Err.ensures)
+    (c.in-Err.found, inr (none, subst (λ (qs : List Procedure). spec.IsRecursion qs names c.in-Err.found) made cycle), refl)
 
 pub invariant_of-result : goal.invariant_of-result
 invariant_of-result c =
@@ -61,16 +63,22 @@ invariant_of-result c =
     ∙ ap (λ (x : List Found). x ++ m) (c.in_ok-procedures.ensures.faults ∙ ap (λ (x : List Found). x ++ p) (c.in_ok-locations.ensures ∙ ap (λ (x : List Found). x ++ l) c.new-faults.ensures.items))
     ∙ append_assoc l p m in
     let made = ap (map view.procedure_of) c.deref-2.ensures.value ∙ c.in_ok-procedures.ensures.tree in
+    let order = subst (λ (qs : List Procedure). IsOrder c.in-Ok.order.items (graph_of qs)) made
+    (subst (λ (r : Result (Vec ℕ) Found). IfOk r (λ o. IsOrder o.items (graph_of (map view.procedure_of c.deref-2.result.now)))) c.in-Ok.is c.in_ok-order.ensures.order) in
     record {
       main_is = c.in_ok-main.ensures.tree;
       procedures_are = c.in_ok-procedures.ensures.tree;
       no_fault = sym all ∙ none_is c.deref.result.now (sym c.least.ensures ∙ c.in_default.is);
       no_recursion = subst (λ (qs : List Procedure). (q : ℕ) → ¬ IsRecursive qs q) made
-          (subst (λ (o : Option Found). IfNone o ((q : ℕ) → ¬ IsRecursive (map view.procedure_of c.deref-2.result.now) q)) c.in_default-2.is c.in_ok-found.ensures.none);
+          (subst (λ (r : Result (Vec ℕ) Found). IfOk r (λ o. (q : ℕ) → ¬ IsRecursive (map view.procedure_of c.deref-2.result.now) q)) c.in-Ok.is c.in_ok-order.ensures.none);
+      only = order.only;
+      each = order.each;
+      once = order.once;
+      later = order.later;
     }
 
-pub returns-clause-typed : goal.returns-clause-typed
-returns-clause-typed c =
+pub returns-in-Ok-clause-typed : goal.returns-in-Ok-clause-typed
+returns-in-Ok-clause-typed c =
     let names = c.args.names in
     let vs = names.variables.items in
     let ps = map procedure_of names.procedures.items in
@@ -87,5 +95,7 @@ returns-clause-typed c =
       procedures = c.in_ok-procedures.ensures.tree;
       no_fault = sym all ∙ none_is c.deref.result.now (sym c.least.ensures ∙ c.in_default.is);
       no_recursion = subst (λ (qs : List Procedure). (q : ℕ) → ¬ IsRecursive qs q) made
-          (subst (λ (o : Option Found). IfNone o ((q : ℕ) → ¬ IsRecursive (map view.procedure_of c.deref-2.result.now) q)) c.in_default-2.is c.in_ok-found.ensures.none);
+          (subst (λ (r : Result (Vec ℕ) Found). IfOk r (λ o. (q : ℕ) → ¬ IsRecursive (map view.procedure_of c.deref-2.result.now) q)) c.in-Ok.is c.in_ok-order.ensures.none);
+      order = subst (λ (qs : List Procedure). IsOrder c.in-Ok.order.items (graph_of qs)) made
+          (subst (λ (r : Result (Vec ℕ) Found). IfOk r (λ o. IsOrder o.items (graph_of (map view.procedure_of c.deref-2.result.now)))) c.in-Ok.is c.in_ok-order.ensures.order);
     }

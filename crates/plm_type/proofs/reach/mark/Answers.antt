@@ -1,6 +1,6 @@
 use Rattle.std.proofs.Common.{sym, subst, take, get_or}
 use Rattle.std.proofs.lemmas.List.{take_more}
-use Rattle.plm_type.specs.Reach.{Marks}
+use Rattle.plm_type.specs.Inner.Reach.{Marks}
 use Rattle.plm_type.proofs.Marking.{one_marked}
 use Rattle.plm_type.proofs.reach.mark.Goals as goal
 

@@ -1,5 +1,5 @@
 use Rattle.std.proofs.Common.{take}
-use Rattle.plm_type.specs.Reach.{Marks}
+use Rattle.plm_type.specs.Inner.Reach.{Marks}
 use Rattle.plm_type.proofs.reach.mark.Given as goal
 
 abbrev pub invariant-loop-procedure : goal.invariant-loop-procedure

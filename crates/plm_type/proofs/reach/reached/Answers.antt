@@ -1,6 +1,6 @@
 use Rattle.std.proofs.Common.{[], length, vec_len, sym, subst, ◌∙◌, ◌<◌}
 use Rattle.std.proofs.lemmas.List.{length-map, length-replicate}
-use Rattle.plm_type.specs.Reach.{rows, Marks}
+use Rattle.plm_type.specs.Inner.Reach.{rows, Marks}
 use Rattle.plm_type.proofs.Exploring.{Explored, explored_first, explored_more, explored_all, emptied}
 use Rattle.plm_type.proofs.reach.reached.Goals as goal
 

@@ -1,5 +1,5 @@
 use Rattle.std.proofs.Common.{◌+◌, not, count_by, length}
-use Rattle.plm_type.specs.Reach.{rows}
+use Rattle.plm_type.specs.Inner.Reach.{rows}
 use Rattle.plm_type.proofs.Exploring.{Explored}
 use Rattle.plm_type.proofs.reach.reached.Given as goal
 

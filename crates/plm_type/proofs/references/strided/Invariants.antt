@@ -1,5 +1,5 @@
 use Rattle.std.proofs.Common.{◌≡◌, ◌++◌, map}
-use Rattle.plm_type.specs.Typers.{with_stride}
+use Rattle.plm_type.specs.Inner.Typer.{with_stride}
 use Rattle.plm_type.proofs.references.strided.Given as goal
 
 abbrev pub invariant-loop-index : goal.invariant-loop-index

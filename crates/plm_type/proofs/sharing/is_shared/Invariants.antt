@@ -1,5 +1,5 @@
 use Rattle.std.proofs.Common.{◌≡◌, false, drop}
-use Rattle.plm_type.specs.Reach.{marks_of, marked_twice}
+use Rattle.plm_type.specs.Inner.Reach.{marks_of, marked_twice}
 use Rattle.plm_type.proofs.sharing.is_shared.Given as goal
 
 abbrev pub invariant-loop-marks : goal.invariant-loop-marks

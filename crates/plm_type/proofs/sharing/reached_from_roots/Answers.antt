@@ -2,8 +2,8 @@ use Rattle.std.proofs.Common.{◌≡◌, ◌+◌, ◌<◌, ◌≤◌, length, Bo
 use Rattle.std.proofs.Math.ListN.{drop_of_length-le}
 use Rattle.std.proofs.lemmas.List.{append-nil, drop_more, length-map, map-append}
 use Rattle.plm_decl.specs.declared.names.Procedure.{Procedure}
-use Rattle.plm_type.specs.Reach.{rows, marks_of, AreReached}
-use Rattle.plm_type.specs.Warnings.{roots, handlers_from}
+use Rattle.plm_type.specs.Inner.Reach.{rows, marks_of, AreReached}
+use Rattle.plm_type.specs.Sharing.{roots, handlers_from}
 use Rattle.plm_type.proofs.MarkedTwice.{Marked, one_searched, none_searched}
 use Rattle.plm_type.proofs.sharing.reached_from_roots.Goals as goal
 use Rattle.plm_type.proofs.sharing.reached_from_roots.Goals.{then-is_handler+in_ok-reached-2+in_ok-push-2, else-is_handler}

@@ -1,6 +1,6 @@
 use Rattle.std.proofs.Common.{drop}
-use Rattle.plm_type.specs.Reach.{rows, marks_of}
-use Rattle.plm_type.specs.Warnings.{roots, handlers_from}
+use Rattle.plm_type.specs.Inner.Reach.{rows, marks_of}
+use Rattle.plm_type.specs.Sharing.{roots, handlers_from}
 use Rattle.plm_type.proofs.MarkedTwice.{Marked}
 use Rattle.plm_type.proofs.sharing.reached_from_roots.Given as goal
 

@@ -1,8 +1,9 @@
 use Rattle.std.proofs.Common.{◌≡◌, ◌<◌, false, length, map, sym, ap, subst, ◌∙◌}
 use Rattle.std.proofs.lemmas.List.{length-map}
-use Rattle.plm_type.specs.Reach.{Graph, rows, marks_of, AreReached, marked_twice}
+use Rattle.plm_type.specs.Reach.{Graph}
+use Rattle.plm_type.specs.Inner.Reach.{rows, marks_of, AreReached, marked_twice}
 use Rattle.plm_type.specs.Calls.{graph_of}
-use Rattle.plm_type.specs.Warnings.{roots, warnings_of}
+use Rattle.plm_type.specs.Sharing.{roots, warnings_of}
 use Rattle.plm_type.specs.View.{procedure_of}
 use Rattle.plm_type.proofs.MarkedTwice.{twice_from, twice_to, within_marked}
 use Rattle.plm_type.proofs.sharing.warnings.Goals as goal

@@ -1,6 +1,6 @@
 use Rattle.std.proofs.Common.{◌≡◌, ◌++◌, false, drop}
-use Rattle.plm_type.specs.Reach.{marks_of, marked_twice}
-use Rattle.plm_type.specs.Warnings.{warnings_of}
+use Rattle.plm_type.specs.Inner.Reach.{marks_of, marked_twice}
+use Rattle.plm_type.specs.Sharing.{warnings_of}
 use Rattle.plm_type.proofs.sharing.warnings_for.Given as goal
 
 abbrev pub invariant-loop-number : goal.invariant-loop-number

@@ -1,6 +1,7 @@
 use Rattle.std.proofs.Common.{◌≡◌, ◌++◌, drop}
-use Rattle.plm_meaning.specs.First.{initial_bytes}
-use Rattle.plm_meaning.specs.Steps.{names_of, offsets_of}
+use Rattle.plm_meaning.specs.Opening.{initial_bytes}
+use Rattle.plm_meaning.specs.Around.{names_of}
+use Rattle.plm_meaning.specs.Inner.Redex.{offsets_of}
 use Rattle.plm_meaning.proofs.around.Surroundings.object.Given as goal
 
 -- the bytes so far, then those of the values that are left, are the initial bytes

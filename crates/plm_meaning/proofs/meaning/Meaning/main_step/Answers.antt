@@ -1,13 +1,14 @@
 use Rattle.std.proofs.Common.{sym, ap, subst, ◌∙◌, option_map}
 use Rattle.ppi_kbd.specs.BoardChips.{board_chips}
-use Rattle.ppi_kbd.specs.ShownPorts.{Shows}
+use Rattle.ppi_kbd.specs.Ports.{Shows}
 use Rattle.plm_type.specs.Rest.{Rest, Main, Handler}
 use Rattle.plm_type.specs.Next.{next}
 use Rattle.plm_type.specs.Programs.{handler_rest}
-use Rattle.plm_meaning.specs.Parts.{todo_in, todo_of}
-use Rattle.plm_meaning.specs.Run.{state_of}
+use Rattle.plm_meaning.specs.Context.{todo_in, todo_of}
+use Rattle.plm_meaning.specs.Meaning.{state_of}
 use Rattle.plm_meaning.specs.Shown.{store_of, labels_of}
-use Rattle.plm_meaning.specs.Steps.{names_of, offsets_of, sizes_of, procedures_in, action_of, context_action}
+use Rattle.plm_meaning.specs.Around.{names_of}
+use Rattle.plm_meaning.specs.Inner.Redex.{offsets_of, sizes_of, procedures_in, action_of, context_action}
 use Rattle.plm_meaning.specs.Store.{shared}
 use Rattle.plm_meaning.proofs.Moves as moves
 use Rattle.plm_meaning.proofs.meaning.Meaning.main_step.Goals as goal

@@ -1,10 +1,11 @@
 use Rattle.std.proofs.Common.{◌≡◌, ◌+◌, cond, List, Option, Some, length, drop, map, slice_get, option_map, refl, sym, ap, ◌∙◌}
 use Rattle.std.proofs.lemmas.Option.{slice_get-map, slice_get_read}
 use Rattle.plm_decl.specs.declared.names.Procedure.{Procedure}
-use Rattle.plm_decl.specs.Known.{procedure_of}
-use Rattle.plm_decl.specs.Placed.{sizes_of}
+use Rattle.plm_decl.specs.Names.{procedure_of}
+use Rattle.plm_decl.specs.Placement.{sizes_of}
 use Rattle.plm_type.specs.Statements.{body_for, procedure_for}
-use Rattle.plm_type.specs.Programs.{declared_procedures, handler_among, body_at}
+use Rattle.plm_type.specs.Programs.{declared_procedures, handler_among}
+use Rattle.plm_type.specs.Inner.Checked.{body_at}
 use Rattle.plm_type.specs.View as view
 use Rattle.plm_type.proofs.Lists.{drop_at}
 use Rattle.plm_type.proofs.checked.Program.handler.Goals as goal

@@ -1,6 +1,6 @@
 use Rattle.std.proofs.Common.{◌≡◌, drop, map}
-use Rattle.plm_decl.specs.Known.{procedure_of}
-use Rattle.plm_decl.specs.Placed.{sizes_of}
+use Rattle.plm_decl.specs.Names.{procedure_of}
+use Rattle.plm_decl.specs.Placement.{sizes_of}
 use Rattle.plm_type.specs.Programs.{declared_procedures, handler_among, handler_tree}
 use Rattle.plm_type.proofs.checked.Program.handler.Given as goal
 

@@ -1,14 +1,14 @@
 use Rattle.std.proofs.Common.{◌≡◌, ℕ, inl, inr, ◌+◌, ◌∷◌, [], ◌++◌, ◌&&◌, is_some, true, false, List, Option, None, Result, IfOk, OnOk, length, drop, append_assoc, subst, cond, not, refl, sym, ap, ◌∙◌}
 use Rattle.std.proofs.lemmas.List.{append-nil, drop_all}
-use Rattle.word86.specs.declared.number.Number.TheVariants.{E401, E403}
-use Rattle.plm_syntax.specs.declared.tree.Place.{Place}
+use Rattle.word86.specs.declared.number.Number.TheVariants.{E401, E402, E403}
+use Rattle.plm_syntax.specs.declared.tree.Position.{Position}
 use Rattle.plm_decl.specs.declared.layout.ScalarType.{ScalarType}
 use Rattle.plm_decl.specs.declared.names.Variable.{Variable}
-use Rattle.plm_decl.specs.Known.{ProcedureR}
+use Rattle.plm_decl.specs.Names.{ProcedureR}
 use Rattle.plm_decl.specs.declared.found.Found.{Found}
 use Rattle.plm_decl.specs.declared.builtin.Builtin.{Builtin}
-use Rattle.plm_decl.specs.declared.resolved.Meaning.{Meaning}
-use Rattle.plm_decl.specs.declared.resolved.Meaning.TheVariants as meaning
+use Rattle.plm_decl.specs.declared.resolved.Binding.{Binding}
+use Rattle.plm_decl.specs.declared.resolved.Binding.TheVariants as binding
 use Rattle.plm_decl.specs.declared.resolved.Expression as declared_resolved
 use Rattle.plm_decl.specs.declared.resolved.Operation.{Operation}
 use Rattle.plm_decl.specs.Resolved.{ExpressionR, TextR, ReferenceR, ParenthesisedR, EmbeddedR, ReferenceR', Use, ExpressionsR, LocationR', LocationOf}
@@ -18,12 +18,12 @@ use Rattle.plm_decl.proofs.ResolvedRows.{operation_row}
 use Rattle.plm_type.specs.declared.program.Expression.{Expression}
 use Rattle.plm_type.specs.declared.typer.Typed.{Typed}
 use Rattle.plm_type.specs.Rest as rest
-use Rattle.plm_type.specs.Typers.{variables, procedures, sizes}
+use Rattle.plm_type.specs.Inner.Typer.{variables, procedures, sizes}
 use Rattle.plm_type.specs.Types as scalars
 use Rattle.plm_type.specs.Typing as typing
 use Rattle.plm_type.specs.Faults as found
 use Rattle.plm_type.specs.Trees as spec
-use Rattle.plm_type.specs.Chains as chains
+use Rattle.plm_type.specs.Inner.Chains as chains
 use Rattle.plm_type.specs.View as view
 use Rattle.plm_type.proofs.Lists.{drop_at, one_is, many_values, many_types, many_faults, expressions_at, trees_before, trees_pushed, trees_all}
 use Rattle.plm_type.proofs.Leaning.{leaned_tree, leaned_type, leaned_faults, leaned_alone, leaned_joined}
@@ -31,15 +31,15 @@ use Rattle.plm_type.proofs.Parts.{is_zero, not_zero}
 use Rattle.plm_type.proofs.typer.Typer.+expression.Goals as goal
 
 -- what LENGTH, LAST and SIZE are not of: no value, no type, and a fault
-abbrev IsRefused : List Variable → List ProcedureR → ℕ → Place → Builtin → ExpressionR → Type 0
-IsRefused vs ps file p b e =
-    (rest.Constant 0 ≡ spec.argument_value vs ps b e) × (None ≡ typing.argument_type vs ps b e) × (found.fault_unless file false E401 p ≡ found.argument_faults vs ps file p b e)
+abbrev IsRefused : List Variable → List ProcedureR → ℕ → Position → Builtin → ExpressionR → Type 0
+IsRefused vs ps module_index p b e =
+    (rest.Constant 0 ≡ spec.argument_value vs ps b e) × (None ≡ typing.argument_type vs ps b e) × (found.fault_unless module_index false E401 p ≡ found.argument_faults vs ps module_index p b e)
 
-unless_variable : (P : Meaning → Type 0) (m : Meaning) → ((x : ℕ) → m ≡ meaning.Variable x → ⊥) → ((q : ℕ) → P (meaning.Procedure q)) → ((b : Builtin) → P (meaning.Builtin b)) → P meaning.Nothing → P m
-unless_variable P (meaning.Variable x) h p b n = absurd (h x refl)
-unless_variable P (meaning.Procedure q) h p b n = p q
-unless_variable P (meaning.Builtin k) h p b n = b k
-unless_variable P meaning.Nothing h p b n = n
+unless_variable : (P : Binding → Type 0) (m : Binding) → ((x : ℕ) → m ≡ binding.Variable x → ⊥) → ((q : ℕ) → P (binding.Procedure q)) → ((b : Builtin) → P (binding.Builtin b)) → P binding.Nothing → P m
+unless_variable P (binding.Variable x) h p b n = absurd (h x refl)
+unless_variable P (binding.Procedure q) h p b n = p q
+unless_variable P (binding.Builtin k) h p b n = b k
+unless_variable P binding.Nothing h p b n = n
 
 -- ---- a reference as an expression
 
@@ -219,7 +219,7 @@ argument-returns-in_ok-parts-in-Reference-clause-tree t c =
     let b = c.args.builtin in
     let es = resolved.expressions_of r.subscripts.items in
     let s = resolved.selector_of r.selector in
-    let is = ap resolved.expression_of c.in-Reference.is ∙ ap ReferenceR (reference_placed r) ∙ ap (λ (m : Meaning). ReferenceR (Use r.place m es s)) c.in-Variable.is in
+    let is = ap resolved.expression_of c.in-Reference.is ∙ ap ReferenceR (reference_placed r) ∙ ap (λ (m : Binding). ReferenceR (Use r.place m es s)) c.in-Variable.is in
     let did = c.in_ok-parts-in-Reference.ensures in
     let path = (λ j. spec.constant (typing.measure b (c.variable-variable.ensures j) (length (did.subscript_types j)) s)) ∙ ap (spec.argument_value (variables self) (procedures self) b) (sym is) in
     subst (λ (e : rest.Expression). IfOk c.measured.result (λ x. view.expression_of x.tree ≡ e)) path c.measured.ensures.tree
@@ -231,7 +231,7 @@ argument-returns-in_ok-parts-in-Reference-clause-scalar t c =
     let b = c.args.builtin in
     let es = resolved.expressions_of r.subscripts.items in
     let s = resolved.selector_of r.selector in
-    let is = ap resolved.expression_of c.in-Reference.is ∙ ap ReferenceR (reference_placed r) ∙ ap (λ (m : Meaning). ReferenceR (Use r.place m es s)) c.in-Variable.is in
+    let is = ap resolved.expression_of c.in-Reference.is ∙ ap ReferenceR (reference_placed r) ∙ ap (λ (m : Binding). ReferenceR (Use r.place m es s)) c.in-Variable.is in
     let did = c.in_ok-parts-in-Reference.ensures in
     let path = (λ j. typing.measure_type b (c.variable-variable.ensures j) s (did.subscript_types j) (did.member_types j)) ∙ ap (typing.argument_type (variables self) (procedures self) b) (sym is) in
     subst (λ (e : Option ScalarType). IfOk c.measured.result (λ x. x.scalar ≡ e)) path c.measured.ensures.scalar
@@ -248,7 +248,7 @@ argument-returns-in_ok-parts-in-Reference-clause-faults t c =
     let old = c.args.faults.now.items in
     let es = resolved.expressions_of r.subscripts.items in
     let s = resolved.selector_of r.selector in
-    let is = ap resolved.expression_of c.in-Reference.is ∙ ap ReferenceR (reference_placed r) ∙ ap (λ (x : Meaning). ReferenceR (Use r.place x es s)) c.in-Variable.is in
+    let is = ap resolved.expression_of c.in-Reference.is ∙ ap ReferenceR (reference_placed r) ∙ ap (λ (x : Binding). ReferenceR (Use r.place x es s)) c.in-Variable.is in
     let did = c.in_ok-parts-in-Reference.ensures in
     let path =
     (λ j. did.faults j ++ (found.use_faults m true r.place (c.variable-variable.ensures j) s (did.subscript_types j) (did.member_types j)
@@ -266,7 +266,7 @@ argument-returns-in_default t c =
     let is = sym (ap resolved.expression_of c.in-Reference.is ∙ ap ReferenceR (reference_placed r)) in
     let refused = IsRefused (variables self) (procedures self) self.module c.args.place c.args.builtin in
     let none : refused (resolved.expression_of c.args.argument.now) =
-    subst refused is (unless_variable (λ (m : Meaning). refused (ReferenceR (Use r.place m es s))) r.meaning c.in_default.not-Variable (λ q. (refl, refl, refl)) (λ k. (refl, refl, refl)) (refl, refl, refl)) in
+    subst refused is (unless_variable (λ (m : Binding). refused (ReferenceR (Use r.place m es s))) r.binding c.in_default.not-Variable (λ q. (refl, refl, refl)) (λ k. (refl, refl, refl)) (refl, refl, refl)) in
     record {
       tree = subst (λ (e : rest.Expression). IfOk c.refused.result (λ x. view.expression_of x.tree ≡ e)) none.0 c.refused.ensures.tree;
       scalar = subst (λ (e : Option ScalarType). IfOk c.refused.result (λ x. x.scalar ≡ e)) none.1 c.refused.ensures.scalar;
@@ -389,7 +389,7 @@ location-returns-in_ok-parts-in-Reference-clause-tree t c =
     let self = c.args.self.now in
     let es = resolved.expressions_of r.subscripts.items in
     let s = resolved.selector_of r.selector in
-    let is = ap resolved.location_of c.in-Reference.is ∙ ap (LocationOf p f) (reference_placed r) ∙ ap (λ (m : Meaning). LocationOf p f (Use r.place m es s)) c.in-Variable.is in
+    let is = ap resolved.location_of c.in-Reference.is ∙ ap (LocationOf p f) (reference_placed r) ∙ ap (λ (m : Binding). LocationOf p f (Use r.place m es s)) c.in-Variable.is in
     let did = c.in_ok-parts-in-Reference.ensures in
     let path = (λ j. rest.Location (spec.refer (variables self) self.module r.place.line (c.variable.ensures j) s (did.subscripts j) (did.member j)))
     ∙ ap (spec.location_of (variables self) (procedures self) (sizes self) self.module) (sym is) in
@@ -403,7 +403,7 @@ location-returns-in_ok-parts-in-Reference-clause-scalar t c =
     let self = c.args.self.now in
     let es = resolved.expressions_of r.subscripts.items in
     let s = resolved.selector_of r.selector in
-    let is = ap resolved.location_of c.in-Reference.is ∙ ap (LocationOf p f) (reference_placed r) ∙ ap (λ (m : Meaning). LocationOf p f (Use r.place m es s)) c.in-Variable.is in
+    let is = ap resolved.location_of c.in-Reference.is ∙ ap (LocationOf p f) (reference_placed r) ∙ ap (λ (m : Binding). LocationOf p f (Use r.place m es s)) c.in-Variable.is in
     let did = c.in_ok-parts-in-Reference.ensures in
     let path = (λ j. typing.located_type f (c.variable.ensures j) s (did.subscript_types j) (did.member_types j)) ∙ ap (typing.address_type (variables self) (procedures self)) (sym is) in
     subst (λ (e : Option ScalarType). IfOk c.located.result (λ x. x.scalar ≡ e)) path c.located.ensures.scalar
@@ -418,7 +418,7 @@ location-returns-in_ok-parts-in-Reference-clause-faults t c =
     let old = c.args.faults.now.items in
     let es = resolved.expressions_of r.subscripts.items in
     let s = resolved.selector_of r.selector in
-    let is = ap resolved.location_of c.in-Reference.is ∙ ap (LocationOf p f) (reference_placed r) ∙ ap (λ (x : Meaning). LocationOf p f (Use r.place x es s)) c.in-Variable.is in
+    let is = ap resolved.location_of c.in-Reference.is ∙ ap (LocationOf p f) (reference_placed r) ∙ ap (λ (x : Binding). LocationOf p f (Use r.place x es s)) c.in-Variable.is in
     let did = c.in_ok-parts-in-Reference.ensures in
     let path =
     (λ j. did.faults j ++ (found.fault_unless m (typing.may_be_located (c.variable.ensures j)) E401 p
@@ -437,14 +437,14 @@ location-returns-in_default t c =
     let ps = procedures self in
     let es = resolved.expressions_of r.subscripts.items in
     let s = resolved.selector_of r.selector in
-    let of = λ (m : Meaning). LocationOf p f (Use r.place m es s) in
+    let of = λ (m : Binding). LocationOf p f (Use r.place m es s) in
     let is = sym (ap resolved.location_of c.in-Reference.is ∙ ap (LocationOf p f) (reference_placed r)) in
     let value = spec.location_of vs ps (sizes self) self.module in
     let type = typing.address_type vs ps in
     let faults = found.location_faults vs ps self.module in
-    let no_value = unless_variable (λ (m : Meaning). rest.Constant 0 ≡ value (of m)) r.meaning c.in_default.not-Variable (λ q. refl) (λ k. refl) refl in
-    let no_type = unless_variable (λ (m : Meaning). None ≡ type (of m)) r.meaning c.in_default.not-Variable (λ q. refl) (λ k. refl) refl in
-    let no_faults = unless_variable (λ (m : Meaning). found.fault_unless self.module false E401 p ≡ faults (of m)) r.meaning c.in_default.not-Variable (λ q. refl) (λ k. refl) refl in
+    let no_value = unless_variable (λ (m : Binding). rest.Constant 0 ≡ value (of m)) r.binding c.in_default.not-Variable (λ q. refl) (λ k. refl) refl in
+    let no_type = unless_variable (λ (m : Binding). None ≡ type (of m)) r.binding c.in_default.not-Variable (λ q. refl) (λ k. refl) refl in
+    let no_faults = unless_variable (λ (m : Binding). found.fault_unless self.module false E401 p ≡ faults (of m)) r.binding c.in_default.not-Variable (λ q. refl) (λ k. refl) refl in
     record {
       tree = subst (λ (e : rest.Expression). IfOk c.refused.result (λ x. view.expression_of x.tree ≡ e)) (no_value ∙ ap value is) c.refused.ensures.tree;
       scalar = subst (λ (e : Option ScalarType). IfOk c.refused.result (λ x. x.scalar ≡ e)) (no_type ∙ ap type is) c.refused.ensures.scalar;
@@ -459,23 +459,29 @@ arguments-returns-in-len1-clause-faults t c =
     let is = ap resolved.expressions_of (one_is c.args.es.now c.argument-item.result c.in-len1.len_at_least c.in-len1.len_below c.argument-item.is) in
     subst (λ (l : List Found). OnOk c.argument.result (c.argument.new.faults.items ≡ c.args.faults.now.items ++ l)) (ap (found.measured_faults (variables self) (procedures self) self.module c.args.place c.args.builtin) (sym is)) c.argument.ensures.faults
 
-pub arguments-returns-in-len2-up-clause-tree : goal.arguments-returns-in-len2-up-clause-tree
-arguments-returns-in-len2-up-clause-tree t c =
+pub arguments-returns-in_ok-argument-in-len2-up-clause-tree : goal.arguments-returns-in_ok-argument-in-len2-up-clause-tree
+arguments-returns-in_ok-argument-in-len2-up-clause-tree t c =
     let self = c.args.self.now in
     subst (λ (e : rest.Expression). IfOk c.miscounted-in-len2-up.result (λ x. view.expression_of x.tree ≡ e))
     (many_values (variables self) (procedures self) c.args.builtin c.args.es.now c.in-len2-up.len_at_least) c.miscounted-in-len2-up.ensures.tree
 
-pub arguments-returns-in-len2-up-clause-scalar : goal.arguments-returns-in-len2-up-clause-scalar
-arguments-returns-in-len2-up-clause-scalar t c =
+pub arguments-returns-in_ok-argument-in-len2-up-clause-scalar : goal.arguments-returns-in_ok-argument-in-len2-up-clause-scalar
+arguments-returns-in_ok-argument-in-len2-up-clause-scalar t c =
     let self = c.args.self.now in
     subst (λ (s : Option ScalarType). IfOk c.miscounted-in-len2-up.result (λ x. x.scalar ≡ s))
     (many_types (variables self) (procedures self) c.args.builtin c.args.es.now c.in-len2-up.len_at_least) c.miscounted-in-len2-up.ensures.scalar
 
-pub arguments-returns-in-len2-up-clause-faults : goal.arguments-returns-in-len2-up-clause-faults
-arguments-returns-in-len2-up-clause-faults t c =
+pub arguments-returns-in_ok-argument-in-len2-up-clause-faults : goal.arguments-returns-in_ok-argument-in-len2-up-clause-faults
+arguments-returns-in_ok-argument-in-len2-up-clause-faults t c =
     let self = c.args.self.now in
-    subst (λ (l : List Found). OnOk c.miscounted-in-len2-up.result (c.miscounted-in-len2-up.new.faults.items ≡ c.args.faults.now.items ++ l))
-    (many_faults (variables self) (procedures self) self.module c.args.place c.args.builtin c.args.es.now c.in-len2-up.len_at_least) c.miscounted-in-len2-up.ensures.faults
+    let old = c.args.faults.now.items in
+    let vs = variables self in
+    let ps = procedures self in
+    let first = resolved.expression_of c.first-item.result in
+    let judged = found.argument_faults vs ps self.module c.args.place c.args.builtin first in
+    let both = ap (λ (l : List Found). l ++ found.fault_unless self.module false E402 c.args.place) c.in_ok-argument-in-len2-up.ensures.faults ∙ append_assoc old judged _
+    ∙ ap (λ (l : List Found). old ++ l) (many_faults vs ps self.module c.args.place c.args.builtin c.args.es.now c.first-item.result c.in-len2-up.len_at_least c.first-item.is) in
+    subst (λ (l : List Found). OnOk c.miscounted-in-len2-up.result (c.miscounted-in-len2-up.new.faults.items ≡ l)) both c.miscounted-in-len2-up.ensures.faults
 
 -- ---- a reference as a value
 
@@ -489,7 +495,7 @@ value-returns-in_ok-parts-in-Variable t c =
     let ps = procedures self in
     let m = self.module in
     let old = c.args.faults.now.items in
-    let is = ap (λ (m : Meaning). Use r.place m es s) (sym c.in-Variable.is) in
+    let is = ap (λ (m : Binding). Use r.place m es s) (sym c.in-Variable.is) in
     let did = c.in_ok-parts-in-Variable.ensures in
     let v = c.variable.ensures in
     record {
@@ -508,7 +514,7 @@ value-returns-in_ok-arguments-in-Procedure t c =
     let ps = procedures self in
     let m = self.module in
     let old = c.args.faults.now.items in
-    let is = ap (λ (m : Meaning). Use r.place m es s) (sym c.in-Procedure.is) in
+    let is = ap (λ (m : Binding). Use r.place m es s) (sym c.in-Procedure.is) in
     let did = c.in_ok-arguments-in-Procedure.ensures in
     let from = c.deref.ensures.value in
     let trees = did.trees ∙ ap (λ (l : List declared_resolved.Expression). spec.trees_of vs ps (sizes self) m (resolved.expressions_of l)) from in
@@ -530,7 +536,7 @@ value-returns-then-is_measure t c =
     let ps = procedures self in
     let m = self.module in
     let old = c.args.faults.now.items in
-    let is = ap (λ (m : Meaning). Use r.place m es s) (sym c.in-Builtin.is) in
+    let is = ap (λ (m : Binding). Use r.place m es s) (sym c.in-Builtin.is) in
     let b = c.in-Builtin.builtin in
     let noted = c.in_ok-note_unless-in-Builtin.ensures ∙ (λ j. old ++ found.fault_unless m (not (c.is_target.ensures j)) E401 r.place) in
     let target = found.fault_unless m (not (typing.is_target b)) E401 r.place in
@@ -553,7 +559,7 @@ value-returns-in_ok-arguments-in-Builtin t c =
     let ps = procedures self in
     let m = self.module in
     let old = c.args.faults.now.items in
-    let is = ap (λ (m : Meaning). Use r.place m es s) (sym c.in-Builtin.is) in
+    let is = ap (λ (m : Binding). Use r.place m es s) (sym c.in-Builtin.is) in
     let b = c.in-Builtin.builtin in
     let noted = c.in_ok-note_unless-in-Builtin.ensures ∙ (λ j. old ++ found.fault_unless m (not (c.is_target.ensures j)) E401 r.place) in
     let target = found.fault_unless m (not (typing.is_target b)) E401 r.place in
@@ -581,7 +587,7 @@ value-returns-in-Nothing t c =
     let ps = procedures self in
     let m = self.module in
     let old = c.args.faults.now.items in
-    let is = ap (λ (m : Meaning). Use r.place m es s) (sym c.in-Nothing.is) in
+    let is = ap (λ (m : Binding). Use r.place m es s) (sym c.in-Nothing.is) in
     record {
       tree = subst (λ (e : rest.Expression). IfOk c.refused.result (λ x. view.expression_of x.tree ≡ e)) (ap (spec.value_of vs ps (sizes self) m) is) c.refused.ensures.tree;
       scalar = subst (λ (e : Option ScalarType). IfOk c.refused.result (λ x. x.scalar ≡ e)) (ap (typing.value_type vs ps) is) c.refused.ensures.scalar;
@@ -600,12 +606,12 @@ target-returns-in_ok-parts-in-Variable t c =
     let ps = procedures self in
     let m = self.module in
     let old = c.args.faults.now.items in
-    let is = ap (λ (m : Meaning). Use r.place m es s) (sym c.in-Variable.is) in
+    let is = ap (λ (m : Binding). Use r.place m es s) (sym c.in-Variable.is) in
     let did = c.in_ok-parts-in-Variable.ensures in
     let v = c.variable.ensures in
     record {
       tree = subst (λ (e : rest.Target). IfOk c.stored.result (λ x. view.target_of x.tree ≡ e)) ((λ j. spec.use_stored (v j) s (spec.refer vs m r.place.line (v j) s (did.subscripts j) (did.member j))) ∙ ap (spec.target_of vs ps (sizes self) m) is) c.stored.ensures.tree;
-      scalar = subst (λ (e : Option ScalarType). IfOk c.stored.result (λ x. x.scalar ≡ e)) ((λ j. typing.stored_type (v j) s (did.subscript_types j) (did.member_types j)) ∙ ap (typing.target_type vs ps) is) c.stored.ensures.scalar;
+      scalar = subst (λ (e : Option ScalarType). IfOk c.stored.result (λ x. x.scalar ≡ e)) ((λ j. typing.use_type (v j) s (did.subscript_types j) (did.member_types j)) ∙ ap (typing.target_type vs ps) is) c.stored.ensures.scalar;
       faults = subst (λ (l : List Found). OnOk c.stored.result (c.stored.new.faults.items ≡ l)) ((λ j. did.faults j ++ (found.use_faults m false r.place (v j) s (did.subscript_types j) (did.member_types j) ++ found.fault_unless m (typing.may_be_assigned (v j)) E403 r.place)) ∙ append_assoc old _ _ ∙ ap (λ (x : ReferenceR'). old ++ found.target_faults vs ps m x) is) c.stored.ensures.faults;
     }
 
@@ -619,7 +625,7 @@ target-returns-in_ok-arguments-in-Builtin t c =
     let ps = procedures self in
     let m = self.module in
     let old = c.args.faults.now.items in
-    let is = ap (λ (m : Meaning). Use r.place m es s) (sym c.in-Builtin.is) in
+    let is = ap (λ (m : Binding). Use r.place m es s) (sym c.in-Builtin.is) in
     let b = c.in-Builtin.builtin in
     let did = c.in_ok-arguments-in-Builtin.ensures in
     let from = c.deref.ensures.value in

@@ -1,10 +1,10 @@
 use Rattle.std.proofs.Common.{◌≡◌, ◌++◌, drop}
 use Rattle.plm_decl.specs.ResolvedView as resolved
-use Rattle.plm_type.specs.Typers.{variables, procedures, sizes}
+use Rattle.plm_type.specs.Inner.Typer.{variables, procedures, sizes}
 use Rattle.plm_type.specs.Typing.{types_of}
 use Rattle.plm_type.specs.Faults.{faults_in}
 use Rattle.plm_type.specs.Trees.{trees_of}
-use Rattle.plm_type.specs.Chains.{chain_tree, chain_type, chain_faults}
+use Rattle.plm_type.specs.Inner.Chains.{chain_tree, chain_type, chain_faults}
 use Rattle.plm_type.specs.View as view
 use Rattle.plm_type.proofs.Lists.{trees_before}
 use Rattle.plm_type.proofs.typer.Typer.+expression.Given as goal

@@ -8,7 +8,7 @@ use Rattle.plm_decl.specs.ResolvedView as resolved
 use Rattle.plm_decl.proofs.ResolvedRows as rows
 use Rattle.plm_type.specs.declared.program.Statement.{Statement}
 use Rattle.plm_type.specs.Rest as rest
-use Rattle.plm_type.specs.Typers.{variables, procedures, sizes}
+use Rattle.plm_type.specs.Inner.Typer.{variables, procedures, sizes}
 use Rattle.plm_type.specs.Statements as spec
 use Rattle.plm_type.specs.View as view
 use Rattle.plm_type.proofs.Rows.{statement_row}

@@ -1,6 +1,6 @@
 use Rattle.std.proofs.Common.{◌≡◌, ◌++◌, drop}
 use Rattle.plm_decl.specs.ResolvedView as resolved
-use Rattle.plm_type.specs.Typers.{variables, procedures, sizes}
+use Rattle.plm_type.specs.Inner.Typer.{variables, procedures, sizes}
 use Rattle.plm_type.specs.Statements.{statements_for, of_statements}
 use Rattle.plm_type.proofs.Lists.{statements_before}
 use Rattle.plm_type.proofs.typer.Typer.+statement.Given as goal

@@ -2,7 +2,7 @@ use Rattle.std.proofs.Common.{◌++◌, List, append_assoc, ap, ◌∙◌}
 use Rattle.word86.specs.declared.number.Number.TheVariants.{E401}
 use Rattle.plm_decl.specs.declared.found.Found.{Found}
 use Rattle.plm_decl.specs.ResolvedView as resolved
-use Rattle.plm_type.specs.Typers.{variables, procedures}
+use Rattle.plm_type.specs.Inner.Typer.{variables, procedures}
 use Rattle.plm_type.specs.Faults.{fault_unless}
 use Rattle.plm_type.specs.Statements as spec
 use Rattle.plm_type.proofs.typer.Typer.assign.Goals as goal

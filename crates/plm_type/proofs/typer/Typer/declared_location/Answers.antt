@@ -1,5 +1,5 @@
 use Rattle.std.proofs.Common.{◌++◌, map, ◌∙◌}
-use Rattle.plm_decl.specs.Known.{procedure_of}
+use Rattle.plm_decl.specs.Names.{procedure_of}
 use Rattle.plm_decl.specs.ResolvedView as resolved
 use Rattle.plm_type.specs.Faults.{location_faults}
 use Rattle.plm_type.proofs.typer.Typer.declared_location.Goals as goal

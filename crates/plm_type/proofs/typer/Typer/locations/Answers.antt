@@ -1,8 +1,8 @@
 use Rattle.std.proofs.Common.{◌+◌, ◌++◌, List, drop, map, append_assoc, sym, ap, ◌∙◌}
 use Rattle.plm_decl.specs.declared.found.Found.{Found}
 use Rattle.plm_decl.specs.declared.names.DeclaredLocation.{DeclaredLocation}
-use Rattle.plm_decl.specs.Known.{declared_location_of}
-use Rattle.plm_type.specs.Typers.{variables, procedures}
+use Rattle.plm_decl.specs.Names.{declared_location_of}
+use Rattle.plm_type.specs.Inner.Typer.{variables, procedures}
 use Rattle.plm_type.specs.Statements as spec
 use Rattle.plm_type.proofs.Lists.{drop_at}
 use Rattle.plm_type.proofs.typer.Typer.locations.Goals as goal

@@ -1,6 +1,6 @@
 use Rattle.std.proofs.Common.{◌≡◌, ◌++◌, drop, map}
-use Rattle.plm_decl.specs.Known.{declared_location_of}
-use Rattle.plm_type.specs.Typers.{variables, procedures}
+use Rattle.plm_decl.specs.Names.{declared_location_of}
+use Rattle.plm_type.specs.Inner.Typer.{variables, procedures}
 use Rattle.plm_type.specs.Statements.{of_locations}
 use Rattle.plm_type.proofs.typer.Typer.locations.Given as goal
 

@@ -2,7 +2,7 @@ use Rattle.std.proofs.Common.{◌≡◌, ℕ, ◌+◌, ◌∷◌, ◌++◌, List
 use Rattle.plm_decl.specs.declared.found.Found.{Found}
 use Rattle.plm_type.specs.declared.program.Scalar as declared
 use Rattle.plm_type.specs.Rest as rest
-use Rattle.plm_type.specs.Typers.{variables}
+use Rattle.plm_type.specs.Inner.Typer.{variables}
 use Rattle.plm_type.specs.Statements as spec
 use Rattle.plm_type.specs.View as view
 use Rattle.plm_type.proofs.Lists.{mapped_more}

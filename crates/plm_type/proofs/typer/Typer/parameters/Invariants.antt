@@ -1,5 +1,5 @@
 use Rattle.std.proofs.Common.{◌≡◌, ◌++◌, drop, map}
-use Rattle.plm_type.specs.Typers.{variables}
+use Rattle.plm_type.specs.Inner.Typer.{variables}
 use Rattle.plm_type.specs.Statements.{parameters_for, of_parameters}
 use Rattle.plm_type.specs.View as view
 use Rattle.plm_type.proofs.typer.Typer.parameters.Given as goal

@@ -1,10 +1,10 @@
 use Rattle.std.proofs.Common.{◌+◌, ◌∷◌, ◌++◌, List, drop, map, append_assoc, sym, ap, ◌∙◌}
 use Rattle.plm_decl.specs.declared.found.Found.{Found}
-use Rattle.plm_decl.specs.Known.{ProcedureR, procedure_of}
-use Rattle.plm_decl.specs.Placed.{sizes_of}
+use Rattle.plm_decl.specs.Names.{ProcedureR, procedure_of}
+use Rattle.plm_decl.specs.Placement.{sizes_of}
 use Rattle.plm_type.specs.declared.program.Procedure as declared
 use Rattle.plm_type.specs.Rest as rest
-use Rattle.plm_type.specs.Typers.{variables, procedures, sizes}
+use Rattle.plm_type.specs.Inner.Typer.{variables, procedures, sizes}
 use Rattle.plm_type.specs.Statements as spec
 use Rattle.plm_type.specs.View as view
 use Rattle.plm_type.proofs.Lists.{drop_at, mapped_more}

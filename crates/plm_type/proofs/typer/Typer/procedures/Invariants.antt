@@ -1,6 +1,6 @@
 use Rattle.std.proofs.Common.{◌≡◌, ◌++◌, drop, map}
-use Rattle.plm_decl.specs.Known.{procedure_of}
-use Rattle.plm_type.specs.Typers.{variables, procedures, sizes}
+use Rattle.plm_decl.specs.Names.{procedure_of}
+use Rattle.plm_type.specs.Inner.Typer.{variables, procedures, sizes}
 use Rattle.plm_type.specs.Statements.{procedure_for, of_procedures}
 use Rattle.plm_type.specs.View as view
 use Rattle.plm_type.proofs.typer.Typer.procedures.Given as goal

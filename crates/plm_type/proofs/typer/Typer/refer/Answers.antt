@@ -7,7 +7,7 @@ use Rattle.plm_type.specs.declared.program.Expression.{Expression}
 use Rattle.plm_type.specs.declared.program.Subscript.{Subscript}
 use Rattle.plm_type.specs.Rest as rest
 use Rattle.plm_type.specs.Shapes.{anchor_for}
-use Rattle.plm_type.specs.Typers.{variables, with_stride}
+use Rattle.plm_type.specs.Inner.Typer.{variables, with_stride}
 use Rattle.plm_type.specs.Trees as spec
 use Rattle.plm_type.specs.View as view
 use Rattle.plm_type.proofs.Lists.{strided_are}

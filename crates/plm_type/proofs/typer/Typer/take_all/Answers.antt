@@ -1,6 +1,6 @@
 use Rattle.std.proofs.Common.{ℕ, List, [], drop, drop-cons, sym, ap, ◌∙◌}
 use Rattle.std.proofs.lemmas.List.{nil_from_length}
-use Rattle.plm_type.specs.Typers.{variables}
+use Rattle.plm_type.specs.Inner.Typer.{variables}
 use Rattle.plm_type.specs.Typing.{take_all, parameter_types}
 use Rattle.plm_type.proofs.typer.Typer.take_all.Goals as goal
 

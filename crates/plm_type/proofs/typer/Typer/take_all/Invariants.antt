@@ -1,5 +1,5 @@
 use Rattle.std.proofs.Common.{◌≡◌, drop}
-use Rattle.plm_type.specs.Typers.{variables}
+use Rattle.plm_type.specs.Inner.Typer.{variables}
 use Rattle.plm_type.specs.Typing.{take_all, parameter_types}
 use Rattle.plm_type.proofs.typer.Typer.take_all.Given as goal
 

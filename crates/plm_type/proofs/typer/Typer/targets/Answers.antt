@@ -7,7 +7,7 @@ use Rattle.plm_decl.specs.Resolved.{ReferencesR}
 use Rattle.plm_decl.specs.ResolvedView as resolved
 use Rattle.plm_type.specs.declared.program.Target.{Target}
 use Rattle.plm_type.specs.Rest as rest
-use Rattle.plm_type.specs.Typers.{variables, procedures, sizes}
+use Rattle.plm_type.specs.Inner.Typer.{variables, procedures, sizes}
 use Rattle.plm_type.specs.Faults.{target_faults}
 use Rattle.plm_type.specs.Statements as spec
 use Rattle.plm_type.specs.View as view

@@ -1,6 +1,6 @@
 use Rattle.std.proofs.Common.{◌≡◌, ◌++◌, drop, map}
 use Rattle.plm_decl.specs.ResolvedView as resolved
-use Rattle.plm_type.specs.Typers.{variables, procedures, sizes}
+use Rattle.plm_type.specs.Inner.Typer.{variables, procedures, sizes}
 use Rattle.plm_type.specs.Statements.{target_trees, target_types, of_targets}
 use Rattle.plm_type.specs.View as view
 use Rattle.plm_type.proofs.typer.Typer.targets.Given as goal

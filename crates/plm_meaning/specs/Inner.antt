@@ -1,0 +1,5 @@
+pub mod Context
+pub mod Meaning
+pub mod Redex
+pub mod Shown
+pub mod Start

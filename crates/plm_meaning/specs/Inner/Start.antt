@@ -1,0 +1,35 @@
+-- How often what comes first of an expression is itself an expression of which a part comes first.
+use Rattle.std.specs.Prelude.{ℕ, suc}
+use Rattle.plm_type.specs.Rest.{Expression, Variable, Location, Unary, Binary, Embedded, Input, Call, Expressions, NoMore, More, Reference, Refer, Subscripts, NoSubscripts, Subscript}
+use Rattle.plm_type.specs.View.{expression_of, expressions_of}
+use Rattle.plm_meaning.specs.declared.context.Start.{Start}
+use Rattle.plm_meaning.specs.declared.context.Start.TheVariants as start
+
+abbrev mutual
+  pub depth : Expression → ℕ
+  depth (Variable width r) = reference_depth r
+  depth (Location r) = reference_depth r
+  depth (Unary o width e) = suc (depth e)
+  depth (Binary module_index line o width a b) = suc (depth a)
+  depth (Embedded t e) = suc (depth e)
+  depth (Input width e) = suc (depth e)
+  depth (Call n es) = arguments_depth es
+  depth _ = 0
+
+  pub arguments_depth : Expressions → ℕ
+  arguments_depth NoMore = 0
+  arguments_depth (More e es) = suc (depth e)
+
+  pub reference_depth : Reference → ℕ
+  reference_depth (Refer module_index line a offset ss) = subscripts_depth ss
+
+  pub subscripts_depth : Subscripts → ℕ
+  subscripts_depth NoSubscripts = 0
+  subscripts_depth (Subscript stride e ss) = suc (depth e)
+
+-- the same of what comes first of a part
+abbrev pub start_depth : Start → ℕ
+start_depth (start.Within h e) = suc (depth (expression_of e.now))
+start_depth (start.Evaluate e) = suc (depth (expression_of e.now))
+start_depth (start.Call n es) = arguments_depth (expressions_of es.now)
+start_depth _ = 0

@@ -1,5 +1,0 @@
-use Rattle.std.proofs.Common.{ℕ, ◌<◌, Contains, take, slice_index_or}
-use Rattle.plm_type.proofs.order.is_before.Given as goal
-
-abbrev pub invariant-loop-other : goal.invariant-loop-other
-invariant-loop-other l = (q : ℕ) → Contains (take l.other-index l.called) q → l.place < slice_index_or l.places q 0

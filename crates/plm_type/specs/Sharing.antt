@@ -1,0 +1,38 @@
+-- What `warnings` answers: the procedures that main and an interrupt procedure share, or two of these.
+use Rattle.std.specs.Prelude.{◌≡◌, ℕ, ◌+◌, ◌<◌, ◌↔◌, List, [], ◌∷◌, map, Bool, not, ◌&&◌, cond, IsTrue, is_some, length}
+use Rattle.plm_decl.specs.declared.names.Procedure as declared
+use Rattle.plm_decl.specs.Stray.{is_external_linkage}
+use Rattle.plm_type.specs.declared.checked.Program.{Program}
+use Rattle.plm_type.specs.declared.sharing.Warning.{Warning}
+use Rattle.plm_type.specs.Reach.{LeadTwice}
+use Rattle.plm_type.specs.Calls.{statements_calls, graph_of}
+use Rattle.plm_type.specs.View as view
+
+-- an EXTERNAL procedure handles no interrupt
+abbrev pub is_handler : declared.Procedure → Bool
+is_handler p = is_some p.interrupt && not (is_external_linkage p.linkage)
+
+-- an interrupt procedure reaches itself, and what it calls: of the procedures from this number on, each that is one
+abbrev pub handlers_from : ℕ → List declared.Procedure → List (List ℕ)
+handlers_from k [] = []
+handlers_from k (p ∷ ps) = cond (is_handler p) ((k ∷ []) ∷ handlers_from (k + 1) ps) (handlers_from (k + 1) ps)
+
+-- main reaches what it calls
+abbrev pub roots : Program → List (List ℕ)
+roots program = statements_calls (view.statements_of program.main.items) ∷ handlers_from 0 program.names.procedures.items
+
+abbrev pub IsShared : Program → ℕ → Type 0
+IsShared program p = LeadTwice (graph_of (map view.procedure_of program.procedures.items)) (roots program) p
+
+abbrev pub warning_of : declared.Procedure → Warning
+warning_of p = record { «module» = p.module; line = p.place.line }
+
+-- of the procedures from this number on, a warning for each that is marked, in order
+abbrev pub warnings_of : (is_marked : ℕ → Bool) → ℕ → List declared.Procedure → List Warning
+warnings_of m k [] = []
+warnings_of m k (p ∷ ps) = cond (m k) (warning_of p ∷ warnings_of m (k + 1) ps) (warnings_of m (k + 1) ps)
+
+pub record AreWarnings (program : Program) (ws : List Warning) : Type 0 where
+  pub is_marked : ℕ → Bool
+  pub marks : (p : ℕ) → IsTrue (is_marked p) ↔ ((p < length program.procedures.items) × IsShared program p)
+  pub each : ws ≡ warnings_of is_marked 0 program.names.procedures.items
