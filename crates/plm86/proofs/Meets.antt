@@ -18,7 +18,7 @@ use Rattle.std.specs.Box.{box_value}
 use Rattle.plm86.specs.CommandLine.{plm86_app}
 use Rattle.std.proofs.Common.{subst}
 use Rattle.clap.specs.Words.{takes}
-use Rattle.plm86.specs.Orders.{HasWords, IsRefused}
+use Rattle.plm86.specs.Order.{HasWords, IsRefused}
 use Rattle.plm86.specs.declared.order.OrderFault.{OrderFault}
 use Rattle.plm86.specs.declared.order.OrderFault.TheVariants.{Memory}
 

@@ -8,16 +8,16 @@ use Rattle.word86.specs.declared.fault.Fault.{Fault}
 use Rattle.word86.specs.declared.fault.Fault.TheVariants.{Memory, At}
 use Rattle.word86.specs.declared.number.Number.TheVariants.{E601}
 use Rattle.plm_token.specs.declared.token.Token.{Token}
-use Rattle.plm_token.specs.Scanning.{Lexeme, lexemes, scan_of, Answers}
+use Rattle.plm_token.specs.Scanner.{Lexeme, lexemes, scan_of, Answers}
 use Rattle.plm_syntax.specs.declared.tree.Module.{Module}
 use Rattle.plm_syntax.specs.Tree.{ModuleT}
-use Rattle.plm_syntax.specs.Expand.{expanded}
-use Rattle.plm_syntax.specs.Answers as tree
+use Rattle.plm_syntax.specs.Literals.{expanded}
+use Rattle.plm_syntax.specs.Answer as tree
 use Rattle.plm_syntax.specs.View.{module_of}
 use Rattle.plm_decl.specs.declared.names.Names.{Names}
-use Rattle.plm_decl.specs.Answers.{faults_of, whole_faults_of}
-use Rattle.plm_decl.specs.Least.{IsRefusal as IsLeastOf}
-use Rattle.plm_decl.specs.Placed.{IsPlacement, sizes_of}
+use Rattle.plm_decl.specs.Modules.{faults_of, whole_faults_of}
+use Rattle.plm_decl.specs.Found.{IsRefusal as IsLeastOf}
+use Rattle.plm_decl.specs.Placement.{IsPlacement, sizes_of}
 use Rattle.plm_type.specs.declared.checked.Program as typed
 use Rattle.plm_type.specs.Checked as types
 use Rattle.plm_type.specs.Next.{next}
@@ -28,19 +28,20 @@ use Rattle.ppi_kbd.specs.BoardChips.{board_chips}
 use Rattle.plm86.specs.declared.build.Source.{Source}
 use Rattle.plm86.specs.declared.image.Image.{Image}
 use Rattle.plm86.specs.declared.image.RomSize.{RomSize}
-use Rattle.plm86.specs.declared.first.Program.{Program}
-use Rattle.plm86.specs.Builds.{text_of, IsFirst, module_number, in_module, fault_in, scan_faults, tokens_of, IsTree, AreTrees, IsFirstUnparsed, AreModules, AreDeclared, AreAccepted, IsTooLarge, MeansNames, IsBuilt, unresolved, untyped, unformed, too_large, Refuses}
-use Rattle.plm86.specs.Built.{offsets_of, rom_of}
-use Rattle.plm86.specs.Faithful.{MeansProgram}
-use Rattle.plm86.specs.FirstObjects as first
-use Rattle.plm86.specs.Forms.{HasFirstForms, refused_forms, refused_program}
-use Rattle.plm86.specs.FormsView.{IsProgramOf}
-use Rattle.plm86.specs.Headline.{RomIsCorrect}
-use Rattle.plm86.specs.Programs as programs
-use Rattle.plm86.specs.Parsed.{ParsesAll}
-use Rattle.plm86.specs.Sizes.{bytes_in, kib_of, room_of, nodes_of}
-use Rattle.plm86.proofs.FirstForms.{handlers_are, stores_are}
-use Rattle.plm86.proofs.Nodes.{room_small}
+use Rattle.plm86.specs.declared.first.program.Program.{Program}
+use Rattle.plm86.specs.Build.{text_of, IsFirst, module_number, in_module, fault_in, scan_faults, tokens_of, IsTree, AreTrees, IsFirstUnparsed, AreModules, AreDeclared, AreTyped, AreAccepted, IsTooLarge, MeansNames, IsBuilt, unresolved, untyped, unformed, too_large, Refuses}
+use Rattle.plm86.specs.First.Faithful.{MeansProgram}
+use Rattle.plm86.specs.First.Objects as first
+use Rattle.plm86.specs.First.Forms.{HasFirstForms, refused_forms, refused_program}
+use Rattle.plm86.specs.First.FormsView.{IsProgramOf}
+use Rattle.plm86.specs.Headline.{Firmware, RomIsCorrect}
+use Rattle.plm86.specs.First.Programs as programs
+use Rattle.plm86.specs.Inner.Parsed.{ParsesAll}
+use Rattle.plm86.specs.First.Sizes.{room_of}
+use Rattle.plm86.specs.Nodes.{nodes_of}
+use Rattle.plm86.specs.Image.{bytes_in, kib_of}
+use Rattle.plm86.proofs.FirstForms.Accepted.{handlers_are, stores_are}
+use Rattle.plm86.proofs.FirstForms.Nodes.{room_small}
 
 -- ---- scanning
 
@@ -95,30 +96,25 @@ parsed_all all old mods none so_far = subst (λ ms. AreTrees all ms) (append-nil
 
 -- ---- the image
 
-pub means_names : (names : Names) (p : Program) (rom offsets : List ℕ) (stack_bytes start_turns : ℕ) → HasFirstForms names → IsProgramOf names p → MeansProgram p rom offsets stack_bytes start_turns → MeansNames names rom offsets stack_bytes start_turns
-means_names names p rom offsets stack_bytes start_turns forms is means = record {
-  layout = means.layout;
-  rom_is = means.rom_is;
-  stack_is = means.stack_is;
-  faithful =
-      subst (λ store. RomIsCorrect board_chips means.layout Rest (next offsets (sizes_of names) (procedures_of names)) (main_rest names) (handler_rest names) start_turns reset store) (stores_are names offsets reset forms)
-      (subst (λ handler. RomIsCorrect board_chips means.layout Rest (next offsets (sizes_of names) (procedures_of names)) (main_rest names) handler start_turns reset (λ ram screen. first.first_store ram screen offsets (sizes_of names) reset)) (handlers_are names forms)
-      (subst (λ main. RomIsCorrect board_chips means.layout Rest (next offsets (sizes_of names) (procedures_of names)) main (programs.body_of p) start_turns reset (λ ram screen. first.first_store ram screen offsets (sizes_of names) reset)) is.main
-      (subst (λ sizes. RomIsCorrect board_chips means.layout Rest (next offsets sizes (procedures_of names)) (programs.main_of p) (programs.body_of p) start_turns reset (λ ram screen. first.first_store ram screen offsets sizes reset)) is.sizes
-      (means.faithful (procedures_of names)))));
-}
+pub means_names : (names : Names) (p : Program) (image : Image) → HasFirstForms names → IsProgramOf names p
+    → MeansProgram p image.rom.items image.placement.offsets.items image.stack.main image.stack.handler image.start_turns → MeansNames names image
+means_names names p image forms is means =
+    let offsets = image.placement.offsets.items in
+    let turns = image.start_turns in
+    let x : Firmware = record { rom = image.rom.items; entry = means.entry; main = image.stack.main; handler = image.stack.handler } in
+    record {
+      entry = means.entry;
+      faithful =
+          subst (λ store. RomIsCorrect board_chips x Rest (next offsets (sizes_of names) (procedures_of names)) (main_rest names) (handler_rest names) turns reset store) (stores_are names offsets reset forms)
+          (subst (λ handler. RomIsCorrect board_chips x Rest (next offsets (sizes_of names) (procedures_of names)) (main_rest names) handler turns reset (λ ram screen. first.first_store ram screen offsets (sizes_of names) reset)) (handlers_are names forms)
+          (subst (λ main. RomIsCorrect board_chips x Rest (next offsets (sizes_of names) (procedures_of names)) main (programs.body_of p) turns reset (λ ram screen. first.first_store ram screen offsets (sizes_of names) reset)) is.main
+          (subst (λ sizes. RomIsCorrect board_chips x Rest (next offsets sizes (procedures_of names)) (programs.main_of p) (programs.body_of p) turns reset (λ ram screen. first.first_store ram screen offsets sizes reset)) is.sizes
+          (means.faithful (procedures_of names)))));
+    }
 
-many_nodes : (p : Program) (size : RomSize) → bytes_in size < room_of p → (16 * kib_of size < nodes_of p) ⊎ (nodes_of p ≤ 16 * kib_of size) → 16 * kib_of size < nodes_of p
-many_nodes p size large (inl more) = more
-many_nodes p size large (inr few) = absurd (omega (arith, large, room_small p size few))
-
-too_large_program : (names : Names) (p : Program) (size : RomSize) → IsProgramOf names p → bytes_in size < room_of p → IsTooLarge names size
-too_large_program names p size is large = record {
-  program = p;
-  program_is = is;
-  large = large;
-  nodes = many_nodes p size large (cases_lt (16 * kib_of size) (nodes_of p));
-}
+many_nodes : (names : Names) (p : Program) (size : RomSize) → IsProgramOf names p → bytes_in size < room_of p → (16 * kib_of size < nodes_of names) ⊎ (nodes_of names ≤ 16 * kib_of size) → IsTooLarge names size
+many_nodes names p size is large (inl more) = inl more
+many_nodes names p size is large (inr few) = let small = room_small names p size is few in absurd (omega (arith, large, small))
 
 -- ---- the answer
 
@@ -138,18 +134,21 @@ module _ (texts : List (List ℕ)) (size : RomSize) (names : Names) where
   untyped_refused are Memory said = tt
   untyped_refused are (At which line number) said = untyped names are said
 
-  are_accepted : (p : typed.Program) → AreDeclared texts names → types.AreTyped p names → AreAccepted texts names
-  are_accepted p are said = record { modules = are; no_fault = said.no_fault; no_recursion = said.no_recursion }
+  are_typed : (p : typed.Program) → AreDeclared texts names → types.AreTyped p names → AreTyped texts names
+  are_typed p are said = record { modules = are; no_fault = said.no_fault; no_recursion = said.no_recursion }
 
-  pub program_accepted : (p : typed.Program) → AreDeclared texts names → types.AreTyped p names → AreAccepted texts p.names
-  program_accepted p are said = subst (λ n. AreAccepted texts n) (sym said.kept) (are_accepted p are said)
+  pub program_typed : (p : typed.Program) → AreDeclared texts names → types.AreTyped p names → AreTyped texts p.names
+  program_typed p are said = subst (λ n. AreTyped texts n) (sym said.kept) (are_typed p are said)
 
-  module _ (are : AreAccepted texts names) where
+  module _ (are : AreTyped texts names) where
     pub unformed_refused : (f : Fault) → IsLeastOf f (refused_forms names) (refused_program names) → Refuses texts size f
     unformed_refused Memory said = tt
     unformed_refused (At which line number) said = unformed names are said
 
     module _ (forms : HasFirstForms names) (p : Program) (is : IsProgramOf names p) where
+      accepted : AreAccepted texts names
+      accepted = record { typed = are; forms = forms }
+
       abbrev IsAt : Fault → Type 0
       IsAt Memory = ⊥
       IsAt (At which line number) = Unit {0}
@@ -157,7 +156,7 @@ module _ (texts : List (List ℕ)) (size : RomSize) (names : Names) where
       full_refused : (f : Fault) → (f ≡ Memory) ⊎ (f ≡ At 0 1 E601) → (f ≡ At 0 1 E601 → bytes_in size < room_of p) → Refuses texts size f
       full_refused Memory known full = tt
       full_refused (At which line number) (inl memory) full = elim (subst IsAt memory tt) [ ]
-      full_refused (At which line number) (inr e) full = too_large names are forms (too_large_program names p size is (full e)) e
+      full_refused (At which line number) (inr e) full = too_large names accepted (many_nodes names p size is (full e) (cases_lt (16 * kib_of size) (nodes_of names))) e
 
       pub compile_refused : (r : Result Image Fault) → IfErr r (λ e. (e ≡ Memory) ⊎ (e ≡ At 0 1 E601)) → (IsErrOf r (At 0 1 E601) → bytes_in size < room_of p) → IfErr r (Refuses texts size)
       compile_refused (Ok image) known full = tt
@@ -165,26 +164,19 @@ module _ (texts : List (List ℕ)) (size : RomSize) (names : Names) where
 
       pub compile_built :
           (r : Result Image Fault)
-          → IfOk r (λ image. MeansProgram p image.rom.items image.placement.offsets.items (image.stack.main + image.stack.handler) image.start_turns)
+          → IfOk r (λ image. MeansProgram p image.rom.items image.placement.offsets.items image.stack.main image.stack.handler image.start_turns)
           → IfOk r (λ image. IsPlacement image.placement.offsets.items (programs.sizes_of p.names))
           → IfOk r (λ image. length image.rom.items ≡ bytes_in size)
           → IfOk r (λ image. image.start_turns ≤ 4096)
-          → IfOk r (λ image. image.rom.items ≡ rom_of p size)
-          → IfOk r (λ image. image.placement.offsets.items ≡ offsets_of p)
-          → OnOk r (room_of p ≤ bytes_in size)
+          → IfOk r (λ image. image.stack.main + image.stack.handler ≤ 4094)
           → IfOk r (IsBuilt texts size)
-      compile_built (Err f) means placement sized start rom offsets fits = tt
-      compile_built (Ok image) means placement sized start rom offsets fits = record {
+      compile_built (Err f) means placement sized start stack = tt
+      compile_built (Ok image) means placement sized start stack = record {
         names = names;
-        accepted = are;
-        forms = forms;
-        means = means_names names p image.rom.items image.placement.offsets.items (image.stack.main + image.stack.handler) image.start_turns forms is means;
+        accepted = accepted;
+        means = means_names names p image forms is means;
         placement = subst (λ sizes. IsPlacement image.placement.offsets.items sizes) is.sizes placement;
         size_is = sized;
-        start = start;
-        program = p;
-        program_is = is;
-        rom_is = rom;
-        offsets_are = offsets;
-        fits = fits;
+        start = omega (arith, start);
+        stack = stack;
       }

@@ -1,101 +1,84 @@
--- What a ROM does on the board, from the promises on its code and on its start-up.
-use Rattle.std.specs.Prelude.{ℕ, suc, true, false, ◌≡◌, ◌+◌, ◌*◌, ◌<◌, ◌≤◌, Option, None, List, [], length, drop}
+-- What a ROM does on the board: the labels of an allowed run of a program, whatever happens outside.
+use Rattle.std.specs.Prelude.{ℕ, zero, suc, Bool, true, false, ◌≡◌, ◌+◌, ◌*◌, ◌<◌, ◌≤◌, Option, Some, None, List, [], ◌∷◌, length, drop}
 use Rattle.word86.specs.declared.event.Event.{Event}
 use Rattle.word86.specs.declared.label.Label.{Label}
-use Rattle.word86.specs.Access.{Access, answers}
+use Rattle.word86.specs.Access.{Access}
 use Rattle.word86.specs.Chips.{Chips}
 use Rattle.word86.specs.Action.{Shared, Action}
-use Rattle.word86.specs.Following.{Offer, Tracks, Follows}
-use Rattle.plm_meaning.specs.System.{Choice, first_state, FitsTurns, HasNoBad, KeepsPace, joined}
+use Rattle.plm_meaning.specs.System.{Choice, System, State, first_state, steps, FitsTurns, HasNoBad, KeepsPace, joined}
 use Rattle.plm_meaning.specs.Store.{Store, shared}
-use Rattle.i86_table.specs.declared.instruction.Instr.{Instr}
-use Rattle.i86_table.specs.Contexts.{Context, Own, Working, all_registers, offer, start}
-use Rattle.cpu8086.specs.declared.cpu.Phase.TheVariants.{Running}
-use Rattle.board.specs.World.{World, Whole, board_meaning, befall}
-use Rattle.board.specs.Machine.{Board, turn, outputs, final, power_on}
-use Rattle.plm86.specs.Boots.{Boots}
-use Rattle.plm86.specs.Relation.{Fine, Vectors, Placed, Finds, FlagsAre}
+use Rattle.cpu8086.specs.BusModel.{BusModel}
+use Rattle.cpu8086.specs.Machine.{loaded_word}
+use Rattle.board.specs.World.{World, board_model, comes}
+use Rattle.board.specs.Machine.{Board, turn, outputs, power_on}
 
--- ---- the promises of the layers
-
--- The intermediate code tracks the rests of main and of each interrupt procedure, whatever is done to what is shared meanwhile.
-pub record Lowered (A : Type 0) (bound : A → ℕ) (R : Type 0) (next : R → Action A R) (first : R) (body : ℕ → R) (I : Type 0) (does : I → Action A I) (begin : I) (procedure : ℕ → I) (limit most : ℕ) : Type 0 where
-  pub tracks : (n : ℕ) → Tracks A bound R next I does limit most n limit first begin
-  pub bodies : (n vector : ℕ) → Tracks A bound R next I does limit most n limit (body vector) (procedure vector)
-
--- Main's instructions follow main's rest, and each interrupt procedure's its body, whatever registers they begin with.
-pub record Compiled (A : Type 0) (bound : A → ℕ) (R : Type 0) (next : R → Action A R) (first : R) (body : ℕ → R) (C G : Type 0) (offers : C → Offer A C) (begins : G → C) (starts : ℕ → C → C) (limit most : ℕ) : Type 0 where
-  pub follows : (n : ℕ) (g : G) → Follows A bound R next C offers limit most true n limit first (begins g)
-  pub serves : (n vector : ℕ) (c : C) → Follows A bound R next C offers limit most false n limit (body vector) (starts vector c)
-
--- What lies where: the ROM's bytes; the instruction at each place of its code segment, with its length; where main begins; each
--- vector's procedure; the offset and the size of each object; what lies at an offset of the data; and how many words main and an
--- interrupt procedure may push.
-pub record Layout : Type 0 where
+-- What stands throughout a run: the ROM's bytes; the place in segment 0F000H to which each vector leads; and how many bytes main has
+-- on the stack at most, and an interrupt procedure with the six bytes of its entry.
+pub record Firmware : Type 0 where
   pub rom : List ℕ
-  pub code : (place : ℕ) → Option (Instr × ℕ)
-  pub main_at : ℕ
   pub entry : (vector : ℕ) → ℕ
-  pub placed : (object : ℕ) → ℕ
-  pub size : (object : ℕ) → ℕ
-  pub find : (offset n : ℕ) → Option (ℕ × ℕ)
   pub main : ℕ
   pub handler : ℕ
 
--- Objects are apart in their room, what is found is there, and the stack's room holds both parts and the three words of an
--- interrupt's frame.
-pub record IsSound (x : Layout) : Type 0 where
-  pub is_placed : Placed x.placed x.size
-  pub finds : Finds x.find x.placed x.size
-  pub main_low : x.main_at < 65536
-  pub enough : x.main + 3 + x.handler ≤ 2047
+-- ---- what stands after a turn
 
-abbrev pub offers_of : Layout → Context → Offer Access Context
-offers_of x = offer x.code x.find x.entry x.main x.handler
+-- each vector leads to its entry
+pub record Vectors {W : Type 0} (m : BusModel W) (entry : ℕ → ℕ) (w : W) : Type 0 where
+  pub offset : (n : ℕ) → n < 256 → loaded_word m w 0 (4 * n) ≡ entry n
+  pub segment : (n : ℕ) → n < 256 → loaded_word m w 0 (4 * n + 2) ≡ 0xF000
 
-abbrev pub starts_of : Layout → ℕ → Context → Context
-starts_of x = start x.code x.find x.entry x.main x.handler
+-- an interrupt procedure runs
+abbrev pub is_serving : {S R : Type 0} → System S R → Bool
+is_serving (State main None on halted w silents switches) = false
+is_serving (State main (Some h) on halted w silents switches) = true
 
-abbrev pub main_of : Layout → Working → Context
-main_of x g = Own x.main_at g [] false None
-
-abbrev pub stack_bytes_of : Layout → ℕ
-stack_bytes_of x = 2 * (x.main + 3 + x.handler)
-
--- ---- the board
+-- Main's level is where the stack pointer is while main runs, and where it was when the interrupt procedure that runs was entered. It
+-- is at most main's bytes below the top of the stack, 0FFFEH, and an interrupt procedure goes at most its own bytes below it.
+abbrev pub IsBounded : (main handler level : ℕ) → (serving : Bool) → (sp : ℕ) → Type 0
+IsBounded main handler level false sp = (0xFFFE ≤ level + main) × (sp ≡ level)
+IsBounded main handler level true sp = (0xFFFE ≤ level + main) × (level ≤ sp + handler)
 
 module _ {P : Type 0} (c : Chips P) where
   abbrev pub board_turn : List Event → Board (World P) → Board (World P) × List Label
-  board_turn es b = turn (board_meaning c) (befall c) es b
+  board_turn es b = turn (board_model c) (comes c) es b
 
-  -- main's first instruction is next, with interrupts off and nothing on the stack
-  pub record Begins (x : Layout) (b : Board (World P)) (s : Store P) : Type 0 where
-    pub registers : Working
-    pub is : b.cpu ≡ record { registers = all_registers x.main_at registers 0xFFFE; phase = Running }
-    pub flags : FlagsAre false registers.flags
-    pub fine : Fine (board_meaning c) (λ w. w.chips) (Whole x.rom) x.code x.entry x.placed x.size s b.world
-
-  -- start-up takes so many turns from here, makes no label but those of events, and leaves this store
-  abbrev pub StartsUp : Layout → (start_turns : ℕ) → Board (World P) → Store P → Type 0
-  StartsUp x start_turns reset state = Boots (shared c) board_turn (Begins x) start_turns reset state
-
-  -- what holds at every turn from the end of start-up on: ROM and vectors stand, and the stack pointer is in its bounds
-  pub record Stands (x : Layout) (b : Board (World P)) : Type 0 where
+  -- ROM and vectors are as they were, and the stack pointer is in its bounds and in the stack's room
+  pub record Stands (x : Firmware) (level : ℕ) (serving : Bool) (b : Board (World P)) : Type 0 where
     pub rom : b.world.rom ≡ x.rom
-    pub vectors : Vectors (board_meaning c) x.entry b.world
+    pub vectors : Vectors (board_model c) x.entry b.world
+    pub bounded : IsBounded x.main x.handler level serving b.cpu.registers.sp
     pub from_top : b.cpu.registers.sp ≤ 0xFFFE
-    pub counted : 0xFFFE ≤ b.cpu.registers.sp + stack_bytes_of x
     pub in_room : 0xF000 ≤ b.cpu.registers.sp
 
--- The labels turn by turn are those of an allowed run of the program; from the end of start-up on it makes a step in every 64
--- turns, and what shall stand stands.
-pub record Behaves (sh : Shared) (R : Type 0) (next : R → Action sh.Access R) (first : R) (body : ℕ → R) (state : sh.State) (M : Type 0) (turns : List sh.Event → M → M × List sh.Label) (reset : M) (Standing : M → Type 0) (start_turns : ℕ) (due : List (List sh.Event)) : Type 0 where
+-- ---- a run
+
+module _ (sh : Shared) (R : Type 0) (next : R → Action sh.Access R) (body : ℕ → R) (M : Type 0) (turns : List sh.Event → M → M × List sh.Label) (Standing : (level : ℕ) → (serving : Bool) → M → Type 0) where
+  -- The machine stands now and after each turn that comes, as the run is by then: its pieces lead from state to state. Main's level
+  -- stays as long as an interrupt procedure runs.
+  abbrev pub Upholds : (due : List (List sh.Event)) → M → (pieces : List (List (Choice sh.Event))) → System sh.State R → (level : ℕ) → Type 0
+  Upholds [] m pieces s level = Standing level (is_serving s) m
+  Upholds (es ∷ due) m [] s level = ⊥
+  Upholds (es ∷ due) m (cs ∷ pieces) s level =
+      Standing level (is_serving s) m × (t : System sh.State R) × (steps sh R next body cs s ≡ Some (t, (turns es m).1))
+      × (later : ℕ) × (is_serving t ≡ true → later ≡ level) × Upholds due (turns es m).0 pieces t later
+
+  -- the same from the end of a start-up of start_turns turns on
+  abbrev pub UpholdsAfter : (start_turns : ℕ) → (due : List (List sh.Event)) → M → (pieces : List (List (Choice sh.Event))) → System sh.State R → Type 0
+  UpholdsAfter zero due m pieces s = (level : ℕ) × Upholds due m pieces s level
+  UpholdsAfter (suc k) [] m pieces s = Unit {0}
+  UpholdsAfter (suc k) (es ∷ due) m [] s = ⊥
+  UpholdsAfter (suc k) (es ∷ due) m (cs ∷ pieces) s =
+      (t : System sh.State R) × (steps sh R next body cs s ≡ Some (t, (turns es m).1)) × UpholdsAfter k due (turns es m).0 pieces t
+
+-- There is an allowed run of the program, cut into a piece for each turn: its labels turn by turn are those of the machine. From the
+-- end of start-up on it makes a step in every 64 turns, and what shall stand stands.
+pub record Behaves (sh : Shared) (R : Type 0) (next : R → Action sh.Access R) (first : R) (body : ℕ → R) (state : sh.State) (M : Type 0) (turns : List sh.Event → M → M × List sh.Label) (reset : M) (Standing : (level : ℕ) → (serving : Bool) → M → Type 0) (start_turns : ℕ) (due : List (List sh.Event)) : Type 0 where
   pub pieces : List (List (Choice sh.Event))
   pub fits : FitsTurns sh R next body (outputs turns due reset) pieces (first_state first state)
   pub pace : KeepsPace 64 (drop start_turns pieces)
-  pub stands : start_turns ≤ length due → Standing (final turns due reset)
+  pub stands : UpholdsAfter sh R next body M turns Standing start_turns due reset pieces (first_state first state)
 
-module _ {P : Type 0} (c : Chips P) (x : Layout) (R : Type 0) (next : R → Action Access R) (first : R) (body : ℕ → R) (start_turns : ℕ) where
+module _ {P : Type 0} (c : Chips P) (x : Firmware) (R : Type 0) (next : R → Action Access R) (first : R) (body : ℕ → R) (start_turns : ℕ) where
   -- Whatever events are due turn by turn: if no allowed run of the program whose labels begin those of the board can make a Bad step
   -- next, then the board does what the program means.
   abbrev pub RunsProgram : (reset : Board (World P)) → (state : Store P) → Type 0
@@ -110,28 +93,3 @@ module _ {P : Type 0} (c : Chips P) (x : Layout) (R : Type 0) (next : R → Acti
   RomIsCorrect chips first_store =
       (ram screen : List ℕ) → length ram ≡ 0x20000 → length screen ≡ 4000
       → RunsProgram (power_on x.rom ram screen chips) (first_store ram screen)
-
--- ---- from the layers to the board
-
--- where instructions follow the rests
-abbrev pub FromInstructions : Type 0 → Type 0 → Type 0
-FromInstructions P R =
-    (c : Chips P) (x : Layout) → IsSound x
-    → (next : R → Action Access R) (first : R) (body : ℕ → R) (limit most : ℕ)
-    → Compiled Access answers R next first body Context Working (offers_of x) (main_of x) (starts_of x) limit most
-    → limit < 64
-    → (start_turns : ℕ) (reset : Board (World P)) (state : Store P) → StartsUp c x start_turns reset state
-    → RunsProgram c x R next first body start_turns reset state
-
--- where the intermediate code tracks the rests, the instructions follow the intermediate code, and start-up leads from each
--- power-on memory to main's beginning
-abbrev pub FromLayers : Type 0 → Type 0 → Type 0 → Type 0
-FromLayers P R I =
-    (c : Chips P) (x : Layout) → IsSound x
-    → (next : R → Action Access R) (first : R) (body : ℕ → R) (does : I → Action Access I) (begin : I) (procedure : ℕ → I) (k1 m1 k2 m2 : ℕ)
-    → Lowered Access answers R next first body I does begin procedure k1 m1
-    → Compiled Access answers I does begin procedure Context Working (offers_of x) (main_of x) (starts_of x) k2 m2
-    → k1 * suc k2 + k2 < 64
-    → (start_turns : ℕ) (chips : P) (first_store : (ram screen : List ℕ) → Store P)
-    → ((ram screen : List ℕ) → length ram ≡ 0x20000 → length screen ≡ 4000 → StartsUp c x start_turns (power_on x.rom ram screen chips) (first_store ram screen))
-    → RomIsCorrect c x R next first body start_turns chips first_store

@@ -1,35 +1,131 @@
--- What the lift to the board rests on, of any memory and any chips.
-use Rattle.std.specs.Prelude.{ℕ, true, false, ◌≡◌, ◌<◌, ◌≤◌}
-use Rattle.word86.specs.declared.width.Width.{Width}
-use Rattle.word86.specs.declared.event.Event.{Event}
+-- The two laws: what a ROM does on the board, from the promises on its code and on its start-up, whatever the code generator.
+use Rattle.std.specs.Prelude.{ℕ, suc, true, false, ◌≡◌, ◌+◌, ◌*◌, ◌/◌, ◌%◌, ◌<◌, ◌-◌, ◌≤◌, Option, None, List, [], length, slice_index}
+use Rattle.word86.specs.Access.{Access, answers}
 use Rattle.word86.specs.Chips.{Chips}
-use Rattle.cpu8086.specs.declared.bus.Store.{Store}
-use Rattle.cpu8086.specs.Meaning.{Meaning, LoadAfterStore, PortsKeepMemory}
-use Rattle.board.specs.World.{shown_store}
+use Rattle.word86.specs.Action.{Action}
+use Rattle.word86.specs.Following.{Offer, Tracks, Follows}
+use Rattle.plm_meaning.specs.Store.{Store, object, shared}
+use Rattle.i86_table.specs.declared.instruction.Instr.{Instr}
+use Rattle.i86_table.specs.Contexts.{Context, Own, Working, all_registers, offer, start}
+use Rattle.cpu8086.specs.declared.cpu.Phase.TheVariants.{Running}
+use Rattle.board.specs.World.{World, Whole, board_model, region, screen_at}
+use Rattle.board.specs.Machine.{Board, power_on}
+use Rattle.plm86.specs.Boots.{Boots}
+use Rattle.plm86.specs.Headline.{Firmware, RunsProgram, RomIsCorrect, board_turn}
+use Rattle.plm86.specs.Relation.{Fine, Placed, Finds, FlagsAre}
+use Rattle.plm86.specs.Rom.{CodeInRom}
+use Rattle.plm86.specs.Startup.{Act, HasStartUp, start_up_turns, with_vectors, after_acts}
 
--- RAM below 128 KiB and the screen keep what is stored, what is above 0C0000H does not; stores show what comes to the screen;
--- and the chips are these.
-pub record OfBoard {W : Type 0} {P : Type 0} (m : Meaning W) (c : Chips P) (chips : W → P) (Whole : W → Type 0) : Type 0 where
-  pub loads : LoadAfterStore m
-  pub ports : PortsKeepMemory m
-  pub ram : (w : W) → Whole w → (a : ℕ) → a < 0x20000 → m.keeps w a ≡ true
-  pub screen : (w : W) → Whole w → (a : ℕ) → 0xB8000 ≤ a → a < 0xB8FA0 → m.keeps w a ≡ true
-  pub rom : (w : W) → Whole w → (a : ℕ) → 0xC0000 ≤ a → m.keeps w a ≡ false
-  pub labels : (w : W) (s : Store) → m.store_label w s ≡ shown_store s
-  pub stays : (w : W) (s : Store) → Whole w → Whole (m.store w s)
-  pub in_stays : (w : W) (width : Width) (port : ℕ) → Whole w → Whole (m.port_in w width port)
-  pub out_stays : (w : W) (width : Width) (port value : ℕ) → Whole w → Whole (m.port_out w width port value)
-  pub ack_stays : (w : W) → Whole w → Whole (m.acknowledge w)
-  pub store_chips : (w : W) (s : Store) → chips (m.store w s) ≡ chips w
-  pub in_chips : (w : W) (width : Width) (port : ℕ) → chips (m.port_in w width port) ≡ c.reading (chips w) width port
-  pub out_chips : (w : W) (width : Width) (port value : ℕ) → chips (m.port_out w width port value) ≡ c.writing (chips w) width port value
-  pub ack_chips : (w : W) → chips (m.acknowledge w) ≡ c.acknowledge (chips w)
-  pub value : (w : W) (width : Width) (port : ℕ) → m.port_value w width port ≡ c.value (chips w) width port
-  pub line : (w : W) → m.line w ≡ c.line (chips w)
-  pub vector : (w : W) → m.vector w ≡ c.vector (chips w)
+-- ---- the promises of the layers
 
--- an event changes the chips alone
-pub record Events {W P : Type 0} (m : Meaning W) (c : Chips P) (chips : W → P) (Whole : W → Type 0) (befall : Event → W → W) : Type 0 where
-  pub keeps : (e : Event) (w : W) (a : ℕ) → m.load (befall e w) a ≡ m.load w a
-  pub chips_are : (e : Event) (w : W) → chips (befall e w) ≡ c.comes e (chips w)
-  pub stays : (e : Event) (w : W) → Whole w → Whole (befall e w)
+-- The intermediate code tracks the rests of main and of each interrupt procedure, whatever is done to what is shared meanwhile.
+pub record Lowered (A : Type 0) (bound : A → ℕ) (R : Type 0) (next : R → Action A R) (first : R) (body : ℕ → R) (I : Type 0) (does : I → Action A I) (begin : I) (procedure : ℕ → I) (limit most : ℕ) : Type 0 where
+  pub tracks : (n : ℕ) → Tracks A bound R next I does limit most n limit first begin
+  pub bodies : (n vector : ℕ) → Tracks A bound R next I does limit most n limit (body vector) (procedure vector)
+
+-- Main's instructions follow main's rest, and each interrupt procedure's its body, whatever registers they begin with.
+pub record Compiled (A : Type 0) (bound : A → ℕ) (R : Type 0) (next : R → Action A R) (first : R) (body : ℕ → R) (C G : Type 0) (offers : C → Offer A C) (begins : G → C) (starts : ℕ → C → C) (limit most : ℕ) : Type 0 where
+  pub follows : (n : ℕ) (g : G) → Follows A bound R next C offers limit most true n limit first (begins g)
+  pub serves : (n vector : ℕ) (c : C) → Follows A bound R next C offers limit most false n limit (body vector) (starts vector c)
+
+-- How a ROM is assembled: its bytes; the instruction at each place of its code segment, with its length; where main begins; each
+-- vector's procedure; the offset and the size of each object; what lies at an offset of the data; and how many words main and an
+-- interrupt procedure may push.
+pub record Assembly : Type 0 where
+  pub rom : List ℕ
+  pub code : (place : ℕ) → Option (Instr × ℕ)
+  pub main_at : ℕ
+  pub entry : (vector : ℕ) → ℕ
+  pub placed : (object : ℕ) → ℕ
+  pub size : (object : ℕ) → ℕ
+  pub find : (offset n : ℕ) → Option (ℕ × ℕ)
+  pub main : ℕ
+  pub handler : ℕ
+
+-- Objects are apart in their room, what is found is there, and the stack's room holds both parts and the three words of an
+-- interrupt's frame.
+pub record IsSound (x : Assembly) : Type 0 where
+  pub is_placed : Placed x.placed x.size
+  pub finds : Finds x.find x.placed x.size
+  pub main_low : x.main_at < 65536
+  pub enough : x.main + 3 + x.handler ≤ 2047
+
+abbrev pub offers_of : Assembly → Context → Offer Access Context
+offers_of x = offer x.code x.find x.entry x.main x.handler
+
+abbrev pub starts_of : Assembly → ℕ → Context → Context
+starts_of x = start x.code x.find x.entry x.main x.handler
+
+abbrev pub main_of : Assembly → Working → Context
+main_of x g = Own x.main_at g [] false None
+
+-- a word is two bytes, and the frame of an interrupt's entry is three words
+abbrev pub firmware_of : Assembly → Firmware
+firmware_of x = record { rom = x.rom; entry = x.entry; main = 2 * x.main; handler = 2 * (3 + x.handler) }
+
+-- ---- start-up
+
+module _ {P : Type 0} (c : Chips P) where
+  -- main's first instruction is next, with interrupts off and nothing on the stack
+  pub record Begins (x : Assembly) (b : Board (World P)) (s : Store P) : Type 0 where
+    pub registers : Working
+    pub is : b.cpu ≡ record { registers = all_registers x.main_at registers 0xFFFE; phase = Running }
+    pub flags : FlagsAre false registers.flags
+    pub fine : Fine (board_model c) (λ w. w.chips) (Whole x.rom) x.code x.entry x.placed x.size s b.world
+
+  -- start-up takes start_turns turns from here, makes no label but those of events, and leaves this store
+  abbrev pub StartsUp : Assembly → (start_turns : ℕ) → Board (World P) → Store P → Type 0
+  StartsUp x start_turns reset state = Boots (shared c) (board_turn c) (Begins x) start_turns reset state
+
+-- the byte that the board has at an address when the power comes on
+abbrev pub power_on_memory : (rom ram screen : List ℕ) → ℕ → ℕ
+power_on_memory rom ram screen a = region 0 ram a (region screen_at screen a (region (0x100000 - length rom) rom a 255))
+
+-- memory holds the vectors and the store: each vector has its entry's offset and segment 0F000H, each object its bytes in segment 0040H
+pub record HoldsStore {P : Type 0} (x : Assembly) (s : Store P) (memory : ℕ → ℕ) : Type 0 where
+  pub entries : (n : ℕ) → n < 256 → x.entry n < 65536
+  pub vectors : (n : ℕ) → n < 256 → (memory (4 * n) ≡ x.entry n % 256) × (memory (4 * n + 1) ≡ x.entry n / 256) × (memory (4 * n + 2) ≡ 0) × (memory (4 * n + 3) ≡ 240)
+  pub bytes : (k i : ℕ) → i < length (object s k) → memory (1024 + (x.placed k + i)) ≡ slice_index (object s k) i
+  pub screen : (i : ℕ) → i < 4000 → memory (screen_at + i) ≡ slice_index s.screen i
+  pub sizes : (k : ℕ) → length (object s k) ≡ x.size k
+  pub screen_size : length s.screen ≡ 4000
+
+-- ---- from the layers to the board
+
+-- where instructions follow the rests
+abbrev pub FromInstructions : Type 0 → Type 0 → Type 0
+FromInstructions P R =
+    (c : Chips P) (x : Assembly) → IsSound x
+    → (next : R → Action Access R) (first : R) (body : ℕ → R) (limit most : ℕ)
+    → Compiled Access answers R next first body Context Working (offers_of x) (main_of x) (starts_of x) limit most
+    → limit < 64
+    → (start_turns : ℕ) (reset : Board (World P)) (state : Store P) → StartsUp c x start_turns reset state
+    → RunsProgram c (firmware_of x) R next first body start_turns reset state
+
+-- where the intermediate code tracks the rests, the instructions follow the intermediate code, and start-up leads from each
+-- power-on memory to main's beginning
+abbrev pub FromLayers : Type 0 → Type 0 → Type 0 → Type 0
+FromLayers P R I =
+    (c : Chips P) (x : Assembly) → IsSound x
+    → (next : R → Action Access R) (first : R) (body : ℕ → R) (does : I → Action Access I) (begin : I) (procedure : ℕ → I) (k1 m1 k2 m2 : ℕ)
+    → Lowered Access answers R next first body I does begin procedure k1 m1
+    → Compiled Access answers I does begin procedure Context Working (offers_of x) (main_of x) (starts_of x) k2 m2
+    → k1 * suc k2 + k2 < 64
+    → (start_turns : ℕ) (chips : P) (first_store : (ram screen : List ℕ) → Store P)
+    → ((ram screen : List ℕ) → length ram ≡ 0x20000 → length screen ≡ 4000 → StartsUp c x start_turns (power_on x.rom ram screen chips) (first_store ram screen))
+    → RomIsCorrect c (firmware_of x) R next first body start_turns chips first_store
+
+-- The ROM has the code; the code has a start-up, which leaves the vectors and the program's first store; the intermediate code
+-- tracks the program's rests, and the instructions follow the intermediate code. Then the ROM does what the program means.
+abbrev pub FromRom : Type 0 → Type 0 → Type 0 → Type 0
+FromRom P R I =
+    (c : Chips P) (x : Assembly) → IsSound x → CodeInRom x.rom x.code
+    → (entry : ℕ) (acts : List Act) → HasStartUp x.code entry acts x.main_at
+    → (next : R → Action Access R) (first : R) (body : ℕ → R) (does : I → Action Access I) (begin : I) (procedure : ℕ → I) (k1 m1 k2 m2 : ℕ)
+    → Lowered Access answers R next first body I does begin procedure k1 m1
+    → Compiled Access answers I does begin procedure Context Working (offers_of x) (main_of x) (starts_of x) k2 m2
+    → k1 * suc k2 + k2 < 64
+    → (chips : P) (first_store : (ram screen : List ℕ) → Store P)
+    → ((ram screen : List ℕ) → length ram ≡ 0x20000 → length screen ≡ 4000
+    → HoldsStore x (first_store ram screen) (after_acts acts (with_vectors entry 0 256 (power_on_memory x.rom ram screen))) × ((first_store ram screen).chips ≡ chips))
+    → RomIsCorrect c (firmware_of x) R next first body (start_up_turns acts) chips first_store

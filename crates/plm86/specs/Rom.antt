@@ -1,7 +1,7 @@
 -- The code in the bytes of a ROM.
 use Rattle.std.specs.Prelude.{ℕ, ◌≡◌, ◌+◌, ◌-◌, ◌%◌, ◌<◌, ◌≤◌, Option, Some, List, length, slice_index}
 use Rattle.i86_table.specs.declared.instruction.Instr.{Instr}
-use Rattle.i86_code.specs.Meaning.{Spells}
+use Rattle.i86_code.specs.Instructions.{Spells}
 
 -- the byte at a place of the code's segment 0F000H, at whose end the ROM ends
 abbrev pub rom_byte : (rom : List ℕ) → (place : ℕ) → ℕ

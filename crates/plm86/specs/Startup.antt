@@ -10,7 +10,7 @@ use Rattle.i86_table.specs.declared.instruction.Memory.{Memory}
 use Rattle.i86_table.specs.declared.instruction.Address.{Address}
 use Rattle.i86_table.specs.declared.instruction.Address.TheVariants.{Direct, Based}
 use Rattle.i86_table.specs.declared.instruction.Base.TheVariants as bases
-use Rattle.i86_table.specs.declared.instruction.Place.TheVariants as places
+use Rattle.i86_table.specs.declared.instruction.RmOperand.TheVariants as places
 use Rattle.i86_table.specs.declared.instruction.Operands.TheVariants.{FromRegister, Immediate}
 use Rattle.i86_table.specs.declared.instruction.AluOperation.TheVariants.{Add, Cmp}
 use Rattle.i86_table.specs.declared.instruction.Condition.TheVariants as conditions
@@ -20,7 +20,7 @@ use Rattle.i86_table.specs.declared.instruction.Instr.TheVariants as i
 use Rattle.i86_table.specs.Arithmetic.{sign_extended}
 use Rattle.i86_table.specs.Contexts.{further}
 use Rattle.cpu8086.specs.declared.bus.Store.TheVariants as stores
-use Rattle.cpu8086.specs.Meaning.{stored}
+use Rattle.cpu8086.specs.BusModel.{stored}
 
 -- ---- instructions
 
@@ -109,7 +109,7 @@ unfoldable pub with_vectors : (entry k count : ℕ) → (ℕ → ℕ) → ℕ �
 with_vectors entry k zero memory = memory
 with_vectors entry k (suc n) memory = with_vectors entry (suc k) n (word_put (4 * k + 2) 0xF000 (word_put (4 * k) entry memory))
 
--- so many bytes from this offset of the code's segment
+-- `count` bytes from this offset of the code's segment
 unfoldable pub copied : (count from to : ℕ) → (ℕ → ℕ) → ℕ → ℕ
 copied zero from to memory = memory
 copied (suc n) from to memory = copied n (suc from) (suc to) (byte_put to (memory (0xF0000 + from) % 256) memory)

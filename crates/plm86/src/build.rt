@@ -1,15 +1,15 @@
 //! From sources to an image.
 
 ghost use Rattle.std.specs.Prelude.{◌≡◌, [], ◌∷◌, map, IfOk, IfErr};
-ghost use Rattle.plm_token.specs.Scanning.{lexemes};
+ghost use Rattle.plm_token.specs.Scanner.{lexemes};
 ghost use Rattle.plm_syntax.specs.View.{module_of};
-ghost use Rattle.board.specs.Runs.{due_of};
-ghost use Rattle.plm86.specs.BuildsAndRuns.{HasRun, HasNotRun};
-ghost use Rattle.plm86.specs.Builds.{text_of, module_number, in_module, Says, scan_faults, tokens_of, IsBuilt, Refuses};
-ghost use Rattle.plm86.specs.Parsed.{ParsesAll};
+ghost use Rattle.board.specs.Run.{due_of};
+ghost use Rattle.plm86.specs.BuildAndRun.{HasRun, HasNotRun};
+ghost use Rattle.plm86.specs.Build.{text_of, module_number, in_module, Says, scan_faults, tokens_of, IsBuilt, Refuses};
+ghost use Rattle.plm86.specs.Inner.Parsed.{ParsesAll};
 
-use crate::compile::compile;
-use crate::first_program::first_program;
+use crate::first::compile::compile;
+use crate::first::reading::first_program;
 use crate::image::{Image, RomSize};
 use board::{Board, End, Schedule};
 use plm_decl::resolve;
@@ -79,8 +79,9 @@ fn parse_all<'a>(alloc: Global, scanned: Vec<Vec<Token<'a>>>) -> Result<Vec<Modu
 /// The first fault of the phases, each over all sources: scanning (E101 to E107), parsing with literals replaced (E101, E103
 /// to E105 of a literal's text, E201 to E205), names (E301 to E305, the least of them; else E306 to E310, of the whole program),
 /// types (E401 to E403, the least; else E404), forms that a ROM cannot have yet (E401 at the least first token of one), the ROM's
-/// room (E601, never where the program has at most 16 nodes for each KiB). Modules count from 0. The one other refusal is want of
-/// memory.
+/// room (E601, never where the program has at most 16 nodes for each KiB and its initial bytes fill at most a quarter of the ROM;
+/// a node is a statement, procedure, operator, reference or constant, each value of INITIAL, DATA and location lists among them).
+/// Modules count from 0. The one other refusal is want of memory.
 pub fn build(alloc: Global, sources: &[Source<'_>], size: RomSize) -> Result<Image, Fault>
     ensures built { IfOk result (IsBuilt (map text_of sources.now) size) }
     ensures refused { IfErr result (Refuses (map text_of sources.now) size) }
@@ -115,6 +116,3 @@ pub fn build_and_run<S: Sink>(
     let mut board = Board::new(alloc, &image.rom, power_on)?;
     board.run(schedule, sink)
 }
-
-#[cfg(test)]
-mod tests;

@@ -4,7 +4,7 @@ ghost use Rattle.std.specs.Prelude.{◌≡◌, IfOk, IfErr, false, None, codes, 
 ghost use Rattle.clap.specs.Words.{app_of, rule_of, found_of, first_of, kind_of, rows_of};
 ghost use Rattle.clap.specs.declared.error.kind.ErrorKind.TheVariants.{OutOfMemory};
 ghost use Rattle.clap.specs.declared.builder.command.Command.TheViews.{out-Command};
-ghost use Rattle.plm86.specs.Orders.{HasWords, IsRefused, OrderOf, Spells, size_named, value_of, values_of};
+ghost use Rattle.plm86.specs.Order.{HasWords, IsRefused, OrderOf, Spells, size_named, value_of, values_of};
 ghost use Rattle.plm86.specs.CommandLine.{plm86_app, build_app, run_app, needed, several, lettered};
 ghost use Rattle.plm86.specs.declared.order.OrderFault.TheVariants.{Memory};
 

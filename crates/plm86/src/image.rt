@@ -1,7 +1,7 @@
 //! ROMs, and what is known of them.
 
 ghost use Rattle.std.specs.Prelude.{◌≡◌};
-ghost use Rattle.plm86.specs.Sizes.{bytes_in};
+ghost use Rattle.plm86.specs.Image.{bytes_in};
 
 use plm_decl::Placement;
 
@@ -32,12 +32,12 @@ impl RomSize {
     }
 }
 
-/// The most bytes that are on the stack.
+/// The most bytes that main and an interrupt procedure have on the stack.
 #[derive(Debug, Clone, Copy, PartialEq, Eq)]
 pub struct Stack {
     /// Those of main.
     pub main: u16,
-    /// Those of an interrupt procedure, with the 6 bytes of its entry.
+    /// Those of an interrupt procedure, which lie beyond main's, with the 6 bytes of its entry.
     pub handler: u16,
 }
 

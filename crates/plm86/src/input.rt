@@ -1,7 +1,7 @@
 //! Files that are read whole.
 
 ghost use Rattle.std.specs.Prelude.{◌≡◌, IfOk, IfSome};
-ghost use Rattle.plm86.specs.Bounded.{bounded};
+ghost use Rattle.plm86.specs.Input.{bounded};
 
 use std::alloc::Global;
 use std::io::{Error, ErrorKind, Read};

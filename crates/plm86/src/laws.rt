@@ -1,7 +1,6 @@
 //! What stands between the layers of the compiler and the board.
 
-ghost use Rattle.plm86.specs.Headline.{FromLayers};
-ghost use Rattle.plm86.specs.FromRom.{FromRom};
+ghost use Rattle.plm86.specs.Laws.{FromLayers, FromRom};
 
 use i86_code::one_form;
 

@@ -4,25 +4,15 @@
 mod build;
 mod building;
 mod command_line;
-mod compile;
-mod emit;
 mod files;
 mod first;
-mod first_program;
-mod forms;
 mod image;
 mod input;
 mod laws;
-mod link;
-mod lower;
-mod objects;
 mod order;
 mod running;
-mod select;
 mod status;
 mod stop;
-#[cfg(test)]
-mod tests;
 
 use building::build_rom;
 use command_line::order;

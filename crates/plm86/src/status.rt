@@ -1,7 +1,7 @@
 //! The status with which a run of the program ends.
 
 ghost use Rattle.std.specs.Prelude.{◌≡◌};
-ghost use Rattle.plm86.specs.Statuses.{status_of};
+ghost use Rattle.plm86.specs.Status.{status_of};
 
 use board::End;
 use word86::{Fault, Number};

@@ -3,9 +3,9 @@ use Rattle.std.specs.Prelude.{map, length}
 use Rattle.ppi_kbd.specs.Chips.{reset}
 use Rattle.board.specs.Machine.{power_on as powered_on}
 use Rattle.board.specs.Rom.{is_rom_length}
-use Rattle.board.specs.Runs.{due_of}
-use Rattle.board.specs.ShownBoard.{Shows}
-use Rattle.plm86.specs.Builds.{text_of}
+use Rattle.board.specs.Run.{due_of}
+use Rattle.board.specs.Board.{Shows}
+use Rattle.plm86.specs.Build.{text_of}
 use Rattle.plm86.proofs.BuiltRuns.{is_taken, no_board, has_run, has_not_run}
 use Rattle.plm86.proofs.build.build_and_run.Goals as goal
 

@@ -1,9 +1,9 @@
 use Rattle.std.specs.Prelude.{◌++◌, List, map, length}
 use Rattle.word86.specs.declared.fault.Fault.{Fault}
-use Rattle.plm_token.specs.Scanning.{lexemes}
+use Rattle.plm_token.specs.Scanner.{lexemes}
 use Rattle.plm_syntax.specs.Tree.{ModuleT}
 use Rattle.plm_syntax.specs.View.{module_of}
-use Rattle.plm86.specs.Builds.{AreTrees, IsFirstUnparsed}
+use Rattle.plm86.specs.Build.{AreTrees, IsFirstUnparsed}
 use Rattle.plm86.proofs.build.parse_all.Given as goal
 
 abbrev pub invariant-loop-tokens : goal.invariant-loop-tokens

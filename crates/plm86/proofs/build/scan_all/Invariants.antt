@@ -1,6 +1,6 @@
 use Rattle.std.specs.Prelude.{◌≡◌, ◌++◌, map, drop}
-use Rattle.plm_token.specs.Scanning.{lexemes}
-use Rattle.plm86.specs.Builds.{text_of, scan_faults, tokens_of}
+use Rattle.plm_token.specs.Scanner.{lexemes}
+use Rattle.plm86.specs.Build.{text_of, scan_faults, tokens_of}
 use Rattle.plm86.proofs.build.scan_all.Given as goal
 
 abbrev pub invariant-loop-ordinal : goal.invariant-loop-ordinal

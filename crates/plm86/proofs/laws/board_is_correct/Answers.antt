@@ -1,4 +1,4 @@
-use Rattle.plm86.proofs.Whole.{from_layers}
+use Rattle.plm86.proofs.Headline.Whole.{from_layers}
 use Rattle.plm86.proofs.laws.board_is_correct.Goals as goal
 
 pub returns : goal.returns

@@ -1,4 +1,4 @@
-use Rattle.plm86.proofs.FromRom.{from_rom}
+use Rattle.plm86.proofs.Headline.FromRom.{from_rom}
 use Rattle.plm86.proofs.laws.rom_is_correct.Goals as goal
 
 pub returns : goal.returns

@@ -1,0 +1,4 @@
+pub mod Compose
+pub mod Joining
+pub mod Whole
+pub mod FromRom

@@ -1,0 +1,61 @@
+-- What the board does is a run of the program.
+use Rattle.std.proofs.Common.{suc, ◌+◌, ◌*◌, true, false, [], length, drop, None, refl, arith}
+use Rattle.word86.specs.Access.{Access, answers}
+use Rattle.word86.specs.Following.{Follows}
+use Rattle.plm_meaning.specs.Store.{Store, shared}
+use Rattle.i86_table.specs.Contexts.{Context, Own, Working}
+use Rattle.board.specs.World.{World, Whole, board_model, comes}
+use Rattle.plm86.specs.Inner.Duo.{Duo, Alone, main_in, has_handler}
+use Rattle.board.specs.Machine.{Board}
+use Rattle.plm86.specs.Headline.{Stands, board_turn}
+use Rattle.plm86.specs.Laws.{Assembly, IsSound, FromInstructions, FromLayers, Begins, Compiled, offers_of, main_of, starts_of, firmware_of}
+use Rattle.plm86.proofs.Headline.Joining
+use Rattle.plm86.proofs.Machine.Regions.{of_board, events_law}
+use Rattle.plm86.proofs.Headline.Compose
+use Rattle.plm86.proofs.Machine.Lift
+use Rattle.plm86.proofs.Machine.Lift.{Single}
+
+-- the board and its contexts in step
+abbrev InStep : {P : Type 0} → (x : Assembly) → IsSound x → Rattle.word86.specs.Chips.Chips P → Board (World P) → Duo (Store P) Context → Type 0
+InStep x sound c b d = Lift.Stands (board_model c) c (λ w. w.chips) (Whole x.rom) (of_board c x.rom) (comes c) (events_law c x.rom) x.code x.find x.entry x.main x.handler x.placed x.size sound.is_placed sound.finds sound.enough b d
+
+pub from_instructions : (P R : Type 0) → FromInstructions P R
+from_instructions P R c x sound next first body limit most compiled paced start_turns reset state boots due safe =
+    let sh = shared c in
+    let m = board_model c in
+    let laws = of_board c x.rom in
+    let events = events_law c x.rom in
+    let o = offers_of x in
+    let s = starts_of x in
+    let t = board_turn c in
+    let n = length due in
+    let lifts = Lift.lifts m c (λ w. w.chips) (Whole x.rom) laws (comes c) events x.code x.find x.entry x.main x.handler x.placed x.size sound.is_placed sound.finds sound.enough in
+    let begins = Lift.begins m c (λ w. w.chips) (Whole x.rom) laws (comes c) events x.code x.find x.entry x.main x.handler x.placed x.size sound.is_placed sound.finds sound.enough in
+    let in_step : (b : Board (World P)) (v : Store P) → Begins c x b v → (d : Context) × InStep x sound c b (Alone d false false v) × Follows Access answers R next Context o limit most true n limit first d =
+    λ b v h. (
+      Own x.main_at h.registers [] false None,
+      record { pair = Single x.main_at h.registers [] false false v; is = refl; fits = record { sp = 0xFFFE; is = h.is; stack = record { words = tt; within = omega arith; at = refl }; fine = h.fine; flags = h.flags; low = sound.main_low } },
+      compiled.follows n h.registers,
+    ) in
+    let shows : (b : Board (World P)) (d : Duo (Store P) Context) → InStep x sound c b d → Stands c (firmware_of x) (Lift.level_of (main_in d)) (has_handler d) b =
+    λ b d st.
+    let bounds = Lift.bounded m c (λ w. w.chips) (Whole x.rom) laws (comes c) events x.code x.find x.entry x.main x.handler x.placed x.size sound.is_placed sound.finds sound.enough b d st in
+    let fine = Lift.memory_of m c (λ w. w.chips) (Whole x.rom) laws (comes c) events x.code x.find x.entry x.main x.handler x.placed x.size sound.is_placed sound.finds sound.enough b d st in
+    record { rom = fine.1.whole.same_rom; vectors = fine.1.vectors; bounded = bounds.0; from_top = bounds.1; in_room = bounds.2 } in
+    let w = Compose.booted sh R next body Context o s limit most compiled.serves (Board (World P)) t (InStep x sound c) begins lifts (Stands c (firmware_of x)) Lift.level_of shows
+    start_turns due limit reset first state n (Begins c x) in_step (omega arith) (omega arith) boots safe in
+    record {
+      pieces = w.0;
+      fits = w.1;
+      pace = Compose.pace sh R next body Context o s limit most compiled.serves (Board (World P)) t (InStep x sound c) begins lifts (Stands c (firmware_of x)) Lift.level_of shows 64 limit (drop start_turns w.0) paced (omega arith) w.2;
+      stands = w.3;
+    }
+
+pub from_layers : (P R I : Type 0) → FromLayers P R I
+from_layers P R I c x sound next first body does begin procedure k1 m1 k2 m2 lowered compiled paced start_turns chips first_store boots ram screen ram_size screen_size =
+    let o = offers_of x in
+    let both : Compiled Access answers R next first body Context Working o (main_of x) (starts_of x) (k1 * suc k2 + k2) (suc m2 * m1) = record {
+      follows = λ n g. Joining.joins Access answers R next I does Context o k1 m1 k2 m2 true n (n * suc m2) k1 k2 first begin (main_of x g) (omega arith) (omega arith) (omega arith) (lowered.tracks (n * suc m2)) (compiled.follows n g);
+      serves = λ n v d. Joining.joins Access answers R next I does Context o k1 m1 k2 m2 false n (n * suc m2) k1 k2 (body v) (procedure v) (starts_of x v d) (omega arith) (omega arith) (omega arith) (lowered.bodies (n * suc m2) v) (compiled.serves n v d);
+    } in
+    from_instructions P R c x sound next first body (k1 * suc k2 + k2) (suc m2 * m1) both paced start_turns _ _ (boots ram screen ram_size screen_size)

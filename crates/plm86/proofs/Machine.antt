@@ -1,0 +1,14 @@
+pub mod FlagLaws
+pub mod Memory
+pub mod Data
+pub mod Regions
+pub mod Registers
+pub mod Effects
+pub mod Lift
+pub mod Startup
+pub mod Vectors
+pub mod Copying
+pub mod Booting
+pub mod Beginning
+pub mod Placing
+pub mod Placements

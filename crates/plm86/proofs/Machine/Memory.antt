@@ -1,0 +1,236 @@
+-- Loads after stores, by regions of the memory.
+use Rattle.std.proofs.Common.{◌≡◌, ℕ, suc, ◌+◌, ◌-◌, ◌*◌, ◌/◌, ◌%◌, ◌^◌, ◌<◌, ◌≤◌, ◌==◌, ◌⊎◌, inl, inr, Bool, true, false, cond, List, [], ◌∷◌, ◌++◌, length, Option, Some, None, refl, sym, ap, ◌∙◌, arith, ap₂}
+use Rattle.std.specs.Prelude.{◌≢◌, slice_index, slice_set, nat_lt, nat_le, nat_eq, if◌then◌else◌}
+use Rattle.std.proofs.lemmas.Bool.{ne_eqb, eq-eqb, lt-leb, le-leb, lt-ltb, and_from}
+use Rattle.i86_table.specs.declared.instruction.Instr.{Instr}
+use Rattle.cpu8086.specs.declared.bus.Store.TheVariants as stores
+use Rattle.word86.specs.declared.label.Label.{Label}
+use Rattle.word86.specs.declared.label.Label.TheVariants as labels
+use Rattle.i86_table.specs.declared.registers.Regs.{Regs}
+use Rattle.i86_code.specs.Decoding.{decoded}
+use Rattle.std.proofs.Common.{append-nil, length-append, ⊎_elim}
+use Rattle.cpu8086.specs.BusModel.{BusModel, stored}
+use Rattle.word86.specs.declared.width.Width.TheVariants as widths
+use Rattle.cpu8086.specs.Machine.{Machine, physical, next_offset, loaded_byte, loaded_word, stored_access, stored_at, pushed, popped, labels_of}
+use Rattle.cpu8086.specs.Turn.{fetched}
+use Rattle.word86.specs.Chips.{Chips}
+use Rattle.plm_meaning.specs.Store.{Store}
+use Rattle.i86_table.specs.Contexts.{Working, all_registers}
+use Rattle.board.specs.World.{is_on_screen, screen_at}
+use Rattle.plm86.specs.Inner.BoardLaws.{OfBoard}
+use Rattle.plm86.specs.Relation.{Spelled, Fine, Placed}
+use Rattle.plm86.specs.Inner.Stacks.{Stacked, Stack}
+use Rattle.plm86.specs.Headline.{Vectors}
+
+pub stored_word_other : (low high v a x : ℕ) → a ≢ low → a ≢ high → stored (stores.Word low high v) a x ≡ x
+stored_word_other low high v a x nl nh =
+    ap (λ b. if b then v / 256 else if a == low then v % 256 else x) (ne_eqb a high nh) ∙ ap (λ b. if b then v % 256 else x) (ne_eqb a low nl)
+
+pub stored_word_high : (low high v x : ℕ) → stored (stores.Word low high v) high x ≡ v / 256
+stored_word_high low high v x = ap (λ b. if b then v / 256 else if high == low then v % 256 else x) (eq-eqb high high refl)
+
+pub stored_word_low : (low high v x : ℕ) → low ≢ high → stored (stores.Word low high v) low x ≡ v % 256
+stored_word_low low high v x n =
+    ap (λ b. if b then v / 256 else if low == low then v % 256 else x) (ne_eqb low high n) ∙ ap (λ b. if b then v % 256 else x) (eq-eqb low low refl)
+
+same : {A : Type 0} (b : Bool) (x : A) → cond b x x ≡ x
+same true x = refl
+same false x = refl
+
+halves : (v : ℕ) → v % 256 % 256 + 256 * (v / 256 % 256) ≡ v % 65536
+halves v = omega arith
+
+-- addresses in the segment of data and stack
+pub low_at : (off : ℕ) → off < 65536 → physical 0x40 off ≡ 1024 + off
+low_at off h = omega (arith, h)
+
+pub high_at : (off : ℕ) → off + 1 < 65536 → physical 0x40 (next_offset off) ≡ 1025 + off
+high_at off h = omega (arith, h)
+
+dark : (a : ℕ) → a < 0x20000 → is_on_screen a ≡ false
+dark a h = ap (λ b. Rattle.std.specs.Prelude.◌&&◌ b (nat_lt a (screen_at + 4000))) (lt-leb screen_at a (omega (arith, h)))
+
+lit : (a : ℕ) → screen_at ≤ a → a < screen_at + 4000 → is_on_screen a ≡ true
+lit a le lt = and_from (nat_le screen_at a) (nat_lt a (screen_at + 4000)) (le-leb screen_at a le) (lt-ltb a (screen_at + 4000) lt)
+
+module _ {W P : Type 0} (m : BusModel W) (c : Chips P) (chips : W → P) (Whole : W → Type 0) (laws : OfBoard m c chips Whole) where
+  pub word_other : (w : W) (low high v a : ℕ) → a < 2 ^ 20 → a ≢ low → a ≢ high → m.load (m.store w (stores.Word low high v)) a ≡ m.load w a
+  word_other w low high v a h nl nh =
+      laws.loads w (stores.Word low high v) a h
+      ∙ ap (λ x. if m.keeps w a then x else m.load w a) (stored_word_other low high v a (m.load w a) nl nh)
+      ∙ same (m.keeps w a) (m.load w a)
+
+  pub word_low : (w : W) (low high v : ℕ) → low < 2 ^ 20 → low ≢ high → m.keeps w low ≡ true → m.load (m.store w (stores.Word low high v)) low ≡ v % 256
+  word_low w low high v h n k =
+      laws.loads w (stores.Word low high v) low h
+      ∙ ap (λ b. if b then stored (stores.Word low high v) low (m.load w low) else m.load w low) k
+      ∙ stored_word_low low high v (m.load w low) n
+
+  pub word_high : (w : W) (low high v : ℕ) → high < 2 ^ 20 → m.keeps w high ≡ true → m.load (m.store w (stores.Word low high v)) high ≡ v / 256
+  word_high w low high v h k =
+      laws.loads w (stores.Word low high v) high h
+      ∙ ap (λ b. if b then stored (stores.Word low high v) high (m.load w high) else m.load w high) k
+      ∙ stored_word_high low high v (m.load w high)
+
+  pub lost : (w : W) (s : _) (a : ℕ) → Whole w → 0xC0000 ≤ a → a < 2 ^ 20 → m.load (m.store w s) a ≡ m.load w a
+  lost w s a t le lt = laws.loads w s a lt ∙ ap (λ b. if b then stored s a (m.load w a) else m.load w a) (laws.rom w t a le)
+
+  -- a word in the segment of data and stack
+  pub word_is : (w : W) (off : ℕ) → off + 1 < 65536 → loaded_word m w 0x40 off ≡ m.load w (1024 + off) % 256 + 256 * (m.load w (1025 + off) % 256)
+  unfolding loaded_word loaded_byte
+  word_is w off h = ap₂ (λ x y. m.load w x % 256 + 256 * (m.load w y % 256)) (low_at off (omega (arith, h))) (high_at off h)
+
+  pub word_small : (w : W) (seg off : ℕ) → loaded_word m w seg off < 65536
+  unfolding loaded_word loaded_byte
+  word_small w seg off = omega arith
+
+  pub stacked_kept : (w u : W) (sp : ℕ) (l : List ℕ) → sp + 2 * length l ≤ 0xFFFE → ((a : ℕ) → 1024 + sp ≤ a → a < 0x103FE → m.load u a ≡ m.load w a) → Stacked m w sp l → Stacked m u sp l
+  stacked_kept w u sp [] h e s = tt
+  stacked_kept w u sp (v ∷ l) h e s = (
+    word_is u sp (omega (arith, h)) ∙ ap₂ (λ x y. x % 256 + 256 * (y % 256)) (e (1024 + sp) (omega (arith, h)) (omega (arith, h))) (e (1025 + sp) (omega (arith, h)) (omega (arith, h))) ∙ sym (word_is w sp (omega (arith, h))) ∙ s.0,
+    stacked_kept w u (sp + 2) l (omega (arith, h)) (λ a le lt. e a (omega (arith, le)) lt) s.1,
+  )
+
+  pub no_label : (w : W) (low high v : ℕ) → low < 0x20000 → high < 0x20000 → m.store_label w (stores.Word low high v) ≡ None
+  no_label w low high v hl hh =
+      laws.labels w (stores.Word low high v)
+      ∙ ap (λ b. if b then (if is_on_screen high then Some (labels.ScrW (low - screen_at) v) else Some (labels.Scr (low - screen_at) (v % 256))) else if is_on_screen high then Some (labels.Scr (high - screen_at) (v / 256)) else None) (dark low hl)
+      ∙ ap (λ b. if b then Some (labels.Scr (high - screen_at) (v / 256)) else None) (dark high hh)
+
+  pub no_byte_label : (w : W) (a v : ℕ) → a < 0x20000 → m.store_label w (stores.Byte a v) ≡ None
+  no_byte_label w a v h = laws.labels w (stores.Byte a v) ∙ ap (λ b. if b then Some (labels.Scr (a - screen_at) v) else None) (dark a h)
+
+  -- a word stored in the segment of data and stack
+  pub word_stored : (r : Regs) (off v : ℕ) (w : W) (ls : List Label) → off + 1 < 65536 → stored_at m widths.Word 0x40 off v (record { registers = r; world = w; labels = ls }) ≡ record { registers = r; world = m.store w (stores.Word (1024 + off) (1025 + off) v); labels = ls }
+  unfolding stored_access
+  word_stored r off v w ls h =
+      let f : ℕ → ℕ → Machine W = λ a b. record { registers = r; world = m.store w (stores.Word a b v); labels = ls ++ labels_of (m.store_label w (stores.Word a b v)) } in
+      ap₂ f (low_at off (omega (arith, h))) (high_at off h)
+      ∙ ap (λ o. record { registers = r; world = m.store w (stores.Word (1024 + off) (1025 + off) v); labels = ls ++ labels_of o }) (no_label w (1024 + off) (1025 + off) v (omega (arith, h)) (omega (arith, h)))
+      ∙ ap (λ l. record { registers = r; world = m.store w (stores.Word (1024 + off) (1025 + off) v); labels = l }) (append-nil ls)
+
+  pub byte_stored : (r : Regs) (off v : ℕ) (w : W) (ls : List Label) → off + 1 < 65536 → stored_at m widths.Byte 0x40 off v (record { registers = r; world = w; labels = ls }) ≡ record { registers = r; world = m.store w (stores.Byte (1024 + off) v); labels = ls }
+  unfolding stored_access
+  byte_stored r off v w ls h =
+      ap (λ a. record { registers = r; world = m.store w (stores.Byte a v); labels = ls ++ labels_of (m.store_label w (stores.Byte a v)) }) (low_at off (omega (arith, h)))
+      ∙ ap (λ o. record { registers = r; world = m.store w (stores.Byte (1024 + off) v); labels = ls ++ labels_of o }) (no_byte_label w (1024 + off) v (omega (arith, h)))
+      ∙ ap (λ l. record { registers = r; world = m.store w (stores.Byte (1024 + off) v); labels = l }) (append-nil ls)
+
+  -- stores to the screen
+  pub screen_byte_stored : (r : Regs) (i v : ℕ) (w : W) → i + 1 ≤ 4000 → stored_at m widths.Byte 0xB000 (0x8000 + i) v (record { registers = r; world = w; labels = [] }) ≡ record { registers = r; world = m.store w (stores.Byte (0xB8000 + i) v); labels = labels.Scr i v ∷ [] }
+  unfolding stored_access
+  screen_byte_stored r i v w h =
+      ap (λ a. record { registers = r; world = m.store w (stores.Byte a v); labels = labels_of (m.store_label w (stores.Byte a v)) }) (omega (arith, h))
+      ∙ ap (λ o. record { registers = r; world = m.store w (stores.Byte (0xB8000 + i) v); labels = labels_of o })
+      (laws.labels w (stores.Byte (0xB8000 + i) v) ∙ ap (λ b. if b then Some (labels.Scr (0xB8000 + i - screen_at) v) else None) (lit (0xB8000 + i) (omega arith) (omega (arith, h))) ∙ ap (λ k. Some (labels.Scr k v)) (omega arith))
+
+  pub screen_word_stored : (r : Regs) (i v : ℕ) (w : W) → i + 2 ≤ 4000 → stored_at m widths.Word 0xB000 (0x8000 + i) v (record { registers = r; world = w; labels = [] }) ≡ record { registers = r; world = m.store w (stores.Word (0xB8000 + i) (0xB8000 + i + 1) v); labels = labels.ScrW i v ∷ [] }
+  unfolding stored_access
+  screen_word_stored r i v w h =
+      let low = 0xB8000 + i in
+      let high = 0xB8000 + i + 1 in
+      ap₂ (λ a b. record { registers = r; world = m.store w (stores.Word a b v); labels = labels_of (m.store_label w (stores.Word a b v)) }) (omega (arith, h)) (omega (arith, h))
+      ∙ ap (λ o. record { registers = r; world = m.store w (stores.Word low high v); labels = labels_of o })
+      (laws.labels w (stores.Word low high v)
+      ∙ ap (λ b. if b then (if is_on_screen high then Some (labels.ScrW (low - screen_at) v) else Some (labels.Scr (low - screen_at) (v % 256))) else if is_on_screen high then Some (labels.Scr (high - screen_at) (v / 256)) else None) (lit low (omega arith) (omega (arith, h)))
+      ∙ ap (λ b. if b then Some (labels.ScrW (low - screen_at) v) else Some (labels.Scr (low - screen_at) (v % 256))) (lit high (omega arith) (omega (arith, h)))
+      ∙ ap (λ k. Some (labels.ScrW k v)) (omega arith))
+
+  -- a push, below the top t + 2
+  pub push_is : (p : ℕ) (g : Working) (t v : ℕ) (w : W) (ls : List Label) → t + 1 < 65536 → pushed m v (record { registers = all_registers p g (t + 2); world = w; labels = ls }) ≡ record { registers = all_registers p g t; world = m.store w (stores.Word (1024 + t) (1025 + t) v); labels = ls }
+  unfolding pushed
+  push_is p g t v w ls h =
+      let down : (t + 2 + 65534) % 65536 ≡ t = omega (arith, h) in
+      ap (λ s. stored_at m widths.Word 0x40 s v (record { registers = all_registers p g s; world = w; labels = ls })) down ∙ word_stored (all_registers p g t) t v w ls h
+
+  -- what a push leaves: a word more
+  pub push_stacks : (w : W) (t v rest : ℕ) (st base : List ℕ) (room : ℕ) → Whole w → length st < room → t + 2 * (suc (length st) + length base) ≡ 0xFFFE → Stack m w (t + 2) st base room → Stack m (m.store w (stores.Word (1024 + t) (1025 + t) v)) t (v % 65536 ∷ st) base room
+  push_stacks w t v rest st base room whole lt at s =
+      let u = m.store w (stores.Word (1024 + t) (1025 + t) v) in
+      let lo = word_low w (1024 + t) (1025 + t) v (omega (arith, at)) (λ e. absurd (omega (arith, e))) (laws.ram w whole (1024 + t) (omega (arith, at))) in
+      let hi = word_high w (1024 + t) (1025 + t) v (omega (arith, at)) (laws.ram w whole (1025 + t) (omega (arith, at))) in
+      let value : loaded_word m u 0x40 t ≡ v % 65536 = word_is u t (omega (arith, at)) ∙ ap₂ (λ x y. x % 256 + 256 * (y % 256)) lo hi ∙ halves v in
+      record {
+        words = (value, stacked_kept w u (t + 2) (st ++ base) (omega (arith, at, length-append st base)) (λ a le up. word_other w (1024 + t) (1025 + t) v a (omega (arith, up)) (λ e. absurd (omega (arith, e, le))) (λ e. absurd (omega (arith, e, le)))) s.words);
+        within = lt;
+        at = at;
+      }
+
+  pub pop_stacks : (w : W) (sp v : ℕ) (st base : List ℕ) (room : ℕ) → Stack m w sp (v ∷ st) base room → Stack m w (sp + 2) st base room
+  pop_stacks w sp v st base room s = record { words = s.words.1; within = omega (arith, s.within); at = omega (arith, s.at) }
+
+  pub pop_is : (p : ℕ) (g : Working) (sp v : ℕ) (w : W) (l : List ℕ) → sp + 2 < 65536 → Stacked m w sp (v ∷ l) → popped m w (all_registers p g sp) ≡ (v, all_registers p g (sp + 2))
+  unfolding popped
+  pop_is p g sp v w l h s =
+      let up : (sp + 2) % 65536 ≡ sp + 2 = omega (arith, h) in
+      ap₂ (λ x y. (x, all_registers p g y)) s.0 up
+
+  -- memory that is kept but for the stack
+  abbrev pub Beside : W → W → Type 0
+  Beside w u = (a : ℕ) → a < 2 ^ 20 → (a < 0xF400) ⊎ (0x20000 ≤ a) → m.load u a ≡ m.load w a
+
+  fetch_kept : (w u : W) (p : ℕ) → ((a : ℕ) → 0xF0000 ≤ a → a < 2 ^ 20 → m.load u a ≡ m.load w a) → p < 65536 → fetched m u 0xF000 p ≡ fetched m w 0xF000 p
+  unfolding fetched loaded_byte
+  fetch_kept w u p e h =
+      let one : (q : ℕ) → q < 65536 → m.load u (physical 0xF000 q) % 256 ≡ m.load w (physical 0xF000 q) % 256 = λ q lt. ap (λ x. x % 256) (e (physical 0xF000 q) (omega (arith, lt)) (omega (arith, lt))) in
+      λ i. one p h i ∷ one ((p + 1) % 65536) (omega arith) i ∷ one ((p + 2) % 65536) (omega arith) i ∷ one ((p + 3) % 65536) (omega arith) i ∷ one ((p + 4) % 65536) (omega arith) i ∷ one ((p + 5) % 65536) (omega arith) i ∷ one ((p + 6) % 65536) (omega arith) i ∷ one ((p + 7) % 65536) (omega arith) i ∷ []
+
+  pub spelled_kept : (code : ℕ → Option (Instr × ℕ)) (w u : W) → ((a : ℕ) → 0xF0000 ≤ a → a < 2 ^ 20 → m.load u a ≡ m.load w a) → Spelled m code w → Spelled m code u
+  spelled_kept code w u e s = record { bounded = s.bounded; spelled = λ p d at. ap decoded (fetch_kept w u p e (s.bounded p d at)) ∙ s.spelled p d at }
+
+  vector_word : (w u : W) (off : ℕ) → off + 1 < 1024 → ((a : ℕ) → a < 1024 → m.load u a ≡ m.load w a) → loaded_word m u 0 off ≡ loaded_word m w 0 off
+  unfolding loaded_word loaded_byte
+  vector_word w u off h e = ap₂ (λ x y. x % 256 + 256 * (y % 256)) (e (physical 0 off) (omega (arith, h))) (e (physical 0 (next_offset off)) (omega (arith, h)))
+
+  pub vectors_kept : (entry : ℕ → ℕ) (w u : W) → ((a : ℕ) → a < 1024 → m.load u a ≡ m.load w a) → Vectors m entry w → Vectors m entry u
+  vectors_kept entry w u e v = record {
+    offset = λ n h. vector_word w u (4 * n) (omega (arith, h)) e ∙ v.offset n h;
+    segment = λ n h. vector_word w u (4 * n + 2) (omega (arith, h)) e ∙ v.segment n h;
+  }
+
+  module _ (code : ℕ → Option (Instr × ℕ)) (entry placed size : ℕ → ℕ) (is_placed : Placed placed size) where
+    -- a store on the stack, or none, keeps what is beside it
+    pub fine_beside : (s : Store P) (w u : W) → Beside w u → Whole u → chips u ≡ chips w → Fine m chips Whole code entry placed size s w → Fine m chips Whole code entry placed size s u
+    fine_beside s w u e t same_chips f = record {
+      whole = t;
+      spelled = spelled_kept code w u (λ a le lt. e a lt (inr (omega (arith, le)))) f.spelled;
+      vectors = vectors_kept entry w u (λ a lt. e a (omega (arith, lt)) (inl (omega (arith, lt)))) f.vectors;
+      holds = record {
+        bytes = λ k i lt. let inside = is_placed.below k i (omega (arith, lt, f.sizes k)) in e (1024 + (placed k + i)) (omega (arith, inside)) (inl (omega (arith, inside))) ∙ f.holds.bytes k i lt;
+        screen = λ i lt. e (0xB8000 + i) (omega (arith, lt)) (inr (omega arith)) ∙ f.holds.screen i lt;
+      };
+      chips_are = same_chips ∙ f.chips_are;
+      sizes = f.sizes;
+      screen_size = f.screen_size;
+    }
+
+    pub fine_push : (s : Store P) (w : W) (t v : ℕ) → 0xF000 ≤ t → t + 1 < 65536 → Fine m chips Whole code entry placed size s w → Fine m chips Whole code entry placed size s (m.store w (stores.Word (1024 + t) (1025 + t) v))
+    fine_push s w t v le lt f =
+        fine_beside s w (m.store w (stores.Word (1024 + t) (1025 + t) v))
+        (λ a h side. word_other w (1024 + t) (1025 + t) v a h (λ e. off_stack a (1024 + t) e (omega (arith, le)) (omega (arith, lt)) side) (λ e. off_stack a (1025 + t) e (omega (arith, le)) (omega (arith, lt)) side))
+        (laws.stays w (stores.Word (1024 + t) (1025 + t) v) f.whole) (laws.store_chips w (stores.Word (1024 + t) (1025 + t) v)) f
+      where
+        off_stack : (a x : ℕ) → a ≡ x → 0xF400 ≤ x → x < 0x20000 → (a < 0xF400) ⊎ (0x20000 ≤ a) → ⊥
+        off_stack a x e le lt side = ⊎_elim (λ h. absurd (omega (arith, e, h, le))) (λ h. absurd (omega (arith, e, h, lt))) side
+
+    -- where only chips change
+    pub fine_chips : (s : Store P) (w u : W) (p : P) → ((a : ℕ) → m.load u a ≡ m.load w a) → Whole u → chips u ≡ p → Fine m chips Whole code entry placed size s w → Fine m chips Whole code entry placed size (record { objects = s.objects; screen = s.screen; chips = p }) u
+    fine_chips s w u p e t same_chips f = record {
+      whole = t;
+      spelled = spelled_kept code w u (λ a le lt. e a) f.spelled;
+      vectors = vectors_kept entry w u (λ a lt. e a) f.vectors;
+      holds = record {
+        bytes = λ k i lt. e (1024 + (placed k + i)) ∙ f.holds.bytes k i lt;
+        screen = λ i lt. e (0xB8000 + i) ∙ f.holds.screen i lt;
+      };
+      chips_are = same_chips;
+      sizes = f.sizes;
+      screen_size = f.screen_size;
+    }
+
+    pub stack_chips : (w u : W) (sp : ℕ) (st base : List ℕ) (room : ℕ) → ((a : ℕ) → m.load u a ≡ m.load w a) → Stack m w sp st base room → Stack m u sp st base room
+    stack_chips w u sp st base room e k = record {
+      words = stacked_kept w u sp (st ++ base) (omega (arith, k.at, length-append st base)) (λ a ge lt. e a) k.words;
+      within = k.within;
+      at = k.at;
+    }

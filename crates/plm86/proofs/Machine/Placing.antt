@@ -1,0 +1,73 @@
+-- Bytes in the ROM that spell an instruction are decoded at their place.
+use Rattle.std.proofs.Common.{◌≡◌, ℕ, zero, suc, ◌+◌, ◌-◌, ◌%◌, ◌<◌, ◌≤◌, List, [], ◌∷◌, ◌++◌, length, drop, Option, Some, refl, ap, ◌∙◌, arith, ap₂}
+use Rattle.std.specs.Prelude.{slice_index, if◌then◌else◌}
+use Rattle.word86.specs.Chips.{Chips}
+use Rattle.i86_table.specs.declared.instruction.Instr.{Instr}
+use Rattle.i86_code.specs.Instructions.{Spells}
+use Rattle.i86_code.specs.Decoding.{decoded, IsOneForm, IsShort}
+use Rattle.cpu8086.specs.Machine.{physical, loaded_byte}
+use Rattle.cpu8086.specs.Turn.{fetched}
+use Rattle.board.specs.World.{World, Whole, board_model, region, screen_at}
+use Rattle.plm86.specs.Relation.{Spelled}
+use Rattle.plm86.specs.Rom.{rom_byte, Written, CodeInRom}
+use Rattle.plm86.proofs.Machine.Regions.{within_true, within_above}
+
+begins_with : (front l : List ℕ) → length front ≤ length l → ((k : ℕ) → k < length front → slice_index l k ≡ slice_index front k) → l ≡ front ++ drop (length front) l
+begins_with [] l h e = refl
+begins_with (b ∷ front) [] h e = absurd (omega (arith, h))
+begins_with (b ∷ front) (d ∷ l) h e = ap₂ (λ x y. x ∷ y) (e 0 (omega arith)) (begins_with front l (omega (arith, h)) (λ k lt. e (suc k) (omega (arith, lt))))
+
+module _ {P : Type 0} (c : Chips P) (rom : List ℕ) (w : World P) (whole : Whole rom w) where
+  -- a byte of the ROM
+  loaded_rom : (a : ℕ) → length rom ≤ 65536 → 0x100000 ≤ a + length rom → a < 0x100000 → (board_model c).load w a ≡ slice_index rom (a + length rom - 0x100000)
+  loaded_rom a size inside lt =
+      let bytes = w.rom in
+      let same : length w.rom ≡ length rom = ap length whole.same_rom in
+      let beyond = region (0x100000 - length w.rom) w.rom a 255 in
+      let place : a - (0x100000 - length w.rom) ≡ a + length rom - 0x100000 = omega (arith, same, size, inside, lt) in
+      ap (λ b. if b then slice_index w.ram (a - 0) else region screen_at w.screen a beyond) (within_above 0 w.ram a 0x20000 whole.ram (omega (arith, inside, size)))
+      ∙ ap (λ b. if b then slice_index w.screen (a - screen_at) else beyond) (within_above screen_at w.screen a 4000 whole.screen (omega (arith, inside, size)))
+      ∙ ap (λ b. if b then slice_index w.rom (a - (0x100000 - length w.rom)) else 255) (within_true (0x100000 - length w.rom) w.rom a (length rom) same (omega (arith, inside, same)) (omega (arith, lt, same, size)))
+      ∙ ap₂ (λ l i. slice_index l i) whole.same_rom place
+
+  loaded_place : (place : ℕ) → length rom ≤ 65536 → 65536 ≤ place + length rom → place < 65536 → loaded_byte (board_model c) w 0xF000 place ≡ rom_byte rom place % 256
+  unfolding loaded_byte
+  loaded_place place size inside lt =
+      let at : physical 0xF000 place ≡ 0xF0000 + place = omega (arith, lt) in
+      let index : 0xF0000 + place + length rom - 0x100000 ≡ place + length rom - 65536 = omega arith in
+      ap (λ a. (board_model c).load w a % 256) at ∙ ap (λ b. b % 256) (loaded_rom (0xF0000 + place) size (omega (arith, inside)) (omega (arith, lt)) ∙ ap (slice_index rom) index)
+
+  fetched_at : (place k : ℕ) → k < 8 → place < 65536 → slice_index (fetched (board_model c) w 0xF000 place) k ≡ loaded_byte (board_model c) w 0xF000 ((place + k) % 65536)
+  unfolding fetched
+  fetched_at place zero h lt = let e : place ≡ (place + 0) % 65536 = omega (arith, lt) in ap (loaded_byte (board_model c) w 0xF000) e
+  fetched_at place (suc zero) h lt = refl
+  fetched_at place (suc (suc zero)) h lt = refl
+  fetched_at place (suc (suc (suc zero))) h lt = refl
+  fetched_at place (suc (suc (suc (suc zero)))) h lt = refl
+  fetched_at place (suc (suc (suc (suc (suc zero))))) h lt = refl
+  fetched_at place (suc (suc (suc (suc (suc (suc zero)))))) h lt = refl
+  fetched_at place (suc (suc (suc (suc (suc (suc (suc zero))))))) h lt = refl
+  fetched_at place (suc (suc (suc (suc (suc (suc (suc (suc k)))))))) h lt = absurd (omega (arith, h))
+
+  eight : (place : ℕ) → length (fetched (board_model c) w 0xF000 place) ≡ 8
+  unfolding fetched
+  eight place = refl
+
+  -- any spelling of the instruction at its place will do
+  decoded_here : IsOneForm → IsShort → (place : ℕ) (bytes : List ℕ) (instruction : Instr) → length rom ≤ 65536 → place < 65536 → Spells bytes instruction → Written rom place bytes → decoded (fetched (board_model c) w 0xF000 place) ≡ Some (instruction, length bytes)
+  decoded_here only short place bytes instruction size lt spells at =
+      let few = short bytes instruction spells in
+      let all = fetched (board_model c) w 0xF000 place in
+      let front : all ≡ bytes ++ drop (length bytes) all = begins_with bytes all (omega (arith, few, eight place)) (λ k h.
+      let here : (place + k) % 65536 ≡ place + k = omega (arith, h, at.fits) in
+      fetched_at place k (omega (arith, h, few)) lt ∙ ap (loaded_byte (board_model c) w 0xF000) here
+      ∙ loaded_place (place + k) size (omega (arith, at.inside)) (omega (arith, h, at.fits)) ∙ at.bytes_are k h) in
+      ap decoded front ∙ only bytes (drop (length bytes) all) instruction spells
+
+  pub spelled_by_rom : IsOneForm → IsShort → (code : ℕ → Option (Instr × ℕ)) → CodeInRom rom code → Spelled (board_model c) code w
+  spelled_by_rom only short code x = record {
+    bounded = x.low;
+    spelled = λ place d at.
+        let t = x.written place d at in
+        decoded_here only short place t.0 d.0 x.size (x.low place d at) t.1 t.3 ∙ ap (λ n. Some (d.0, n)) t.2;
+  }

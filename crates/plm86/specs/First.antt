@@ -1,0 +1,13 @@
+pub mod Forms
+pub mod Known
+pub mod Programs
+pub mod FormsView
+pub mod Objects
+pub mod Code
+pub mod Intermediate
+pub mod Selected
+pub mod Linked
+pub mod Found
+pub mod Faithful
+pub mod Sizes
+pub mod Offsets

@@ -1,0 +1,4 @@
+pub mod BoardLaws
+pub mod Duo
+pub mod Parsed
+pub mod Stacks

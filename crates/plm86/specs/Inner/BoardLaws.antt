@@ -1,0 +1,35 @@
+-- What the lift to the board rests on, of any memory and any chips.
+use Rattle.std.specs.Prelude.{ℕ, true, false, ◌≡◌, ◌<◌, ◌≤◌}
+use Rattle.word86.specs.declared.width.Width.{Width}
+use Rattle.word86.specs.declared.event.Event.{Event}
+use Rattle.word86.specs.Chips.{Chips}
+use Rattle.cpu8086.specs.declared.bus.Store.{Store}
+use Rattle.cpu8086.specs.BusModel.{BusModel, LoadAfterStore, PortsKeepMemory}
+use Rattle.board.specs.World.{shown_store}
+
+-- RAM below 128 KiB and the screen keep what is stored, what is above 0C0000H does not; stores show what comes to the screen;
+-- and the chips are these.
+pub record OfBoard {W : Type 0} {P : Type 0} (m : BusModel W) (c : Chips P) (chips : W → P) (Whole : W → Type 0) : Type 0 where
+  pub loads : LoadAfterStore m
+  pub ports : PortsKeepMemory m
+  pub ram : (w : W) → Whole w → (a : ℕ) → a < 0x20000 → m.keeps w a ≡ true
+  pub screen : (w : W) → Whole w → (a : ℕ) → 0xB8000 ≤ a → a < 0xB8FA0 → m.keeps w a ≡ true
+  pub rom : (w : W) → Whole w → (a : ℕ) → 0xC0000 ≤ a → m.keeps w a ≡ false
+  pub labels : (w : W) (s : Store) → m.store_label w s ≡ shown_store s
+  pub stays : (w : W) (s : Store) → Whole w → Whole (m.store w s)
+  pub in_stays : (w : W) (width : Width) (port : ℕ) → Whole w → Whole (m.port_in w width port)
+  pub out_stays : (w : W) (width : Width) (port value : ℕ) → Whole w → Whole (m.port_out w width port value)
+  pub ack_stays : (w : W) → Whole w → Whole (m.acknowledge w)
+  pub store_chips : (w : W) (s : Store) → chips (m.store w s) ≡ chips w
+  pub in_chips : (w : W) (width : Width) (port : ℕ) → chips (m.port_in w width port) ≡ c.reading (chips w) width port
+  pub out_chips : (w : W) (width : Width) (port value : ℕ) → chips (m.port_out w width port value) ≡ c.writing (chips w) width port value
+  pub ack_chips : (w : W) → chips (m.acknowledge w) ≡ c.acknowledge (chips w)
+  pub value : (w : W) (width : Width) (port : ℕ) → m.port_value w width port ≡ c.value (chips w) width port
+  pub line : (w : W) → m.line w ≡ c.line (chips w)
+  pub vector : (w : W) → m.vector w ≡ c.vector (chips w)
+
+-- an event changes the chips alone
+pub record Events {W P : Type 0} (m : BusModel W) (c : Chips P) (chips : W → P) (Whole : W → Type 0) (comes : Event → W → W) : Type 0 where
+  pub keeps : (e : Event) (w : W) (a : ℕ) → m.load (comes e w) a ≡ m.load w a
+  pub chips_are : (e : Event) (w : W) → chips (comes e w) ≡ c.comes e (chips w)
+  pub stays : (e : Event) (w : W) → Whole w → Whole (comes e w)
