@@ -22,7 +22,7 @@ use crate::types::{
     unary_operation, unary_type, width_of,
 };
 use plm_decl::found::Found;
-use plm_decl::{Builtin, Location, Binding, Selector};
+use plm_decl::{Binding, Builtin, Location, Selector};
 use plm_syntax::{BinaryOperator, LocationForm, Position, UnaryOperator};
 use std::alloc::{AllocError, Global};
 use word86::{Number, Width};
