@@ -5,6 +5,7 @@ use Rattle.word86.specs.declared.width.Width.{Width}
 use Rattle.word86.specs.declared.width.Width.TheVariants.{Byte, Word}
 use Rattle.word86.specs.declared.event.Event.{Event}
 use Rattle.word86.specs.declared.event.Event.TheVariants.{Tick, Key}
+use Rattle.word86.specs.Bytes.{is_set}
 use Rattle.pit8253.specs.Timer as pit
 use Rattle.pit8253.specs.Timer.{AlikeTimers}
 use Rattle.pit8253.specs.Pit.{timer_shown}
@@ -62,7 +63,7 @@ retimed_settles n v c =
 
 driven_settles : Settles driven
 driven_settles c =
-    ap (chips_at c (raised (keys.is_served (clear_line c) c.keyboard) 1 c.interrupts) c.interface (keys.served (clear_line c) c.keyboard)) (gated_times (ppi.is_set (ppi.b_lines c.interface) 0) c.timer)
+    ap (chips_at c (raised (keys.is_served (clear_line c) c.keyboard) 1 c.interrupts) c.interface (keys.served (clear_line c) c.keyboard)) (gated_times (is_set (ppi.b_lines c.interface) 0) c.timer)
 
 device_settles : (d : Device) (v : ℕ) → Settles (device_written d v)
 device_settles (devices.Interrupts n) v c = settled_twice (record c { interrupts = pic.written n v c.interrupts })

@@ -2,6 +2,7 @@
 -- "Operation Command Word Format"): sets of levels, and what each call does to them.
 use Rattle.std.specs.Prelude.{ℕ, Bool, true, false, not, ◌≡◌, ◌==◌, ◌+◌, ◌*◌, ◌/◌, ◌%◌, ◌&&◌, ◌||◌, nat_lt, if◌then◌else◌, ◌<◌, ◌≤◌, Option, Some, None, is_some, unwrap_or, map}
 use Rattle.std.specs.List.{list_all, range_with_len}
+use Rattle.word86.specs.Bytes.{is_set}
 use Rattle.pic8259.specs.Levels.{has, with_level, without_level, level_at, rank, highest}
 
 pub record Controller : Type 0 where
@@ -80,13 +81,13 @@ initialised v s = record {
   automatic = false;
   mode_8086 = false;
   awaits_vector = true;
-  awaits_cascade = not (has v 1);
-  awaits_mode = has v 0;
+  awaits_cascade = not (is_set v 1);
+  awaits_mode = is_set v 0;
 }
 
 -- OCW3: which register is read; with bit 7 it does nothing
 abbrev pub selected : ℕ → Controller → Controller
-selected v s = if has v 1 && not (has v 7) then record s { reads_service = has v 0 } else s
+selected v s = if is_set v 1 && not (is_set v 7) then record s { reads_service = is_set v 0 } else s
 
 -- a level, if there is one, is no longer in service
 abbrev pub retired : Option ℕ → Controller → Controller
@@ -102,7 +103,7 @@ ended v s =
 
 -- a word at A0 = 0: ICW1 with bit 4, else OCW3 with bit 3, else OCW2
 abbrev pub commanded : ℕ → Controller → Controller
-commanded v s = if has v 4 then initialised v s else if has v 3 then selected v s else ended v s
+commanded v s = if is_set v 4 then initialised v s else if is_set v 3 then selected v s else ended v s
 
 -- a word at A0 = 1: the first initialisation word still awaited (ICW2 the vector's high five bits, ICW3 without effect, ICW4
 -- bit 0 8086 mode and bit 1 automatic end), else OCW1, the mask
@@ -110,7 +111,7 @@ abbrev pub configured : ℕ → Controller → Controller
 configured v s =
     if s.awaits_vector then record s { base = 8 * (v / 8); awaits_vector = false }
     else if s.awaits_cascade then record s { awaits_cascade = false }
-    else if s.awaits_mode then record s { mode_8086 = has v 0; automatic = has v 1; awaits_mode = false }
+    else if s.awaits_mode then record s { mode_8086 = is_set v 0; automatic = is_set v 1; awaits_mode = false }
     else record s { masked = v }
 
 abbrev pub written : ℕ → ℕ → Controller → Controller

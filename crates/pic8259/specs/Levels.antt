@@ -1,11 +1,11 @@
 -- Sets of the eight levels, and their order of priority.
-use Rattle.std.specs.Prelude.{ℕ, Bool, true, ◌≡◌, ◌==◌, ◌+◌, ◌-◌, ◌%◌, ◌^◌, ◌≤◌, ◌<◌, bit_and, bit_or, Option, find, map}
-use Rattle.std.specs.Int.{bit_at}
+use Rattle.std.specs.Prelude.{ℕ, Bool, true, ◌≡◌, ◌+◌, ◌-◌, ◌%◌, ◌^◌, ◌≤◌, ◌<◌, bit_and, bit_or, Option, find, map}
 use Rattle.std.specs.List.{range_with_len}
+use Rattle.word86.specs.Bytes.{is_set}
 
 -- a set of levels is a byte: level k is in it where bit k is 1
 abbrev pub has : ℕ → ℕ → Bool
-has levels k = bit_at levels k == 1
+has levels k = is_set levels k
 
 -- the set with a level more, and with one less
 abbrev pub with_level : ℕ → ℕ → ℕ

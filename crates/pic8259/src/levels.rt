@@ -3,6 +3,8 @@
 ghost use Rattle.std.specs.Prelude.{◌≡◌, ◌<◌, IfSome};
 ghost use Rattle.pic8259.specs.Levels.{has, with_level, without_level, highest};
 
+use word86::is_set;
+
 /// A set of the eight levels: a byte in which bit k stands for level k.
 #[derive(Clone, Copy, Debug)]
 pub struct Levels {
@@ -29,7 +31,7 @@ impl Levels {
         requires { level < 8 }
         ensures { result ≡ has self.bits level }
     {
-        (self.bits >> level) % 2 == 1
+        is_set(self.bits, level)
     }
 
     /// The set with a level more.

@@ -4,14 +4,7 @@ ghost use Rattle.std.specs.Prelude.{◌≡◌, ◌<◌, ◌≤◌, ◌+◌, ◌|
 ghost use Rattle.pic8259.specs.Levels.{has};
 
 use crate::levels::Levels;
-
-/// Whether a bit of a byte is 1.
-fn is_set(byte: u8, bit: u8) -> bool
-    requires { bit < 8 }
-    ensures { result ≡ has byte bit }
-{
-    Levels::from_bits(byte).contains(bit)
-}
+use word86::is_set;
 
 /// The three sets, the vector, the mode and the words that are awaited.
 #[derive(Clone, Copy, Debug)]

@@ -4,6 +4,7 @@ use Rattle.word86.specs.declared.width.Width.{Width}
 use Rattle.word86.specs.declared.width.Width.TheVariants.{Byte, Word}
 use Rattle.word86.specs.declared.event.Event.{Event}
 use Rattle.word86.specs.declared.event.Event.TheVariants.{Tick, Key}
+use Rattle.word86.specs.Bytes.{is_set}
 use Rattle.pic8259.specs.Controller as pic
 use Rattle.pit8253.specs.Timer as pit
 use Rattle.ppi_kbd.specs.declared.device.Device.{Device}
@@ -36,10 +37,10 @@ typed clear k c = record c { keyboard = keys.served clear k; interrupts = raised
 
 -- port B's bit 7 is the keyboard's clear line, its bit 0 the gate of the timer's channel 2
 abbrev pub clear_line : ChipState → Bool
-clear_line c = ppi.is_set (ppi.b_lines c.interface) 7
+clear_line c = is_set (ppi.b_lines c.interface) 7
 
 abbrev pub driven : ChipState → ChipState
-driven c = typed (clear_line c) c.keyboard (record c { timer = pit.timer_gated (ppi.is_set (ppi.b_lines c.interface) 0) c.timer })
+driven c = typed (clear_line c) c.keyboard (record c { timer = pit.timer_gated (is_set (ppi.b_lines c.interface) 0) c.timer })
 
 -- one byte is read from a device; an unmapped port reads 0FFH
 abbrev pub device_value : Device → ChipState → ℕ

@@ -1,12 +1,9 @@
 -- The 8255A of this board in mode 0 (8255A data sheet, "Mode Definition Format" and "Bit Set/Reset Format"): three ports, each an
 -- input or an output, C by halves.
 use Rattle.std.specs.Prelude.{ℕ, Bool, true, not, ◌==◌, ◌+◌, ◌-◌, ◌*◌, ◌/◌, ◌%◌, ◌^◌, ◌&&◌, if◌then◌else◌, bit_and, bit_or}
-use Rattle.std.specs.Int.{bit_at}
+use Rattle.word86.specs.Bytes.{is_set}
 
--- whether a bit of a byte is 1, and the byte with a bit set and with it reset
-abbrev pub is_set : ℕ → ℕ → Bool
-is_set byte bit = bit_at byte bit == 1
-
+-- the byte with a bit set and with it reset
 abbrev pub with_bit : ℕ → ℕ → ℕ
 with_bit bit byte = bit_or byte (2 ^ bit)
 

@@ -6,10 +6,10 @@ ghost use Rattle.ppi_kbd.specs.Chips.{ChipState, reset, value, reading, writing,
 
 use crate::device::{Device, device_at};
 use crate::keyboard::Keyboard;
-use crate::ppi::{Ppi, is_set};
+use crate::ppi::Ppi;
 use pic8259::Pic;
 use pit8253::Pit;
-use word86::Event;
+use word86::{Event, is_set};
 
 /// The request line of the timer's channel 0.
 const TIMER_LEVEL: u8 = 0;

@@ -1,15 +1,9 @@
 //! The 8255A in mode 0 (8255A data sheet, "Mode Definition Format" and "Bit Set/Reset Format").
 
 ghost use Rattle.std.specs.Prelude.{◌≡◌, ◌<◌, if◌then◌else◌};
-ghost use Rattle.ppi_kbd.specs.Interface.{is_set, with_bit, without_bit};
+ghost use Rattle.ppi_kbd.specs.Interface.{with_bit, without_bit};
 
-/// Whether a bit of a byte is 1.
-pub fn is_set(byte: u8, bit: u8) -> bool
-    requires { bit < 8 }
-    ensures { result ≡ is_set byte bit }
-{
-    (byte >> bit) % 2 == 1
-}
+use word86::is_set;
 
 /// The byte with this bit changed.
 fn with_bit(byte: u8, bit: u8, set: bool) -> u8

@@ -1,9 +1,17 @@
-//! Words in memory, the low byte first.
+//! The bits of a byte, and words in memory, the low byte first.
 
 ghost use Rattle.std.specs.Prelude.{◌≡◌, ◌+◌, ◌<◌, length};
-ghost use Rattle.word86.specs.Bytes.{word_in, with_word};
+ghost use Rattle.word86.specs.Bytes.{is_set, word_in, with_word};
 
 use byteorder::{ByteOrder, LittleEndian};
+
+/// Whether a bit of a byte is 1; bit 0 is the lowest.
+pub fn is_set(byte: u8, bit: u8) -> bool
+    requires { bit < 8 }
+    ensures { result ≡ is_set byte bit }
+{
+    (byte >> bit) % 2 == 1
+}
 
 /// The word whose low byte stands at this index.
 pub fn word_at(bytes: &[u8], at: usize) -> u16

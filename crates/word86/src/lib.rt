@@ -14,7 +14,7 @@ mod sink;
 mod width;
 
 pub use arithmetic::{add8, add16, div16, mul16, rol, ror, shl, shr, sub16};
-pub use bytes::{put_word, word_at};
+pub use bytes::{is_set, put_word, word_at};
 pub use event::Event;
 pub use fault::Fault;
 pub use label::Label;

@@ -1,7 +1,8 @@
 use Rattle.std.proofs.Common.{◌≡◌, ap, ◌∙◌, subst}
+use Rattle.word86.specs.Bytes.{is_set}
 use Rattle.pit8253.specs.Timer.{timer_gated}
 use Rattle.pit8253.specs.Pit as pit
-use Rattle.ppi_kbd.specs.Interface.{written, b_lines, is_set}
+use Rattle.ppi_kbd.specs.Interface.{written, b_lines}
 use Rattle.ppi_kbd.proofs.ports.Ports.write_interface.Goals as goal
 
 pub returns : goal.returns
