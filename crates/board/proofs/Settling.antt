@@ -1,13 +1,14 @@
 -- A state of the chips and its settled one are alike, alike states have one settled state, and no call tells them apart.
-use Rattle.std.proofs.Common.{◌≡◌, ℕ, zero, suc, ◌+◌, ◌-◌, ◌/◌, ◌%◌, ◌<◌, ◌==◌, Bool, true, false, cond, Some, inl, inr, refl, sym, ap, ◌∙◌, arith}
-use Rattle.std.specs.Prelude.{not, ◌&&◌, ◌||◌, nat_lt, if◌then◌else◌}
+use Rattle.std.proofs.Common.{◌≡◌, ℕ, zero, suc, ◌+◌, ◌-◌, ◌%◌, ◌<◌, ◌==◌, Bool, true, false, Some, inl, inr, refl, sym, ap, ◌∙◌, arith}
+use Rattle.std.specs.Prelude.{nat_lt, if◌then◌else◌}
 use Rattle.std.proofs.lemmas.Bool.Decides.{nat_tests}
 use Rattle.std.proofs.Math.Nat.{mod-mod}
 use Rattle.pit8253.specs.declared.mode.Waveform.{Waveform}
+use Rattle.pit8253.specs.declared.calls.Call.TheVariants as call
+use Rattle.pit8253.specs.declared.calls.Reply.TheVariants.{Byte, Level}
 use Rattle.pit8253.specs.Progress.{Progress, Still, Once, Again, Alike, SamePhase, SameOnce, next_of}
-use Rattle.pit8253.specs.Timer.{Counter, Timer, AlikeCounters, AlikeTimers, written, read, gated, command, pulses, out, rose, answer, on, timer_written, timer_read, timer_answer, timer_gated, timer_out, timer_pulses}
-use Rattle.pit8253.proofs.EachCall.{at_progress, alike_written, alike_read, alike_gated, alike_command, alike_answer}
-use Rattle.pit8253.proofs.Compose.{alike_pulses, alike_out, alike_counters_sym, alike_counters_trans}
+use Rattle.pit8253.specs.Timer.{Counter, Timer, AlikeCounters, AlikeTimers, rose, timer_written, timer_read, timer_answer, timer_gated, timer_out, timer_pulses}
+use Rattle.pit8253.specs.Calls.{NoCallTells}
 use Rattle.board.specs.Inner.Settled.{settled_once, settled_phase, settled_progress, settled_counter, settled_timer}
 
 -- ---- pulses
@@ -67,35 +68,22 @@ progress_same (Again s n a p) (Once m r) h = absurd h
 
 -- ---- channels
 
-pub counter_alike : (s : Counter) → AlikeCounters s (settled_counter s)
+counter_alike : (s : Counter) → AlikeCounters s (settled_counter s)
 counter_alike s = record { same_mode = refl; same_access = refl; same_progress = progress_alike s.progress; same_low = refl; same_gate = refl; same_latch = refl; same_high_next = refl }
 
-pub counter_same : (a b : Counter) → AlikeCounters a b → settled_counter a ≡ settled_counter b
+-- a state differs from one alike in its progress alone
+at_progress : (a b : Counter) → AlikeCounters a b → record a { progress = b.progress } ≡ b
+at_progress a b h =
+    ap (λ x. record a { progress = b.progress; mode = x }) h.same_mode
+    ∙ (ap (λ x. record b { access = x; low = a.low; gate = a.gate; latch = a.latch; high_next = a.high_next }) h.same_access
+    ∙ (ap (λ x. record b { low = x; gate = a.gate; latch = a.latch; high_next = a.high_next }) h.same_low
+    ∙ (ap (λ x. record b { gate = x; latch = a.latch; high_next = a.high_next }) h.same_gate
+    ∙ (ap (λ x. record b { latch = x; high_next = a.high_next }) h.same_latch
+    ∙ ap (λ x. record b { high_next = x }) h.same_high_next))))
+
+counter_same : (a b : Counter) → AlikeCounters a b → settled_counter a ≡ settled_counter b
 counter_same a b h =
     ap (λ x. record a { progress = x }) (progress_same a.progress b.progress h.same_progress) ∙ ap settled_counter (at_progress a b h)
-
-counter_settled : (s : Counter) → settled_counter s ≡ settled_counter (settled_counter s)
-counter_settled s = counter_same s (settled_counter s) (counter_alike s)
-
--- a change of a channel that keeps alike channels alike
-abbrev Changes : (Counter → Counter) → Type 0
-Changes f = (s : Counter) → settled_counter (f s) ≡ settled_counter (f (settled_counter s))
-
-changes : (f : Counter → Counter) → ((a b : Counter) → AlikeCounters a b → AlikeCounters (f a) (f b)) → Changes f
-changes f g s = counter_same (f s) (f (settled_counter s)) (g s (settled_counter s) (counter_alike s))
-
-out_settled : (s : Counter) → out s ≡ out (settled_counter s)
-out_settled s = alike_out s (settled_counter s) (counter_alike s)
-
-rose_same : (j : ℕ) (a b : Counter) → AlikeCounters a b → rose j a ≡ rose j b
-unfolding rose
-rose_same zero a b h = refl
-rose_same (suc j) a b h =
-    let x = rose_same j a b h in
-    let y = alike_out (pulses j a) (pulses j b) (alike_pulses j a b h) in
-    let z = alike_out (pulses (suc j) a) (pulses (suc j) b) (alike_pulses (suc j) a b h) in
-    ap (λ t. t || (not (out (pulses j a)) && out (pulses (suc j) a))) x
-    ∙ (ap (λ t. rose j b || (not t && out (pulses (suc j) a))) y ∙ ap (λ t. rose j b || (not (out (pulses j b)) && t)) z)
 
 -- ---- the three channels
 
@@ -108,71 +96,40 @@ timer_same a b h = three _ _ _ _ _ _ (counter_same a.zero b.zero h.same_zero) (c
 pub timer_alike : (t : Timer) → AlikeTimers t (settled_timer t)
 timer_alike t = record { same_zero = counter_alike t.zero; same_one = counter_alike t.one; same_two = counter_alike t.two }
 
-pub timers_trans : (a b c : Timer) → AlikeTimers a b → AlikeTimers b c → AlikeTimers a c
-timers_trans a b c h g = record {
-  same_zero = alike_counters_trans a.zero b.zero c.zero h.same_zero g.same_zero;
-  same_one = alike_counters_trans a.one b.one c.one h.same_one g.same_one;
-  same_two = alike_counters_trans a.two b.two c.two h.same_two g.same_two;
-}
-
-pub timers_sym : (a b : Timer) → AlikeTimers a b → AlikeTimers b a
-timers_sym a b h = record {
-  same_zero = alike_counters_sym a.zero b.zero h.same_zero;
-  same_one = alike_counters_sym a.one b.one h.same_one;
-  same_two = alike_counters_sym a.two b.two h.same_two;
-}
-
 pub timer_settled : (t : Timer) → settled_timer t ≡ settled_timer (settled_timer t)
 timer_settled t = timer_same t (settled_timer t) (timer_alike t)
+
+-- ---- calls, by the law of alike timers
 
 abbrev Times : (Timer → Timer) → Type 0
 Times f = (t : Timer) → settled_timer (f t) ≡ settled_timer (f (settled_timer t))
 
-on_first : (f : Counter → Counter) → Changes f → (t : Timer) → settled_timer (record t { zero = f t.zero }) ≡ settled_timer (record (settled_timer t) { zero = f (settled_counter t.zero) })
-on_first f h t = three _ _ _ _ _ _ (h t.zero) (counter_settled t.one) (counter_settled t.two)
+times : (f : Timer → Timer) → ((a b : Timer) → AlikeTimers a b → AlikeTimers (f a) (f b)) → Times f
+times f g t = timer_same (f t) (f (settled_timer t)) (g t (settled_timer t) (timer_alike t))
 
-on_second : (f : Counter → Counter) → Changes f → (t : Timer) → settled_timer (record t { one = f t.one }) ≡ settled_timer (record (settled_timer t) { one = f (settled_counter t.one) })
-on_second f h t = three _ _ _ _ _ _ (counter_settled t.zero) (h t.one) (counter_settled t.two)
+pub written_times : NoCallTells → (n v : ℕ) → Times (timer_written n v)
+written_times law n v = times (timer_written n v) (law.kept (call.Write n v))
 
-on_third : (f : Counter → Counter) → Changes f → (t : Timer) → settled_timer (record t { two = f t.two }) ≡ settled_timer (record (settled_timer t) { two = f (settled_counter t.two) })
-on_third f h t = three _ _ _ _ _ _ (counter_settled t.zero) (counter_settled t.one) (h t.two)
+pub read_times : NoCallTells → (n : ℕ) → Times (timer_read n)
+read_times law n = times (timer_read n) (law.kept (call.Read n))
 
-either : {A B : Type 0} (f : A → B) (t : Bool) (x y z u : A) → f x ≡ f z → f y ≡ f u → f (cond t x y) ≡ f (cond t z u)
-either f true x y z u e g = e
-either f false x y z u e g = g
+pub gated_times : NoCallTells → (g : Bool) → Times (timer_gated g)
+gated_times law g = times (timer_gated g) (law.kept (call.Gate g))
 
-on_times : (f : Counter → Counter) → Changes f → (n : ℕ) → Times (on n f)
-on_times f h n t =
-    either settled_timer (n == 0) _ _ _ _ (on_first f h t)
-    (either settled_timer (n == 1) _ _ _ _ (on_second f h t)
-    (either settled_timer (n == 2) _ _ _ _ (on_third f h t) (timer_settled t)))
+pub pulses_times : NoCallTells → (j : ℕ) → Times (timer_pulses j)
+pulses_times law j = times (timer_pulses j) (law.kept (call.Pulse j))
 
-pub written_times : (n v : ℕ) → Times (timer_written n v)
-written_times n v t = either settled_timer (n == 3) _ _ _ _ (on_times (command v) (changes (command v) (alike_command v)) (v / 64) t) (on_times (written v) (changes (written v) (alike_written v)) n t)
+same_byte : (m n : ℕ) → Byte m ≡ Byte n → m ≡ n
+same_byte m n e = cc
 
-pub read_times : (n : ℕ) → Times (timer_read n)
-read_times n = on_times read (changes read alike_read) n
+same_level : (m n : Bool) → Level m ≡ Level n → m ≡ n
+same_level m n e = cc
 
-pub gated_times : (g : Bool) → Times (timer_gated g)
-gated_times g t = three _ _ _ _ _ _ (counter_settled t.zero) (counter_settled t.one) (changes (gated g) (alike_gated g) t.two)
+pub out_same : NoCallTells → (n : ℕ) (t : Timer) → timer_out n t ≡ timer_out n (settled_timer t)
+out_same law n t = same_level _ _ (law.same_reply (call.Out n) t (settled_timer t) (timer_alike t))
 
-pub pulses_times : (j : ℕ) → Times (timer_pulses j)
-pulses_times j t = three _ _ _ _ _ _ (changes (pulses j) (alike_pulses j) t.zero) (changes (pulses j) (alike_pulses j) t.one) (changes (pulses j) (alike_pulses j) t.two)
+pub answer_same : NoCallTells → (n : ℕ) (t : Timer) → timer_answer n t ≡ timer_answer n (settled_timer t)
+answer_same law n t = same_byte _ _ (law.same_reply (call.Read n) t (settled_timer t) (timer_alike t))
 
-same_choice : {B : Type 0} (t : Bool) (x y z u : B) → x ≡ z → y ≡ u → cond t x y ≡ cond t z u
-same_choice true x y z u e g = e
-same_choice false x y z u e g = g
-
-pub out_same : (n : ℕ) (t : Timer) → timer_out n t ≡ timer_out n (settled_timer t)
-out_same n t =
-    same_choice (n == 0) _ _ _ _ (out_settled t.zero) (same_choice (n == 1) _ _ _ _ (out_settled t.one) (same_choice (n == 2) _ _ _ _ (out_settled t.two) refl))
-
-answer_settled : (s : Counter) → answer s ≡ answer (settled_counter s)
-answer_settled s = alike_answer s (settled_counter s) (counter_alike s)
-
-pub answer_same : (n : ℕ) (t : Timer) → timer_answer n t ≡ timer_answer n (settled_timer t)
-answer_same n t =
-    same_choice (n == 0) _ _ _ _ (answer_settled t.zero) (same_choice (n == 1) _ _ _ _ (answer_settled t.one) (same_choice (n == 2) _ _ _ _ (answer_settled t.two) refl))
-
-pub rose_settled : (j : ℕ) (s : Counter) → rose j s ≡ rose j (settled_counter s)
-rose_settled j s = rose_same j s (settled_counter s) (counter_alike s)
+pub rose_settled : NoCallTells → (j : ℕ) (t : Timer) → rose j t.zero ≡ rose j (settled_counter t.zero)
+rose_settled law j t = same_level _ _ (law.same_reply (call.Pulse j) t (settled_timer t) (timer_alike t))

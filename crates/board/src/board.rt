@@ -18,6 +18,7 @@ use crate::attached::Attached;
 use crate::chips;
 use arrayvec::ArrayVec;
 use cpu8086::{Cpu, DecodeCache, Kind, Turn};
+use pit8253::alike_law;
 use ppi_kbd::Ports;
 use std::alloc::Global;
 use word86::{Event, Fault, Label, Number, PowerOn};
@@ -100,6 +101,7 @@ impl Board {
         ensures labels { (b : State (World ChipState)) → Shows self.old b → map event_label events.now ++ labels.new.items ≡ (turn (board_model board_chips) (comes board_chips) events.now b).1 }
         ensures kind { (b : State (World ChipState)) → Shows self.old b → result ≡ turn_kind (board_model board_chips) (comes board_chips) events.now b }
     {
+        alike_law();
         let attached = &mut self.attached;
         all_come(attached, events);
         self.cpu

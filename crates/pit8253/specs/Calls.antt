@@ -1,10 +1,10 @@
 -- A list of calls, one after another: what each answers, and what they leave.
-use Rattle.std.specs.Prelude.{List, [], ◌∷◌}
+use Rattle.std.specs.Prelude.{◌≡◌, List, [], ◌∷◌}
 use Rattle.pit8253.specs.declared.calls.Call.{Call}
 use Rattle.pit8253.specs.declared.calls.Call.TheVariants.{Write, Read, Gate, Pulse, Out}
 use Rattle.pit8253.specs.declared.calls.Reply.{Reply}
 use Rattle.pit8253.specs.declared.calls.Reply.TheVariants.{Done, Byte, Level}
-use Rattle.pit8253.specs.Timer.{Timer, timer_written, timer_read, timer_answer, timer_gated, timer_pulses, timer_out, rose}
+use Rattle.pit8253.specs.Timer.{Timer, AlikeTimers, timer_written, timer_read, timer_answer, timer_gated, timer_pulses, timer_out, rose}
 
 -- the timer after one call
 abbrev pub after_one : Call → Timer → Timer
@@ -31,3 +31,10 @@ replies_of (x ∷ xs) c = reply_of x c ∷ replies_of xs (after_one x c)
 abbrev pub after : List Call → Timer → Timer
 after [] c = c
 after (x ∷ xs) c = after xs (after_one x c)
+
+-- no call tells alike timers apart: to be alike is an equivalence, every call keeps it, and answers alike timers the same
+pub record NoCallTells : Type 0 where
+  pub symmetric : (a b : Timer) → AlikeTimers a b → AlikeTimers b a
+  pub transitive : (a b c : Timer) → AlikeTimers a b → AlikeTimers b c → AlikeTimers a c
+  pub kept : (x : Call) (a b : Timer) → AlikeTimers a b → AlikeTimers (after_one x a) (after_one x b)
+  pub same_reply : (x : Call) (a b : Timer) → AlikeTimers a b → reply_of x a ≡ reply_of x b

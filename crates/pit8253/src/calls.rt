@@ -3,7 +3,7 @@
 ghost use Rattle.std.specs.Prelude.{◌≡◌, true, length};
 ghost use Rattle.pit8253.specs.Timer.{Timer, timer_reset, timer_pulses};
 ghost use Rattle.pit8253.specs.Pit.{Shows};
-ghost use Rattle.pit8253.specs.Calls.{after, after_one, reply_of, replies_of};
+ghost use Rattle.pit8253.specs.Calls.{after, after_one, reply_of, replies_of, NoCallTells};
 
 use crate::pit::Pit;
 
@@ -73,3 +73,10 @@ pub fn pulse_agrees(quick: &mut Pit, plain: &mut Pit, k: u16) -> bool
 {
     quick.pulse(k) == plain.pulse_singly(k)
 }
+
+/// The law of alike timers, which differ at most in whole periods gone by: no call tells them apart, now or later. A crate
+/// above may so keep one timer for all that are alike.
+#[inline(always)]
+pub fn alike_law()
+    ensures { NoCallTells }
+{}

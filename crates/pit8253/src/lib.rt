@@ -13,6 +13,6 @@ mod mode;
 mod once;
 mod pit;
 
-pub use calls::{Call, Reply, pulse_agrees, replay};
+pub use calls::{Call, Reply, alike_law, pulse_agrees, replay};
 pub use channel::{Channel, Segments};
 pub use pit::Pit;
