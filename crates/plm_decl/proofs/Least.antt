@@ -1,5 +1,5 @@
 -- The first of the least is the least.
-use Rattle.std.proofs.Common.{◌≡◌, ℕ, List, [], ◌∷◌, Bool, true, false, cond, nat_eq, nat_lt, Option, Some, None, ◌⊎◌, inl, inr, refl, subst, arith, Contains}
+use Rattle.std.proofs.Common.{◌≡◌, ℕ, List, IfNone, IfSome, sym, [], ◌∷◌, Bool, true, false, cond, nat_eq, nat_lt, Option, Some, None, ◌⊎◌, inl, inr, refl, subst, arith, Contains}
 use Rattle.std.specs.List.{AllByRecursion}
 use Rattle.std.proofs.lemmas.List.Elements.{All-from_recursion, Contains-append_right}
 use Rattle.std.proofs.lemmas.Bool.Decides.{nat_tests}
@@ -94,3 +94,12 @@ pub least_found : (fs : List Found) (f : Found) → least None fs ≡ Some f →
 least_found fs f e =
     let s = leading_is None fs f e in
     (elim s.among [ inl p ↦ absurd (cc) | inr c ↦ c ], All-from_recursion (λ g. precedes g f ≡ false) fs s.all)
+
+-- the same of what a search answers
+pub if_found : (fs : List Found) (o : Option Found) → o ≡ least None fs → IfSome o (λ f. IsLeast fs f)
+if_found fs None e = tt
+if_found fs (Some f) e = least_found fs f (sym e)
+
+pub if_none : (fs : List Found) (o : Option Found) → o ≡ least None fs → IfNone o (fs ≡ [])
+if_none fs None e = none_is fs (sym e)
+if_none fs (Some f) e = tt

@@ -2,6 +2,7 @@ pub mod Apart
 pub mod Tables
 pub mod ListViews
 pub mod ResolvedRows
+pub mod SyntaxRows
 pub mod SyntaxLists
 pub mod TreeViews
 pub mod Updates

@@ -6,7 +6,7 @@ use Rattle.plm_syntax.specs.declared.tree.Statement.{Statement}
 use Rattle.plm_syntax.specs.declared.tree.Item.{Item}
 use Rattle.plm_syntax.specs.Tree.{no_expressions, expressions, no_statements, statements, no_items, items}
 use Rattle.plm_syntax.specs.View.{expression_of, expressions_of, statement_of, statements_of, item_of, items_of}
-use Rattle.plm_syntax.proofs.Rows.{expression_pushed, statement_pushed, item_pushed}
+use Rattle.plm_decl.proofs.SyntaxRows.{expression_pushed, statement_pushed, item_pushed}
 
 pub taken_more : {X : Type 0} → (xs : List X) (i : ℕ) (x : X) → i < length xs → x ≡ get_or xs i x → take (i + 1) xs ≡ take i xs ++ x ∷ []
 taken_more xs i x h e = take_more xs i x h ∙ ap (λ y. take i xs ++ y ∷ []) (sym e)

@@ -4,7 +4,7 @@ use Rattle.plm_syntax.specs.declared.tree.Expression.TheBlock.{hidden-the_row-Ex
 use Rattle.plm_syntax.specs.declared.tree.Reference.{Reference}
 use Rattle.plm_syntax.specs.Tree.{ReferenceT, ReferenceOf, ExpressionsT, no_expressions}
 use Rattle.plm_syntax.specs.View.{name_of, expressions_in, selector_of, reference_of}
-use Rattle.plm_syntax.proofs.Rows.{expression_row, item_row, statement_row}
+use Rattle.plm_decl.proofs.SyntaxRows.{expression_row, item_row, statement_row}
 use Rattle.plm_syntax.specs.declared.tree.Basic.TheViews.{out-Block, roll-Block, roll-out-Block, out-Procedure, roll-Procedure, roll-out-Procedure}
 use Rattle.plm_syntax.specs.declared.tree.Block.{Block}
 use Rattle.plm_syntax.specs.declared.tree.Procedure.{Procedure}

@@ -1,7 +1,7 @@
 //! Faults where they stand, and the least of them.
 
-ghost use Rattle.std.specs.Prelude.{◌≡◌, min, None};
-ghost use Rattle.plm_decl.specs.Found.{code_of, precedes, least, fault_at};
+ghost use Rattle.std.specs.Prelude.{◌≡◌, [], IfNone, IfSome, min, None};
+ghost use Rattle.plm_decl.specs.Found.{code_of, precedes, least, IsLeast, fault_at};
 
 use plm_syntax::Position;
 use word86::{Fault, Number};
@@ -64,9 +64,11 @@ impl Found {
     }
 }
 
-/// The least of the faults, the first of equal ones.
+/// The least of the faults, the first of equal ones; `None` where there is none.
 pub fn least(faults: &[Found]) -> Option<Found>
-    ensures { result ≡ least None faults.now }
+    ensures value { result ≡ least None faults.now }
+    ensures found { IfSome result (λ found. IsLeast faults.now found) }
+    ensures none { IfNone result (faults.now ≡ []) }
 {
     let mut first: Option<Found> = None;
     for found in faults {

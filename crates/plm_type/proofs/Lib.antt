@@ -1,4 +1,5 @@
 pub mod Rows
+pub mod ResolvedTrees
 pub mod Lists
 pub mod Parts
 pub mod Leaning

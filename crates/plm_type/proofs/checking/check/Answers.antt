@@ -1,10 +1,9 @@
-use Rattle.std.proofs.Common.{ℕ, ◌++◌, List, Result, IfOk, IfErr, length, map, inl, inr, append_assoc, refl, sym, subst, ap, ◌∙◌}
+use Rattle.std.proofs.Common.{◌≡◌, ℕ, ◌++◌, [], List, Option, Result, IfNone, IfSome, IfOk, IfErr, length, map, inl, inr, append_assoc, refl, sym, subst, ap, ◌∙◌}
 use Rattle.std.proofs.lemmas.List.{length-map}
 use Rattle.word86.specs.declared.fault.Fault.{Fault}
 use Rattle.plm_decl.specs.declared.found.Found.{Found}
 use Rattle.plm_decl.specs.Names.{procedure_of, declared_location_of, main_of}
 use Rattle.plm_decl.specs.Found.{IsLeast}
-use Rattle.plm_decl.proofs.Least.{none_is, least_found}
 use Rattle.plm_type.specs.Rest.{Procedure}
 use Rattle.plm_type.specs.Statements as statements
 use Rattle.std.specs.Global.{Vec}
@@ -32,7 +31,7 @@ returns-in-Some-clause-refused c =
     ∙ ap (λ (x : List Found). x ++ m) (c.in_ok-procedures.ensures.faults ∙ ap (λ (x : List Found). x ++ p) (c.in_ok-locations.ensures ∙ ap (λ (x : List Found). x ++ l) c.new-faults.ensures.items))
     ∙ append_assoc l p m in
     subst (λ (f : Fault). spec.IsRefusal f names) (sym c.fault.ensures)
-    (c.in-Some.found, inl (subst (λ (fs : List Found). IsLeast fs c.in-Some.found) all (least_found c.deref.result.now c.in-Some.found (sym c.least.ensures ∙ c.in-Some.is))), refl)
+    (c.in-Some.found, inl (subst (λ (fs : List Found). IsLeast fs c.in-Some.found) all (subst (λ (o : Option Found). IfSome o (λ f. IsLeast c.deref.result.now f)) c.in-Some.is c.least.ensures.found)), refl)
 
 pub returns-in-Err-clause-refused : goal.returns-in-Err-clause-refused
 returns-in-Err-clause-refused c =
@@ -46,7 +45,7 @@ returns-in-Err-clause-refused c =
     ∙ ap (λ (x : List Found). x ++ m) (c.in_ok-procedures.ensures.faults ∙ ap (λ (x : List Found). x ++ p) (c.in_ok-locations.ensures ∙ ap (λ (x : List Found). x ++ l) c.new-faults.ensures.items))
     ∙ append_assoc l p m in
     let made = ap (map view.procedure_of) c.deref-2.ensures.value ∙ c.in_ok-procedures.ensures.tree in
-    let none = sym all ∙ none_is c.deref.result.now (sym c.least.ensures ∙ c.in_default.is) in
+    let none = sym all ∙ subst (λ (o : Option Found). IfNone o (c.deref.result.now ≡ [])) c.in_default.is c.least.ensures.none in
     let cycle = subst (λ (r : Result (Vec ℕ) Found). IfErr r (λ f. spec.IsRecursion (map view.procedure_of c.deref-2.result.now) names f)) c.in-Err.is c.in_ok-order.ensures.cycle in
     subst (λ (f : Fault). spec.IsRefusal f names) (sym c.fault-in-Err.ensures)
     (c.in-Err.found, inr (none, subst (λ (qs : List Procedure). spec.IsRecursion qs names c.in-Err.found) made cycle), refl)
@@ -68,7 +67,7 @@ invariant_of-result c =
     record {
       main_is = c.in_ok-main.ensures.tree;
       procedures_are = c.in_ok-procedures.ensures.tree;
-      no_fault = sym all ∙ none_is c.deref.result.now (sym c.least.ensures ∙ c.in_default.is);
+      no_fault = sym all ∙ subst (λ (o : Option Found). IfNone o (c.deref.result.now ≡ [])) c.in_default.is c.least.ensures.none;
       no_recursion = subst (λ (qs : List Procedure). (q : ℕ) → ¬ IsRecursive qs q) made
           (subst (λ (r : Result (Vec ℕ) Found). IfOk r (λ o. (q : ℕ) → ¬ IsRecursive (map view.procedure_of c.deref-2.result.now) q)) c.in-Ok.is c.in_ok-order.ensures.none);
       only = order.only;
@@ -93,7 +92,7 @@ returns-in-Ok-clause-typed c =
       kept = refl;
       main = c.in_ok-main.ensures.tree;
       procedures = c.in_ok-procedures.ensures.tree;
-      no_fault = sym all ∙ none_is c.deref.result.now (sym c.least.ensures ∙ c.in_default.is);
+      no_fault = sym all ∙ subst (λ (o : Option Found). IfNone o (c.deref.result.now ≡ [])) c.in_default.is c.least.ensures.none;
       no_recursion = subst (λ (qs : List Procedure). (q : ℕ) → ¬ IsRecursive qs q) made
           (subst (λ (r : Result (Vec ℕ) Found). IfOk r (λ o. (q : ℕ) → ¬ IsRecursive (map view.procedure_of c.deref-2.result.now) q)) c.in-Ok.is c.in_ok-order.ensures.none);
       order = subst (λ (qs : List Procedure). IsOrder c.in-Ok.order.items (graph_of qs)) made

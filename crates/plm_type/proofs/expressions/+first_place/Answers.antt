@@ -1,6 +1,6 @@
 use Rattle.std.proofs.Common.{sym, ap, ◌∙◌}
 use Rattle.plm_decl.specs.ResolvedView as resolved
-use Rattle.plm_decl.proofs.ResolvedRows.{operation_row}
+use Rattle.plm_type.proofs.ResolvedTrees.{operation_row}
 use Rattle.plm_type.specs.Faults as found
 use Rattle.plm_type.proofs.Leaning.{leaned_first}
 use Rattle.plm_type.proofs.expressions.+first_place.Goals as goal

@@ -4,7 +4,7 @@ use Rattle.plm_syntax.specs.declared.tree.Operation.{Operation}
 use Rattle.plm_decl.proofs.ListViews.{value_list_from}
 use Rattle.plm_syntax.specs.Tree.{no_values, ExpressionT, ReferenceE, EmbeddedE, LocationT, ExpressionsT, LocationOf}
 use Rattle.plm_syntax.specs.View as tree
-use Rattle.plm_syntax.proofs.Rows.{value_row, operation_row}
+use Rattle.plm_decl.proofs.SyntaxRows.{value_row, operation_row}
 use Rattle.plm_decl.specs.Inner.Scope.{frames_of}
 use Rattle.plm_decl.specs.Resolver.{Known}
 use Rattle.plm_decl.specs.Inner.Resolver.{known_of}

@@ -10,7 +10,7 @@ use Rattle.plm_syntax.specs.declared.tree.Statement.{Statement}
 use Rattle.plm_syntax.specs.declared.tree.Basic.TheViews.{out-Block, out-Procedure}
 use Rattle.plm_syntax.specs.Tree.{no_references, AssignS, IfS, WhileS, CaseS, BlockT, ItemT, ItemsT, StatementsT}
 use Rattle.plm_syntax.specs.View as tree
-use Rattle.plm_syntax.proofs.Rows.{statement_row}
+use Rattle.plm_decl.proofs.SyntaxRows.{statement_row}
 use Rattle.plm_decl.specs.Scope.{Frame, frame, path_in, is_external}
 use Rattle.plm_decl.specs.Inner.Scope.{frames_of}
 use Rattle.plm_decl.specs.Spelling.{name_after}

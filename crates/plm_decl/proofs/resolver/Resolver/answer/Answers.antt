@@ -10,12 +10,12 @@ pub returns-in-Some-clause-refused : goal.returns-in-Some-clause-refused
 returns-in-Some-clause-refused c =
     let k = known_of c.args.self in
     let found = c.in-Some.found in
-    let first : least None k.faults ≡ Some found = ap (least None) (sym c.deref.ensures.value) ∙ sym c.least.ensures ∙ c.in-Some.is in
+    let first : least None k.faults ≡ Some found = ap (least None) (sym c.deref.ensures.value) ∙ sym c.least.ensures.value ∙ c.in-Some.is in
     subst (λ (f : Fault). IsRefused f k) (sym c.fault.ensures) (found, inl (least_found k.faults found first), refl)
 
 pub joined-requires : goal.joined-requires
 joined-requires c =
     let k = known_of c.args.self in
-    let none : least None k.faults ≡ None = ap (least None) (sym c.deref.ensures.value) ∙ sym c.least.ensures ∙ c.in-None.is in
+    let none : least None k.faults ≡ None = ap (least None) (sym c.deref.ensures.value) ∙ sym c.least.ensures.value ∙ c.in-None.is in
     let empty = none_is k.faults none in
     record { no_fault = empty; within = c.requires empty }

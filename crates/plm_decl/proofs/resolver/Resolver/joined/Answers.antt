@@ -17,7 +17,7 @@ into_names-requires c =
     let k = known_of c.args.self in
     let joined = c.in_ok-join_modules.ensures in
     let none : least None (modules_joined k).whole ≡ None =
-    ap (λ (q : Known). least None q.whole) (sym joined) ∙ ap (least None) (sym c.deref.ensures.value) ∙ sym c.least.ensures ∙ c.in-None.is in
+    ap (λ (q : Known). least None q.whole) (sym joined) ∙ ap (least None) (sym c.deref.ensures.value) ∙ sym c.least.ensures.value ∙ c.in-None.is in
     let no_whole = none_is (modules_joined k).whole none in
     let before = joined_within (counts_of k) k c.requires.within in
     record {
@@ -31,7 +31,7 @@ returns-in-Some-clause-refused c =
     let k = known_of c.args.self in
     let found = c.in-Some.found in
     let first : least None (modules_joined k).whole ≡ Some found =
-    ap (λ (q : Known). least None q.whole) (sym c.in_ok-join_modules.ensures) ∙ ap (least None) (sym c.deref.ensures.value) ∙ sym c.least.ensures ∙ c.in-Some.is in
+    ap (λ (q : Known). least None q.whole) (sym c.in_ok-join_modules.ensures) ∙ ap (least None) (sym c.deref.ensures.value) ∙ sym c.least.ensures.value ∙ c.in-Some.is in
     subst (λ (f : Fault). IsRefused f k) (sym c.fault.ensures) (found, inr (c.requires.no_fault, least_found (modules_joined k).whole found first), refl)
 
 pub returns-in-None-clause-names : goal.returns-in-None-clause-names
@@ -40,7 +40,7 @@ returns-in-None-clause-names c =
     let joined = c.in_ok-join_modules.ensures in
     let are = c.into_names.ensures in
     let none : least None (modules_joined k).whole ≡ None =
-    ap (λ (q : Known). least None q.whole) (sym joined) ∙ ap (least None) (sym c.deref.ensures.value) ∙ sym c.least.ensures ∙ c.in-None.is in
+    ap (λ (q : Known). least None q.whole) (sym joined) ∙ ap (least None) (sym c.deref.ensures.value) ∙ sym c.least.ensures.value ∙ c.in-None.is in
     record {
       variables = are.variables ∙ ap (λ (q : Known). q.variables) joined;
       structures = are.structures ∙ ap (λ (q : Known). q.structures) joined;

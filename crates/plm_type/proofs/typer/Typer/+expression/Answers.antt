@@ -13,8 +13,7 @@ use Rattle.plm_decl.specs.declared.resolved.Expression as declared_resolved
 use Rattle.plm_decl.specs.declared.resolved.Operation.{Operation}
 use Rattle.plm_decl.specs.Resolved.{ExpressionR, TextR, ReferenceR, ParenthesisedR, EmbeddedR, ReferenceR', Use, ExpressionsR, LocationR', LocationOf}
 use Rattle.plm_decl.specs.ResolvedView as resolved
-use Rattle.plm_decl.proofs.TreeViews.{reference_placed}
-use Rattle.plm_decl.proofs.ResolvedRows.{operation_row}
+use Rattle.plm_type.proofs.ResolvedTrees.{operation_row, reference_placed}
 use Rattle.plm_type.specs.declared.program.Expression.{Expression}
 use Rattle.plm_type.specs.declared.typer.Typed.{Typed}
 use Rattle.plm_type.specs.Rest as rest

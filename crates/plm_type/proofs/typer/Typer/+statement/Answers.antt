@@ -5,7 +5,7 @@ use Rattle.plm_decl.specs.declared.found.Found.{Found}
 use Rattle.plm_decl.specs.declared.resolved.Statement as declared_resolved
 use Rattle.plm_decl.specs.Resolved.{StatementR, IfR, IfElseR, DoR, WhileR, CaseR, IterateR, StatementsR}
 use Rattle.plm_decl.specs.ResolvedView as resolved
-use Rattle.plm_decl.proofs.ResolvedRows as rows
+use Rattle.plm_type.proofs.ResolvedTrees as rows
 use Rattle.plm_type.specs.declared.program.Statement.{Statement}
 use Rattle.plm_type.specs.Rest as rest
 use Rattle.plm_type.specs.Inner.Typer.{variables, procedures, sizes}
