@@ -11,6 +11,7 @@ pub mod Joined
 pub mod Procedures
 pub mod Kept
 pub mod BlockNames
+pub mod Objects
 pub mod Lying
 pub mod RangesNames
 pub mod RangesExpressions

@@ -1,14 +1,23 @@
 -- What is read step by step, said of the tree of a block.
-use Rattle.std.specs.Prelude.{◌≡◌, ℕ, List, ◌∷◌, ◌++◌, Bool, true, false, not, is_some}
+use Rattle.std.specs.Prelude.{◌≡◌, ℕ, suc, List, [], ◌∷◌, ◌++◌, map, length, sum_by, slice_get, Bool, true, false, not, Some, None, is_some}
+use Rattle.std.specs.List.{list_all}
 use Rattle.word86.specs.declared.number.Number.TheVariants.{E302}
 use Rattle.plm_token.specs.Names.{normal}
+use Rattle.plm_syntax.specs.declared.tree.Position.{Position}
 use Rattle.plm_syntax.specs.Terminal.{NameT}
-use Rattle.plm_syntax.specs.Tree.{ItemsT, ElementT, VariableT}
+use Rattle.plm_syntax.specs.Tree.{ItemsT, ElementT, VariableT, VariableOf, ValueT}
+use Rattle.plm_decl.specs.declared.names.Datum.{Datum}
+use Rattle.plm_decl.specs.declared.names.Datum.TheVariants as datum
+use Rattle.plm_decl.specs.declared.names.Region.{Region}
+use Rattle.plm_decl.specs.declared.names.Region.TheVariants as region
 use Rattle.plm_decl.specs.declared.names.Item.{Item}
 use Rattle.plm_decl.specs.declared.elements.Site.{Site}
+use Rattle.plm_decl.specs.declared.elements.Site.TheVariants as site
 use Rattle.plm_decl.specs.declared.elements.Traits.{Traits}
-use Rattle.plm_decl.specs.Scope.{Frame, frame, meant, found_here}
+use Rattle.plm_decl.specs.Names.{ObjectR}
+use Rattle.plm_decl.specs.Scope.{Frame, frame, meant, found_here, is_external}
 use Rattle.plm_decl.specs.Resolver.{Known, note_unless}
+use Rattle.plm_decl.specs.Expressions.{constant_bytes}
 use Rattle.plm_decl.specs.Elements.{declared, declared_variables}
 use Rattle.plm_decl.specs.Statements.{with_elements, with_items}
 use Rattle.plm_decl.specs.BlockNames.{names_of_items, names_of_elements, names_of_variables, has_name}
@@ -35,3 +44,36 @@ StandsOutside =
     (path : List ℕ) (external : Bool) (outer : List Frame) (is : ItemsT) (k : Known) (name : List ℕ)
     → has_name name (names_of_items is) ≡ false
     → meant name (with_items (frame path external ∷ outer) is k).0 ≡ meant name outer
+
+-- ---- objects
+
+-- how many bytes an initial value fills
+abbrev pub bytes_of_datum : Datum → ℕ
+bytes_of_datum (datum.Byte b) = 1
+bytes_of_datum (datum.Word w) = 2
+bytes_of_datum (datum.Variable v n) = 2
+bytes_of_datum (datum.Constants o) = 2
+
+-- the object of constant bytes has as many bytes as its values fill
+abbrev pub ConstantsFill : Type 0
+ConstantsFill =
+    (frames : List Frame) (place : Position) (vs : List ValueT) (k : Known)
+    → (o : ObjectR) × (slice_get (constant_bytes frames place vs k).1.objects (constant_bytes frames place vs k).0 ≡ Some o) × (sum_by bytes_of_datum o.initial ≡ o.size)
+
+-- a name that is not based
+abbrev pub has_no_base : VariableT → Bool
+has_no_base (VariableOf n None) = true
+has_no_base (VariableOf n (Some base)) = false
+
+-- one object for each of so many names, in their order
+abbrev pub own_regions : ℕ → List VariableT → List Region
+own_regions first [] = []
+own_regions first (v ∷ vs) = region.Ram first 0 ∷ own_regions (suc first) vs
+
+-- names without AT and base, outside EXTERNAL procedures, have objects of their own, behind all that there were
+abbrev pub HaveOwnObjects : Type 0
+HaveOwnObjects =
+    (vs : List VariableT) (t : Traits) (frames : List Frame) (k : Known)
+    → is_external frames ≡ false → list_all has_no_base vs ≡ true
+    → (map (λ v. v.region) (declared_variables vs t site.Own frames k).2.variables ≡ map (λ v. v.region) k.variables ++ own_regions (length k.objects) vs)
+    × ((os : List ObjectR) × ((declared_variables vs t site.Own frames k).2.objects ≡ k.objects ++ os) × (length os ≡ length vs))

@@ -1,6 +1,6 @@
 //! Laws that tie what is read step by step to the tree of a block. They compute nothing.
 
-ghost use Rattle.plm_decl.specs.Laws.{DeclaresOnce, StandsInside, StandsOutside};
+ghost use Rattle.plm_decl.specs.Laws.{ConstantsFill, DeclaresOnce, HaveOwnObjects, StandsInside, StandsOutside};
 
 /// The law of second declarations: after some items of a block, some elements of a DECLARE and some names of an element, the
 /// next name that is declared there is a fault (E302) exactly where one of those before it has its normal form.
@@ -13,4 +13,15 @@ pub fn declared_once()
 pub fn innermost_counts()
     ensures inside { StandsInside }
     ensures outside { StandsOutside }
+{}
+
+/// The law of constant bytes: the object that `@( .. )` or `.( .. )` makes has as many bytes as its values fill.
+pub fn constants_fill_their_object()
+    ensures { ConstantsFill }
+{}
+
+/// The law of own objects: names of an element without AT, that are not based and stand in no EXTERNAL procedure, have one
+/// object each, in their order. These stand behind all objects that there were, so no two such names share a byte.
+pub fn names_have_own_objects()
+    ensures { HaveOwnObjects }
 {}

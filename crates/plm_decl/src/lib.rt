@@ -25,7 +25,9 @@ mod stray;
 mod table;
 
 pub use builtin::Builtin;
-pub use laws::{declared_once, innermost_counts};
+pub use laws::{
+    constants_fill_their_object, declared_once, innermost_counts, names_have_own_objects,
+};
 pub use layout::{Field, Form, Member, ScalarType, Structure};
 pub use modules::resolve;
 pub use names::{
