@@ -12,6 +12,7 @@ pub mod Procedures
 pub mod Kept
 pub mod BlockNames
 pub mod Objects
+pub mod Places
 pub mod Lying
 pub mod RangesNames
 pub mod RangesExpressions

@@ -1,5 +1,5 @@
 -- What is read step by step, said of the tree of a block.
-use Rattle.std.specs.Prelude.{◌≡◌, ℕ, suc, List, [], ◌∷◌, ◌++◌, map, length, sum_by, slice_get, Bool, true, false, not, Some, None, is_some}
+use Rattle.std.specs.Prelude.{◌≡◌, ℕ, suc, List, [], ◌∷◌, ◌++◌, map, length, sum_by, slice_get, Bool, true, false, cond, not, Some, None, is_some}
 use Rattle.std.specs.List.{list_all}
 use Rattle.word86.specs.declared.number.Number.TheVariants.{E302}
 use Rattle.plm_token.specs.Names.{normal}
@@ -44,6 +44,47 @@ StandsOutside =
     (path : List ℕ) (external : Bool) (outer : List Frame) (is : ItemsT) (k : Known) (name : List ℕ)
     → has_name name (names_of_items is) ≡ false
     → meant name (with_items (frame path external ∷ outer) is k).0 ≡ meant name outer
+
+-- ---- a place in blocks
+
+-- what stands before a place in its block: items, then elements of a DECLARE and names of an element; and what these are read with
+pub record Before : Type 0 where
+  pub path : List ℕ
+  pub external : Bool
+  pub items : ItemsT
+  pub elements : List ElementT
+  pub variables : List VariableT
+  pub traits : Traits
+  pub site : Site
+  pub known : Known
+  pub known_at_elements : Known
+  pub known_at_variables : Known
+
+abbrev pub names_before : Before → List NameT
+names_before b = names_of_items b.items ++ (names_of_elements b.elements ++ names_of_variables b.variables)
+
+-- the scope of a place, from what stands before it in its block and then in each block around
+abbrev pub scope_at : List Before → List Frame
+scope_at [] = []
+scope_at (b ∷ around) =
+    let behind_items = (with_items (frame b.path b.external ∷ scope_at around) b.items b.known).0 in
+    let behind_elements = (with_elements b.elements behind_items b.known_at_elements).0 in
+    (declared_variables b.variables b.traits b.site behind_elements b.known_at_variables).1
+
+-- the innermost of these blocks that declares a name before the place, with those around it
+abbrev pub declaring : List ℕ → List Before → List Before
+declaring name [] = []
+declaring name (b ∷ around) = cond (has_name name (names_before b)) (b ∷ around) (declaring name around)
+
+-- a name means what the innermost block that declares it before the place declares
+abbrev pub InnermostMeans : Type 0
+InnermostMeans = (name : List ℕ) (blocks : List Before) → meant name (scope_at blocks) ≡ found_here name (scope_at (declaring name blocks))
+
+-- and such a block has a declaration of it
+abbrev pub DeclaredIsFound : Type 0
+DeclaredIsFound =
+    (name : List ℕ) (b : Before) (around : List Before)
+    → has_name name (names_before b) ≡ true → is_some (found_here name (scope_at (b ∷ around))) ≡ true
 
 -- ---- objects
 

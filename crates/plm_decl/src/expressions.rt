@@ -49,7 +49,7 @@ impl Resolver {
     }
 
     #[cycle(expression)]
-    #[tactic(auto, using(crate::proofs::ResolvedRows::expression_row, plm_syntax::proofs::Rows::expression_row))]
+    #[tactic(auto, using(crate::proofs::ResolvedRows::expression_row, crate::proofs::SyntaxRows::expression_row))]
     pub fn expression(
         &mut self,
         e: &plm_syntax::Expression<'_>,
@@ -184,7 +184,7 @@ impl Resolver {
     }
 
     #[cycle(expression)]
-    #[tactic(auto, using(crate::proofs::ResolvedRows::expression_row, plm_syntax::proofs::Rows::expression_row, plm_syntax::proofs::Rows::value_row, crate::proofs::ListViews::value_list_from))]
+    #[tactic(auto, using(crate::proofs::ResolvedRows::expression_row, crate::proofs::SyntaxRows::expression_row, crate::proofs::SyntaxRows::value_row, crate::proofs::ListViews::value_list_from))]
     pub fn location(
         &mut self,
         location: &plm_syntax::Location<'_>,

@@ -1,6 +1,6 @@
 //! Laws that tie what is read step by step to the tree of a block. They compute nothing.
 
-ghost use Rattle.plm_decl.specs.Laws.{ConstantsFill, DeclaresOnce, HaveOwnObjects, StandsInside, StandsOutside};
+ghost use Rattle.plm_decl.specs.Laws.{ConstantsFill, DeclaredIsFound, DeclaresOnce, HaveOwnObjects, InnermostMeans, StandsInside, StandsOutside};
 
 /// The law of second declarations: after some items of a block, some elements of a DECLARE and some names of an element, the
 /// next name that is declared there is a fault (E302) exactly where one of those before it has its normal form.
@@ -9,10 +9,13 @@ pub fn declared_once()
 {}
 
 /// The law of scopes: after some items of a block a name stands for what the block declares, if one of them declares it, and
-/// else for what it stands for in the blocks around.
+/// else for what it stands for in the blocks around. So at any place in any blocks a name means what the innermost block that
+/// declares it before the place declares.
 pub fn innermost_counts()
     ensures inside { StandsInside }
     ensures outside { StandsOutside }
+    ensures means { InnermostMeans }
+    ensures found { DeclaredIsFound }
 {}
 
 /// The law of constant bytes: the object that `@( .. )` or `.( .. )` makes has as many bytes as its values fill.
