@@ -1,0 +1,103 @@
+-- Which of the processor's registers the instructions of an instruction can change. They are named by what they serve for; none
+-- changes any other register.
+use Rattle.std.specs.Prelude.{ℕ, Bool, true, false, ◌||◌, nat_eq, nat_le, if◌then◌else◌}
+use Rattle.word86.specs.declared.width.Width.{Width}
+use Rattle.word86.specs.declared.width.Width.TheVariants as widths
+use Rattle.word86.specs.declared.operation.BinaryOperation.{BinaryOperation}
+use Rattle.word86.specs.declared.operation.BinaryOperation.TheVariants as binary
+use Rattle.icode.specs.declared.instruction.Instruction.{Instruction}
+use Rattle.icode.specs.declared.instruction.Instruction.TheVariants as op
+use Rattle.icode.specs.declared.instruction.Test.{Test}
+use Rattle.icode.specs.declared.instruction.Test.TheVariants as test
+use Rattle.icode.specs.declared.registers.Registers.{Registers}
+
+abbrev pub none : Registers
+none = record { accumulator = false; right = false; high = false; address = false; frame = false }
+
+abbrev pub just_accumulator : Registers
+just_accumulator = record none { accumulator = true }
+
+abbrev pub just_right : Registers
+just_right = record none { right = true }
+
+abbrev pub just_high : Registers
+just_high = record none { high = true }
+
+abbrev pub just_address : Registers
+just_address = record none { address = true }
+
+-- either one's
+abbrev pub joined : Registers → Registers → Registers
+joined x y = record { accumulator = x.accumulator || y.accumulator; right = x.right || y.right; high = x.high || y.high; address = x.address || y.address; frame = x.frame || y.frame }
+
+-- an operator on the accumulator and the right operand: products and quotients have a high half
+abbrev pub of_operator : BinaryOperation → Registers
+of_operator binary.Multiply = record none { accumulator = true; right = true; high = true }
+of_operator binary.Divide = record none { accumulator = true; right = true; high = true }
+of_operator binary.Modulo = record none { accumulator = true; right = true; high = true }
+of_operator _ = record none { accumulator = true; right = true }
+
+-- these need no right operand where it is a constant or a word in memory
+abbrev pub is_direct : BinaryOperation → Bool
+is_direct binary.Add = true
+is_direct binary.Subtract = true
+is_direct binary.And = true
+is_direct binary.Or = true
+is_direct binary.ExclusiveOr = true
+is_direct _ = false
+
+abbrev pub of_direct : BinaryOperation → Registers
+of_direct o = if is_direct o then just_accumulator else of_operator o
+
+-- the right operand is read with this width
+abbrev pub of_read : Width → BinaryOperation → Registers
+of_read widths.Byte o = of_operator o
+of_read widths.Word o = of_direct o
+
+-- a port from 256 on does not stand in the instruction
+abbrev pub of_port : ℕ → Registers
+of_port port = if nat_le 256 port then just_high else none
+
+abbrev pub of_test : Test → Registers
+of_test test.Odd = none
+of_test (test.Constant o k) = none
+of_test (test.Plain o widths.Byte x) = just_right
+of_test (test.Plain o widths.Word x) = none
+of_test (test.Top o) = just_right
+
+abbrev pub of_drop : ℕ → Registers
+of_drop n = if nat_eq n 1 then just_right else none
+
+abbrev pub changes : Instruction → Registers
+changes (op.Constant k) = just_accumulator
+changes (op.Locate x) = just_accumulator
+changes (op.LocateAt x) = just_accumulator
+changes (op.Load width x) = just_accumulator
+changes (op.LoadAt width x) = record none { accumulator = true; address = true }
+changes (op.LoadThere width) = record none { accumulator = true; address = true }
+changes op.Push = none
+changes (op.Pick n) = record none { accumulator = true; frame = true }
+changes (op.Drop n) = of_drop n
+changes (op.Unary o width) = just_accumulator
+changes (op.Binary o width) = of_operator o
+changes (op.BinaryConstant o width k) = of_direct o
+changes (op.BinaryPlain o width read x) = of_read read o
+changes (op.Store width x) = none
+changes (op.StoreAt width x) = record none { accumulator = true; address = true }
+changes (op.StoreThere width) = record none { accumulator = true; address = true }
+changes (op.Send width) = record none { accumulator = true; high = true }
+changes (op.SendTo width port) = of_port port
+changes (op.Receive width) = record none { accumulator = true; high = true }
+changes (op.ReceiveFrom width port) = joined just_accumulator (of_port port)
+changes (op.Ahead n) = none
+changes (op.AheadUnless t n) = of_test t
+changes (op.Back n) = none
+changes (op.BackUnless t n) = of_test t
+changes (op.Switch n) = just_address
+changes (op.Case n) = none
+changes (op.Invoke q) = none
+changes op.Leave = none
+changes op.Enable = none
+changes op.Disable = none
+changes op.Halt = none
+changes op.Finish = none
