@@ -8,3 +8,4 @@ pub mod Bytes
 pub mod Taking
 pub mod Events
 pub mod Operators
+pub mod Places
