@@ -1,0 +1,7 @@
+use Rattle.std.proofs.Common.{◌≡◌, drop}
+use Rattle.word86.specs.Places.{bytes, held}
+use Rattle.icode.proofs.layout.Layout.held.Given as goal
+
+-- the object is among those that are left
+abbrev pub invariant-loop-k : goal.invariant-loop-k
+invariant-loop-k l = held 0 l.self.offsets.now l.self.sizes.now l.address (bytes l.width) ≡ held l.k (drop l.k l.self.offsets.now) (drop l.k l.self.sizes.now) l.address (bytes l.width)

@@ -1,0 +1,22 @@
+use Rattle.std.proofs.Common.{◌≡◌, ℕ, ap, sym, ◌∙◌, drop}
+use Rattle.icode.specs.Machine.{Context, At, run, address, found, stored, with_value, value_on_top}
+use Rattle.icode.specs.Shown.{words_of, access_in}
+use Rattle.icode.proofs.machine.Context.access.Goals as goal
+
+pub returns-in-StoreAt : goal.returns-in-StoreAt
+returns-in-StoreAt c all next =
+    let self = c.args.self.now in
+    let after : ℕ → Context = λ v. At self.position.routine next v (drop 1 (words_of self)) in
+    let layout = c.args.layout in
+    c.written_top.ensures after
+    ∙ ap (λ place. access_in (with_value (value_on_top (words_of self)) (λ v. stored c.in-StoreAt.width place v (after v)))) c.reached-in-StoreAt.ensures
+    ∙ sym (ap (λ i. access_in (run layout.offsets.now layout.sizes.now all i self.position.routine next self.accumulator (words_of self))) c.in-StoreAt.is)
+
+pub returns-in-StoreThere : goal.returns-in-StoreThere
+returns-in-StoreThere c all next =
+    let self = c.args.self.now in
+    let after : ℕ → Context = λ v. At self.position.routine next v (drop 1 (words_of self)) in
+    let layout = c.args.layout in
+    c.written_top-in-StoreThere.ensures after
+    ∙ ap (λ place. access_in (with_value (value_on_top (words_of self)) (λ v. stored c.in-StoreThere.width place v (after v)))) c.held-in-StoreThere.ensures
+    ∙ sym (ap (λ i. access_in (run layout.offsets.now layout.sizes.now all i self.position.routine next self.accumulator (words_of self))) c.in-StoreThere.is)

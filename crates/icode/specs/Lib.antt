@@ -1,0 +1,5 @@
+pub mod Code
+pub mod Machine
+pub mod Registers
+pub mod Shown
+pub mod Inner

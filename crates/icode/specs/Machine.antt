@@ -1,0 +1,161 @@
+-- What intermediate code means: a machine with an accumulator and a stack of words, as the 8086 has them. An instruction makes at
+-- most one access. What no compiled program does (an access outside the objects and the screen, a division by zero, a word of
+-- the wrong kind on top) is Bad.
+use Rattle.std.specs.Prelude.{ℕ, suc, ◌+◌, ◌-◌, ◌%◌, Bool, not, nat_eq, nat_lt, nat_le, if◌then◌else◌, List, [], ◌∷◌, drop, length, Option, Some, None, slice_get, slice_index}
+use Rattle.word86.specs.declared.width.Width.{Width}
+use Rattle.word86.specs.declared.operation.BinaryOperation.{BinaryOperation}
+use Rattle.word86.specs.declared.place.Place.{Place}
+use Rattle.word86.specs.declared.place.Place.TheVariants as place
+use Rattle.word86.specs.Access.{Access, Read, Write, Input, Output, Where}
+use Rattle.word86.specs.Access as access
+use Rattle.word86.specs.Action.{Action, Silent, Touch, Enable, Disable, Halt, Over, Bad}
+use Rattle.word86.specs.Arithmetic.{low}
+use Rattle.word86.specs.Operators.{unary_value, binary_value}
+use Rattle.word86.specs.Places.{bytes, covers, held, screen_begins, screen_size}
+use Rattle.icode.specs.declared.instruction.Instruction.{Instruction}
+use Rattle.icode.specs.declared.instruction.Instruction.TheVariants as op
+use Rattle.icode.specs.declared.instruction.Relation.{Relation}
+use Rattle.icode.specs.declared.instruction.Relation.TheVariants as relation
+use Rattle.icode.specs.declared.instruction.Test.{Test}
+use Rattle.icode.specs.declared.instruction.Test.TheVariants as test
+use Rattle.icode.specs.declared.code.Routine.{Routine}
+use Rattle.icode.specs.declared.code.Routine.TheVariants.{Procedure, Nowhere}
+use Rattle.icode.specs.declared.code.Position.{Position}
+use Rattle.icode.specs.declared.code.Word.{Word}
+use Rattle.icode.specs.declared.code.Word.TheVariants.{Value, Return}
+
+-- a context: the place of its next instruction, the accumulator, and the words that it pushed, the newest first
+pub data Context : Type 0 where
+  At : Routine → (index accumulator : ℕ) → (words : List Word) → Context
+
+abbrev pub is_odd : ℕ → Bool
+is_odd v = nat_eq (v % 2) 1
+
+abbrev pub stands : Relation → ℕ → ℕ → Bool
+stands relation.Equal x y = nat_eq x y
+stands relation.NotEqual x y = not (nat_eq x y)
+stands relation.Less x y = nat_lt x y
+stands relation.LessEqual x y = nat_le x y
+stands relation.Greater x y = nat_lt y x
+stands relation.GreaterEqual x y = nat_le y x
+
+-- ---- what needs a value, a word of the right kind, or a place
+
+abbrev pub operated : Option ℕ → (ℕ → Context) → Action Access Context
+operated (Some v) k = Silent (k v)
+operated None k = Bad 0 0
+
+-- the quotient by what was read; nothing goes on where that is zero
+abbrev pub computed : Option ℕ → Routine → (next : ℕ) → List Word → Context
+computed (Some x) r p ws = At r p x ws
+computed None r p ws = At Nowhere 0 0 ws
+
+abbrev pub value_in : Option Word → Option ℕ
+value_in (Some (Value v)) = Some v
+value_in (Some (Return p)) = None
+value_in None = None
+
+-- the word on top, if it is a value; if it is where a call goes on
+abbrev pub value_on_top : List Word → Option ℕ
+value_on_top (Value v ∷ ws) = Some v
+value_on_top (Return p ∷ ws) = None
+value_on_top [] = None
+
+abbrev pub return_on_top : List Word → Option Position
+return_on_top (Return p ∷ ws) = Some p
+return_on_top (Value v ∷ ws) = None
+return_on_top [] = None
+
+abbrev pub with_value : Option ℕ → (ℕ → Action Access Context) → Action Access Context
+with_value (Some v) k = k v
+with_value None k = Bad 0 0
+
+abbrev pub loaded : Width → Option Where → (ℕ → Context) → Action Access Context
+loaded width (Some x) k = Touch (Read width x) k
+loaded width None k = Bad 0 0
+
+abbrev pub stored : Width → Option Where → ℕ → Context → Action Access Context
+stored width (Some x) v c = Touch (Write width x (low width v)) (λ _. c)
+stored width None v c = Bad 0 0
+
+abbrev pub left : Option Position → ℕ → List Word → Action Access Context
+left (Some p) a ws = Silent (At p.routine p.index a ws)
+left None a ws = Bad 0 0
+
+-- a context without its newest words, if it has so many
+abbrev pub dropped : (n : ℕ) → Routine → (next accumulator : ℕ) → List Word → Action Access Context
+dropped n r p a ws = if nat_le n (length ws) then Silent (At r p a (drop n ws)) else Bad 0 0
+
+abbrev pub finished : List Word → Action Access Context
+finished [] = Over
+finished (w ∷ ws) = Bad 0 0
+
+-- on at a case, if there is one
+abbrev pub switched : Option Instruction → Routine → (behind accumulator : ℕ) → List Word → Action Access Context
+switched (Some (op.Case k)) r p a ws = Silent (At r (p + k) a ws)
+switched _ r p a ws = Bad 0 0
+
+-- the objects' offsets and sizes
+module _ (offsets sizes : List ℕ) where
+  -- the address so many bytes behind a place
+  abbrev pub address : Place → ℕ → ℕ
+  address (place.Ram k i) more = (slice_index offsets k + i + more) % 65536
+  address (place.Screen i) more = (screen_begins + i + more) % 65536
+
+  -- what lies at an address in the segment of a place
+  abbrev pub found : Width → Place → ℕ → Option Where
+  found width (place.Ram k i) a = held 0 offsets sizes a (bytes width)
+  found width (place.Screen i) a = if covers screen_begins screen_size a (bytes width) then Some (access.Screen (a - screen_begins)) else None
+
+  -- a jump to q unless the test holds, else on at p
+  abbrev pub jumped : Test → Routine → (p q accumulator : ℕ) → List Word → Action Access Context
+  jumped test.Odd r p q a ws = Silent (At r (if is_odd a then p else q) a ws)
+  jumped (test.Constant o k) r p q a ws = Silent (At r (if stands o a k then p else q) a ws)
+  jumped (test.Plain o read x) r p q a ws = loaded read (found read x (address x 0)) (λ v. At r (if stands o a v then p else q) a ws)
+  jumped (test.Top o) r p q a ws = with_value (value_on_top ws) (λ v. Silent (At r (if stands o v a then p else q) a (drop 1 ws)))
+
+  -- an instruction among those of its routine; the index of the instruction behind it; the accumulator; the words
+  module _ (all : List Instruction) where
+    abbrev pub run : Instruction → Routine → (next accumulator : ℕ) → List Word → Action Access Context
+    run (op.Constant k) r p a ws = Silent (At r p k ws)
+    run (op.Locate x) r p a ws = Silent (At r p (address x 0) ws)
+    run (op.LocateAt x) r p a ws = Silent (At r p (address x a) ws)
+    run (op.Load width x) r p a ws = loaded width (found width x (address x 0)) (λ v. At r p v ws)
+    run (op.LoadAt width x) r p a ws = loaded width (found width x (address x a)) (λ v. At r p v ws)
+    run (op.LoadThere width) r p a ws = loaded width (held 0 offsets sizes a (bytes width)) (λ v. At r p v ws)
+    run op.Push r p a ws = Silent (At r p a (Value a ∷ ws))
+    run (op.Pick n) r p a ws = with_value (value_in (slice_get ws n)) (λ v. Silent (At r p v ws))
+    run (op.Drop n) r p a ws = dropped n r p a ws
+    run (op.Unary o width) r p a ws = Silent (At r p (unary_value o width a) ws)
+    run (op.Binary o width) r p a ws = with_value (value_on_top ws) (λ v. operated (binary_value o width v a) (λ x. At r p x (drop 1 ws)))
+    run (op.BinaryConstant o width k) r p a ws = operated (binary_value o width a k) (λ x. At r p x ws)
+    run (op.BinaryPlain o width read x) r p a ws = loaded read (found read x (address x 0)) (λ v. computed (binary_value o width a v) r p ws)
+    run (op.Store width x) r p a ws = stored width (found width x (address x 0)) a (At r p a ws)
+    run (op.StoreAt width x) r p a ws = with_value (value_on_top ws) (λ v. stored width (found width x (address x a)) v (At r p v (drop 1 ws)))
+    run (op.StoreThere width) r p a ws = with_value (value_on_top ws) (λ v. stored width (held 0 offsets sizes a (bytes width)) v (At r p v (drop 1 ws)))
+    run (op.Send width) r p a ws = with_value (value_on_top ws) (λ v. Touch (Output width a (low width v)) (λ _. At r p v (drop 1 ws)))
+    run (op.SendTo width port) r p a ws = Touch (Output width port (low width a)) (λ _. At r p a ws)
+    run (op.Receive width) r p a ws = Touch (Input width a) (λ v. At r p v ws)
+    run (op.ReceiveFrom width port) r p a ws = Touch (Input width port) (λ v. At r p v ws)
+    run (op.Ahead n) r p a ws = Silent (At r (p + n) a ws)
+    run (op.AheadUnless t n) r p a ws = jumped t r p (p + n) a ws
+    run (op.Back n) r p a ws = Silent (At r (p - n) a ws)
+    run (op.BackUnless t n) r p a ws = jumped t r p (p - n) a ws
+    run (op.Switch n) r p a ws = if nat_lt a n then switched (slice_get all (p + a)) r (p + suc a) a ws else Silent (At r (p + n) a ws)
+    run (op.Case n) r p a ws = Bad 0 0
+    run (op.Invoke q) r p a ws = Silent (At (Procedure q) 0 a (Return (record { routine = r; index = p }) ∷ ws))
+    run op.Leave r p a ws = left (return_on_top ws) a (drop 1 ws)
+    run op.Enable r p a ws = Enable (At r p a ws)
+    run op.Disable r p a ws = Disable (At r p a ws)
+    run op.Halt r p a ws = Halt (At r p a ws)
+    run op.Finish r p a ws = finished ws
+
+    abbrev pub run_at : Option Instruction → Routine → (next accumulator : ℕ) → List Word → Action Access Context
+    run_at (Some i) r p a ws = run i r p a ws
+    run_at None r p a ws = Bad 0 0
+
+  -- the instructions of each routine
+  module _ (code : Routine → List Instruction) where
+    -- what a context does next
+    abbrev pub does : Context → Action Access Context
+    does (At r p a ws) = run_at (code r) (slice_get (code r) p) r (p + 1) a ws

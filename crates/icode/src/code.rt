@@ -1,0 +1,95 @@
+//! Code, and the places in it.
+
+ghost use Rattle.std.specs.Prelude.{◌≡◌, position};
+ghost use Rattle.icode.specs.Code.{code_of, is_number, serving};
+
+use crate::instruction::Instruction;
+
+/// Whose instructions: main's; those of a procedure by its number; those for a vector without a procedure, which are used up at
+/// once. A division by zero leads to one without instructions, where nothing goes on.
+#[derive(Debug, Clone, Copy, PartialEq, Eq)]
+pub enum Routine {
+    Main,
+    Procedure(usize),
+    Unserved,
+    Nowhere,
+}
+
+/// An instruction's place: its index among those of a routine.
+#[derive(Debug, Clone, Copy, PartialEq, Eq)]
+pub struct Position {
+    pub routine: Routine,
+    pub index: usize,
+}
+
+/// A word on the stack: a value, or where a call goes on.
+#[derive(Debug, Clone, Copy, PartialEq, Eq)]
+pub enum Word {
+    Value(u16),
+    Return(Position),
+}
+
+/// A procedure of the module with this number, from 0; an interrupt procedure has its vector.
+#[derive(Drop)]
+pub struct Procedure {
+    pub module: usize,
+    pub vector: Option<u8>,
+    pub instructions: Vec<Instruction>,
+}
+
+/// A program's code: one section for each module, in which its procedures stand, and main if it is the main module.
+#[derive(Drop)]
+pub struct Code {
+    pub sections: usize,
+    pub main_module: usize,
+    pub main: Vec<Instruction>,
+    pub procedures: Vec<Procedure>,
+}
+
+impl Code {
+    /// The instructions of a routine: none of a procedure that there is not.
+    pub fn instructions(&self, routine: Routine) -> &[Instruction]
+        ensures { result.now ≡ code_of self.now routine }
+    {
+        match routine {
+            Routine::Main => self.main.as_slice(),
+            Routine::Procedure(number) => match self.procedures.get(number) {
+                None => &[],
+                Some(procedure) => procedure.instructions.as_slice(),
+            },
+            Routine::Unserved => &[Instruction::Finish],
+            Routine::Nowhere => &[],
+        }
+    }
+
+    // The number of the first procedure with a vector.
+    fn number_serving(&self, vector: u8) -> Option<usize>
+        ensures { result ≡ position (λ p. is_number p.vector vector) self.now.procedures.items }
+    {
+        self.procedures
+            .iter()
+            .position(|procedure| procedure.serves(vector))
+    }
+
+    /// The routine that serves a vector: the first procedure with it, else the one for vectors without a procedure.
+    pub fn serving(&self, vector: u8) -> Routine
+        ensures { result ≡ serving self.now vector }
+    {
+        match self.number_serving(vector) {
+            None => Routine::Unserved,
+            Some(number) => Routine::Procedure(number),
+        }
+    }
+}
+
+impl Procedure {
+    // Whether it is the interrupt procedure of a vector.
+    fn serves(&self, vector: u8) -> bool
+        ensures { result ≡ is_number self.now.vector vector }
+    {
+        match self.vector {
+            None => false,
+            Some(number) => number == vector,
+        }
+    }
+}

@@ -1,0 +1,87 @@
+//! The instructions.
+
+use word86::{BinaryOperation, Place, UnaryOperation, Width};
+
+/// A relation between two whole numbers.
+#[derive(Debug, Clone, Copy, PartialEq, Eq)]
+pub enum Relation {
+    Equal,
+    NotEqual,
+    Less,
+    LessEqual,
+    Greater,
+    GreaterEqual,
+}
+
+/// What a conditional jump asks.
+#[derive(Debug, Clone, Copy, PartialEq, Eq)]
+pub enum Test {
+    /// Whether the accumulator is odd.
+    Odd,
+    /// Whether the accumulator stands in a relation to a constant.
+    Constant(Relation, u16),
+    /// Whether it stands in a relation to what is read with this width at a place.
+    Plain(Relation, Width, Place),
+    /// Whether the value on top, which goes, stands in a relation to the accumulator.
+    Top(Relation),
+}
+
+/// An instruction. Values of 8 bits stand in the accumulator and on the stack with a high byte of 0. An address is an offset in
+/// the segment of the RAM objects or, for a `Place` on the screen, in the screen's.
+#[derive(Debug, Clone, Copy, PartialEq, Eq)]
+pub enum Instruction {
+    /// The accumulator gets a value.
+    Constant(u16),
+    /// It gets the address of a place.
+    Locate(Place),
+    /// It gets the address so many bytes behind a place as it says.
+    LocateAt(Place),
+    /// It gets what is read at a place; so many bytes behind a place as it says; at the address in it.
+    Load(Width, Place),
+    LoadAt(Width, Place),
+    LoadThere(Width),
+    /// The accumulator is pushed.
+    Push,
+    /// The accumulator gets the value that so many words lie above, which stays.
+    Pick(usize),
+    /// So many words go from the top.
+    Drop(usize),
+    /// An operator on the accumulator.
+    Unary(UnaryOperation, Width),
+    /// An operator on the value on top, which goes, and the accumulator; on the accumulator and a constant; on it and what is
+    /// read with the second width at a place.
+    Binary(BinaryOperation, Width),
+    BinaryConstant(BinaryOperation, Width, u16),
+    BinaryPlain(BinaryOperation, Width, Width, Place),
+    /// The accumulator is written at a place, and stays as it is.
+    Store(Width, Place),
+    /// The value on top, which goes, is written, so many bytes behind a place as the accumulator says, or at the address in it;
+    /// the accumulator gets the value.
+    StoreAt(Width, Place),
+    StoreThere(Width),
+    /// The value on top, which goes, is written to the port in the accumulator, which gets the value; the accumulator, which stays
+    /// as it is, to a port.
+    Send(Width),
+    SendTo(Width, u16),
+    /// The accumulator gets what is read from the port in it; from a port.
+    Receive(Width),
+    ReceiveFrom(Width, u16),
+    /// On over so many instructions of the same routine; there unless a test holds.
+    Ahead(usize),
+    AheadUnless(Test, usize),
+    /// Back over so many, this one among them; there unless a test holds.
+    Back(usize),
+    BackUnless(Test, usize),
+    /// On by the one of so many cases that follow which the accumulator counts from 0, or behind them all.
+    Switch(usize),
+    /// A case of a `Switch`: on from it over so many instructions. It is no instruction of its own.
+    Case(usize),
+    /// A procedure is called, by its number; it leaves for where it was called.
+    Invoke(usize),
+    Leave,
+    Enable,
+    Disable,
+    Halt,
+    /// An interrupt procedure is used up.
+    Finish,
+}

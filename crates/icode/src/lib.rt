@@ -1,0 +1,14 @@
+//! The intermediate code: instructions of a machine with an accumulator and a stack of words, each with at most one access.
+#![tactic(auto)]
+
+mod code;
+mod instruction;
+mod layout;
+mod machine;
+mod registers;
+
+pub use code::{Code, Position, Procedure, Routine, Word};
+pub use instruction::{Instruction, Relation, Test};
+pub use layout::Layout;
+pub use machine::{Machine, Step, Stop};
+pub use registers::Registers;
