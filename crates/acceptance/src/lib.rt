@@ -13,6 +13,8 @@ mod flags;
 #[cfg(test)]
 mod interrupt_controller;
 #[cfg(test)]
+mod interrupt_procedures;
+#[cfg(test)]
 mod literals;
 #[cfg(test)]
 mod meaning;

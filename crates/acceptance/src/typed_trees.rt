@@ -138,7 +138,7 @@ fn trees_show_places(rt: HostRuntime) {
 fn handlers(rt: HostRuntime) {
     let alloc = rt.alloc();
     let text: &[u8] =
-        b"M: DO; H: PROCEDURE INTERRUPT 8; HALT; ; END H; K: PROCEDURE INTERRUPT 255; RETURN; END K; ; END M;";
+        b"M: DO; H: PROCEDURE INTERRUPT 8; DISABLE; ; END H; K: PROCEDURE INTERRUPT 255; RETURN; END K; ; END M;";
     let Ok(program) = program_of(alloc, text) else {
         panic!(rt; "it is typed");
     };

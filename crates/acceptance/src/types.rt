@@ -9,11 +9,11 @@ use std::process::Abort;
 use word86::{Fault, Number};
 
 /// How a program is typed: fine, or the module, the line and the fault.
-type Outcome = Option<(u32, u32, Number)>;
+pub(crate) type Outcome = Option<(u32, u32, Number)>;
 
 const NO_MEMORY: Outcome = Some((99, 99, Number::E201));
 
-fn outcome(checked: Result<Program, Fault>) -> Outcome {
+pub(crate) fn outcome(checked: Result<Program, Fault>) -> Outcome {
     match checked {
         Ok(_) => None,
         Err(Fault::At(module, line, number)) => Some((module, line, number)),
@@ -27,13 +27,13 @@ pub(crate) fn program_of(alloc: Global, text: &[u8]) -> Result<Program, Fault> {
     check(alloc, resolve(alloc, &[tree])?)
 }
 
-fn program_of_two(alloc: Global, first: &[u8], second: &[u8]) -> Result<Program, Fault> {
+pub(crate) fn program_of_two(alloc: Global, first: &[u8], second: &[u8]) -> Result<Program, Fault> {
     let tree = parse(alloc, scan(alloc, first)?)?;
     let other = parse(alloc, scan(alloc, second)?)?;
     check(alloc, resolve(alloc, &[tree, other])?)
 }
 
-const fn at(line: u32, number: Number) -> Outcome {
+pub(crate) const fn at(line: u32, number: Number) -> Outcome {
     Some((0, line, number))
 }
 

@@ -23,7 +23,7 @@ leads_none : (g : Graph) (n q : ℕ) → LeadsBy g n [] q → ⊥
 leads_none g zero q c = omega (arith, c.1)
 leads_none g (suc n) q c = let h = c.1 in omega (arith, h.1)
 
-none_false : (n k : ℕ) → IsMarked (replicate n false) k → ⊥
+pub none_false : (n k : ℕ) → IsMarked (replicate n false) k → ⊥
 none_false zero k h = true≢false (sym h)
 none_false (suc n) zero h = true≢false (sym h)
 none_false (suc n) (suc k) h = none_false n k h

@@ -7,3 +7,5 @@ pub mod Marking
 pub mod Exploring
 pub mod MarkedTwice
 pub mod Ordering
+pub mod Faultless
+pub mod MarkedLists

@@ -77,7 +77,7 @@ count_less (x ∷ xs) (y ∷ ys) long h (suc j) m n =
     let others = count_less xs ys (omega (arith, long)) (λ k. h (suc k)) j m n in
     omega (arith, first, others, count_cons x xs, count_cons y ys)
 
-marked_within : (marks : List Bool) (k : ℕ) → IsMarked marks k → k < length marks
+pub marked_within : (marks : List Bool) (k : ℕ) → IsMarked marks k → k < length marks
 marked_within [] k m = absurd (true≢false (sym m))
 marked_within (x ∷ xs) zero m = omega arith
 marked_within (x ∷ xs) (suc k) m = let h = marked_within xs k m in omega (arith, h)

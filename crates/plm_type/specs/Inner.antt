@@ -1,6 +1,8 @@
 pub mod Calls
 pub mod Chains
 pub mod Checked
+pub mod Effects
+pub mod Interrupts
 pub mod Order
 pub mod Reach
 pub mod Sets

@@ -12,6 +12,8 @@ pub mod Programs
 pub mod Reach
 pub mod Order
 pub mod Calls
+pub mod Effects
+pub mod Interrupts
 pub mod Checked
 pub mod Sharing
 pub mod Inner

@@ -5,7 +5,8 @@ ghost use Rattle.plm_decl.specs.Names.{procedure_of};
 ghost use Rattle.plm_decl.specs.Statements as declared;
 ghost use Rattle.plm_type.specs.Inner.Sets.{Statements-set, Procedures-set};
 ghost use Rattle.plm_type.specs.Inner.Checked.{body_at};
-ghost use Rattle.plm_type.specs.Programs.{faults, main_tree, handler_tree, procedures_of};
+ghost use Rattle.plm_type.specs.Programs.{faults, declared_procedures, main_tree, handler_tree, procedures_of};
+ghost use Rattle.plm_type.specs.Interrupts.{LetsIn, IsMisused};
 ghost use Rattle.plm_type.specs.Reach.{row_of};
 ghost use Rattle.plm_type.specs.Order.{place_in};
 ghost use Rattle.plm_type.specs.Calls.{graph_of, IsRecursive};
@@ -28,6 +29,9 @@ pub struct Program {
     ghost procedures_are: { view.procedures_of procedures.items ≡ procedures_of names } by { Procedures-set (view.procedures_of procedures.items) (procedures_of names) },
     // The names have no fault of types.
     ghost no_fault: { faults names ≡ [] },
+    // No interrupt procedure reaches ENABLE or HALT, and none is called, typed or with parameters.
+    ghost lets_nothing_in: { (p : ℕ) → ¬ LetsIn (declared_procedures names) p },
+    ghost none_misused: { (p : ℕ) → ¬ IsMisused names p },
     // No procedure reaches itself.
     ghost no_recursion: { (p : ℕ) → ¬ IsRecursive (procedures_of names) p },
     // Each procedure stands in the order once, after those that it calls.

@@ -8,6 +8,7 @@ ghost use Rattle.plm_type.specs.View.{procedures_of};
 
 use crate::calls::call_graph;
 use crate::checked::Program;
+use crate::interrupts::interrupt_faults;
 use crate::order::by_level;
 use crate::program::Procedure;
 use crate::reach::levels_or_cycle;
@@ -44,7 +45,7 @@ fn order_of(
 }
 
 /// The program that these names declare, with the types of all expressions; or the least fault by module, token and
-/// number: E401 to E403, and E404, of the whole program, after the others. Want of memory is answered only where a
+/// number: E401 to E403, E405 and E406, and E404, of the whole program, after the others. Want of memory is answered only where a
 /// growth was refused.
 pub fn check(alloc: Global, names: Names) -> Result<Program, Fault>
     ensures typed { IfOk result (λ program. spec.AreTyped program names) }
@@ -59,6 +60,7 @@ pub fn check(alloc: Global, names: Names) -> Result<Program, Fault>
     typer.locations(&mut faults)?;
     let procedures = typer.procedures(&mut faults)?;
     let main = typer.main(&mut faults)?;
+    interrupt_faults(alloc, &names, &mut faults)?;
     if let Some(found) = least(&faults) {
         return Err(found.fault());
     }

@@ -47,7 +47,7 @@ fn mark_one(
 }
 
 /// Marks each of these, and puts those that were not marked on the list.
-fn mark(marks: &mut Vec<bool>, work: &mut Vec<usize>, next: &[usize]) -> Result<(), AllocError>
+pub fn mark(marks: &mut Vec<bool>, work: &mut Vec<usize>, next: &[usize]) -> Result<(), AllocError>
     ensures { OnOk result (Marks marks.old.items marks.new.items work.old.items work.new.items next.now) }
 {
     for procedure in next {

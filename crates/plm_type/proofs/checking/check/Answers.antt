@@ -10,6 +10,9 @@ use Rattle.std.specs.Global.{Vec}
 use Rattle.plm_type.specs.Order.{IsOrder}
 use Rattle.plm_type.specs.Calls.{graph_of, IsRecursive}
 use Rattle.plm_type.specs.Checked as spec
+use Rattle.plm_type.specs.Interrupts.{AreInterruptFaults}
+use Rattle.plm_type.specs.Programs.{faults}
+use Rattle.plm_type.proofs.Faultless.{none_of_both, lets_nothing_in, none_misused}
 use Rattle.plm_type.specs.View as view
 use Rattle.plm_type.proofs.checking.check.Goals as goal
 
@@ -27,11 +30,13 @@ returns-in-Some-clause-refused c =
     let l = statements.of_locations vs ps (map declared_location_of names.locations.items) in
     let p = statements.of_procedures vs ps ps in
     let m = statements.of_main vs ps (main_of names.main) in
-    let all = c.deref.ensures.value ∙ c.in_ok-main.ensures.faults
+    let extra = c.in_ok-interrupt_faults.ensures in
+    let typed = c.in_ok-main.ensures.faults
     ∙ ap (λ (x : List Found). x ++ m) (c.in_ok-procedures.ensures.faults ∙ ap (λ (x : List Found). x ++ p) (c.in_ok-locations.ensures ∙ ap (λ (x : List Found). x ++ l) c.new-faults.ensures.items))
     ∙ append_assoc l p m in
+    let all : c.deref.result.now ≡ faults names ++ extra.0 = c.deref.ensures.value ∙ extra.2 ∙ ap (λ (x : List Found). x ++ extra.0) typed in
     subst (λ (f : Fault). spec.IsRefusal f names) (sym c.fault.ensures)
-    (c.in-Some.found, inl (subst (λ (fs : List Found). IsLeast fs c.in-Some.found) all (subst (λ (o : Option Found). IfSome o (λ f. IsLeast c.deref.result.now f)) c.in-Some.is c.least.ensures.found)), refl)
+    (extra.0, extra.1, (c.in-Some.found, inl (subst (λ (fs : List Found). IsLeast fs c.in-Some.found) all (subst (λ (o : Option Found). IfSome o (λ f. IsLeast c.deref.result.now f)) c.in-Some.is c.least.ensures.found)), refl))
 
 pub returns-in-Err-clause-refused : goal.returns-in-Err-clause-refused
 returns-in-Err-clause-refused c =
@@ -41,14 +46,16 @@ returns-in-Err-clause-refused c =
     let l = statements.of_locations vs ps (map declared_location_of names.locations.items) in
     let p = statements.of_procedures vs ps ps in
     let m = statements.of_main vs ps (main_of names.main) in
-    let all = c.deref.ensures.value ∙ c.in_ok-main.ensures.faults
+    let extra = c.in_ok-interrupt_faults.ensures in
+    let typed = c.in_ok-main.ensures.faults
     ∙ ap (λ (x : List Found). x ++ m) (c.in_ok-procedures.ensures.faults ∙ ap (λ (x : List Found). x ++ p) (c.in_ok-locations.ensures ∙ ap (λ (x : List Found). x ++ l) c.new-faults.ensures.items))
     ∙ append_assoc l p m in
+    let all : c.deref.result.now ≡ faults names ++ extra.0 = c.deref.ensures.value ∙ extra.2 ∙ ap (λ (x : List Found). x ++ extra.0) typed in
     let made = ap (map view.procedure_of) c.deref-2.ensures.value ∙ c.in_ok-procedures.ensures.tree in
     let none = sym all ∙ subst (λ (o : Option Found). IfNone o (c.deref.result.now ≡ [])) c.in_default.is c.least.ensures.none in
     let cycle = subst (λ (r : Result (Vec ℕ) Found). IfErr r (λ f. spec.IsRecursion (map view.procedure_of c.deref-2.result.now) names f)) c.in-Err.is c.in_ok-order.ensures.cycle in
     subst (λ (f : Fault). spec.IsRefusal f names) (sym c.fault-in-Err.ensures)
-    (c.in-Err.found, inr (none, subst (λ (qs : List Procedure). spec.IsRecursion qs names c.in-Err.found) made cycle), refl)
+    (extra.0, extra.1, (c.in-Err.found, inr (none, subst (λ (qs : List Procedure). spec.IsRecursion qs names c.in-Err.found) made cycle), refl))
 
 pub invariant_of-result : goal.invariant_of-result
 invariant_of-result c =
@@ -58,16 +65,22 @@ invariant_of-result c =
     let l = statements.of_locations vs ps (map declared_location_of names.locations.items) in
     let p = statements.of_procedures vs ps ps in
     let m = statements.of_main vs ps (main_of names.main) in
-    let all = c.deref.ensures.value ∙ c.in_ok-main.ensures.faults
+    let extra = c.in_ok-interrupt_faults.ensures in
+    let typed = c.in_ok-main.ensures.faults
     ∙ ap (λ (x : List Found). x ++ m) (c.in_ok-procedures.ensures.faults ∙ ap (λ (x : List Found). x ++ p) (c.in_ok-locations.ensures ∙ ap (λ (x : List Found). x ++ l) c.new-faults.ensures.items))
     ∙ append_assoc l p m in
+    let all : c.deref.result.now ≡ faults names ++ extra.0 = c.deref.ensures.value ∙ extra.2 ∙ ap (λ (x : List Found). x ++ extra.0) typed in
+    let parts = none_of_both (faults names) extra.0 (sym all ∙ subst (λ (o : Option Found). IfNone o (c.deref.result.now ≡ [])) c.in_default.is c.least.ensures.none) in
+    let none = subst (AreInterruptFaults names) parts.1 extra.1 in
     let made = ap (map view.procedure_of) c.deref-2.ensures.value ∙ c.in_ok-procedures.ensures.tree in
     let order = subst (λ (qs : List Procedure). IsOrder c.in-Ok.order.items (graph_of qs)) made
     (subst (λ (r : Result (Vec ℕ) Found). IfOk r (λ o. IsOrder o.items (graph_of (map view.procedure_of c.deref-2.result.now)))) c.in-Ok.is c.in_ok-order.ensures.order) in
     record {
       main_is = c.in_ok-main.ensures.tree;
       procedures_are = c.in_ok-procedures.ensures.tree;
-      no_fault = sym all ∙ subst (λ (o : Option Found). IfNone o (c.deref.result.now ≡ [])) c.in_default.is c.least.ensures.none;
+      no_fault = parts.0;
+      lets_nothing_in = lets_nothing_in names none;
+      none_misused = none_misused names none;
       no_recursion = subst (λ (qs : List Procedure). (q : ℕ) → ¬ IsRecursive qs q) made
           (subst (λ (r : Result (Vec ℕ) Found). IfOk r (λ o. (q : ℕ) → ¬ IsRecursive (map view.procedure_of c.deref-2.result.now) q)) c.in-Ok.is c.in_ok-order.ensures.none);
       only = order.only;
@@ -84,15 +97,21 @@ returns-in-Ok-clause-typed c =
     let l = statements.of_locations vs ps (map declared_location_of names.locations.items) in
     let p = statements.of_procedures vs ps ps in
     let m = statements.of_main vs ps (main_of names.main) in
-    let all = c.deref.ensures.value ∙ c.in_ok-main.ensures.faults
+    let extra = c.in_ok-interrupt_faults.ensures in
+    let typed = c.in_ok-main.ensures.faults
     ∙ ap (λ (x : List Found). x ++ m) (c.in_ok-procedures.ensures.faults ∙ ap (λ (x : List Found). x ++ p) (c.in_ok-locations.ensures ∙ ap (λ (x : List Found). x ++ l) c.new-faults.ensures.items))
     ∙ append_assoc l p m in
+    let all : c.deref.result.now ≡ faults names ++ extra.0 = c.deref.ensures.value ∙ extra.2 ∙ ap (λ (x : List Found). x ++ extra.0) typed in
+    let parts = none_of_both (faults names) extra.0 (sym all ∙ subst (λ (o : Option Found). IfNone o (c.deref.result.now ≡ [])) c.in_default.is c.least.ensures.none) in
+    let none = subst (AreInterruptFaults names) parts.1 extra.1 in
     let made = ap (map view.procedure_of) c.deref-2.ensures.value ∙ c.in_ok-procedures.ensures.tree in
     record {
       kept = refl;
       main = c.in_ok-main.ensures.tree;
       procedures = c.in_ok-procedures.ensures.tree;
-      no_fault = sym all ∙ subst (λ (o : Option Found). IfNone o (c.deref.result.now ≡ [])) c.in_default.is c.least.ensures.none;
+      no_fault = parts.0;
+      lets_nothing_in = lets_nothing_in names none;
+      none_misused = none_misused names none;
       no_recursion = subst (λ (qs : List Procedure). (q : ℕ) → ¬ IsRecursive qs q) made
           (subst (λ (r : Result (Vec ℕ) Found). IfOk r (λ o. (q : ℕ) → ¬ IsRecursive (map view.procedure_of c.deref-2.result.now) q)) c.in-Ok.is c.in_ok-order.ensures.none);
       order = subst (λ (qs : List Procedure). IsOrder c.in-Ok.order.items (graph_of qs)) made
