@@ -135,7 +135,7 @@ module _ (texts : List (List ℕ)) (size : RomSize) (names : Names) where
   untyped_refused are (At which line number) said = untyped names are said
 
   are_typed : (p : typed.Program) → AreDeclared texts names → types.AreTyped p names → AreTyped texts names
-  are_typed p are said = record { modules = are; no_fault = said.no_fault; no_recursion = said.no_recursion }
+  are_typed p are said = record { modules = are; no_fault = said.no_fault; lets_nothing_in = said.lets_nothing_in; none_misused = said.none_misused; no_recursion = said.no_recursion }
 
   pub program_typed : (p : typed.Program) → AreDeclared texts names → types.AreTyped p names → AreTyped texts p.names
   program_typed p are said = subst (λ n. AreTyped texts n) (sym said.kept) (are_typed p are said)

@@ -19,7 +19,8 @@ use Rattle.plm_decl.specs.Placement.{IsPlacement, sizes_of}
 use Rattle.plm_type.specs.Calls.{IsRecursive}
 use Rattle.plm_type.specs.Checked.{IsRefusal as IsRefusedFor}
 use Rattle.plm_type.specs.Next.{next}
-use Rattle.plm_type.specs.Programs.{faults as type_faults, main_rest, handler_rest, procedures_of}
+use Rattle.plm_type.specs.Interrupts.{LetsIn, IsMisused}
+use Rattle.plm_type.specs.Programs.{faults as type_faults, declared_procedures, main_rest, handler_rest, procedures_of}
 use Rattle.plm_type.specs.Rest.{Rest}
 use Rattle.plm_meaning.specs.Opening.{first_store}
 use Rattle.ppi_kbd.specs.Chips.{reset}
@@ -110,10 +111,13 @@ pub record AreDeclared (texts : List (List ℕ)) (names : Names) : Type 0 where
   pub modules : AreModules texts trees
   pub declared : AreNames names trees
 
--- nor is there a fault of types, and no procedure reaches itself
+-- nor is there a fault of types; no interrupt procedure reaches ENABLE or HALT, and none is called, typed or with parameters; and no
+-- procedure reaches itself
 pub record AreTyped (texts : List (List ℕ)) (names : Names) : Type 0 where
   pub modules : AreDeclared texts names
   pub no_fault : type_faults names ≡ []
+  pub lets_nothing_in : (p : ℕ) → ¬ LetsIn (declared_procedures names) p
+  pub none_misused : (p : ℕ) → ¬ IsMisused names p
   pub no_recursion : (p : ℕ) → ¬ IsRecursive (procedures_of names) p
 
 -- Nothing is refused in the texts, whatever the ROM's size. Of what may be built, only some forms can be in a ROM today.

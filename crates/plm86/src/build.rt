@@ -78,7 +78,7 @@ fn parse_all<'a>(alloc: Global, scanned: Vec<Vec<Token<'a>>>) -> Result<Vec<Modu
 ///
 /// The first fault of the phases, each over all sources: scanning (E101 to E107), parsing with literals replaced (E101, E103
 /// to E105 of a literal's text, E201 to E205), names (E301 to E305, the least of them; else E306 to E310, of the whole program),
-/// types (E401 to E403, the least; else E404), forms that a ROM cannot have yet (E401 at the least first token of one), the ROM's
+/// types (E401 to E403, E405 and E406, the least; else E404), forms that a ROM cannot have yet (E401 at the least first token of one), the ROM's
 /// room (E601, never where the program has at most 16 nodes for each KiB and its initial bytes fill at most a quarter of the ROM;
 /// a node is a statement, procedure, operator, reference or constant, each value of INITIAL, DATA and location lists among them).
 /// Modules count from 0. The one other refusal is want of memory.
