@@ -7,3 +7,4 @@ pub mod PairProofs
 pub mod Steps
 pub mod FlagLists
 pub mod LateLaws
+pub mod WordProofs

@@ -31,11 +31,11 @@ parts : (size a : ℕ) → a < size → signed size a ≡ minus (is_negative siz
 parts size a h = parts_of size a (is_negative size a) refl h
 
 -- the sizes are even
-record IsEven (size : ℕ) : Type 0 where
-  even : size ≡ 2 * (size / 2)
-  some : 0 < size / 2
+pub record IsEven (size : ℕ) : Type 0 where
+  pub even : size ≡ 2 * (size / 2)
+  pub some : 0 < size / 2
 
-even_width : (w : Width) → IsEven (size_of w)
+pub even_width : (w : Width) → IsEven (size_of w)
 even_width Byte = record { even = refl; some = lit< tt }
 even_width Word = record { even = refl; some = lit< tt }
 
@@ -66,7 +66,7 @@ magnitude_of : (size a : ℕ) (p : Bool) → nat_lt a (size / 2) ≡ p → IsEve
 magnitude_of size a true e s = omega (arith, ltb-true a (size / 2) e)
 magnitude_of size a false e s = omega (arith, ltb-false a (size / 2) e, s.even)
 
-magnitude_small : (size a : ℕ) → IsEven size → magnitude size a ≤ size / 2
+pub magnitude_small : (size a : ℕ) → IsEven size → magnitude size a ≤ size / 2
 magnitude_small size a s = magnitude_of size a (nat_lt a (size / 2)) refl s
 
 some_of : (size a : ℕ) (p : Bool) → nat_lt a (size / 2) ≡ p → a < size → 0 < a → 0 < (if p then a else size - a)
@@ -111,7 +111,7 @@ outside Word true zero = refl
 outside Word true (suc k) = grind arith
 outside Word false m = grind arith
 
-product_small : (w : Width) (m n : ℕ) → m ≤ size_of w / 2 → n ≤ size_of w / 2 → m * n < size_of w * size_of w / 2
+pub product_small : (w : Width) (m n : ℕ) → m ≤ size_of w / 2 → n ≤ size_of w / 2 → m * n < size_of w * size_of w / 2
 product_small Byte m n hm hn = omega (arith, mul-le m n 128 128 hm hn)
 product_small Word m n hm hn = omega (arith, mul-le m n 32768 32768 hm hn)
 

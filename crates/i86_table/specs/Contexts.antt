@@ -1,7 +1,7 @@
 -- A context of the code (main, or an interrupt procedure) in the processor, and what its next instruction does. A context has
 -- its place, its registers and its own part of the stack; memory and the other context's stack are no part of it. Whatever a
 -- code generator never writes is refused: no meaning of a program has such a step.
-use Rattle.std.specs.Prelude.{ℕ, Bool, true, false, not, ◌==◌, ◌+◌, ◌-◌, ◌*◌, ◌%◌, ◌/◌, ◌&&◌, nat_lt, nat_le, if◌then◌else◌, Option, Some, None, List, [], ◌∷◌, length}
+use Rattle.std.specs.Prelude.{ℕ, Bool, true, false, not, ◌==◌, ◌+◌, ◌-◌, ◌*◌, ◌%◌, ◌/◌, ◌&&◌, nat_lt, nat_le, if◌then◌else◌, Option, Some, None, List, [], ◌∷◌, length, drop}
 use Rattle.word86.specs.declared.width.Width.{Width}
 use Rattle.word86.specs.declared.width.Width.TheVariants as widths
 use Rattle.word86.specs.Access.{Access, Where, In, Screen, Read, Write, Input, Output}
@@ -29,7 +29,7 @@ use Rattle.i86_table.specs.declared.instruction.Port.{Port}
 use Rattle.i86_table.specs.declared.instruction.Count.{Count}
 use Rattle.i86_table.specs.declared.instruction.Count.TheVariants as counts
 use Rattle.i86_table.specs.declared.instruction.AluOperation.{AluOperation}
-use Rattle.i86_table.specs.declared.instruction.AluOperation.TheVariants.{Cmp}
+use Rattle.i86_table.specs.declared.instruction.AluOperation.TheVariants.{Add, Cmp}
 use Rattle.i86_table.specs.declared.instruction.Instr.{Instr}
 use Rattle.i86_table.specs.declared.instruction.Instr.TheVariants as i
 use Rattle.i86_table.specs.State.{word_of, byte_of, with_word, with_byte, offset_of, port_of}
@@ -58,6 +58,10 @@ abbrev pub is_sp : Register16 → Bool
 is_sp Sp = true
 is_sp _ = false
 
+abbrev pub is_stack : Segment → Bool
+is_stack segments.Ss = true
+is_stack _ = false
+
 -- registers by name
 abbrev pub word_in : Working → Register16 → ℕ
 word_in g r = word_of (all_registers 0 g 0) r
@@ -74,15 +78,35 @@ set_byte g r v = working (with_byte (all_registers 0 g 0) r v)
 abbrev pub set_flags : Working → Flags → Working
 set_flags g f = record g { flags = f }
 
+-- What an interrupt procedure has to give back: the registers that it was given. And where the stack pointer stood at its first
+-- instruction.
+pub record Given : Type 0 where
+  pub registers : Working
+  pub top : ℕ
+
 -- A context: its place, its registers, its words on the stack from the newest one, whether its last instruction was STI, and, for
--- an interrupt procedure, the registers that it was given and has to give back.
+-- an interrupt procedure, what it was given.
 pub data Context : Type 0 where
-  Own : (place : ℕ) → Working → (stack : List ℕ) → (after_sti : Bool) → (given : Option Working) → Context
+  Own : (place : ℕ) → Working → (stack : List ℕ) → (after_sti : Bool) → (given : Option Given) → Context
 
 -- the words that main and an interrupt procedure may have on the stack
-abbrev pub room : (main handler : ℕ) → Option Working → ℕ
+abbrev pub room : (main handler : ℕ) → Option Given → ℕ
 room main handler None = main
-room main handler (Some g) = handler
+room main handler (Some s) = handler
+
+-- where the stack pointer stands while a context has no word on the stack: main's begins at 0FFFEH
+abbrev pub top_of : Option Given → ℕ
+top_of None = 0xFFFE
+top_of (Some s) = s.top
+
+-- where it stands below the context's words
+abbrev pub stack_pointer : Option Given → (stack : List ℕ) → ℕ
+stack_pointer given stack = top_of given - 2 * length stack
+
+-- the word at an offset, of words on the stack whose newest one lies at sp
+abbrev pub stack_word : (offset sp : ℕ) → List ℕ → Option ℕ
+stack_word offset sp [] = None
+stack_word offset sp (v ∷ stack) = if offset == sp then Some v else stack_word offset (sp + 2) stack
 
 -- ---- operands
 
@@ -181,6 +205,11 @@ abbrev pub writes : Option Where → Width → ℕ → Context → Offer Access 
 writes None width v c = refused
 writes (Some x) width v c = Does (Touch (Write width x v) (λ u. c))
 
+-- on with a number, where there is one
+abbrev pub takes : Option ℕ → (ℕ → Context) → Offer Access Context
+takes None k = refused
+takes (Some v) k = silently (k v)
+
 -- a quotient, or the fault of a division
 abbrev pub divides : Option Division → (Division → Context) → Offer Access Context
 divides None k = refused
@@ -195,6 +224,16 @@ abbrev pub gives_back : (given now : Working) → (stack : List ℕ) → Bool
 gives_back given now [] = same_registers given now
 gives_back given now (x ∷ xs) = false
 
+-- what a word register holds, the stack pointer among them
+abbrev pub moved_word : Register16 → Working → List ℕ → Option Given → ℕ
+moved_word s g st given = if is_sp s then stack_pointer given st else word_in g s
+
+-- ADD SP: the newest words go, two bytes each; there is no other arithmetic on the stack pointer
+abbrev pub stack_offer : AluOperation → (n q : ℕ) → Working → List ℕ → Option Given → Offer Access Context
+stack_offer Add n q g st given =
+    if n % 2 == 0 && nat_le (n / 2) (length st) then silently (Own q (set_flags g (operated Add widths.Word (stack_pointer given st) n g.flags).flags) (drop (n / 2) st) false given) else refused
+stack_offer _ n q g st given = refused
+
 -- find tells where an offset in the data's segment is: object and index of its byte, if n bytes from there lie in one object
 module _ (find : (offset n : ℕ) → Option (ℕ × ℕ)) where
   abbrev pub place_in : Segment → (offset n : ℕ) → Option Where
@@ -205,29 +244,33 @@ module _ (find : (offset n : ℕ) → Option (ℕ × ℕ)) where
   abbrev pub place_of : Working → Memory → Width → Option Where
   place_of g at width = place_in at.segment (offset_in g at.address) (bytes width)
 
-  abbrev pub move_word_offer : Operands Register16 ℕ → ℕ → Working → List ℕ → Option Working → Offer Access Context
-  move_word_offer (FromRegister (rm.Register r) s) q g st given = unless (is_sp r) (unless (is_sp s) (silently (Own q (set_word g r (word_in g s)) st false given)))
+  -- on with a word of memory, or of the context's own words where the place lies in the stack's segment
+  abbrev pub fetch_offer : Working → Memory → List ℕ → Option Given → (ℕ → Context) → Offer Access Context
+  fetch_offer g at st given k = if is_stack at.segment then takes (stack_word (offset_in g at.address) (stack_pointer given st) st) k else reads (place_of g at widths.Word) widths.Word k
+
+  abbrev pub move_word_offer : Operands Register16 ℕ → ℕ → Working → List ℕ → Option Given → Offer Access Context
+  move_word_offer (FromRegister (rm.Register r) s) q g st given = unless (is_sp r) (silently (Own q (set_word g r (moved_word s g st given)) st false given))
   move_word_offer (FromRegister (rm.Memory at) s) q g st given = unless (is_sp s) (writes (place_of g at widths.Word) widths.Word (word_in g s) (Own q g st false given))
-  move_word_offer (FromMemory r at) q g st given = unless (is_sp r) (reads (place_of g at widths.Word) widths.Word (λ v. Own q (set_word g r v) st false given))
+  move_word_offer (FromMemory r at) q g st given = unless (is_sp r) (fetch_offer g at st given (λ v. Own q (set_word g r v) st false given))
   move_word_offer (Immediate (rm.Register r) v) q g st given = unless (is_sp r) (silently (Own q (set_word g r v) st false given))
   move_word_offer (Immediate (rm.Memory at) v) q g st given = writes (place_of g at widths.Word) widths.Word v (Own q g st false given)
 
-  abbrev pub move_byte_offer : Operands Register8 ℕ → ℕ → Working → List ℕ → Option Working → Offer Access Context
+  abbrev pub move_byte_offer : Operands Register8 ℕ → ℕ → Working → List ℕ → Option Given → Offer Access Context
   move_byte_offer (FromRegister (rm.Register r) s) q g st given = silently (Own q (set_byte g r (byte_in g s)) st false given)
   move_byte_offer (FromRegister (rm.Memory at) s) q g st given = writes (place_of g at widths.Byte) widths.Byte (byte_in g s) (Own q g st false given)
   move_byte_offer (FromMemory r at) q g st given = reads (place_of g at widths.Byte) widths.Byte (λ v. Own q (set_byte g r v) st false given)
   move_byte_offer (Immediate (rm.Register r) v) q g st given = silently (Own q (set_byte g r v) st false given)
   move_byte_offer (Immediate (rm.Memory at) v) q g st given = writes (place_of g at widths.Byte) widths.Byte v (Own q g st false given)
 
-  abbrev pub alu_word_offer : AluOperation → Operands Register16 ℕ → ℕ → Working → List ℕ → Option Working → Offer Access Context
+  abbrev pub alu_word_offer : AluOperation → Operands Register16 ℕ → ℕ → Working → List ℕ → Option Given → Offer Access Context
   alu_word_offer f (FromRegister (rm.Register r) s) q g st given = unless (is_sp r) (unless (is_sp s) (silently (Own q (alu_word f r (word_in g s) g) st false given)))
   alu_word_offer f (FromMemory r at) q g st given = unless (is_sp r) (reads (place_of g at widths.Word) widths.Word (λ v. Own q (alu_word f r v g) st false given))
-  alu_word_offer f (Immediate (rm.Register r) v) q g st given = unless (is_sp r) (silently (Own q (alu_word f r v g) st false given))
+  alu_word_offer f (Immediate (rm.Register r) n) q g st given = if is_sp r then stack_offer f n q g st given else silently (Own q (alu_word f r n g) st false given)
   -- a comparison stores nothing, so its target may lie in memory
   alu_word_offer f (FromRegister (rm.Memory at) s) q g st given = unless (not (is_comparison f)) (unless (is_sp s) (reads (place_of g at widths.Word) widths.Word (λ v. Own q (set_flags g (operated f widths.Word v (word_in g s) g.flags).flags) st false given)))
   alu_word_offer f (Immediate (rm.Memory at) n) q g st given = unless (not (is_comparison f)) (reads (place_of g at widths.Word) widths.Word (λ v. Own q (set_flags g (operated f widths.Word v n g.flags).flags) st false given))
 
-  abbrev pub alu_byte_offer : AluOperation → Operands Register8 ℕ → ℕ → Working → List ℕ → Option Working → Offer Access Context
+  abbrev pub alu_byte_offer : AluOperation → Operands Register8 ℕ → ℕ → Working → List ℕ → Option Given → Offer Access Context
   alu_byte_offer f (FromRegister (rm.Register r) s) q g st given = silently (Own q (alu_byte f r (byte_in g s) g) st false given)
   alu_byte_offer f (FromMemory r at) q g st given = reads (place_of g at widths.Byte) widths.Byte (λ v. Own q (alu_byte f r v g) st false given)
   alu_byte_offer f (Immediate (rm.Register r) v) q g st given = silently (Own q (alu_byte f r v g) st false given)
@@ -249,39 +292,44 @@ masks_sp (masks.Immediate n) = false
 abbrev pub exchanged : Register16 → Register16 → Working → Working
 exchanged r s g = set_word (set_word g r (word_in g s)) s (word_in g r)
 
-abbrev pub pop_offer : Register16 → ℕ → Working → List ℕ → Option Working → Offer Access Context
+abbrev pub pop_offer : Register16 → ℕ → Working → List ℕ → Option Given → Offer Access Context
 pop_offer r q g [] given = refused
 pop_offer r q g (v ∷ st) given = unless (is_sp r) (silently (Own q (set_word g r v) st false given))
 
-abbrev pub return_offer : Working → List ℕ → Option Working → Offer Access Context
+abbrev pub return_offer : Working → List ℕ → Option Given → Offer Access Context
 return_offer g [] given = refused
 return_offer g (v ∷ st) given = silently (Own v g st false given)
 
 -- an interrupt procedure has no STI
-abbrev pub enable_offer : ℕ → Working → List ℕ → Option Working → Offer Access Context
+abbrev pub enable_offer : ℕ → Working → List ℕ → Option Given → Offer Access Context
 enable_offer q g st None = Arms (Own q (set_flags g (with_flag (flag_bit 512) true g.flags)) st true None)
 enable_offer q g st (Some s) = refused
 
 -- HLT comes right after STI alone, and NOP there is what ENABLE means
-abbrev pub halt_offer : ℕ → Working → List ℕ → Bool → Option Working → Offer Access Context
+abbrev pub halt_offer : ℕ → Working → List ℕ → Bool → Option Given → Offer Access Context
 halt_offer q g st true given = Does (Halt (Own q g st false given))
 halt_offer q g st false given = refused
 
-abbrev pub nop_offer : ℕ → Working → List ℕ → Bool → Option Working → Offer Access Context
+abbrev pub nop_offer : ℕ → Working → List ℕ → Bool → Option Given → Offer Access Context
 nop_offer q g st true given = Does (Enable (Own q g st false given))
 nop_offer q g st false given = silently (Own q g st false given)
 
-abbrev pub end_offer : Working → List ℕ → Option Working → Offer Access Context
+abbrev pub end_offer : Working → List ℕ → Option Given → Offer Access Context
 end_offer g st None = refused
-end_offer g st (Some s) = if gives_back s g st then Does Over else refused
+end_offer g st (Some s) = if gives_back s.registers g st then Does Over else refused
 
-module _ (find : (offset n : ℕ) → Option (ℕ × ℕ)) (main handler : ℕ) where
+-- words tells the words of tables that lie in the code's segment, by their offset there; a jump takes its place from one of them
+abbrev pub jump_offer : (words : (offset : ℕ) → Option ℕ) → Segment → (offset : ℕ) → Working → List ℕ → Option Given → Offer Access Context
+jump_offer words segments.Cs offset g st given = takes (words offset) (λ place. Own place g st false given)
+jump_offer words _ offset g st given = refused
+
+module _ (find : (offset n : ℕ) → Option (ℕ × ℕ)) (words : (offset : ℕ) → Option ℕ) (main handler : ℕ) where
   -- a word more on the stack, if there is room
-  abbrev pub pushes : List ℕ → Option Working → Context → Offer Access Context
+  abbrev pub pushes : List ℕ → Option Given → Context → Offer Access Context
   pushes stack given c = if nat_lt (length stack) (room main handler given) then silently c else refused
 
   -- what an instruction does, where q is the place after it
-  abbrev pub offered : Instr → (q : ℕ) → Working → List ℕ → (after_sti : Bool) → Option Working → Offer Access Context
+  abbrev pub offered : Instr → (q : ℕ) → Working → List ℕ → (after_sti : Bool) → Option Given → Offer Access Context
   offered i.Nop q g st a given = nop_offer q g st a given
   offered (i.MoveWord operands) q g st a given = move_word_offer find operands q g st given
   offered (i.MoveByte operands) q g st a given = move_byte_offer find operands q g st given
@@ -306,6 +354,7 @@ module _ (find : (offset n : ℕ) → Option (ℕ × ℕ)) (main handler : ℕ) 
   offered (i.JumpShort d) q g st a given = silently (Own (further q (sign_extended d)) g st false given)
   offered (i.Jump d) q g st a given = silently (Own (further q d) g st false given)
   offered (i.JumpTo (rm.Register r)) q g st a given = unless (is_sp r) (unless (nat_le 65536 (word_in g r)) (silently (Own (word_in g r) g st false given)))
+  offered (i.JumpTo (rm.Memory at)) q g st a given = jump_offer words at.segment (offset_in g at.address) g st given
   offered (i.Call d) q g st a given = pushes st given (Own (further q d) g (q % 65536 ∷ st) false given)
   offered i.Return q g st a given = return_offer g st given
   offered (i.In width p) q g st a given = Does (Touch (Input width (port_in g p)) (λ v. Own q (input_gives width g v) st false given))
@@ -317,15 +366,15 @@ module _ (find : (offset n : ℕ) → Option (ℕ × ℕ)) (main handler : ℕ) 
   offered _ q g st a given = refused
 
 -- the code: at each place an instruction and its length, or none
-module _ (code : ℕ → Option (Instr × ℕ)) (find : (offset n : ℕ) → Option (ℕ × ℕ)) (entry : (vector : ℕ) → ℕ) (main handler : ℕ) where
-  abbrev pub offered_at : Option (Instr × ℕ) → ℕ → Working → List ℕ → Bool → Option Working → Offer Access Context
+module _ (code : ℕ → Option (Instr × ℕ)) (find : (offset n : ℕ) → Option (ℕ × ℕ)) (words : (offset : ℕ) → Option ℕ) (entry : (vector : ℕ) → ℕ) (main handler : ℕ) where
+  abbrev pub offered_at : Option (Instr × ℕ) → ℕ → Working → List ℕ → Bool → Option Given → Offer Access Context
   offered_at None place g st a given = refused
-  offered_at (Some x) place g st a given = offered find main handler x.0 (further place x.1) g st a given
+  offered_at (Some x) place g st a given = offered find words main handler x.0 (further place x.1) g st a given
 
   -- what a context's next instruction does
   abbrev pub offer : Context → Offer Access Context
   offer (Own place g st a given) = offered_at (code place) place g st a given
 
-  -- an interrupt procedure begins with main's registers, interrupts off, and nothing of its own on the stack
+  -- an interrupt procedure begins with main's registers, interrupts off, and nothing of its own on the stack, below a frame of six bytes
   abbrev pub start : (vector : ℕ) → Context → Context
-  start vector (Own place g st a given) = Own (entry vector) (set_flags g (without_trap_and_interrupts g.flags)) [] false (Some g)
+  start vector (Own place g st a given) = Own (entry vector) (set_flags g (without_trap_and_interrupts g.flags)) [] false (Some (record { registers = g; top = stack_pointer given st - 6 }))

@@ -8,4 +8,5 @@ pub mod ArithmeticLaws
 pub mod Pairs
 pub mod PairLaws
 pub mod Contexts
+pub mod Words
 pub mod Inner

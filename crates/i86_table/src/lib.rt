@@ -16,6 +16,7 @@ mod pairs;
 mod registers;
 mod shifts;
 mod width;
+mod words;
 
 pub use arithmetic_law::{overflow_laws, product_laws, quotient_laws, rotation_laws, shift_laws};
 pub use flags::{Flags, flag_laws};
@@ -28,3 +29,4 @@ pub use outcome::{Division, Outcome, Product};
 pub use pair_law::pair_laws;
 pub use pairs::{BytePair, WordPair};
 pub use registers::{LoadableSegment, Register8, Register16, Regs, Segment};
+pub use words::instructions_keep_words;
