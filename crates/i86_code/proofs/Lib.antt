@@ -8,3 +8,4 @@ pub mod DecodedProofs
 pub mod WrittenForms
 pub mod Costs
 pub mod BestForms
+pub mod WidthProofs

@@ -3,7 +3,7 @@
 ghost use Rattle.std.specs.Prelude.{◌≡◌, ◌≤◌, ◌++◌, ℕ, List, IfSome, IfNone, take, length, Some};
 ghost use Rattle.i86_code.specs.Instructions.{Spells};
 ghost use Rattle.i86_code.specs.Writing.{WritesBest, bytes_of};
-ghost use Rattle.i86_code.specs.Decoding.{decoded, DecodedSpells, IsOneForm, IsShort};
+ghost use Rattle.i86_code.specs.Decoding.{decoded, DecodedHasWidths, DecodedSpells, IsOneForm, IsShort};
 
 use crate::form::Form;
 use crate::ranges::instruction_fits;
@@ -61,4 +61,10 @@ pub fn one_form()
 /// their end. With `one_form` it says that `decode` is exact both ways.
 pub fn decoded_spells()
     ensures { DecodedSpells }
+{}
+
+/// The law that the immediate operands of what is decoded from bytes have their widths: below 256 with a byte operation, below
+/// 65,536 with a word operation.
+pub fn decoded_widths()
+    ensures { DecodedHasWidths }
 {}

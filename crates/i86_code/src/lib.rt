@@ -11,7 +11,7 @@ mod ranges;
 mod reading;
 mod writing;
 
-pub use coding::{decode, decoded_spells, encode, one_form, round_trip};
+pub use coding::{decode, decoded_spells, decoded_widths, encode, one_form, round_trip};
 pub use form::{FieldKind, Fields, Form, Opcode, Prefixes, RegisterOrMemory};
 pub use numbers::Numbered;
 pub use ranges::instruction_fits;

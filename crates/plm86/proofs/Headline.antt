@@ -1,4 +1,5 @@
 pub mod Compose
 pub mod Joining
+pub mod Words
 pub mod Whole
 pub mod FromRom

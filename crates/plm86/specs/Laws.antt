@@ -7,30 +7,19 @@ use Rattle.word86.specs.Following.{Offer, Tracks, Follows}
 use Rattle.plm_meaning.specs.Store.{Store, object, shared}
 use Rattle.i86_table.specs.declared.instruction.Instr.{Instr}
 use Rattle.i86_table.specs.Contexts.{Context, Own, Working, all_registers, offer, start}
+use Rattle.i86_table.specs.Words.{AreWords, HasWords}
 use Rattle.cpu8086.specs.declared.cpu.Phase.TheVariants.{Running}
 use Rattle.board.specs.World.{World, Whole, board_model, region, screen_at}
 use Rattle.board.specs.Machine.{Board, power_on}
 use Rattle.plm86.specs.Boots.{Boots}
 use Rattle.plm86.specs.Headline.{Firmware, RunsProgram, RomIsCorrect, board_turn}
 use Rattle.plm86.specs.Relation.{Fine, Placed, Finds, FlagsAre}
-use Rattle.plm86.specs.Rom.{CodeInRom}
+use Rattle.plm86.specs.Rom.{CodeInRom, WordsInRom}
 use Rattle.plm86.specs.Startup.{Act, HasStartUp, start_up_turns, with_vectors, after_acts}
 
--- ---- the promises of the layers
-
--- The intermediate code tracks the rests of main and of each interrupt procedure, whatever is done to what is shared meanwhile.
-pub record Lowered (A : Type 0) (bound : A → ℕ) (R : Type 0) (next : R → Action A R) (first : R) (body : ℕ → R) (I : Type 0) (does : I → Action A I) (begin : I) (procedure : ℕ → I) (limit most : ℕ) : Type 0 where
-  pub tracks : (n : ℕ) → Tracks A bound R next I does limit most n limit first begin
-  pub bodies : (n vector : ℕ) → Tracks A bound R next I does limit most n limit (body vector) (procedure vector)
-
--- Main's instructions follow main's rest, and each interrupt procedure's its body, whatever registers they begin with.
-pub record Compiled (A : Type 0) (bound : A → ℕ) (R : Type 0) (next : R → Action A R) (first : R) (body : ℕ → R) (C G : Type 0) (offers : C → Offer A C) (begins : G → C) (starts : ℕ → C → C) (limit most : ℕ) : Type 0 where
-  pub follows : (n : ℕ) (g : G) → Follows A bound R next C offers limit most true n limit first (begins g)
-  pub serves : (n vector : ℕ) (c : C) → Follows A bound R next C offers limit most false n limit (body vector) (starts vector c)
-
 -- How a ROM is assembled: its bytes; the instruction at each place of its code segment, with its length; where main begins; each
--- vector's procedure; the offset and the size of each object; what lies at an offset of the data; and how many words main and an
--- interrupt procedure may push.
+-- vector's procedure; the offset and the size of each object; what lies at an offset of the data; the words of tables in the code's
+-- segment; and how many words main and an interrupt procedure may push.
 pub record Assembly : Type 0 where
   pub rom : List ℕ
   pub code : (place : ℕ) → Option (Instr × ℕ)
@@ -39,6 +28,7 @@ pub record Assembly : Type 0 where
   pub placed : (object : ℕ) → ℕ
   pub size : (object : ℕ) → ℕ
   pub find : (offset n : ℕ) → Option (ℕ × ℕ)
+  pub words : (offset : ℕ) → Option ℕ
   pub main : ℕ
   pub handler : ℕ
 
@@ -51,10 +41,10 @@ pub record IsSound (x : Assembly) : Type 0 where
   pub enough : x.main + 3 + x.handler ≤ 2047
 
 abbrev pub offers_of : Assembly → Context → Offer Access Context
-offers_of x = offer x.code x.find x.entry x.main x.handler
+offers_of x = offer x.code x.find x.words x.entry x.main x.handler
 
 abbrev pub starts_of : Assembly → ℕ → Context → Context
-starts_of x = start x.code x.find x.entry x.main x.handler
+starts_of x = start x.code x.find x.words x.entry x.main x.handler
 
 abbrev pub main_of : Assembly → Working → Context
 main_of x g = Own x.main_at g [] false None
@@ -63,15 +53,30 @@ main_of x g = Own x.main_at g [] false None
 abbrev pub firmware_of : Assembly → Firmware
 firmware_of x = record { rom = x.rom; entry = x.entry; main = 2 * x.main; handler = 2 * (3 + x.handler) }
 
+-- ---- the promises of the layers
+
+-- The intermediate code tracks the rests of main and of each interrupt procedure, whatever is done to what is shared meanwhile, from
+-- whatever registers its first context is told by.
+pub record Lowered (A : Type 0) (bound : A → ℕ) (R : Type 0) (next : R → Action A R) (first : R) (body : ℕ → R) (I : Type 0) (does : I → Action A I) (G C : Type 0) (begin : G → I) (procedure : (vector : ℕ) → C → I) (limit most : ℕ) : Type 0 where
+  pub tracks : (n : ℕ) (g : G) → Tracks A bound R next I does limit most n limit first (begin g)
+  pub bodies : (n vector : ℕ) (c : C) → Tracks A bound R next I does limit most n limit (body vector) (procedure vector c)
+
+-- Main's instructions follow its rest, whatever words its registers hold at its beginning; and each interrupt procedure's follow its
+-- body, whatever context with words it interrupts. Rest and body may depend on the registers.
+pub record Compiled (x : Assembly) (R : Type 0) (next : R → Action Access R) (first : Working → R) (body : (vector : ℕ) → Context → R) (limit most : ℕ) : Type 0 where
+  pub follows : (n : ℕ) (g : Working) → AreWords g → Follows Access answers R next Context (offers_of x) limit most true n limit (first g) (main_of x g)
+  pub serves : (n vector : ℕ) (c : Context) → HasWords c → Follows Access answers R next Context (offers_of x) limit most false n limit (body vector c) (starts_of x vector c)
+
 -- ---- start-up
 
 module _ {P : Type 0} (c : Chips P) where
-  -- main's first instruction is next, with interrupts off and nothing on the stack
+  -- main's first instruction is next, with interrupts off, words in the registers and nothing on the stack
   pub record Begins (x : Assembly) (b : Board (World P)) (s : Store P) : Type 0 where
     pub registers : Working
     pub is : b.cpu ≡ record { registers = all_registers x.main_at registers 0xFFFE; phase = Running }
+    pub words : AreWords registers
     pub flags : FlagsAre false registers.flags
-    pub fine : Fine (board_model c) (λ w. w.chips) (Whole x.rom) x.code x.entry x.placed x.size s b.world
+    pub fine : Fine (board_model c) (λ w. w.chips) (Whole x.rom) x.code x.words x.entry x.placed x.size s b.world
 
   -- start-up takes start_turns turns from here, makes no label but those of events, and leaves this store
   abbrev pub StartsUp : Assembly → (start_turns : ℕ) → Board (World P) → Store P → Type 0
@@ -97,7 +102,7 @@ abbrev pub FromInstructions : Type 0 → Type 0 → Type 0
 FromInstructions P R =
     (c : Chips P) (x : Assembly) → IsSound x
     → (next : R → Action Access R) (first : R) (body : ℕ → R) (limit most : ℕ)
-    → Compiled Access answers R next first body Context Working (offers_of x) (main_of x) (starts_of x) limit most
+    → Compiled x R next (λ g. first) (λ vector interrupted. body vector) limit most
     → limit < 64
     → (start_turns : ℕ) (reset : Board (World P)) (state : Store P) → StartsUp c x start_turns reset state
     → RunsProgram c (firmware_of x) R next first body start_turns reset state
@@ -107,23 +112,23 @@ FromInstructions P R =
 abbrev pub FromLayers : Type 0 → Type 0 → Type 0 → Type 0
 FromLayers P R I =
     (c : Chips P) (x : Assembly) → IsSound x
-    → (next : R → Action Access R) (first : R) (body : ℕ → R) (does : I → Action Access I) (begin : I) (procedure : ℕ → I) (k1 m1 k2 m2 : ℕ)
-    → Lowered Access answers R next first body I does begin procedure k1 m1
-    → Compiled Access answers I does begin procedure Context Working (offers_of x) (main_of x) (starts_of x) k2 m2
+    → (next : R → Action Access R) (first : R) (body : ℕ → R) (does : I → Action Access I) (begin : Working → I) (procedure : (vector : ℕ) → Context → I) (k1 m1 k2 m2 : ℕ)
+    → Lowered Access answers R next first body I does Working Context begin procedure k1 m1
+    → Compiled x I does begin procedure k2 m2
     → k1 * suc k2 + k2 < 64
     → (start_turns : ℕ) (chips : P) (first_store : (ram screen : List ℕ) → Store P)
     → ((ram screen : List ℕ) → length ram ≡ 0x20000 → length screen ≡ 4000 → StartsUp c x start_turns (power_on x.rom ram screen chips) (first_store ram screen))
     → RomIsCorrect c (firmware_of x) R next first body start_turns chips first_store
 
--- The ROM has the code; the code has a start-up, which leaves the vectors and the program's first store; the intermediate code
+-- The ROM has the code and its tables; the code has a start-up, which leaves the vectors and the program's first store; the intermediate code
 -- tracks the program's rests, and the instructions follow the intermediate code. Then the ROM does what the program means.
 abbrev pub FromRom : Type 0 → Type 0 → Type 0 → Type 0
 FromRom P R I =
-    (c : Chips P) (x : Assembly) → IsSound x → CodeInRom x.rom x.code
+    (c : Chips P) (x : Assembly) → IsSound x → CodeInRom x.rom x.code → WordsInRom x.rom x.words
     → (entry : ℕ) (acts : List Act) → HasStartUp x.code entry acts x.main_at
-    → (next : R → Action Access R) (first : R) (body : ℕ → R) (does : I → Action Access I) (begin : I) (procedure : ℕ → I) (k1 m1 k2 m2 : ℕ)
-    → Lowered Access answers R next first body I does begin procedure k1 m1
-    → Compiled Access answers I does begin procedure Context Working (offers_of x) (main_of x) (starts_of x) k2 m2
+    → (next : R → Action Access R) (first : R) (body : ℕ → R) (does : I → Action Access I) (begin : Working → I) (procedure : (vector : ℕ) → Context → I) (k1 m1 k2 m2 : ℕ)
+    → Lowered Access answers R next first body I does Working Context begin procedure k1 m1
+    → Compiled x I does begin procedure k2 m2
     → k1 * suc k2 + k2 < 64
     → (chips : P) (first_store : (ram screen : List ℕ) → Store P)
     → ((ram screen : List ℕ) → length ram ≡ 0x20000 → length screen ≡ 4000

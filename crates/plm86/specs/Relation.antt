@@ -1,4 +1,4 @@
--- How flags, and the memory beside the stack, are while a program runs: code, vectors, objects, screen and chips.
+-- How flags, and the memory beside the stack, are while a program runs: code, tables, vectors, objects, screen and chips.
 use Rattle.std.specs.Prelude.{ℕ, Bool, ◌≡◌, ◌+◌, ◌<◌, ◌≤◌, Option, Some, length, slice_index}
 use Rattle.std.specs.Int.RustNames.{bit_and}
 use Rattle.i86_table.specs.declared.flags.Flags.{Flags}
@@ -6,6 +6,7 @@ use Rattle.i86_table.specs.declared.instruction.Instr.{Instr}
 use Rattle.i86_table.specs.Arithmetic.{has}
 use Rattle.i86_code.specs.Decoding.{decoded}
 use Rattle.cpu8086.specs.BusModel.{BusModel}
+use Rattle.cpu8086.specs.Machine.{loaded_word}
 use Rattle.cpu8086.specs.Turn.{fetched}
 use Rattle.plm_meaning.specs.Store.{Store, object}
 use Rattle.plm86.specs.Headline.{Vectors}
@@ -20,6 +21,10 @@ module _ {W : Type 0} (m : BusModel W) where
   pub record Spelled (code : ℕ → Option (Instr × ℕ)) (w : W) : Type 0 where
     pub bounded : (place : ℕ) (d : Instr × ℕ) → code place ≡ Some d → place < 65536
     pub spelled : (place : ℕ) (d : Instr × ℕ) → code place ≡ Some d → decoded (fetched m w 0xF000 place) ≡ Some d
+
+  -- the words of tables at their offsets in the code's segment
+  abbrev pub HasTables : (words : (offset : ℕ) → Option ℕ) → W → Type 0
+  HasTables words w = (offset v : ℕ) → words offset ≡ Some v → (offset + 1 < 65536) × (loaded_word m w 0xF000 offset ≡ v)
 
   -- the bytes of the objects at their places, and of the screen
   pub record Holds {P : Type 0} (placed : ℕ → ℕ) (s : Store P) (w : W) : Type 0 where
@@ -36,11 +41,12 @@ pub record Placed (placed size : ℕ → ℕ) : Type 0 where
 abbrev pub Finds : (find : ℕ → ℕ → Option (ℕ × ℕ)) → (placed size : ℕ → ℕ) → Type 0
 Finds find placed size = (offset n k i : ℕ) → find offset n ≡ Some (k, i) → (offset ≡ placed k + i) × (i + n ≤ size k)
 
-module _ {W P : Type 0} (m : BusModel W) (chips : W → P) (Whole : W → Type 0) (code : ℕ → Option (Instr × ℕ)) (entry placed size : ℕ → ℕ) where
+module _ {W P : Type 0} (m : BusModel W) (chips : W → P) (Whole : W → Type 0) (code : ℕ → Option (Instr × ℕ)) (words : ℕ → Option ℕ) (entry placed size : ℕ → ℕ) where
   -- the memory beside the stack
   pub record Fine (s : Store P) (w : W) : Type 0 where
     pub whole : Whole w
     pub spelled : Spelled m code w
+    pub tables : HasTables m words w
     pub vectors : Vectors m entry w
     pub holds : Holds m placed s w
     pub chips_are : chips w ≡ s.chips

@@ -1,5 +1,5 @@
--- The code in the bytes of a ROM.
-use Rattle.std.specs.Prelude.{ℕ, ◌≡◌, ◌+◌, ◌-◌, ◌%◌, ◌<◌, ◌≤◌, Option, Some, List, length, slice_index}
+-- The code, and the tables of words that it jumps through, in the bytes of a ROM.
+use Rattle.std.specs.Prelude.{ℕ, ◌≡◌, ◌+◌, ◌-◌, ◌/◌, ◌%◌, ◌<◌, ◌≤◌, Option, Some, List, [], ◌∷◌, length, slice_index}
 use Rattle.i86_table.specs.declared.instruction.Instr.{Instr}
 use Rattle.i86_code.specs.Instructions.{Spells}
 
@@ -18,3 +18,7 @@ pub record CodeInRom (rom : List ℕ) (code : (place : ℕ) → Option (Instr ×
   pub size : length rom ≤ 65536
   pub low : (place : ℕ) (d : Instr × ℕ) → code place ≡ Some d → place < 65536
   pub written : (place : ℕ) (d : Instr × ℕ) → code place ≡ Some d → (bytes : List ℕ) × Spells bytes d.0 × (length bytes ≡ d.1) × Written rom place bytes
+
+-- at the offset of each word of a table the ROM has its two bytes, the low one first
+abbrev pub WordsInRom : (rom : List ℕ) → (words : (offset : ℕ) → Option ℕ) → Type 0
+WordsInRom rom words = (offset v : ℕ) → words offset ≡ Some v → Written rom offset (v % 256 ∷ v / 256 ∷ [])

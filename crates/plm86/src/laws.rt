@@ -2,7 +2,8 @@
 
 ghost use Rattle.plm86.specs.Laws.{FromLayers, FromRom};
 
-use i86_code::one_form;
+use i86_code::{decoded_widths, one_form};
+use i86_table::instructions_keep_words;
 
 /// The types of a compiler's layers: the states of the chips, the rests of a program's contexts, and the places of its
 /// intermediate code.
@@ -22,7 +23,10 @@ pub trait Layers {
 /// ROM and vectors stand, and the stack pointer stays in its bounds.
 pub fn board_is_correct<L: Layers>()
     ensures { FromLayers L.Ports L.Rest L.Place }
-{}
+{
+    decoded_widths();
+    instructions_keep_words();
+}
 
 /// The same from the bytes of a ROM: they spell the code, and the code has a start-up that leaves the vectors and the
 /// program's first store.
@@ -30,4 +34,6 @@ pub fn rom_is_correct<L: Layers>()
     ensures { FromRom L.Ports L.Rest L.Place }
 {
     one_form();
+    decoded_widths();
+    instructions_keep_words();
 }

@@ -253,8 +253,8 @@ module _ (sh : Shared) where
     handler_runs n f r c h q d w k g l m (Does (Bad module_index line)) lf lk lg main ll e s = absurd s
     handler_runs n f r c h q d w k g l m (Arms x) lf lk lg main ll e s = absurd s
 
-    -- one turn, after its events
-    module _ (serves : (n : ℕ) (v : ℕ) (c : C) → Follows sh.Access sh.answers R next C offer limit most false n limit (body v) (start v c)) where
+    -- one turn, after its events; an interrupt procedure follows its body where the interrupted context is fit
+    module _ (Fit : C → Type 0) (serves : (n : ℕ) (v : ℕ) (c : C) → Fit c → Follows sh.Access sh.answers R next C offer limit most false n limit (body v) (start v c)) where
       -- no Bad step can come next, after steps without a label
       abbrev pub IsSafe : System sh.State R → Type 0
       IsSafe s = (cs : List (Choice sh.Event)) (t : System sh.State R) → steps sh R next body cs s ≡ Some (t, []) → BadIsNext sh R next body t → ⊥
@@ -266,8 +266,8 @@ module _ (sh : Shared) where
           (λ meets. main_runs n f r s.1 c on w k s.0 (offer c) lf (omega (arith, le)) e s.2 meets)
           s.3
 
-      plain_acts : (n f : ℕ) (r : R) (c : C) (on halted : Bool) (w : sh.State) (i j k : ℕ) (p : Bool) → f ≤ limit → suc n ≤ k → (on && sh.line w) ≡ p → IsSafe (State r None on halted w (kept_if p i) (kept_if p j)) → Follows sh.Access sh.answers R next C offer limit most true k f r c → Piece c (State r None on halted w (kept_if p i) (kept_if p j)) (alone sh C offer start p c on halted w) n f
-      plain_acts n f r c on halted w i j k true lf le e safe s =
+      plain_acts : (n f : ℕ) (r : R) (c : C) (on halted : Bool) (w : sh.State) (i j k : ℕ) (p : Bool) → Fit c → f ≤ limit → suc n ≤ k → (on && sh.line w) ≡ p → IsSafe (State r None on halted w (kept_if p i) (kept_if p j)) → Follows sh.Access sh.answers R next C offer limit most true k f r c → Piece c (State r None on halted w (kept_if p i) (kept_if p j)) (alone sh C offer start p c on halted w) n f
+      plain_acts n f r c on halted w i j k true fit lf le e safe s =
           let v = sh.vector w in
           record {
             choices = Enter ∷ [];
@@ -276,12 +276,12 @@ module _ (sh : Shared) where
             left = limit;
             run = one R next body Enter (State r None on halted w i j) (State r (Some (body v)) false false (sh.acknowledge w).0 0 0) (sh.acknowledge w).1 (ap (λ b. enter_step sh R next body b r w) e);
             machine = refl;
-            good = (k, omega (arith, le), f, lf, s, n, omega arith, serves n v c);
+            good = (k, omega (arith, le), f, lf, s, n, omega arith, serves n v c fit);
             kept = refl;
             within = omega arith;
             paced = inl refl;
           }
-      plain_acts n f r c on true w i j k false lf le e safe s =
+      plain_acts n f r c on true w i j k false fit lf le e safe s =
           record {
             choices = Idle ∷ [];
             labels = [];
@@ -295,7 +295,7 @@ module _ (sh : Shared) where
             within = lf;
             paced = inl refl;
           }
-      plain_acts n f r c on false w i j k false lf le e safe s = main_follows n f r c on w k lf le e safe s
+      plain_acts n f r c on false w i j k false fit lf le e safe s = main_follows n f r c on w k lf le e safe s
 
       handler_follows : (n f : ℕ) (r : R) (c : C) (h : R) (d : C) (w : sh.State) (k g l : ℕ) → f ≤ limit → suc n ≤ k → g ≤ limit → Follows sh.Access sh.answers R next C offer limit most true k g r c → suc n ≤ l → IsSafe (State r (Some h) false false w 0 0) → Follows sh.Access sh.answers R next C offer limit most false l f h d → Piece c (State r (Some h) false false w 0 0) (serve sh C offer start (offer d) c w) n f
       handler_follows n f r c h d w k g zero lf lk lg main ll safe s = absurd (omega (arith, ll))
@@ -304,10 +304,10 @@ module _ (sh : Shared) where
           (λ meets. handler_runs n f r c h s.1 d w k g l s.0 (offer d) lf (omega (arith, lk)) lg main (omega (arith, ll)) s.2 meets)
           s.3
 
-      acts : (n f : ℕ) (x : Joint sh.State R C) → f ≤ limit → Good (suc n) f x → IsSafe (sys x) → Piece (main_in (duo x)) (sys x) (act sh C offer start (duo x)) n f
-      acts n f (Plain r c on halted w i j) lf g safe = plain_acts n f r c on halted w i j g.0 (on && sh.line w) lf g.1 refl safe g.2
-      acts n f (Ready r c on w) lf g safe = ready_runs n f r c on w g.0 (offer c) (omega (arith, g.1)) g.2
-      acts n f (Served r c h d w) lf g safe = handler_follows n f r c h d w g.0 g.2 g.5 lf g.1 g.3 g.4 g.6 safe g.7
+      acts : (n f : ℕ) (x : Joint sh.State R C) → Fit (main_in (duo x)) → f ≤ limit → Good (suc n) f x → IsSafe (sys x) → Piece (main_in (duo x)) (sys x) (act sh C offer start (duo x)) n f
+      acts n f (Plain r c on halted w i j) fit lf g safe = plain_acts n f r c on halted w i j g.0 (on && sh.line w) fit lf g.1 refl safe g.2
+      acts n f (Ready r c on w) fit lf g safe = ready_runs n f r c on w g.0 (offer c) (omega (arith, g.1)) g.2
+      acts n f (Served r c h d w) fit lf g safe = handler_follows n f r c h d w g.0 g.2 g.5 lf g.1 g.3 g.4 g.6 safe g.7
 
       happen : List sh.Event → Joint sh.State R C → Joint sh.State R C
       happen [] x = x
@@ -361,6 +361,7 @@ module _ (sh : Shared) where
       module _ (M : Type 0) (turn : List sh.Event → M → M × List sh.Label) (Stands : M → Duo sh.State C → Type 0)
           (begins : (es : List sh.Event) (b : M) → (ls : List sh.Label) × ((turn es b).1 ≡ map sh.came es ++ ls))
           (lifts : (es : List sh.Event) (b : M) (d e : Duo sh.State C) (ls : List sh.Label) → Stands b d → act sh C offer start (duo_after_events sh es d) ≡ Some (e, ls) → ((turn es b).1 ≡ map sh.came es ++ ls) × Stands (turn es b).0 e)
+          (fits : (b : M) (d : Duo sh.State C) → Stands b d → Fit (main_in d))
           (Standing : (level : ℕ) → (serving : Bool) → M → Type 0) (level : C → ℕ)
           (shows : (b : M) (d : Duo sh.State C) → Stands b d → Standing (level (main_in d)) (has_handler d) b) where
         record Turned (b : M) (x : Joint sh.State R C) (es : List sh.Event) (n f : ℕ) : Type 0 where
@@ -377,7 +378,7 @@ module _ (sh : Shared) where
         turns : (n f : ℕ) (b : M) (x : Joint sh.State R C) (es : List sh.Event) → Stands b (duo x) → f ≤ limit → Good (suc n) f x → IsSafe (sys (happen es x)) → Turned b x es n f
         turns n f b x es st lf g safe =
             let y = happen es x in
-            let p = acts n f y lf (happen_good (suc n) f es x g) safe in
+            let p = acts n f y (subst Fit (sym (happen_main es x)) (fits b (duo x) st)) lf (happen_good (suc n) f es x g) safe in
             let out : act sh C offer start (duo_after_events sh es (duo x)) ≡ Some (duo p.then_at, p.labels) = ap (act sh C offer start) (sym (happen_duo es x)) ∙ p.machine in
             let up = lifts es b (duo x) (duo p.then_at) p.labels st out in
             record {

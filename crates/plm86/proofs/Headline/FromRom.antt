@@ -1,12 +1,13 @@
 -- From the bytes of a ROM to what the board does.
 use Rattle.std.proofs.Common.{◌≡◌, ℕ, List, length, refl, sym}
-use Rattle.i86_code.specs.Decoding.{IsOneForm, IsShort}
+use Rattle.i86_table.specs.Words.{KeepsWords}
+use Rattle.i86_code.specs.Decoding.{IsOneForm, IsShort, DecodedHasWidths}
 use Rattle.word86.specs.Chips.{Chips}
 use Rattle.plm_meaning.specs.Store.{Store}
 use Rattle.board.specs.World.{World, Whole, board_model, comes}
 use Rattle.board.specs.Machine.{power_on}
 use Rattle.plm86.specs.Laws.{Assembly, IsSound, Begins, StartsUp, FromRom, HoldsStore, power_on_memory}
-use Rattle.plm86.specs.Rom.{CodeInRom}
+use Rattle.plm86.specs.Rom.{CodeInRom, WordsInRom}
 use Rattle.plm86.specs.Startup.{Act, HasStartUp, start_up_turns, with_vectors, after_acts}
 use Rattle.plm86.proofs.Machine.Regions.{of_board, events_law}
 use Rattle.plm86.proofs.Machine.Placing.{spelled_by_rom}
@@ -15,9 +16,9 @@ use Rattle.plm86.proofs.Machine.Booting.{IsLate, leads_to_main, reset_registers}
 use Rattle.plm86.proofs.Machine.Beginning.{main_begins}
 use Rattle.plm86.proofs.Headline.Whole.{from_layers}
 
-module _ (only : IsOneForm) (short : IsShort) where
-  starts_up : {P : Type 0} (c : Chips P) (x : Assembly) (sound : IsSound x) → CodeInRom x.rom x.code → (entry : ℕ) (acts : List Act) → HasStartUp x.code entry acts x.main_at → (ram screen : List ℕ) → length ram ≡ 0x20000 → length screen ≡ 4000 → (s : Store P) → HoldsStore x s (after_acts acts (with_vectors entry 0 256 (power_on_memory x.rom ram screen))) → (chips : P) → s.chips ≡ chips → StartsUp c x (start_up_turns acts) (power_on x.rom ram screen chips) s
-  starts_up {P} c x sound in_rom entry acts start ram screen ram_size screen_size s holds chips same =
+module _ (only : IsOneForm) (short : IsShort) (widths : DecodedHasWidths) (keeps : KeepsWords) where
+  starts_up : {P : Type 0} (c : Chips P) (x : Assembly) (sound : IsSound x) → CodeInRom x.rom x.code → WordsInRom x.rom x.words → (entry : ℕ) (acts : List Act) → HasStartUp x.code entry acts x.main_at → (ram screen : List ℕ) → length ram ≡ 0x20000 → length screen ≡ 4000 → (s : Store P) → HoldsStore x s (after_acts acts (with_vectors entry 0 256 (power_on_memory x.rom ram screen))) → (chips : P) → s.chips ≡ chips → StartsUp c x (start_up_turns acts) (power_on x.rom ram screen chips) s
+  starts_up {P} c x sound in_rom tables entry acts start ram screen ram_size screen_size s holds chips same =
       let m = board_model c in
       let laws = of_board c x.rom in
       let events = events_law c x.rom in
@@ -34,9 +35,9 @@ module _ (only : IsOneForm) (short : IsShort) where
       (IsLate m c (λ w. w.chips) (Whole x.rom) laws (comes c) events x.code (Begins c x) entry acts x.main_at start g)
       (power_on x.rom ram screen chips) s
       (leads_to_main m c (λ w. w.chips) (Whole x.rom) laws (comes c) events x.code (Begins c x) entry acts x.main_at start f)
-      (λ d p t. main_begins c x sound s g t.registers t.flags holds d p t.boot) at_reset
+      (λ d p t. main_begins c x sound in_rom.size tables s g t.registers t.words t.flags holds d p t.boot) at_reset
 
   pub from_rom : (P R I : Type 0) → FromRom P R I
-  from_rom P R I c x sound in_rom entry acts start next first body does begin procedure k1 m1 k2 m2 lowered compiled paced chips first_store leaves =
-      from_layers P R I c x sound next first body does begin procedure k1 m1 k2 m2 lowered compiled paced (start_up_turns acts) chips first_store
-      (λ ram screen ram_size screen_size. let t = leaves ram screen ram_size screen_size in starts_up c x sound in_rom entry acts start ram screen ram_size screen_size (first_store ram screen) t.0 chips t.1)
+  from_rom P R I c x sound in_rom tables entry acts start next first body does begin procedure k1 m1 k2 m2 lowered compiled paced chips first_store leaves =
+      from_layers widths keeps P R I c x sound next first body does begin procedure k1 m1 k2 m2 lowered compiled paced (start_up_turns acts) chips first_store
+      (λ ram screen ram_size screen_size. let t = leaves ram screen ram_size screen_size in starts_up c x sound in_rom tables entry acts start ram screen ram_size screen_size (first_store ram screen) t.0 chips t.1)

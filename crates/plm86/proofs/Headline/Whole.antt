@@ -3,7 +3,9 @@ use Rattle.std.proofs.Common.{suc, ◌+◌, ◌*◌, true, false, [], length, dr
 use Rattle.word86.specs.Access.{Access, answers}
 use Rattle.word86.specs.Following.{Follows}
 use Rattle.plm_meaning.specs.Store.{Store, shared}
-use Rattle.i86_table.specs.Contexts.{Context, Own, Working}
+use Rattle.i86_table.specs.Contexts.{Context, Own}
+use Rattle.i86_table.specs.Words.{HasWords, KeepsWords}
+use Rattle.i86_code.specs.Decoding.{DecodedHasWidths}
 use Rattle.board.specs.World.{World, Whole, board_model, comes}
 use Rattle.plm86.specs.Inner.Duo.{Duo, Alone, main_in, has_handler}
 use Rattle.board.specs.Machine.{Board}
@@ -12,15 +14,16 @@ use Rattle.plm86.specs.Laws.{Assembly, IsSound, FromInstructions, FromLayers, Be
 use Rattle.plm86.proofs.Headline.Joining
 use Rattle.plm86.proofs.Machine.Regions.{of_board, events_law}
 use Rattle.plm86.proofs.Headline.Compose
+use Rattle.plm86.proofs.Headline.Words.{code_widths, main_has}
 use Rattle.plm86.proofs.Machine.Lift
 use Rattle.plm86.proofs.Machine.Lift.{Single}
 
--- the board and its contexts in step
+-- the board and its contexts in step, and words in main's
 abbrev InStep : {P : Type 0} → (x : Assembly) → IsSound x → Rattle.word86.specs.Chips.Chips P → Board (World P) → Duo (Store P) Context → Type 0
-InStep x sound c b d = Lift.Stands (board_model c) c (λ w. w.chips) (Whole x.rom) (of_board c x.rom) (comes c) (events_law c x.rom) x.code x.find x.entry x.main x.handler x.placed x.size sound.is_placed sound.finds sound.enough b d
+InStep x sound c b d = Lift.Stands (board_model c) c (λ w. w.chips) (Whole x.rom) (of_board c x.rom) (comes c) (events_law c x.rom) x.code x.find x.words x.entry x.main x.handler x.placed x.size sound.is_placed sound.finds sound.enough b d × HasWords (main_in d)
 
-pub from_instructions : (P R : Type 0) → FromInstructions P R
-from_instructions P R c x sound next first body limit most compiled paced start_turns reset state boots due safe =
+pub from_instructions : DecodedHasWidths → KeepsWords → (P R : Type 0) → FromInstructions P R
+from_instructions widths keeps P R c x sound next first body limit most compiled paced start_turns reset state boots due safe =
     let sh = shared c in
     let m = board_model c in
     let laws = of_board c x.rom in
@@ -29,33 +32,38 @@ from_instructions P R c x sound next first body limit most compiled paced start_
     let s = starts_of x in
     let t = board_turn c in
     let n = length due in
-    let lifts = Lift.lifts m c (λ w. w.chips) (Whole x.rom) laws (comes c) events x.code x.find x.entry x.main x.handler x.placed x.size sound.is_placed sound.finds sound.enough in
-    let begins = Lift.begins m c (λ w. w.chips) (Whole x.rom) laws (comes c) events x.code x.find x.entry x.main x.handler x.placed x.size sound.is_placed sound.finds sound.enough in
+    let lift = Lift.lifts m c (λ w. w.chips) (Whole x.rom) laws (comes c) events x.code x.find x.words x.entry x.main x.handler x.placed x.size sound.is_placed sound.finds sound.enough in
+    let begins = Lift.begins m c (λ w. w.chips) (Whole x.rom) laws (comes c) events x.code x.find x.words x.entry x.main x.handler x.placed x.size sound.is_placed sound.finds sound.enough in
+    let keeps_main = λ (b : Board (World P)) (d e : Duo (Store P) Context) es ls st out.
+    let fine = Lift.memory_of m c (λ w. w.chips) (Whole x.rom) laws (comes c) events x.code x.find x.words x.entry x.main x.handler x.placed x.size sound.is_placed sound.finds sound.enough b d st.0 in
+    main_has c o s (keeps x.code x.find x.words x.entry x.main x.handler (code_widths m widths x.code b.world fine.1.spelled)) es d e ls st.1 out in
+    let lifts = λ es b d e ls st out. let up = lift es b d e ls st.0 out in (up.0, (up.1, keeps_main b d e es ls st out)) in
     let in_step : (b : Board (World P)) (v : Store P) → Begins c x b v → (d : Context) × InStep x sound c b (Alone d false false v) × Follows Access answers R next Context o limit most true n limit first d =
     λ b v h. (
       Own x.main_at h.registers [] false None,
-      record { pair = Single x.main_at h.registers [] false false v; is = refl; fits = record { sp = 0xFFFE; is = h.is; stack = record { words = tt; within = omega arith; at = refl }; fine = h.fine; flags = h.flags; low = sound.main_low } },
-      compiled.follows n h.registers,
+      (record { pair = Single x.main_at h.registers [] false false v; is = refl; fits = record { sp = 0xFFFE; is = h.is; stack = record { words = tt; within = omega arith; at = refl }; fine = h.fine; flags = h.flags; low = sound.main_low } }, (h.words, tt, omega arith)),
+      compiled.follows n h.registers h.words,
     ) in
+    let fits : (b : Board (World P)) (d : Duo (Store P) Context) → InStep x sound c b d → HasWords (main_in d) = λ b d st. st.1 in
     let shows : (b : Board (World P)) (d : Duo (Store P) Context) → InStep x sound c b d → Stands c (firmware_of x) (Lift.level_of (main_in d)) (has_handler d) b =
     λ b d st.
-    let bounds = Lift.bounded m c (λ w. w.chips) (Whole x.rom) laws (comes c) events x.code x.find x.entry x.main x.handler x.placed x.size sound.is_placed sound.finds sound.enough b d st in
-    let fine = Lift.memory_of m c (λ w. w.chips) (Whole x.rom) laws (comes c) events x.code x.find x.entry x.main x.handler x.placed x.size sound.is_placed sound.finds sound.enough b d st in
+    let bounds = Lift.bounded m c (λ w. w.chips) (Whole x.rom) laws (comes c) events x.code x.find x.words x.entry x.main x.handler x.placed x.size sound.is_placed sound.finds sound.enough b d st.0 in
+    let fine = Lift.memory_of m c (λ w. w.chips) (Whole x.rom) laws (comes c) events x.code x.find x.words x.entry x.main x.handler x.placed x.size sound.is_placed sound.finds sound.enough b d st.0 in
     record { rom = fine.1.whole.same_rom; vectors = fine.1.vectors; bounded = bounds.0; from_top = bounds.1; in_room = bounds.2 } in
-    let w = Compose.booted sh R next body Context o s limit most compiled.serves (Board (World P)) t (InStep x sound c) begins lifts (Stands c (firmware_of x)) Lift.level_of shows
+    let w = Compose.booted sh R next body Context o s limit most HasWords compiled.serves (Board (World P)) t (InStep x sound c) begins lifts fits (Stands c (firmware_of x)) Lift.level_of shows
     start_turns due limit reset first state n (Begins c x) in_step (omega arith) (omega arith) boots safe in
     record {
       pieces = w.0;
       fits = w.1;
-      pace = Compose.pace sh R next body Context o s limit most compiled.serves (Board (World P)) t (InStep x sound c) begins lifts (Stands c (firmware_of x)) Lift.level_of shows 64 limit (drop start_turns w.0) paced (omega arith) w.2;
+      pace = Compose.pace sh R next body Context o s limit most HasWords compiled.serves (Board (World P)) t (InStep x sound c) begins lifts fits (Stands c (firmware_of x)) Lift.level_of shows 64 limit (drop start_turns w.0) paced (omega arith) w.2;
       stands = w.3;
     }
 
-pub from_layers : (P R I : Type 0) → FromLayers P R I
-from_layers P R I c x sound next first body does begin procedure k1 m1 k2 m2 lowered compiled paced start_turns chips first_store boots ram screen ram_size screen_size =
+pub from_layers : DecodedHasWidths → KeepsWords → (P R I : Type 0) → FromLayers P R I
+from_layers widths keeps P R I c x sound next first body does begin procedure k1 m1 k2 m2 lowered compiled paced start_turns chips first_store boots ram screen ram_size screen_size =
     let o = offers_of x in
-    let both : Compiled Access answers R next first body Context Working o (main_of x) (starts_of x) (k1 * suc k2 + k2) (suc m2 * m1) = record {
-      follows = λ n g. Joining.joins Access answers R next I does Context o k1 m1 k2 m2 true n (n * suc m2) k1 k2 first begin (main_of x g) (omega arith) (omega arith) (omega arith) (lowered.tracks (n * suc m2)) (compiled.follows n g);
-      serves = λ n v d. Joining.joins Access answers R next I does Context o k1 m1 k2 m2 false n (n * suc m2) k1 k2 (body v) (procedure v) (starts_of x v d) (omega arith) (omega arith) (omega arith) (lowered.bodies (n * suc m2) v) (compiled.serves n v d);
+    let both : Compiled x R next (λ g. first) (λ v d. body v) (k1 * suc k2 + k2) (suc m2 * m1) = record {
+      follows = λ n g h. Joining.joins Access answers R next I does Context o k1 m1 k2 m2 true n (n * suc m2) k1 k2 first (begin g) (main_of x g) (omega arith) (omega arith) (omega arith) (lowered.tracks (n * suc m2) g) (compiled.follows n g h);
+      serves = λ n v d h. Joining.joins Access answers R next I does Context o k1 m1 k2 m2 false n (n * suc m2) k1 k2 (body v) (procedure v d) (starts_of x v d) (omega arith) (omega arith) (omega arith) (lowered.bodies (n * suc m2) v d) (compiled.serves n v d h);
     } in
-    from_instructions P R c x sound next first body (k1 * suc k2 + k2) (suc m2 * m1) both paced start_turns _ _ (boots ram screen ram_size screen_size)
+    from_instructions widths keeps P R c x sound next first body (k1 * suc k2 + k2) (suc m2 * m1) both paced start_turns _ _ (boots ram screen ram_size screen_size)

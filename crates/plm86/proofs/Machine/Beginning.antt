@@ -1,5 +1,5 @@
 -- Where start-up ends, main begins.
-use Rattle.std.proofs.Common.{◌≡◌, ℕ, ◌+◌, ◌*◌, ◌/◌, ◌%◌, ◌<◌, false, ap, ◌∙◌, arith, ap₂}
+use Rattle.std.proofs.Common.{◌≡◌, ℕ, ◌+◌, ◌*◌, ◌/◌, ◌%◌, ◌<◌, ◌≤◌, false, length, ap, ◌∙◌, arith, ap₂}
 use Rattle.word86.specs.Chips.{Chips}
 use Rattle.plm_meaning.specs.Store.{Store, with_chips}
 use Rattle.i86_table.specs.Contexts.{Working, all_registers}
@@ -10,15 +10,18 @@ use Rattle.plm86.specs.Relation.{FlagsAre}
 use Rattle.plm86.specs.Laws.{Assembly, IsSound, Begins, HoldsStore}
 use Rattle.plm86.proofs.Machine.Regions.{of_board, events_law}
 use Rattle.plm86.proofs.Machine.Startup.{Boot}
+use Rattle.plm86.proofs.Machine.Placing.{tables_by_rom}
+use Rattle.plm86.specs.Rom.{WordsInRom}
+use Rattle.i86_table.specs.Words.{AreWords}
 
 word_of_halves : (v : ℕ) → v < 65536 → v % 256 % 256 + 256 * (v / 256 % 256) ≡ v
 word_of_halves v h = omega (arith, h)
 
-module _ {P : Type 0} (c : Chips P) (x : Assembly) (sound : IsSound x) where
-  pub main_begins : (s : Store P) (f : ℕ → ℕ) (g : Working) → FlagsAre false g.flags → HoldsStore x s f → (d : Board (World P)) (p : P)
+module _ {P : Type 0} (c : Chips P) (x : Assembly) (sound : IsSound x) (rom_size : length x.rom ≤ 65536) (tables : WordsInRom x.rom x.words) where
+  pub main_begins : (s : Store P) (f : ℕ → ℕ) (g : Working) → AreWords g → FlagsAre false g.flags → HoldsStore x s f → (d : Board (World P)) (p : P)
       → Boot (board_model c) c (λ w. w.chips) (Whole x.rom) (of_board c x.rom) (comes c) (events_law c x.rom) x.code (all_registers x.main_at g 0xFFFE) f d p → Begins c x d (with_chips p s)
   unfolding loaded_word loaded_byte
-  main_begins s f g off ready d p b =
+  main_begins s f g small off ready d p b =
       let m = board_model c in
       let k = b.world in
       let word : (o low high : ℕ) → o + 1 < 1024 → f o ≡ low → f (o + 1) ≡ high → loaded_word m d.world 0 o ≡ low % 256 + 256 * (high % 256) = λ o low high h el eh.
@@ -28,10 +31,12 @@ module _ {P : Type 0} (c : Chips P) (x : Assembly) (sound : IsSound x) where
       record {
         registers = g;
         is = b.is;
+        words = small;
         flags = off;
         fine = record {
           whole = k.whole;
           spelled = k.spelled;
+          tables = tables_by_rom c x.rom d.world k.whole x.words rom_size tables;
           vectors = record {
             offset = λ n h. let v = ready.vectors n h in word (4 * n) (x.entry n % 256) (x.entry n / 256) (omega (arith, h)) v.0 v.1 ∙ word_of_halves (x.entry n) (ready.entries n h);
             segment = λ n h. let v = ready.vectors n h in let e : 4 * n + 2 + 1 ≡ 4 * n + 3 = omega arith in word (4 * n + 2) 0 240 (omega (arith, h)) v.2 (ap f e ∙ v.3);

@@ -16,6 +16,7 @@ use Rattle.i86_table.specs.declared.instruction.Instr.TheVariants as i
 use Rattle.i86_table.specs.State.{with_word, with_segment}
 use Rattle.i86_table.specs.Arithmetic.{has, with_flag, flag_bit}
 use Rattle.i86_table.specs.Contexts.{Working, all_registers, working, further}
+use Rattle.i86_table.specs.Words.{AreWords}
 use Rattle.i86_code.specs.Decoding.{decoded}
 use Rattle.cpu8086.specs.declared.cpu.Phase.TheVariants.{Running}
 use Rattle.cpu8086.specs.BusModel.{BusModel}
@@ -35,6 +36,10 @@ use Rattle.plm86.proofs.Machine.Vectors
 use Rattle.plm86.proofs.Machine.Vectors.{has_same, regs, Somewhere, low_word, world_stored}
 use Rattle.plm86.proofs.Machine.Copying.{copying, low_byte, copies}
 
+-- AX is loaded again before main
+abbrev pub but_ax : Regs → Working
+but_ax r = record (working r) { ax = 0 }
+
 -- between the loop and the loading of segments: data is at 0, and strings go up
 pub record IsEarly (r : Regs) : Type 0 where
   pub cs : r.cs ≡ 0xF000
@@ -42,6 +47,7 @@ pub record IsEarly (r : Regs) : Type 0 where
   pub es : r.es ≡ 0
   pub flags : FlagsAre false r.flags
   pub up : has r.flags 1024 ≡ false
+  pub words : AreWords (but_ax r)
 
 abbrev pub reset_registers : Regs
 reset_registers = reset_cpu.registers
@@ -120,7 +126,7 @@ module _ {W P : Type 0} (m : BusModel W) (c : Chips P) (chips : W → P) (Whole 
   to_early k S r g e go j b s at rest = go j b s at (λ d p t. rest d p (r, e, refl, t))
 
   early_at : (r : Regs) (ip : ℕ) → IsEarly r → IsEarly (record r { ip = ip })
-  early_at r ip e = record { cs = e.cs; ds = e.ds; es = e.es; flags = e.flags; up = e.up }
+  early_at r ip e = record { cs = e.cs; ds = e.ds; es = e.es; flags = e.flags; up = e.up; words = record { ax = e.words.ax; cx = e.words.cx; dx = e.words.dx; bx = e.words.bx; bp = e.words.bp; si = e.words.si; di = e.words.di } }
 
   act_runs : (act : Act) (here there : ℕ) (f : ℕ → ℕ) → HasAct code here act there → To (turns_of act) (Early here f) (Early there (after_act act f))
   act_runs (PutWord a v) here there f h = from_early 1 here f (Early there (word_put a v f)) (λ r e at.
@@ -143,7 +149,7 @@ module _ {W P : Type 0} (m : BusModel W) (c : Chips P) (chips : W → P) (Whole 
       let s123 = chain 2 1 (Boots r f) (Boots r2 f) (Boots r3 f) s12 s3 in
       let all = chain 3 (suc more) (Boots r f) (Boots r3 f) (Boots r4 (copied (suc more) from to f)) s123 s4 in
       subst (λ z. To (3 + suc more) (Boots r f) (Early z (copied (suc more) from to f))) h.10
-      (to_early (3 + suc more) (Boots r f) r4 (copied (suc more) from to f) (record { cs = e.cs; ds = e.ds; es = e.es; flags = e.flags; up = e.up }) all))
+      (to_early (3 + suc more) (Boots r f) r4 (copied (suc more) from to f) (record { cs = e.cs; ds = e.ds; es = e.es; flags = e.flags; up = e.up; words = record { ax = e.words.ax; cx = omega arith; dx = e.words.dx; bx = e.words.bx; bp = e.words.bp; si = h.3; di = h.4 } }) all))
 
   acts_run : (acts : List Act) (here there : ℕ) (f : ℕ → ℕ) → HasActs code here acts there → To (turns_of_all acts) (Early here f) (Early there (after_acts acts f))
   acts_run [] here there f h = subst (λ z. To 0 (Early here f) (Early z f)) h (none m c chips Whole laws comes events code Begins (Early here f))
@@ -176,6 +182,7 @@ module _ {W P : Type 0} (m : BusModel W) (c : Chips P) (chips : W → P) (Whole 
     -- main's registers at its beginning, with these flags
     pub record IsLate (f : ℕ → ℕ) (b : Board W) (p : P) : Type 0 where
       pub registers : Working
+      pub words : AreWords registers
       pub flags : FlagsAre false registers.flags
       pub boot : Boots (all_registers main_at registers 0xFFFE) f b p
 
@@ -198,7 +205,7 @@ module _ {W P : Type 0} (m : BusModel W) (c : Chips P) (chips : W → P) (Whole 
         let fl = at.0 in
         let r : Regs = regs entry 1024 (x.loop + 14) fl in
         let q : Regs = record r { ip = x.acting; flags = with_flag (flag_bit 1024) false fl } in
-        let early : IsEarly q = record { cs = refl; ds = refl; es = refl; flags = with_flag_keeps 1024 false false fl refl refl refl at.1; up = has_same 1024 false fl (omega arith) refl } in
+        let early : IsEarly q = record { cs = refl; ds = refl; es = refl; flags = with_flag_keeps 1024 false false fl refl refl refl at.1; up = has_same 1024 false fl (omega arith) refl; words = record { ax = omega arith; cx = omega arith; dx = omega arith; bx = omega arith; bp = omega arith; si = omega arith; di = omega arith } } in
         clears r g (x.loop + 14) x.acting refl at.1.on_is refl x.clear j b s at.2 (λ d p t. rest d p (q, early, refl, t))
 
     -- segments, stack pointer, and the jump to main
@@ -226,7 +233,7 @@ module _ {W P : Type 0} (m : BusModel W) (c : Chips P) (chips : W → P) (Whole 
         let t6 = chain 5 1 (Boots r g) (Boots r5 g) (Boots r6 g) t5 s6 in
         let all = chain 6 1 (Boots r g) (Boots r6 g) (Boots r7 g) t6 s7 in
         let same : r7 ≡ all_registers main_at (working r7) 0xFFFE = ap (λ z. record r7 { cs = z }) e.cs in
-        λ j b s here rest. all j b s here (λ d p t. rest d p (record { registers = working r7; flags = e.flags; boot = subst (λ z. Boots z g d p) same t })))
+        λ j b s here rest. all j b s here (λ d p t. rest d p (record { registers = working r7; words = record { ax = omega arith; cx = e.words.cx; dx = e.words.dx; bx = e.words.bx; bp = e.words.bp; si = e.words.si; di = e.words.di }; flags = e.flags; boot = subst (λ z. Boots z g d p) same t })))
 
     -- all of start-up
     pub leads_to_main : (f : ℕ → ℕ) → To (start_up_turns acts) (Boots reset_registers f) (IsLate (after_acts acts (with_vectors entry 0 256 f)))

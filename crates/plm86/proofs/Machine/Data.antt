@@ -12,7 +12,7 @@ use Rattle.cpu8086.specs.declared.bus.Store.TheVariants as stores
 use Rattle.cpu8086.specs.BusModel.{BusModel, stored}
 use Rattle.cpu8086.specs.Machine.{loaded_byte, loaded_word}
 use Rattle.plm86.proofs.Machine.Memory
-use Rattle.plm86.proofs.Machine.Memory.{word_is, spelled_kept, vectors_kept, stacked_kept}
+use Rattle.plm86.proofs.Machine.Memory.{word_is, spelled_kept, tables_kept, vectors_kept, stacked_kept}
 use Rattle.word86.specs.Chips.{Chips}
 use Rattle.plm_meaning.specs.Store.{Store, object, with_screen, value_at, with_value}
 use Rattle.i86_table.specs.Contexts.{bytes}
@@ -76,9 +76,9 @@ module _ {W P : Type 0} (m : BusModel W) (c : Chips P) (chips : W → P) (Whole 
   load_at widths.Byte w off = loaded_byte m w 0x40 off
   load_at widths.Word w off = loaded_word m w 0x40 off
 
-  module _ (code : ℕ → Option (Instr × ℕ)) (entry placed size : ℕ → ℕ) (is_placed : Placed placed size) where
+  module _ (code : ℕ → Option (Instr × ℕ)) (words : ℕ → Option ℕ) (entry placed size : ℕ → ℕ) (is_placed : Placed placed size) where
     -- a read of an object
-    pub read_is : (width : Width) (s : Store P) (w : W) (off k i : ℕ) → Fine m chips Whole code entry placed size s w → off ≡ placed k + i → i + bytes width ≤ size k → load_at width w off ≡ value_at width (object s k) i
+    pub read_is : (width : Width) (s : Store P) (w : W) (off k i : ℕ) → Fine m chips Whole code words entry placed size s w → off ≡ placed k + i → i + bytes width ≤ size k → load_at width w off ≡ value_at width (object s k) i
     unfolding loaded_byte
     read_is widths.Byte s w off k i f e fits =
         let below = is_placed.below k i (omega (arith, fits)) in
@@ -106,8 +106,8 @@ module _ {W P : Type 0} (m : BusModel W) (c : Chips P) (chips : W → P) (Whole 
     object_other s k h l n = get_or-set_other s.objects k h l [] n
 
     -- a write of an object keeps all else
-    pub write_is : (width : Width) (s : Store P) (w : W) (off k i v : ℕ) → Fine m chips Whole code entry placed size s w → off ≡ placed k + i → i + bytes width ≤ size k
-        → Fine m chips Whole code entry placed size (with_object s k (with_value width (object s k) i v)) (m.store w (store_at width (1024 + off) v))
+    pub write_is : (width : Width) (s : Store P) (w : W) (off k i v : ℕ) → Fine m chips Whole code words entry placed size s w → off ≡ placed k + i → i + bytes width ≤ size k
+        → Fine m chips Whole code words entry placed size (with_object s k (with_value width (object s k) i v)) (m.store w (store_at width (1024 + off) v))
     write_is width s w off k i v f e fits =
         let some = some_bytes width in
         let a = 1024 + off in
@@ -140,6 +140,7 @@ module _ {W P : Type 0} (m : BusModel W) (c : Chips P) (chips : W → P) (Whole 
         record {
           whole = laws.stays w (store_at width a v) f.whole;
           spelled = spelled_kept m c chips Whole laws code w u (λ b le lt. far b lt (inr (omega (arith, le)))) f.spelled;
+          tables = tables_kept m c chips Whole laws words w u (λ b le lt. far b lt (inr (omega (arith, le)))) f.tables;
           vectors = vectors_kept m c chips Whole laws entry w u (λ b lt. far b (omega (arith, lt)) (inl (omega (arith, lt)))) f.vectors;
           holds = record {
             bytes = λ h j lt. elim (cases_eq h k) [
@@ -157,7 +158,7 @@ module _ {W P : Type 0} (m : BusModel W) (c : Chips P) (chips : W → P) (Whole 
         }
 
     -- the stack is apart
-    pub write_stack : (width : Width) (s : Store P) (w : W) (off k i v sp : ℕ) (st base : List ℕ) (room : ℕ) → Fine m chips Whole code entry placed size s w → off ≡ placed k + i → i + bytes width ≤ size k → 0xF000 ≤ sp → Stack m w sp st base room → Stack m (m.store w (store_at width (1024 + off) v)) sp st base room
+    pub write_stack : (width : Width) (s : Store P) (w : W) (off k i v sp : ℕ) (st base : List ℕ) (room : ℕ) → Fine m chips Whole code words entry placed size s w → off ≡ placed k + i → i + bytes width ≤ size k → 0xF000 ≤ sp → Stack m w sp st base room → Stack m (m.store w (store_at width (1024 + off) v)) sp st base room
     write_stack width s w off k i v sp st base room f e fits le st_at =
         let some = some_bytes width in
         let top = is_placed.below k (i + (bytes width - 1)) (omega (arith, fits, some.0, some.1)) in
@@ -172,8 +173,8 @@ module _ {W P : Type 0} (m : BusModel W) (c : Chips P) (chips : W → P) (Whole 
     screen_kept w width i t h n lt = laws.screen w t (0xB8000 + i + n) (omega arith) (omega (arith, h, lt))
 
     -- a write to the screen keeps all else
-    pub screen_write_is : (width : Width) (s : Store P) (w : W) (i v : ℕ) → Fine m chips Whole code entry placed size s w → i + bytes width ≤ 4000
-        → Fine m chips Whole code entry placed size (with_screen (with_value width s.screen i v) s) (m.store w (store_at width (0xB8000 + i) v))
+    pub screen_write_is : (width : Width) (s : Store P) (w : W) (i v : ℕ) → Fine m chips Whole code words entry placed size s w → i + bytes width ≤ 4000
+        → Fine m chips Whole code words entry placed size (with_screen (with_value width s.screen i v) s) (m.store w (store_at width (0xB8000 + i) v))
     screen_write_is width s w i v f fits =
         let some = some_bytes width in
         let a = 0xB8000 + i in
@@ -183,6 +184,7 @@ module _ {W P : Type 0} (m : BusModel W) (c : Chips P) (chips : W → P) (Whole 
         record {
           whole = laws.stays w (store_at width a v) f.whole;
           spelled = spelled_kept m c chips Whole laws code w u (λ b le lt. far b lt (inr (omega (arith, le)))) f.spelled;
+          tables = tables_kept m c chips Whole laws words w u (λ b le lt. far b lt (inr (omega (arith, le)))) f.tables;
           vectors = vectors_kept m c chips Whole laws entry w u (λ b lt. far b (omega (arith, lt)) (inl (omega (arith, lt)))) f.vectors;
           holds = record {
             bytes = λ h j lt. let at = is_placed.below h j (omega (arith, lt, f.sizes h)) in far (1024 + (placed h + j)) (omega (arith, at)) (inl (omega (arith, at))) ∙ f.holds.bytes h j lt;
@@ -193,7 +195,7 @@ module _ {W P : Type 0} (m : BusModel W) (c : Chips P) (chips : W → P) (Whole 
           screen_size = length_set width s.screen i v ∙ f.screen_size;
         }
 
-    pub screen_write_stack : (width : Width) (s : Store P) (w : W) (i v sp : ℕ) (st base : List ℕ) (room : ℕ) → Fine m chips Whole code entry placed size s w → i + bytes width ≤ 4000 → Stack m w sp st base room → Stack m (m.store w (store_at width (0xB8000 + i) v)) sp st base room
+    pub screen_write_stack : (width : Width) (s : Store P) (w : W) (i v sp : ℕ) (st base : List ℕ) (room : ℕ) → Fine m chips Whole code words entry placed size s w → i + bytes width ≤ 4000 → Stack m w sp st base room → Stack m (m.store w (store_at width (0xB8000 + i) v)) sp st base room
     screen_write_stack width s w i v sp st base room f fits st_at = record {
       words = stacked_kept m c chips Whole laws w (m.store w (store_at width (0xB8000 + i) v)) sp (st ++ base) (omega (arith, st_at.at, length-append st base)) (λ b ge lt. after_apart w width (0xB8000 + i) v b (screen_kept w width i f.whole fits) (omega (arith, lt)) (λ n less eq. absurd (omega (arith, eq, lt)))) st_at.words;
       within = st_at.within;

@@ -1,5 +1,5 @@
 -- Each instruction does to the processor what it does to its context.
-use Rattle.std.proofs.Common.{◌≡◌, ℕ, ◌+◌, ◌-◌, ◌*◌, ◌%◌, ◌<◌, ◌≤◌, Bool, true, false, List, [], ◌∷◌, ◌++◌, length, Option, Some, None, refl, sym, ap, ◌∙◌, subst, arith, ap₂}
+use Rattle.std.proofs.Common.{◌≡◌, ℕ, ◌+◌, ◌-◌, ◌*◌, ◌%◌, ◌<◌, ◌≤◌, ◌==◌, Bool, true, false, List, [], ◌∷◌, ◌++◌, length, drop, Option, Some, None, refl, sym, ap, ◌∙◌, subst, arith, ap₂, true≢false, eqb-true}
 use Rattle.std.specs.Prelude.{◌&&◌, not, nat_lt, nat_le, if◌then◌else◌}
 use Rattle.std.proofs.lemmas.Bool.{ltb-true, leb-true, leb-false, and_parts}
 use Rattle.word86.specs.declared.width.Width.{Width}
@@ -12,7 +12,7 @@ use Rattle.word86.specs.Following.{Offer, Does, Arms}
 use Rattle.plm_meaning.specs.Store.{Store, with_chips, value_at, touch, screen_label, input_label, output_label}
 use Rattle.i86_table.specs.declared.registers.Regs.{Regs}
 use Rattle.i86_table.specs.declared.registers.Register16.{Register16}
-use Rattle.i86_table.specs.declared.registers.Register16.TheVariants.{Ax, Dx}
+use Rattle.i86_table.specs.declared.registers.Register16.TheVariants.{Ax, Cx, Dx, Bx, Sp, Bp, Si, Di}
 use Rattle.i86_table.specs.declared.registers.Register8.{Register8}
 use Rattle.i86_table.specs.declared.registers.Register8.TheVariants.{Al}
 use Rattle.i86_table.specs.declared.registers.Segment.{Segment}
@@ -29,6 +29,7 @@ use Rattle.i86_table.specs.declared.pairs.WordPair.{WordPair}
 use Rattle.i86_table.specs.declared.instruction.Port.{Port}
 use Rattle.i86_table.specs.declared.instruction.Count.{Count}
 use Rattle.i86_table.specs.declared.instruction.AluOperation.{AluOperation}
+use Rattle.i86_table.specs.declared.instruction.AluOperation.TheVariants.{Add, Or, Adc, Sbb, And, Sub, Xor, Cmp}
 use Rattle.i86_table.specs.declared.instruction.UnaryOperation.{UnaryOperation}
 use Rattle.i86_table.specs.declared.instruction.ShiftOperation.{ShiftOperation}
 use Rattle.i86_table.specs.declared.instruction.Signedness.{Signedness}
@@ -37,8 +38,8 @@ use Rattle.i86_table.specs.declared.instruction.Instr.{Instr}
 use Rattle.i86_table.specs.declared.instruction.Instr.TheVariants as i
 use Rattle.i86_table.specs.State.{segment_of, word_of, byte_of, with_word, with_byte, offset_of}
 use Rattle.i86_table.specs.Conditions.{holds}
-use Rattle.i86_table.specs.Arithmetic.{operated, tested, changed, shifted, multiplied, divided, with_flag, flag_bit, sign_extended, sign_word}
-use Rattle.i86_table.specs.Contexts.{Working, all_registers, is_sp, word_in, byte_in, set_word, set_byte, set_flags, offset_in, port_in, count_in, Context, Own, room, bytes, further, in_object, on_screen, is_comparison, alu_word, alu_byte, word_result, byte_result, word_product, byte_product, word_quotient, byte_quotient, word_mask, byte_mask, masks_sp, input_gives, output_takes, refused, unless, silently, reads, writes, divides, place_in, place_of, offered}
+use Rattle.i86_table.specs.Arithmetic.{operated, tested, changed, shifted, multiplied, divided, added, with_flag, flag_bit, sign_extended, sign_word}
+use Rattle.i86_table.specs.Contexts.{Working, Given, all_registers, is_sp, is_stack, top_of, stack_pointer, stack_word, takes, moved_word, stack_offer, jump_offer, word_in, byte_in, set_word, set_byte, set_flags, offset_in, port_in, count_in, Context, Own, room, bytes, further, in_object, on_screen, is_comparison, alu_word, alu_byte, word_result, byte_result, word_product, byte_product, word_quotient, byte_quotient, word_mask, byte_mask, masks_sp, input_gives, output_takes, refused, unless, silently, reads, writes, divides, place_in, place_of, offered}
 use Rattle.cpu8086.specs.declared.bus.Store.TheVariants as stores
 use Rattle.cpu8086.specs.BusModel.{BusModel}
 use Rattle.cpu8086.specs.declared.cpu.Phase.TheVariants.{Running, AfterSti, Halted}
@@ -53,7 +54,7 @@ use Rattle.plm86.specs.Inner.BoardLaws.{OfBoard}
 use Rattle.plm86.specs.Relation.{Fine, Placed, Finds, FlagsAre}
 use Rattle.plm86.specs.Inner.Stacks.{Stack}
 use Rattle.plm86.proofs.Machine.Memory
-use Rattle.plm86.proofs.Machine.Memory.{push_is, pop_is, push_stacks, pop_stacks, fine_push}
+use Rattle.plm86.proofs.Machine.Memory.{push_is, pop_is, push_stacks, pop_stacks, drop_stacks, own_word, fine_push}
 use Rattle.plm86.proofs.Machine.Data
 use Rattle.plm86.proofs.Machine.Data.{store_at, read_is, write_is, write_stack, load_at}
 use Rattle.plm86.proofs.Machine.FlagLaws.{operated_keeps, tested_keeps, changed_keeps, shifted_keeps, multiplied_keeps, on_after_sti, off_after_cli}
@@ -64,12 +65,12 @@ NotIret i.InterruptReturn = ⊥
 NotIret _ = Unit {0}
 
 module _ {W P : Type 0} (m : BusModel W) (c : Chips P) (chips : W → P) (Whole : W → Type 0) (laws : OfBoard m c chips Whole)
-    (code : ℕ → Option (Instr × ℕ)) (find : ℕ → ℕ → Option (ℕ × ℕ)) (entry : ℕ → ℕ) (main handler : ℕ) (placed size : ℕ → ℕ) (is_placed : Placed placed size) (finds : Finds find placed size) where
+    (code : ℕ → Option (Instr × ℕ)) (find : ℕ → ℕ → Option (ℕ × ℕ)) (words : ℕ → Option ℕ) (entry : ℕ → ℕ) (main handler : ℕ) (placed size : ℕ → ℕ) (is_placed : Placed placed size) (finds : Finds find placed size) where
   abbrev pub F : Store P → W → Type 0
-  F s w = Fine m chips Whole code entry placed size s w
+  F s w = Fine m chips Whole code words entry placed size s w
 
   -- a context in the processor, with what lies beyond its part of the stack
-  pub record At (q : ℕ) (g : Working) (st base : List ℕ) (o : Option Working) (s : Store P) (on : Bool) (ls : List Label) (x : Machine W) : Type 0 where
+  pub record At (q : ℕ) (g : Working) (st base : List ℕ) (o : Option Given) (s : Store P) (on : Bool) (ls : List Label) (x : Machine W) : Type 0 where
     pub sp : ℕ
     pub w : W
     pub is : x ≡ record { registers = all_registers q g sp; world = w; labels = ls }
@@ -78,11 +79,11 @@ module _ {W P : Type 0} (m : BusModel W) (c : Chips P) (chips : W → P) (Whole 
     pub flags : FlagsAre on g.flags
     pub low : q < 65536
 
-  abbrev pub Sits : Bool → Option Working → List ℕ → Context → Store P → Bool → List Label → Machine W → Type 0
+  abbrev pub Sits : Bool → Option Given → List ℕ → Context → Store P → Bool → List Label → Machine W → Type 0
   Sits a0 o0 base (Own p g st a o) s on ls x = At p g st base o0 s on ls x × (a ≡ a0) × (o ≡ o0)
 
   -- the machine x, after an instruction that halts, or delays, or neither, is what the offer comes to
-  abbrev pub Meets : Bool → Option Working → List ℕ → Offer Access Context → Store P → Bool → Instr → Machine W → Type 0
+  abbrev pub Meets : Bool → Option Given → List ℕ → Offer Access Context → Store P → Bool → Instr → Machine W → Type 0
   Meets a o base (Arms d) s on n x = Sits true o base d s true [] x × (phase_after n ≡ AfterSti)
   Meets a o base (Does (Silent d)) s on n x = Sits false o base d s on [] x × (phase_after n ≡ Running)
   Meets a o base (Does (Touch y k)) s on n x = Sits false o base (k (touch c y s).0) (touch c y s).1 on (touch c y s).2 x × (phase_after n ≡ Running)
@@ -92,7 +93,7 @@ module _ {W P : Type 0} (m : BusModel W) (c : Chips P) (chips : W → P) (Whole 
   Meets a o base (Does Over) s on n x = ⊥
   Meets a o base (Does (Bad module_index line)) s on n x = Unit {0}
 
-  module _ (o : Option Working) (base : List ℕ) (fits : room main handler o + length base ≤ 2047) (a : Bool) (s : Store P) (on : Bool) (sti : a ≡ true → on ≡ true) where
+  module _ (o : Option Given) (base : List ℕ) (fits : room main handler o + length base ≤ 2047) (topped : top_of o + 2 * length base ≡ 0xFFFE) (a : Bool) (s : Store P) (on : Bool) (sti : a ≡ true → on ≡ true) where
     unless_meets : (b t : Bool) (z : Offer Access Context) (n : Instr) (x : Machine W) → t ≡ b → (t ≡ false → Meets a o base z s on n x) → Meets a o base (unless b z) s on n x
     unless_meets true t z n x e h = tt
     unless_meets false t z n x e h = h e
@@ -104,6 +105,9 @@ module _ {W P : Type 0} (m : BusModel W) (c : Chips P) (chips : W → P) (Whole 
 
       deep : 0xF000 ≤ sp
       deep = omega (arith, stack.at, stack.within, fits)
+
+      pointer_is : sp ≡ stack_pointer o st
+      pointer_is = omega (arith, stack.at, topped)
 
       -- only registers change
       settled : (p : ℕ) (lp : p < 65536) (h : Working) (x : Machine W) (b : Bool) → x ≡ record { registers = all_registers p h sp; world = w; labels = [] } → FlagsAre b h.flags → At p h st base o s b [] x
@@ -125,21 +129,21 @@ module _ {W P : Type 0} (m : BusModel W) (c : Chips P) (chips : W → P) (Whole 
 
       -- what the instruction comes to, from the context's offer
       abbrev Fits : Instr → ℕ → Type 0
-      Fits n start = Meets a o base (offered find main handler n q g st a o) s on n (effect m n start before)
+      Fits n start = Meets a o base (offered find words main handler n q g st a o) s on n (effect m n start before)
 
       -- ---- the processor's control
 
-      nop : (start : ℕ) (b : Bool) → a ≡ b → Meets a o base (offered find main handler i.Nop q g st b o) s on i.Nop (effect m i.Nop start before)
+      nop : (start : ℕ) (b : Bool) → a ≡ b → Meets a o base (offered find words main handler i.Nop q g st b o) s on i.Nop (effect m i.Nop start before)
       unfolding effect
       nop start true e = (e, (settled q hq g before true refl (subst (λ b. FlagsAre b g.flags) (sti e) flags), refl, refl), refl)
       nop start false e = ((settled q hq g before on refl flags, refl, refl), refl)
 
-      halt : (start : ℕ) (b : Bool) → a ≡ b → Meets a o base (offered find main handler i.Halt q g st b o) s on i.Halt (effect m i.Halt start before)
+      halt : (start : ℕ) (b : Bool) → a ≡ b → Meets a o base (offered find words main handler i.Halt q g st b o) s on i.Halt (effect m i.Halt start before)
       unfolding effect
       halt start true e = (e, (settled q hq g before true refl (subst (λ b. FlagsAre b g.flags) (sti e) flags), refl, refl), refl)
       halt start false e = tt
 
-      sti_runs : (start : ℕ) (p : Option Working) → o ≡ p → Meets a o base (offered find main handler i.EnableInterrupts q g st a p) s on i.EnableInterrupts (effect m i.EnableInterrupts start before)
+      sti_runs : (start : ℕ) (p : Option Given) → o ≡ p → Meets a o base (offered find words main handler i.EnableInterrupts q g st a p) s on i.EnableInterrupts (effect m i.EnableInterrupts start before)
       unfolding effect
       sti_runs start None e = ((settled q hq (set_flags g (with_flag (flag_bit 512) true g.flags)) (effect m i.EnableInterrupts start before) true refl (on_after_sti on g.flags flags), refl, sym e), refl)
       sti_runs start (Some h) e = tt
@@ -159,12 +163,21 @@ module _ {W P : Type 0} (m : BusModel W) (c : Chips P) (chips : W → P) (Whole 
       unfolding effect moves.moved
       move_byte_immediate start v r = let n = i.MoveByte (Immediate (places.Register r) v) in byte_out n (effect m n start before) g r v refl refl flags
 
+      moved_is : (t : Register16) → word_of (all_registers q g sp) t ≡ moved_word t g st o
+      moved_is Ax = refl
+      moved_is Cx = refl
+      moved_is Dx = refl
+      moved_is Bx = refl
+      moved_is Sp = pointer_is
+      moved_is Bp = refl
+      moved_is Si = refl
+      moved_is Di = refl
+
       move_word_register : (start : ℕ) (r t : Register16) → Fits (i.MoveWord (FromRegister (places.Register r) t)) start
       unfolding effect moves.moved
       move_word_register start r t = let n = i.MoveWord (FromRegister (places.Register r) t) in
           unless_meets (is_sp r) (is_sp r) _ n (effect m n start before) refl (λ kr.
-          unless_meets (is_sp t) (is_sp t) _ n (effect m n start before) refl (λ kt.
-          word_out n (effect m n start before) g r (word_in g t) refl kr (ap (λ v. x_of (with_word (all_registers q g sp) r v)) (word_in_is q g sp t kt)) flags))
+          word_out n (effect m n start before) g r (moved_word t g st o) refl kr (ap (λ v. x_of (with_word (all_registers q g sp) r v)) (moved_is t)) flags)
 
       move_byte_register : (start : ℕ) (r t : Register8) → Fits (i.MoveByte (FromRegister (places.Register r) t)) start
       unfolding effect moves.moved
@@ -226,11 +239,56 @@ module _ {W P : Type 0} (m : BusModel W) (c : Chips P) (chips : W → P) (Whole 
           unless_meets (is_sp t) (is_sp t) _ n (effect m n start before) refl (λ kt.
           goes_on n (effect m n start before) q hq (alu_word f r (word_in g t) g) refl (ap (word_sum f r (word_of (all_registers q g sp) r)) (word_in_is q g sp t kt) ∙ word_sum_is f r (word_in g t) kr) (word_sum_flags f r (word_in g t))))
 
+      -- ADD SP: words are dropped
+      pointer_added : (v : ℕ) → sp + v < 65536 → (operated Add widths.Word sp v g.flags).value ≡ sp + v
+      unfolding operated added
+      pointer_added v h = omega (arith, h)
+
+      drops : (b : Bool) (v : ℕ) → (v % 2 == 0 && nat_le (v / 2) (length st)) ≡ b → let n = i.AluWord Add (Immediate (places.Register Sp) v) in
+          Meets a o base (if b then silently (Own q (set_flags g (operated Add widths.Word (stack_pointer o st) v g.flags).flags) (drop (v / 2) st) false o) else refused) s on n (word_sum Add Sp sp v)
+      drops false v e = tt
+      drops true v e =
+          let both = and_parts (v % 2 == 0) (nat_le (v / 2) (length st)) e in
+          let even : v % 2 ≡ 0 = eqb-true (v % 2) 0 both.0 in
+          let few : v / 2 ≤ length st = leb-true (v / 2) (length st) both.1 in
+          let whole : sp + v ≡ sp + 2 * (v / 2) = omega (arith, even) in
+          let value : (operated Add widths.Word sp v g.flags).value ≡ sp + 2 * (v / 2) = pointer_added v (omega (arith, few, even, stack.at)) ∙ whole in
+          let h : ℕ → Working = λ z. set_flags g (operated Add widths.Word z v g.flags).flags in
+          let done : At q (h sp) (drop (v / 2) st) base o s on [] (word_sum Add Sp sp v) = record {
+            sp = sp + 2 * (v / 2);
+            w = w;
+            is = ap (λ z. x_of (all_registers q (h sp) z)) value;
+            stack = drop_stacks m c chips Whole laws (v / 2) w sp st base (room main handler o) few stack;
+            fine = fine;
+            flags = operated_keeps Add widths.Word sp v on g.flags flags;
+            low = hq;
+          } in
+          ((subst (λ z. At q (h z) (drop (v / 2) st) base o s on [] (word_sum Add Sp sp v)) pointer_is done, refl, refl), refl)
+
+      stack_arithmetic : (f : AluOperation) (r : Register16) → is_sp r ≡ true → (v : ℕ) → let n = i.AluWord f (Immediate (places.Register r) v) in Meets a o base (stack_offer f v q g st o) s on n (word_sum f r (word_of (all_registers q g sp) r) v)
+      stack_arithmetic Add Sp k v = drops (v % 2 == 0 && nat_le (v / 2) (length st)) v refl
+      stack_arithmetic Add Ax k v = absurd (true≢false (sym k))
+      stack_arithmetic Add Cx k v = absurd (true≢false (sym k))
+      stack_arithmetic Add Dx k v = absurd (true≢false (sym k))
+      stack_arithmetic Add Bx k v = absurd (true≢false (sym k))
+      stack_arithmetic Add Bp k v = absurd (true≢false (sym k))
+      stack_arithmetic Add Si k v = absurd (true≢false (sym k))
+      stack_arithmetic Add Di k v = absurd (true≢false (sym k))
+      stack_arithmetic Or r k v = tt
+      stack_arithmetic Adc r k v = tt
+      stack_arithmetic Sbb r k v = tt
+      stack_arithmetic And r k v = tt
+      stack_arithmetic Sub r k v = tt
+      stack_arithmetic Xor r k v = tt
+      stack_arithmetic Cmp r k v = tt
+
       alu_word_immediate : (start : ℕ) (f : AluOperation) (r : Register16) (v : ℕ) → Fits (i.AluWord f (Immediate (places.Register r) v)) start
       unfolding effect computed
-      alu_word_immediate start f r v = let n = i.AluWord f (Immediate (places.Register r) v) in
-          unless_meets (is_sp r) (is_sp r) _ n (effect m n start before) refl (λ k.
-          goes_on n (effect m n start before) q hq (alu_word f r v g) refl (word_sum_is f r v k) (word_sum_flags f r v))
+      alu_word_immediate start f r v = by (is_sp r) refl
+        where
+          by : (b : Bool) → is_sp r ≡ b → let n = i.AluWord f (Immediate (places.Register r) v) in Meets a o base (if b then stack_offer f v q g st o else silently (Own q (alu_word f r v g) st false o)) s on n (word_sum f r (word_of (all_registers q g sp) r) v)
+          by true k = stack_arithmetic f r k v
+          by false k = let n = i.AluWord f (Immediate (places.Register r) v) in goes_on n (word_sum f r (word_of (all_registers q g sp) r) v) q hq (alu_word f r v g) refl (word_sum_is f r v k) (word_sum_flags f r v)
 
       alu_byte_register : (start : ℕ) (f : AluOperation) (r t : Register8) → Fits (i.AluByte f (FromRegister (places.Register r) t)) start
       unfolding effect computed
@@ -374,6 +432,25 @@ module _ {W P : Type 0} (m : BusModel W) (c : Chips P) (chips : W → P) (Whole 
           unless_meets (nat_le 65536 (word_in g r)) (nat_le 65536 (word_in g r)) _ n (effect m n start before) refl (λ small.
           goes_on n (effect m n start before) (word_in g r) (leb-false 65536 (word_in g r) small) g refl (ap (λ p. x_of (all_registers p g sp)) (word_in_is q g sp r k)) flags))
 
+      -- a number that the context goes on with
+      takes_meet : (p : Option ℕ) (k : ℕ → Context) (n : Instr) (x : Machine W) → phase_after n ≡ Running → ((v : ℕ) → p ≡ Some v → Sits false o base (k v) s on [] x) → Meets a o base (takes p k) s on n x
+      takes_meet None k n x ph h = tt
+      takes_meet (Some v) k n x ph h = (h v refl, ph)
+
+      -- through a table in the code's segment
+      jump_through : (start : ℕ) (t : Memory) → Fits (i.JumpTo (places.Memory t)) start
+      unfolding effect
+      jump_through start t = subst (λ z. Meets a o base (jump_offer words t.segment z g st o) s on (i.JumpTo (places.Memory t)) (effect m (i.JumpTo (places.Memory t)) start before)) (offset_is q g sp t.address) (by t.segment (offset_of (all_registers q g sp) t.address))
+        where
+          by : (segment : Segment) (off : ℕ) → Meets a o base (jump_offer words segment off g st o) s on (i.JumpTo (places.Memory t)) (x_of (record (all_registers q g sp) { ip = loaded_word m w (segment_of (all_registers q g sp) segment) off }))
+          by segments.Cs off = takes_meet (words off) (λ place. Own place g st false o) (i.JumpTo (places.Memory t)) _ refl (λ v e.
+              let at = fine.tables off v e in
+              let small : v < 65536 = omega (arith, Memory.word_small m c chips Whole laws w 0xF000 off, at.1) in
+              (settled v small g _ on (ap (λ p. x_of (all_registers p g sp)) at.1) flags, refl, refl))
+          by segments.Es off = tt
+          by segments.Ss off = tt
+          by segments.Ds off = tt
+
       -- ---- the stack
 
       -- a word more
@@ -397,7 +474,7 @@ module _ {W P : Type 0} (m : BusModel W) (c : Chips P) (chips : W → P) (Whole 
                 w = m.store w (stores.Word (1024 + t) (1025 + t) v);
                 is = same lt;
                 stack = push_stacks m c chips Whole laws w t v 0 st base (room main handler o) fine.whole lt (omega (arith, stack.at, up)) more;
-                fine = fine_push m c chips Whole laws code entry placed size is_placed s w t v (omega (arith, stack.at, lt, fits)) (omega (arith, stack.at)) fine;
+                fine = fine_push m c chips Whole laws code words entry placed size is_placed s w t v (omega (arith, stack.at, lt, fits)) (omega (arith, stack.at)) fine;
                 flags = flags;
                 low = lp;
               },
@@ -423,7 +500,7 @@ module _ {W P : Type 0} (m : BusModel W) (c : Chips P) (chips : W → P) (Whole 
           let stack1 : Stack m w sp (v ∷ l) base (room main handler o) = subst (λ z. Stack m w sp z base (room main handler o)) e stack in
           (pop_is m c chips Whole laws q g sp v w (l ++ base) (omega (arith, stack1.at)) stack1.words, pop_stacks m c chips Whole laws w sp v l base (room main handler o) stack1)
 
-      pop_runs : (start : ℕ) (r : Register16) (l : List ℕ) → st ≡ l → let n = i.Pop (places.Register r) in Meets a o base (offered find main handler n q g l a o) s on n (effect m n start before)
+      pop_runs : (start : ℕ) (r : Register16) (l : List ℕ) → st ≡ l → let n = i.Pop (places.Register r) in Meets a o base (offered find words main handler n q g l a o) s on n (effect m n start before)
       unfolding effect popped_to
       pop_runs start r [] e = tt
       pop_runs start r (v ∷ l) e = let n = i.Pop (places.Register r) in
@@ -440,7 +517,7 @@ module _ {W P : Type 0} (m : BusModel W) (c : Chips P) (chips : W → P) (Whole 
           } in
           ((done, refl, refl), refl))
 
-      return_runs : (start : ℕ) (l : List ℕ) → st ≡ l → let n = i.Return in Meets a o base (offered find main handler n q g l a o) s on n (effect m n start before)
+      return_runs : (start : ℕ) (l : List ℕ) → st ≡ l → let n = i.Return in Meets a o base (offered find words main handler n q g l a o) s on n (effect m n start before)
       unfolding effect returned
       return_runs start [] e = tt
       return_runs start (v ∷ l) e =
@@ -473,7 +550,7 @@ module _ {W P : Type 0} (m : BusModel W) (c : Chips P) (chips : W → P) (Whole 
       read_place width segments.Ds off y e =
           let t = found (find off (bytes width)) y e in
           let b = finds off (bytes width) t.0 t.1 t.2 in
-          data_load width off ∙ read_is m c chips Whole laws code entry placed size is_placed width s w off t.0 t.1 fine b.0 b.1 ∙ ap (λ z. (touch c (Read width z) s).0) (sym t.3)
+          data_load width off ∙ read_is m c chips Whole laws code words entry placed size is_placed width s w off t.0 t.1 fine b.0 b.1 ∙ ap (λ z. (touch c (Read width z) s).0) (sym t.3)
         where
           data_load : (width : Width) (off : ℕ) → load_in width segments.Ds off ≡ load_at m c chips Whole laws width w off
           data_load widths.Byte off = refl
@@ -509,8 +586,8 @@ module _ {W P : Type 0} (m : BusModel W) (c : Chips P) (chips : W → P) (Whole 
             sp = sp;
             w = m.store w (store_at width (1024 + off) v);
             is = data_store width off v (omega (arith, below, b.0));
-            stack = write_stack m c chips Whole laws code entry placed size is_placed width s w off t.0 t.1 v sp st base (room main handler o) fine b.0 b.1 deep stack;
-            fine = write_is m c chips Whole laws code entry placed size is_placed width s w off t.0 t.1 v fine b.0 b.1;
+            stack = write_stack m c chips Whole laws code words entry placed size is_placed width s w off t.0 t.1 v sp st base (room main handler o) fine b.0 b.1 deep stack;
+            fine = write_is m c chips Whole laws code words entry placed size is_placed width s w off t.0 t.1 v fine b.0 b.1;
             flags = flags;
             low = hq;
           })
@@ -520,8 +597,8 @@ module _ {W P : Type 0} (m : BusModel W) (c : Chips P) (chips : W → P) (Whole 
             sp = sp;
             w = m.store w (store_at width (0xB8000 + t.0) v);
             is = ap (λ z. store_in width segments.Es z v) t.1 ∙ screen_store width t.0 v t.2;
-            stack = Data.screen_write_stack m c chips Whole laws code entry placed size is_placed width s w t.0 v sp st base (room main handler o) fine t.2 stack;
-            fine = Data.screen_write_is m c chips Whole laws code entry placed size is_placed width s w t.0 v fine t.2;
+            stack = Data.screen_write_stack m c chips Whole laws code words entry placed size is_placed width s w t.0 v sp st base (room main handler o) fine t.2 stack;
+            fine = Data.screen_write_is m c chips Whole laws code words entry placed size is_placed width s w t.0 v fine t.2;
             flags = flags;
             low = hq;
           })
@@ -546,12 +623,23 @@ module _ {W P : Type 0} (m : BusModel W) (c : Chips P) (chips : W → P) (Whole 
           let same : x ≡ store_in width t.segment (offset_in g t.address) v = h ∙ ap (λ z. store_in width t.segment z v) (offset_is q g sp t.address) in
           ((subst (λ z. At q g st base o (touch c (Write width y v) s).1 on (touch c (Write width y v) s).2 z) (sym same) z, refl, refl), ph)
 
+      stack_load : (segment : Segment) → is_stack segment ≡ true → (off v : ℕ) → stack_word off (stack_pointer o st) st ≡ Some v → load_in widths.Word segment off ≡ v
+      stack_load segments.Ss k off v e = own_word m c chips Whole laws off v w sp st base stack.words (ap (λ z. stack_word off z st) pointer_is ∙ e)
+      stack_load segments.Es k off v e = absurd (true≢false (sym k))
+      stack_load segments.Cs k off v e = absurd (true≢false (sym k))
+      stack_load segments.Ds k off v e = absurd (true≢false (sym k))
+
       fetch_word : (start : ℕ) (r : Register16) (t : Memory) → Fits (i.MoveWord (FromMemory r t)) start
       unfolding effect moves.moved
       fetch_word start r t = let n = i.MoveWord (FromMemory r t) in
-          unless_meets (is_sp r) (is_sp r) _ n (effect m n start before) refl (λ k.
-          reads_meet widths.Word t (place_of find g t widths.Word) refl (λ v. Own q (set_word g r v) st false o) n (effect m n start before) refl (λ v e.
+          unless_meets (is_sp r) (is_sp r) _ n (effect m n start before) refl (λ k. by (is_stack t.segment) refl (λ v e.
           (settled q hq (set_word g r v) _ on (ap (λ z. x_of (with_word (all_registers q g sp) r z)) e ∙ ap x_of (set_word_is q g sp r v k)) (subst (FlagsAre on) (sym (flags-set_word g r v)) flags), refl, refl)))
+        where
+          by : (b : Bool) → is_stack t.segment ≡ b → let n = i.MoveWord (FromMemory r t) in let x = x_of (with_word (all_registers q g sp) r (load_in widths.Word t.segment (offset_of (all_registers q g sp) t.address))) in let k : ℕ → Context = λ v. Own q (set_word g r v) st false o in
+              ((v : ℕ) → load_in widths.Word t.segment (offset_of (all_registers q g sp) t.address) ≡ v → Sits false o base (k v) s on [] x)
+              → Meets a o base (if b then takes (stack_word (offset_in g t.address) (stack_pointer o st) st) k else reads (place_of find g t widths.Word) widths.Word k) s on n x
+          by true same h = takes_meet (stack_word (offset_in g t.address) (stack_pointer o st) st) _ (i.MoveWord (FromMemory r t)) _ refl (λ v e. h v (ap (load_in widths.Word t.segment) (offset_is q g sp t.address) ∙ stack_load t.segment same (offset_in g t.address) v e))
+          by false same h = reads_meet widths.Word t (place_of find g t widths.Word) refl _ (i.MoveWord (FromMemory r t)) _ refl h
 
       fetch_byte : (start : ℕ) (r : Register8) (t : Memory) → Fits (i.MoveByte (FromMemory r t)) start
       unfolding effect moves.moved
@@ -677,8 +765,8 @@ module _ {W P : Type 0} (m : BusModel W) (c : Chips P) (chips : W → P) (Whole 
             sp = sp;
             w = u;
             is = input_is width p;
-            stack = Memory.stack_chips m c chips Whole laws code entry placed size is_placed w u sp st base (room main handler o) (laws.ports.reading w width port) stack;
-            fine = Memory.fine_chips m c chips Whole laws code entry placed size is_placed s w u (c.reading s.chips width port) (laws.ports.reading w width port) (laws.in_stays w width port fine.whole) (laws.in_chips w width port ∙ ap (λ x. c.reading x width port) fine.chips_are) fine;
+            stack = Memory.stack_chips m c chips Whole laws code words entry placed size is_placed w u sp st base (room main handler o) (laws.ports.reading w width port) stack;
+            fine = Memory.fine_chips m c chips Whole laws code words entry placed size is_placed s w u (c.reading s.chips width port) (laws.ports.reading w width port) (laws.in_stays w width port fine.whole) (laws.in_chips w width port ∙ ap (λ x. c.reading x width port) fine.chips_are) fine;
             flags = subst (FlagsAre on) (sym (input_flags width v)) flags;
             low = hq;
           } in
@@ -699,8 +787,8 @@ module _ {W P : Type 0} (m : BusModel W) (c : Chips P) (chips : W → P) (Whole 
             sp = sp;
             w = u;
             is = output_is width p;
-            stack = Memory.stack_chips m c chips Whole laws code entry placed size is_placed w u sp st base (room main handler o) (laws.ports.writing w width port v) stack;
-            fine = Memory.fine_chips m c chips Whole laws code entry placed size is_placed s w u (c.writing s.chips width port v) (laws.ports.writing w width port v) (laws.out_stays w width port v fine.whole) (laws.out_chips w width port v ∙ ap (λ x. c.writing x width port v) fine.chips_are) fine;
+            stack = Memory.stack_chips m c chips Whole laws code words entry placed size is_placed w u sp st base (room main handler o) (laws.ports.writing w width port v) stack;
+            fine = Memory.fine_chips m c chips Whole laws code words entry placed size is_placed s w u (c.writing s.chips width port v) (laws.ports.writing w width port v) (laws.out_stays w width port v fine.whole) (laws.out_chips w width port v ∙ ap (λ x. c.writing x width port v) fine.chips_are) fine;
             flags = flags;
             low = hq;
           } in
@@ -773,7 +861,7 @@ module _ {W P : Type 0} (m : BusModel W) (c : Chips P) (chips : W → P) (Whole 
       instr_runs start (i.JumpShort d) ni = jump_short start d
       instr_runs start (i.Jump d) ni = jump_near start d
       instr_runs start (i.JumpTo (places.Register r)) ni = jump_to start r
-      instr_runs start (i.JumpTo (places.Memory d)) ni = tt
+      instr_runs start (i.JumpTo (places.Memory d)) ni = jump_through start d
       instr_runs start (i.Call d) ni = call_runs start d
       instr_runs start i.Return ni = return_runs start st refl
       instr_runs start (i.In width p) ni = input_runs start width p

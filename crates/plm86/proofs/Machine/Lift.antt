@@ -17,7 +17,7 @@ use Rattle.i86_table.specs.declared.registers.Regs.{Regs}
 use Rattle.i86_table.specs.declared.instruction.Instr.{Instr}
 use Rattle.i86_table.specs.declared.instruction.Instr.TheVariants as i
 use Rattle.i86_table.specs.Arithmetic.{has, flags_of}
-use Rattle.i86_table.specs.Contexts.{Working, all_registers, set_flags, Context, Own, room, refused, offered, offered_at, offer, start, gives_back, without_trap_and_interrupts}
+use Rattle.i86_table.specs.Contexts.{Working, Given, all_registers, set_flags, Context, Own, room, top_of, stack_pointer, refused, offered, offered_at, offer, start, gives_back, without_trap_and_interrupts}
 use Rattle.i86_code.specs.Decoding.{decoded}
 use Rattle.cpu8086.specs.declared.bus.Store.TheVariants as stores
 use Rattle.cpu8086.specs.declared.cpu.Cpu.{Cpu}
@@ -47,10 +47,14 @@ pub data Pair (S : Type 0) : Type 0 where
   Primed : (p : ℕ) → (g : Working) → (st : List ℕ) → S → Pair S
   Twofold : (p : ℕ) → (g : Working) → (st : List ℕ) → (p0 : ℕ) → (g0 : Working) → (st0 : List ℕ) → S → Pair S
 
+-- what an interrupt procedure is given by main at this place
+abbrev pub saved : Working → List ℕ → Given
+saved g st = record { registers = g; top = stack_pointer None st - 6 }
+
 abbrev pub contexts : {S : Type 0} → Pair S → Duo S Context
 contexts (Single p g st on halted s) = Alone (Own p g st false None) on halted s
 contexts (Primed p g st s) = Armed (Own p g st true None) s
-contexts (Twofold p g st p0 g0 st0 s) = Serving (Own p0 g0 st0 false None) (Own p g st false (Some g0)) s
+contexts (Twofold p g st p0 g0 st0 s) = Serving (Own p0 g0 st0 false None) (Own p g st false (Some (saved g0 st0))) s
 
 -- where the stack pointer is while the context runs and nothing lies beyond its words
 abbrev pub level_of : Context → ℕ
@@ -66,10 +70,10 @@ iret_or _ = inl tt
 
 module _ {W P : Type 0} (m : BusModel W) (c : Chips P) (chips : W → P) (Whole : W → Type 0) (laws : OfBoard m c chips Whole)
     (comes : Event → W → W) (events : Events m c chips Whole comes)
-    (code : ℕ → Option (Instr × ℕ)) (find : ℕ → ℕ → Option (ℕ × ℕ)) (entry : ℕ → ℕ) (main handler : ℕ) (placed size : ℕ → ℕ) (is_placed : Placed placed size) (finds : Finds find placed size)
+    (code : ℕ → Option (Instr × ℕ)) (find : ℕ → ℕ → Option (ℕ × ℕ)) (words : ℕ → Option ℕ) (entry : ℕ → ℕ) (main handler : ℕ) (placed size : ℕ → ℕ) (is_placed : Placed placed size) (finds : Finds find placed size)
     (enough : main + 3 + handler ≤ 2047) where
   abbrev F : Store P → W → Type 0
-  F s w = Fine m chips Whole code entry placed size s w
+  F s w = Fine m chips Whole code words entry placed size s w
 
   abbrev cpu_at : Regs → Phase → Cpu
   cpu_at r phase = record { registers = r; phase = phase }
@@ -78,7 +82,7 @@ module _ {W P : Type 0} (m : BusModel W) (c : Chips P) (chips : W → P) (Whole 
   waits_if true = Halted
   waits_if false = Running
 
-  pub record Run (b : Board W) (p : ℕ) (g : Working) (st base : List ℕ) (o : Option Working) (s : Store P) (on : Bool) (phase : Phase) : Type 0 where
+  pub record Run (b : Board W) (p : ℕ) (g : Working) (st base : List ℕ) (o : Option Given) (s : Store P) (on : Bool) (phase : Phase) : Type 0 where
     pub sp : ℕ
     pub is : b.cpu ≡ cpu_at (all_registers p g sp) phase
     pub stack : Stack m b.world sp st base (room main handler o)
@@ -92,7 +96,7 @@ module _ {W P : Type 0} (m : BusModel W) (c : Chips P) (chips : W → P) (Whole 
   abbrev Fits : Pair (Store P) → Board W → Type 0
   Fits (Single p g st on halted s) b = Run b p g st [] None s on (waits_if halted)
   Fits (Primed p g st s) b = Run b p g st [] None s true AfterSti
-  Fits (Twofold p g st p0 g0 st0 s) b = Run b p g st (frame p0 g0 st0) (Some g0) s false Running × Waits p0 st0 × FlagsAre true g0.flags
+  Fits (Twofold p g st p0 g0 st0 s) b = Run b p g st (frame p0 g0 st0) (Some (saved g0 st0)) s false Running × Waits p0 st0 × FlagsAre true g0.flags
 
   pub record Stands (b : Board W) (d : Duo (Store P) Context) : Type 0 where
     pub pair : Pair (Store P)
@@ -107,13 +111,13 @@ module _ {W P : Type 0} (m : BusModel W) (c : Chips P) (chips : W → P) (Whole 
   abbrev after : Instr → Machine W → Board W × List Label
   after n x = (record { cpu = cpu_at x.registers (phase_after n); world = x.world }, x.labels)
 
-  abbrev AtIs : ℕ → Working → List ℕ → List ℕ → Option Working → Store P → Bool → List Label → Machine W → Type 0
-  AtIs q g st base o s on ls x = At m c chips Whole laws code find entry main handler placed size is_placed finds q g st base o s on ls x
+  abbrev AtIs : ℕ → Working → List ℕ → List ℕ → Option Given → Store P → Bool → List Label → Machine W → Type 0
+  AtIs q g st base o s on ls x = At m c chips Whole laws code find words entry main handler placed size is_placed finds q g st base o s on ls x
 
-  abbrev SitsIs : Bool → Option Working → List ℕ → Context → Store P → Bool → List Label → Machine W → Type 0
-  SitsIs a o base d s on ls x = Sits m c chips Whole laws code find entry main handler placed size is_placed finds a o base d s on ls x
+  abbrev SitsIs : Bool → Option Given → List ℕ → Context → Store P → Bool → List Label → Machine W → Type 0
+  SitsIs a o base d s on ls x = Sits m c chips Whole laws code find words entry main handler placed size is_placed finds a o base d s on ls x
 
-  runs_on : (p : ℕ) (g : Working) (st base : List ℕ) (o : Option Working) (s : Store P) (on : Bool) (phase : Phase) (ls : List Label) (n : Instr) (x : Machine W) → AtIs p g st base o s on ls x → phase_after n ≡ phase → Run (after n x).0 p g st base o s on phase
+  runs_on : (p : ℕ) (g : Working) (st base : List ℕ) (o : Option Given) (s : Store P) (on : Bool) (phase : Phase) (ls : List Label) (n : Instr) (x : Machine W) → AtIs p g st base o s on ls x → phase_after n ≡ phase → Run (after n x).0 p g st base o s on phase
   runs_on p g st base o s on phase ls n x at e =
       subst (λ y. Run (after n y).0 p g st base o s on phase) (sym at.is) (record {
         sp = at.sp;
@@ -124,7 +128,7 @@ module _ {W P : Type 0} (m : BusModel W) (c : Chips P) (chips : W → P) (Whole 
         low = at.low;
       })
 
-  shown : (p : ℕ) (g : Working) (st base : List ℕ) (o : Option Working) (s : Store P) (on : Bool) (ls : List Label) (n : Instr) (x : Machine W) → AtIs p g st base o s on ls x → (after n x).1 ≡ ls
+  shown : (p : ℕ) (g : Working) (st base : List ℕ) (o : Option Given) (s : Store P) (on : Bool) (ls : List Label) (n : Instr) (x : Machine W) → AtIs p g st base o s on ls x → (after n x).1 ≡ ls
   shown p g st base o s on ls n x at = ap (λ (y : Machine W). y.labels) at.is
 
   single : (d : Context) (s : Store P) (ls : List Label) (on h : Bool) (n : Instr) (x : Machine W) → SitsIs false None [] d s on ls x → phase_after n ≡ waits_if h → Lifted (Some (Alone d on h s, ls)) (after n x)
@@ -139,13 +143,13 @@ module _ {W P : Type 0} (m : BusModel W) (c : Chips P) (chips : W → P) (Whole 
   Sh = shared c
 
   abbrev off : Context → Offer Access Context
-  off d = offer code find entry main handler d
+  off d = offer code find words entry main handler d
 
   abbrev beg : ℕ → Context → Context
-  beg v d = start code find entry main handler v d
+  beg v d = start code find words entry main handler v d
 
-  abbrev MeetsIs : Bool → Option Working → List ℕ → Offer Access Context → Store P → Bool → Instr → Machine W → Type 0
-  MeetsIs a o base z s on n x = Meets m c chips Whole laws code find entry main handler placed size is_placed finds a o base z s on n x
+  abbrev MeetsIs : Bool → Option Given → List ℕ → Offer Access Context → Store P → Bool → Instr → Machine W → Type 0
+  MeetsIs a o base z s on n x = Meets m c chips Whole laws code find words entry main handler placed size is_placed finds a o base z s on n x
 
   main_lifted : (z : Offer Access Context) (a on : Bool) (s : Store P) (n : Instr) (x : Machine W) → MeetsIs a None [] z s on n x → Lifted (execute Sh Context off beg z on s) (after n x)
   main_lifted (Arms d) a on s n x h = primed d s n x h.0 h.1
@@ -157,17 +161,17 @@ module _ {W P : Type 0} (m : BusModel W) (c : Chips P) (chips : W → P) (Whole 
   main_lifted (Does Over) a on s n x h = absurd h
   main_lifted (Does (Bad module_index line)) a on s n x h = tt
 
-  twofold : (p0 : ℕ) (g0 : Working) (st0 : List ℕ) → Waits p0 st0 → FlagsAre true g0.flags → (d : Context) (s : Store P) (ls : List Label) (n : Instr) (x : Machine W) → SitsIs false (Some g0) (frame p0 g0 st0) d s false ls x → phase_after n ≡ Running → Lifted (Some (Serving (Own p0 g0 st0 false None) d s, ls)) (after n x)
+  twofold : (p0 : ℕ) (g0 : Working) (st0 : List ℕ) → Waits p0 st0 → FlagsAre true g0.flags → (d : Context) (s : Store P) (ls : List Label) (n : Instr) (x : Machine W) → SitsIs false (Some (saved g0 st0)) (frame p0 g0 st0) d s false ls x → phase_after n ≡ Running → Lifted (Some (Serving (Own p0 g0 st0 false None) d s, ls)) (after n x)
   twofold p0 g0 st0 lt fl (Own p g st a o) s ls n x sits e = (
-    shown p g st (frame p0 g0 st0) (Some g0) s false ls n x sits.0,
+    shown p g st (frame p0 g0 st0) (Some (saved g0 st0)) s false ls n x sits.0,
     record {
       pair = Twofold p g st p0 g0 st0 s;
       is = ap₂ (λ y z. Serving (Own p0 g0 st0 false None) (Own p g st y z) s) sits.1 sits.2;
-      fits = (runs_on p g st (frame p0 g0 st0) (Some g0) s false Running ls n x sits.0 e, lt, fl);
+      fits = (runs_on p g st (frame p0 g0 st0) (Some (saved g0 st0)) s false Running ls n x sits.0 e, lt, fl);
     },
   )
 
-  handler_lifted : (p0 : ℕ) (g0 : Working) (st0 : List ℕ) → Waits p0 st0 → FlagsAre true g0.flags → (z : Offer Access Context) (s : Store P) (n : Instr) (x : Machine W) → MeetsIs false (Some g0) (frame p0 g0 st0) z s false n x → Lifted (serve Sh Context off beg z (Own p0 g0 st0 false None) s) (after n x)
+  handler_lifted : (p0 : ℕ) (g0 : Working) (st0 : List ℕ) → Waits p0 st0 → FlagsAre true g0.flags → (z : Offer Access Context) (s : Store P) (n : Instr) (x : Machine W) → MeetsIs false (Some (saved g0 st0)) (frame p0 g0 st0) z s false n x → Lifted (serve Sh Context off beg z (Own p0 g0 st0 false None) s) (after n x)
   handler_lifted p0 g0 st0 lt fl (Arms d) s n x h = tt
   handler_lifted p0 g0 st0 lt fl (Does (Silent d)) s n x h = twofold p0 g0 st0 lt fl d s [] n x h.0 h.1
   handler_lifted p0 g0 st0 lt fl (Does (Touch y k)) s n x h = twofold p0 g0 st0 lt fl (k (touch c y s).0) (touch c y s).1 (touch c y s).2 n x h.0 h.1
@@ -235,22 +239,22 @@ module _ {W P : Type 0} (m : BusModel W) (c : Chips P) (chips : W → P) (Whole 
       (refl, λ j. record { ax = sym (eqb-true s.ax g.ax a.0) j; cx = sym (eqb-true s.cx g.cx b.0) j; dx = sym (eqb-true s.dx g.dx d.0) j; bx = sym (eqb-true s.bx g.bx f.0) j; bp = sym (eqb-true s.bp g.bp h.0) j; si = sym (eqb-true s.si g.si k.0) j; di = sym (eqb-true s.di g.di k.1) j; flags = s.flags })
   given_back s g (x ∷ xs) e = absurd (true≢false (sym e))
 
-  instr_of : (o : Option Working) (base : List ℕ) → room main handler o + length base ≤ 2047 → (a : Bool) (s : Store P) (on : Bool) → (a ≡ true → on ≡ true) → (q : ℕ) (hq : q < 65536) (g : Working) (st : List ℕ) (sp : ℕ) (w : W) → Stack m w sp st base (room main handler o) → F s w → FlagsAre on g.flags → (start : ℕ) (n : Instr) → NotIret n
-      → MeetsIs a o base (offered find main handler n q g st a o) s on n (effect m n start (record { registers = all_registers q g sp; world = w; labels = [] }))
-  instr_of o base fits a s on sti q hq g st sp w stack fine flags start n ni = instr_runs m c chips Whole laws code find entry main handler placed size is_placed finds o base fits a s on sti q hq g st sp w stack fine flags start n ni
+  instr_of : (o : Option Given) (base : List ℕ) → room main handler o + length base ≤ 2047 → top_of o + 2 * length base ≡ 0xFFFE → (a : Bool) (s : Store P) (on : Bool) → (a ≡ true → on ≡ true) → (q : ℕ) (hq : q < 65536) (g : Working) (st : List ℕ) (sp : ℕ) (w : W) → Stack m w sp st base (room main handler o) → F s w → FlagsAre on g.flags → (start : ℕ) (n : Instr) → NotIret n
+      → MeetsIs a o base (offered find words main handler n q g st a o) s on n (effect m n start (record { registers = all_registers q g sp; world = w; labels = [] }))
+  instr_of o base fits topped a s on sti q hq g st sp w stack fine flags start n ni = instr_runs m c chips Whole laws code find words entry main handler placed size is_placed finds o base fits topped a s on sti q hq g st sp w stack fine flags start n ni
 
   -- an instruction of main; IRET is none
-  main_runs : (n : Instr) (p q : ℕ) (hq : q < 65536) (g : Working) (st : List ℕ) (sp : ℕ) (w : W) (a on : Bool) (s : Store P) → (a ≡ true → on ≡ true) → Stack m w sp st [] main → F s w → FlagsAre on g.flags → Lifted (execute Sh Context off beg (offered find main handler n q g st a None) on s) (after n (effect m n p (record { registers = all_registers q g sp; world = w; labels = [] })))
+  main_runs : (n : Instr) (p q : ℕ) (hq : q < 65536) (g : Working) (st : List ℕ) (sp : ℕ) (w : W) (a on : Bool) (s : Store P) → (a ≡ true → on ≡ true) → Stack m w sp st [] main → F s w → FlagsAre on g.flags → Lifted (execute Sh Context off beg (offered find words main handler n q g st a None) on s) (after n (effect m n p (record { registers = all_registers q g sp; world = w; labels = [] })))
   main_runs n p q hq g st sp w a on s sti stack fine flags = ⊎_elim
-      (λ ni. main_lifted (offered find main handler n q g st a None) a on s n (effect m n p (record { registers = all_registers q g sp; world = w; labels = [] }))
-      (instr_of None [] (omega (arith, enough)) a s on sti q hq g st sp w stack fine flags p n ni))
-      (λ e. subst (λ n. Lifted (execute Sh Context off beg (offered find main handler n q g st a None) on s) (after n (effect m n p (record { registers = all_registers q g sp; world = w; labels = [] })))) (sym e) tt)
+      (λ ni. main_lifted (offered find words main handler n q g st a None) a on s n (effect m n p (record { registers = all_registers q g sp; world = w; labels = [] }))
+      (instr_of None [] (omega (arith, enough)) refl a s on sti q hq g st sp w stack fine flags p n ni))
+      (λ e. subst (λ n. Lifted (execute Sh Context off beg (offered find words main handler n q g st a None) on s) (after n (effect m n p (record { registers = all_registers q g sp; world = w; labels = [] })))) (sym e) tt)
       (iret_or n)
 
-  main_goes : (z : Option (Instr × ℕ)) (phase : Phase) (p : ℕ) (g : Working) (st : List ℕ) (sp : ℕ) (w : W) (a on : Bool) (s : Store P) → code p ≡ z → Goes p g sp w phase → (a ≡ true → on ≡ true) → Stack m w sp st [] main → F s w → FlagsAre on g.flags → Lifted (execute Sh Context off beg (offered_at code find entry main handler z p g st a None) on s) (goes m comes (at_place p g sp w phase))
+  main_goes : (z : Option (Instr × ℕ)) (phase : Phase) (p : ℕ) (g : Working) (st : List ℕ) (sp : ℕ) (w : W) (a on : Bool) (s : Store P) → code p ≡ z → Goes p g sp w phase → (a ≡ true → on ≡ true) → Stack m w sp st [] main → F s w → FlagsAre on g.flags → Lifted (execute Sh Context off beg (offered_at code find words entry main handler z p g st a None) on s) (goes m comes (at_place p g sp w phase))
   main_goes None phase p g st sp w a on s e go sti stack fine flags = tt
   main_goes (Some z) phase p g st sp w a on s e go sti stack fine flags =
-      subst (λ b. Lifted (execute Sh Context off beg (offered find main handler z.0 ((p + z.1) % 65536) g st a None) on s) b) (sym (go z (fine.spelled.spelled p z e)))
+      subst (λ b. Lifted (execute Sh Context off beg (offered find words main handler z.0 ((p + z.1) % 65536) g st a None) on s) b) (sym (go z (fine.spelled.spelled p z e)))
       (main_runs z.0 p ((p + z.1) % 65536) (omega arith) g st sp w a on s sti stack fine flags)
 
   -- IRET gives main back its place, its registers and its stack
@@ -280,18 +284,18 @@ module _ {W P : Type 0} (m : BusModel W) (c : Chips P) (chips : W → P) (Whole 
       } in
       single (Own p0 g0 st0 false None) s [] true false i.InterruptReturn out (stands, refl, refl) refl
 
-  handler_runs : (p0 : ℕ) (g0 : Working) (st0 : List ℕ) → Waits p0 st0 → FlagsAre true g0.flags → (n : Instr) (p q : ℕ) (hq : q < 65536) (g : Working) (st : List ℕ) (sp : ℕ) (w : W) (s : Store P) → Stack m w sp st (frame p0 g0 st0) handler → F s w → FlagsAre false g.flags → Lifted (serve Sh Context off beg (offered find main handler n q g st false (Some g0)) (Own p0 g0 st0 false None) s) (after n (effect m n p (record { registers = all_registers q g sp; world = w; labels = [] })))
+  handler_runs : (p0 : ℕ) (g0 : Working) (st0 : List ℕ) → Waits p0 st0 → FlagsAre true g0.flags → (n : Instr) (p q : ℕ) (hq : q < 65536) (g : Working) (st : List ℕ) (sp : ℕ) (w : W) (s : Store P) → Stack m w sp st (frame p0 g0 st0) handler → F s w → FlagsAre false g.flags → Lifted (serve Sh Context off beg (offered find words main handler n q g st false (Some (saved g0 st0))) (Own p0 g0 st0 false None) s) (after n (effect m n p (record { registers = all_registers q g sp; world = w; labels = [] })))
   handler_runs p0 g0 st0 lt fl n p q hq g st sp w s stack fine flags = ⊎_elim
-      (λ ni. handler_lifted p0 g0 st0 lt fl (offered find main handler n q g st false (Some g0)) s n (effect m n p (record { registers = all_registers q g sp; world = w; labels = [] }))
-      (instr_of (Some g0) (frame p0 g0 st0) (omega (arith, enough, lt.0)) false s false (λ e. e) q hq g st sp w stack fine flags p n ni))
-      (λ e. subst (λ n. Lifted (serve Sh Context off beg (offered find main handler n q g st false (Some g0)) (Own p0 g0 st0 false None) s) (after n (effect m n p (record { registers = all_registers q g sp; world = w; labels = [] })))) (sym e)
+      (λ ni. handler_lifted p0 g0 st0 lt fl (offered find words main handler n q g st false (Some (saved g0 st0))) s n (effect m n p (record { registers = all_registers q g sp; world = w; labels = [] }))
+      (instr_of (Some (saved g0 st0)) (frame p0 g0 st0) (omega (arith, enough, lt.0)) (omega (arith, enough, lt.0)) false s false (λ e. e) q hq g st sp w stack fine flags p n ni))
+      (λ e. subst (λ n. Lifted (serve Sh Context off beg (offered find words main handler n q g st false (Some (saved g0 st0))) (Own p0 g0 st0 false None) s) (after n (effect m n p (record { registers = all_registers q g sp; world = w; labels = [] })))) (sym e)
       (iret_goes p0 g0 st0 lt fl (gives_back g0 g st) p q g st sp w s refl stack fine))
       (iret_or n)
 
-  handler_goes : (z : Option (Instr × ℕ)) (p0 : ℕ) (g0 : Working) (st0 : List ℕ) → Waits p0 st0 → FlagsAre true g0.flags → (p : ℕ) (g : Working) (st : List ℕ) (sp : ℕ) (w : W) (s : Store P) → code p ≡ z → Goes p g sp w Running → Stack m w sp st (frame p0 g0 st0) handler → F s w → FlagsAre false g.flags → Lifted (serve Sh Context off beg (offered_at code find entry main handler z p g st false (Some g0)) (Own p0 g0 st0 false None) s) (goes m comes (at_place p g sp w Running))
+  handler_goes : (z : Option (Instr × ℕ)) (p0 : ℕ) (g0 : Working) (st0 : List ℕ) → Waits p0 st0 → FlagsAre true g0.flags → (p : ℕ) (g : Working) (st : List ℕ) (sp : ℕ) (w : W) (s : Store P) → code p ≡ z → Goes p g sp w Running → Stack m w sp st (frame p0 g0 st0) handler → F s w → FlagsAre false g.flags → Lifted (serve Sh Context off beg (offered_at code find words entry main handler z p g st false (Some (saved g0 st0))) (Own p0 g0 st0 false None) s) (goes m comes (at_place p g sp w Running))
   handler_goes None p0 g0 st0 lt fl p g st sp w s e go stack fine flags = tt
   handler_goes (Some z) p0 g0 st0 lt fl p g st sp w s e go stack fine flags =
-      subst (λ b. Lifted (serve Sh Context off beg (offered find main handler z.0 ((p + z.1) % 65536) g st false (Some g0)) (Own p0 g0 st0 false None) s) b) (sym (go z (fine.spelled.spelled p z e)))
+      subst (λ b. Lifted (serve Sh Context off beg (offered find words main handler z.0 ((p + z.1) % 65536) g st false (Some (saved g0 st0))) (Own p0 g0 st0 false None) s) b) (sym (go z (fine.spelled.spelled p z e)))
       (handler_runs p0 g0 st0 lt fl z.0 p ((p + z.1) % 65536) (omega arith) g st sp w s stack fine flags)
 
   -- an acknowledgement pushes flags, CS and IP, and goes on by the vector
@@ -325,15 +329,15 @@ module _ {W P : Type 0} (m : BusModel W) (c : Chips P) (chips : W → P) (Whole 
       let w2 = m.store w1 (stores.Word (1024 + (t + 2)) (1025 + (t + 2)) 0xF000) in
       let w3 = m.store w2 (stores.Word (1024 + t) (1025 + t) p) in
       let same : (a : ℕ) → m.load w0 a ≡ m.load w a = laws.ports.acknowledging w in
-      let f0 : F s0 w0 = Memory.fine_chips m c chips Whole laws code entry placed size is_placed s w w0 (c.acknowledge s.chips) same (laws.ack_stays w fine.whole) (laws.ack_chips w ∙ ap c.acknowledge fine.chips_are) fine in
-      let low : Stack m w0 sp st [] main = Memory.stack_chips m c chips Whole laws code entry placed size is_placed w w0 sp st [] main same stack in
+      let f0 : F s0 w0 = Memory.fine_chips m c chips Whole laws code words entry placed size is_placed s w w0 (c.acknowledge s.chips) same (laws.ack_stays w fine.whole) (laws.ack_chips w ∙ ap c.acknowledge fine.chips_are) fine in
+      let low : Stack m w0 sp st [] main = Memory.stack_chips m c chips Whole laws code words entry placed size is_placed w w0 sp st [] main same stack in
       let k0 : Stack m w0 (t + 2 + 2 + 2) st [] room3 = subst (λ z. Stack m w0 z st [] room3) up (record { words = low.words; within = omega (arith, low.within); at = low.at }) in
       let k1 = push_stacks m c chips Whole laws w0 (t + 2 + 2) g.flags.0 0 st [] room3 f0.whole (omega (arith, low.within)) (omega (arith, stack.at, up)) k0 in
-      let f1 = fine_push m c chips Whole laws code entry placed size is_placed s0 w0 (t + 2 + 2) g.flags.0 (omega (arith, deep)) (omega (arith, stack.at, up)) f0 in
+      let f1 = fine_push m c chips Whole laws code words entry placed size is_placed s0 w0 (t + 2 + 2) g.flags.0 (omega (arith, deep)) (omega (arith, stack.at, up)) f0 in
       let k2 = push_stacks m c chips Whole laws w1 (t + 2) 0xF000 0 (g.flags.0 % 65536 ∷ st) [] room3 f1.whole (omega (arith, low.within)) (omega (arith, stack.at, up)) k1 in
-      let f2 = fine_push m c chips Whole laws code entry placed size is_placed s0 w1 (t + 2) 0xF000 (omega (arith, deep)) (omega (arith, stack.at, up)) f1 in
+      let f2 = fine_push m c chips Whole laws code words entry placed size is_placed s0 w1 (t + 2) 0xF000 (omega (arith, deep)) (omega (arith, stack.at, up)) f1 in
       let k3 = push_stacks m c chips Whole laws w2 t p 0 (0xF000 ∷ g.flags.0 % 65536 ∷ st) [] room3 f2.whole (omega (arith, low.within)) (omega (arith, stack.at, up)) k2 in
-      let f3 = fine_push m c chips Whole laws code entry placed size is_placed s0 w2 t p deep (omega (arith, stack.at, up)) f2 in
+      let f3 = fine_push m c chips Whole laws code words entry placed size is_placed s0 w2 t p deep (omega (arith, stack.at, up)) f2 in
       let small : n < 256 = omega (arith, laws.vector w, c.vector_fits (chips w)) in
       let number : n ≡ c.vector s.chips = laws.vector w ∙ ap c.vector fine.chips_are in
       let g1 = set_flags g (without_trap_and_interrupts g.flags) in
@@ -345,7 +349,7 @@ module _ {W P : Type 0} (m : BusModel W) (c : Chips P) (chips : W → P) (Whole 
       let all : interrupted m n (record { registers = all_registers p g sp; world = w0; labels = labels.Ack n ∷ [] }) ≡ record { registers = all_registers (entry (c.vector s.chips)) g1 t; world = w3; labels = labels.Ack (c.vector s.chips) ∷ [] } =
       x ∙ ap (λ v. record { registers = all_registers (entry v) g1 t; world = w3; labels = labels.Ack v ∷ [] }) number in
       let made : Machine W → Board W × List Label = λ y. (record { cpu = cpu_at y.registers Running; world = y.world }, y.labels) in
-      let done : Lifted (Some (Serving (Own p g st false None) (Own (entry (c.vector s.chips)) g1 [] false (Some g)) s0, labels.Ack (c.vector s.chips) ∷ [])) (made (record { registers = all_registers (entry (c.vector s.chips)) g1 t; world = w3; labels = labels.Ack (c.vector s.chips) ∷ [] })) = (
+      let done : Lifted (Some (Serving (Own p g st false None) (Own (entry (c.vector s.chips)) g1 [] false (Some (saved g st))) s0, labels.Ack (c.vector s.chips) ∷ [])) (made (record { registers = all_registers (entry (c.vector s.chips)) g1 t; world = w3; labels = labels.Ack (c.vector s.chips) ∷ [] })) = (
         refl,
         record {
           pair = Twofold (entry (c.vector s.chips)) g1 [] p g st s0;
@@ -353,7 +357,7 @@ module _ {W P : Type 0} (m : BusModel W) (c : Chips P) (chips : W → P) (Whole 
           fits = (record { sp = t; is = refl; stack = record { words = subst (λ l. Stacked m w3 t l) (append-nil (frame p g st)) k3.words; within = omega arith; at = omega (arith, k3.at) }; fine = f3; flags = off_after_both true g.flags flags; low = small_entry }, (low.within, hp), flags);
         },
       ) in
-      subst (λ y. Lifted (Some (Serving (Own p g st false None) (Own (entry (c.vector s.chips)) g1 [] false (Some g)) s0, labels.Ack (c.vector s.chips) ∷ [])) (made y)) (sym all) done
+      subst (λ y. Lifted (Some (Serving (Own p g st false None) (Own (entry (c.vector s.chips)) g1 [] false (Some (saved g st))) s0, labels.Ack (c.vector s.chips) ∷ [])) (made y)) (sym all) done
 
   going_to_ack : (p : ℕ) (g : Working) (sp : ℕ) (w : W) (h : Bool) → (has g.flags 512 && m.line w) ≡ true → goes m comes (at_place p g sp w (waits_if h)) ≡ out_of (acknowledging m (cpu_at (all_registers p g sp) (waits_if h)) w)
   unfolding goes turn_of
@@ -386,7 +390,7 @@ module _ {W P : Type 0} (m : BusModel W) (c : Chips P) (chips : W → P) (Whole 
       subst (λ x. Lifted (execute Sh Context off beg (off (Own p g st true None)) true s) (goes m comes (record { cpu = x; world = b.world }))) (sym k.is)
       (main_goes (code p) AfterSti p g st k.sp b.world true true s refl (after_sti p g k.sp b.world) (λ e. refl) k.stack k.fine k.flags)
   placed_goes (Twofold p g st p0 g0 st0 s) b k =
-      subst (λ x. Lifted (serve Sh Context off beg (off (Own p g st false (Some g0))) (Own p0 g0 st0 false None) s) (goes m comes (record { cpu = x; world = b.world }))) (sym k.0.is)
+      subst (λ x. Lifted (serve Sh Context off beg (off (Own p g st false (Some (saved g0 st0)))) (Own p0 g0 st0 false None) s) (goes m comes (record { cpu = x; world = b.world }))) (sym k.0.is)
       (handler_goes (code p) p0 g0 st0 k.1 k.2 p g st k.0.sp b.world s refl (running p g k.0.sp b.world (ap (λ y. y && m.line b.world) k.0.flags.on_is)) k.0.stack k.0.fine k.0.flags)
 
   -- events
@@ -408,13 +412,13 @@ module _ {W P : Type 0} (m : BusModel W) (c : Chips P) (chips : W → P) (Whole 
   all_come_fine : (es : List Event) (s : Store P) (w : W) → F s w → F (after_events Sh es s) (all_come m comes es w)
   all_come_fine [] s w f = f
   all_come_fine (e ∷ es) s w f = all_come_fine es (with_chips (c.comes e s.chips) s) (comes e w)
-      (Memory.fine_chips m c chips Whole laws code entry placed size is_placed s w (comes e w) (c.comes e s.chips) (events.keeps e w) (events.stays e w f.whole) (events.chips_are e w ∙ ap (c.comes e) f.chips_are) f)
+      (Memory.fine_chips m c chips Whole laws code words entry placed size is_placed s w (comes e w) (c.comes e s.chips) (events.keeps e w) (events.stays e w f.whole) (events.chips_are e w ∙ ap (c.comes e) f.chips_are) f)
 
-  later_run : (es : List Event) (b : Board W) (p : ℕ) (g : Working) (st base : List ℕ) (o : Option Working) (s : Store P) (on : Bool) (phase : Phase) → Run b p g st base o s on phase → Run (record { cpu = b.cpu; world = all_come m comes es b.world }) p g st base o (after_events Sh es s) on phase
+  later_run : (es : List Event) (b : Board W) (p : ℕ) (g : Working) (st base : List ℕ) (o : Option Given) (s : Store P) (on : Bool) (phase : Phase) → Run b p g st base o s on phase → Run (record { cpu = b.cpu; world = all_come m comes es b.world }) p g st base o (after_events Sh es s) on phase
   later_run es b p g st base o s on phase k = record {
     sp = k.sp;
     is = k.is;
-    stack = Memory.stack_chips m c chips Whole laws code entry placed size is_placed b.world (all_come m comes es b.world) k.sp st base (room main handler o) (all_come_keep es b.world) k.stack;
+    stack = Memory.stack_chips m c chips Whole laws code words entry placed size is_placed b.world (all_come m comes es b.world) k.sp st base (room main handler o) (all_come_keep es b.world) k.stack;
     fine = all_come_fine es s b.world k.fine;
     flags = k.flags;
     low = k.low;
@@ -424,7 +428,7 @@ module _ {W P : Type 0} (m : BusModel W) (c : Chips P) (chips : W → P) (Whole 
   unfolding later
   later_fits es (Single p g st on h s) b k = later_run es b p g st [] None s on (waits_if h) k
   later_fits es (Primed p g st s) b k = later_run es b p g st [] None s true AfterSti k
-  later_fits es (Twofold p g st p0 g0 st0 s) b k = (later_run es b p g st (frame p0 g0 st0) (Some g0) s false Running k.0, k.1, k.2)
+  later_fits es (Twofold p g st p0 g0 st0 s) b k = (later_run es b p g st (frame p0 g0 st0) (Some (saved g0 st0)) s false Running k.0, k.1, k.2)
 
   pub lifts : (es : List Event) (b : Board W) (d e : Duo (Store P) Context) (ls : List Label) → Stands b d → act Sh Context off beg (duo_after_events Sh es d) ≡ Some (e, ls) → ((turn m comes es b).1 ≡ map event_label es ++ ls) × Stands (turn m comes es b).0 e
   lifts es b d e ls st goes_to =

@@ -8,17 +8,17 @@ use Rattle.word86.specs.declared.label.Label.{Label}
 use Rattle.word86.specs.declared.label.Label.TheVariants as labels
 use Rattle.i86_table.specs.declared.registers.Regs.{Regs}
 use Rattle.i86_code.specs.Decoding.{decoded}
-use Rattle.std.proofs.Common.{append-nil, length-append, ⊎_elim}
+use Rattle.std.proofs.Common.{append-nil, length-append, ⊎_elim, drop, zero, subst, eqb-true}
 use Rattle.cpu8086.specs.BusModel.{BusModel, stored}
 use Rattle.word86.specs.declared.width.Width.TheVariants as widths
 use Rattle.cpu8086.specs.Machine.{Machine, physical, next_offset, loaded_byte, loaded_word, stored_access, stored_at, pushed, popped, labels_of}
 use Rattle.cpu8086.specs.Turn.{fetched}
 use Rattle.word86.specs.Chips.{Chips}
 use Rattle.plm_meaning.specs.Store.{Store}
-use Rattle.i86_table.specs.Contexts.{Working, all_registers}
+use Rattle.i86_table.specs.Contexts.{Working, all_registers, stack_word}
 use Rattle.board.specs.World.{is_on_screen, screen_at}
 use Rattle.plm86.specs.Inner.BoardLaws.{OfBoard}
-use Rattle.plm86.specs.Relation.{Spelled, Fine, Placed}
+use Rattle.plm86.specs.Relation.{Spelled, HasTables, Fine, Placed}
 use Rattle.plm86.specs.Inner.Stacks.{Stacked, Stack}
 use Rattle.plm86.specs.Headline.{Vectors}
 
@@ -159,6 +159,23 @@ module _ {W P : Type 0} (m : BusModel W) (c : Chips P) (chips : W → P) (Whole 
   pub pop_stacks : (w : W) (sp v : ℕ) (st base : List ℕ) (room : ℕ) → Stack m w sp (v ∷ st) base room → Stack m w (sp + 2) st base room
   pop_stacks w sp v st base room s = record { words = s.words.1; within = omega (arith, s.within); at = omega (arith, s.at) }
 
+  -- words that are dropped
+  pub drop_stacks : (k : ℕ) (w : W) (sp : ℕ) (st base : List ℕ) (room : ℕ) → k ≤ length st → Stack m w sp st base room → Stack m w (sp + 2 * k) (drop k st) base room
+  drop_stacks zero w sp st base room h s = let same : sp ≡ sp + 2 * 0 = omega arith in subst (λ z. Stack m w z st base room) same s
+  drop_stacks (suc k) w sp [] base room h s = absurd (omega (arith, h))
+  drop_stacks (suc k) w sp (v ∷ st) base room h s =
+      let same : sp + 2 + 2 * k ≡ sp + 2 * suc k = omega arith in
+      subst (λ z. Stack m w z (drop k st) base room) same (drop_stacks k w (sp + 2) st base room (omega (arith, h)) (pop_stacks w sp v st base room s))
+
+  -- a context's own word, where it lies
+  pub own_word : (off v : ℕ) (w : W) (sp : ℕ) (st base : List ℕ) → Stacked m w sp (st ++ base) → stack_word off sp st ≡ Some v → loaded_word m w 0x40 off ≡ v
+  own_word off v w sp [] base s e = absurd (let wrong = e in cc)
+  own_word off v w sp (x ∷ st) base s e = by (off == sp) refl (stack_word off (sp + 2) st) (own_word off v w (sp + 2) st base s.1) e
+    where
+      by : (b : Bool) → (off == sp) ≡ b → (o : Option ℕ) → (o ≡ Some v → loaded_word m w 0x40 off ≡ v) → (if b then Some x else o) ≡ Some v → loaded_word m w 0x40 off ≡ v
+      by true same o more e = let value : x ≡ v = cc in ap (loaded_word m w 0x40) (eqb-true off sp same) ∙ s.0 ∙ value
+      by false same o more e = more e
+
   pub pop_is : (p : ℕ) (g : Working) (sp v : ℕ) (w : W) (l : List ℕ) → sp + 2 < 65536 → Stacked m w sp (v ∷ l) → popped m w (all_registers p g sp) ≡ (v, all_registers p g (sp + 2))
   unfolding popped
   pop_is p g sp v w l h s =
@@ -178,6 +195,12 @@ module _ {W P : Type 0} (m : BusModel W) (c : Chips P) (chips : W → P) (Whole 
   pub spelled_kept : (code : ℕ → Option (Instr × ℕ)) (w u : W) → ((a : ℕ) → 0xF0000 ≤ a → a < 2 ^ 20 → m.load u a ≡ m.load w a) → Spelled m code w → Spelled m code u
   spelled_kept code w u e s = record { bounded = s.bounded; spelled = λ p d at. ap decoded (fetch_kept w u p e (s.bounded p d at)) ∙ s.spelled p d at }
 
+  pub tables_kept : (words : ℕ → Option ℕ) (w u : W) → ((a : ℕ) → 0xF0000 ≤ a → a < 2 ^ 20 → m.load u a ≡ m.load w a) → HasTables m words w → HasTables m words u
+  unfolding loaded_word loaded_byte
+  tables_kept words w u e x off v at =
+      let t = x off v at in
+      (t.0, ap₂ (λ a b. a % 256 + 256 * (b % 256)) (e (physical 0xF000 off) (omega (arith, t.0)) (omega (arith, t.0))) (e (physical 0xF000 (next_offset off)) (omega (arith, t.0)) (omega (arith, t.0))) ∙ t.1)
+
   vector_word : (w u : W) (off : ℕ) → off + 1 < 1024 → ((a : ℕ) → a < 1024 → m.load u a ≡ m.load w a) → loaded_word m u 0 off ≡ loaded_word m w 0 off
   unfolding loaded_word loaded_byte
   vector_word w u off h e = ap₂ (λ x y. x % 256 + 256 * (y % 256)) (e (physical 0 off) (omega (arith, h))) (e (physical 0 (next_offset off)) (omega (arith, h)))
@@ -188,12 +211,13 @@ module _ {W P : Type 0} (m : BusModel W) (c : Chips P) (chips : W → P) (Whole 
     segment = λ n h. vector_word w u (4 * n + 2) (omega (arith, h)) e ∙ v.segment n h;
   }
 
-  module _ (code : ℕ → Option (Instr × ℕ)) (entry placed size : ℕ → ℕ) (is_placed : Placed placed size) where
+  module _ (code : ℕ → Option (Instr × ℕ)) (words : ℕ → Option ℕ) (entry placed size : ℕ → ℕ) (is_placed : Placed placed size) where
     -- a store on the stack, or none, keeps what is beside it
-    pub fine_beside : (s : Store P) (w u : W) → Beside w u → Whole u → chips u ≡ chips w → Fine m chips Whole code entry placed size s w → Fine m chips Whole code entry placed size s u
+    pub fine_beside : (s : Store P) (w u : W) → Beside w u → Whole u → chips u ≡ chips w → Fine m chips Whole code words entry placed size s w → Fine m chips Whole code words entry placed size s u
     fine_beside s w u e t same_chips f = record {
       whole = t;
       spelled = spelled_kept code w u (λ a le lt. e a lt (inr (omega (arith, le)))) f.spelled;
+      tables = tables_kept words w u (λ a le lt. e a lt (inr (omega (arith, le)))) f.tables;
       vectors = vectors_kept entry w u (λ a lt. e a (omega (arith, lt)) (inl (omega (arith, lt)))) f.vectors;
       holds = record {
         bytes = λ k i lt. let inside = is_placed.below k i (omega (arith, lt, f.sizes k)) in e (1024 + (placed k + i)) (omega (arith, inside)) (inl (omega (arith, inside))) ∙ f.holds.bytes k i lt;
@@ -204,7 +228,7 @@ module _ {W P : Type 0} (m : BusModel W) (c : Chips P) (chips : W → P) (Whole 
       screen_size = f.screen_size;
     }
 
-    pub fine_push : (s : Store P) (w : W) (t v : ℕ) → 0xF000 ≤ t → t + 1 < 65536 → Fine m chips Whole code entry placed size s w → Fine m chips Whole code entry placed size s (m.store w (stores.Word (1024 + t) (1025 + t) v))
+    pub fine_push : (s : Store P) (w : W) (t v : ℕ) → 0xF000 ≤ t → t + 1 < 65536 → Fine m chips Whole code words entry placed size s w → Fine m chips Whole code words entry placed size s (m.store w (stores.Word (1024 + t) (1025 + t) v))
     fine_push s w t v le lt f =
         fine_beside s w (m.store w (stores.Word (1024 + t) (1025 + t) v))
         (λ a h side. word_other w (1024 + t) (1025 + t) v a h (λ e. off_stack a (1024 + t) e (omega (arith, le)) (omega (arith, lt)) side) (λ e. off_stack a (1025 + t) e (omega (arith, le)) (omega (arith, lt)) side))
@@ -214,10 +238,11 @@ module _ {W P : Type 0} (m : BusModel W) (c : Chips P) (chips : W → P) (Whole 
         off_stack a x e le lt side = ⊎_elim (λ h. absurd (omega (arith, e, h, le))) (λ h. absurd (omega (arith, e, h, lt))) side
 
     -- where only chips change
-    pub fine_chips : (s : Store P) (w u : W) (p : P) → ((a : ℕ) → m.load u a ≡ m.load w a) → Whole u → chips u ≡ p → Fine m chips Whole code entry placed size s w → Fine m chips Whole code entry placed size (record { objects = s.objects; screen = s.screen; chips = p }) u
+    pub fine_chips : (s : Store P) (w u : W) (p : P) → ((a : ℕ) → m.load u a ≡ m.load w a) → Whole u → chips u ≡ p → Fine m chips Whole code words entry placed size s w → Fine m chips Whole code words entry placed size (record { objects = s.objects; screen = s.screen; chips = p }) u
     fine_chips s w u p e t same_chips f = record {
       whole = t;
       spelled = spelled_kept code w u (λ a le lt. e a) f.spelled;
+      tables = tables_kept words w u (λ a le lt. e a) f.tables;
       vectors = vectors_kept entry w u (λ a lt. e a) f.vectors;
       holds = record {
         bytes = λ k i lt. e (1024 + (placed k + i)) ∙ f.holds.bytes k i lt;

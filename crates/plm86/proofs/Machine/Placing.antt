@@ -1,15 +1,15 @@
 -- Bytes in the ROM that spell an instruction are decoded at their place.
-use Rattle.std.proofs.Common.{◌≡◌, ℕ, zero, suc, ◌+◌, ◌-◌, ◌%◌, ◌<◌, ◌≤◌, List, [], ◌∷◌, ◌++◌, length, drop, Option, Some, refl, ap, ◌∙◌, arith, ap₂}
+use Rattle.std.proofs.Common.{◌≡◌, ℕ, zero, suc, ◌+◌, ◌-◌, ◌*◌, ◌/◌, ◌%◌, ◌<◌, ◌≤◌, List, [], ◌∷◌, ◌++◌, length, drop, Option, Some, refl, ap, ◌∙◌, arith, ap₂}
 use Rattle.std.specs.Prelude.{slice_index, if◌then◌else◌}
 use Rattle.word86.specs.Chips.{Chips}
 use Rattle.i86_table.specs.declared.instruction.Instr.{Instr}
 use Rattle.i86_code.specs.Instructions.{Spells}
 use Rattle.i86_code.specs.Decoding.{decoded, IsOneForm, IsShort}
-use Rattle.cpu8086.specs.Machine.{physical, loaded_byte}
+use Rattle.cpu8086.specs.Machine.{physical, next_offset, loaded_byte, loaded_word}
 use Rattle.cpu8086.specs.Turn.{fetched}
 use Rattle.board.specs.World.{World, Whole, board_model, region, screen_at}
-use Rattle.plm86.specs.Relation.{Spelled}
-use Rattle.plm86.specs.Rom.{rom_byte, Written, CodeInRom}
+use Rattle.plm86.specs.Relation.{Spelled, HasTables}
+use Rattle.plm86.specs.Rom.{rom_byte, Written, CodeInRom, WordsInRom}
 use Rattle.plm86.proofs.Machine.Regions.{within_true, within_above}
 
 begins_with : (front l : List ℕ) → length front ≤ length l → ((k : ℕ) → k < length front → slice_index l k ≡ slice_index front k) → l ≡ front ++ drop (length front) l
@@ -63,6 +63,16 @@ module _ {P : Type 0} (c : Chips P) (rom : List ℕ) (w : World P) (whole : Whol
       fetched_at place k (omega (arith, h, few)) lt ∙ ap (loaded_byte (board_model c) w 0xF000) here
       ∙ loaded_place (place + k) size (omega (arith, at.inside)) (omega (arith, h, at.fits)) ∙ at.bytes_are k h) in
       ap decoded front ∙ only bytes (drop (length bytes) all) instruction spells
+
+  pub tables_by_rom : (words : ℕ → Option ℕ) → length rom ≤ 65536 → WordsInRom rom words → HasTables (board_model c) words w
+  unfolding loaded_word
+  tables_by_rom words size x offset v e =
+      let at = x offset v e in
+      let same : offset ≡ offset + 0 = omega arith in
+      let next : next_offset offset ≡ offset + 1 = omega (arith, at.fits) in
+      let low : loaded_byte (board_model c) w 0xF000 offset ≡ v % 256 = loaded_place offset size at.inside (omega (arith, at.fits)) ∙ ap (λ k. rom_byte rom k % 256) same ∙ at.bytes_are 0 (omega arith) in
+      let high : loaded_byte (board_model c) w 0xF000 (next_offset offset) ≡ v / 256 = ap (loaded_byte (board_model c) w 0xF000) next ∙ loaded_place (offset + 1) size (omega (arith, at.inside)) (omega (arith, at.fits)) ∙ at.bytes_are 1 (omega arith) in
+      (omega (arith, at.fits), ap₂ (λ a b. a + 256 * b) low high ∙ omega arith)
 
   pub spelled_by_rom : IsOneForm → IsShort → (code : ℕ → Option (Instr × ℕ)) → CodeInRom rom code → Spelled (board_model c) code w
   spelled_by_rom only short code x = record {
