@@ -1,5 +1,8 @@
 -- What the board does is a run of the program.
-use Rattle.std.proofs.Common.{suc, ◌+◌, ◌*◌, true, false, [], length, drop, None, refl, arith}
+use Rattle.std.proofs.Common.{◌≡◌, suc, ◌+◌, ◌*◌, true, false, List, [], ◌++◌, map, length, drop, Some, None, refl, arith}
+use Rattle.word86.specs.declared.event.Event.{Event}
+use Rattle.word86.specs.declared.label.Label.{Label}
+use Rattle.word86.specs.Events.{event_label}
 use Rattle.word86.specs.Access.{Access, answers}
 use Rattle.word86.specs.Following.{Follows}
 use Rattle.plm_meaning.specs.Store.{Store, shared}
@@ -7,7 +10,7 @@ use Rattle.i86_table.specs.Contexts.{Context, Own}
 use Rattle.i86_table.specs.Words.{HasWords, KeepsWords}
 use Rattle.i86_code.specs.Decoding.{DecodedHasWidths}
 use Rattle.board.specs.World.{World, Whole, board_model, comes}
-use Rattle.plm86.specs.Inner.Duo.{Duo, Alone, main_in, has_handler}
+use Rattle.plm86.specs.Inner.Duo.{Duo, Alone, duo_after_events, act, main_in, has_handler}
 use Rattle.board.specs.Machine.{Board}
 use Rattle.plm86.specs.Headline.{Stands, board_turn}
 use Rattle.plm86.specs.Laws.{Assembly, IsSound, FromInstructions, FromLayers, Begins, Compiled, offers_of, main_of, starts_of, firmware_of}
@@ -22,6 +25,18 @@ use Rattle.plm86.proofs.Machine.Lift.{Single}
 abbrev InStep : {P : Type 0} → (x : Assembly) → IsSound x → Rattle.word86.specs.Chips.Chips P → Board (World P) → Duo (Store P) Context → Type 0
 InStep x sound c b d = Lift.Stands (board_model c) c (λ w. w.chips) (Whole x.rom) (of_board c x.rom) (comes c) (events_law c x.rom) x.code x.find x.words x.entry x.main x.handler x.placed x.size sound.is_placed sound.finds sound.enough b d × HasWords (main_in d)
 
+-- a turn keeps them so
+stays_in_step : {P : Type 0} (c : Rattle.word86.specs.Chips.Chips P) (x : Assembly) (sound : IsSound x) → DecodedHasWidths → KeepsWords → (es : List Event) (b : Board (World P)) (d e : Duo (Store P) Context) (ls : List Label) → InStep x sound c b d
+    → act (shared c) Context (offers_of x) (starts_of x) (duo_after_events (shared c) es d) ≡ Some (e, ls) → ((board_turn c es b).1 ≡ map event_label es ++ ls) × InStep x sound c (board_turn c es b).0 e
+stays_in_step c x sound widths keeps es b d e ls st out =
+    let m = board_model c in
+    let laws = of_board c x.rom in
+    let events = events_law c x.rom in
+    let fine = Lift.memory_of m c (λ w. w.chips) (Whole x.rom) laws (comes c) events x.code x.find x.words x.entry x.main x.handler x.placed x.size sound.is_placed sound.finds sound.enough b d st.0 in
+    let up = Lift.lifts m c (λ w. w.chips) (Whole x.rom) laws (comes c) events x.code x.find x.words x.entry x.main x.handler x.placed x.size sound.is_placed sound.finds sound.enough es b d e ls st.0 out in
+    let leads = keeps x.code x.find x.words x.entry x.main x.handler (code_widths m widths x.code b.world fine.1.spelled) in
+    (up.0, (up.1, main_has c (offers_of x) (starts_of x) leads es d e ls st.1 out))
+
 pub from_instructions : DecodedHasWidths → KeepsWords → (P R : Type 0) → FromInstructions P R
 from_instructions widths keeps P R c x sound next first body limit most compiled paced start_turns reset state boots due safe =
     let sh = shared c in
@@ -32,12 +47,8 @@ from_instructions widths keeps P R c x sound next first body limit most compiled
     let s = starts_of x in
     let t = board_turn c in
     let n = length due in
-    let lift = Lift.lifts m c (λ w. w.chips) (Whole x.rom) laws (comes c) events x.code x.find x.words x.entry x.main x.handler x.placed x.size sound.is_placed sound.finds sound.enough in
+    let lifts = stays_in_step c x sound widths keeps in
     let begins = Lift.begins m c (λ w. w.chips) (Whole x.rom) laws (comes c) events x.code x.find x.words x.entry x.main x.handler x.placed x.size sound.is_placed sound.finds sound.enough in
-    let keeps_main = λ (b : Board (World P)) (d e : Duo (Store P) Context) es ls st out.
-    let fine = Lift.memory_of m c (λ w. w.chips) (Whole x.rom) laws (comes c) events x.code x.find x.words x.entry x.main x.handler x.placed x.size sound.is_placed sound.finds sound.enough b d st.0 in
-    main_has c o s (keeps x.code x.find x.words x.entry x.main x.handler (code_widths m widths x.code b.world fine.1.spelled)) es d e ls st.1 out in
-    let lifts = λ es b d e ls st out. let up = lift es b d e ls st.0 out in (up.0, (up.1, keeps_main b d e es ls st out)) in
     let in_step : (b : Board (World P)) (v : Store P) → Begins c x b v → (d : Context) × InStep x sound c b (Alone d false false v) × Follows Access answers R next Context o limit most true n limit first d =
     λ b v h. (
       Own x.main_at h.registers [] false None,

@@ -1,5 +1,5 @@
 -- Main's registers and its words on the stack stay words, whatever it runs and whatever interrupts it.
-use Rattle.std.proofs.Common.{◌≡◌, ℕ, suc, ◌+◌, ◌%◌, ◌<◌, Bool, true, false, List, Option, Some, None, subst, arith}
+use Rattle.std.proofs.Common.{◌≡◌, ℕ, zero, suc, ◌+◌, ◌%◌, ◌<◌, Bool, true, false, List, Option, Some, None, subst, arith}
 use Rattle.std.specs.Prelude.{◌&&◌}
 use Rattle.word86.specs.declared.event.Event.{Event}
 use Rattle.word86.specs.declared.label.Label.{Label}
@@ -27,14 +27,14 @@ module _ {W : Type 0} (m : BusModel W) (widths : DecodedHasWidths) where
 
   fetched_bytes : (w : W) (place : ℕ) → AreBytes (fetched m w 0xF000 place)
   unfolding fetched
-  fetched_bytes w place 0 = byte_small w 0xF000 place
-  fetched_bytes w place 1 = byte_small w 0xF000 ((place + 1) % 65536)
-  fetched_bytes w place 2 = byte_small w 0xF000 ((place + 2) % 65536)
-  fetched_bytes w place 3 = byte_small w 0xF000 ((place + 3) % 65536)
-  fetched_bytes w place 4 = byte_small w 0xF000 ((place + 4) % 65536)
-  fetched_bytes w place 5 = byte_small w 0xF000 ((place + 5) % 65536)
-  fetched_bytes w place 6 = byte_small w 0xF000 ((place + 6) % 65536)
-  fetched_bytes w place 7 = byte_small w 0xF000 ((place + 7) % 65536)
+  fetched_bytes w place zero = byte_small w 0xF000 place
+  fetched_bytes w place (suc zero) = byte_small w 0xF000 ((place + 1) % 65536)
+  fetched_bytes w place (suc (suc zero)) = byte_small w 0xF000 ((place + 2) % 65536)
+  fetched_bytes w place (suc (suc (suc zero))) = byte_small w 0xF000 ((place + 3) % 65536)
+  fetched_bytes w place (suc (suc (suc (suc zero)))) = byte_small w 0xF000 ((place + 4) % 65536)
+  fetched_bytes w place (suc (suc (suc (suc (suc zero))))) = byte_small w 0xF000 ((place + 5) % 65536)
+  fetched_bytes w place (suc (suc (suc (suc (suc (suc zero)))))) = byte_small w 0xF000 ((place + 6) % 65536)
+  fetched_bytes w place (suc (suc (suc (suc (suc (suc (suc zero))))))) = byte_small w 0xF000 ((place + 7) % 65536)
   fetched_bytes w place (suc (suc (suc (suc (suc (suc (suc (suc k)))))))) = omega arith
 
   pub code_widths : (code : ℕ → Option (Instr × ℕ)) (w : W) → Spelled m code w → (place : ℕ) (d : Instr × ℕ) → code place ≡ Some d → HasWidths d.0
