@@ -1,5 +1,5 @@
 -- The ROM of a program does what the program means.
-use Rattle.std.proofs.Common.{◌≡◌, ℕ, zero, suc, ◌+◌, ◌<◌, ◌≤◌, List, [], ◌∷◌, ◌++◌, length, Some, refl, ap, ◌∙◌, subst, arith, slice_get}
+use Rattle.std.proofs.Common.{◌≡◌, ℕ, zero, suc, ◌+◌, ◌<◌, ◌≤◌, List, [], ◌∷◌, ◌++◌, length, Some, None, refl, ap, ◌∙◌, subst, arith, slice_get}
 use Rattle.std.specs.Prelude.{slice_index}
 use Rattle.word86.specs.Access.{Access, answers}
 use Rattle.word86.specs.Chips.{Chips}
@@ -16,8 +16,9 @@ use Rattle.plm86.specs.declared.first.program.Sum.{Sum}
 use Rattle.plm86.specs.declared.first.program.Statement.{Statement}
 use Rattle.plm86.specs.declared.first.program.Statement.TheVariants as statements
 use Rattle.i86_table.specs.declared.instruction.Instr.TheVariants as i
-use Rattle.i86_table.specs.Contexts.{Context, Working, start}
-use Rattle.i86_code.specs.Decoding.{IsOneForm, IsShort}
+use Rattle.i86_table.specs.Contexts.{Context, Working}
+use Rattle.i86_table.specs.Words.{KeepsWords}
+use Rattle.i86_code.specs.Decoding.{IsOneForm, IsShort, DecodedHasWidths}
 use Rattle.plm86.specs.declared.first.lower.Op.{Op}
 use Rattle.plm86.specs.declared.first.lower.Op.TheVariants as ops
 use Rattle.plm86.specs.First.Code.{first_code, other_code, others_code, sum_code, statement_code, statements_code, program_code, entry_of}
@@ -26,7 +27,7 @@ use Rattle.plm86.specs.First.Selected.{Selected}
 use Rattle.plm86.specs.First.Linked.{length_of, place_in, total_of, instructions_from, start_up, start_up_length, main_at, op_places, entry_at, rom_instructions, rom_bytes, rom_code, IsCoded, AreCoded, all_bytes}
 use Rattle.plm86.specs.First.Known.{StatementsIn}
 use Rattle.plm86.specs.First.Found.{object_at}
-use Rattle.plm86.specs.Laws.{Assembly, IsSound, Lowered, Compiled, offers_of, starts_of, firmware_of}
+use Rattle.plm86.specs.Laws.{Assembly, IsSound, Lowered, Compiled, firmware_of}
 use Rattle.plm86.specs.First.Faithful.{IsFaithful}
 use Rattle.plm86.proofs.FirstForms.Lowering.{main_tracks, handler_tracks, finish_at}
 use Rattle.plm86.proofs.FirstForms.Selecting as selecting
@@ -139,11 +140,12 @@ assembly_of base size offsets sizes p = record {
   placed = slice_index offsets;
   size = slice_index sizes;
   find = object_at 0 offsets sizes;
+  words = λ offset. None;
   main = 0;
   handler = 0;
 }
 
-module _ (only : IsOneForm) (short : IsShort) (p : Program) (base size : ℕ) (offsets : List ℕ) (whole : base + size ≡ 65536)
+module _ (only : IsOneForm) (short : IsShort) (widths : DecodedHasWidths) (keeps : KeepsWords) (p : Program) (base size : ℕ) (offsets : List ℕ) (whole : base + size ≡ 65536)
     (fits : start_up_length + total_of (program_code p) + 16 ≤ size)
     (is : IsPlacement offsets (sizes_of p.names)) (some : (k : ℕ) → k < length (sizes_of p.names) → 1 ≤ slice_index (sizes_of p.names) k)
     (within : StatementsIn (length (sizes_of p.names)) p.main.items)
@@ -176,13 +178,13 @@ module _ (only : IsOneForm) (short : IsShort) (p : Program) (base size : ℕ) (o
   is_selected : Selected (rom_code base placed icode) (object_at 0 offsets sizes) placed (op_places base placed icode) icode
   is_selected = selected (rom_code base placed icode) placed (object_at 0 offsets sizes) (base + start_up_length) icode (omega (arith, fits, whole)) code_sequence (known offsets sizes is some p within)
 
-  is_lowered : Lowered Access answers Rest (next offsets sizes procedures) (main_of p) (body_of p) Icode (does icode) (At 0 0 []) (λ v. At (entry_of p) 0 []) 2 5
-  is_lowered = record { tracks = λ n. main_tracks offsets sizes procedures p 5 (omega arith) n 0; bodies = λ n v. handler_tracks offsets sizes procedures p v 5 (omega arith) n 0 }
+  is_lowered : Lowered Access answers Rest (next offsets sizes procedures) (main_of p) (body_of p) Icode (does icode) Working Context (λ g. At 0 0 []) (λ v c. At (entry_of p) 0 []) 2 5
+  is_lowered = record { tracks = λ n g. main_tracks offsets sizes procedures p 5 (omega arith) n 0; bodies = λ n v c. handler_tracks offsets sizes procedures p v 5 (omega arith) n 0 }
 
-  is_compiled : Compiled Access answers Icode (does icode) (At 0 0 []) (λ v. At (entry_of p) 0 []) Context Working (offers_of x) (Rattle.plm86.specs.Laws.main_of x) (starts_of x) 2 1
+  is_compiled : Compiled x Icode (does icode) (λ g. At 0 0 []) (λ v c. At (entry_of p) 0 []) 2 1
   is_compiled = record {
-    follows = λ n g. selecting.begins (rom_code base placed icode) (object_at 0 offsets sizes) (λ v. op_places base placed icode (entry_of p)) 0 0 icode placed (op_places base placed icode) is_selected (entry_of p) (stays p) refl (omega arith) n g;
-    serves = λ n v c. selecting.serves (rom_code base placed icode) (object_at 0 offsets sizes) 0 0 icode (op_places base placed icode) (entry_of p) (finish_at offsets sizes procedures p) ((is_selected.stand (entry_of p) ops.Finish (finish_at offsets sizes procedures p)).1) n v c;
+    follows = λ n g h. selecting.begins (rom_code base placed icode) (object_at 0 offsets sizes) x.words (λ v. op_places base placed icode (entry_of p)) 0 0 icode placed (op_places base placed icode) is_selected (entry_of p) (stays p) refl (omega arith) n g;
+    serves = λ n v c h. selecting.serves (rom_code base placed icode) (object_at 0 offsets sizes) x.words 0 0 icode (op_places base placed icode) (entry_of p) (finish_at offsets sizes procedures p) ((is_selected.stand (entry_of p) ops.Finish (finish_at offsets sizes procedures p)).1) n v c;
   }
 
   is_sound : IsSound x
@@ -196,9 +198,10 @@ module _ (only : IsOneForm) (short : IsShort) (p : Program) (base size : ℕ) (o
   -- the ROM does what the program means
   pub faithful : {P : Type 0} (c : Chips P) (chips : P) → IsFaithful c chips p procedures (firmware_of x) offsets 1291
   faithful {P = P} c chips =
-      from_rom only short P Rest Icode c x is_sound
+      from_rom only short widths keeps P Rest Icode c x is_sound
       (in_rom base size placed icode whole (omega (arith, fits)) (omega (arith, long, fits)) coded jump_coded (omega (arith, jump_length base)))
+      (λ offset v e. absurd (let wrong : None ≡ Some v = e in cc))
       (entry_at base placed icode) [] (starts_up base placed icode (omega (arith, fits, whole)) (sequence_front (rom_code base placed icode) base (start_up (entry_at base placed icode)) (instructions_from placed (op_places base placed icode) 0 icode) sequence))
-      (next offsets sizes procedures) (main_of p) (body_of p) (does icode) (At 0 0 []) (λ v. At (entry_of p) 0 []) 2 5 2 1 is_lowered is_compiled (omega arith) chips
+      (next offsets sizes procedures) (main_of p) (body_of p) (does icode) (λ g. At 0 0 []) (λ v c. At (entry_of p) 0 []) 2 5 2 1 is_lowered is_compiled (omega arith) chips
       (λ ram screen. first_store ram screen offsets sizes chips)
       (λ ram screen e1 e2. (holds x (entry_at base placed icode) offsets sizes is (rom_bytes base placed icode size) ram screen chips e1 e2 (omega (arith, fits, whole)) (λ v. entry_lies base placed p) (λ k. refl) (λ k. refl), refl))

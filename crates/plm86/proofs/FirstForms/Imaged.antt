@@ -3,7 +3,8 @@ use Rattle.std.proofs.Common.{◌≡◌, ℕ, ◌+◌, ◌-◌, ◌≤◌, List,
 use Rattle.std.specs.Prelude.{slice_index, replicate}
 use Rattle.std.proofs.lemmas.List.{length-map, length-replicate}
 use Rattle.i86_table.specs.declared.instruction.Instr.TheVariants as i
-use Rattle.i86_code.specs.Decoding.{IsOneForm, IsShort}
+use Rattle.i86_code.specs.Decoding.{IsOneForm, IsShort, DecodedHasWidths}
+use Rattle.i86_table.specs.Words.{KeepsWords}
 use Rattle.i86_code.specs.Writing.{bytes_of}
 use Rattle.ppi_kbd.specs.Chips.{reset}
 use Rattle.ppi_kbd.specs.BoardChips.{board_chips}
@@ -48,8 +49,8 @@ module _ (p : Program) (s : RomSize) (icode : List Op) (offsets rom : List ℕ) 
   pub is_sized : length rom ≡ bytes_in s
   is_sized = ap length rom_is ∙ rom_sized (base_of s) (slice_index offsets) icode (bytes_in s) fits
 
-  pub means : IsOneForm → IsShort → AreCoded (rom_instructions (base_of s) (slice_index offsets) icode) → IsCoded (i.JumpFar (base_of s) 0xF000) → MeansProgram p rom offsets 0 6 1291
-  means only short coded jump_coded =
+  pub means : IsOneForm → IsShort → DecodedHasWidths → KeepsWords → AreCoded (rom_instructions (base_of s) (slice_index offsets) icode) → IsCoded (i.JumpFar (base_of s) 0xF000) → MeansProgram p rom offsets 0 6 1291
+  means only short widths keeps coded jump_coded =
       let base = base_of s in
       let size = bytes_in s in
       let whole : base + size ≡ 65536 = omega (arith, most s) in
@@ -63,5 +64,5 @@ module _ (p : Program) (s : RomSize) (icode : List Op) (offsets rom : List ℕ) 
         entry = x.entry;
         faithful = λ procedures.
             subst (λ r. IsFaithful board_chips reset p procedures (record { rom = r; entry = x.entry; main = 0; handler = 6 }) offsets 1291) (sym same)
-            (faithful only short p base size offsets whole fits_code is_placed (sized p.names) within coded_code jump_coded procedures board_chips reset);
+            (faithful only short widths keeps p base size offsets whole fits_code is_placed (sized p.names) within coded_code jump_coded procedures board_chips reset);
       }

@@ -1,5 +1,5 @@
 -- The instructions of a context follow the intermediate code.
-use Rattle.std.proofs.Common.{◌≡◌, ℕ, zero, suc, ◌+◌, ◌%◌, ◌<◌, ◌≤◌, inl, inr, Bool, true, false, List, [], ◌∷◌, Option, Some, None, refl, sym, ap, ◌∙◌, subst, arith, slice_get, ⊎_elim}
+use Rattle.std.proofs.Common.{◌≡◌, ℕ, zero, suc, ◌+◌, ◌-◌, ◌%◌, ◌<◌, ◌≤◌, inl, inr, Bool, true, false, List, [], ◌∷◌, Option, Some, None, refl, sym, ap, ◌∙◌, subst, arith, slice_get, ⊎_elim}
 use Rattle.std.proofs.lemmas.Bool.{eq-eqb}
 use Rattle.std.specs.Prelude.{◌==◌, ◌&&◌, if◌then◌else◌}
 use Rattle.word86.specs.declared.width.Width.TheVariants as widths
@@ -16,7 +16,7 @@ use Rattle.i86_table.specs.declared.instruction.AluOperation.TheVariants.{Add}
 use Rattle.i86_table.specs.declared.instruction.Instr.{Instr}
 use Rattle.i86_table.specs.declared.instruction.Instr.TheVariants as i
 use Rattle.i86_table.specs.Arithmetic.{operated, with_flag, flag_bit}
-use Rattle.i86_table.specs.Contexts.{Context, Own, Working, set_word, set_byte, set_flags, alu_word, alu_byte, further, in_object, reads, writes, refused, offered, offered_at, offer, start, gives_back, without_trap_and_interrupts}
+use Rattle.i86_table.specs.Contexts.{Context, Own, Working, Given, stack_pointer, set_word, set_byte, set_flags, alu_word, alu_byte, further, in_object, reads, writes, refused, offered, offered_at, offer, start, gives_back, without_trap_and_interrupts}
 use Rattle.plm86.specs.declared.first.lower.Op.{Op}
 use Rattle.plm86.specs.declared.first.lower.Op.TheVariants as ops
 use Rattle.plm86.specs.First.Intermediate.{Icode, At, run, does}
@@ -52,22 +52,22 @@ falls_within top k ops.Halt h f = h
 falls_within top k (ops.Jump t) h f = absurd f
 falls_within top k ops.Finish h f = absurd f
 
-module _ (code : ℕ → Option (Instr × ℕ)) (find : ℕ → ℕ → Option (ℕ × ℕ)) (entry : ℕ → ℕ) (main handler : ℕ) (icode : List Op) where
+module _ (code : ℕ → Option (Instr × ℕ)) (find : ℕ → ℕ → Option (ℕ × ℕ)) (words : ℕ → Option ℕ) (entry : ℕ → ℕ) (main handler : ℕ) (icode : List Op) where
   abbrev Fl : ℕ → ℕ → Icode → Context → Type 0
-  Fl n f r c = Follows Access answers Icode (does icode) Context (offer code find entry main handler) 2 1 true n f r c
+  Fl n f r c = Follows Access answers Icode (does icode) Context (offer code find words entry main handler) 2 1 true n f r c
 
   abbrev Mt : (ℕ → Icode → Context → Type 0) → ℕ → ℕ → Icode → Offer Access Context → Type 0
-  Mt P f j r o = Meets Access answers Icode (does icode) Context (offer code find entry main handler) 2 1 true P f j r o
+  Mt P f j r o = Meets Access answers Icode (does icode) Context (offer code find words entry main handler) 2 1 true P f j r o
 
   abbrev Off : Context → Offer Access Context
-  Off c = offer code find entry main handler c
+  Off c = offer code find words entry main handler c
 
   -- what is offered at a place where an instruction stands
-  stands : (p len : ℕ) (n : Instr) (g : Working) (st : List ℕ) (a : Bool) (given : Option Working) → code p ≡ Some (n, len) → p + len < 65536
-      → Off (Own p g st a given) ≡ offered find main handler n (p + len) g st a given
+  stands : (p len : ℕ) (n : Instr) (g : Working) (st : List ℕ) (a : Bool) (given : Option Given) → code p ≡ Some (n, len) → p + len < 65536
+      → Off (Own p g st a given) ≡ offered find words main handler n (p + len) g st a given
   stands p len n g st a given e small =
       let q : (p + len) % 65536 ≡ p + len = omega (arith, small) in
-      ap (λ x. offered_at code find entry main handler x p g st a given) e ∙ ap (λ z. offered find main handler n z g st a given) q
+      ap (λ x. offered_at code find words entry main handler x p g st a given) e ∙ ap (λ z. offered find words main handler n z g st a given) q
 
   -- an instruction of its own
   alone : (n f : ℕ) (r : Icode) (c d : Context) → Off c ≡ Does (Silent d) → Fl n f r d → Fl (suc n) (suc f) r c
@@ -88,7 +88,7 @@ module _ (code : ℕ → Option (Instr × ℕ)) (find : ℕ → ℕ → Option (
       (zero, r, refl, inr (subst (λ o. Mt (Fl n) (suc f) zero r o) (sym e) (f, omega arith, subst (λ o. Sw o) (sym e2) (q, u, h))), omega arith)
     where
       Sw : Offer Access Context → Type 0
-      Sw o = Rattle.word86.specs.Following.Switch Access answers Icode (does icode) Context (offer code find entry main handler) 2 1 (Fl n 2) r o
+      Sw o = Rattle.word86.specs.Following.Switch Access answers Icode (does icode) Context (offer code find words entry main handler) 2 1 (Fl n 2) r o
 
   looser_meets : (n f g j : ℕ) (r : Icode) (o : Offer Access Context) → f ≤ g → Mt (Fl n) f j r o → Mt (Fl n) g j r o
   looser_meets n f g zero r (Does (Silent c)) le h = (h.0, omega (arith, h.1, le), h.2)
@@ -124,10 +124,10 @@ module _ (code : ℕ → Option (Instr × ℕ)) (find : ℕ → ℕ → Option (
         (at_bound m k a (p + st.0) (set_byte g Ah 0) (st.3 ∙ at) (omega (arith, x)) (go m (omega arith)))
 
     one : (m k a v p q : ℕ) (g h : Working) (n : Instr) → StandFrom code p (n ∷ []) q → q ≡ place (k + 1) → does icode (At k a []) ≡ Silent (At (k + 1) v [])
-        → offered find main handler n q g [] false None ≡ Does (Silent (Own q h [] false None)) → h.ax ≡ v → Bound m (k + 1)
+        → offered find words main handler n q g [] false None ≡ Does (Silent (Own q h [] false None)) → h.ax ≡ v → Bound m (k + 1)
         → Fl (suc m) 1 (At k a []) (Own p g [] false None)
     one m k a v p q g h n st at u e x go =
-        let off = stands p st.0 n g [] false None st.1 st.2 ∙ ap (λ z. offered find main handler n z g [] false None) st.3 ∙ e in
+        let off = stands p st.0 n g [] false None st.1 st.2 ∙ ap (λ z. offered find words main handler n z g [] false None) st.3 ∙ e in
         joint m 1 (At k a []) (At (k + 1) v []) (Own p g [] false None) (Own q h [] false None) u off
         (looser m 1 2 (At (k + 1) v []) (Own q h [] false None) (omega arith) (at_bound m (k + 1) v q h at x go))
 
@@ -262,15 +262,16 @@ gives_itself_back g f =
     both_hold (g.ax == g.ax) _ (equal_itself g.ax) (both_hold (g.cx == g.cx) _ (equal_itself g.cx) (both_hold (g.dx == g.dx) _ (equal_itself g.dx)
     (both_hold (g.bx == g.bx) _ (equal_itself g.bx) (both_hold (g.bp == g.bp) _ (equal_itself g.bp) (both_hold (g.si == g.si) _ (equal_itself g.si) (equal_itself g.di))))))
 
-module _ (code : ℕ → Option (Instr × ℕ)) (find : ℕ → ℕ → Option (ℕ × ℕ)) (main handler : ℕ) (icode : List Op) (place : ℕ → ℕ) (last : ℕ) (is_last : slice_get icode last ≡ Some ops.Finish) (top : StandFrom code (place last) (i.InterruptReturn ∷ []) (place (last + 1))) where
+module _ (code : ℕ → Option (Instr × ℕ)) (find : ℕ → ℕ → Option (ℕ × ℕ)) (words : ℕ → Option ℕ) (main handler : ℕ) (icode : List Op) (place : ℕ → ℕ) (last : ℕ) (is_last : slice_get icode last ≡ Some ops.Finish) (top : StandFrom code (place last) (i.InterruptReturn ∷ []) (place (last + 1))) where
   -- the empty interrupt procedure is used up at once
-  pub serves : (n vector : ℕ) (c : Context) → Follows Access answers Icode (does icode) Context (offer code find (λ v. place last) main handler) 2 1 false n 2 (At last 0 []) (start code find (λ v. place last) main handler vector c)
+  pub serves : (n vector : ℕ) (c : Context) → Follows Access answers Icode (does icode) Context (offer code find words (λ v. place last) main handler) 2 1 false n 2 (At last 0 []) (start code find words (λ v. place last) main handler vector c)
   serves zero vector c = tt
   serves (suc n) vector (Own p g st a given) =
       let f = without_trap_and_interrupts g.flags in
       let small : (place last + top.0) % 65536 ≡ place last + top.0 = omega (arith, top.2) in
-      let over : offer code find (λ v. place last) main handler (Own (place last) (set_flags g f) [] false (Some g)) ≡ Does Over =
-      ap (λ x. offered_at code find (λ v. place last) main handler x (place last) (set_flags g f) [] false (Some g)) top.1
+      let s : Given = record { registers = g; top = stack_pointer given st - 6 } in
+      let over : offer code find words (λ v. place last) main handler (Own (place last) (set_flags g f) [] false (Some s)) ≡ Does Over =
+      ap (λ x. offered_at code find words (λ v. place last) main handler x (place last) (set_flags g f) [] false (Some s)) top.1
       ∙ ap (λ (b : Bool). if b then Does Over else refused) (gives_itself_back g f) in
       let ends : does icode (At last 0 []) ≡ Over = ap (λ z. run z last 0 []) is_last in
-      (zero, At last 0 [], refl, inr (subst (λ o. Meets Access answers Icode (does icode) Context (offer code find (λ v. place last) main handler) 2 1 false (Follows Access answers Icode (does icode) Context (offer code find (λ v. place last) main handler) 2 1 false n) 2 zero (At last 0 []) o) (sym over) ends), omega arith)
+      (zero, At last 0 [], refl, inr (subst (λ o. Meets Access answers Icode (does icode) Context (offer code find words (λ v. place last) main handler) 2 1 false (Follows Access answers Icode (does icode) Context (offer code find words (λ v. place last) main handler) 2 1 false n) 2 zero (At last 0 []) o) (sym over) ends), omega arith)

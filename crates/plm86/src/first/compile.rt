@@ -12,7 +12,8 @@ use crate::first::lower::lower;
 use crate::first::placing::place;
 use crate::first::program::Program;
 use crate::image::{Image, RomSize, Stack};
-use i86_code::one_form;
+use i86_code::{decoded_widths, one_form};
+use i86_table::instructions_keep_words;
 use plm_decl::Placement;
 use std::alloc::Global;
 use word86::{Fault, Number};
@@ -42,6 +43,8 @@ pub(crate) fn compile(alloc: Global, program: &Program, size: RomSize) -> Result
     ensures faults { IfErr result (λ e. (e ≡ Fault.Memory) ⊎ (e ≡ Fault.At 0 1 Number.E601)) }
 {
     one_form();
+    decoded_widths();
+    instructions_keep_words();
     let icode = lower(alloc, program)?;
     let offsets = place(alloc, &program.names)?;
     let rom = link(alloc, &icode, &offsets, size)?;

@@ -11,7 +11,7 @@ returns-clause-meaning c =
     let same = c.deref-2.ensures.value ∙ ap (λ v. v.items) (sym c.of.ensures) in
     let means_program =
     means c.args.program.now c.args.size c.deref.result.now offsets c.in_ok-rom.rom.items (c.deref.ensures.value ∙ c.in_ok-icode.ensures.code) (c.deref-2.ensures.value ∙ c.in_ok-offsets.ensures.offsets)
-    c.in_ok-rom.ensures.bytes c.in_ok-rom.ensures.fits c.one_form.ensures.only c.one_form.ensures.short c.in_ok-rom.ensures.coded c.in_ok-rom.ensures.reset in
+    c.in_ok-rom.ensures.bytes c.in_ok-rom.ensures.fits c.one_form.ensures.only c.one_form.ensures.short c.decoded_widths.ensures c.instructions_keep_words.ensures c.in_ok-rom.ensures.coded c.in_ok-rom.ensures.reset in
     subst (λ l. MeansProgram c.args.program.now c.in_ok-rom.rom.items l 0 6 1291) same means_program
 
 pub returns-clause-placement : goal.returns-clause-placement
