@@ -8,3 +8,4 @@ pub mod Steps
 pub mod FlagLists
 pub mod LateLaws
 pub mod WordProofs
+pub mod InverseProofs

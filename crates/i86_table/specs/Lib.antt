@@ -9,4 +9,5 @@ pub mod Pairs
 pub mod PairLaws
 pub mod Contexts
 pub mod Words
+pub mod Open
 pub mod Inner

@@ -1,7 +1,7 @@
-//! When each conditional jump is taken.
+//! When each conditional jump is taken, and which one is taken where it is not.
 
 ghost use Rattle.std.specs.Prelude.{◌≡◌};
-ghost use Rattle.i86_table.specs.Conditions.{holds};
+ghost use Rattle.i86_table.specs.Conditions.{holds, inverse, InverseHolds};
 
 use crate::instruction::Condition;
 use crate::late_flags::LateFlags;
@@ -32,3 +32,34 @@ impl LateFlags {
         }
     }
 }
+
+impl Condition {
+    /// The condition that holds exactly where this one does not.
+    pub fn inverse(self) -> Condition
+        ensures { result ≡ inverse self }
+    {
+        match self {
+            Condition::Overflow => Condition::NotOverflow,
+            Condition::NotOverflow => Condition::Overflow,
+            Condition::Below => Condition::NotBelow,
+            Condition::NotBelow => Condition::Below,
+            Condition::Equal => Condition::NotEqual,
+            Condition::NotEqual => Condition::Equal,
+            Condition::BelowOrEqual => Condition::Above,
+            Condition::Above => Condition::BelowOrEqual,
+            Condition::Sign => Condition::NotSign,
+            Condition::NotSign => Condition::Sign,
+            Condition::ParityEven => Condition::ParityOdd,
+            Condition::ParityOdd => Condition::ParityEven,
+            Condition::Less => Condition::NotLess,
+            Condition::NotLess => Condition::Less,
+            Condition::LessOrEqual => Condition::Greater,
+            Condition::Greater => Condition::LessOrEqual,
+        }
+    }
+}
+
+/// The law that of a condition and its inverse exactly one holds, whatever the flags.
+pub fn inverse_law()
+    ensures { InverseHolds }
+{}

@@ -9,6 +9,7 @@ mod flags;
 mod instruction;
 mod late_flags;
 mod multiplication;
+mod open;
 mod operands;
 mod outcome;
 mod pair_law;
@@ -19,12 +20,14 @@ mod width;
 mod words;
 
 pub use arithmetic_law::{overflow_laws, product_laws, quotient_laws, rotation_laws, shift_laws};
+pub use condition::inverse_law;
 pub use flags::{Flags, flag_laws};
 pub use instruction::{
     Address, AluOperation, Base, Condition, Count, Instr, Memory, Operands, Port, Repeat,
     RmOperand, ShiftOperation, Signedness, TestMask, UnaryOperation,
 };
 pub use multiplication::{divide, sign_extended, sign_word};
+pub use open::{Open, Spot, Use};
 pub use outcome::{Division, Outcome, Product};
 pub use pair_law::pair_laws;
 pub use pairs::{BytePair, WordPair};
