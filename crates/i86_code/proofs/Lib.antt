@@ -9,3 +9,4 @@ pub mod WrittenForms
 pub mod Costs
 pub mod BestForms
 pub mod WidthProofs
+pub mod OpenAgain

@@ -97,7 +97,7 @@ shift_again shifts.Shl = refl
 shift_again shifts.Shr = refl
 shift_again shifts.Sar = refl
 
-under_again : (usual s : Segment) → segment_under (prefix_for usual s) usual ≡ s
+pub under_again : (usual s : Segment) → segment_under (prefix_for usual s) usual ≡ s
 under_again segments.Es segments.Es = refl
 under_again segments.Es segments.Cs = refl
 under_again segments.Es segments.Ss = refl
@@ -115,7 +115,7 @@ under_again segments.Ds segments.Cs = refl
 under_again segments.Ds segments.Ss = refl
 under_again segments.Ds segments.Ds = refl
 
-no_repeat : (usual s : Segment) → repeats (prefix_for usual s) ≡ false
+pub no_repeat : (usual s : Segment) → repeats (prefix_for usual s) ≡ false
 no_repeat segments.Es segments.Es = refl
 no_repeat segments.Es segments.Cs = refl
 no_repeat segments.Es segments.Ss = refl
@@ -203,7 +203,7 @@ based_is_place base d fits =
     not_six bases.Bx e = omega arith
 
 -- an operand is found again, under its prefix
-record Again {R : Type 0} (at : ℕ → R) (place : RmOperand R) (prefix : Prefixes) (form : RegisterOrMemory) : Type 0 where
+pub record Again {R : Type 0} (at : ℕ → R) (place : RmOperand R) (prefix : Prefixes) (form : RegisterOrMemory) : Type 0 where
   pub same : operand at prefix form ≡ place
   pub once : repeats prefix ≡ false
   pub fits : IsPlace form
@@ -236,7 +236,7 @@ pub record Says (f : Form) (instruction : Instr) : Type 0 where
   pub kind : kind_of_fields f.fields ≡ field_kind_of f.opcode
   pub fits : FieldsFit f.fields
 
-said : (p : Prefixes) (k : Opcode) (f : Fields) (instruction : Instr) → repeats p ≡ false → instruction_from p k f ≡ Some instruction → kind_of_fields f ≡ field_kind_of k → FieldsFit f → Says (record { prefixes = p; opcode = k; fields = f }) instruction
+pub said : (p : Prefixes) (k : Opcode) (f : Fields) (instruction : Instr) → repeats p ≡ false → instruction_from p k f ≡ Some instruction → kind_of_fields f ≡ field_kind_of k → FieldsFit f → Says (record { prefixes = p; opcode = k; fields = f }) instruction
 unfolding instruction_of
 said p k f instruction once e l fits = record { says = rw once e; kind = l; fits = fits }
 
@@ -339,12 +339,12 @@ ax_is Si e = absurd cc
 ax_is Di e = absurd cc
 
 -- the accumulator's form for a direct address, or the other
-accumulator_again : (b : Bool) (k : Opcode) (other : Form) (s : Segment) (a : Address) (instruction : Instr) → Says other instruction → ((offset : ℕ) → b ≡ true → a ≡ addresses.Direct offset → Says (record { prefixes = prefix_for segments.Ds s; opcode = k; fields = fields.Word offset }) instruction) → Says (accumulator_form b k other s a) instruction
+pub accumulator_again : (b : Bool) (k : Opcode) (other : Form) (s : Segment) (a : Address) (instruction : Instr) → Says other instruction → ((offset : ℕ) → b ≡ true → a ≡ addresses.Direct offset → Says (record { prefixes = prefix_for segments.Ds s; opcode = k; fields = fields.Word offset }) instruction) → Says (accumulator_form b k other s a) instruction
 accumulator_again false k other s a instruction else direct = else
 accumulator_again true k other s (addresses.Direct offset) instruction else direct = direct offset refl refl
 accumulator_again true k other s (addresses.Based base d) instruction else direct = else
 
-direct_again : (k : Opcode) (m : Memory) (offset : ℕ) (f : Memory → Instr) → kinds.Word ≡ field_kind_of k → ((q : Prefixes) → word_instruction q k offset ≡ Some (f (direct q offset))) → AddressFits m.address → m.address ≡ addresses.Direct offset → Says (record { prefixes = prefix_for segments.Ds m.segment; opcode = k; fields = fields.Word offset }) (f m)
+pub direct_again : (k : Opcode) (m : Memory) (offset : ℕ) (f : Memory → Instr) → kinds.Word ≡ field_kind_of k → ((q : Prefixes) → word_instruction q k offset ≡ Some (f (direct q offset))) → AddressFits m.address → m.address ≡ addresses.Direct offset → Says (record { prefixes = prefix_for segments.Ds m.segment; opcode = k; fields = fields.Word offset }) (f m)
 unfolding instruction_from
 direct_again k m offset f kind rule fits at =
     said _ _ _ _ (no_repeat segments.Ds m.segment)

@@ -5,3 +5,5 @@ pub mod Instructions
 pub mod Decoding
 pub mod Writing
 pub mod Ranges
+pub mod Open
+pub mod Inner

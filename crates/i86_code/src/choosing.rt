@@ -25,7 +25,7 @@ fn prefix_for(usual: Segment, segment: Segment) -> Prefixes
 }
 
 /// The prefix that an address in this segment needs: none for its usual segment.
-fn prefix_at(segment: Segment, address: Address) -> Prefixes
+pub(crate) fn prefix_at(segment: Segment, address: Address) -> Prefixes
     ensures { result ≡ prefix_at segment address }
 {
     match address {
@@ -86,7 +86,7 @@ fn place_form<R: Numbered>(place: RmOperand<R>) -> RegisterOrMemory
 }
 
 /// A form with no prefix.
-fn plain(opcode: Opcode, fields: Fields) -> Form
+pub(crate) fn plain(opcode: Opcode, fields: Fields) -> Form
     ensures { result ≡ plain opcode fields }
 {
     Form {
@@ -173,21 +173,26 @@ fn from_register<R: Numbered>(
 }
 
 /// Whether a register is AL, which has forms of its own.
-fn is_al(register: Register8) -> bool
+pub(crate) fn is_al(register: Register8) -> bool
     ensures { result ≡ is_al register }
 {
     matches!(register, Register8::Al)
 }
 
 /// Whether a register is AX, which has forms of its own.
-fn is_ax(register: Register16) -> bool
+pub(crate) fn is_ax(register: Register16) -> bool
     ensures { result ≡ is_ax register }
 {
     matches!(register, Register16::Ax)
 }
 
 /// The accumulator has a form of its own for a direct address.
-fn accumulator_form(is_accumulator: bool, opcode: Opcode, other: Form, memory: Memory) -> Form
+pub(crate) fn accumulator_form(
+    is_accumulator: bool,
+    opcode: Opcode,
+    other: Form,
+    memory: Memory,
+) -> Form
     ensures { result ≡ accumulator_form is_accumulator opcode other memory.segment memory.address }
 {
     match memory.address {
