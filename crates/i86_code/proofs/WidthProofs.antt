@@ -1,5 +1,5 @@
 -- The immediate operands of what is decoded have their widths.
-use Rattle.std.proofs.Common.{◌≡◌, ℕ, ◌+◌, ◌<◌, Bool, true, false, List, Option, Some, None, subst, arith}
+use Rattle.std.proofs.Common.{ℕ, ◌+◌, ◌<◌, Bool, true, false, Option, Some, None, subst, arith}
 use Rattle.std.specs.Prelude.{nat_lt, ◌==◌, ◌&&◌, not, if◌then◌else◌}
 use Rattle.word86.specs.declared.width.Width.{Width}
 use Rattle.word86.specs.declared.width.Width.TheVariants as widths
@@ -15,7 +15,7 @@ use Rattle.i86_table.specs.declared.instruction.RmOperand.TheVariants as rm
 use Rattle.i86_table.specs.declared.instruction.Instr.{Instr}
 use Rattle.i86_table.specs.declared.instruction.Instr.TheVariants as i
 use Rattle.i86_table.specs.Arithmetic.{sign_extended}
-use Rattle.i86_table.specs.Words.{HasWidths}
+use Rattle.i86_table.specs.Widths.{HasWidths}
 use Rattle.i86_code.specs.declared.form.Opcode.{Opcode}
 use Rattle.i86_code.specs.declared.form.Opcode.TheVariants as op
 use Rattle.i86_code.specs.declared.form.Fields.{Fields}
@@ -24,9 +24,9 @@ use Rattle.i86_code.specs.declared.form.Prefixes.{Prefixes}
 use Rattle.i86_code.specs.declared.form.RegisterOrMemory.{RegisterOrMemory}
 use Rattle.i86_code.specs.declared.form.Form.{Form}
 use Rattle.i86_code.specs.Forms.{FieldsFit}
-use Rattle.i86_code.specs.Opcodes.{byte_register_at, word_register_at, segment_at, loadable_at, operation_at}
-use Rattle.i86_code.specs.Instructions.{byte_operand, word_operand, to_register, exchanged_byte, exchanged_word, exchanged_accumulator, load_address, move_to_segment, shift_at, shift_then, byte_step, word_step, byte_unary, word_unary, is_short, repeats, is_string, addressed_instruction, addressed_byte_instruction, addressed_word_instruction, plain_instruction, byte_instruction, word_instruction, two_words_instruction, unary_instruction, test_byte_instruction, test_word_instruction, instruction_from, instruction_of, Spells}
-use Rattle.i86_code.specs.Decoding.{decoded, DecodedHasWidths}
+use Rattle.i86_code.specs.Opcodes.{byte_register_at, word_register_at, loadable_at}
+use Rattle.i86_code.specs.Instructions.{byte_operand, word_operand, to_register, exchanged_byte, exchanged_word, exchanged_accumulator, load_address, move_to_segment, shift_at, shift_then, byte_step, word_step, byte_unary, word_unary, is_short, repeats, is_string, addressed_instruction, addressed_byte_instruction, addressed_word_instruction, plain_instruction, byte_instruction, word_instruction, two_words_instruction, unary_instruction, test_byte_instruction, test_word_instruction, instruction_from, instruction_of}
+use Rattle.i86_code.specs.Widths.{DecodedHasWidths}
 use Rattle.i86_code.proofs.DecodedProofs.{is_decoded_spells}
 
 abbrev WidthsIn : Option Instr → Type 0

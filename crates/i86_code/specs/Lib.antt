@@ -3,6 +3,7 @@ pub mod Forms
 pub mod Reading
 pub mod Instructions
 pub mod Decoding
+pub mod Widths
 pub mod Writing
 pub mod Ranges
 pub mod Open

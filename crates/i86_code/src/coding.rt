@@ -3,7 +3,8 @@
 ghost use Rattle.std.specs.Prelude.{◌≡◌, ◌≤◌, ◌++◌, ℕ, List, IfSome, IfNone, take, length, Some};
 ghost use Rattle.i86_code.specs.Instructions.{Spells};
 ghost use Rattle.i86_code.specs.Writing.{WritesBest, bytes_of};
-ghost use Rattle.i86_code.specs.Decoding.{decoded, DecodedHasWidths, DecodedSpells, IsOneForm, IsShort};
+ghost use Rattle.i86_code.specs.Decoding.{decoded, DecodedSpells, IsOneForm, IsShort};
+ghost use Rattle.i86_code.specs.Widths.{DecodedHasWidths};
 
 use crate::form::Form;
 use crate::ranges::instruction_fits;

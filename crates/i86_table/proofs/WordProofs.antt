@@ -1,9 +1,9 @@
 -- What an instruction leaves in a context's registers and on its stack are words.
-use Rattle.std.proofs.Common.{◌≡◌, ℕ, zero, suc, ◌+◌, ◌-◌, ◌*◌, ◌/◌, ◌%◌, ◌<◌, ◌≤◌, Bool, true, false, List, [], ◌∷◌, length, drop, Option, Some, None, refl, subst, arith, lit<}
+use Rattle.std.proofs.Common.{◌≡◌, ℕ, zero, suc, ◌+◌, ◌-◌, ◌*◌, ◌/◌, ◌%◌, ◌<◌, ◌≤◌, Bool, true, false, List, [], ◌∷◌, length, drop, Option, Some, None, refl, arith, lit<}
 use Rattle.std.specs.Prelude.{not, nat_lt, nat_le, ◌==◌, ◌&&◌, if◌then◌else◌}
 use Rattle.std.proofs.lemmas.Nat.{and_le_l, or_of_16, xor_of_16, or_of_8, xor_of_8, mul-le}
 use Rattle.std.proofs.Math.Nat.{mod-lt}
-use Rattle.std.proofs.lemmas.Bool.{leb-false, ltb-true, ltb-false}
+use Rattle.std.proofs.lemmas.Bool.{leb-false, ltb-false}
 use Rattle.word86.specs.declared.width.Width.{Width}
 use Rattle.word86.specs.declared.width.Width.TheVariants as widths
 use Rattle.word86.specs.Access.{Access, Where}
@@ -16,7 +16,6 @@ use Rattle.i86_table.specs.declared.flags.Flags.{Flags}
 use Rattle.i86_table.specs.declared.outcome.Division.{Division}
 use Rattle.i86_table.specs.declared.registers.Segment.{Segment}
 use Rattle.i86_table.specs.declared.registers.Segment.TheVariants as segments
-use Rattle.i86_table.specs.declared.instruction.Memory.{Memory}
 use Rattle.i86_table.specs.declared.instruction.RmOperand.TheVariants as places
 use Rattle.i86_table.specs.declared.instruction.Operands.TheVariants.{FromRegister, FromMemory, Immediate}
 use Rattle.i86_table.specs.declared.instruction.Operands.{Operands}
@@ -30,9 +29,10 @@ use Rattle.i86_table.specs.declared.instruction.Signedness.{Signedness}
 use Rattle.i86_table.specs.declared.instruction.Signedness.TheVariants.{Unsigned, Signed}
 use Rattle.i86_table.specs.declared.instruction.Instr.{Instr}
 use Rattle.i86_table.specs.declared.instruction.Instr.TheVariants as i
-use Rattle.i86_table.specs.Arithmetic.{size_of, half_of, sign_extended, sign_word, operated, added, subtracted, combined, changed, shifted, moved, moved_once, magnitude, is_negative, same, with_sign, multiplied, divided, sign}
-use Rattle.i86_table.specs.Contexts.{Context, Own, Working, Given, offset_in, further, top_of, stack_pointer, stack_word, word_in, byte_in, set_word, set_byte, set_flags, alu_word, alu_byte, is_comparison, is_sp, is_stack, unless, silently, reads, writes, takes, moved_word, stack_offer, fetch_offer, jump_offer, offered, offered_at, offer, room, refused, pop_offer, divides, word_quotient, byte_quotient, move_word_offer, move_byte_offer, alu_word_offer, alu_byte_offer, place_of, masks_sp, count_in, enable_offer, end_offer, gives_back}
-use Rattle.i86_table.specs.Words.{AreWords, AllWords, HasWords, LeadsToWords, HasWidths, KeepsWords}
+use Rattle.i86_table.specs.Arithmetic.{size_of, sign_extended, sign_word, operated, added, subtracted, combined, changed, shifted, moved, moved_once, magnitude, is_negative, same, with_sign, multiplied, divided, sign}
+use Rattle.i86_table.specs.Contexts.{Context, Own, Working, Given, offset_in, further, top_of, stack_pointer, stack_word, word_in, byte_in, set_word, set_byte, set_flags, alu_word, alu_byte, is_comparison, is_sp, is_stack, unless, silently, reads, writes, takes, moved_word, stack_offer, jump_offer, offered, offered_at, room, refused, pop_offer, divides, word_quotient, byte_quotient, move_word_offer, move_byte_offer, alu_word_offer, alu_byte_offer, place_of, masks_sp, count_in, enable_offer, end_offer, gives_back}
+use Rattle.i86_table.specs.Widths.{HasWidths}
+use Rattle.i86_table.specs.Words.{AreWords, AllWords, HasWords, LeadsToWords, KeepsWords}
 use Rattle.i86_table.proofs.ProductProofs.{magnitude_small, product_small, even_width}
 
 word_fits : (g : Working) → AreWords g → (r : Register16) → word_in g r < 65536

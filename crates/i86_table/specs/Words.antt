@@ -3,10 +3,9 @@ use Rattle.std.specs.Prelude.{ℕ, ◌≡◌, ◌<◌, Option, Some, List, [], �
 use Rattle.word86.specs.Access.{Access, answers}
 use Rattle.word86.specs.Action.{Silent, Touch, Enable, Disable, Halt, Over, Bad}
 use Rattle.word86.specs.Following.{Offer, Does, Arms}
-use Rattle.i86_table.specs.declared.instruction.Operands.TheVariants.{Immediate}
 use Rattle.i86_table.specs.declared.instruction.Instr.{Instr}
-use Rattle.i86_table.specs.declared.instruction.Instr.TheVariants as i
 use Rattle.i86_table.specs.Contexts.{Context, Own, Working, top_of, offer}
+use Rattle.i86_table.specs.Widths.{HasWidths}
 
 pub record AreWords (g : Working) : Type 0 where
   pub ax : g.ax < 65536
@@ -35,14 +34,6 @@ LeadsToWords (Does (Halt c)) = HasWords c
 LeadsToWords (Does Over) = Unit {0}
 LeadsToWords (Does (Bad module_index line)) = Unit {0}
 LeadsToWords (Arms c) = HasWords c
-
--- immediate operands have their widths
-abbrev pub HasWidths : Instr → Type 0
-HasWidths (i.MoveWord (Immediate target n)) = n < 65536
-HasWidths (i.MoveByte (Immediate target n)) = n < 256
-HasWidths (i.AluWord f (Immediate target n)) = n < 65536
-HasWidths (i.AluByte f (Immediate target n)) = n < 256
-HasWidths _ = Unit {0}
 
 -- where all instructions have their widths, what a context with words runs leads to contexts with words
 abbrev pub KeepsWords : Type 0

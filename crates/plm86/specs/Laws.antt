@@ -17,9 +17,9 @@ use Rattle.plm86.specs.Relation.{Fine, Placed, Finds, FlagsAre}
 use Rattle.plm86.specs.Rom.{CodeInRom, WordsInRom}
 use Rattle.plm86.specs.Startup.{Act, HasStartUp, start_up_turns, with_vectors, after_acts}
 
--- How a ROM is assembled: its bytes; the instruction at each place of its code segment, with its length; where main begins; each
--- vector's procedure; the offset and the size of each object; what lies at an offset of the data; the words of tables in the code's
--- segment; and how many words main and an interrupt procedure may push.
+-- How a ROM is assembled: its bytes; the instruction at each place of its code segment, with its length; the words of tables there;
+-- where main begins; and each vector's procedure. Then the offset and the size of each object; what lies at an offset of the data;
+-- and how many words main and an interrupt procedure may push.
 pub record Assembly : Type 0 where
   pub rom : List ℕ
   pub code : (place : ℕ) → Option (Instr × ℕ)
@@ -55,8 +55,8 @@ firmware_of x = record { rom = x.rom; entry = x.entry; main = 2 * x.main; handle
 
 -- ---- the promises of the layers
 
--- The intermediate code tracks the rests of main and of each interrupt procedure, whatever is done to what is shared meanwhile, from
--- whatever registers its first context is told by.
+-- The intermediate code tracks the rests of main and of each interrupt procedure, whatever is done to what is shared meanwhile. Where
+-- it begins may depend on the registers at main's beginning, and on the context that is interrupted.
 pub record Lowered (A : Type 0) (bound : A → ℕ) (R : Type 0) (next : R → Action A R) (first : R) (body : ℕ → R) (I : Type 0) (does : I → Action A I) (G C : Type 0) (begin : G → I) (procedure : (vector : ℕ) → C → I) (limit most : ℕ) : Type 0 where
   pub tracks : (n : ℕ) (g : G) → Tracks A bound R next I does limit most n limit first (begin g)
   pub bodies : (n vector : ℕ) (c : C) → Tracks A bound R next I does limit most n limit (body vector) (procedure vector c)

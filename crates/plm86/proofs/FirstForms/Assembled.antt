@@ -18,7 +18,8 @@ use Rattle.plm86.specs.declared.first.program.Statement.TheVariants as statement
 use Rattle.i86_table.specs.declared.instruction.Instr.TheVariants as i
 use Rattle.i86_table.specs.Contexts.{Context, Working}
 use Rattle.i86_table.specs.Words.{KeepsWords}
-use Rattle.i86_code.specs.Decoding.{IsOneForm, IsShort, DecodedHasWidths}
+use Rattle.i86_code.specs.Decoding.{IsOneForm, IsShort}
+use Rattle.i86_code.specs.Widths.{DecodedHasWidths}
 use Rattle.plm86.specs.declared.first.lower.Op.{Op}
 use Rattle.plm86.specs.declared.first.lower.Op.TheVariants as ops
 use Rattle.plm86.specs.First.Code.{first_code, other_code, others_code, sum_code, statement_code, statements_code, program_code, entry_of}

@@ -3,7 +3,8 @@ use Rattle.std.proofs.Common.{◌≡◌, ℕ, ◌+◌, ◌-◌, ◌≤◌, List,
 use Rattle.std.specs.Prelude.{slice_index, replicate}
 use Rattle.std.proofs.lemmas.List.{length-map, length-replicate}
 use Rattle.i86_table.specs.declared.instruction.Instr.TheVariants as i
-use Rattle.i86_code.specs.Decoding.{IsOneForm, IsShort, DecodedHasWidths}
+use Rattle.i86_code.specs.Decoding.{IsOneForm, IsShort}
+use Rattle.i86_code.specs.Widths.{DecodedHasWidths}
 use Rattle.i86_table.specs.Words.{KeepsWords}
 use Rattle.i86_code.specs.Writing.{bytes_of}
 use Rattle.ppi_kbd.specs.Chips.{reset}

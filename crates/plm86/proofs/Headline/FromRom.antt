@@ -1,7 +1,8 @@
 -- From the bytes of a ROM to what the board does.
 use Rattle.std.proofs.Common.{◌≡◌, ℕ, List, length, refl, sym}
 use Rattle.i86_table.specs.Words.{KeepsWords}
-use Rattle.i86_code.specs.Decoding.{IsOneForm, IsShort, DecodedHasWidths}
+use Rattle.i86_code.specs.Decoding.{IsOneForm, IsShort}
+use Rattle.i86_code.specs.Widths.{DecodedHasWidths}
 use Rattle.word86.specs.Chips.{Chips}
 use Rattle.plm_meaning.specs.Store.{Store}
 use Rattle.board.specs.World.{World, Whole, board_model, comes}

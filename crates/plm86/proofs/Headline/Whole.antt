@@ -8,7 +8,7 @@ use Rattle.word86.specs.Following.{Follows}
 use Rattle.plm_meaning.specs.Store.{Store, shared}
 use Rattle.i86_table.specs.Contexts.{Context, Own}
 use Rattle.i86_table.specs.Words.{HasWords, KeepsWords}
-use Rattle.i86_code.specs.Decoding.{DecodedHasWidths}
+use Rattle.i86_code.specs.Widths.{DecodedHasWidths}
 use Rattle.board.specs.World.{World, Whole, board_model, comes}
 use Rattle.plm86.specs.Inner.Duo.{Duo, Alone, duo_after_events, act, main_in, has_handler}
 use Rattle.board.specs.Machine.{Board}

@@ -10,8 +10,10 @@ use Rattle.word86.specs.Following.{Offer, Does, Arms}
 use Rattle.plm_meaning.specs.Store.{Store, shared}
 use Rattle.i86_table.specs.declared.instruction.Instr.{Instr}
 use Rattle.i86_table.specs.Contexts.{Context}
-use Rattle.i86_table.specs.Words.{HasWords, LeadsToWords, HasWidths}
-use Rattle.i86_code.specs.Decoding.{AreBytes, DecodedHasWidths}
+use Rattle.i86_table.specs.Widths.{HasWidths}
+use Rattle.i86_table.specs.Words.{HasWords, LeadsToWords}
+use Rattle.i86_code.specs.Decoding.{AreBytes}
+use Rattle.i86_code.specs.Widths.{DecodedHasWidths}
 use Rattle.cpu8086.specs.BusModel.{BusModel}
 use Rattle.cpu8086.specs.Machine.{loaded_byte}
 use Rattle.cpu8086.specs.Turn.{fetched}
