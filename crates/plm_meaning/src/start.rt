@@ -60,7 +60,7 @@ fn subscripts_start<'a>(
 }
 
 // What comes first of a reference.
-#[tactic(auto, using(plm_type::proofs::Rows::reference_tree))]
+#[tactic(auto, using(crate::proofs::TypedTrees::reference_tree))]
 fn reference_start<'a>(r: &'a Reference, purpose: Purpose<'a>) -> Start<'a>
     ensures part { start_part result ≡ purposed purpose.entry (reference_of r.now) }
     ensures depth { start_depth result ≡ reference_depth (reference_of r.now) }
@@ -104,7 +104,7 @@ pub fn target_start<'a>(target: &'a Target, destination: Destination<'a>) -> Sta
 }
 
 /// What comes first of a statement.
-#[tactic(auto, using(plm_type::proofs::Rows::block_tree))]
+#[tactic(auto, using(crate::proofs::TypedTrees::block_tree))]
 pub fn statement_start<'a>(s: &'a Statement) -> Start<'a>
     ensures { start_part result ≡ Todo (Then (statement_of s.now) End) }
 {

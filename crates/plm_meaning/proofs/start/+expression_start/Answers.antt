@@ -1,7 +1,7 @@
 use Rattle.std.proofs.Common.{◌≡◌, ◌≤◌, suc, ◌∷◌, sym, ap, subst, ◌∙◌, arith}
 use Rattle.plm_type.specs.Rest as rest
 use Rattle.plm_type.specs.View.{expression_of, expressions_of, chained}
-use Rattle.plm_type.proofs.Rows.{call_tree, chain_tree}
+use Rattle.plm_meaning.proofs.TypedTrees.{call_tree, chain_tree}
 use Rattle.plm_meaning.specs.Context.{Expr}
 use Rattle.plm_meaning.specs.Inner.Start.{depth, start_depth, arguments_depth}
 use Rattle.plm_meaning.proofs.Given.{no_operations, chained_depth}

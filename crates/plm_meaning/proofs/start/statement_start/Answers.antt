@@ -1,7 +1,7 @@
 use Rattle.std.proofs.Common.{sym, ap, ◌∙◌}
 use Rattle.plm_type.specs.Rest.{If, While, Case, Then, End}
 use Rattle.plm_type.specs.View.{expression_of, statement_of, statements_of}
-use Rattle.plm_type.proofs.Rows.{if_tree, while_tree, case_tree, iterate_tree}
+use Rattle.plm_meaning.proofs.TypedTrees.{if_tree, while_tree, case_tree, iterate_tree}
 use Rattle.plm_meaning.specs.Context.{Todo}
 use Rattle.plm_meaning.proofs.start.statement_start.Goals as goal
 
