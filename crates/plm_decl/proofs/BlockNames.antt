@@ -21,22 +21,22 @@ use Rattle.plm_decl.specs.BlockNames.{name_of_variable, names_of_variables, name
 
 -- ---- tests
 
-or_none : (b : Bool) → (b || false) ≡ b
+pub or_none : (b : Bool) → (b || false) ≡ b
 or_none true = refl
 or_none false = refl
 
-or_together : (a b c : Bool) → ((a || b) || c) ≡ (a || (b || c))
+pub or_together : (a b c : Bool) → ((a || b) || c) ≡ (a || (b || c))
 or_together true b c = refl
 or_together false b c = refl
 
-has_both : (name : List ℕ) (ms ns : List NameT) → has_name name (ms ++ ns) ≡ (has_name name ms || has_name name ns)
+pub has_both : (name : List ℕ) (ms ns : List NameT) → has_name name (ms ++ ns) ≡ (has_name name ms || has_name name ns)
 has_both name [] ns = refl
 has_both name (m ∷ ms) ns =
     ap (λ (b : Bool). bytes_eq name (normal m.text) || b) (has_both name ms ns) ∙ sym (or_together (bytes_eq name (normal m.text)) (has_name name ms) (has_name name ns))
 
 -- ---- one more name
 
-abbrev finds : List ℕ → Entries → Bool
+abbrev pub finds : List ℕ → Entries → Bool
 finds name es = is_some (found_in name es)
 
 chosen : (b : Bool) (i : Item) (o : Option Item) → is_some (cond b (Some i) o) ≡ (b || is_some o)
@@ -57,7 +57,7 @@ there name key es true e h =
     let found : finds name es ≡ true = ap (λ (x : List ℕ). finds x es) ((bytes_eq-Decides name key).0 e) ∙ h in
     found ∙ sym (ap (λ (b : Bool). b || true) found)
 
-entered : (b : Bool) (name key : List ℕ) (i : Item) (es : Entries) → finds key es ≡ b → finds name (cond b es (es ++ (key, i) ∷ [])) ≡ (finds name es || bytes_eq name key)
+pub entered : (b : Bool) (name key : List ℕ) (i : Item) (es : Entries) → finds key es ≡ b → finds name (cond b es (es ++ (key, i) ∷ [])) ≡ (finds name es || bytes_eq name key)
 entered true name key i es h = there name key es (bytes_eq name key) refl h
 entered false name key i es h = finds_pushed name key i es
 

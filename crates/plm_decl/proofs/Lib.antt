@@ -13,6 +13,7 @@ pub mod Kept
 pub mod BlockNames
 pub mod Objects
 pub mod Places
+pub mod Once
 pub mod Lying
 pub mod RangesNames
 pub mod RangesExpressions

@@ -1,11 +1,12 @@
 -- What is read step by step, said of the tree of a block.
-use Rattle.std.specs.Prelude.{◌≡◌, ℕ, suc, List, [], ◌∷◌, ◌++◌, map, length, sum_by, slice_get, Bool, true, false, cond, not, Some, None, is_some}
+use Rattle.std.specs.Prelude.{◌≡◌, ℕ, suc, List, [], ◌∷◌, ◌++◌, map, length, sum_by, slice_get, Bool, true, false, cond, not, Option, Some, None, is_some}
 use Rattle.std.specs.List.{list_all}
 use Rattle.word86.specs.declared.number.Number.TheVariants.{E302}
 use Rattle.plm_token.specs.Names.{normal}
 use Rattle.plm_syntax.specs.declared.tree.Position.{Position}
 use Rattle.plm_syntax.specs.Terminal.{NameT}
-use Rattle.plm_syntax.specs.Tree.{ItemsT, ElementT, VariableT, VariableOf, ValueT}
+use Rattle.plm_syntax.specs.Tree.{ItemsT, ElementT, VariableT, VariableOf, MemberT, ValueT}
+use Rattle.plm_decl.specs.declared.layout.ScalarType.{ScalarType}
 use Rattle.plm_decl.specs.declared.names.Datum.{Datum}
 use Rattle.plm_decl.specs.declared.names.Datum.TheVariants as datum
 use Rattle.plm_decl.specs.declared.names.Region.{Region}
@@ -17,9 +18,11 @@ use Rattle.plm_decl.specs.declared.elements.Traits.{Traits}
 use Rattle.plm_decl.specs.Names.{ObjectR}
 use Rattle.plm_decl.specs.Scope.{Frame, frame, meant, found_here, is_external}
 use Rattle.plm_decl.specs.Resolver.{Known, note_unless}
+use Rattle.plm_decl.specs.Layout.{no_fields}
+use Rattle.plm_decl.specs.Shape.{member_names, with_member_name, with_member_names, structure_for}
 use Rattle.plm_decl.specs.Expressions.{constant_bytes}
 use Rattle.plm_decl.specs.Elements.{declared, declared_variables}
-use Rattle.plm_decl.specs.Statements.{with_elements, with_items}
+use Rattle.plm_decl.specs.Statements.{with_elements, with_items, parameter_is, parameters_from}
 use Rattle.plm_decl.specs.BlockNames.{names_of_items, names_of_elements, names_of_variables, has_name}
 
 -- after some items of a block, some elements of a DECLARE and some names of an element, the next name that is declared is a
@@ -29,6 +32,25 @@ DeclaresOnce =
     (path : List ℕ) (external : Bool) (outer : List Frame) (is : ItemsT) (es : List ElementT) (vs : List VariableT) (t : Traits) (s : Site) (k q r known : Known) (n : NameT) (i : Item)
     → (declared n i (declared_variables vs t s (with_elements es (with_items (frame path external ∷ outer) is k).0 q).0 r).1 known).1
     ≡ note_unless (not (has_name (normal n.text) (names_of_items is ++ (names_of_elements es ++ names_of_variables vs)))) E302 n.place known
+
+-- a further parameter of a procedure is a fault exactly where one of those before it has its normal form
+abbrev pub ListsOnce : Type 0
+ListsOnce =
+    (frames : List Frame) (vs : List ℕ) (ns : List NameT) (n : NameT) (k : Known)
+    → let r = parameters_from frames [] vs ns k in
+    parameters_from frames [] vs (ns ++ n ∷ []) k ≡ parameter_is (found_here (normal n.text) frames) n.place r.0 (note_unless (not (has_name (normal n.text) ns)) E302 n.place r.1)
+
+abbrev pub names_of_members : List MemberT → List NameT
+names_of_members [] = []
+names_of_members (m ∷ ms) = member_names m ++ names_of_members ms
+
+-- after some members of a structure and some names of one, the next name is a fault exactly where one of those before it has
+-- its normal form
+abbrev pub MembersOnce : Type 0
+MembersOnce =
+    (place : Position) (ms : List MemberT) (ns : List NameT) (scalar : ScalarType) (d : Option ℕ) (k q known : Known) (n : NameT)
+    → (with_member_name n scalar d (with_member_names ns scalar d (structure_for place ms no_fields k).0 q).0 known).1
+    ≡ note_unless (not (has_name (normal n.text) (names_of_members ms ++ ns))) E302 n.place known
 
 -- after some items of a block a name that one of them declares stands for what this block declares
 abbrev pub StandsInside : Type 0
