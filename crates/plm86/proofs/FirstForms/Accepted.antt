@@ -3,6 +3,7 @@ use Rattle.std.proofs.Common.{◌≡◌, ℕ, ◌+◌, ◌≤◌, Bool, true, fa
 use Rattle.std.specs.Prelude.{length, drop, sum, sum_by}
 use Rattle.std.proofs.lemmas.List.{at_drop_all, append-nil, length-map}
 use Rattle.std.proofs.lemmas.List.Sums.{sum-map}
+use Rattle.std.proofs.lemmas.List.Elements.{All-from_recursion}
 use Rattle.word86.specs.declared.fault.Fault.TheVariants.{At}
 use Rattle.word86.specs.declared.number.Number.TheVariants.{E401}
 use Rattle.plm_syntax.specs.declared.tree.Position.{Position}
@@ -12,9 +13,8 @@ use Rattle.plm_decl.specs.declared.names.Object.{Object}
 use Rattle.plm_decl.specs.declared.names.Variable.{Variable}
 use Rattle.plm_decl.specs.declared.found.Found.{Found}
 use Rattle.plm_decl.specs.Names.{ObjectR, ProcedureR, object_of}
-use Rattle.plm_decl.specs.Found.{IsLeast, IsRefusal}
+use Rattle.plm_decl.specs.Found.{precedes, IsLeast, IsRefusal}
 use Rattle.plm_decl.specs.Placement.{sizes_of}
-use Rattle.plm_decl.proofs.Least.{least_found}
 use Rattle.plm_type.specs.Rest.{Rest, Handler, End}
 use Rattle.plm_type.specs.Programs.{declared_procedures, handler_among, handler_rest}
 use Rattle.plm_meaning.specs.Store.{Store}
@@ -129,4 +129,4 @@ none_refused names none bare = record { forms = none; objects = ap (λ b. refuse
 pub objects_refused : (names : Names) → refused_forms names ≡ [] → are_bare (objects_in names) ≡ false → IsRefusal (At 0 1 E401) (refused_forms names) (refused_program names)
 objects_refused names none others =
     let f : Found = record { «module» = 0; place = beginning; number = E401 } in
-    (f, inr (none, subst (λ b. IsLeast (refused_unless b 0 beginning) f) (sym others) (least_found (f ∷ []) f refl)), refl)
+    (f, inr (none, subst (λ b. IsLeast (refused_unless b 0 beginning) f) (sym others) ((0, omega arith, refl), All-from_recursion (λ g. precedes g f ≡ false) (f ∷ []) (refl, tt))), refl)

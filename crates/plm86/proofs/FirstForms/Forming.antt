@@ -8,14 +8,15 @@ use Rattle.std.proofs.lemmas.List.Elements.{All-push}
 use Rattle.plm86.specs.First.Known.{OperandIn, SumIn}
 use Rattle.std.specs.Global.{Vec, Box}
 use Rattle.plm_type.specs.declared.program.Expression as declared
+use Rattle.plm_type.specs.declared.program.Expression.{Row_of-Operation, end_of-Operation, more_of-Operation, items-the_row-Operation, items_hidden-the_row-Operation-0}
+use Rattle.plm_type.specs.declared.program.Expression.TheBlock.{hidden-the_row-Operation-0}
 use Rattle.plm_type.specs.declared.program.Expression.TheVariants as expression
 use Rattle.plm_type.specs.declared.program.Operation.{Operation}
 use Rattle.plm_type.specs.declared.program.Target as target
 use Rattle.plm_type.specs.declared.program.Statement as statement
 use Rattle.plm_type.specs.declared.program.Statement.TheVariants as variant
 use Rattle.plm_type.specs.Rest.{Expression, Binary, Target, Assign}
-use Rattle.plm_type.specs.View.{expression_of, target_of, targets_of, statement_of, chained}
-use Rattle.plm_type.proofs.Rows.{operation_row}
+use Rattle.plm_type.specs.View.{expression_of, target_of, targets_of, statement_of, chained_in, chained}
 use Rattle.word86.specs.declared.fault.Fault.{Fault}
 use Rattle.plm86.specs.declared.first.program.Addend.{Addend}
 use Rattle.plm86.specs.declared.first.program.Sum.{Sum}
@@ -44,9 +45,15 @@ pub sum_more : (e : Expression) (all : List Addend) (a : Addend) → sum_onto e 
 sum_more e [] a = refl
 sum_more e (b ∷ all) a = sum_more (Binary b.line.module b.line.line Add Byte e (operand_of b.operand)) all a
 
+chain_rows : {m : _} (row : Row_of-Operation m) (e : Expression) → chained_in e row ≡ chained e (items-the_row-Operation m row)
+chain_rows end_of-Operation e = refl
+chain_rows (more_of-Operation l o width a os) e = chain_rows os (Binary l.module l.line o width e (expression_of a))
+
 -- a chain is its first operand and then the others
 pub chain_is : (first : Box declared.Expression) (others : Vec Operation) → expression_of (expression.Chain first others) ≡ chained (expression_of first.value) others.items
-chain_is first others = operation_row others (expression_of first.value)
+chain_is first others =
+    let e = expression_of first.value in
+    chain_rows (hidden-the_row-Operation-0 others) e ∙ ap (chained e) (items_hidden-the_row-Operation-0 others)
 
 pub chain_alone : (e : declared.Expression) (first : Box declared.Expression) (others : Vec Operation) → e ≡ expression.Chain first others → others.items ≡ [] → expression_of e ≡ expression_of first.value
 chain_alone e first others is none = ap expression_of is ∙ (chain_is first others ∙ ap (chained (expression_of first.value)) none)

@@ -1,4 +1,4 @@
-use Rattle.std.proofs.Common.{◌++◌, List, inl, append_assoc, refl, sym, subst, ap, ◌∙◌}
+use Rattle.std.proofs.Common.{◌≡◌, ◌++◌, [], List, Option, IfNone, IfSome, inl, append_assoc, refl, sym, subst, ap, ◌∙◌}
 use Rattle.word86.specs.declared.fault.Fault.{Fault}
 use Rattle.word86.specs.declared.fault.Fault.TheVariants.{At}
 use Rattle.word86.specs.declared.number.Number.TheVariants.{E401}
@@ -6,7 +6,6 @@ use Rattle.plm_decl.specs.declared.found.Found.{Found}
 use Rattle.plm_decl.specs.declared.names.Names.{Names}
 use Rattle.plm_decl.specs.Found.{IsLeast, IsRefusal}
 use Rattle.plm_decl.specs.Placement.{sizes_of}
-use Rattle.plm_decl.proofs.Least.{none_is, least_found}
 use Rattle.plm_type.specs.Programs.{declared_procedures, main_rest}
 use Rattle.plm_type.specs.Rest.{Main}
 use Rattle.plm_type.specs.View.{statements_of}
@@ -27,7 +26,7 @@ returns-in-Some-clause-refused c =
     ∙ append_assoc v p m in
     subst (λ (n : Names). IsRefusal c.fault.result (spec.refused_forms n) (spec.refused_program n)) c.names-names.ensures.names
     (subst (λ (f : Fault). IsRefusal f (spec.refused_forms names) (spec.refused_program names)) (sym c.fault.ensures)
-    (c.in-Some.found, inl (subst (λ (fs : List Found). IsLeast fs c.in-Some.found) all (least_found c.deref.result.now c.in-Some.found (sym c.least.ensures ∙ c.in-Some.is))), refl))
+    (c.in-Some.found, inl (subst (λ (fs : List Found). IsLeast fs c.in-Some.found) all (subst (λ (o : Option Found). IfSome o (λ f. IsLeast c.deref.result.now f)) c.in-Some.is c.least.ensures.found)), refl))
 
 pub first_statements-requires : goal.first_statements-requires
 first_statements-requires c = ap statements_of c.main.ensures ∙ c.names-names.ensures.typed.main
@@ -42,7 +41,7 @@ returns-in_default-2-clause-refused c =
     ∙ ap (λ (x : List Found). x ++ m) (c.in_ok-refuse_procedures.ensures.faults ∙ ap (λ (x : List Found). x ++ p) (c.in_ok-refuse_variables.ensures.faults ∙ ap (λ (x : List Found). x ++ v) c.new-faults.ensures.items))
     ∙ append_assoc v p m in
     subst (λ (n : Names). IsRefusal (At 0 1 E401) (spec.refused_forms n) (spec.refused_program n)) c.names-names.ensures.names
-    (objects_refused names (sym all ∙ none_is c.deref.result.now (sym c.least.ensures ∙ c.in_default.is)) (subst (λ o. ObjectsAre (spec.objects_in names) o) c.in_default-2.is c.in_ok-objects.ensures.objects))
+    (objects_refused names (sym all ∙ subst (λ (o : Option Found). IfNone o (c.deref.result.now ≡ [])) c.in_default.is c.least.ensures.none) (subst (λ o. ObjectsAre (spec.objects_in names) o) c.in_default-2.is c.in_ok-objects.ensures.objects))
 
 pub invariant_of-result : goal.invariant_of-result
 invariant_of-result c =
@@ -61,7 +60,7 @@ returns-clause-forms c =
     ∙ ap (λ (x : List Found). x ++ m) (c.in_ok-refuse_procedures.ensures.faults ∙ ap (λ (x : List Found). x ++ p) (c.in_ok-refuse_variables.ensures.faults ∙ ap (λ (x : List Found). x ++ v) c.new-faults.ensures.items))
     ∙ append_assoc v p m in
     let are = subst (λ o. ObjectsAre (spec.objects_in names) o) c.in-Some-2.is c.in_ok-objects.ensures.objects in
-    subst (λ (n : Names). spec.HasFirstForms n) c.names-names.ensures.names (none_refused names (sym all ∙ none_is c.deref.result.now (sym c.least.ensures ∙ c.in_default.is)) are.0)
+    subst (λ (n : Names). spec.HasFirstForms n) c.names-names.ensures.names (none_refused names (sym all ∙ subst (λ (o : Option Found). IfNone o (c.deref.result.now ≡ [])) c.in_default.is c.least.ensures.none) are.0)
 
 pub returns-clause-program : goal.returns-clause-program
 returns-clause-program c =
@@ -72,7 +71,7 @@ returns-clause-program c =
     let all = c.deref.ensures.value ∙ c.in_ok-main.ensures.faults
     ∙ ap (λ (x : List Found). x ++ m) (c.in_ok-refuse_procedures.ensures.faults ∙ ap (λ (x : List Found). x ++ p) (c.in_ok-refuse_variables.ensures.faults ∙ ap (λ (x : List Found). x ++ v) c.new-faults.ensures.items))
     ∙ append_assoc v p m in
-    let none = no_right p m (no_right v (p ++ m) (sym all ∙ none_is c.deref.result.now (sym c.least.ensures ∙ c.in_default.is))) in
+    let none = no_right p m (no_right v (p ++ m) (sym all ∙ subst (λ (o : Option Found). IfNone o (c.deref.result.now ≡ [])) c.in_default.is c.least.ensures.none)) in
     let are = subst (λ o. ObjectsAre (spec.objects_in names) o) c.in-Some-2.is c.in_ok-objects.ensures.objects in
     record {
       main = ap Main (c.in_ok-main.ensures.main none) ∙ ap (λ (n : Names). main_rest n) c.names-names.ensures.names;
