@@ -1,0 +1,34 @@
+-- How many silent steps of a rest may come before a statement's first instruction, and before those of its parts.
+use Rattle.std.specs.Prelude.{ℕ, suc, ◌+◌}
+use Rattle.plm_type.specs.Rest.{Loop, Count, Statement, Empty, Assign, Evaluate, Return, ReturnValue, Enabling, Disabling, Halting, If, Block, While, Case, Iterate, Leaving, Round, Comparing, Stepping, Adding, Storing, Ending, Statements, End, Then, Returned}
+
+abbrev mutual
+  pub lead : Statement → ℕ
+  lead Empty = 1
+  lead (Assign ts e) = 5
+  lead (Evaluate e) = 5
+  lead Return = 5
+  lead (ReturnValue w e) = 5
+  lead Enabling = 5
+  lead Disabling = 5
+  lead Halting = 5
+  lead (If c arm other) = leads arm + leads other + 5
+  lead (Block ss) = leads ss + 2
+  lead (While l c ss) = leads ss + 5
+  lead (Case e ss) = leads ss + 5
+  lead (Iterate a l) = loop_lead l + 5
+  lead Leaving = 0
+  lead (Round l) = 0
+  lead (Comparing i e l) = 0
+  lead (Stepping e l) = 0
+  lead (Adding i s l) = 0
+  lead (Storing s l) = 0
+  lead (Ending s l) = 0
+
+  pub loop_lead : Loop → ℕ
+  loop_lead (Count x b s ss) = leads ss
+
+  pub leads : Statements → ℕ
+  leads End = 0
+  leads (Then s later) = lead s + leads later + 1
+  leads (Returned v) = 0

@@ -1,0 +1,723 @@
+-- The code of statements does what their rest does.
+use Rattle.std.proofs.Common.{◌≡◌, ℕ, zero, suc, ◌+◌, ◌-◌, ◌%◌, ◌<◌, ◌≤◌, Bool, true, false, List, [], ◌∷◌, ◌++◌, length, drop, Option, Some, None, refl, sym, ap, ◌∙◌, subst, arith, slice_get, length-append, append_assoc}
+use Rattle.std.specs.Prelude.{if◌then◌else◌, nat_le, nat_lt, not, ◌&&◌}
+use Rattle.std.proofs.lemmas.Bool.Decides.{nat_tests}
+use Rattle.word86.specs.declared.width.Width.{Width}
+use Rattle.word86.specs.declared.width.Width.TheVariants as widths
+use Rattle.word86.specs.declared.operation.UnaryOperation.TheVariants as unary
+use Rattle.word86.specs.declared.operation.BinaryOperation.TheVariants as binary
+use Rattle.word86.specs.Access.{Access, Read, Write, Where, values}
+use Rattle.word86.specs.Action.{Action, Silent, Touch, Enable, Disable, Halt, Over, Bad, map_action}
+use Rattle.word86.specs.Arithmetic.{low}
+use Rattle.plm_type.specs.Rest.{Scalar, Expression, Constant, Value, Target, Targets, Only, Also, Loop, Count, Statement, Empty, Assign, Evaluate, Return, ReturnValue, Enabling, Disabling, Halting, If, Block, While, Case, Iterate, Leaving, Round, Comparing, Stepping, Adding, Storing, Ending, Statements, End, Then, Returned, Rest}
+use Rattle.plm_type.specs.Next.{value_of, is_odd, behind, returned, evaluated, next_statement}
+use Rattle.icode.specs.declared.instruction.Instruction.{Instruction}
+use Rattle.icode.specs.declared.instruction.Instruction.TheVariants as op
+use Rattle.icode.specs.declared.instruction.Relation.TheVariants as relation
+use Rattle.icode.specs.declared.instruction.Test.TheVariants as test
+use Rattle.icode.specs.declared.code.Routine.{Routine}
+use Rattle.icode.specs.declared.code.Word.{Word}
+use Rattle.icode.specs.declared.code.Word.TheVariants as words
+use Rattle.icode.specs.Machine.{Context, At, stored, loaded, switched}
+use Rattle.lower.specs.Code.{Operand, Number, Name, Computed, operand_of, place_of, beside, stands_to, test_of, expression_code, target_code, targets_code, condition_code, Kind, OfMain, Called, Serving, returning, narrowed, next_by_number, add_pushed, next_round, is_silent, are_silent, over, failing, choosing, all_of, entries, switching, exit_before, statement_code, statements_code, cases_code}
+use Rattle.lower.specs.Well.{Lies, IsExpression, IsTarget, AreTargets, MayReturn, MayReturnValue, IsStatement, IsLoop, AreStatements}
+use Rattle.lower.proofs.Setting.{Setting}
+use Rattle.lower.proofs.Sim.{N, X, T, S, fewer, eased, then_, up, down, down_more, both, both_more, bad, touches, enables, disables, halts}
+use Rattle.lower.proofs.Holes.{IsHole, IsBody, IsTargetHole, in_assign, in_evaluate, in_return, in_if, in_while, in_case, in_iterate, in_comparing, in_stepping, in_only, in_also, acts, HasAt, has_front, has_back}
+use Rattle.lower.proofs.Bools.{both_true, true_false}
+use Rattle.lower.proofs.Memory.{found_plain}
+use Rattle.lower.proofs.Values.{low_small, values_small, low_word}
+use Rattle.lower.proofs.Exprs.{IsOperand, operand_is, After, ProcedureRuns, moved_to, has_at, rise, soon, push_then}
+use Rattle.lower.proofs.Terms.{not_value, expression_sim, target_sim}
+use Rattle.lower.proofs.Tests.{condition_sim, bound_sim}
+use Rattle.lower.proofs.Leads.{lead, loop_lead, leads}
+
+-- the first part of code, and one more instruction
+pub has_head : (ops : List Instruction) (p : ℕ) (a : List Instruction) (i : Instruction) (b : List Instruction) → HasAt ops p (a ++ (i ∷ b)) → HasAt ops p (a ++ i ∷ [])
+has_head ops p [] i b h = (h.0, tt)
+has_head ops p (j ∷ a) i b h = (h.0, has_head ops (p + 1) a i b h.1)
+
+-- ---- what has no code
+
+module _ (procedures : List Rattle.plm_type.specs.Rest.Procedure) (around : Kind) where
+  mutual
+    pub silent_code : (s : Statement) → is_silent s ≡ true → (exit : ℕ) → statement_code procedures around exit s ≡ []
+    silent_code Empty h exit = refl
+    silent_code (Block ss) h exit = silents_code ss h exit
+    silent_code (Assign ts e) h exit = absurd (true_false (sym h))
+    silent_code (Evaluate e) h exit = absurd (true_false (sym h))
+    silent_code Return h exit = absurd (true_false (sym h))
+    silent_code (ReturnValue w e) h exit = absurd (true_false (sym h))
+    silent_code Enabling h exit = absurd (true_false (sym h))
+    silent_code Disabling h exit = absurd (true_false (sym h))
+    silent_code Halting h exit = absurd (true_false (sym h))
+    silent_code (If c arm other) h exit = absurd (true_false (sym h))
+    silent_code (While l c ss) h exit = absurd (true_false (sym h))
+    silent_code (Case e ss) h exit = absurd (true_false (sym h))
+    silent_code (Iterate e l) h exit = absurd (true_false (sym h))
+    silent_code Leaving h exit = absurd (true_false (sym h))
+    silent_code (Round l) h exit = absurd (true_false (sym h))
+    silent_code (Comparing i e l) h exit = absurd (true_false (sym h))
+    silent_code (Stepping e l) h exit = absurd (true_false (sym h))
+    silent_code (Adding i s l) h exit = absurd (true_false (sym h))
+    silent_code (Storing s l) h exit = absurd (true_false (sym h))
+    silent_code (Ending s l) h exit = absurd (true_false (sym h))
+
+    pub silents_code : (ss : Statements) → are_silent ss ≡ true → (exit : ℕ) → statements_code procedures around exit ss ≡ []
+    silents_code End h exit = refl
+    silents_code (Then s later) h exit =
+        let b = both_true (is_silent s) (are_silent later) h in
+        ap (λ c. c ++ statements_code procedures around exit later) (silent_code s b.0 (exit_before (are_silent later) exit)) ∙ silents_code later b.1 exit
+    silents_code (Returned v) h exit = absurd (true_false (sym h))
+
+low_twice : (w : Width) (v : ℕ) → low w (low w v) ≡ low w v
+low_twice widths.Byte v = omega arith
+low_twice widths.Word v = omega arith
+
+-- a sum wrapped where it is below the step
+lt_of : (a b : ℕ) → nat_lt a b ≡ true → a < b
+lt_of a b e = grind (arith, nat_tests)
+
+ge_of : (a b : ℕ) → nat_lt a b ≡ false → b ≤ a
+ge_of a b e = grind (arith, nat_tests)
+
+below_byte : (i s : ℕ) (a b : Bool) → i < 256 → nat_lt ((i + s) % 256) s ≡ a → nat_lt (i + s) 256 ≡ b → a ≡ not b
+below_byte i s true false h e f = refl
+below_byte i s false true h e f = refl
+below_byte i s true true h e f = absurd (omega (arith, h, lt_of ((i + s) % 256) s e, lt_of (i + s) 256 f))
+below_byte i s false false h e f = absurd (omega (arith, h, ge_of ((i + s) % 256) s e, ge_of (i + s) 256 f))
+
+below_word : (i s : ℕ) (a b : Bool) → i < 65536 → nat_lt ((i + s) % 65536) s ≡ a → nat_lt (i + s) 65536 ≡ b → a ≡ not b
+below_word i s true false h e f = refl
+below_word i s false true h e f = refl
+below_word i s true true h e f = absurd (omega (arith, h, lt_of ((i + s) % 65536) s e, lt_of (i + s) 65536 f))
+below_word i s false false h e f = absurd (omega (arith, h, ge_of ((i + s) % 65536) s e, ge_of (i + s) 65536 f))
+
+below_sum : (w : Width) (i s : ℕ) → i < values w → nat_lt (low w (i + s)) s ≡ not (nat_lt (i + s) (values w))
+below_sum widths.Byte i s h = below_byte i s _ _ h refl refl
+below_sum widths.Word i s h = below_word i s _ _ h refl refl
+
+behind_if : (b : Bool) (s t later : Statements) → behind (if b then s else t) later ≡ (if b then behind s later else behind t later)
+behind_if true s t later = refl
+behind_if false s t later = refl
+
+module _ (x : Setting) (MayCall : ℕ → Type 0) (calls : (q : ℕ) → MayCall q → ProcedureRuns x q) (around : Kind) (r : Routine) (D : Statements → Rest) (dx : IsBody x D) (ws : List Word) where
+  abbrev code_at : ℕ → Statement → List Instruction
+  code_at exit s = statement_code x.procedures around exit s
+
+  abbrev codes_at : ℕ → Statements → List Instruction
+  codes_at exit ss = statements_code x.procedures around exit ss
+
+  -- a place in the code goes on with this rest, whatever is in the accumulator
+  abbrev pub K : (k f n : ℕ) → Statements → ℕ → Type 0
+  K k f n later p = (a : ℕ) → S x k n f (D later) (At r p a ws)
+
+  -- what a RETURN leaves is taken
+  abbrev pub Returns : Kind → ℕ → Type 0
+  Returns OfMain n = Unit {0}
+  Returns Called n = (v p : ℕ) → v < 65536 → slice_get (x.code r) p ≡ Some op.Leave → S x 1 n 0 (D (Returned v)) (At r p v ws)
+  Returns Serving n = (v p a : ℕ) → slice_get (x.code r) p ≡ Some op.Finish → S x 0 n 0 (D (Returned v)) (At r p a ws)
+
+  fewer_returns : (kind : Kind) (n : ℕ) → Returns kind (suc n) → Returns kind n
+  fewer_returns OfMain n h = tt
+  fewer_returns Called n h = λ v p lt e. fewer x 1 n 0 (D (Returned v)) (At r p v ws) (h v p lt e)
+  fewer_returns Serving n h = λ v p a e. fewer x 0 n 0 (D (Returned v)) (At r p a ws) (h v p a e)
+
+  k_at : (k f n : ℕ) (later : Statements) (p q : ℕ) → p ≡ q → K k f n later p → K k f n later q
+  k_at k f n later p q e h = subst (λ y. K k f n later y) e h
+
+  k_more : (k j f g n : ℕ) (later : Statements) (p : ℕ) → k ≤ j → f ≤ g → K k f n later p → K j g n later p
+  k_more k j f g n later p le lf h a = eased x k j n f g (D later) (At r p a ws) le lf (h a)
+
+  k_fewer : (k f n : ℕ) (later : Statements) (p : ℕ) → K k f (suc n) later p → K k f n later p
+  k_fewer k f n later p h a = fewer x k n f (D later) (At r p a ws) (h a)
+
+  -- ---- what has no code
+
+  mutual
+    silent_sim : (s : Statement) → is_silent s ≡ true → (n k f : ℕ) (later : Statements) (p : ℕ) → f ≤ 2 → K k f n later p → K (k + lead s) f n (Then s later) p
+    silent_sim Empty h n k f later p le go = λ a. eased x (suc k) (k + 1) n f f (D (Then Empty later)) (At r p a ws) (omega arith) (omega arith) (up x k n f le (D (Then Empty later)) (D later) (At r p a ws) (dx (Then Empty later) refl) (go a))
+    silent_sim (Block ss) h n k f later p le go = λ a.
+        let leaving : K (suc k) f n (Then Leaving later) p = λ b. up x k n f le (D (Then Leaving later)) (D later) (At r p b ws) (dx (Then Leaving later) refl) (go b) in
+        eased x (suc (suc k + leads ss)) (k + (leads ss + 2)) n f f (D (Then (Block ss) later)) (At r p a ws) (omega arith) (omega arith)
+        (up x (suc k + leads ss) n f le (D (Then (Block ss) later)) (D (behind ss (Then Leaving later))) (At r p a ws) (dx (Then (Block ss) later) refl) (silents_sim ss h n (suc k) f (Then Leaving later) p le leaving a))
+    silent_sim (Assign ts e) h n k f later p le go = absurd (true_false (sym h))
+    silent_sim (Evaluate e) h n k f later p le go = absurd (true_false (sym h))
+    silent_sim Return h n k f later p le go = absurd (true_false (sym h))
+    silent_sim (ReturnValue w e) h n k f later p le go = absurd (true_false (sym h))
+    silent_sim Enabling h n k f later p le go = absurd (true_false (sym h))
+    silent_sim Disabling h n k f later p le go = absurd (true_false (sym h))
+    silent_sim Halting h n k f later p le go = absurd (true_false (sym h))
+    silent_sim (If c arm other) h n k f later p le go = absurd (true_false (sym h))
+    silent_sim (While l c ss) h n k f later p le go = absurd (true_false (sym h))
+    silent_sim (Case e ss) h n k f later p le go = absurd (true_false (sym h))
+    silent_sim (Iterate e l) h n k f later p le go = absurd (true_false (sym h))
+    silent_sim Leaving h n k f later p le go = absurd (true_false (sym h))
+    silent_sim (Round l) h n k f later p le go = absurd (true_false (sym h))
+    silent_sim (Comparing i e l) h n k f later p le go = absurd (true_false (sym h))
+    silent_sim (Stepping e l) h n k f later p le go = absurd (true_false (sym h))
+    silent_sim (Adding i s l) h n k f later p le go = absurd (true_false (sym h))
+    silent_sim (Storing s l) h n k f later p le go = absurd (true_false (sym h))
+    silent_sim (Ending s l) h n k f later p le go = absurd (true_false (sym h))
+
+    silents_sim : (ss : Statements) → are_silent ss ≡ true → (n k f : ℕ) (later : Statements) (p : ℕ) → f ≤ 2 → K k f n later p → K (k + leads ss) f n (behind ss later) p
+    silents_sim End h n k f later p le go = k_more k (k + 0) f f n later p (omega arith) (omega arith) go
+    silents_sim (Then s rest) h n k f later p le go =
+        let b = both_true (is_silent s) (are_silent rest) h in
+        k_more (k + leads rest + lead s) (k + (lead s + leads rest + 1)) f f n (Then s (behind rest later)) p (omega arith) (omega arith)
+        (silent_sim s b.0 n (k + leads rest) f (behind rest later) p le (silents_sim rest b.1 n k f later p le go))
+    silents_sim (Returned v) h n k f later p le go = absurd (true_false (sym h))
+
+  -- ---- what the code of statements does, from where one instruction without a step may come, to their end and their exit
+
+  abbrev pub StatementRuns : Statement → Type 0
+  StatementRuns s = is_silent s ≡ false → (n : ℕ) → Returns around n → (exit : ℕ) (later : Statements) (p k : ℕ) → k + lead s ≤ x.room → HasAt (x.code r) p (statement_code x.procedures around exit s)
+      → K k 2 n later (p + length (statement_code x.procedures around exit s)) → K k 1 n later (p + length (statement_code x.procedures around exit s) + exit) → K (k + lead s) 1 n (Then s later) p
+
+  abbrev pub StatementsRun : Statements → Type 0
+  StatementsRun ss = are_silent ss ≡ false → (n : ℕ) → Returns around n → (exit : ℕ) (later : Statements) (p k : ℕ) → k + leads ss ≤ x.room → HasAt (x.code r) p (statements_code x.procedures around exit ss)
+      → K k 2 n later (p + length (statements_code x.procedures around exit ss)) → K k 1 n later (p + length (statements_code x.procedures around exit ss) + exit) → K (k + leads ss) 1 n (behind ss later) p
+
+  -- the same behind an instruction that came with a step
+  abbrev pub ArmRuns : Statements → Type 0
+  ArmRuns ss = (n : ℕ) → Returns around n → (exit : ℕ) (later : Statements) (p k : ℕ) → k + leads ss ≤ x.room → HasAt (x.code r) p (statements_code x.procedures around exit ss)
+      → K k 2 n later (p + length (statements_code x.procedures around exit ss)) → K k 1 n later (p + length (statements_code x.procedures around exit ss) + exit) → K (k + leads ss) 2 n (behind ss later) p
+
+  abbrev CaseRuns : Statement → Type 0
+  CaseRuns s = (n : ℕ) → Returns around n → (exit : ℕ) (later : Statements) (p k : ℕ) → k + lead s ≤ x.room → HasAt (x.code r) p (statement_code x.procedures around exit s)
+      → K k 2 n later (p + length (statement_code x.procedures around exit s)) → K k 1 n later (p + length (statement_code x.procedures around exit s) + exit) → K (k + lead s) 2 n (Then s later) p
+
+  pub arm_runs : (ss : Statements) → StatementsRun ss → (b : Bool) → are_silent ss ≡ b → ArmRuns ss
+  arm_runs ss run false e n ret exit later p k small has to out = k_more (k + leads ss) (k + leads ss) 1 2 n (behind ss later) p (omega arith) (omega arith) (run e n ret exit later p k small has to out)
+  arm_runs ss run true e n ret exit later p k small has to out =
+      let none = ap length (silents_code x.procedures around ss e exit) in
+      silents_sim ss e n k 2 later p (omega arith) (k_at k 2 n later (p + length (codes_at exit ss)) p (omega (arith, none)) to)
+
+  case_runs : (s : Statement) → StatementRuns s → (b : Bool) → is_silent s ≡ b → CaseRuns s
+  case_runs s run false e n ret exit later p k small has to out = k_more (k + lead s) (k + lead s) 1 2 n (Then s later) p (omega arith) (omega arith) (run e n ret exit later p k small has to out)
+  case_runs s run true e n ret exit later p k small has to out =
+      let none = ap length (silent_code x.procedures around s e exit) in
+      silent_sim s e n k 2 later p (omega arith) (k_at k 2 n later (p + length (code_at exit s)) p (omega (arith, none)) to)
+
+  -- a statement, and those behind it
+  pair_runs : (s : Statement) (rest : Statements) → StatementRuns s → StatementsRun rest → (bs br : Bool) → is_silent s ≡ bs → are_silent rest ≡ br → (bs && br) ≡ false → (n : ℕ) → Returns around n → (exit : ℕ) (later : Statements) (p k : ℕ) → k + (lead s + leads rest + 1) ≤ x.room
+      → HasAt (x.code r) p (code_at (exit_before br exit) s ++ codes_at exit rest) → K k 2 n later (p + length (code_at (exit_before br exit) s ++ codes_at exit rest)) → K k 1 n later (p + length (code_at (exit_before br exit) s ++ codes_at exit rest) + exit)
+      → K (k + (lead s + leads rest + 1)) 1 n (Then s (behind rest later)) p
+  pair_runs s rest run runs true true es er theirs n ret exit later p k small has to out = absurd (true_false theirs)
+  pair_runs s rest run runs false true es er theirs n ret exit later p k small has to out =
+      let cs = code_at exit s in
+      let cr = codes_at exit rest in
+      let none = ap length (silents_code x.procedures around rest er exit) in
+      let len = length-append cs cr in
+      let two = silents_sim rest er n k 2 later (p + length cs) (omega arith) (k_at k 2 n later (p + length (cs ++ cr)) (p + length cs) (omega (arith, none, len)) to) in
+      let one = silents_sim rest er n k 1 later (p + length cs + exit) (omega arith) (k_at k 1 n later (p + length (cs ++ cr) + exit) (p + length cs + exit) (omega (arith, none, len)) out) in
+      k_more (k + leads rest + lead s) (k + (lead s + leads rest + 1)) 1 1 n (Then s (behind rest later)) p (omega arith) (omega arith)
+      (run es n ret exit (behind rest later) p (k + leads rest) (omega (arith, small)) (has_front (x.code r) p cs cr has) two one)
+  pair_runs s rest run runs true false es er theirs n ret exit later p k small has to out =
+      let cs = code_at 0 s in
+      let cr = codes_at exit rest in
+      let none = ap length (silent_code x.procedures around s es 0) in
+      let len = length-append cs cr in
+      let next = runs er n ret exit later (p + length cs) k (omega (arith, small)) (has_back (x.code r) p cs cr has) (k_at k 2 n later (p + length (cs ++ cr)) (p + length cs + length cr) (omega (arith, len)) to) (k_at k 1 n later (p + length (cs ++ cr) + exit) (p + length cs + length cr + exit) (omega (arith, len)) out) in
+      k_more (k + leads rest + lead s) (k + (lead s + leads rest + 1)) 1 1 n (Then s (behind rest later)) p (omega arith) (omega arith)
+      (silent_sim s es n (k + leads rest) 1 (behind rest later) p (omega arith) (k_at (k + leads rest) 1 n (behind rest later) (p + length cs) p (omega (arith, none)) next))
+  pair_runs s rest run runs false false es er theirs n ret exit later p k small has to out =
+      let cs = code_at 0 s in
+      let cr = codes_at exit rest in
+      let len = length-append cs cr in
+      let next = runs er n ret exit later (p + length cs) k (omega (arith, small)) (has_back (x.code r) p cs cr has) (k_at k 2 n later (p + length (cs ++ cr)) (p + length cs + length cr) (omega (arith, len)) to) (k_at k 1 n later (p + length (cs ++ cr) + exit) (p + length cs + length cr + exit) (omega (arith, len)) out) in
+      k_more (k + leads rest + lead s) (k + (lead s + leads rest + 1)) 1 1 n (Then s (behind rest later)) p (omega arith) (omega arith)
+      (run es n ret 0 (behind rest later) p (k + leads rest) (omega (arith, small)) (has_front (x.code r) p cs cr has)
+      (k_more (k + leads rest) (k + leads rest) 1 2 n (behind rest later) (p + length cs) (omega arith) (omega arith) next)
+      (k_at (k + leads rest) 1 n (behind rest later) (p + length cs) (p + length cs + 0) (omega arith) next))
+
+  -- ---- assignments, and what is evaluated
+
+  to_room : (k n : ℕ) (later : Statements) (p a : ℕ) → k ≤ x.room → K k 2 n later p → S x x.room n 2 (D later) (At r p a ws)
+  to_room k n later p a le go = eased x k x.room n 2 2 (D later) (At r p a ws) le (omega arith) (go a)
+
+  targets_sim : (ts : Targets) → AreTargets x.sizes x.procedures MayCall ts → (n v : ℕ) (later : Statements) (p : ℕ) → HasAt (x.code r) p (targets_code x.procedures ts) → S x x.room n 2 (D later) (At r (p + length (targets_code x.procedures ts)) v ws)
+      → S x 2 n 2 (D (Then (Assign ts (Value v)) later)) (At r p v ws)
+  targets_sim (Only t) good n v later p has go = target_sim x MayCall calls t good n v (λ y. D (Then (Assign (Only y) (Value v)) later)) (D later) (in_only x D dx later v) r p ws has go
+  targets_sim (Also t ts) good n v later p has go =
+      let ct = target_code x.procedures t in
+      let cs = targets_code x.procedures ts in
+      target_sim x MayCall calls t good.0 n v (λ y. D (Then (Assign (Also y ts) (Value v)) later)) (D (Then (Assign ts (Value v)) later)) (in_also x D dx later v ts) r p ws (has_front (x.code r) p ct cs has)
+      (rise x n 2 (D (Then (Assign ts (Value v)) later)) (At r (p + length ct) v ws) (omega arith)
+      (targets_sim ts good.1 n v later (p + length ct) (has_back (x.code r) p ct cs has) (moved_to x x.room n 2 (D later) r (p + length (ct ++ cs)) (p + length ct + length cs) v ws (omega (arith, length-append ct cs)) go)))
+
+  assign_runs : (ts : Targets) (e : Expression) → AreTargets x.sizes x.procedures MayCall ts → IsExpression x.sizes x.procedures MayCall e → StatementRuns (Assign ts e)
+  assign_runs ts e gt ge not n ret exit later p k small has to out a =
+      let ce = expression_code x.procedures e in
+      let ct = targets_code x.procedures ts in
+      let pe = p + length ce in
+      eased x 2 (k + 5) n 0 1 (D (Then (Assign ts e) later)) (At r p a ws) (omega arith) (omega arith)
+      (expression_sim x MayCall calls e ge n (λ y. D (Then (Assign ts y) later)) (in_assign x D dx later ts) r p ws (has_front (x.code r) p ce ct has)
+      (λ v lt. rise x n 2 (D (Then (Assign ts (Value v)) later)) (At r pe v ws) (omega arith)
+      (targets_sim ts gt n v later pe (has_back (x.code r) p ce ct has) (moved_to x x.room n 2 (D later) r (p + length (ce ++ ct)) (pe + length ct) v ws (omega (arith, length-append ce ct)) (to_room k n later (p + length (ce ++ ct)) v (omega (arith, small)) to)))) a)
+
+  evaluate_runs : (e : Expression) → IsExpression x.sizes x.procedures MayCall e → StatementRuns (Evaluate e)
+  evaluate_runs e ge not n ret exit later p k small has to out a =
+      eased x 2 (k + 5) n 0 1 (D (Then (Evaluate e) later)) (At r p a ws) (omega arith) (omega arith)
+      (subst (λ y. S x 2 n 0 (D (evaluated y e later)) (At r p a ws)) (not_value x MayCall calls e ge)
+      (expression_sim x MayCall calls e ge n (λ y. D (evaluated (value_of y) y later)) (in_evaluate x D dx later) r p ws has
+      (λ v lt. to_room k n later (p + length (expression_code x.procedures e)) v (omega (arith, small)) to) a))
+
+  -- ---- RETURN
+
+  return_then : (kind : Kind) → MayReturn x.sizes x.procedures MayCall kind → (n : ℕ) → Returns kind n → (later : Statements) (p a : ℕ) → HasAt (x.code r) p (returning kind) → S x 2 n 1 (D (Then Return later)) (At r p a ws)
+  return_then OfMain may n ret later p a has = absurd may
+  return_then Called may n ret later p a has =
+      down x 2 n 0 (D (Then Return later)) (At r p a ws) (At r (p + 1) 0 ws) (acts x r p a ws (op.Constant 0) has.0)
+      (soon x n 0 0 (D (Then Return later)) (At r (p + 1) 0 ws) (omega arith)
+      (up x 1 n 0 (omega arith) (D (Then Return later)) (D (Returned 0)) (At r (p + 1) 0 ws) (dx (Then Return later) refl) (ret 0 (p + 1) (omega arith) has.1.0)))
+  return_then Serving may n ret later p a has =
+      eased x 1 2 n 0 1 (D (Then Return later)) (At r p a ws) (omega arith) (omega arith)
+      (up x 0 n 0 (omega arith) (D (Then Return later)) (D (Returned 0)) (At r p a ws) (dx (Then Return later) refl) (ret 0 p a has.0))
+
+  narrowed_then : (w : Width) (n : ℕ) → Returns Called n → (v : ℕ) → v < 65536 → (R : Rest) → N x R ≡ Silent (D (Returned (low w v))) → (p : ℕ) → HasAt (x.code r) p (narrowed w ++ op.Leave ∷ []) → S x 2 n 1 R (At r p v ws)
+  narrowed_then widths.Byte n ret v lt R u p has =
+      down x 2 n 0 R (At r p v ws) (At r (p + 1) (v % 256) ws) (acts x r p v ws (op.Unary unary.Low widths.Word) has.0)
+      (soon x n 0 0 R (At r (p + 1) (v % 256) ws) (omega arith)
+      (up x 1 n 0 (omega arith) R (D (Returned (v % 256))) (At r (p + 1) (v % 256) ws) u (ret (v % 256) (p + 1) (omega arith) has.1.0)))
+  narrowed_then widths.Word n ret v lt R u p has =
+      eased x 2 2 n 0 1 R (At r p v ws) (omega arith) (omega arith)
+      (up x 1 n 0 (omega arith) R (D (Returned v)) (At r p v ws) (u ∙ ap (λ y. Silent (D (Returned y))) (low_word v lt)) (ret v p lt has.0))
+
+  value_then : (kind : Kind) → MayReturnValue x.sizes x.procedures MayCall kind → (w : Width) (e : Expression) → IsExpression x.sizes x.procedures MayCall e → (n : ℕ) → Returns kind n → (later : Statements) (p a : ℕ) → HasAt (x.code r) p (expression_code x.procedures e ++ (narrowed w ++ op.Leave ∷ []))
+      → S x 2 n 0 (D (Then (ReturnValue w e) later)) (At r p a ws)
+  value_then OfMain may w e ge n ret later p a has = absurd may
+  value_then Serving may w e ge n ret later p a has = absurd may
+  value_then Called may w e ge n ret later p a has =
+      let ce = expression_code x.procedures e in
+      let cn = narrowed w ++ op.Leave ∷ [] in
+      let pe = p + length ce in
+      expression_sim x MayCall calls e ge n (λ y. D (Then (ReturnValue w y) later)) (in_return x D dx later w) r p ws (has_front (x.code r) p ce cn has)
+      (λ v lt. rise x n 1 (D (Then (ReturnValue w (Value v)) later)) (At r pe v ws) (omega arith)
+      (narrowed_then w n ret v lt (D (Then (ReturnValue w (Value v)) later)) (dx (Then (ReturnValue w (Value v)) later) refl) pe (has_back (x.code r) p ce cn has))) a
+
+  -- ---- IF
+
+  -- the condition, once it is known where the two ways lead
+  if_then : (c : Expression) (arm other : Statements) → IsExpression x.sizes x.procedures MayCall c → (n k kk : ℕ) → kk ≤ x.room → 3 ≤ k → (later : Statements) (p d : ℕ) (tail : List Instruction) → HasAt (x.code r) p (condition_code x.procedures c ++ (op.AheadUnless (test_of c) d ∷ tail))
+      → K kk 2 n (behind arm later) (p + length (condition_code x.procedures c) + 1) → K kk 2 n (behind other later) (p + length (condition_code x.procedures c) + 1 + d) → K k 1 n (Then (If c arm other) later) p
+  if_then c arm other gc n k kk small wide later p d tail has ours theirs a =
+      let cc = condition_code x.procedures c in
+      let on = p + length cc + 1 in
+      eased x 3 k n 0 1 (D (Then (If c arm other) later)) (At r p a ws) wide (omega arith)
+      (condition_sim x MayCall calls n kk small D (behind arm later) (behind other later) r on (on + d) ws ours theirs
+      (λ y. D (Then (If y arm other) later)) (in_if x D dx later arm other) (λ v. dx (Then (If (Value v) arm other) later) refl ∙ ap (λ y. Silent (D y)) (behind_if (is_odd v) arm other later))
+      c gc p d (has_head (x.code r) p cc (op.AheadUnless (test_of c) d) tail has) refl refl a)
+
+  if_by : (c : Expression) (arm other : Statements) → IsExpression x.sizes x.procedures MayCall c → ArmRuns arm → ArmRuns other → (b : Bool) → are_silent other ≡ b → (n : ℕ) → Returns around n → (exit : ℕ) (later : Statements) (p k : ℕ) → k + (leads arm + leads other + 5) ≤ x.room
+      → HasAt (x.code r) p (choosing (condition_code x.procedures c) (test_of c) (codes_at (length (over b (codes_at exit other) exit) + length (codes_at exit other) + exit) arm) b (codes_at exit other) exit)
+      → K k 2 n later (p + length (choosing (condition_code x.procedures c) (test_of c) (codes_at (length (over b (codes_at exit other) exit) + length (codes_at exit other) + exit) arm) b (codes_at exit other) exit))
+      → K k 1 n later (p + length (choosing (condition_code x.procedures c) (test_of c) (codes_at (length (over b (codes_at exit other) exit) + length (codes_at exit other) + exit) arm) b (codes_at exit other) exit) + exit)
+      → K (k + (leads arm + leads other + 5)) 1 n (Then (If c arm other) later) p
+  if_by c arm other gc run runs true e n ret exit later p k small has to out =
+      let cc = condition_code x.procedures c in
+      let co = codes_at exit other in
+      let arm_exit = length (over true co exit) + length co + exit in
+      let ca = codes_at arm_exit arm in
+      let d = length ca + exit in
+      let tail = ca ++ ([] ++ co) in
+      let on = p + length cc + 1 in
+      let kk = k + (leads arm + leads other) in
+      let none = ap length (silents_code x.procedures around other e exit) in
+      let whole = choosing cc (test_of c) ca true co exit in
+      let end_is : p + length whole ≡ on + length ca = omega (arith, none, length-append cc (op.AheadUnless (test_of c) d ∷ tail), length-append ca ([] ++ co)) in
+      let h1 : HasAt (x.code r) on tail = (has_back (x.code r) p cc (op.AheadUnless (test_of c) d ∷ tail) has).1 in
+      let out' = k_at k 1 n later (p + length whole + exit) (on + d) (omega (arith, end_is)) out in
+      let ours = run n ret arm_exit later on k (omega (arith, small)) (has_front (x.code r) on ca ([] ++ co) h1) (k_at k 2 n later (p + length whole) (on + length ca) end_is to) (k_at k 1 n later (on + d) (on + length ca + arm_exit) (omega (arith, none)) out') in
+      let theirs = silents_sim other e n k 2 later (on + d) (omega arith) (k_more k k 1 2 n later (on + d) (omega arith) (omega arith) out') in
+      if_then c arm other gc n (k + (leads arm + leads other + 5)) kk (omega (arith, small)) (omega arith) later p d tail has
+      (k_more (k + leads arm) kk 2 2 n (behind arm later) on (omega arith) (omega arith) ours) (k_more (k + leads other) kk 2 2 n (behind other later) (on + d) (omega arith) (omega arith) theirs)
+  if_by c arm other gc run runs false e n ret exit later p k small has to out =
+      let cc = condition_code x.procedures c in
+      let co = codes_at exit other in
+      let past = op.Ahead (length co + exit) ∷ [] in
+      let arm_exit = length past + length co + exit in
+      let ca = codes_at arm_exit arm in
+      let d = length ca + 1 in
+      let tail = ca ++ (past ++ co) in
+      let on = p + length cc + 1 in
+      let pa = on + length ca in
+      let kk = k + (leads arm + leads other) in
+      let whole = choosing cc (test_of c) ca false co exit in
+      let end_is : p + length whole ≡ pa + 1 + length co = omega (arith, length-append cc (op.AheadUnless (test_of c) d ∷ tail), length-append ca (past ++ co)) in
+      let h1 : HasAt (x.code r) on tail = (has_back (x.code r) p cc (op.AheadUnless (test_of c) d ∷ tail) has).1 in
+      let h2 = has_back (x.code r) on ca (past ++ co) h1 in
+      let past_end : K k 2 n later pa = λ a.
+            down x k n 1 (D later) (At r pa a ws) (At r (pa + 1 + (length co + exit)) a ws) (acts x r pa a ws (op.Ahead (length co + exit)) h2.0)
+            (then_ x k n 1 1 (D later) (At r (pa + 1 + (length co + exit)) a ws) (omega (arith, small)) (omega arith) (k_at k 1 n later (p + length whole + exit) (pa + 1 + (length co + exit)) (omega (arith, end_is)) out a)) in
+      let ours = run n ret arm_exit later on k (omega (arith, small)) (has_front (x.code r) on ca (past ++ co) h1) past_end (k_at k 1 n later (p + length whole + exit) (pa + arm_exit) (omega (arith, end_is)) out) in
+      let theirs = runs n ret exit later (on + d) k (omega (arith, small)) (has_at x r (pa + 1) (on + d) co (omega arith) h2.1) (k_at k 2 n later (p + length whole) (on + d + length co) (omega (arith, end_is)) to) (k_at k 1 n later (p + length whole + exit) (on + d + length co + exit) (omega (arith, end_is)) out) in
+      if_then c arm other gc n (k + (leads arm + leads other + 5)) kk (omega (arith, small)) (omega arith) later p d tail has
+      (k_more (k + leads arm) kk 2 2 n (behind arm later) on (omega arith) (omega arith) ours) (k_more (k + leads other) kk 2 2 n (behind other later) (on + d) (omega arith) (omega arith) theirs)
+
+  if_runs : (c : Expression) (arm other : Statements) → IsExpression x.sizes x.procedures MayCall c → ArmRuns arm → ArmRuns other → StatementRuns (If c arm other)
+  if_runs c arm other gc run runs not n ret exit later p k small has to out = if_by c arm other gc run runs (are_silent other) refl n ret exit later p k small has to out
+
+  -- ---- DO WHILE: by induction on the number of instructions, of which the jump back uses one up
+
+  while_sim : (c : Expression) → IsExpression x.sizes x.procedures MayCall c → (ss : Statements) → ArmRuns ss → (exit p k : ℕ) → k + (leads ss + 5) ≤ x.room
+      → HasAt (x.code r) p (condition_code x.procedures c ++ (op.AheadUnless (test_of c) (length (codes_at 0 ss) + 1 + exit) ∷ (codes_at 0 ss ++ op.Back (length (condition_code x.procedures c) + length (codes_at 0 ss) + 2) ∷ []))) → (later : Statements)
+      → (n : ℕ) → Returns around n → K k 1 n later (p + length (condition_code x.procedures c) + 1 + length (codes_at 0 ss) + 1 + exit) → (a : ℕ) → S x 3 n 0 (D (Then (While c c ss) later)) (At r p a ws)
+  while_sim c gc ss run exit p k small has later zero ret out a = tt
+  while_sim c gc ss run exit p k small has later (suc n) ret out a =
+      let cc = condition_code x.procedures c in
+      let cs = codes_at 0 ss in
+      let d = length cs + 1 + exit in
+      let back = op.Back (length cc + length cs + 2) ∷ [] in
+      let on = p + length cc + 1 in
+      let pb = on + length cs in
+      let h1 : HasAt (x.code r) on (cs ++ back) = (has_back (x.code r) p cc (op.AheadUnless (test_of c) d ∷ (cs ++ back)) has).1 in
+      let h2 = has_back (x.code r) on cs back h1 in
+      let again : K 0 1 (suc n) (Then (While c c ss) later) pb = λ b.
+            down_more x 0 n 0 (D (Then (While c c ss) later)) (At r pb b ws) (At r p b ws) (acts x r pb b ws (op.Back (length cc + length cs + 2)) h2.0 ∙ ap (λ y. Silent (At r y b ws)) (omega arith))
+            (then_ x 3 n 0 0 (D (Then (While c c ss) later)) (At r p b ws) (omega arith) (omega arith) (while_sim c gc ss run exit p k small has later n (fewer_returns around n ret) (k_fewer k 1 n later (on + length cs + 1 + exit) out) b)) in
+      let kk = k + leads ss in
+      let ours = run (suc n) ret 0 (Then (While c c ss) later) on 0 (omega (arith, small)) (has_front (x.code r) on cs back h1) (k_more 0 0 1 2 (suc n) (Then (While c c ss) later) pb (omega arith) (omega arith) again) (k_at 0 1 (suc n) (Then (While c c ss) later) pb (pb + 0) (omega arith) again) in
+      condition_sim x MayCall calls (suc n) kk (omega (arith, small)) D (behind ss (Then (While c c ss) later)) later r on (on + d) ws
+      (k_more (0 + leads ss) kk 2 2 (suc n) (behind ss (Then (While c c ss) later)) on (omega arith) (omega arith) ours)
+      (k_more k kk 1 2 (suc n) later (on + d) (omega arith) (omega arith) (k_at k 1 (suc n) later (on + length cs + 1 + exit) (on + d) (omega arith) out))
+      (λ y. D (Then (While y c ss) later)) (in_while x D dx later c ss) (λ v. dx (Then (While (Value v) c ss) later) refl)
+      c gc p d (has_head (x.code r) p cc (op.AheadUnless (test_of c) d) (cs ++ back) has) refl refl a
+
+  while_runs : (c : Expression) (ss : Statements) → IsExpression x.sizes x.procedures MayCall c → ArmRuns ss → StatementRuns (While c c ss)
+  while_runs c ss gc run not n ret exit later p k small has to out a =
+      let cc = condition_code x.procedures c in
+      let cs = codes_at 0 ss in
+      let back = op.Back (length cc + length cs + 2) ∷ [] in
+      let body = op.AheadUnless (test_of c) (length cs + 1 + exit) ∷ (cs ++ back) in
+      eased x 3 (k + (leads ss + 5)) n 0 1 (D (Then (While c c ss) later)) (At r p a ws) (omega arith) (omega arith)
+      (while_sim c gc ss run exit p k small has later n ret (k_at k 1 n later (p + length (cc ++ body) + exit) (p + length cc + 1 + length cs + 1 + exit) (omega (arith, length-append cc body, length-append cs back)) out) a)
+
+  -- ---- DO CASE
+
+  -- what a value leads to by one silent step
+  abbrev after_case : Statements → ℕ → Statements → Statements
+  after_case later v End = later
+  after_case later v (Returned u) = later
+  after_case later zero (Then s rest) = Then s later
+  after_case later (suc v) (Then s rest) = Then (Case (Value v) rest) later
+
+  case_is : (later : Statements) (v : ℕ) (ss : Statements) → N x (D (Then (Case (Value v) ss) later)) ≡ Silent (D (after_case later v ss))
+  case_is later v End = dx (Then (Case (Value v) End) later) refl
+  case_is later v (Returned u) = dx (Then (Case (Value v) (Returned u)) later) refl
+  case_is later zero (Then s rest) = dx (Then (Case (Value zero) (Then s rest)) later) refl
+  case_is later (suc v) (Then s rest) = dx (Then (Case (Value (suc v)) (Then s rest)) later) refl
+
+  abbrev pub CasesRun : Statements → Type 0
+  CasesRun End = Unit {0}
+  CasesRun (Then s later) = CaseRuns s × CasesRun later
+  CasesRun (Returned v) = ⊥
+
+  abbrev cases_at : ℕ → Statements → List (List Instruction)
+  cases_at exit ss = cases_code x.procedures around exit ss
+
+  -- a value that has no case
+  missed : (ss : Statements) → CasesRun ss → (n exit k : ℕ) (later : Statements) (p v : ℕ) → length (cases_at exit ss) ≤ v → K k 2 n later p → K (k + leads ss) 2 n (after_case later v ss) p
+  missed End runs n exit k later p v le go = k_more k (k + 0) 2 2 n later p (omega arith) (omega arith) go
+  missed (Returned u) runs n exit k later p v le go = absurd runs
+  missed (Then s rest) runs n exit k later p zero le go = absurd (omega (arith, le))
+  missed (Then s rest) runs n exit k later p (suc v) le go = λ a.
+      eased x (suc (k + leads rest)) (k + (lead s + leads rest + 1)) n 2 2 (D (Then (Case (Value v) rest) later)) (At r p a ws) (omega arith) (omega arith)
+      (up x (k + leads rest) n 2 (omega arith) (D (Then (Case (Value v) rest) later)) (D (after_case later v rest)) (At r p a ws) (case_is later v rest) (missed rest runs.1 n exit k later p v (omega (arith, le)) go a))
+
+  -- where a case's entry leads, and what it does there
+  abbrev Taken : ℕ → ℕ → ℕ → Statements → ℕ → ℕ → Type 0
+  Taken n k q ss v d = (slice_get (x.code r) (q + v) ≡ Some (op.Case d)) × K k 2 n ss (q + suc v + d)
+
+  taken : (ss : Statements) → CasesRun ss → (n : ℕ) → Returns around n → (exit k : ℕ) (later : Statements) (before q pc v to : ℕ) → k + leads ss ≤ x.room → v < length (cases_at exit ss) → HasAt (x.code r) q (entries before (cases_at exit ss)) → HasAt (x.code r) pc (all_of (cases_at exit ss))
+      → pc ≡ q + length (cases_at exit ss) + 1 + before → to ≡ pc + length (all_of (cases_at exit ss)) + exit → K k 1 n later to → (d : ℕ) × Taken n (k + leads ss) q (after_case later v ss) v d
+  taken End runs n ret exit k later before q pc v to small lt has code at end out = absurd (omega (arith, lt))
+  taken (Returned u) runs n ret exit k later before q pc v to small lt has code at end out = absurd runs
+  taken (Then s rest) runs n ret exit k later before q pc zero to small lt has code at end out =
+      let others = cases_at exit rest in
+      let beyond = length (all_of others) + exit in
+      let cs = code_at (1 + beyond) s in
+      let c = cs ++ op.Ahead beyond ∷ [] in
+      let d = length others + 1 + before in
+      let hc = has_front (x.code r) pc c (all_of others) code in
+      let pa = pc + length cs in
+      let ha = has_back (x.code r) pc cs (op.Ahead beyond ∷ []) hc in
+      let len = length-append cs (op.Ahead beyond ∷ []) in
+      let len2 = length-append c (all_of others) in
+      let leaves : K k 2 n later pa = λ a.
+            down x k n 1 (D later) (At r pa a ws) (At r (pa + 1 + beyond) a ws) (acts x r pa a ws (op.Ahead beyond) ha.0)
+            (then_ x k n 1 1 (D later) (At r (pa + 1 + beyond) a ws) (omega (arith, small)) (omega arith) (k_at k 1 n later to (pa + 1 + beyond) (omega (arith, end, len, len2)) out a)) in
+      (d, (subst (λ y. slice_get (x.code r) y ≡ Some (op.Case d)) (omega arith) has.0,
+      k_at (k + (lead s + leads rest + 1)) 2 n (Then s later) pc (q + suc zero + d) (omega (arith, at))
+      (k_more (k + lead s) (k + (lead s + leads rest + 1)) 2 2 n (Then s later) pc (omega arith) (omega arith)
+      (runs.0 n ret (1 + beyond) later pc k (omega (arith, small)) (has_front (x.code r) pc cs (op.Ahead beyond ∷ []) hc) leaves (k_at k 1 n later to (pa + (1 + beyond)) (omega (arith, end, len, len2)) out)))))
+  taken (Then s rest) runs n ret exit k later before q pc (suc v) to small lt has code at end out =
+      let others = cases_at exit rest in
+      let beyond = length (all_of others) + exit in
+      let c = code_at (1 + beyond) s ++ op.Ahead beyond ∷ [] in
+      let len2 = length-append c (all_of others) in
+      let t = taken rest runs.1 n ret exit k later (before + length c) (q + 1) (pc + length c) v to (omega (arith, small)) (omega (arith, lt)) has.1 (has_back (x.code r) pc c (all_of others) code) (omega (arith, at)) (omega (arith, end, len2)) out in
+      (t.0, (subst (λ y. slice_get (x.code r) y ≡ Some (op.Case t.0)) (omega arith) t.1.0,
+      λ a. eased x (suc (k + leads rest)) (k + (lead s + leads rest + 1)) n 2 2 (D (Then (Case (Value v) rest) later)) (At r (q + suc (suc v) + t.0) a ws) (omega arith) (omega arith)
+      (up x (k + leads rest) n 2 (omega arith) (D (Then (Case (Value v) rest) later)) (D (after_case later v rest)) (At r (q + suc (suc v) + t.0) a ws) (case_is later v rest)
+      (k_at (k + leads rest) 2 n (after_case later v rest) (q + 1 + suc v + t.0) (q + suc (suc v) + t.0) (omega arith) t.1.1 a))))
+
+  switch_by : (ss : Statements) → CasesRun ss → (n : ℕ) → Returns around n → (exit k : ℕ) (later : Statements) (p v : ℕ) → k + (leads ss + 5) ≤ x.room → HasAt (x.code r) p (switching (cases_at exit ss) exit) → K k 1 n later (p + length (switching (cases_at exit ss) exit) + exit)
+      → (b : Bool) → nat_lt v (length (cases_at exit ss)) ≡ b → S x 2 n 0 (D (Then (Case (Value v) ss) later)) (At r p v ws)
+  switch_by ss runs n ret exit k later p v small has out b e =
+      let cases = cases_at exit ss in
+      let m = length cases in
+      let es = entries 0 cases in
+      let ahead = op.Ahead (length (all_of cases) + exit) in
+      let es_len = entries_length 0 cases in
+      let pj = p + 1 + m in
+      let h1 = has_front (x.code r) (p + 1) es (ahead ∷ all_of cases) has.1 in
+      let h2 = has_at x r (p + 1 + length es) pj (ahead ∷ all_of cases) (omega (arith, es_len)) (has_back (x.code r) (p + 1) es (ahead ∷ all_of cases) has.1) in
+      let len = length-append es (ahead ∷ all_of cases) in
+      let to = pj + 1 + length (all_of cases) + exit in
+      let out' = k_at k 1 n later (p + length (switching cases exit) + exit) to (omega (arith, len, es_len)) out in
+      let R = D (Then (Case (Value v) ss) later) in
+      let Q = after_case later v ss in
+      let kk = k + leads ss in
+      let done : (q : ℕ) → X x (At r p v ws) ≡ Silent (At r q v ws) → K kk 2 n Q q → S x 2 n 0 R (At r p v ws) = λ q i go.
+            both x 1 n 0 R (D Q) (At r p v ws) (At r q v ws) (case_is later v ss) i (then_ x kk n 2 2 (D Q) (At r q v ws) (omega (arith, small)) (omega arith) (go v)) in
+      let act = acts x r p v ws (op.Switch m) has.0 in
+      by b e done act h1 h2 out'
+    where
+      entries_length : (before : ℕ) (cs : List (List Instruction)) → length (entries before cs) ≡ length cs
+      entries_length before [] = refl
+      entries_length before (c ∷ cs) = ap suc (entries_length (before + length c) cs)
+
+      by : (b : Bool) → nat_lt v (length (cases_at exit ss)) ≡ b → ((q : ℕ) → X x (At r p v ws) ≡ Silent (At r q v ws) → K (k + leads ss) 2 n (after_case later v ss) q → S x 2 n 0 (D (Then (Case (Value v) ss) later)) (At r p v ws))
+          → X x (At r p v ws) ≡ (if nat_lt v (length (cases_at exit ss)) then switched (slice_get (x.code r) (p + 1 + v)) r (p + 1 + suc v) v ws else Silent (At r (p + 1 + length (cases_at exit ss)) v ws))
+          → HasAt (x.code r) (p + 1) (entries 0 (cases_at exit ss)) → HasAt (x.code r) (p + 1 + length (cases_at exit ss)) (op.Ahead (length (all_of (cases_at exit ss)) + exit) ∷ all_of (cases_at exit ss))
+          → K k 1 n later (p + 1 + length (cases_at exit ss) + 1 + length (all_of (cases_at exit ss)) + exit) → S x 2 n 0 (D (Then (Case (Value v) ss) later)) (At r p v ws)
+      by true e done act h1 h2 out' =
+          let m = length (cases_at exit ss) in
+          let t = taken ss runs n ret exit k later 0 (p + 1) (p + 1 + m + 1) v (p + 1 + m + 1 + length (all_of (cases_at exit ss)) + exit) (omega (arith, small)) (lt_of v m e) h1 h2.1 (omega arith) refl out' in
+          done (p + 1 + suc v + t.0)
+          (act ∙ ap (λ c. if c then switched (slice_get (x.code r) (p + 1 + v)) r (p + 1 + suc v) v ws else Silent (At r (p + 1 + m) v ws)) e ∙ ap (λ o. switched o r (p + 1 + suc v) v ws) t.1.0) t.1.1
+      by false e done act h1 h2 out' =
+          let m = length (cases_at exit ss) in
+          let d = length (all_of (cases_at exit ss)) + exit in
+          let pj = p + 1 + m in
+          done pj (act ∙ ap (λ c. if c then switched (slice_get (x.code r) (p + 1 + v)) r (p + 1 + suc v) v ws else Silent (At r pj v ws)) e)
+          (missed ss runs n exit k later pj v (ge_of v m e)
+          (λ a. down x k n 1 (D later) (At r pj a ws) (At r (pj + 1 + d) a ws) (acts x r pj a ws (op.Ahead d) h2.0) (then_ x k n 1 1 (D later) (At r (pj + 1 + d) a ws) (omega (arith, small)) (omega arith) (k_at k 1 n later (pj + 1 + length (all_of (cases_at exit ss)) + exit) (pj + 1 + d) (omega arith) out' a))))
+
+  switch_runs : (e : Expression) (ss : Statements) → IsExpression x.sizes x.procedures MayCall e → CasesRun ss → StatementRuns (Case e ss)
+  switch_runs e ss ge runs not n ret exit later p k small has to out a =
+      let ce = expression_code x.procedures e in
+      let cs = switching (cases_at exit ss) exit in
+      let pe = p + length ce in
+      eased x 2 (k + (leads ss + 5)) n 0 1 (D (Then (Case e ss) later)) (At r p a ws) (omega arith) (omega arith)
+      (expression_sim x MayCall calls e ge n (λ y. D (Then (Case y ss) later)) (in_case x D dx later ss) r p ws (has_front (x.code r) p ce cs has)
+      (λ v lt. rise x n 0 (D (Then (Case (Value v) ss) later)) (At r pe v ws) (omega arith)
+      (switch_by ss runs n ret exit k later pe v small (has_back (x.code r) p ce cs has) (k_at k 1 n later (p + length (ce ++ cs) + exit) (pe + length cs + exit) (omega (arith, length-append ce cs)) out) _ refl)) a)
+
+  -- ---- a DO with an index
+
+  module _ (y : Scalar) (bound step : Expression) (ss : Statements) (lies : Lies x.sizes y.width y.place) (gb : IsExpression x.sizes x.procedures MayCall bound) (gs : IsExpression x.sizes x.procedures MayCall step) (run : ArmRuns ss) (later : Statements) (pr : ℕ) where
+    abbrev l : Loop
+    l = Count y bound step ss
+
+    abbrev w : Width
+    w = y.width
+
+    -- the sum is tested: a round begins, or the loop ends
+    ending_by : (n k sum z : ℕ) (i : Context) (pe : ℕ) → k ≤ x.room → ((a : ℕ) → S x 2 n 0 (D (Then (Round l) later)) (At r pr a ws)) → K k 2 (suc n) later pe → (b : Bool) → nat_lt sum (values w) ≡ b → X x i ≡ Silent (At r (if not (nat_lt sum (values w)) then pe else pr) z ws) → S x 2 (suc n) 0 (D (Then (Ending sum l) later)) i
+    ending_by n k sum z i pe small round go true e h =
+        both_more x 1 n 0 (D (Then (Ending sum l) later)) (D (Then (Round l) later)) i (At r pr z ws) (dx (Then (Ending sum l) later) refl ∙ ap (λ b. Silent (D (if b then Then (Round l) later else later))) e) (h ∙ ap (λ b. Silent (At r (if not b then pe else pr) z ws)) e) (soon x n 0 2 (D (Then (Round l) later)) (At r pr z ws) (omega arith) (round z))
+    ending_by n k sum z i pe small round go false e h =
+        both_more x 1 n 0 (D (Then (Ending sum l) later)) (D later) i (At r pe z ws) (dx (Then (Ending sum l) later) refl ∙ ap (λ b. Silent (D (if b then Then (Round l) later else later))) e) (h ∙ ap (λ b. Silent (At r (if not b then pe else pr) z ws)) e)
+        (then_ x k n 2 2 (D later) (At r pe z ws) (omega (arith, small)) (omega arith) (k_fewer k 2 n later pe go z))
+
+    -- the sum is stored, and tested by the jump behind
+    storing_then : (n sum : ℕ) (us : List Word) (p : ℕ) → slice_get (x.code r) p ≡ Some (op.Store w (place_of y.place)) → S x 2 n 0 (D (Then (Ending sum l) later)) (At r (p + 1) (low w sum) us) → S x 2 n 0 (D (Then (Storing sum l) later)) (At r p (low w sum) us)
+    storing_then n sum us p h k =
+        let z = low w sum in
+        touches x 2 n 0 (Write w y.place z) (D (Then (Storing sum l) later)) (λ v. D (Then (Ending sum l) later)) (At r p z us) (λ v. At r (p + 1) z us) (dx (Then (Storing sum l) later) refl)
+        (acts x r p z us (op.Store w (place_of y.place)) h ∙ ap (λ o. stored w o z (At r (p + 1) z us)) (found_plain x w y.place lies) ∙ ap (λ t. Touch (Write w y.place t) (λ v. At r (p + 1) z us)) (low_twice w sum))
+        (λ v lt. soon x n 0 2 (D (Then (Ending sum l) later)) (At r (p + 1) z us) (omega arith) k)
+
+    -- the index is read, and the step added
+    adding_then : (n s a : ℕ) (us vs : List Word) (p : ℕ) → slice_get (x.code r) p ≡ Some (op.Load w (place_of y.place)) → ((i : ℕ) → X x (At r (p + 1) i us) ≡ Silent (At r (p + 2) (low w (i + s)) vs)) → slice_get (x.code r) (p + 2) ≡ Some (op.Store w (place_of y.place))
+        → ((i : ℕ) → i < values w → S x 2 n 0 (D (Then (Ending (i + s) l) later)) (At r (p + 2 + 1) (low w (i + s)) vs)) → (f : ℕ) → S x 2 n f (D (Then (Stepping (Value s) l) later)) (At r p a us)
+    adding_then n s a us vs p h add st k f =
+        touches x 2 n f (Read w y.place) (D (Then (Stepping (Value s) l) later)) (λ i. D (Then (Adding i s l) later)) (At r p a us) (λ i. At r (p + 1) i us) (dx (Then (Stepping (Value s) l) later) refl)
+        (acts x r p a us (op.Load w (place_of y.place)) h ∙ ap (λ o. loaded w o (λ i. At r (p + 1) i us)) (found_plain x w y.place lies))
+        (λ i lt. soon x n 0 2 (D (Then (Adding i s l) later)) (At r (p + 1) i us) (omega arith)
+        (both x 1 n 0 (D (Then (Adding i s l) later)) (D (Then (Storing (i + s) l) later)) (At r (p + 1) i us) (At r (p + 2) (low w (i + s)) vs) (dx (Then (Adding i s l) later) refl) (add i)
+        (soon x n 0 2 (D (Then (Storing (i + s) l) later)) (At r (p + 2) (low w (i + s)) vs) (omega arith) (storing_then n (i + s) vs (p + 2) st (k i lt)))))
+
+    back_to : (before p : ℕ) → p ≡ pr + before → p + 4 - (before + 4) ≡ pr
+    back_to before p e = omega (arith, e)
+
+    back_far : (before p : ℕ) → p ≡ pr + before → p + 6 - (before + 6) ≡ pr
+    back_far before p e = omega (arith, e)
+
+    -- a constant step
+    number_then : (n k s before p : ℕ) → k ≤ x.room → p ≡ pr + before → HasAt (x.code r) p (next_by_number y s before) → ((a : ℕ) → S x 2 n 0 (D (Then (Round l) later)) (At r pr a ws)) → K k 2 (suc n) later (p + 4) → (a : ℕ) → S x 3 (suc n) 1 (D (Then (Stepping (Constant s) l) later)) (At r p a ws)
+    number_then n k s before p small at has round go a =
+        up x 2 (suc n) 1 (omega arith) (D (Then (Stepping (Constant s) l) later)) (D (Then (Stepping (Value s) l) later)) (At r p a ws) (in_stepping x D dx later l (Constant s) refl)
+        (adding_then (suc n) s a ws ws p has.0 (λ i. acts x r (p + 1) i ws (op.BinaryConstant binary.Add w s) has.1.0 ∙ ap (λ q. Silent (At r q (low w (i + s)) ws)) (omega arith))
+        (subst (λ q. slice_get (x.code r) q ≡ Some (op.Store w (place_of y.place))) (omega arith) has.1.1.0)
+        (λ i lt. ending_by n k (i + s) (low w (i + s)) (At r (p + 2 + 1) (low w (i + s)) ws) (p + 4) small round go (nat_lt (i + s) (values w)) refl
+        (acts x r (p + 2 + 1) (low w (i + s)) ws (op.BackUnless (test.Constant relation.Less s) (before + 4)) (subst (λ q. slice_get (x.code r) q ≡ Some (op.BackUnless (test.Constant relation.Less s) (before + 4))) (omega arith) has.1.1.1.0)
+        ∙ ap (λ b. Silent (At r (if b then p + 2 + 1 + 1 else p + 2 + 1 + 1 - (before + 4)) (low w (i + s)) ws)) (below_sum w i s lt)
+        ∙ ap (λ q. Silent (At r (if not (nat_lt (i + s) (values w)) then q else p + 2 + 1 + 1 - (before + 4)) (low w (i + s)) ws)) (omega arith)
+        ∙ ap (λ q. Silent (At r (if not (nat_lt (i + s) (values w)) then p + 4 else q) (low w (i + s)) ws)) (ap (λ q. q - (before + 4)) (omega arith) ∙ back_to before p at))) 1)
+
+    -- every other step is pushed twice
+    pushed_then : (n k s before p : ℕ) → k ≤ x.room → p ≡ pr + before → HasAt (x.code r) p (add_pushed y before) → ((a : ℕ) → S x 2 n 0 (D (Then (Round l) later)) (At r pr a ws)) → K k 2 (suc n) later (p + 6) → S x 2 (suc n) 2 (D (Then (Stepping (Value s) l) later)) (At r p s ws)
+    pushed_then n k s before p small at has round go =
+        let us = words.Value s ∷ ws in
+        let R = D (Then (Stepping (Value s) l) later) in
+        push_then x 2 (suc n) 1 R r p s ws has.0
+        (soon x (suc n) 1 1 R (At r (p + 1) s us) (omega arith)
+        (push_then x 2 (suc n) 0 R r (p + 1) s us has.1.0
+        (soon x (suc n) 0 0 R (At r (p + 1 + 1) s (words.Value s ∷ us)) (omega arith)
+        (adding_then (suc n) s s (words.Value s ∷ us) us (p + 1 + 1) has.1.1.0
+        (λ i. acts x r (p + 1 + 1 + 1) i (words.Value s ∷ us) (op.Binary binary.Add w) has.1.1.1.0 ∙ ap (λ q. Silent (At r q (low w (s + i)) us)) (omega arith) ∙ ap (λ z. Silent (At r (p + 1 + 1 + 2) (low w z) us)) (omega arith))
+        (subst (λ q. slice_get (x.code r) q ≡ Some (op.Store w (place_of y.place))) (omega arith) has.1.1.1.1.0)
+        (λ i lt. ending_by n k (i + s) (low w (i + s)) (At r (p + 1 + 1 + 2 + 1) (low w (i + s)) us) (p + 6) small round go (nat_lt (i + s) (values w)) refl
+        (acts x r (p + 1 + 1 + 2 + 1) (low w (i + s)) us (op.BackUnless (test.Top relation.Greater) (before + 6)) (subst (λ q. slice_get (x.code r) q ≡ Some (op.BackUnless (test.Top relation.Greater) (before + 6))) (omega arith) has.1.1.1.1.1.0)
+        ∙ ap (λ b. Silent (At r (if b then p + 1 + 1 + 2 + 1 + 1 else p + 1 + 1 + 2 + 1 + 1 - (before + 6)) (low w (i + s)) ws)) (below_sum w i s lt)
+        ∙ ap (λ q. Silent (At r (if not (nat_lt (i + s) (values w)) then q else p + 1 + 1 + 2 + 1 + 1 - (before + 6)) (low w (i + s)) ws)) (omega arith)
+        ∙ ap (λ q. Silent (At r (if not (nat_lt (i + s) (values w)) then p + 6 else q) (low w (i + s)) ws)) (ap (λ q. q - (before + 6)) (omega arith) ∙ back_far before p at))) 0))))
+
+    computed_then : (n k before p : ℕ) → k ≤ x.room → p ≡ pr + before → HasAt (x.code r) p (expression_code x.procedures step ++ add_pushed y (before + length (expression_code x.procedures step))) → ((a : ℕ) → S x 2 n 0 (D (Then (Round l) later)) (At r pr a ws))
+        → K k 2 (suc n) later (p + length (expression_code x.procedures step ++ add_pushed y (before + length (expression_code x.procedures step)))) → (a : ℕ) → S x 3 (suc n) 1 (D (Then (Stepping step l) later)) (At r p a ws)
+    computed_then n k before p small at has round go a =
+        let ce = expression_code x.procedures step in
+        let ca = add_pushed y (before + length ce) in
+        let pe = p + length ce in
+        eased x 2 3 (suc n) 0 1 (D (Then (Stepping step l) later)) (At r p a ws) (omega arith) (omega arith)
+        (expression_sim x MayCall calls step gs (suc n) (λ e. D (Then (Stepping e l) later)) (in_stepping x D dx later l) r p ws (has_front (x.code r) p ce ca has)
+        (λ s lt. rise x (suc n) 2 (D (Then (Stepping (Value s) l) later)) (At r pe s ws) (omega arith)
+        (pushed_then n k s (before + length ce) pe small (omega (arith, at)) (has_back (x.code r) p ce ca has) round (k_at k 2 (suc n) later (p + length (ce ++ ca)) (pe + 6) (omega (arith, length-append ce ca)) go))) a)
+
+    step_then : (o : Operand) → IsOperand step o → (n k before p : ℕ) → k ≤ x.room → p ≡ pr + before → HasAt (x.code r) p (next_round y o (expression_code x.procedures step) before) → ((a : ℕ) → S x 2 n 0 (D (Then (Round l) later)) (At r pr a ws))
+        → K k 2 (suc n) later (p + length (next_round y o (expression_code x.procedures step) before)) → (a : ℕ) → S x 3 (suc n) 1 (D (Then (Stepping step l) later)) (At r p a ws)
+    step_then (Number s) is n k before p small at has round go a = subst (λ e. S x 3 (suc n) 1 (D (Then (Stepping e (Count y bound step ss)) later)) (At r p a ws)) (sym is) (number_then n k s before p small at has round go a)
+    step_then (Name read z) is n k before p small at has round go a = computed_then n k before p small at has round go a
+    step_then Computed is n k before p small at has round go a = computed_then n k before p small at has round go a
+
+    -- the rounds, by induction on the number of instructions
+    round_sim : (exit k : ℕ) → k + (leads ss + 5) ≤ x.room → (cb cs ca : List Instruction) → cb ≡ beside (operand_of bound) (expression_code x.procedures bound) → cs ≡ codes_at 0 ss → ca ≡ next_round y (operand_of step) (expression_code x.procedures step) (length cb + length cs + 2)
+        → HasAt (x.code r) pr (op.Load w (place_of y.place) ∷ (cb ++ (op.AheadUnless (stands_to relation.LessEqual (operand_of bound)) (length cs + length ca + exit) ∷ (cs ++ ca))))
+        → (n : ℕ) → Returns around n → K k 2 n later (pr + 1 + length cb + 1 + length cs + length ca) → K k 1 n later (pr + 1 + length cb + 1 + length cs + length ca + exit) → (a : ℕ) → S x 2 n 0 (D (Then (Round l) later)) (At r pr a ws)
+    round_sim exit k small cb cs ca eb es ea has zero ret to out a = tt
+    round_sim exit k small cb cs ca eb es ea has (suc n) ret to out a =
+        let jump = op.AheadUnless (stands_to relation.LessEqual (operand_of bound)) (length cs + length ca + exit) in
+        let m = suc n in
+        let p1 = pr + 1 in
+        let pj = p1 + length cb in
+        let on = pj + 1 in
+        let pg = on + length cs in
+        let pe = pg + length ca in
+        let d = length cs + length ca + exit in
+        let h1 = has_back (x.code r) p1 cb (jump ∷ (cs ++ ca)) has.1 in
+        let h2 = has_front (x.code r) on cs ca h1.1 in
+        let h3 = has_back (x.code r) on cs ca h1.1 in
+        let round = round_sim exit k small cb cs ca eb es ea has n (fewer_returns around n ret) (k_fewer k 2 n later pe to) (k_fewer k 1 n later (pe + exit) out) in
+        let next : K 3 1 m (Then (Stepping step l) later) pg = step_then (operand_of step) (operand_is step) n k (length cb + length cs + 2) pg (omega (arith, small)) (omega arith)
+              (subst (λ c. HasAt (x.code r) pg c) ea h3) round (k_at k 2 m later pe (pg + length (next_round y (operand_of step) (expression_code x.procedures step) (length cb + length cs + 2))) (omega (arith, ap length ea)) to) in
+        let kk = k + leads ss + 3 in
+        let ours = run m ret 0 (Then (Stepping step l) later) on 3 (omega (arith, small)) (subst (λ c. HasAt (x.code r) on c) es h2)
+              (k_more 3 3 1 2 m (Then (Stepping step l) later) (on + length (codes_at 0 ss)) (omega arith) (omega arith) (k_at 3 1 m (Then (Stepping step l) later) pg (on + length (codes_at 0 ss)) (omega (arith, ap length es)) next))
+              (k_at 3 1 m (Then (Stepping step l) later) pg (on + length (codes_at 0 ss) + 0) (omega (arith, ap length es)) next) in
+        let cb' = beside (operand_of bound) (expression_code x.procedures bound) in
+        let len = ap length eb in
+        touches x 2 m 0 (Read w y.place) (D (Then (Round l) later)) (λ i. D (Then (Comparing i bound l) later)) (At r pr a ws) (λ i. At r p1 i ws) (dx (Then (Round l) later) refl)
+        (acts x r pr a ws (op.Load w (place_of y.place)) has.0 ∙ ap (λ o. loaded w o (λ i. At r p1 i ws)) (found_plain x w y.place lies))
+        (λ i lt. then_ x 3 m 1 2 (D (Then (Comparing i bound l) later)) (At r p1 i ws) (omega arith) (omega arith)
+        (bound_sim x MayCall calls m kk (omega (arith, small)) D (behind ss (Then (Stepping step l) later)) later r on (on + d) ws
+        (k_more (3 + leads ss) kk 2 2 m (behind ss (Then (Stepping step l) later)) on (omega arith) (omega arith) ours)
+        (k_more k kk 1 2 m later (on + d) (omega arith) (omega arith) (k_at k 1 m later (pe + exit) (on + d) (omega arith) out))
+        i (λ e. D (Then (Comparing i e l) later)) (in_comparing x D dx later i l) (λ v. dx (Then (Comparing i (Value v) l) later) refl) bound gb p1 d
+        (subst (λ c. HasAt (x.code r) p1 (c ++ jump ∷ [])) eb (has_head (x.code r) p1 cb jump (cs ++ ca) has.1)) (omega (arith, len)) (omega (arith, len))))
+
+  abbrev pub LoopRuns : Loop → Type 0
+  LoopRuns (Count y bound step ss) = ArmRuns ss
+
+  iterate_runs : (e : Expression) (l : Loop) → IsExpression x.sizes x.procedures MayCall e → IsLoop x.sizes x.procedures MayCall around l → LoopRuns l → StatementRuns (Iterate e l)
+  iterate_runs e (Count y bound step ss) ge gl runs not n ret exit later p k small has to out a =
+      let ce = expression_code x.procedures e in
+      let cb = beside (operand_of bound) (expression_code x.procedures bound) in
+      let cs = codes_at 0 ss in
+      let ca = next_round y (operand_of step) (expression_code x.procedures step) (length cb + length cs + 2) in
+      let jump = op.AheadUnless (stands_to relation.LessEqual (operand_of bound)) (length cs + length ca + exit) in
+      let rounds = op.Load y.width (place_of y.place) ∷ (cb ++ (jump ∷ (cs ++ ca))) in
+      let tail = op.Store y.width (place_of y.place) ∷ rounds in
+      let pe = p + length ce in
+      let pr = pe + 1 in
+      let l = Count y bound step ss in
+      let len = length-append ce tail in
+      let len2 = length-append cb (jump ∷ (cs ++ ca)) in
+      let len3 = length-append cs ca in
+      let h = has_back (x.code r) p ce tail has in
+      let end = pr + 1 + length cb + 1 + length cs + length ca in
+      eased x 2 (k + (leads ss + 5)) n 0 1 (D (Then (Iterate e l) later)) (At r p a ws) (omega arith) (omega arith)
+      (expression_sim x MayCall calls e ge n (λ z. D (Then (Iterate z l) later)) (in_iterate x D dx later l) r p ws (has_front (x.code r) p ce tail has)
+      (λ v lt. rise x n 0 (D (Then (Iterate (Value v) l) later)) (At r pe v ws) (omega arith)
+      (touches x 2 n 0 (Write y.width y.place (low y.width v)) (D (Then (Iterate (Value v) l) later)) (λ z. D (Then (Round l) later)) (At r pe v ws) (λ z. At r pr v ws) (dx (Then (Iterate (Value v) l) later) refl)
+      (acts x r pe v ws (op.Store y.width (place_of y.place)) h.0 ∙ ap (λ o. stored y.width o v (At r pr v ws)) (found_plain x y.width y.place gl.0))
+      (λ z zt. soon x n 0 2 (D (Then (Round l) later)) (At r pr v ws) (omega arith)
+      (round_sim y bound step ss gl.0 gl.1 gl.2 runs later pr exit k small cb cs ca refl refl refl h.1 n ret
+      (k_at k 2 n later (p + length (ce ++ tail)) end (omega (arith, len, len2, len3)) to) (k_at k 1 n later (p + length (ce ++ tail) + exit) (end + exit) (omega (arith, len, len2, len3)) out) v)))) a)
+
+  -- ---- all statements
+
+  simple_enables : StatementRuns Enabling
+  simple_enables not n ret exit later p k small has to out a = enables x (k + 5) n 1 (D (Then Enabling later)) (D later) (At r p a ws) (At r (p + 1) a ws) (dx (Then Enabling later) refl) (acts x r p a ws op.Enable has.0) (then_ x k n 2 2 (D later) (At r (p + 1) a ws) (omega (arith, small)) (omega arith) (to a))
+
+  simple_disables : StatementRuns Disabling
+  simple_disables not n ret exit later p k small has to out a = disables x (k + 5) n 1 (D (Then Disabling later)) (D later) (At r p a ws) (At r (p + 1) a ws) (dx (Then Disabling later) refl) (acts x r p a ws op.Disable has.0) (then_ x k n 2 2 (D later) (At r (p + 1) a ws) (omega (arith, small)) (omega arith) (to a))
+
+  simple_halts : StatementRuns Halting
+  simple_halts not n ret exit later p k small has to out a = halts x (k + 5) n 1 (D (Then Halting later)) (D later) (At r p a ws) (At r (p + 1) a ws) (dx (Then Halting later) refl) (acts x r p a ws op.Halt has.0) (then_ x k n 2 2 (D later) (At r (p + 1) a ws) (omega (arith, small)) (omega arith) (to a))
+
+  block_runs : (ss : Statements) → StatementsRun ss → StatementRuns (Block ss)
+  block_runs ss run not n ret exit later p k small has to out a =
+      let leaving : (f : ℕ) → f ≤ 2 → (q : ℕ) → K k f n later q → K (suc k) f n (Then Leaving later) q = λ f le q go b. up x k n f le (D (Then Leaving later)) (D later) (At r q b ws) (dx (Then Leaving later) refl) (go b) in
+      let q = p + length (codes_at exit ss) in
+      eased x (suc (suc k + leads ss)) (k + (leads ss + 2)) n 1 1 (D (Then (Block ss) later)) (At r p a ws) (omega arith) (omega arith)
+      (up x (suc k + leads ss) n 1 (omega arith) (D (Then (Block ss) later)) (D (behind ss (Then Leaving later))) (At r p a ws) (dx (Then (Block ss) later) refl)
+      (run not n ret exit (Then Leaving later) p (suc k) (omega (arith, small)) has (leaving 2 (omega arith) q to) (leaving 1 (omega arith) (q + exit) out) a))
+
+  mutual
+    pub statement_sim : (s : Statement) → IsStatement x.sizes x.procedures MayCall around s → StatementRuns s
+    statement_sim Empty good = λ not. absurd (true_false not)
+    statement_sim (Assign ts e) good = assign_runs ts e good.0 good.1
+    statement_sim (Evaluate e) good = evaluate_runs e good
+    statement_sim Return good = λ not n ret exit later p k small has to out a. eased x 2 (k + 5) n 1 1 (D (Then Return later)) (At r p a ws) (omega arith) (omega arith) (return_then around good n ret later p a has)
+    statement_sim (ReturnValue w e) good = λ not n ret exit later p k small has to out a. eased x 2 (k + 5) n 0 1 (D (Then (ReturnValue w e) later)) (At r p a ws) (omega arith) (omega arith) (value_then around good.0 w e good.1 n ret later p a has)
+    statement_sim Enabling good = simple_enables
+    statement_sim Disabling good = simple_disables
+    statement_sim Halting good = simple_halts
+    statement_sim (If c arm other) good = if_runs c arm other good.0 (arm_runs arm (statements_sim arm good.1) (are_silent arm) refl) (arm_runs other (statements_sim other good.2) (are_silent other) refl)
+    statement_sim (Block ss) good = block_runs ss (statements_sim ss good)
+    statement_sim (While left c ss) good = subst (λ e. StatementRuns (While e c ss)) (sym good.0) (while_runs c ss good.1 (arm_runs ss (statements_sim ss good.2) (are_silent ss) refl))
+    statement_sim (Case e ss) good = switch_runs e ss good.0 (cases_sim ss good.1)
+    statement_sim (Iterate e l) good = iterate_runs e l good.0 good.1 (loop_sim l good.1)
+    statement_sim Leaving good = absurd good
+    statement_sim (Round l) good = absurd good
+    statement_sim (Comparing i e l) good = absurd good
+    statement_sim (Stepping e l) good = absurd good
+    statement_sim (Adding i s l) good = absurd good
+    statement_sim (Storing sum l) good = absurd good
+    statement_sim (Ending sum l) good = absurd good
+
+    loop_sim : (l : Loop) → IsLoop x.sizes x.procedures MayCall around l → LoopRuns l
+    loop_sim (Count y bound step ss) good = arm_runs ss (statements_sim ss good.3) (are_silent ss) refl
+
+    cases_sim : (ss : Statements) → AreStatements x.sizes x.procedures MayCall around ss → CasesRun ss
+    cases_sim End good = tt
+    cases_sim (Then s rest) good = (case_runs s (statement_sim s good.0) (is_silent s) refl, cases_sim rest good.1)
+    cases_sim (Returned v) good = absurd good
+
+    pub statements_sim : (ss : Statements) → AreStatements x.sizes x.procedures MayCall around ss → StatementsRun ss
+    statements_sim End good = λ not. absurd (true_false not)
+    statements_sim (Then s rest) good = λ not. pair_runs s rest (statement_sim s good.0) (statements_sim rest good.1) (is_silent s) (are_silent rest) refl refl not
+    statements_sim (Returned v) good = absurd good

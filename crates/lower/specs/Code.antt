@@ -1,0 +1,369 @@
+-- The code of trees. An expression leaves its value in the accumulator, and the stack as it was.
+use Rattle.std.specs.Prelude.{ℕ, suc, ◌+◌, ◌%◌, Bool, true, false, ◌&&◌, nat_eq, cond, List, [], ◌∷◌, ◌++◌, length, Option, Some, None, slice_get}
+use Rattle.word86.specs.declared.width.Width.{Width}
+use Rattle.word86.specs.declared.width.Width.TheVariants as widths
+use Rattle.word86.specs.declared.operation.UnaryOperation.TheVariants as unary
+use Rattle.word86.specs.declared.operation.BinaryOperation.{BinaryOperation}
+use Rattle.word86.specs.declared.operation.BinaryOperation.TheVariants as binary
+use Rattle.word86.specs.declared.place.Place.{Place}
+use Rattle.word86.specs.declared.place.Place.TheVariants as places
+use Rattle.word86.specs.Access.{Where, In}
+use Rattle.word86.specs.Access as access
+use Rattle.plm_type.specs.Rest.{Anchor, InObject, OnScreen, Behind, There, Scalar, Expression, Constant, Plain, Variable, Location, Unary, Binary, Embedded, Input, Call, Value, Passing, Running, Expressions, NoMore, More, Reference, Refer, Subscripts, NoSubscripts, Subscript, Target, ToPlain, ToVariable, ToPort, Targets, Only, Also, Loop, Count, Statement, Empty, Assign, Evaluate, Return, ReturnValue, Enabling, Disabling, Halting, If, Block, While, Case, Iterate, Leaving, Round, Comparing, Stepping, Adding, Storing, Ending, Statements, End, Then, Returned, Procedure}
+use Rattle.plm_type.specs.Next.{parameters_of, body_of}
+use Rattle.icode.specs.declared.instruction.Instruction.{Instruction}
+use Rattle.icode.specs.declared.instruction.Instruction.TheVariants as op
+use Rattle.icode.specs.declared.instruction.Relation.{Relation}
+use Rattle.icode.specs.declared.instruction.Relation.TheVariants as relation
+use Rattle.icode.specs.declared.instruction.Test.{Test}
+use Rattle.icode.specs.declared.instruction.Test.TheVariants as test
+use Rattle.icode.specs.declared.code.Routine.{Routine}
+use Rattle.icode.specs.declared.code.Routine.TheVariants as routine
+
+-- ---- operands
+
+abbrev pub place_of : Where → Place
+place_of (In k i) = places.Ram k i
+place_of (access.Screen i) = places.Screen i
+
+-- a constant and a plain scalar are operands of an instruction; what else there is is computed
+pub data Operand : Type 0 where
+  Number : ℕ → Operand
+  Name : Width → Place → Operand
+  Computed : Operand
+
+abbrev pub operand_of : Expression → Operand
+operand_of (Constant k) = Number k
+operand_of (Plain width x) = Name width (place_of x)
+operand_of (Variable width r) = Computed
+operand_of (Location r) = Computed
+operand_of (Unary o width e) = Computed
+operand_of (Binary module_index line o width a b) = Computed
+operand_of (Embedded t e) = Computed
+operand_of (Input width e) = Computed
+operand_of (Call p es) = Computed
+operand_of (Value v) = Computed
+operand_of (Passing p xs vs) = Computed
+operand_of (Running ss) = Computed
+
+-- the left operand is pushed while a right one is computed
+abbrev pub beside : Operand → List Instruction → List Instruction
+beside (Number k) code = []
+beside (Name read x) code = []
+beside Computed code = op.Push ∷ code
+
+abbrev pub operation : BinaryOperation → Width → Operand → Instruction
+operation o width (Number k) = op.BinaryConstant o width k
+operation o width (Name read x) = op.BinaryPlain o width read x
+operation o width Computed = op.Binary o width
+
+-- ---- references
+
+-- so many bytes behind the first of an anchor that lies at a fixed place
+abbrev pub anchor_place : Anchor → ℕ → Place
+anchor_place (InObject k start size) offset = places.Ram k ((start + offset) % 65536)
+anchor_place (OnScreen start size) offset = places.Screen ((start + offset) % 65536)
+anchor_place (Behind base) offset = place_of base
+anchor_place (There address) offset = places.Screen 0
+
+-- the accumulator counts elements of so many bytes
+abbrev pub scaled : ℕ → List Instruction
+scaled stride = cond (nat_eq stride 1) [] (op.BinaryConstant binary.Multiply widths.Word (stride % 65536) ∷ [])
+
+-- the accumulator holds an address, from which it goes so many bytes on
+abbrev pub moved : ℕ → List Instruction
+moved offset = cond (nat_eq offset 0) [] (op.BinaryConstant binary.Add widths.Word (offset % 65536) ∷ [])
+
+-- the address that a base holds, further on by the bytes of subscripts, if any, which are in the accumulator
+abbrev pub from_base : Where → Subscripts → Instruction
+from_base base NoSubscripts = op.Load widths.Word (place_of base)
+from_base base (Subscript stride e more) = op.BinaryPlain binary.Add widths.Word widths.Word (place_of base)
+
+abbrev pub based : Where → ℕ → Subscripts → List Instruction
+based base offset ss = from_base base ss ∷ moved offset
+
+-- what is read and located behind the subscripts; a variable without any lies at a fixed place
+abbrev pub reading : Width → Anchor → ℕ → Subscripts → List Instruction
+reading width (Behind base) offset ss = based base offset ss ++ op.LoadThere width ∷ []
+reading width anchor offset NoSubscripts = op.Load width (anchor_place anchor offset) ∷ []
+reading width anchor offset (Subscript stride e more) = op.LoadAt width (anchor_place anchor offset) ∷ []
+
+abbrev pub locating : Anchor → ℕ → Subscripts → List Instruction
+locating (Behind base) offset ss = based base offset ss
+locating anchor offset NoSubscripts = op.Locate (anchor_place anchor offset) ∷ []
+locating anchor offset (Subscript stride e more) = op.LocateAt (anchor_place anchor offset) ∷ []
+
+-- the value in the accumulator is written behind the subscripts, whose code this is, and is there afterwards
+abbrev pub writing : Width → Anchor → ℕ → Subscripts → List Instruction → List Instruction
+writing width (Behind base) offset ss code = op.Push ∷ (code ++ (based base offset ss ++ op.StoreThere width ∷ []))
+writing width anchor offset NoSubscripts code = op.Store width (anchor_place anchor offset) ∷ []
+writing width anchor offset (Subscript stride e more) code = op.Push ∷ (code ++ op.StoreAt width (anchor_place anchor offset) ∷ [])
+
+-- ---- ports
+
+abbrev pub receiving : Width → Operand → List Instruction → List Instruction
+receiving width (Number port) code = op.ReceiveFrom width port ∷ []
+receiving width (Name read x) code = code ++ op.Receive width ∷ []
+receiving width Computed code = code ++ op.Receive width ∷ []
+
+-- the value in the accumulator is sent, and stays there
+abbrev pub sending : Width → Operand → List Instruction → List Instruction
+sending width (Number port) code = op.SendTo width port ∷ []
+sending width (Name read x) code = op.Push ∷ (code ++ op.Send width ∷ [])
+sending width Computed code = op.Push ∷ (code ++ op.Send width ∷ [])
+
+-- ---- calls
+
+-- the values of several arguments are pushed, the last one newest: the parameters get them from the first on
+abbrev pub passing : List Scalar → List Instruction
+passing [] = []
+passing (x ∷ xs) = op.Pick (length xs) ∷ op.Store x.width (place_of x.place) ∷ passing xs
+
+-- the first parameter gets the accumulator
+abbrev pub alone : List Scalar → List Instruction
+alone [] = []
+alone (x ∷ xs) = op.Store x.width (place_of x.place) ∷ []
+
+abbrev pub count_of : Expressions → ℕ
+count_of NoMore = 0
+count_of (More e es) = suc (count_of es)
+
+-- one argument alone is not pushed
+abbrev pub call_code : ℕ → List Scalar → Expressions → (first pushed : List Instruction) → List Instruction
+call_code p xs NoMore first pushed = op.Invoke p ∷ []
+call_code p xs (More e NoMore) first pushed = first ++ (alone xs ++ op.Invoke p ∷ [])
+call_code p xs (More e (More f es)) first pushed = pushed ++ (passing xs ++ op.Drop (2 + count_of es) ∷ op.Invoke p ∷ [])
+
+-- ---- tests
+
+-- what relation an operator asks for
+abbrev pub relation_of : BinaryOperation → Option Relation
+relation_of binary.Equal = Some relation.Equal
+relation_of binary.NotEqual = Some relation.NotEqual
+relation_of binary.Less = Some relation.Less
+relation_of binary.LessEqual = Some relation.LessEqual
+relation_of binary.Greater = Some relation.Greater
+relation_of binary.GreaterEqual = Some relation.GreaterEqual
+relation_of _ = None
+
+-- whether the left operand stands in a relation to the right one
+abbrev pub stands_to : Relation → Operand → Test
+stands_to o (Number k) = test.Constant o k
+stands_to o (Name read x) = test.Plain o read x
+stands_to o Computed = test.Top o
+
+-- a relation is the jump's own test; of every other condition the lowest bit counts
+abbrev pub asked : Option Relation → Operand → Test
+asked (Some o) right = stands_to o right
+asked None right = test.Odd
+
+abbrev pub test_of : Expression → Test
+test_of (Binary module_index line o width a b) = asked (relation_of o) (operand_of b)
+test_of _ = test.Odd
+
+abbrev pub asking : Option Relation → (left right whole : List Instruction) → List Instruction
+asking (Some o) left right whole = left ++ right
+asking None left right whole = whole
+
+module _ (procedures : List Procedure) where
+  abbrev mutual
+    pub expression_code : Expression → List Instruction
+    expression_code (Constant k) = op.Constant k ∷ []
+    expression_code (Plain width x) = op.Load width (place_of x) ∷ []
+    expression_code (Variable width (Refer module_index line anchor offset ss)) = subscripts_code ss ++ reading width anchor offset ss
+    expression_code (Location (Refer module_index line anchor offset ss)) = subscripts_code ss ++ locating anchor offset ss
+    expression_code (Unary o width e) = expression_code e ++ op.Unary o width ∷ []
+    expression_code (Binary module_index line o width a b) =
+        expression_code a ++ (beside (operand_of b) (expression_code b) ++ operation o width (operand_of b) ∷ [])
+    expression_code (Embedded t e) = expression_code e ++ target_code t
+    expression_code (Input width port) = receiving width (operand_of port) (expression_code port)
+    expression_code (Call p es) = call_code p (parameters_of (slice_get procedures p)) es (first_code es) (pushed_code es)
+    expression_code (Value v) = []
+    expression_code (Passing p xs vs) = []
+    expression_code (Running ss) = []
+
+    pub first_code : Expressions → List Instruction
+    first_code NoMore = []
+    first_code (More e es) = expression_code e
+
+    pub pushed_code : Expressions → List Instruction
+    pushed_code NoMore = []
+    pushed_code (More e es) = expression_code e ++ (op.Push ∷ pushed_code es)
+
+    -- how many bytes the subscripts lead on
+    pub subscripts_code : Subscripts → List Instruction
+    subscripts_code NoSubscripts = []
+    subscripts_code (Subscript stride e more) = expression_code e ++ (scaled stride ++ further_code more)
+
+    pub further_code : Subscripts → List Instruction
+    further_code NoSubscripts = []
+    further_code (Subscript stride e more) = op.Push ∷ (expression_code e ++ (scaled stride ++ (op.Binary binary.Add widths.Word ∷ further_code more)))
+
+    -- the target gets the value in the accumulator, which is there afterwards
+    pub target_code : Target → List Instruction
+    target_code (ToPlain width x) = op.Store width (place_of x) ∷ []
+    target_code (ToVariable width (Refer module_index line anchor offset ss)) = writing width anchor offset ss (subscripts_code ss)
+    target_code (ToPort width port) = sending width (operand_of port) (expression_code port)
+
+  abbrev pub targets_code : Targets → List Instruction
+  targets_code (Only t) = target_code t
+  targets_code (Also t ts) = target_code t ++ targets_code ts
+
+  -- what is computed before a test
+  abbrev pub condition_code : Expression → List Instruction
+  condition_code (Binary module_index line o width a b) =
+      asking (relation_of o) (expression_code a) (beside (operand_of b) (expression_code b)) (expression_code (Binary module_index line o width a b))
+  condition_code e = expression_code e
+
+-- ---- statements
+
+-- whose statements they are: main's; those of a procedure that is called; those of one that serves a vector
+pub data Kind : Type 0 where
+  OfMain : Kind
+  Called : Kind
+  Serving : Kind
+
+-- what RETURN is in a routine; a procedure without a value gives 0 too
+abbrev pub returning : Kind → List Instruction
+returning OfMain = []
+returning Called = op.Constant 0 ∷ op.Leave ∷ []
+returning Serving = op.Finish ∷ []
+
+abbrev pub narrowed : Width → List Instruction
+narrowed widths.Byte = op.Unary unary.Low widths.Word ∷ []
+narrowed widths.Word = []
+
+-- The end of a round: the step is added, and unless the sum is below the step, as where it wrapped, a next round begins so many
+-- instructions before. A constant step is an operand; every other one is pushed twice.
+abbrev pub next_by_number : Scalar → (step before : ℕ) → List Instruction
+next_by_number x s before =
+    op.Load x.width (place_of x.place) ∷ op.BinaryConstant binary.Add x.width s ∷ op.Store x.width (place_of x.place)
+    ∷ op.BackUnless (test.Constant relation.Less s) (before + 4) ∷ []
+
+abbrev pub add_pushed : Scalar → (before : ℕ) → List Instruction
+add_pushed x before =
+    op.Push ∷ op.Push ∷ op.Load x.width (place_of x.place) ∷ op.Binary binary.Add x.width ∷ op.Store x.width (place_of x.place)
+    ∷ op.BackUnless (test.Top relation.Greater) (before + 6) ∷ []
+
+abbrev pub next_round : Scalar → Operand → List Instruction → (before : ℕ) → List Instruction
+next_round x (Number s) code before = next_by_number x s before
+next_round x (Name read y) code before = code ++ add_pushed x (before + length code)
+next_round x Computed code before = code ++ add_pushed x (before + length code)
+
+-- a statement without code: nothing stands for the empty one, nor for a block of such
+abbrev mutual
+  pub is_silent : Statement → Bool
+  is_silent Empty = true
+  is_silent (Block ss) = are_silent ss
+  is_silent _ = false
+
+  pub are_silent : Statements → Bool
+  are_silent End = true
+  are_silent (Then s later) = is_silent s && are_silent later
+  are_silent (Returned v) = false
+
+-- behind an arm, a jump over what is done otherwise, if anything is
+abbrev pub over : (silent : Bool) (otherwise : List Instruction) (exit : ℕ) → List Instruction
+over true otherwise exit = []
+over false otherwise exit = op.Ahead (length otherwise + exit) ∷ []
+
+-- Where a test fails, control goes on at what is done otherwise; if that is nothing, at the exit.
+abbrev pub failing : (silent : Bool) (arm : List Instruction) (exit : ℕ) → ℕ
+failing true arm exit = length arm + exit
+failing false arm exit = length arm + 1
+
+-- a condition, its test, what is done where it holds, and what is done otherwise, if anything is
+abbrev pub choosing : (condition : List Instruction) → Test → (arm : List Instruction) (silent : Bool) (otherwise : List Instruction) (exit : ℕ) → List Instruction
+choosing condition t arm silent otherwise exit = condition ++ (op.AheadUnless t (failing silent arm exit) ∷ (arm ++ (over silent otherwise exit ++ otherwise)))
+
+abbrev pub all_of : List (List Instruction) → List Instruction
+all_of [] = []
+all_of (c ∷ cs) = c ++ all_of cs
+
+-- For each case, how far it lies from behind its entry: over the other entries, a jump, and the cases before it, which are so long.
+abbrev pub entries : (before : ℕ) → List (List Instruction) → List Instruction
+entries before [] = []
+entries before (c ∷ cs) = op.Case (length cs + 1 + before) ∷ entries (before + length c) cs
+
+-- behind the entries stands the jump for a value that has no case
+abbrev pub switching : List (List Instruction) → (exit : ℕ) → List Instruction
+switching cases exit = op.Switch (length cases) ∷ (entries 0 cases ++ (op.Ahead (length (all_of cases) + exit) ∷ all_of cases))
+
+-- where control goes on behind a statement: at what comes next, if that has code
+abbrev pub exit_before : (silent : Bool) (exit : ℕ) → ℕ
+exit_before true exit = exit
+exit_before false exit = 0
+
+module _ (procedures : List Procedure) (around : Kind) where
+  -- Of a statement behind which control goes on at an exit: so many instructions behind its own end, where a jump that stands there
+  -- leads. So the ends of arms in arms are no chain of jumps.
+  abbrev mutual
+    pub statement_code : (exit : ℕ) → Statement → List Instruction
+    statement_code exit Empty = []
+    statement_code exit (Assign ts e) = expression_code procedures e ++ targets_code procedures ts
+    statement_code exit (Evaluate e) = expression_code procedures e
+    statement_code exit Return = returning around
+    statement_code exit (ReturnValue width e) = expression_code procedures e ++ (narrowed width ++ op.Leave ∷ [])
+    statement_code exit Enabling = op.Enable ∷ []
+    statement_code exit Disabling = op.Disable ∷ []
+    statement_code exit Halting = op.Halt ∷ []
+    statement_code exit (If c arm other) =
+        let otherwise = statements_code exit other in
+        let arm_exit = length (over (are_silent other) otherwise exit) + length otherwise + exit in
+        choosing (condition_code procedures c) (test_of c) (statements_code arm_exit arm) (are_silent other) otherwise exit
+    statement_code exit (Block ss) = statements_code exit ss
+    statement_code exit (While c d ss) =
+        let condition = condition_code procedures d in
+        let body = statements_code 0 ss in
+        condition ++ (op.AheadUnless (test_of d) (length body + 1 + exit) ∷ (body ++ op.Back (length condition + length body + 2) ∷ []))
+    statement_code exit (Case e ss) = expression_code procedures e ++ switching (cases_code exit ss) exit
+    statement_code exit (Iterate a (Count x bound step ss)) =
+        let compared = beside (operand_of bound) (expression_code procedures bound) in
+        let body = statements_code 0 ss in
+        let again = next_round x (operand_of step) (expression_code procedures step) (length compared + length body + 2) in
+        expression_code procedures a
+        ++ (op.Store x.width (place_of x.place) ∷ op.Load x.width (place_of x.place)
+        ∷ (compared ++ (op.AheadUnless (stands_to relation.LessEqual (operand_of bound)) (length body + length again + exit) ∷ (body ++ again))))
+    statement_code exit Leaving = []
+    statement_code exit (Round l) = []
+    statement_code exit (Comparing i e l) = []
+    statement_code exit (Stepping e l) = []
+    statement_code exit (Adding i s l) = []
+    statement_code exit (Storing s l) = []
+    statement_code exit (Ending s l) = []
+
+    -- the last one has the exit of all
+    pub statements_code : (exit : ℕ) → Statements → List Instruction
+    statements_code exit End = []
+    statements_code exit (Then s later) = statement_code (exit_before (are_silent later) exit) s ++ statements_code exit later
+    statements_code exit (Returned v) = []
+
+    -- each case goes on at the exit of all, over those behind it
+    pub cases_code : (exit : ℕ) → Statements → List (List Instruction)
+    cases_code exit End = []
+    cases_code exit (Then s later) =
+        let others = cases_code exit later in
+        let behind = length (all_of others) + exit in
+        (statement_code (1 + behind) s ++ op.Ahead behind ∷ []) ∷ others
+    cases_code exit (Returned v) = []
+
+-- what stands at the end of a routine's statements: main halts there again and again
+abbrev pub ending : Kind → List Instruction
+ending OfMain = op.Halt ∷ op.Back 2 ∷ []
+ending Called = returning Called
+ending Serving = returning Serving
+
+abbrev pub routine_code : List Procedure → Kind → Statements → List Instruction
+routine_code procedures around ss = statements_code procedures around 0 ss ++ ending around
+
+-- ---- a program
+
+abbrev pub kind_of : (serves : Bool) → Kind
+kind_of serves = cond serves Serving Called
+
+-- the procedures, of which these serve a vector, and main's statements
+abbrev pub code : List Procedure → (serves : ℕ → Bool) → (main : Statements) → Routine → List Instruction
+code procedures serves main routine.Main = routine_code procedures OfMain main
+code procedures serves main (routine.Procedure q) = routine_code procedures (kind_of (serves q)) (body_of (slice_get procedures q))
+code procedures serves main routine.Unserved = op.Finish ∷ []
+code procedures serves main routine.Nowhere = []
