@@ -1,0 +1,444 @@
+-- The operators on AX and CX.
+use Rattle.std.proofs.Common.{◌≡◌, ℕ, zero, suc, ◌+◌, ◌-◌, ◌*◌, ◌/◌, ◌%◌, ◌^◌, ◌<◌, ◌≤◌, ◌⊎◌, inl, inr, Bool, true, false, List, [], ◌∷◌, Option, Some, None, refl, sym, ap, ◌∙◌, subst, arith}
+use Rattle.std.specs.Prelude.{not, ◌==◌, if◌then◌else◌, nat_eq, nat_lt, nat_le}
+use Rattle.std.specs.Int.RustNames.{bit_and, bit_or, bit_xor}
+use Rattle.std.proofs.lemmas.Bool.{cases_lt, lt-ltb, le-ltb, lt-leb, le-leb, eq-eqb, ne_eqb}
+use Rattle.std.proofs.Math.Nat.{div-le_self, mod-le, mul_assoc, pow-succ', div-one, div-div-eq-div-mul}
+use Rattle.std.proofs.lemmas.Nat.{and_le_l, or_of_16, xor_of_16, mul-mod_first}
+use Rattle.word86.specs.declared.width.Width.{Width}
+use Rattle.word86.specs.declared.width.Width.TheVariants as widths
+use Rattle.word86.specs.declared.operation.BinaryOperation.{BinaryOperation}
+use Rattle.word86.specs.declared.operation.BinaryOperation.TheVariants as binary
+use Rattle.word86.specs.declared.operation.UnaryOperation.{UnaryOperation}
+use Rattle.word86.specs.declared.operation.UnaryOperation.TheVariants as unary
+use Rattle.word86.specs.Arithmetic.{low, rotated, rotated_left, rotated_right}
+use Rattle.word86.specs.Operators.{truth, quotient, remainder, unary_value, binary_value}
+use Rattle.word86.specs.Action.{Silent}
+use Rattle.word86.specs.Following.{Does}
+use Rattle.i86_table.specs.declared.registers.Register16.TheVariants.{Ax, Cx, Dx}
+use Rattle.i86_table.specs.declared.registers.Register8.TheVariants.{Al, Ah}
+use Rattle.i86_table.specs.declared.instruction.AluOperation.TheVariants.{Add, Sub, Sbb, And, Or, Xor, Cmp}
+use Rattle.i86_table.specs.declared.instruction.UnaryOperation.TheVariants as changes
+use Rattle.i86_table.specs.declared.instruction.ShiftOperation.{ShiftOperation}
+use Rattle.i86_table.specs.declared.instruction.ShiftOperation.TheVariants as shifts
+use Rattle.i86_table.specs.declared.instruction.Signedness.TheVariants.{Unsigned}
+use Rattle.i86_table.specs.declared.instruction.RmOperand.TheVariants as rm
+use Rattle.i86_table.specs.declared.instruction.Operands.TheVariants.{FromRegister, Immediate}
+use Rattle.i86_table.specs.declared.instruction.Instr.{Instr}
+use Rattle.i86_table.specs.declared.instruction.Instr.TheVariants as i
+use Rattle.i86_table.specs.declared.flags.Flags.{Flags}
+use Rattle.i86_table.specs.declared.outcome.Division.{Division}
+use Rattle.i86_table.specs.Arithmetic.{operated, added, subtracted, combined, changed, shifted, moved, multiplied, divided, is_carry, number_of}
+use Rattle.i86_table.specs.Contexts.{Own, Working, Given, offered, divides, word_quotient, word_product, alu_word, set_byte, set_word, set_flags, word_result, byte_result}
+use Rattle.select.specs.Rows.{core, narrow, then_narrow, from_carry, from_no_carry, clear_high, load_number, copy, alu, shift_word, shift_byte, direct, narrow_sum}
+use Rattle.select.specs.Rows as rows
+use Rattle.select.proofs.Straight.{with_each, Straight, also}
+use Rattle.icode.specs.declared.registers.Registers.{Registers}
+use Rattle.icode.specs.Registers.{none, just_accumulator, is_direct, joined, of_operator}
+use Rattle.select.proofs.Rests.{Laws}
+use Rattle.select.proofs.Keeping.{Same, OnlyChanges, changes_then, same_refl}
+use Rattle.select.proofs.Flags
+use Rattle.select.proofs.Flags.{flipped_le}
+
+-- products and quotients have a high half
+abbrev pub with_high : Registers
+with_high = record none { accumulator = true; high = true }
+
+abbrev pub core_changes : BinaryOperation → Registers
+core_changes binary.Multiply = with_high
+core_changes binary.Divide = with_high
+core_changes binary.Modulo = with_high
+core_changes _ = just_accumulator
+
+pub core_within : (o : BinaryOperation) → joined (of_operator o) (core_changes o) ≡ of_operator o
+core_within binary.Multiply = refl
+core_within binary.Divide = refl
+core_within binary.Modulo = refl
+core_within binary.Add = refl
+core_within binary.Subtract = refl
+core_within binary.Equal = refl
+core_within binary.NotEqual = refl
+core_within binary.Less = refl
+core_within binary.LessEqual = refl
+core_within binary.Greater = refl
+core_within binary.GreaterEqual = refl
+core_within binary.And = refl
+core_within binary.Or = refl
+core_within binary.ExclusiveOr = refl
+core_within binary.ShiftLeft = refl
+core_within binary.ShiftRight = refl
+core_within binary.RotateLeft = refl
+core_within binary.RotateRight = refl
+
+pub operator_changes : (o : BinaryOperation) → ((of_operator o).accumulator ≡ true) × ((of_operator o).right ≡ true)
+operator_changes binary.Multiply = (refl, refl)
+operator_changes binary.Divide = (refl, refl)
+operator_changes binary.Modulo = (refl, refl)
+operator_changes binary.Add = (refl, refl)
+operator_changes binary.Subtract = (refl, refl)
+operator_changes binary.Equal = (refl, refl)
+operator_changes binary.NotEqual = (refl, refl)
+operator_changes binary.Less = (refl, refl)
+operator_changes binary.LessEqual = (refl, refl)
+operator_changes binary.Greater = (refl, refl)
+operator_changes binary.GreaterEqual = (refl, refl)
+operator_changes binary.And = (refl, refl)
+operator_changes binary.Or = (refl, refl)
+operator_changes binary.ExclusiveOr = (refl, refl)
+operator_changes binary.ShiftLeft = (refl, refl)
+operator_changes binary.ShiftRight = (refl, refl)
+operator_changes binary.RotateLeft = (refl, refl)
+operator_changes binary.RotateRight = (refl, refl)
+
+-- ---- numbers
+
+pub low_low : (width : Width) (m : ℕ) → low width (m % 65536) ≡ low width m
+low_low widths.Byte m = omega arith
+low_low widths.Word m = omega arith
+
+-- a difference is below one exactly where nothing differs
+no_difference : (x y : ℕ) → x < 65536 → y < 65536 → nat_lt ((x + 65536 - (y + 0)) % 65536) (1 + 0) ≡ nat_eq x y
+no_difference x y a b = by (cases_lt x y) (cases_lt y x)
+  where
+    by : (x < y) ⊎ (y ≤ x) → (y < x) ⊎ (x ≤ y) → nat_lt ((x + 65536 - (y + 0)) % 65536) (1 + 0) ≡ nat_eq x y
+    by (inl l) m = le-ltb _ (1 + 0) (omega (arith, l, a, b)) ∙ sym (ne_eqb x y (λ e. omega (arith, l, e)))
+    by (inr l) (inl m) = le-ltb _ (1 + 0) (omega (arith, m, a, b)) ∙ sym (ne_eqb x y (λ e. omega (arith, m, e)))
+    by (inr l) (inr m) = lt-ltb _ (1 + 0) (omega (arith, l, m, a, b)) ∙ sym (eq-eqb x y (omega (arith, l, m)))
+
+truth_small : (b : Bool) → truth b < 65536
+truth_small true = omega arith
+truth_small false = omega arith
+
+quotients : (x y : ℕ) → x < 65536 → divided Unsigned widths.Word (0 * 65536 + x) (suc y) ≡ Some (record { quotient = x / suc y; remainder = x % suc y })
+unfolding divided
+quotients x y a =
+    let e : 0 * 65536 + x ≡ x = omega arith in
+    let none : (suc y == 0) ≡ false = ne_eqb (suc y) 0 (λ z. omega (arith, z)) in
+    let fits : nat_le 65536 (x / suc y) ≡ false = lt-leb 65536 (x / suc y) (omega (arith, a, div-le_self x (suc y))) in
+    ap (λ z. divided Unsigned widths.Word z (suc y)) e ∙ ap (λ (b : Bool). if b then None else if nat_le 65536 (x / suc y) then None else Some (record { quotient = x / suc y; remainder = x % suc y })) none
+    ∙ ap (λ (b : Bool). if b then None else Some (record { quotient = x / suc y; remainder = x % suc y })) fits
+
+-- the pace
+pub short : (o : BinaryOperation) (width : Width) → with_each (core o width) 8 ≤ 14
+short binary.Multiply widths.Byte = omega arith
+short binary.Multiply widths.Word = omega arith
+short binary.Divide width = omega arith
+short binary.Modulo width = omega arith
+short binary.Add widths.Byte = omega arith
+short binary.Add widths.Word = omega arith
+short binary.Subtract widths.Byte = omega arith
+short binary.Subtract widths.Word = omega arith
+short binary.Equal width = omega arith
+short binary.NotEqual width = omega arith
+short binary.Less width = omega arith
+short binary.LessEqual width = omega arith
+short binary.Greater width = omega arith
+short binary.GreaterEqual width = omega arith
+short binary.And width = omega arith
+short binary.Or width = omega arith
+short binary.ExclusiveOr width = omega arith
+short binary.ShiftLeft widths.Byte = omega arith
+short binary.ShiftLeft widths.Word = omega arith
+short binary.ShiftRight widths.Byte = omega arith
+short binary.ShiftRight widths.Word = omega arith
+short binary.RotateLeft widths.Byte = omega arith
+short binary.RotateLeft widths.Word = omega arith
+short binary.RotateRight widths.Byte = omega arith
+short binary.RotateRight widths.Word = omega arith
+
+module _ (laws : Laws) (find : ℕ → ℕ → Option (ℕ × ℕ)) (words : ℕ → Option ℕ) (main handler : ℕ) (given : Option Given) where
+  abbrev S : List Instr → Working → List ℕ → Working → List ℕ → Type 0
+  S ns g st h st2 = Straight find words main handler given ns g st h st2
+
+  -- an instruction leads on
+  abbrev On : Instr → Working → List ℕ → Working → List ℕ → Type 0
+  On n g st h st2 = (q : ℕ) → offered find words main handler n q g st false given ≡ Does (Silent (Own q h st2 false given))
+
+  -- the value is in AX afterwards, and the stack as it was
+  abbrev pub Computes : Registers → List Instr → Working → List ℕ → ℕ → Type 0
+  Computes s ns g st v = (h : Working) × S ns g st h st × (h.ax ≡ v) × (v < 65536) × OnlyChanges s g h
+
+  abbrev pub Gives : Registers → List Instr → Working → List ℕ → Option ℕ → Type 0
+  Gives s ns g st (Some v) = Computes s ns g st v
+  Gives s ns g st None = Unit {0}
+
+  first : (s : Registers) (n : Instr) (ns : List Instr) (g h : Working) (st : List ℕ) (v : ℕ) → On n g st h st → OnlyChanges s g h → Computes s ns h st v → Computes s (n ∷ ns) g st v
+  first s n ns g h st v e keep c = (c.0, (h, st, e, c.1), c.2, c.3, changes_then s g h c.0 keep c.4)
+
+  only : (s : Registers) (n : Instr) (g h : Working) (st : List ℕ) (v : ℕ) → On n g st h st → OnlyChanges s g h → h.ax ≡ v → v < 65536 → Computes s (n ∷ []) g st v
+  only s n g h st v e keep is lt = (h, (h, st, e, (refl, refl)), is, lt, keep)
+
+  byte_keeps : (s : Registers) → s.accumulator ≡ true → (h : Working) → OnlyChanges s h (set_byte h Ah 0)
+  byte_keeps s acc h = (
+    subst (λ (b : Bool). Same b h.ax (set_byte h Ah 0).ax) (sym acc) tt,
+    same_refl s.right h.cx,
+    same_refl s.high h.dx,
+    same_refl s.address h.bx,
+    same_refl s.frame h.bp,
+    refl,
+    refl,
+  )
+
+  -- what an instruction leaves in AX, narrowed
+  narrowed : (s : Registers) → s.accumulator ≡ true → (width : Width) (n : Instr) (g h : Working) (st : List ℕ) (v : ℕ) → On n g st h st → OnlyChanges s g h → h.ax < 65536 → low width h.ax ≡ v → Computes s (then_narrow width n) g st v
+  narrowed s acc widths.Byte n g h st v e keep lt is =
+      (set_byte h Ah 0, (h, st, e, (set_byte h Ah 0, st, λ q. refl, (refl, refl))), omega (arith, is), omega (arith, is), changes_then s g h (set_byte h Ah 0) keep (byte_keeps s acc h))
+  narrowed s acc widths.Word n g h st v e keep lt is = (h, (h, st, e, (refl, refl)), omega (arith, lt, is), omega (arith, lt, is), keep)
+
+  -- ---- a carry in AL
+  value_of : (x : ℕ) (b : Bool) (f : Flags) → is_carry f ≡ b → (operated Sbb widths.Byte x x f).value ≡ (x + 256 - (x + number_of b)) % 256
+  unfolding operated subtracted
+  value_of x b f e = ap (λ (c : Bool). (x + 256 - (x + number_of c)) % 256) e
+
+  truth_is : (b : Bool) (x : ℕ) → (x + 256 - (x + number_of b)) % 256 ≡ truth b
+  truth_is true x = omega arith
+  truth_is false x = omega arith
+
+  filled : Working → Working
+  filled g = byte_result Al g (operated Sbb widths.Byte (g.ax % 256) (g.ax % 256) g.flags)
+
+  filled_is : (g : Working) (b : Bool) → is_carry g.flags ≡ b → (filled g).ax % 256 ≡ truth b
+  unfolding filled
+  filled_is g b carry =
+      let v : (operated Sbb widths.Byte (g.ax % 256) (g.ax % 256) g.flags).value ≡ truth b = value_of (g.ax % 256) b g.flags carry ∙ truth_is b (g.ax % 256) in
+      let whole : (filled g).ax ≡ g.ax / 256 * 256 + truth b = ap (λ z. g.ax / 256 * 256 + z) v in
+      low_byte (g.ax / 256) b (filled g).ax whole
+    where
+      low_byte : (m : ℕ) (b : Bool) (x : ℕ) → x ≡ m * 256 + truth b → x % 256 ≡ truth b
+      low_byte m true x e = omega (arith, e)
+      low_byte m false x e = omega (arith, e)
+
+  carried : (g : Working) (st : List ℕ) (b : Bool) → is_carry g.flags ≡ b → Computes just_accumulator from_carry g st (truth b)
+  unfolding filled
+  carried g st b carry =
+      let h = set_byte (filled g) Ah 0 in
+      first just_accumulator (i.AluByte Sbb (FromRegister (rm.Register Al) Al)) (clear_high ∷ []) g (filled g) st (truth b) (λ q. refl) (tt, refl, refl, refl, refl, refl, refl)
+      (only just_accumulator clear_high (filled g) h st (truth b) (λ q. refl) (tt, refl, refl, refl, refl, refl, refl) (let e = filled_is g b carry in omega (arith, e)) (truth_small b))
+
+  turned_byte : (x : ℕ) (f : Flags) → (changed changes.Not widths.Byte x f).value ≡ 255 - x
+  unfolding changed
+  turned_byte x f = refl
+
+  turned : (b : Bool) → 255 - truth b ≡ truth (not b)
+  turned true = refl
+  turned false = refl
+
+  not_carried : (g : Working) (st : List ℕ) (b : Bool) → is_carry g.flags ≡ b → Computes just_accumulator from_no_carry g st (truth (not b))
+  unfolding filled
+  not_carried g st b carry =
+      let f = filled g in
+      let t = byte_result Al f (changed changes.Not widths.Byte (f.ax % 256) f.flags) in
+      let v : (changed changes.Not widths.Byte (f.ax % 256) f.flags).value ≡ truth (not b) = turned_byte (f.ax % 256) f.flags ∙ ap (λ z. 255 - z) (filled_is g b carry) ∙ turned b in
+      let e : t.ax ≡ f.ax / 256 * 256 + truth (not b) = ap (λ z. f.ax / 256 * 256 + z) v in
+      let small : truth (not b) < 256 = byte_truth (not b) in
+      first just_accumulator (i.AluByte Sbb (FromRegister (rm.Register Al) Al)) (i.UnaryByte changes.Not (rm.Register Al) ∷ clear_high ∷ []) g f st (truth (not b)) (λ q. refl) (tt, refl, refl, refl, refl, refl, refl)
+      (first just_accumulator (i.UnaryByte changes.Not (rm.Register Al)) (clear_high ∷ []) f t st (truth (not b)) (λ q. refl) (tt, refl, refl, refl, refl, refl, refl)
+      (only just_accumulator clear_high t (set_byte t Ah 0) st (truth (not b)) (λ q. refl) (tt, refl, refl, refl, refl, refl, refl) (omega (arith, e, small)) (truth_small (not b))))
+    where
+      byte_truth : (b : Bool) → truth b < 256
+      byte_truth true = omega arith
+      byte_truth false = omega arith
+
+  -- ---- comparisons
+
+  cmp_flags : (a b : ℕ) (f : Flags) → is_carry (operated Cmp widths.Word a b f).flags ≡ nat_lt a b
+  cmp_flags a b f = Flags.cmp_carry laws a b f
+
+  compared : Working → (a b : ℕ) → Working
+  compared g a b = set_flags g (operated Cmp widths.Word a b g.flags).flags
+
+  difference_is : (a b : ℕ) (f : Flags) → (operated Sub widths.Word a b f).value ≡ (a + 65536 - (b + 0)) % 65536
+  unfolding operated subtracted
+  difference_is a b f = refl
+
+  subtracts : Working → Working
+  subtracts g = word_result Ax g (operated Sub widths.Word g.ax g.cx g.flags)
+
+  -- whether both are equal
+  tests_equal : Working → Working
+  tests_equal g = set_flags (subtracts g) (operated Cmp widths.Word (subtracts g).ax 1 (subtracts g).flags).flags
+
+  equal_carry : (g : Working) → g.ax < 65536 → g.cx < 65536 → is_carry (tests_equal g).flags ≡ nat_eq g.ax g.cx
+  unfolding subtracts tests_equal
+  equal_carry g a c = cmp_flags (subtracts g).ax 1 (subtracts g).flags ∙ ap (λ z. nat_lt z 1) (difference_is g.ax g.cx g.flags) ∙ no_difference g.ax g.cx a c
+
+  -- ---- the operators
+
+  sum_is : (a b : ℕ) (f : Flags) → (operated Add widths.Word a b f).value ≡ (a + b + 0) % 65536
+  unfolding operated added
+  sum_is a b f = refl
+
+  and_is : (a b : ℕ) (f : Flags) → (operated And widths.Word a b f).value ≡ bit_and a b
+  unfolding operated combined
+  and_is a b f = refl
+
+  or_is : (a b : ℕ) (f : Flags) → (operated Or widths.Word a b f).value ≡ bit_or a b
+  unfolding operated combined
+  or_is a b f = refl
+
+  xor_is : (a b : ℕ) (f : Flags) → (operated Xor widths.Word a b f).value ≡ bit_xor a b
+  unfolding operated combined
+  xor_is a b f = refl
+
+  product_is : (a b : ℕ) (f : Flags) → (multiplied Unsigned widths.Word a b f).value ≡ a * b
+  unfolding multiplied
+  product_is a b f = refl
+
+  -- a result that wrapped
+  wrapped : (s : Registers) → s.accumulator ≡ true → (width : Width) (n : Instr) (g h : Working) (st : List ℕ) (m v : ℕ) → On n g st h st → OnlyChanges s g h → h.ax ≡ m % 65536 → low width m ≡ v → Computes s (then_narrow width n) g st v
+  wrapped s acc width n g h st m v e keep is low_is = narrowed s acc width n g h st v e keep (omega (arith, is)) (ap (low width) is ∙ low_low width m ∙ low_is)
+
+  divides_by : (g : Working) (st : List ℕ) (y : ℕ) → g.ax < 65536 → g.cx ≡ suc y
+      → (h : Working) × S (load_number Dx 0 ∷ i.DivideWord Unsigned (rm.Register Cx) ∷ []) g st h st × (h.ax ≡ g.ax / suc y) × (h.dx ≡ g.ax % suc y) × OnlyChanges with_high g h
+  divides_by g st y a e =
+      let g1 = set_word g Dx 0 in
+      let x : Division = record { quotient = g.ax / suc y; remainder = g.ax % suc y } in
+      let h = word_quotient x g1 in
+      (h, (g1, st, λ q. refl, (h, st, λ q. ap (λ z. divides z (λ w. Own q (word_quotient w g1) st false given)) (ap (λ z. divided Unsigned widths.Word (0 * 65536 + g.ax) z) e ∙ quotients g.ax y a), (refl, refl))), refl, refl, (tt, refl, tt, refl, refl, refl, refl))
+
+  quotient_gives : (g : Working) (st : List ℕ) (width : Width) (y : ℕ) → g.ax < 65536 → g.cx ≡ y → Gives with_high (core binary.Divide width) g st (quotient g.ax y)
+  quotient_gives g st width zero a e = tt
+  quotient_gives g st width (suc y) a e = let d = divides_by g st y a e in (d.0, d.1, d.2, omega (arith, a, div-le_self g.ax (suc y)), d.4)
+
+  remainder_gives : (g : Working) (st : List ℕ) (width : Width) (y : ℕ) → g.ax < 65536 → g.cx ≡ y → g.cx < 65536 → Gives with_high (core binary.Modulo width) g st (remainder g.ax y)
+  remainder_gives g st width zero a e c = tt
+  remainder_gives g st width (suc y) a e c =
+      let d = divides_by g st y a e in
+      let h = set_word d.0 Ax d.0.dx in
+      (h, also find words main handler given (load_number Dx 0 ∷ i.DivideWord Unsigned (rm.Register Cx) ∷ []) (copy Ax Dx ∷ []) g st d.0 st h st d.1 (h, st, λ q. refl, (refl, refl)), d.3, omega (arith, a, mod-le g.ax (suc y)), changes_then with_high g d.0 h d.4 (tt, refl, tt, refl, refl, refl, refl))
+
+  low_again : (x n : ℕ) → (rotated widths.Byte (x % 256) n) ≡ rotated widths.Byte x n
+  low_again x n = ap (λ z. let turned = z * 2 ^ n in (turned % 256 + turned / 256) % 256) again
+    where
+      again : x % 256 % 256 ≡ x % 256
+      again = omega arith
+
+  -- a byte turned round in AL
+  turned_byte_gives : (o : ShiftOperation) (turn : Width → ℕ → ℕ → ℕ) (g : Working) (st : List ℕ)
+      → ((x n : ℕ) (f : Flags) → x < 256 → (shifted o widths.Byte x n f).value ≡ turn widths.Byte x n)
+      → turn widths.Byte (g.ax % 256) (g.cx % 256) ≡ turn widths.Byte g.ax (g.cx % 256) → turn widths.Byte g.ax (g.cx % 256) < 256
+      → Computes just_accumulator (shift_byte o ∷ clear_high ∷ []) g st (turn widths.Byte g.ax (g.cx % 256))
+  turned_byte_gives o turn g st law again small =
+      let n = g.cx % 256 in
+      let x = shifted o widths.Byte (g.ax % 256) n g.flags in
+      let h = byte_result Al g x in
+      let value : x.value ≡ turn widths.Byte g.ax n = law (g.ax % 256) n g.flags (omega arith) ∙ again in
+      let whole : h.ax ≡ g.ax / 256 * 256 + turn widths.Byte g.ax n = ap (λ z. g.ax / 256 * 256 + z) value in
+      first just_accumulator (shift_byte o) (clear_high ∷ []) g h st (turn widths.Byte g.ax n) (λ q. refl) (tt, refl, refl, refl, refl, refl, refl)
+      (only just_accumulator clear_high h (set_byte h Ah 0) st (turn widths.Byte g.ax n) (λ q. refl) (tt, refl, refl, refl, refl, refl, refl) (omega (arith, whole, small)) (omega (arith, small)))
+
+  pub core_gives : (o : BinaryOperation) (width : Width) (g : Working) (st : List ℕ) → g.ax < 65536 → g.cx < 65536 → Gives (core_changes o) (core o width) g st (binary_value o width g.ax g.cx)
+  unfolding subtracts tests_equal compared
+  core_gives binary.Multiply width g st a c =
+      wrapped with_high refl width (i.MultiplyWord Unsigned (rm.Register Cx)) g (word_product (multiplied Unsigned widths.Word g.ax g.cx g.flags) g) st (g.ax * g.cx) (low width (g.ax * g.cx)) (λ q. refl) (tt, refl, tt, refl, refl, refl, refl) (ap (λ z. z % 65536) (product_is g.ax g.cx g.flags)) refl
+  core_gives binary.Divide width g st a c = quotient_gives g st width g.cx a refl
+  core_gives binary.Modulo width g st a c = remainder_gives g st width g.cx a refl c
+  core_gives binary.Add width g st a c =
+      let e : g.ax + g.cx + 0 ≡ g.ax + g.cx = omega arith in
+      wrapped just_accumulator refl width (alu Add Ax Cx) g (alu_word Add Ax g.cx g) st (g.ax + g.cx + 0) (low width (g.ax + g.cx)) (λ q. refl) (tt, refl, refl, refl, refl, refl, refl) (sum_is g.ax g.cx g.flags) (ap (low width) e)
+  core_gives binary.Subtract width g st a c =
+      let e : g.ax + 65536 - (g.cx + 0) ≡ g.ax + 65536 - g.cx = omega arith in
+      wrapped just_accumulator refl width (alu Sub Ax Cx) g (subtracts g) st (g.ax + 65536 - (g.cx + 0)) (low width (g.ax + 65536 - g.cx)) (λ q. refl) (tt, refl, refl, refl, refl, refl, refl) (difference_is g.ax g.cx g.flags) (ap (low width) e)
+  core_gives binary.Equal width g st a c =
+      first just_accumulator (alu Sub Ax Cx) (i.AluWord Cmp (Immediate (rm.Register Ax) 1) ∷ from_carry) g (subtracts g) st (truth (nat_eq g.ax g.cx)) (λ q. refl) (tt, refl, refl, refl, refl, refl, refl)
+      (first just_accumulator (i.AluWord Cmp (Immediate (rm.Register Ax) 1)) from_carry (subtracts g) (tests_equal g) st (truth (nat_eq g.ax g.cx)) (λ q. refl) (tt, refl, refl, refl, refl, refl, refl) (carried (tests_equal g) st (nat_eq g.ax g.cx) (equal_carry g a c)))
+  core_gives binary.NotEqual width g st a c =
+      first just_accumulator (alu Sub Ax Cx) (i.AluWord Cmp (Immediate (rm.Register Ax) 1) ∷ from_no_carry) g (subtracts g) st (truth (not (nat_eq g.ax g.cx))) (λ q. refl) (tt, refl, refl, refl, refl, refl, refl)
+      (first just_accumulator (i.AluWord Cmp (Immediate (rm.Register Ax) 1)) from_no_carry (subtracts g) (tests_equal g) st (truth (not (nat_eq g.ax g.cx))) (λ q. refl) (tt, refl, refl, refl, refl, refl, refl) (not_carried (tests_equal g) st (nat_eq g.ax g.cx) (equal_carry g a c)))
+  core_gives binary.Less width g st a c =
+      first just_accumulator (alu Cmp Ax Cx) from_carry g (compared g g.ax g.cx) st (truth (nat_lt g.ax g.cx)) (λ q. refl) (tt, refl, refl, refl, refl, refl, refl) (carried (compared g g.ax g.cx) st (nat_lt g.ax g.cx) (cmp_flags g.ax g.cx g.flags))
+  core_gives binary.LessEqual width g st a c =
+      subst (λ z. Computes just_accumulator (core binary.LessEqual width) g st z) (ap truth (flipped_le g.ax g.cx))
+      (first just_accumulator (alu Cmp Cx Ax) from_no_carry g (compared g g.cx g.ax) st (truth (not (nat_lt g.cx g.ax))) (λ q. refl) (tt, refl, refl, refl, refl, refl, refl) (not_carried (compared g g.cx g.ax) st (nat_lt g.cx g.ax) (cmp_flags g.cx g.ax g.flags)))
+  core_gives binary.Greater width g st a c =
+      first just_accumulator (alu Cmp Cx Ax) from_carry g (compared g g.cx g.ax) st (truth (nat_lt g.cx g.ax)) (λ q. refl) (tt, refl, refl, refl, refl, refl, refl) (carried (compared g g.cx g.ax) st (nat_lt g.cx g.ax) (cmp_flags g.cx g.ax g.flags))
+  core_gives binary.GreaterEqual width g st a c =
+      subst (λ z. Computes just_accumulator (core binary.GreaterEqual width) g st z) (ap truth (flipped_le g.cx g.ax))
+      (first just_accumulator (alu Cmp Ax Cx) from_no_carry g (compared g g.ax g.cx) st (truth (not (nat_lt g.ax g.cx))) (λ q. refl) (tt, refl, refl, refl, refl, refl, refl) (not_carried (compared g g.ax g.cx) st (nat_lt g.ax g.cx) (cmp_flags g.ax g.cx g.flags)))
+  core_gives binary.And width g st a c = only just_accumulator (alu And Ax Cx) g (alu_word And Ax g.cx g) st (bit_and g.ax g.cx) (λ q. refl) (tt, refl, refl, refl, refl, refl, refl) (and_is g.ax g.cx g.flags) (omega (arith, a, and_le_l g.ax g.cx))
+  core_gives binary.Or width g st a c = only just_accumulator (alu Or Ax Cx) g (alu_word Or Ax g.cx g) st (bit_or g.ax g.cx) (λ q. refl) (tt, refl, refl, refl, refl, refl, refl) (or_is g.ax g.cx g.flags) (or_of_16 g.ax g.cx a c)
+  core_gives binary.ExclusiveOr width g st a c = only just_accumulator (alu Xor Ax Cx) g (alu_word Xor Ax g.cx g) st (bit_xor g.ax g.cx) (λ q. refl) (tt, refl, refl, refl, refl, refl, refl) (xor_is g.ax g.cx g.flags) (xor_of_16 g.ax g.cx a c)
+  core_gives binary.ShiftLeft width g st a c =
+      let n = g.cx % 256 in
+      wrapped just_accumulator refl width (shift_word shifts.Shl) g (word_result Ax g (shifted shifts.Shl widths.Word g.ax n g.flags)) st (g.ax * 2 ^ n) (low width (g.ax * 2 ^ n)) (λ q. refl) (tt, refl, refl, refl, refl, refl, refl) (laws.shift.shl widths.Word g.ax n g.flags a) refl
+  core_gives binary.ShiftRight widths.Byte g st a c =
+      let n = g.cx % 256 in
+      let g1 = set_byte g Ah 0 in
+      let e : 0 * 256 + g.ax % 256 ≡ g.ax % 256 = omega arith in
+      first just_accumulator clear_high (shift_word shifts.Shr ∷ []) g g1 st (g.ax % 256 / 2 ^ n) (λ q. refl) (tt, refl, refl, refl, refl, refl, refl)
+      (only just_accumulator (shift_word shifts.Shr) g1 (word_result Ax g1 (shifted shifts.Shr widths.Word g1.ax n g1.flags)) st (g.ax % 256 / 2 ^ n) (λ q. refl) (tt, refl, refl, refl, refl, refl, refl) (laws.shift.shr widths.Word g1.ax n g1.flags ∙ ap (λ z. z / 2 ^ n) e) (omega (arith, div-le_self (g.ax % 256) (2 ^ n))))
+  core_gives binary.ShiftRight widths.Word g st a c =
+      let n = g.cx % 256 in
+      let e : g.ax ≡ g.ax % 65536 = omega (arith, a) in
+      only just_accumulator (shift_word shifts.Shr) g (word_result Ax g (shifted shifts.Shr widths.Word g.ax n g.flags)) st (g.ax % 65536 / 2 ^ n) (λ q. refl) (tt, refl, refl, refl, refl, refl, refl) (laws.shift.shr widths.Word g.ax n g.flags ∙ ap (λ z. z / 2 ^ n) e) (omega (arith, div-le_self (g.ax % 65536) (2 ^ n)))
+  core_gives binary.RotateLeft widths.Byte g st a c = turned_byte_gives shifts.Rol rotated_left g st (λ x n f l. laws.rotate.rol widths.Byte x n f l) (low_again g.ax (g.cx % 256 % 8)) (omega arith)
+  core_gives binary.RotateLeft widths.Word g st a c =
+      let n = g.cx % 256 in
+      only just_accumulator (shift_word shifts.Rol) g (word_result Ax g (shifted shifts.Rol widths.Word g.ax n g.flags)) st (rotated_left widths.Word g.ax n) (λ q. refl) (tt, refl, refl, refl, refl, refl, refl) (laws.rotate.rol widths.Word g.ax n g.flags a) (omega arith)
+  core_gives binary.RotateRight widths.Byte g st a c = turned_byte_gives shifts.Ror rotated_right g st (λ x n f l. laws.rotate.ror widths.Byte x n f l) (low_again g.ax (8 - g.cx % 256 % 8)) (omega arith)
+  core_gives binary.RotateRight widths.Word g st a c =
+      let n = g.cx % 256 in
+      only just_accumulator (shift_word shifts.Ror) g (word_result Ax g (shifted shifts.Ror widths.Word g.ax n g.flags)) st (rotated_right widths.Word g.ax n) (λ q. refl) (tt, refl, refl, refl, refl, refl, refl) (laws.rotate.ror widths.Word g.ax n g.flags a) (omega arith)
+
+  -- ---- operators that take their right operand where it lies
+
+  -- behind the operation the value is in AX, and the stack as it was
+  abbrev pub After : List Instr → Working → Working → List ℕ → Option ℕ → Type 0
+  After ns g h st None = Unit {0}
+  After ns g h st (Some x) = (k : Working) × S ns h st k st × (k.ax ≡ x) × (x < 65536) × OnlyChanges just_accumulator g k
+
+  narrows : (width : Width) (g h : Working) (st : List ℕ) (m v : ℕ) → OnlyChanges just_accumulator g h → h.ax ≡ m % 65536 → low width m ≡ v → After (narrow width) g h st (Some v)
+  narrows width g h st m v keep is low_is = by width (omega (arith, is)) (ap (low width) is ∙ low_low width m ∙ low_is)
+    where
+      by : (width : Width) → h.ax < 65536 → low width h.ax ≡ v → After (narrow width) g h st (Some v)
+      by widths.Byte lt e = (set_byte h Ah 0, (set_byte h Ah 0, st, λ q. refl, (refl, refl)), omega (arith, e), omega (arith, e), changes_then just_accumulator g h (set_byte h Ah 0) keep (tt, refl, refl, refl, refl, refl, refl))
+      by widths.Word lt e = (h, (refl, refl), omega (arith, lt, e), omega (arith, lt, e), keep)
+
+  pub after_direct : (o : BinaryOperation) (width : Width) (g : Working) (st : List ℕ) (v : ℕ) → is_direct o ≡ true → g.ax < 65536 → v < 65536
+      → After (narrow_sum o width) g (alu_word (direct o) Ax v g) st (binary_value o width g.ax v)
+  after_direct binary.Add width g st v d a c =
+      let e : g.ax + v + 0 ≡ g.ax + v = omega arith in
+      narrows width g (alu_word Add Ax v g) st (g.ax + v + 0) (low width (g.ax + v)) (tt, refl, refl, refl, refl, refl, refl) (sum_is g.ax v g.flags) (ap (low width) e)
+  after_direct binary.Subtract width g st v d a c =
+      let e : g.ax + 65536 - (v + 0) ≡ g.ax + 65536 - v = omega arith in
+      narrows width g (alu_word Sub Ax v g) st (g.ax + 65536 - (v + 0)) (low width (g.ax + 65536 - v)) (tt, refl, refl, refl, refl, refl, refl) (difference_is g.ax v g.flags) (ap (low width) e)
+  after_direct binary.And width g st v d a c = (alu_word And Ax v g, (refl, refl), and_is g.ax v g.flags, omega (arith, a, and_le_l g.ax v), (tt, refl, refl, refl, refl, refl, refl))
+  after_direct binary.Or width g st v d a c = (alu_word Or Ax v g, (refl, refl), or_is g.ax v g.flags, or_of_16 g.ax v a c, (tt, refl, refl, refl, refl, refl, refl))
+  after_direct binary.ExclusiveOr width g st v d a c = (alu_word Xor Ax v g, (refl, refl), xor_is g.ax v g.flags, xor_of_16 g.ax v a c, (tt, refl, refl, refl, refl, refl, refl))
+  after_direct binary.Multiply width g st v d a c = absurd (cc)
+  after_direct binary.Divide width g st v d a c = absurd (cc)
+  after_direct binary.Modulo width g st v d a c = absurd (cc)
+  after_direct binary.Equal width g st v d a c = absurd (cc)
+  after_direct binary.NotEqual width g st v d a c = absurd (cc)
+  after_direct binary.Less width g st v d a c = absurd (cc)
+  after_direct binary.LessEqual width g st v d a c = absurd (cc)
+  after_direct binary.Greater width g st v d a c = absurd (cc)
+  after_direct binary.GreaterEqual width g st v d a c = absurd (cc)
+  after_direct binary.ShiftLeft width g st v d a c = absurd (cc)
+  after_direct binary.ShiftRight width g st v d a c = absurd (cc)
+  after_direct binary.RotateLeft width g st v d a c = absurd (cc)
+  after_direct binary.RotateRight width g st v d a c = absurd (cc)
+
+  -- ---- operators on AX alone
+
+  negated : (a : ℕ) (f : Flags) → (changed changes.Neg widths.Word a f).value ≡ (0 + 65536 - (a + 0)) % 65536
+  unfolding changed subtracted
+  negated a f = refl
+
+  inverted : (a : ℕ) (f : Flags) → (changed changes.Not widths.Word a f).value ≡ 65535 - a
+  unfolding changed
+  inverted a f = refl
+
+  pub change_gives : (o : UnaryOperation) (width : Width) (g : Working) (st : List ℕ) → g.ax < 65536 → Computes just_accumulator (rows.changed o width) g st (unary_value o width g.ax)
+  change_gives unary.Plus width g st a = only just_accumulator i.Nop g g st g.ax (λ q. refl) (tt, refl, refl, refl, refl, refl, refl) refl a
+  change_gives unary.Minus width g st a =
+      let e : 0 + 65536 - (g.ax + 0) ≡ 65536 - g.ax = omega arith in
+      wrapped just_accumulator refl width (i.UnaryWord changes.Neg (rm.Register Ax)) g (word_result Ax g (changed changes.Neg widths.Word g.ax g.flags)) st (0 + 65536 - (g.ax + 0)) (low width (65536 - g.ax)) (λ q. refl) (tt, refl, refl, refl, refl, refl, refl) (negated g.ax g.flags) (ap (low width) e)
+  change_gives unary.Not width g st a =
+      let e : 65535 - g.ax ≡ (65535 - g.ax) % 65536 = omega arith in
+      wrapped just_accumulator refl width (i.UnaryWord changes.Not (rm.Register Ax)) g (word_result Ax g (changed changes.Not widths.Word g.ax g.flags)) st (65535 - g.ax) (low width (65535 - g.ax)) (λ q. refl) (tt, refl, refl, refl, refl, refl, refl) (inverted g.ax g.flags ∙ e) refl
+  change_gives unary.Low width g st a = only just_accumulator clear_high g (set_byte g Ah 0) st (g.ax % 256) (λ q. refl) (tt, refl, refl, refl, refl, refl, refl) (omega arith) (omega arith)
+  change_gives unary.High width g st a =
+      let g1 = set_byte g Al (g.ax / 256) in
+      first just_accumulator (i.MoveByte (FromRegister (rm.Register Al) Ah)) (clear_high ∷ []) g g1 st (g.ax / 256) (λ q. refl) (tt, refl, refl, refl, refl, refl, refl) (only just_accumulator clear_high g1 (set_byte g1 Ah 0) st (g.ax / 256) (λ q. refl) (tt, refl, refl, refl, refl, refl, refl) (omega (arith, a)) (omega (arith, a)))
+  change_gives unary.Double width g st a = only just_accumulator i.Nop g g st g.ax (λ q. refl) (tt, refl, refl, refl, refl, refl, refl) refl a

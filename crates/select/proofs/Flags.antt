@@ -1,0 +1,95 @@
+-- The flags that selection asks for: carry and zero of a comparison, and whether a test left zero.
+use Rattle.std.proofs.Common.{◌≡◌, ℕ, zero, suc, ◌+◌, ◌-◌, ◌%◌, ◌<◌, ◌≤◌, ◌⊎◌, inl, inr, Bool, true, false, refl, sym, ap, ◌∙◌, nat_eq, arith}
+use Rattle.std.specs.Prelude.{nat_lt, nat_le, not, ◌||◌}
+use Rattle.std.specs.Int.RustNames.{bit_and}
+use Rattle.std.proofs.lemmas.Bool.{cases_lt, lt-ltb, le-ltb, lt-leb, le-leb, eq-eqb, ne_eqb}
+use Rattle.word86.specs.declared.width.Width.{Width}
+use Rattle.word86.specs.declared.width.Width.TheVariants as widths
+use Rattle.i86_table.specs.declared.flags.Flags.{Flags}
+use Rattle.i86_table.specs.declared.instruction.AluOperation.TheVariants.{Cmp}
+use Rattle.i86_table.specs.Arithmetic.{has, with_result, subtracted, combined, tested, number_of, operated, size_of}
+use Rattle.i86_table.specs.Conditions.{holds}
+use Rattle.icode.specs.declared.instruction.Relation.{Relation}
+use Rattle.icode.specs.declared.instruction.Relation.TheVariants as relation
+use Rattle.icode.specs.Machine.{stands}
+use Rattle.select.specs.Rows.{fails}
+use Rattle.select.proofs.Rests.{Laws}
+
+pub flipped_le : (x y : ℕ) → not (nat_lt y x) ≡ nat_le x y
+flipped_le x y = by (cases_lt y x)
+  where
+    by : (y < x) ⊎ (x ≤ y) → not (nat_lt y x) ≡ nat_le x y
+    by (inl l) = ap not (lt-ltb y x l) ∙ sym (lt-leb x y l)
+    by (inr l) = ap not (le-ltb y x l) ∙ sym (le-leb x y l)
+
+not_not : (b : Bool) → not (not b) ≡ b
+not_not true = refl
+not_not false = refl
+
+-- below or equal
+lower_or_same : (x y : ℕ) → (nat_lt x y || nat_eq x y) ≡ nat_le x y
+lower_or_same x y = by (cases_lt x y) (cases_lt y x)
+  where
+    by : (x < y) ⊎ (y ≤ x) → (y < x) ⊎ (x ≤ y) → (nat_lt x y || nat_eq x y) ≡ nat_le x y
+    by (inl l) m = ap (λ (b : Bool). b || nat_eq x y) (lt-ltb x y l) ∙ sym (le-leb x y (omega (arith, l)))
+    by (inr l) (inl m) = ap (λ (b : Bool). b || nat_eq x y) (le-ltb x y l) ∙ ne_eqb x y (λ e. omega (arith, m, e)) ∙ sym (lt-leb x y m)
+    by (inr l) (inr m) = ap (λ (b : Bool). b || nat_eq x y) (le-ltb x y l) ∙ eq-eqb x y (omega (arith, l, m)) ∙ sym (le-leb x y m)
+
+-- a difference is zero exactly where nothing differs
+no_difference : (x y : ℕ) → x < 65536 → y < 65536 → nat_eq ((x + 65536 - (y + 0)) % 65536) 0 ≡ nat_eq x y
+no_difference x y a b = by (cases_lt x y) (cases_lt y x)
+  where
+    by : (x < y) ⊎ (y ≤ x) → (y < x) ⊎ (x ≤ y) → nat_eq ((x + 65536 - (y + 0)) % 65536) 0 ≡ nat_eq x y
+    by (inl l) m = ne_eqb _ 0 (λ e. omega (arith, l, a, b, e)) ∙ sym (ne_eqb x y (λ e. omega (arith, l, e)))
+    by (inr l) (inl m) = ne_eqb _ 0 (λ e. omega (arith, m, a, b, e)) ∙ sym (ne_eqb x y (λ e. omega (arith, m, e)))
+    by (inr l) (inr m) = eq-eqb _ 0 (omega (arith, l, m, a, b)) ∙ sym (eq-eqb x y (omega (arith, l, m)))
+
+module _ (laws : Laws) where
+  -- the result's flags are not the carry
+  result_keeps_carry : (width : Width) (v : ℕ) (f : Flags) → has (with_result width v f) 1 ≡ has f 1
+  unfolding with_result
+  result_keeps_carry width v f = laws.others 4 1 _ _ refl refl ∙ laws.others 128 1 _ _ refl refl ∙ laws.others 64 1 _ f refl refl
+
+  -- a difference borrows where the subtrahend is greater
+  pub borrow : (width : Width) (a b : ℕ) (c : Bool) (f : Flags) → has (subtracted width a b c f).flags 1 ≡ nat_lt a (b + number_of c)
+  unfolding subtracted
+  borrow width a b c f = result_keeps_carry width _ _ ∙ laws.others 2048 1 _ _ refl refl ∙ laws.others 16 1 _ _ refl refl ∙ laws.same 1 _ f (by_count) refl
+    where
+      by_count : 0 < 1
+      by_count = omega arith
+
+  result_zero : (width : Width) (v : ℕ) (f : Flags) → has (with_result width v f) 64 ≡ nat_eq v 0
+  unfolding with_result
+  result_zero width v f = laws.others 4 64 _ _ refl refl ∙ laws.others 128 64 _ _ refl refl ∙ laws.same 64 _ _ by_count refl
+    where
+      by_count : 0 < 64
+      by_count = omega arith
+
+  difference_zero : (a b : ℕ) (f : Flags) → has (subtracted widths.Word a b false f).flags 64 ≡ nat_eq ((a + 65536 - (b + 0)) % 65536) 0
+  unfolding subtracted
+  difference_zero a b f = result_zero widths.Word _ _
+
+  -- TEST leaves zero where no bit is in both
+  pub no_bit : (width : Width) (a b : ℕ) (f : Flags) → has (tested width a b f) 64 ≡ nat_eq (bit_and a b) 0
+  unfolding combined
+  no_bit width a b f = result_zero width _ _
+
+  pub cmp_carry : (a b : ℕ) (f : Flags) → has (operated Cmp widths.Word a b f).flags 1 ≡ nat_lt a b
+  unfolding operated
+  cmp_carry a b f = let e : b + 0 ≡ b = omega arith in borrow widths.Word a b false f ∙ ap (nat_lt a) e
+
+  cmp_zero : (a b : ℕ) (f : Flags) → a < 65536 → b < 65536 → has (operated Cmp widths.Word a b f).flags 64 ≡ nat_eq a b
+  unfolding operated
+  cmp_zero a b f l m = difference_zero a b f ∙ no_difference a b l m
+
+  cmp_either : (a b : ℕ) (f : Flags) → a < 65536 → b < 65536 → (has (operated Cmp widths.Word a b f).flags 1 || has (operated Cmp widths.Word a b f).flags 64) ≡ nat_le a b
+  cmp_either a b f l m = ap (λ (z : Bool). z || has (operated Cmp widths.Word a b f).flags 64) (cmp_carry a b f) ∙ ap (λ (z : Bool). nat_lt a b || z) (cmp_zero a b f l m) ∙ lower_or_same a b
+
+  -- the condition after a comparison says that the relation does not hold
+  pub fails_where : (o : Relation) (a b : ℕ) (f : Flags) → a < 65536 → b < 65536 → holds (fails o) (operated Cmp widths.Word a b f).flags ≡ not (stands o a b)
+  fails_where relation.Equal a b f l m = ap not (cmp_zero a b f l m)
+  fails_where relation.NotEqual a b f l m = cmp_zero a b f l m ∙ sym (not_not _)
+  fails_where relation.Less a b f l m = ap not (cmp_carry a b f)
+  fails_where relation.LessEqual a b f l m = ap not (cmp_either a b f l m)
+  fails_where relation.Greater a b f l m = cmp_either a b f l m ∙ sym (flipped_le a b)
+  fails_where relation.GreaterEqual a b f l m = cmp_carry a b f ∙ sym (ap not (sym (flipped_le b a)) ∙ not_not _)

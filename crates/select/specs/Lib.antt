@@ -1,0 +1,6 @@
+pub mod Sizes
+pub mod Parts
+pub mod Linked
+pub mod Rows
+pub mod Promise
+pub mod Inner

@@ -1,0 +1,314 @@
+-- The steps of each instruction of the intermediate code. AX is the accumulator, the words lie on the stack; CX has an operator's
+-- right operand, DX a port, BX an address, BP where the stack stands.
+use Rattle.std.specs.Prelude.{ℕ, zero, suc, ◌+◌, ◌-◌, ◌*◌, ◌%◌, Bool, true, false, nat_eq, nat_le, if◌then◌else◌, List, [], ◌∷◌, ◌++◌, map, length, sum, take, Option, Some, None}
+use Rattle.word86.specs.declared.width.Width.{Width}
+use Rattle.word86.specs.declared.width.Width.TheVariants as widths
+use Rattle.word86.specs.declared.operation.UnaryOperation.{UnaryOperation}
+use Rattle.word86.specs.declared.operation.UnaryOperation.TheVariants as unary
+use Rattle.word86.specs.declared.operation.BinaryOperation.{BinaryOperation}
+use Rattle.word86.specs.declared.operation.BinaryOperation.TheVariants as binary
+use Rattle.word86.specs.declared.place.Place.{Place}
+use Rattle.word86.specs.declared.place.Place.TheVariants as place
+use Rattle.word86.specs.Places.{screen_begins}
+use Rattle.i86_table.specs.declared.registers.Register16.{Register16}
+use Rattle.i86_table.specs.declared.registers.Register16.TheVariants.{Ax, Bx, Cx, Dx, Bp, Sp}
+use Rattle.i86_table.specs.declared.registers.Register8.{Register8}
+use Rattle.i86_table.specs.declared.registers.Register8.TheVariants.{Al, Ah, Cl, Ch}
+use Rattle.i86_table.specs.declared.registers.Segment.{Segment}
+use Rattle.i86_table.specs.declared.registers.Segment.TheVariants as segments
+use Rattle.i86_table.specs.declared.instruction.Memory.{Memory}
+use Rattle.i86_table.specs.declared.instruction.Base.{Base}
+use Rattle.i86_table.specs.declared.instruction.Base.TheVariants as bases
+use Rattle.i86_table.specs.declared.instruction.Address.TheVariants.{Based}
+use Rattle.i86_table.specs.declared.instruction.RmOperand.TheVariants as rm
+use Rattle.i86_table.specs.declared.instruction.Operands.TheVariants.{FromRegister, FromMemory, Immediate}
+use Rattle.i86_table.specs.declared.instruction.TestMask.TheVariants as masks
+use Rattle.i86_table.specs.declared.instruction.Port.TheVariants as ports
+use Rattle.i86_table.specs.declared.instruction.Count.TheVariants as counts
+use Rattle.i86_table.specs.declared.instruction.Condition.{Condition}
+use Rattle.i86_table.specs.declared.instruction.Condition.TheVariants as conditions
+use Rattle.i86_table.specs.declared.instruction.Signedness.TheVariants.{Unsigned}
+use Rattle.i86_table.specs.declared.instruction.AluOperation.{AluOperation}
+use Rattle.i86_table.specs.declared.instruction.AluOperation.TheVariants.{Add, Sub, Sbb, And, Or, Xor, Cmp}
+use Rattle.i86_table.specs.declared.instruction.UnaryOperation.TheVariants as changes
+use Rattle.i86_table.specs.declared.instruction.ShiftOperation.{ShiftOperation}
+use Rattle.i86_table.specs.declared.instruction.ShiftOperation.TheVariants as shifts
+use Rattle.i86_table.specs.declared.instruction.Instr.{Instr}
+use Rattle.i86_table.specs.declared.instruction.Instr.TheVariants as i
+use Rattle.i86_table.specs.declared.open.Use.{Use}
+use Rattle.i86_table.specs.declared.open.Use.TheVariants.{Load, Store, Operate}
+use Rattle.i86_table.specs.declared.open.Spot.{Spot}
+use Rattle.i86_table.specs.declared.open.Open.{Open}
+use Rattle.i86_table.specs.declared.open.Open.TheVariants as opens
+use Rattle.i86_table.specs.Open.{closed}
+use Rattle.icode.specs.declared.instruction.Instruction.{Instruction}
+use Rattle.icode.specs.declared.instruction.Instruction.TheVariants as op
+use Rattle.icode.specs.declared.instruction.Relation.{Relation}
+use Rattle.icode.specs.declared.instruction.Relation.TheVariants as relation
+use Rattle.icode.specs.declared.instruction.Test.{Test}
+use Rattle.icode.specs.declared.instruction.Test.TheVariants as test
+use Rattle.icode.specs.declared.registers.Registers.{Registers}
+use Rattle.icode.specs.Registers.{is_direct}
+use Rattle.select.specs.declared.part.Kind.TheVariants.{Offset, Near}
+use Rattle.select.specs.declared.part.Step.{Step}
+use Rattle.select.specs.declared.part.Step.TheVariants.{Plain, Refer, AtStep, Word, Goto, GotoIf}
+
+-- ---- single instructions
+
+abbrev pub load_number : Register16 → ℕ → Instr
+load_number r k = i.MoveWord (Immediate (rm.Register r) k)
+
+abbrev pub copy : (to from : Register16) → Instr
+copy to from = i.MoveWord (FromRegister (rm.Register to) from)
+
+abbrev pub clear_byte : Register8 → Instr
+clear_byte r = i.MoveByte (Immediate (rm.Register r) 0)
+
+abbrev pub clear_high : Instr
+clear_high = clear_byte Ah
+
+abbrev pub alu : AluOperation → (to from : Register16) → Instr
+alu f to from = i.AluWord f (FromRegister (rm.Register to) from)
+
+abbrev pub alu_number : AluOperation → Register16 → ℕ → Instr
+alu_number f r k = i.AluWord f (Immediate (rm.Register r) k)
+
+abbrev pub push : Register16 → Instr
+push r = i.Push (rm.Register r)
+
+abbrev pub pop : Register16 → Instr
+pop r = i.Pop (rm.Register r)
+
+-- ---- lists of them
+
+-- a value of this width in the accumulator
+abbrev pub narrow : Width → List Instr
+narrow widths.Byte = clear_high ∷ []
+narrow widths.Word = []
+
+abbrev pub then_narrow : Width → Instr → List Instr
+then_narrow width n = n ∷ narrow width
+
+-- a byte that was read into CL
+abbrev pub narrow_right : Width → List Instr
+narrow_right widths.Byte = clear_byte Ch ∷ []
+narrow_right widths.Word = []
+
+abbrev pub spread : Instr
+spread = i.AluByte Sbb (FromRegister (rm.Register Al) Al)
+
+abbrev pub inverted : Instr
+inverted = i.UnaryByte changes.Not (rm.Register Al)
+
+abbrev pub shift_word : ShiftOperation → Instr
+shift_word f = i.ShiftWord f (rm.Register Ax) counts.Cl
+
+abbrev pub shift_byte : ShiftOperation → Instr
+shift_byte f = i.ShiftByte f (rm.Register Al) counts.Cl
+
+-- AL is 0FFH where the carry is set, else 0; or the other way round
+abbrev pub from_carry : List Instr
+from_carry = spread ∷ clear_high ∷ []
+
+abbrev pub from_no_carry : List Instr
+from_no_carry = spread ∷ inverted ∷ clear_high ∷ []
+
+-- an operator on AX and CX
+abbrev pub core : BinaryOperation → Width → List Instr
+core binary.Multiply width = then_narrow width (i.MultiplyWord Unsigned (rm.Register Cx))
+core binary.Divide width = load_number Dx 0 ∷ i.DivideWord Unsigned (rm.Register Cx) ∷ []
+core binary.Modulo width = load_number Dx 0 ∷ i.DivideWord Unsigned (rm.Register Cx) ∷ copy Ax Dx ∷ []
+core binary.Add width = then_narrow width (alu Add Ax Cx)
+core binary.Subtract width = then_narrow width (alu Sub Ax Cx)
+core binary.Equal width = alu Sub Ax Cx ∷ alu_number Cmp Ax 1 ∷ from_carry
+core binary.NotEqual width = alu Sub Ax Cx ∷ alu_number Cmp Ax 1 ∷ from_no_carry
+core binary.Less width = alu Cmp Ax Cx ∷ from_carry
+core binary.LessEqual width = alu Cmp Cx Ax ∷ from_no_carry
+core binary.Greater width = alu Cmp Cx Ax ∷ from_carry
+core binary.GreaterEqual width = alu Cmp Ax Cx ∷ from_no_carry
+core binary.And width = alu And Ax Cx ∷ []
+core binary.Or width = alu Or Ax Cx ∷ []
+core binary.ExclusiveOr width = alu Xor Ax Cx ∷ []
+core binary.ShiftLeft width = then_narrow width (shift_word shifts.Shl)
+core binary.ShiftRight widths.Byte = clear_high ∷ shift_word shifts.Shr ∷ []
+core binary.ShiftRight widths.Word = shift_word shifts.Shr ∷ []
+core binary.RotateLeft widths.Byte = shift_byte shifts.Rol ∷ clear_high ∷ []
+core binary.RotateLeft widths.Word = shift_word shifts.Rol ∷ []
+core binary.RotateRight widths.Byte = shift_byte shifts.Ror ∷ clear_high ∷ []
+core binary.RotateRight widths.Word = shift_word shifts.Ror ∷ []
+
+-- the arithmetic of an operator that takes its right operand where it lies
+abbrev pub direct : BinaryOperation → AluOperation
+direct binary.Add = Add
+direct binary.Subtract = Sub
+direct binary.And = And
+direct binary.Or = Or
+direct _ = Xor
+
+-- a sum or a difference of bytes may leave a carry in the high byte
+abbrev pub narrow_sum : BinaryOperation → Width → List Instr
+narrow_sum binary.Add width = narrow width
+narrow_sum binary.Subtract width = narrow width
+narrow_sum _ width = []
+
+-- an operator on AX and a constant
+abbrev pub by_constant : BinaryOperation → Width → ℕ → List Instr
+by_constant o width k = if is_direct o then alu_number (direct o) Ax k ∷ narrow_sum o width else load_number Cx k ∷ core o width
+
+-- an operator on AX
+abbrev pub changed : UnaryOperation → Width → List Instr
+changed unary.Plus width = i.Nop ∷ []
+changed unary.Minus width = then_narrow width (i.UnaryWord changes.Neg (rm.Register Ax))
+changed unary.Not width = then_narrow width (i.UnaryWord changes.Not (rm.Register Ax))
+changed unary.Low width = clear_high ∷ []
+changed unary.High width = i.MoveByte (FromRegister (rm.Register Al) Ah) ∷ clear_high ∷ []
+changed unary.Double width = i.Nop ∷ []
+
+-- the left operand comes from the stack
+abbrev pub left_from_stack : List Instr
+left_from_stack = copy Cx Ax ∷ pop Ax ∷ []
+
+-- so many words go
+abbrev pub dropped : ℕ → Instr
+dropped n = if nat_eq n 0 then i.Nop else if nat_eq n 1 then pop Cx else alu_number Add Sp (2 * n % 65536)
+
+-- ---- memory and ports
+
+abbrev pub spot : Option Base → Segment → Spot
+spot base segment = record { segment = segment; base = base }
+
+-- a register of this width and a place
+abbrev pub access : Use → (half : Register8) (whole : Register16) → Width → Option Base → Segment → Open
+access f half whole widths.Byte base segment = opens.Byte f half (spot base segment)
+access f half whole widths.Word base segment = opens.Word f whole (spot base segment)
+
+abbrev pub loads : Width → Option Base → Segment → Open
+loads = access Load Al Ax
+
+abbrev pub loads_right : Width → Segment → Open
+loads_right width = access Load Cl Cx width None
+
+abbrev pub stores : Width → Option Base → Segment → Open
+stores = access Store Al Ax
+
+abbrev pub segment_of : Place → Segment
+segment_of (place.Ram k x) = segments.Ds
+segment_of (place.Screen x) = segments.Es
+
+-- an instruction on a place: an object's offset is added when the parts are placed
+abbrev pub on_place : (Segment → Open) → Place → Step
+on_place x (place.Ram k n) = Refer (x segments.Ds) n Offset k
+on_place x (place.Screen n) = Plain (closed (x segments.Es) ((screen_begins + n) % 65536))
+
+-- a word of the context's own, so many under the top
+abbrev pub own_word : ℕ → Memory
+own_word n = record { segment = segments.Ss; address = Based bases.Bp (2 * n % 65536) }
+
+abbrev pub sent : Width → (port : ℕ) → List Instr
+sent width port = if nat_le 256 port then load_number Dx port ∷ i.Out width ports.Dx ∷ [] else i.Out width (ports.Fixed port) ∷ []
+
+abbrev pub received : Width → (port : ℕ) → List Instr
+received width port = if nat_le 256 port then load_number Dx port ∷ then_narrow width (i.In width ports.Dx) else then_narrow width (i.In width (ports.Fixed port))
+
+-- ---- steps
+
+abbrev pub plain : List Instr → List Step
+plain ns = map Plain ns
+
+-- an operator on AX and what is read at a place
+abbrev pub by_read : BinaryOperation → Width → (read : Width) → Place → List Step
+by_read o width widths.Byte x = on_place (loads_right widths.Byte) x ∷ plain (narrow_right widths.Byte ++ core o width)
+by_read o width widths.Word x =
+    if is_direct o then on_place (λ s. opens.Word (Operate (direct o)) Ax (spot None s)) x ∷ plain (narrow_sum o width) else on_place (loads_right widths.Word) x ∷ plain (core o width)
+
+-- after a comparison: the relation does not hold
+abbrev pub fails : Relation → Condition
+fails relation.Equal = conditions.NotEqual
+fails relation.NotEqual = conditions.Equal
+fails relation.Less = conditions.NotBelow
+fails relation.LessEqual = conditions.Above
+fails relation.Greater = conditions.BelowOrEqual
+fails relation.GreaterEqual = conditions.Below
+
+-- a jump to a step unless a test holds
+abbrev pub unless : Test → (target : ℕ) → List Step
+unless test.Odd t = Plain (i.TestByte (rm.Register Al) (masks.Immediate 1)) ∷ GotoIf conditions.Equal t ∷ []
+unless (test.Constant o k) t = Plain (alu_number Cmp Ax k) ∷ GotoIf (fails o) t ∷ []
+unless (test.Plain o widths.Byte x) t = on_place (loads_right widths.Byte) x ∷ Plain (clear_byte Ch) ∷ Plain (alu Cmp Ax Cx) ∷ GotoIf (fails o) t ∷ []
+unless (test.Plain o widths.Word x) t = on_place (λ s. opens.Word (Operate Cmp) Ax (spot None s)) x ∷ GotoIf (fails o) t ∷ []
+unless (test.Top o) t = Plain (pop Cx) ∷ Plain (alu Cmp Cx Ax) ∷ GotoIf (fails o) t ∷ []
+
+-- ---- registers that an interrupt procedure saves
+
+abbrev pub with_register : Bool → Register16 → List Register16 → List Register16
+with_register true r rs = r ∷ rs
+with_register false r rs = rs
+
+abbrev pub registers_of : Registers → List Register16
+registers_of s = with_register s.accumulator Ax (with_register s.right Cx (with_register s.high Dx (with_register s.address Bx (with_register s.frame Bp []))))
+
+abbrev pub saved : List Register16 → List Instr
+saved rs = map push rs
+
+-- the last one comes back first
+abbrev pub given_back : List Register16 → List Instr
+given_back [] = []
+given_back (r ∷ rs) = given_back rs ++ pop r ∷ []
+
+-- ---- the table
+
+-- The step at which each row of the routine begins, by its index; the part of each procedure; the registers that the routine saves.
+module _ (first : ℕ → ℕ) (part : ℕ → ℕ) (saves : Registers) where
+  -- an instruction's row, where the index behind it is this
+  abbrev pub row : (next : ℕ) → Instruction → List Step
+  row p (op.Constant k) = Plain (load_number Ax k) ∷ []
+  row p (op.Locate x) = on_place (λ s. opens.Number Ax) x ∷ []
+  row p (op.LocateAt x) = on_place (λ s. opens.OperateAx Add) x ∷ []
+  row p (op.Load width x) = on_place (loads width None) x ∷ plain (narrow width)
+  row p (op.LoadAt width x) = Plain (copy Bx Ax) ∷ on_place (loads width (Some bases.Bx)) x ∷ plain (narrow width)
+  row p (op.LoadThere width) = Plain (copy Bx Ax) ∷ Plain (closed (loads width (Some bases.Bx) segments.Ds) 0) ∷ plain (narrow width)
+  row p op.Push = Plain (push Ax) ∷ []
+  row p (op.Pick n) = Plain (copy Bp Sp) ∷ Plain (i.MoveWord (FromMemory Ax (own_word n))) ∷ []
+  row p (op.Drop n) = Plain (dropped n) ∷ []
+  row p (op.Unary o width) = plain (changed o width)
+  row p (op.Binary o width) = plain (left_from_stack ++ core o width)
+  row p (op.BinaryConstant o width k) = plain (by_constant o width k)
+  row p (op.BinaryPlain o width read x) = by_read o width read x
+  row p (op.Store width x) = on_place (stores width None) x ∷ []
+  row p (op.StoreAt width x) = Plain (copy Bx Ax) ∷ Plain (pop Ax) ∷ on_place (stores width (Some bases.Bx)) x ∷ []
+  row p (op.StoreThere width) = Plain (copy Bx Ax) ∷ Plain (pop Ax) ∷ Plain (closed (stores width (Some bases.Bx) segments.Ds) 0) ∷ []
+  row p (op.Send width) = plain (copy Dx Ax ∷ pop Ax ∷ i.Out width ports.Dx ∷ [])
+  row p (op.SendTo width port) = plain (sent width port)
+  row p (op.Receive width) = plain (copy Dx Ax ∷ then_narrow width (i.In width ports.Dx))
+  row p (op.ReceiveFrom width port) = plain (received width port)
+  row p (op.Ahead n) = Goto (first (p + n)) ∷ []
+  row p (op.AheadUnless t n) = unless t (first (p + n))
+  row p (op.Back n) = Goto (first (p - n)) ∷ []
+  row p (op.BackUnless t n) = unless t (first (p - n))
+  row p (op.Switch n) =
+      Plain (alu_number Cmp Ax (n % 65536)) ∷ GotoIf conditions.NotBelow (first (p + n)) ∷ Plain (copy Bx Ax) ∷ Plain (i.ShiftWord shifts.Shl (rm.Register Bx) counts.One)
+      ∷ AtStep (opens.JumpTo (spot (Some bases.Bx) segments.Cs)) (first p) ∷ []
+  row p (op.Case n) = Word (first (p + n)) ∷ []
+  row p (op.Invoke q) = Refer opens.Call 0 Near (part q) ∷ []
+  row p op.Leave = Plain i.Return ∷ []
+  row p op.Enable = Plain i.EnableInterrupts ∷ Plain i.Nop ∷ []
+  row p op.Disable = Plain i.DisableInterrupts ∷ []
+  row p op.Halt = Plain i.EnableInterrupts ∷ Plain i.Halt ∷ []
+  row p op.Finish = plain (given_back (registers_of saves) ++ i.InterruptReturn ∷ [])
+
+  -- the rows of instructions, the first of which has this index
+  abbrev pub rows : ℕ → List Instruction → List Step
+  rows k [] = []
+  rows k (n ∷ ns) = row (k + 1) n ++ rows (k + 1) ns
+
+-- the number of steps of an instruction in a routine that saves these registers
+abbrev pub steps_in : Registers → Instruction → ℕ
+steps_in saves n = length (row (λ k. 0) (λ q. 0) saves 0 n)
+
+-- the step at which the row of an index begins, behind the pushes of what is saved
+abbrev pub first_of : Registers → List Instruction → ℕ → ℕ
+first_of saves code k = length (registers_of saves) + sum (map (steps_in saves) (take k code))
+
+-- a routine: it saves registers, and does what its instructions say
+abbrev pub routine : (part : ℕ → ℕ) → Registers → List Instruction → List Step
+routine part saves code = plain (saved (registers_of saves)) ++ rows (first_of saves code) part saves 0 code

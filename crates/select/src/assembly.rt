@@ -1,0 +1,261 @@
+//! From steps to the bytes of a part.
+
+ghost use Rattle.std.specs.Prelude.{◌≡◌, ◌<◌, ◌≤◌, ◌+◌, ◌%◌, ◌++◌, ◌∷◌, [], ℕ, OnOk, IfOk, IsOkUnless, length, map, slice_index};
+ghost use Rattle.i86_code.specs.Forms.{word_bytes};
+ghost use Rattle.i86_code.specs.Instructions.{Spells};
+ghost use Rattle.i86_code.specs.Writing.{bytes_of};
+ghost use Rattle.i86_code.specs.Open.{front_of, IsOpen};
+ghost use Rattle.select.specs.Sizes.{start, AreSettled};
+ghost use Rattle.select.specs.Parts.{target_of, extent_of, AreSpelt, IsPart, fixup};
+ghost use Rattle.select.specs.Inner.Assembly.{AreSteps, jump_bytes, branch_bytes, step_bytes, step_fixups, IsCoded};
+
+use crate::part::{Entry, Fixup, Kind, Part, Step};
+use crate::sizes::{Extent, settled};
+use arrayvec::ArrayVec;
+use i86_code::{encode, encode_open};
+use i86_table::{Condition, Instr, Open};
+use std::alloc::Global;
+use word86::Fault;
+
+fn target_of(step: Step) -> usize
+    ensures { result ≡ target_of step }
+{
+    match step {
+        Step::Plain(_) | Step::Refer { .. } => 0,
+        Step::AtStep { target, .. }
+        | Step::Word { target }
+        | Step::Goto { target }
+        | Step::GotoIf { target, .. } => target,
+    }
+}
+
+// The bytes of an instruction.
+fn coded(instruction: Instr) -> ArrayVec<u8, 8>
+    ensures bytes { result.items ≡ bytes_of instruction }
+    ensures coded { Spells (bytes_of instruction) instruction }
+{
+    encode(&instruction)
+}
+
+fn size_of_instruction(instruction: Instr) -> u8
+    ensures { result ≡ length (bytes_of instruction) }
+{
+    coded(instruction).len() as u8
+}
+
+fn size_of_open(instruction: Open) -> u8
+    ensures { result ≡ length (front_of instruction) + 2 }
+{
+    encode_open(instruction, 0).len() as u8
+}
+
+fn extent_of(step: Step) -> Extent
+    ensures { result ≡ extent_of step }
+{
+    match step {
+        Step::Plain(instruction) => Extent::Fixed(size_of_instruction(instruction)),
+        Step::Refer { instruction, .. } | Step::AtStep { instruction, .. } => {
+            Extent::Fixed(size_of_open(instruction))
+        }
+        Step::Word { .. } => Extent::Fixed(2),
+        Step::Goto { target } => Extent::Jump { target, long: 3 },
+        Step::GotoIf { target, .. } => Extent::Jump { target, long: 5 },
+    }
+}
+
+// Where each step begins, and where the last one ends, modulo 65,536.
+fn places_of(alloc: Global, sizes: &[u8]) -> Result<Vec<u16>, Fault>
+    ensures places { IfOk result (λ p. (k : ℕ) → k ≤ length sizes.now → slice_index p.items k ≡ start sizes.now k % 65536) }
+    ensures memory { IsOkUnless result Fault.Memory }
+{
+    let mut places = Vec::with_capacity(alloc, sizes.len() + 1)?;
+    let mut place = 0u16;
+    for size in sizes {
+        places.push(place)?;
+        place = place.wrapping_add(u16::from(*size));
+    }
+    places.push(place)?;
+    Ok(places)
+}
+
+// The number at an index of a list, or 0 behind its end.
+fn number_at(numbers: &[u16], index: usize) -> u16
+    ensures { result ≡ slice_index numbers.now index }
+{
+    match numbers.get(index) {
+        Some(number) => *number,
+        None => 0,
+    }
+}
+
+fn write(code: &mut Vec<u8>, instruction: Instr) -> Result<(), Fault>
+    ensures bytes { OnOk result (code.new.items ≡ code.old.items ++ bytes_of instruction) }
+    ensures coded { Spells (bytes_of instruction) instruction }
+    ensures memory { IsOkUnless result Fault.Memory }
+{
+    Ok(code.extend_from_slice(coded(instruction).as_slice())?)
+}
+
+// An instruction with a number at its end, to which something is added.
+fn write_open(
+    code: &mut Vec<u8>,
+    fixups: &mut Vec<Fixup>,
+    instruction: Open,
+    number: u16,
+    kind: Kind,
+    name: usize,
+) -> Result<(), Fault>
+    ensures bytes { OnOk result (code.new.items ≡ code.old.items ++ (front_of instruction ++ word_bytes number)) }
+    ensures fixups { OnOk result (fixups.new.items ≡ fixups.old.items ++ (fixup (length code.old.items + length (front_of instruction)) kind name ∷ [])) }
+    ensures coded { OnOk result (IsOpen instruction) }
+    ensures memory { IsOkUnless result Fault.Memory }
+{
+    let bytes = encode_open(instruction, number);
+    code.extend_from_slice(bytes.as_slice())?;
+    fixups.push(Fixup {
+        place: code.len() - 2,
+        kind,
+        name,
+    })?;
+    Ok(())
+}
+
+// A word to which the place of a part is added.
+fn write_word(
+    code: &mut Vec<u8>,
+    fixups: &mut Vec<Fixup>,
+    number: u16,
+    name: usize,
+) -> Result<(), Fault>
+    ensures bytes { OnOk result (code.new.items ≡ code.old.items ++ word_bytes number) }
+    ensures fixups { OnOk result (fixups.new.items ≡ fixups.old.items ++ (fixup (length code.old.items) Kind.Case name ∷ [])) }
+    ensures memory { IsOkUnless result Fault.Memory }
+{
+    let place = code.len();
+    code.push((number % 256) as u8)?;
+    code.push((number / 256) as u8)?;
+    fixups.push(Fixup {
+        place,
+        kind: Kind::Case,
+        name,
+    })?;
+    Ok(())
+}
+
+fn write_jump(code: &mut Vec<u8>, size: u8, far: u16) -> Result<(), Fault>
+    ensures bytes { OnOk result (code.new.items ≡ code.old.items ++ jump_bytes size far) }
+    ensures memory { IsOkUnless result Fault.Memory }
+{
+    if size == 2 {
+        write(code, Instr::JumpShort((far % 256) as u8))
+    } else {
+        write(code, Instr::Jump(far))
+    }
+}
+
+// A long jump where a condition holds is the short one where it does not, over a long one.
+fn write_branch(code: &mut Vec<u8>, condition: Condition, size: u8, far: u16) -> Result<(), Fault>
+    ensures bytes { OnOk result (code.new.items ≡ code.old.items ++ branch_bytes condition size far) }
+    ensures memory { IsOkUnless result Fault.Memory }
+{
+    if size == 2 {
+        write(code, Instr::JumpIf(condition, (far % 256) as u8))
+    } else {
+        write(code, Instr::JumpIf(condition.inverse(), 3))?;
+        write(code, Instr::Jump(far))
+    }
+}
+
+// One more step, whose target is at one place, and which ends at another.
+fn write_step(
+    code: &mut Vec<u8>,
+    fixups: &mut Vec<Fixup>,
+    own: usize,
+    step: Step,
+    size: u8,
+    there: u16,
+    to: u16,
+) -> Result<(), Fault>
+    ensures bytes { OnOk result (code.new.items ≡ code.old.items ++ step_bytes size there to step) }
+    ensures fixups { OnOk result (fixups.new.items ≡ fixups.old.items ++ step_fixups own (length code.old.items) step) }
+    ensures coded { OnOk result (IsCoded step) }
+    ensures memory { IsOkUnless result Fault.Memory }
+{
+    let far = to.wrapping_sub(there);
+    match step {
+        Step::Plain(instruction) => write(code, instruction),
+        Step::Refer {
+            instruction,
+            number,
+            kind,
+            name,
+        } => write_open(code, fixups, instruction, number, kind, name),
+        Step::AtStep { instruction, .. } => {
+            write_open(code, fixups, instruction, to, Kind::Case, own)
+        }
+        Step::Word { .. } => write_word(code, fixups, to, own),
+        Step::Goto { .. } => write_jump(code, size, far),
+        Step::GotoIf { condition, .. } => write_branch(code, condition, size, far),
+    }
+}
+
+// All steps of a part.
+fn write_steps(
+    alloc: Global,
+    own: usize,
+    entry: Entry,
+    steps: &[Step],
+    sizes: &[u8],
+    places: &[u16],
+) -> Result<Part, Fault>
+    requires sizes { AreSettled (map extent_of steps.now) sizes.now }
+    requires steps { AreSteps steps.now }
+    requires places { (k : ℕ) → k ≤ length sizes.now → slice_index places.now k ≡ start sizes.now k % 65536 }
+    ensures spelt { IfOk result (λ p. AreSpelt own (start sizes.now) 0 steps.now p.bytes.items p.fixups.items) }
+    ensures entry { IfOk result (λ p. p.entry ≡ entry) }
+    ensures memory { IsOkUnless result Fault.Memory }
+{
+    let mut code = Vec::new(alloc);
+    let mut fixups = Vec::new(alloc);
+    for (k, step) in steps.iter().enumerate() {
+        let to = number_at(places, target_of(*step));
+        let there = number_at(places, k + 1);
+        write_step(&mut code, &mut fixups, own, *step, sizes[k], there, to)?;
+    }
+    Ok(Part {
+        entry,
+        bytes: code,
+        fixups,
+    })
+}
+
+// How long each step is, and which of them are jumps.
+fn extents_of(alloc: Global, steps: &[Step]) -> Result<Vec<Extent>, Fault>
+    ensures extents { IfOk result (λ xs. xs.items ≡ map extent_of steps.now) }
+    ensures memory { IsOkUnless result Fault.Memory }
+{
+    let mut extents = Vec::with_capacity(alloc, steps.len())?;
+    for step in steps {
+        extents.push(extent_of(*step))?;
+    }
+    Ok(extents)
+}
+
+/// The part of this number: its bytes spell the steps, and each jump is short exactly where its target would be within -128 to 127
+/// if that jump alone were short. All are short at first, and made long until nothing changes. `Memory` is its one refusal.
+pub(crate) fn assemble(
+    alloc: Global,
+    own: usize,
+    entry: Entry,
+    steps: &[Step],
+) -> Result<Part, Fault>
+    requires { AreSteps steps.now }
+    ensures part { IfOk result (λ p. IsPart own steps.now p.bytes.items p.fixups.items) }
+    ensures entry { IfOk result (λ p. p.entry ≡ entry) }
+    ensures memory { IsOkUnless result Fault.Memory }
+{
+    let extents = extents_of(alloc, steps)?;
+    let sizes = settled(alloc, &extents)?;
+    let places = places_of(alloc, &sizes)?;
+    write_steps(alloc, own, entry, steps, &sizes, &places)
+}

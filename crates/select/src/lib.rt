@@ -1,0 +1,10 @@
+//! The instructions of a program's parts, as bytes with words that are filled in when the parts are placed.
+#![tactic(auto)]
+
+mod assembly;
+mod laws;
+mod part;
+mod sizes;
+
+pub use laws::instructions_follow_code;
+pub use part::{Entry, Fixup, Kind, Part, Step};
