@@ -1,24 +1,15 @@
-//! The accesses of a program's steps, and where a reference's bytes lie.
+//! Where a reference's bytes lie.
 
 ghost use Rattle.std.specs.Prelude.{◌≡◌, Some, slice_index, option_map};
-ghost use Rattle.plm_type.specs.Places.{bytes, covers, held, placed, anchored};
+ghost use Rattle.word86.specs.Places.{bytes, covers, held, where_of};
+ghost use Rattle.plm_type.specs.Places.{placed, anchored};
 ghost use Rattle.plm_type.specs.Next.{address_at};
-ghost use Rattle.plm_type.specs.View.{where_of};
 ghost use Rattle.plm_meaning.specs.Context.{origin_of};
 ghost use Rattle.plm_meaning.specs.Inner.Redex.{sizes_in};
 
 use plm_decl::Object;
 use plm_type::Place;
 use word86::Width;
-
-/// One access: of a variable, of the screen, or of a port; a write has its value.
-#[derive(Clone, Copy)]
-pub enum Access {
-    Read(Width, Place),
-    Write(Width, Place, u16),
-    Input(Width, u16),
-    Output(Width, u16, u16),
-}
 
 /// Where a reference's bytes begin, once its base is read.
 #[derive(Clone, Copy)]

@@ -2,9 +2,10 @@
 
 ghost use Rattle.std.specs.Prelude.{◌≡◌, map, Some, option_map, slice_get, slice_index};
 ghost use Rattle.plm_type.specs.Next.{parameters_of, body_of, address_at};
+ghost use Rattle.word86.specs.Places.{where_of};
 ghost use Rattle.plm_type.specs.Places.{placed, anchored};
 ghost use Rattle.plm_type.specs.Programs.{main_tree, handler_tree};
-ghost use Rattle.plm_type.specs.View.{where_of, scalar_of, statements_of};
+ghost use Rattle.plm_type.specs.View.{scalar_of, statements_of};
 ghost use Rattle.plm_meaning.specs.Context.{origin_of};
 ghost use Rattle.plm_meaning.specs.Around.{names_of};
 ghost use Rattle.plm_meaning.specs.Inner.Redex.{offsets_of, sizes_of, sizes_in, procedures_in};

@@ -2,22 +2,23 @@
 //! stands in its place afterwards.
 
 ghost use Rattle.std.specs.Prelude.{◌≡◌, ℕ, List, ◌+◌, ◌<◌, Bool, if◌then◌else◌, nat_lt, Some, None, map, slice_get, drop, length};
+ghost use Rattle.word86.specs.Places.{where_of};
 ghost use Rattle.word86.specs.Access.{Write, Access as Accessed, values};
 ghost use Rattle.word86.specs.Action.{Touch, Over, map_action, Silent as Quiet};
 ghost use Rattle.word86.specs.Arithmetic.{low};
 ghost use Rattle.plm_type.specs.Rest.{Expression as Tree, Passing as Stored, Refer, NoSubscripts, Round, While, Then, End, Stepping as Steps, Procedure as Blocks, Main, Handler};
 ghost use Rattle.plm_type.specs.Next.{is_odd, operated, next, next_case, next_passing, next_statements, behind, rounds_of, step_of, parameters_of, body_of};
-ghost use Rattle.plm_type.specs.View.{where_of, scalar_of, expression_of, statements_of, loop_of, procedures_of};
+ghost use Rattle.plm_type.specs.View.{scalar_of, expression_of, statements_of, loop_of, procedures_of};
 ghost use Rattle.plm_meaning.specs.Context.{Part, Expr, Todo, purposed, origin_of, part_of, phase_of, redex_part, todo_in, todo_of};
 ghost use Rattle.plm_meaning.specs.Inner.Context.{IsSettled};
 ghost use Rattle.plm_meaning.specs.Inner.Redex.{offsets_of, sizes_of, procedures_in, next_part, stored, passed as passed_part, after_part, action_of, context_action, value_in, IsStep, SaysEnd, HasHalted, FitsIn};
 
-use crate::access::{Access, Origin};
+use crate::access::Origin;
 use crate::around::Surroundings;
 use crate::context::{Context, Destination, Focus, Later, Phase, Purpose, Redex};
 use plm_type::{Expression, Line, Loop, Place, Scalar, Statement};
 use std::mem;
-use word86::Width;
+use word86::{Access, Width};
 
 /// What goes on with the answer of an access.
 #[derive(Clone, Copy)]

@@ -2,19 +2,18 @@
 
 ghost use Rattle.std.specs.Prelude.{◌≡◌, ◌%◌, ◌<◌, slice_index, slice_set};
 ghost use Rattle.word86.specs.Access.{Read, Write, values};
-ghost use Rattle.plm_type.specs.View.{where_of};
+ghost use Rattle.word86.specs.Places.{where_of, access_of};
 ghost use Rattle.ppi_kbd.specs.Chips.{ChipState, value as port_value, reading, writing};
 ghost use Rattle.ppi_kbd.specs.Ports.{Shows};
 ghost use Rattle.ppi_kbd.specs.BoardChips.{board_chips};
 ghost use Rattle.plm_meaning.specs.Store.{value_at, with_value, screen_label, input_label, output_label, touch};
 ghost use Rattle.plm_meaning.specs.Shown.{store_of, labels_of};
 ghost use Rattle.plm_meaning.specs.Inner.Shown.{Leaves};
-ghost use Rattle.plm_meaning.specs.Inner.Redex.{access_of, Fits};
+ghost use Rattle.plm_meaning.specs.Inner.Redex.{Fits};
 
-use crate::access::Access;
 use plm_type::Place;
 use ppi_kbd::Ports;
-use word86::{Label, Width};
+use word86::{Access, Label, Width};
 
 /// The bytes of each RAM object, those of the screen, and the chips.
 #[derive(Drop)]

@@ -1,9 +1,7 @@
 -- The Rust trees of a program as plain ones.
 use Rattle.std.specs.Prelude.{List, [], ◌∷◌, map}
 use Rattle.std.specs.Global.{Box}
-use Rattle.word86.specs.Access.{Where, In, Screen}
-use Rattle.plm_type.specs.declared.program.Place.{Place}
-use Rattle.plm_type.specs.declared.program.Place.TheVariants as place
+use Rattle.word86.specs.Places.{where_of}
 use Rattle.plm_type.specs.declared.program.Scalar as declared_scalar
 use Rattle.plm_type.specs.declared.program.Anchor as declared_anchor
 use Rattle.plm_type.specs.declared.program.Anchor.TheVariants as anchor
@@ -22,10 +20,6 @@ use Rattle.plm_type.specs.declared.program.Statement.TheVariants as statement
 use Rattle.plm_type.specs.declared.program.Loop as declared_loop
 use Rattle.plm_type.specs.declared.program.Procedure as declared_procedure
 use Rattle.plm_type.specs.Rest.{Anchor, InObject, OnScreen, Behind, Scalar, Expression, Constant, Plain, Variable, Location, Unary, Binary, Embedded, Input, Call, Expressions, NoMore, More, Reference, Refer, Subscripts, NoSubscripts, Subscript, Target, ToPlain, ToVariable, ToPort, Targets, Only, Also, Loop, Count, Statement, Empty, Assign, Evaluate, Return, ReturnValue, Enabling, Disabling, Halting, If, Block, While, Case, Iterate, Statements, End, Then, Procedure}
-
-abbrev pub where_of : Place → Where
-where_of (place.Ram k i) = In k i
-where_of (place.Screen i) = Screen i
 
 abbrev pub scalar_of : declared_scalar.Scalar → Scalar
 scalar_of x = record { width = x.width; place = where_of x.place }

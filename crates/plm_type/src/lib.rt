@@ -23,7 +23,8 @@ mod types;
 pub use checked::Program;
 pub use checking::check;
 pub use program::{
-    Anchor, Expression, Line, Loop, Operation, Place, Procedure, Reference, Scalar, Statement,
-    Subscript, Target,
+    Anchor, Expression, Line, Loop, Operation, Procedure, Reference, Scalar, Statement, Subscript,
+    Target,
 };
 pub use sharing::{Warning, warnings};
+pub use word86::Place;

@@ -1,22 +1,13 @@
 //! Statements and expressions whose types are known and whose names stand for places: what the meaning runs, and what is
 //! lowered to code.
 
-use word86::{BinaryOperation, UnaryOperation, Width};
+use word86::{BinaryOperation, Place, UnaryOperation, Width};
 
 /// A module, from 0, and a line of its text, from 1.
 #[derive(Debug, Clone, Copy, PartialEq, Eq)]
 pub struct Line {
     pub module: usize,
     pub line: u32,
-}
-
-/// Where a scalar's first byte lies.
-#[derive(Debug, Clone, Copy, PartialEq, Eq)]
-pub enum Place {
-    /// In a RAM object: its number, and the index of the byte in it.
-    Ram(usize, u16),
-    /// On the screen: how many bytes after 0B8000H.
-    Screen(u16),
 }
 
 /// A scalar that lies at a fixed place: a parameter, or an index.

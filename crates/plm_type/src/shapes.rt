@@ -2,14 +2,16 @@
 //! where that lies.
 
 ghost use Rattle.std.specs.Prelude.{◌≡◌, option_map};
+ghost use Rattle.word86.specs.Places.{where_of};
 ghost use Rattle.plm_decl.specs.Layout as layout;
 ghost use Rattle.plm_decl.specs.ResolvedView.{selector_of};
 ghost use Rattle.plm_type.specs.Shapes as spec;
 ghost use Rattle.plm_type.specs.View as view;
 
-use crate::program::{Anchor, Expression, Place, Reference, Scalar, Target};
+use crate::program::{Anchor, Expression, Reference, Scalar, Target};
 use crate::types::width_of;
 use plm_decl::{Form, Region, ScalarType, Selector, Variable};
+use word86::Place;
 
 /// What has a dimension wants one subscript, which may be missing in a part.
 fn subscripts_fit(part: bool, dimension: Option<u32>, count: usize) -> bool
@@ -139,7 +141,7 @@ fn capped(index: u64) -> u16
 
 /// Where a scalar lies that is not based.
 fn place_at(region: Region) -> Place
-    ensures { view.where_of result ≡ spec.where_at region }
+    ensures { where_of result ≡ spec.where_at region }
 {
     match region {
         Region::Ram(object, start) => Place::Ram(object, capped(start)),
@@ -149,7 +151,7 @@ fn place_at(region: Region) -> Place
 }
 
 fn base_place(base: Option<Variable>) -> Place
-    ensures { view.where_of result ≡ spec.base_place base }
+    ensures { where_of result ≡ spec.base_place base }
 {
     match base {
         Some(base) => place_at(base.region),
@@ -201,7 +203,7 @@ pub fn is_based(region: Region) -> bool
 
 /// A place that no subscript and no base moves.
 fn fixed_place(reference: &Reference) -> Option<Place>
-    ensures { option_map view.where_of result ≡ spec.fixed_place (view.reference_of reference.now) }
+    ensures { option_map where_of result ≡ spec.fixed_place (view.reference_of reference.now) }
 {
     if !reference.subscripts.is_empty() {
         return None;

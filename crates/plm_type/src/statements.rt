@@ -12,7 +12,7 @@ ghost use Rattle.plm_type.specs.View as view;
 
 use crate::applications::entry_of;
 use crate::expressions::first_place;
-use crate::program::{Expression, Loop, Place as StoragePlace, Scalar, Statement, Target};
+use crate::program::{Expression, Loop, Scalar, Statement, Target};
 use crate::references::{TypedTarget, may_be_assigned};
 use crate::shapes::{form_type, is_based, scalar};
 use crate::typer::Typer;
@@ -23,7 +23,7 @@ use plm_decl::found::Found;
 use plm_decl::{Binding, ScalarType, Statement as Resolved, Variable};
 use plm_syntax::Position;
 use std::alloc::AllocError;
-use word86::{Number, Width};
+use word86::{Number, Place, Width};
 
 /// What a statement stands in: main, or a procedure with the type of its value.
 #[derive(Clone, Copy)]
@@ -132,7 +132,7 @@ pub fn index_for(variable: Option<Variable>) -> Scalar
         Some(variable) => scalar(&variable),
         None => Scalar {
             width: Width::Word,
-            place: StoragePlace::Ram(0, 0),
+            place: Place::Ram(0, 0),
         },
     }
 }

@@ -3,7 +3,8 @@
 
 ghost use Rattle.std.specs.Prelude.{◌≡◌, true, IfOk, IsOkUnless};
 ghost use Rattle.plm_type.specs.Rest.{Assign, Only};
-ghost use Rattle.plm_type.specs.View.{where_of, expression_of, target_of, statement_of, chained};
+ghost use Rattle.word86.specs.Places.{where_of};
+ghost use Rattle.plm_type.specs.View.{expression_of, target_of, statement_of, chained};
 ghost use Rattle.plm86.specs.First.Forms.{is_sum};
 ghost use Rattle.plm86.specs.First.FormsView.{ObjectIs, PortIs, OperandIs, AddendIs, SumIs, StatementIs};
 ghost use Rattle.plm86.specs.First.Known.{SumIn};

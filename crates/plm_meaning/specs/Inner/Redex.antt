@@ -1,14 +1,13 @@
 -- The steps of the code as actions on parts.
 use Rattle.std.specs.Prelude.{◌≡◌, ℕ, ◌+◌, ◌<◌, List, [], ◌∷◌, map, drop, None, slice_get}
 use Rattle.word86.specs.Access.{Access, Read, Write, Input, Output, values}
+use Rattle.word86.specs.Places.{access_of}
 use Rattle.word86.specs.Action.{Action, Silent, Touch, Enable, Disable, Halt, Over, Bad, map_action}
 use Rattle.plm_type.specs.Rest.{There, Value, Passing, Refer, NoSubscripts, Assign, Round, Comparing, Adding, Ending, Statements, End, Then, Returned, Procedure}
 use Rattle.plm_type.specs.Next.{parameters_of, bound_of, returned, next_expression, next_statements}
-use Rattle.plm_type.specs.View.{where_of, scalar_of, target_of, targets_of, loop_of}
+use Rattle.plm_type.specs.View.{scalar_of, target_of, targets_of, loop_of}
 use Rattle.plm_type.specs.Programs.{procedures_of}
 use Rattle.plm_decl.specs.Placement as placed
-use Rattle.plm_meaning.specs.declared.access.Access as declared_access
-use Rattle.plm_meaning.specs.declared.access.Access.TheVariants as access
 use Rattle.plm_meaning.specs.declared.context.Destination.{Destination}
 use Rattle.plm_meaning.specs.declared.context.Destination.TheVariants as destination
 use Rattle.plm_meaning.specs.declared.context.Focus.{Focus}
@@ -24,12 +23,6 @@ use Rattle.plm_meaning.specs.declared.around.Surroundings.{Surroundings}
 use Rattle.plm_meaning.specs.declared.access.PlacedObjects.{PlacedObjects}
 use Rattle.plm_meaning.specs.Around.{names_of}
 use Rattle.plm_meaning.specs.Context.{Part, Expr, Todo, purposed, part_of, todo_in}
-
-abbrev pub access_of : declared_access.Access → Access
-access_of (access.Read width x) = Read width (where_of x)
-access_of (access.Write width x v) = Write width (where_of x) v
-access_of (access.Input width port) = Input width port
-access_of (access.Output width port v) = Output width port v
 
 -- where the program's objects lie, how many bytes they have, and what its procedures do
 abbrev pub offsets_of : Surroundings → List ℕ
