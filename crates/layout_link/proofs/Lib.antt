@@ -1,0 +1,12 @@
+pub mod Filling
+pub mod Standing
+pub mod Starts
+pub mod Whole
+pub mod Coded
+pub mod Tasking
+pub mod Placing
+pub mod Putting
+pub mod Heading
+pub mod Fitting
+pub mod Imaging
+pub mod Linking

@@ -1,0 +1,38 @@
+-- What is linked fits, and takes few turns.
+use Rattle.std.proofs.Common.{◌≡◌, ℕ, ◌+◌, ◌<◌, ◌≤◌, List, length, get_or, ap, subst, arith}
+use Rattle.plm_decl.specs.declared.names.Names.{Names}
+use Rattle.plm_decl.specs.Placement.{IsPlacement, sizes_of}
+use Rattle.select.specs.declared.part.Part.{Part}
+use Rattle.layout_link.specs.declared.tasks.Task.{Task}
+use Rattle.layout_link.specs.Tasks.{vector_tasks}
+use Rattle.layout_link.specs.Initial.{data_tasks, count_of}
+use Rattle.layout_link.specs.Linker.{offsets_in, initial_in, tasks_in}
+use Rattle.layout_link.specs.Inner.Head.{TasksFit, turns_of_tasks}
+use Rattle.layout_link.proofs.Placing.{below, is_placement, sum_sizes}
+use Rattle.layout_link.proofs.Heading.{fit_both}
+use Rattle.layout_link.proofs.Fitting.{vectors_fit, data_fit, few_turns, few_bytes}
+
+-- the same of three lists that are equal
+pub along : (P : List Part → List Task → List ℕ → Type 0) (ps ps' : List Part) (ts ts' : List Task) (bs bs' : List ℕ) → ps ≡ ps' → ts ≡ ts' → bs ≡ bs' → P ps ts bs → P ps' ts' bs'
+along P ps ps' ts ts' bs bs' p t b h = subst (λ x. P ps' ts' x) b (subst (λ x. P ps' x bs) t (subst (λ x. P x ts bs) p h))
+
+module _ (names : Names) where
+  pub room : (k : ℕ) → get_or (offsets_in names) k 0 + get_or (sizes_of names) k 0 ≤ 61440
+  room k = let b = below 2 (sizes_of names) k in let s = sum_sizes names.objects.items in let r = names.has_room in omega (arith, b, s, r)
+
+  pub placed_well : IsPlacement (offsets_in names) (sizes_of names)
+  placed_well = let s = sum_sizes names.objects.items in let r = names.has_room in is_placement (sizes_of names) (omega (arith, s, r))
+
+  pub tasks_fit : (parts : List Part) (from : ℕ) → from + length (initial_in names) < 65536 → TasksFit from (tasks_in names parts)
+  tasks_fit parts from lt =
+      let os = names.objects.items in
+      let vs = names.variables.items in
+      fit_both from (vector_tasks parts 0 256) (data_tasks (offsets_in names) vs 0 0 0 os) (vectors_fit from parts 0 256 (omega arith))
+      (data_fit (offsets_in names) vs from 0 0 0 os (omega (arith, lt)) (λ k. let e : 0 + k ≡ k = omega arith in let p = ap (λ n. get_or (offsets_in names) n 0) e in let r = room k in omega (arith, p, r)))
+
+  pub turns_few : (parts : List Part) → (turns_of_tasks (tasks_in names parts) ≤ 2776 + count_of (offsets_in names) names.variables.items names.objects.items) × (turns_of_tasks (tasks_in names parts) ≤ 100000)
+  turns_few parts =
+      let t = few_turns (offsets_in names) names.variables.items parts names.objects.items in
+      let b = few_bytes (offsets_in names) names.variables.items names.objects.items in
+      let r = names.has_room in
+      (t, omega (arith, t, b, r))

@@ -1,0 +1,6 @@
+use Rattle.std.proofs.Common.{◌≡◌, ◌+◌, drop}
+use Rattle.layout_link.specs.Places.{total_of}
+use Rattle.layout_link.proofs.places.are_within.Given as goal
+
+abbrev pub invariant-loop-part : goal.invariant-loop-part
+invariant-loop-part l = l.fn.room + total_of (drop l.part-index l.parts) ≡ l.left + total_of l.parts

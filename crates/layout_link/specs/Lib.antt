@@ -1,0 +1,10 @@
+pub mod Image
+pub mod Objects
+pub mod Places
+pub mod Startup
+pub mod Tasks
+pub mod Initial
+pub mod Rom
+pub mod Stand
+pub mod Linker
+pub mod Inner

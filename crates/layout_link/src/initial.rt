@@ -1,0 +1,155 @@
+//! The bytes that the objects of a program have at start.
+
+ghost use Rattle.std.specs.Prelude.{◌≡◌, ◌+◌, ◌-◌, ◌<◌, ◌≤◌, ◌^◌, ◌++◌, ℕ, IfOk, OnOk, IsOkUnless, length, map, slice_get, slice_index};
+ghost use Rattle.layout_link.specs.Initial.{word, puts, is_copied, object_tasks, copied, copies_with, variable_address, datum_bytes, initial_bytes, first_bytes, data_tasks, copied_bytes};
+
+use crate::tasks::Task;
+use crate::words::number_at;
+use plm_decl::{Datum, Names, Object, Region};
+use std::alloc::Global;
+use word86::Fault;
+
+/// The address of the data segment, 0040H.
+const DATA: u16 = 0x400;
+
+/// The objects that are copied at most.
+const COPIES: usize = 840;
+
+/// Puts an address, modulo 65,536, low byte first.
+fn put_address(bytes: &mut Vec<u8>, address: u128) -> Result<(), Fault>
+    ensures bytes { OnOk result (bytes.new.items ≡ bytes.old.items ++ word address) }
+    ensures memory { IsOkUnless result Fault.Memory }
+{
+    bytes.push((address % 0x100) as u8)?;
+    bytes.push((address / 0x100 % 0x100) as u8)?;
+    Ok(())
+}
+
+/// Where a variable lies in the data segment, if the objects lie at these offsets.
+fn address_of(names: &Names, offsets: &[u16], variable: usize) -> u128
+    ensures address { result ≡ variable_address offsets.now names.now.variables.items (slice_get names.now.variables.items variable) }
+    ensures small { result < 2 ^ 65 }
+{
+    match names.variables.get(variable) {
+        None => 0,
+        Some(variable) => match variable.region {
+            Region::Ram(object, start) => {
+                u128::from(number_at(offsets, object)) + u128::from(start)
+            }
+            Region::Screen(_) | Region::Based(_) | Region::Nowhere => 0,
+        },
+    }
+}
+
+/// Puts the bytes of an initial value.
+fn put_datum(bytes: &mut Vec<u8>, names: &Names, offsets: &[u16], datum: Datum) -> Result<(), Fault>
+    ensures bytes { OnOk result (bytes.new.items ≡ bytes.old.items ++ datum_bytes offsets.now names.now.variables.items datum) }
+    ensures memory { IsOkUnless result Fault.Memory }
+{
+    match datum {
+        Datum::Byte(byte) => {
+            bytes.push(byte)?;
+            Ok(())
+        }
+        Datum::Word(word) => put_address(bytes, u128::from(word)),
+        Datum::Variable(variable, offset) => put_address(
+            bytes,
+            address_of(names, offsets, variable) + u128::from(offset),
+        ),
+        Datum::Constants(object) => put_address(bytes, u128::from(number_at(offsets, object))),
+    }
+}
+
+/// The initial bytes of an object, as many as it has room for.
+fn first_of(
+    alloc: Global,
+    names: &Names,
+    offsets: &[u16],
+    object: &Object,
+) -> Result<Vec<u8>, Fault>
+    ensures bytes { IfOk result (λ bytes. bytes.items ≡ first_bytes offsets.now names.now.variables.items object.now) }
+    ensures memory { IsOkUnless result Fault.Memory }
+{
+    let mut bytes = Vec::new(alloc);
+    for datum in &object.initial {
+        put_datum(&mut bytes, names, offsets, *datum)?;
+    }
+    bytes.truncate(object.size as usize);
+    Ok(bytes)
+}
+
+/// Puts bytes, one word after another.
+fn put(tasks: &mut Vec<Task>, to: u16, bytes: &[u8]) -> Result<(), Fault>
+    requires { to + length bytes.now < 65536 }
+    ensures tasks { OnOk result (tasks.new.items ≡ tasks.old.items ++ puts to bytes.now) }
+    ensures memory { IsOkUnless result Fault.Memory }
+{
+    let mut to = to;
+    let mut rest = bytes;
+    while rest.len() >= 2 {
+        let word = u16::from(rest[0]) + 256 * u16::from(rest[1]);
+        tasks.push(Task::Word { to, word })?;
+        to += 2;
+        rest = rest.split_at(2).1;
+    }
+    if !rest.is_empty() {
+        tasks.push(Task::Byte { to, byte: rest[0] })?;
+    }
+    Ok(())
+}
+
+/// Whether an object with so many bytes is copied, where so many are before it.
+fn is_copied(copies: usize, count: usize) -> bool
+    ensures { result ≡ is_copied copies count }
+{
+    copies < COPIES && count >= 5
+}
+
+/// One more object, with these bytes there. The answer is how many objects are copied with it.
+fn add(
+    tasks: &mut Vec<Task>,
+    bytes: &mut Vec<u8>,
+    copies: usize,
+    to: u16,
+    first: &[u8],
+) -> Result<usize, Fault>
+    requires { to + length first.now < 65536 }
+    ensures tasks { OnOk result (tasks.new.items ≡ tasks.old.items ++ object_tasks (length bytes.old.items) copies to first.now) }
+    ensures bytes { OnOk result (bytes.new.items ≡ bytes.old.items ++ copied copies first.now) }
+    ensures copies { IfOk result (λ n. n ≡ copies_with copies first.now) }
+    ensures memory { IsOkUnless result Fault.Memory }
+{
+    if !is_copied(copies, first.len()) {
+        put(tasks, to, first)?;
+        return Ok(copies);
+    }
+    tasks.push(Task::Copy {
+        at: bytes.len(),
+        to,
+        more: (first.len() - 1) as u16,
+    })?;
+    bytes.extend_from_slice(first)?;
+    Ok(copies + 1)
+}
+
+/// Adds what start-up does for the objects, which lie at these offsets; the answer is the bytes that it copies, one after another.
+pub(crate) fn initial(
+    alloc: Global,
+    names: &Names,
+    offsets: &[u16],
+    tasks: &mut Vec<Task>,
+) -> Result<Vec<u8>, Fault>
+    requires { (k : ℕ) → slice_index offsets.now k + slice_index (map (λ o. o.size) names.now.objects.items) k ≤ 61440 }
+    ensures tasks { OnOk result (tasks.new.items ≡ tasks.old.items ++ data_tasks offsets.now names.now.variables.items 0 0 0 names.now.objects.items) }
+    ensures bytes { IfOk result (λ bytes. bytes.items ≡ copied_bytes offsets.now names.now.variables.items 0 names.now.objects.items) }
+    ensures memory { IsOkUnless result Fault.Memory }
+{
+    let mut bytes = Vec::new(alloc);
+    let mut copies = 0;
+    for (k, object) in names.objects.iter().enumerate() {
+        let first = first_of(alloc, names, offsets, object)?;
+        let to = DATA + number_at(offsets, k);
+        copies = add(tasks, &mut bytes, copies, to, &first)?;
+    }
+    Ok(bytes)
+}

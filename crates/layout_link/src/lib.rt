@@ -1,0 +1,16 @@
+//! The image of a program: where its objects and its parts lie, and the bytes of its ROM.
+#![tactic(auto)]
+
+mod image;
+mod initial;
+mod linker;
+mod objects;
+mod places;
+mod rom;
+mod startup;
+mod tasks;
+mod words;
+
+pub use image::{Image, RomSize, Stack};
+pub use linker::link;
+pub use tasks::Task;
