@@ -1,6 +1,6 @@
 -- The code of an expression does what its rest does.
-use Rattle.std.proofs.Common.{◌≡◌, ℕ, zero, suc, ◌+◌, ◌*◌, ◌%◌, ◌<◌, ◌≤◌, Bool, true, false, cond, List, [], ◌∷◌, ◌++◌, length, drop, Option, Some, None, refl, sym, ap, ◌∙◌, subst, arith, slice_get, length-append}
-use Rattle.std.specs.Prelude.{if◌then◌else◌, nat_eq, nat_le}
+use Rattle.std.proofs.Common.{◌≡◌, ℕ, suc, ◌+◌, ◌*◌, ◌%◌, ◌<◌, ◌≤◌, Bool, true, false, cond, List, [], ◌∷◌, ◌++◌, length, drop, Option, Some, None, refl, sym, ap, ◌∙◌, subst, arith, slice_get, length-append}
+use Rattle.std.specs.Prelude.{nat_eq}
 use Rattle.std.proofs.lemmas.Nat.{mul-mod_second}
 use Rattle.word86.specs.declared.width.Width.{Width}
 use Rattle.word86.specs.declared.width.Width.TheVariants as widths
@@ -9,33 +9,30 @@ use Rattle.word86.specs.declared.operation.BinaryOperation.{BinaryOperation}
 use Rattle.word86.specs.declared.operation.BinaryOperation.TheVariants as binary
 use Rattle.word86.specs.declared.place.Place.{Place}
 use Rattle.word86.specs.declared.place.Place.TheVariants as places
-use Rattle.word86.specs.Access.{Access, Read, Write, Output, Where, In, Screen}
-use Rattle.word86.specs.Access as access
-use Rattle.word86.specs.Action.{Action, Silent, Touch, Bad, map_action}
+use Rattle.word86.specs.Access.{Read, Write, Where}
+use Rattle.word86.specs.Action.{Silent, map_action}
 use Rattle.word86.specs.Arithmetic.{low}
 use Rattle.word86.specs.Operators.{unary_value, binary_value}
 use Rattle.word86.specs.Places.{bytes, held}
-use Rattle.plm_type.specs.Rest.{Anchor, InObject, OnScreen, Behind, There, Scalar, Expression, Constant, Plain, Variable, Location, Unary, Binary, Embedded, Input, Call, Value, Passing, Running, Expressions, NoMore, More, Reference, Refer, Subscripts, NoSubscripts, Subscript, Target, ToPlain, ToVariable, ToPort, Targets, Only, Also, Statements, Procedure, Rest}
+use Rattle.plm_type.specs.Rest.{Anchor, InObject, OnScreen, Behind, There, Expression, Constant, Plain, Variable, Location, Unary, Binary, Embedded, Input, Call, Value, Passing, Running, Expressions, NoMore, More, Reference, Refer, Subscripts, NoSubscripts, Subscript, Target, ToVariable, Procedure, Rest}
 use Rattle.plm_type.specs.Places.{placed}
-use Rattle.plm_type.specs.Next.{value_of, and_value, values_of, address_at, operated, next_input, indexed, read_at, next_passing, next_call, next_variable, next_location, address_of, next_expressions, next_reference, next_expression, parameters_of, body_of}
+use Rattle.plm_type.specs.Next.{and_value, values_of, operated, read_at, next_variable, next_location, address_of, next_reference}
 use Rattle.icode.specs.declared.instruction.Instruction.{Instruction}
 use Rattle.icode.specs.declared.instruction.Instruction.TheVariants as op
 use Rattle.icode.specs.declared.code.Routine.{Routine}
 use Rattle.icode.specs.declared.code.Routine.TheVariants as routine
-use Rattle.icode.specs.declared.code.Word as word
 use Rattle.icode.specs.declared.code.Word.{Word}
 use Rattle.icode.specs.declared.code.Word.TheVariants.{Return}
 use Rattle.icode.specs.declared.code.Word.TheVariants as words
 use Rattle.icode.specs.Machine.{Context, At, run, loaded, stored, found, address, computed, with_value, value_in, dropped}
 use Rattle.icode.specs.Machine as machine
-use Rattle.lower.specs.Code.{Operand, Number, Name, Computed, operand_of, place_of, beside, operation, anchor_place, scaled, moved, from_base, based, reading, locating, writing, receiving, sending, passing, alone, count_of, call_code, expression_code, first_code, pushed_code, subscripts_code, further_code, target_code}
-use Rattle.lower.specs.Well.{Lies, ScalarLies, AllLie, AnchorLies, IsCall, IsExpression, AreExpressions, IsReference, AreSubscripts, IsTarget}
+use Rattle.lower.specs.Code.{Operand, Number, Name, Computed, operand_of, place_of, beside, operation, anchor_place, moved, from_base, based, reading, locating}
+use Rattle.lower.specs.Well.{Lies, AnchorLies, IsExpression}
 use Rattle.lower.proofs.Setting.{Setting}
 use Rattle.lower.proofs.Sim.{N, X, T, S, eased, then_, up, down, both, bad, touches}
-use Rattle.lower.proofs.Holes.{IsHole, AreHoles, IsReferenceHole, IsTargetHole, write_to, map_twice, in_unary, in_left, in_right, in_input, in_embedded, in_arguments, in_variable, in_location, in_embedded_target, in_first, in_others, in_subscript, acts, HasAt, has_front, has_back}
-use Rattle.lower.proofs.Bools.{none_some, to_le}
-use Rattle.lower.proofs.Memory.{bytes_some, IsFixed, found_plain, found_fixed, address_fixed}
-use Rattle.lower.proofs.Values.{low_small, values_small, unary_small, binary_small}
+use Rattle.lower.proofs.Holes.{IsHole, IsReferenceHole, IsTargetHole, write_to, in_right, in_variable, in_location, acts, HasAt, has_front, has_back}
+use Rattle.lower.proofs.Memory.{IsFixed, found_plain, found_fixed, address_fixed}
+use Rattle.lower.proofs.Values.{values_small, unary_small, binary_small}
 
 -- ---- operands
 

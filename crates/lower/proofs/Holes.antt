@@ -1,17 +1,17 @@
 -- Where in a rest the next part stands.
-use Rattle.std.proofs.Common.{◌≡◌, ℕ, suc, ◌+◌, ◌%◌, Bool, true, false, List, [], ◌∷◌, ◌++◌, length, Option, Some, None, refl, sym, ap, ◌∙◌, subst, arith, slice_get}
+use Rattle.std.proofs.Common.{◌≡◌, ℕ, ◌+◌, List, [], ◌∷◌, ◌++◌, length, Option, Some, None, refl, ap, ◌∙◌, subst, arith, slice_get}
 use Rattle.word86.specs.declared.width.Width.{Width}
 use Rattle.word86.specs.declared.operation.UnaryOperation.{UnaryOperation}
 use Rattle.word86.specs.declared.operation.BinaryOperation.{BinaryOperation}
-use Rattle.word86.specs.Access.{Access, Read, Write, Output, Where}
+use Rattle.word86.specs.Access.{Access, Write, Output, Where}
 use Rattle.word86.specs.Action.{Action, Silent, Touch, Enable, Disable, Halt, Over, Bad, map_action}
 use Rattle.word86.specs.Arithmetic.{low}
-use Rattle.plm_type.specs.Rest.{Anchor, Expression, Variable, Location, Unary, Binary, Embedded, Input, Call, Value, Running, Expressions, NoMore, More, Reference, Refer, Subscripts, Subscript, Target, ToPlain, ToVariable, ToPort, Targets, Only, Also, Loop, Count, Statement, Assign, Evaluate, ReturnValue, If, While, Case, Iterate, Comparing, Stepping, Statements, End, Then, Returned, Rest, Main, Handler}
+use Rattle.plm_type.specs.Rest.{Anchor, Expression, Variable, Location, Unary, Binary, Embedded, Input, Call, Value, Running, Expressions, More, Reference, Refer, Subscripts, Subscript, Target, ToPlain, ToVariable, ToPort, Targets, Only, Also, Loop, Assign, Evaluate, ReturnValue, If, While, Case, Iterate, Comparing, Stepping, Statements, End, Then, Returned, Rest, Main, Handler}
 use Rattle.plm_type.specs.Next.{value_of, and_value, values_of, returned, next_unary, next_binary, next_input, indexed, written_at, next_port, embedded_after, next_embedded, next_argument, next_call, next_running, assigned, next_assign, evaluated, next_return, next_if, next_while, next_case, next_iterate, next_comparing, next_stepping, address_of, place_of, next_variable, next_location, next_written, next_expression, next_expressions, next_reference, next_target, next_first, next_statements}
 use Rattle.icode.specs.declared.instruction.Instruction.{Instruction}
 use Rattle.icode.specs.declared.code.Routine.{Routine}
 use Rattle.icode.specs.declared.code.Word.{Word}
-use Rattle.icode.specs.Machine.{Context, At, run, run_at}
+use Rattle.icode.specs.Machine.{At, run, run_at}
 use Rattle.lower.proofs.Setting.{Setting}
 use Rattle.lower.proofs.Sim.{N, X}
 
@@ -99,24 +99,24 @@ module _ (x : Setting) where
 
     pub in_embedded_target : (v : ℕ) → IsTargetHole v (λ t. C (Embedded t (Value v))) (C (Value v))
     in_embedded_target v = record {
-        plain = λ w y. cx (Embedded (ToPlain w y) (Value v)) refl;
-        part = λ w r h.
+      plain = λ w y. cx (Embedded (ToPlain w y) (Value v)) refl;
+      part = λ w r h.
           let a = next_reference x.offsets x.sizes x.procedures r in
           cx (Embedded (ToVariable w r) (Value v)) refl
           ∙ ap (λ y. map_action C (map_action (embedded_after v) (next_written x.offsets x.sizes x.procedures w r y v a))) h
           ∙ ap (map_action C) (map_twice (embedded_after v) (λ q. Some (ToVariable w q)) a)
           ∙ map_twice C (λ q. Embedded (ToVariable w q) (Value v)) a;
-        written = λ w r a h.
+      written = λ w r a h.
           cx (Embedded (ToVariable w r) (Value v)) refl
           ∙ ap (λ y. map_action C (map_action (embedded_after v) (next_written x.offsets x.sizes x.procedures w r y v (next_reference x.offsets x.sizes x.procedures r)))) h
           ∙ embedded_written w v r (place_of x.offsets x.sizes x.procedures w r a);
-        port_part = λ w e h.
+      port_part = λ w e h.
           cx (Embedded (ToPort w e) (Value v)) refl
           ∙ ap (λ y. map_action C (map_action (embedded_after v) (next_port w y v (ex e)))) h
           ∙ ap (map_action C) (map_twice (embedded_after v) (λ q. Some (ToPort w q)) (ex e))
           ∙ map_twice C (λ q. Embedded (ToPort w q) (Value v)) (ex e);
-        port = λ w p. cx (Embedded (ToPort w (Value p)) (Value v)) refl
-      }
+      port = λ w p. cx (Embedded (ToPort w (Value p)) (Value v)) refl;
+    }
 
   module _ (C : Expressions → Rest) (cx : AreHoles C) where
     pub in_first : (es : Expressions) → IsHole (λ r. C (More r es))
@@ -174,51 +174,51 @@ module _ (x : Setting) where
 
     pub in_only : (v : ℕ) → IsTargetHole v (λ t. D (Then (Assign (Only t) (Value v)) later)) (D later)
     in_only v = record {
-        plain = λ w y. dx (Then (Assign (Only (ToPlain w y)) (Value v)) later) refl;
-        part = λ w r h.
+      plain = λ w y. dx (Then (Assign (Only (ToPlain w y)) (Value v)) later) refl;
+      part = λ w r h.
           let a = next_reference x.offsets x.sizes x.procedures r in
           let t = Only (ToVariable w r) in
           dx (Then (Assign t (Value v)) later) refl
           ∙ ap (λ y. map_action D (map_action (assigned t v later) (next_written x.offsets x.sizes x.procedures w r y v a))) h
           ∙ ap (map_action D) (map_twice (assigned t v later) (λ q. Some (ToVariable w q)) a)
           ∙ map_twice D (λ q. Then (Assign (Only (ToVariable w q)) (Value v)) later) a;
-        written = λ w r a h.
+      written = λ w r a h.
           let t = Only (ToVariable w r) in
           dx (Then (Assign t (Value v)) later) refl
           ∙ ap (λ y. map_action D (map_action (assigned t v later) (next_written x.offsets x.sizes x.procedures w r y v (next_reference x.offsets x.sizes x.procedures r)))) h
           ∙ only_written w v (ToVariable w r) r (place_of x.offsets x.sizes x.procedures w r a);
-        port_part = λ w e h.
+      port_part = λ w e h.
           let t = Only (ToPort w e) in
           dx (Then (Assign t (Value v)) later) refl
           ∙ ap (λ y. map_action D (map_action (assigned t v later) (next_port w y v (ex e)))) h
           ∙ ap (map_action D) (map_twice (assigned t v later) (λ q. Some (ToPort w q)) (ex e))
           ∙ map_twice D (λ q. Then (Assign (Only (ToPort w q)) (Value v)) later) (ex e);
-        port = λ w p. dx (Then (Assign (Only (ToPort w (Value p))) (Value v)) later) refl
-      }
+      port = λ w p. dx (Then (Assign (Only (ToPort w (Value p))) (Value v)) later) refl;
+    }
 
     pub in_also : (v : ℕ) (ts : Targets) → IsTargetHole v (λ t. D (Then (Assign (Also t ts) (Value v)) later)) (D (Then (Assign ts (Value v)) later))
     in_also v ts = record {
-        plain = λ w y. dx (Then (Assign (Also (ToPlain w y) ts) (Value v)) later) refl;
-        part = λ w r h.
+      plain = λ w y. dx (Then (Assign (Also (ToPlain w y) ts) (Value v)) later) refl;
+      part = λ w r h.
           let a = next_reference x.offsets x.sizes x.procedures r in
           let t = Also (ToVariable w r) ts in
           dx (Then (Assign t (Value v)) later) refl
           ∙ ap (λ y. map_action D (map_action (assigned t v later) (next_written x.offsets x.sizes x.procedures w r y v a))) h
           ∙ ap (map_action D) (map_twice (assigned t v later) (λ q. Some (ToVariable w q)) a)
           ∙ map_twice D (λ q. Then (Assign (Also (ToVariable w q) ts) (Value v)) later) a;
-        written = λ w r a h.
+      written = λ w r a h.
           let t = Also (ToVariable w r) ts in
           dx (Then (Assign t (Value v)) later) refl
           ∙ ap (λ y. map_action D (map_action (assigned t v later) (next_written x.offsets x.sizes x.procedures w r y v (next_reference x.offsets x.sizes x.procedures r)))) h
           ∙ also_written w v (ToVariable w r) ts r (place_of x.offsets x.sizes x.procedures w r a);
-        port_part = λ w e h.
+      port_part = λ w e h.
           let t = Also (ToPort w e) ts in
           dx (Then (Assign t (Value v)) later) refl
           ∙ ap (λ y. map_action D (map_action (assigned t v later) (next_port w y v (ex e)))) h
           ∙ ap (map_action D) (map_twice (assigned t v later) (λ q. Some (ToPort w q)) (ex e))
           ∙ map_twice D (λ q. Then (Assign (Also (ToPort w q) ts) (Value v)) later) (ex e);
-        port = λ w p. dx (Then (Assign (Also (ToPort w (Value p)) ts) (Value v)) later) refl
-      }
+      port = λ w p. dx (Then (Assign (Also (ToPort w (Value p)) ts) (Value v)) later) refl;
+    }
 
   -- the two outermost ones
   pub in_main : IsBody Main

@@ -1,11 +1,11 @@
 -- Where the code's accesses go, and where the meaning's do.
-use Rattle.std.proofs.Common.{◌≡◌, ℕ, zero, suc, ◌+◌, ◌-◌, ◌%◌, ◌<◌, ◌≤◌, Bool, true, false, List, Option, Some, None, refl, sym, ap, ◌∙◌, subst, arith}
+use Rattle.std.proofs.Common.{◌≡◌, ℕ, ◌+◌, ◌-◌, ◌%◌, ◌≤◌, Bool, true, false, Some, None, refl, ap, ◌∙◌, arith}
 use Rattle.std.specs.Prelude.{if◌then◌else◌, slice_index}
 use Rattle.word86.specs.declared.width.Width.{Width}
 use Rattle.word86.specs.declared.width.Width.TheVariants as widths
 use Rattle.word86.specs.Access.{Where, In, Screen}
 use Rattle.word86.specs.Places.{bytes, covers, held, screen_begins, screen_size}
-use Rattle.plm_type.specs.Rest.{Anchor, InObject, OnScreen, Behind, There, Reference, Refer, NoSubscripts}
+use Rattle.plm_type.specs.Rest.{Anchor, InObject, OnScreen, Behind, There, Refer, NoSubscripts}
 use Rattle.plm_type.specs.Places.{placed}
 use Rattle.plm_type.specs.Next.{address_of}
 use Rattle.icode.specs.Machine.{address, found}

@@ -1,15 +1,15 @@
 -- An order of procedures in which each stands after those that it calls is one along which calls go down.
-use Rattle.std.proofs.Common.{◌≡◌, ℕ, zero, suc, ◌+◌, ◌<◌, ◌≤◌, Bool, true, false, List, [], ◌∷◌, ◌++◌, length, Option, Some, None, refl, sym, ap, ◌∙◌, subst, arith, slice_get}
+use Rattle.std.proofs.Common.{◌≡◌, ℕ, zero, suc, ◌<◌, List, [], ◌∷◌, ◌++◌, length, Option, Some, None, refl, sym, ap, ◌∙◌, subst, arith, slice_get}
 use Rattle.std.specs.Prelude.{Contains, map}
 use Rattle.std.proofs.lemmas.List.Elements.{Contains-append_left, Contains-append_right, Contains-push}
 use Rattle.std.proofs.lemmas.Option.{slice_get-map}
 use Rattle.std.specs.Prelude.{option_map}
-use Rattle.plm_type.specs.Rest.{Expression, Constant, Plain, Variable, Location, Unary, Binary, Embedded, Input, Call, Value, Passing, Running, Expressions, NoMore, More, Reference, Refer, Subscripts, NoSubscripts, Subscript, Target, ToPlain, ToVariable, ToPort, Targets, Only, Also, Loop, Count, Statement, Empty, Assign, Evaluate, Return, ReturnValue, Enabling, Disabling, Halting, If, Block, While, Case, Iterate, Leaving, Round, Comparing, Stepping, Adding, Storing, Ending, Statements, End, Then, Returned, Procedure}
+use Rattle.plm_type.specs.Rest.{Expression, Constant, Plain, Variable, Location, Unary, Binary, Embedded, Input, Call, Value, Passing, Running, Expressions, NoMore, More, Refer, Subscripts, NoSubscripts, Subscript, Target, ToPlain, ToVariable, ToPort, Targets, Only, Also, Loop, Count, Statement, Empty, Assign, Evaluate, Return, ReturnValue, Enabling, Disabling, Halting, If, Block, While, Case, Iterate, Leaving, Round, Comparing, Stepping, Adding, Storing, Ending, Statements, End, Then, Returned, Procedure}
 use Rattle.plm_type.specs.Reach.{row_of}
-use Rattle.plm_type.specs.Calls.{calls_in, argument_calls, reference_calls, subscript_calls, target_calls, targets_calls, statement_calls, loop_calls, statements_calls, graph_of}
+use Rattle.plm_type.specs.Calls.{calls_in, argument_calls, subscript_calls, target_calls, targets_calls, statement_calls, loop_calls, statements_calls, graph_of}
 use Rattle.plm_type.specs.Order.{place_in, IsOrder}
 use Rattle.lower.specs.Code.{Kind, OfMain, Called, Serving}
-use Rattle.lower.specs.Well.{IsCall, IsExpression, AreExpressions, AreSubscripts, IsTarget, AreTargets, MayReturn, MayReturnValue, IsStatement, IsLoop, AreStatements}
+use Rattle.lower.specs.Well.{IsExpression, AreExpressions, AreSubscripts, IsTarget, AreTargets, MayReturn, MayReturnValue, IsStatement, IsLoop, AreStatements}
 
 abbrev NoProcedure : Option Procedure → Type 0
 NoProcedure None = Unit {0}

@@ -1,7 +1,7 @@
 -- Under a placement the bytes of an object are found in it.
-use Rattle.std.proofs.Common.{◌≡◌, ℕ, zero, suc, ◌+◌, ◌-◌, ◌<◌, ◌≤◌, ◌⊎◌, inl, inr, Bool, true, false, List, [], ◌∷◌, length, Option, Some, None, refl, sym, ap, ◌∙◌, subst, arith}
+use Rattle.std.proofs.Common.{◌≡◌, ℕ, zero, suc, ◌+◌, ◌-◌, ◌<◌, ◌≤◌, Bool, true, false, List, [], ◌∷◌, length, Some, refl, ap, ◌∙◌, arith}
 use Rattle.std.specs.Prelude.{if◌then◌else◌, slice_index}
-use Rattle.word86.specs.Access.{Where, In}
+use Rattle.word86.specs.Access.{In}
 use Rattle.word86.specs.Places.{covers, held}
 use Rattle.plm_decl.specs.Placement.{IsPlacement}
 use Rattle.lower.proofs.Memory.{covered, of_covered}

@@ -1,8 +1,8 @@
 -- Steps of code and rest, one after another.
-use Rattle.std.proofs.Common.{◌≡◌, ℕ, zero, suc, ◌+◌, ◌<◌, ◌≤◌, ◌⊎◌, ⊎_elim, inl, inr, refl, sym, ap, ◌∙◌, subst, arith}
+use Rattle.std.proofs.Common.{◌≡◌, ℕ, zero, suc, ◌+◌, ◌<◌, ◌≤◌, ◌⊎◌, ⊎_elim, inl, inr, refl, sym, subst, arith}
 use Rattle.word86.specs.Access.{Access, answers}
 use Rattle.word86.specs.Action.{Action, Silent, Touch, Enable, Disable, Halt, Over, Bad, IsBad}
-use Rattle.word86.specs.Following.{Paid, Quiet, Pairs, Tracks}
+use Rattle.word86.specs.Following.{Quiet, Pairs, Tracks}
 use Rattle.plm_type.specs.Rest.{Rest}
 use Rattle.plm_type.specs.Next.{next}
 use Rattle.icode.specs.Machine.{Context, does}

@@ -1,16 +1,16 @@
 -- The code of statements does what their rest does.
-use Rattle.std.proofs.Common.{◌≡◌, ℕ, zero, suc, ◌+◌, ◌-◌, ◌%◌, ◌<◌, ◌≤◌, Bool, true, false, List, [], ◌∷◌, ◌++◌, length, drop, Option, Some, None, refl, sym, ap, ◌∙◌, subst, arith, slice_get, length-append, append_assoc}
-use Rattle.std.specs.Prelude.{if◌then◌else◌, nat_le, nat_lt, not, ◌&&◌}
+use Rattle.std.proofs.Common.{◌≡◌, ℕ, zero, suc, ◌+◌, ◌-◌, ◌%◌, ◌<◌, ◌≤◌, Bool, true, false, List, [], ◌∷◌, ◌++◌, length, Some, refl, sym, ap, ◌∙◌, subst, arith, slice_get, length-append}
+use Rattle.std.specs.Prelude.{if◌then◌else◌, nat_lt, not, ◌&&◌}
 use Rattle.std.proofs.lemmas.Bool.Decides.{nat_tests}
 use Rattle.word86.specs.declared.width.Width.{Width}
 use Rattle.word86.specs.declared.width.Width.TheVariants as widths
 use Rattle.word86.specs.declared.operation.UnaryOperation.TheVariants as unary
 use Rattle.word86.specs.declared.operation.BinaryOperation.TheVariants as binary
-use Rattle.word86.specs.Access.{Access, Read, Write, Where, values}
-use Rattle.word86.specs.Action.{Action, Silent, Touch, Enable, Disable, Halt, Over, Bad, map_action}
+use Rattle.word86.specs.Access.{Read, Write, values}
+use Rattle.word86.specs.Action.{Silent, Touch}
 use Rattle.word86.specs.Arithmetic.{low}
 use Rattle.plm_type.specs.Rest.{Scalar, Expression, Constant, Value, Target, Targets, Only, Also, Loop, Count, Statement, Empty, Assign, Evaluate, Return, ReturnValue, Enabling, Disabling, Halting, If, Block, While, Case, Iterate, Leaving, Round, Comparing, Stepping, Adding, Storing, Ending, Statements, End, Then, Returned, Rest}
-use Rattle.plm_type.specs.Next.{value_of, is_odd, behind, returned, evaluated, next_statement}
+use Rattle.plm_type.specs.Next.{value_of, is_odd, behind, evaluated}
 use Rattle.icode.specs.declared.instruction.Instruction.{Instruction}
 use Rattle.icode.specs.declared.instruction.Instruction.TheVariants as op
 use Rattle.icode.specs.declared.instruction.Relation.TheVariants as relation
@@ -19,18 +19,18 @@ use Rattle.icode.specs.declared.code.Routine.{Routine}
 use Rattle.icode.specs.declared.code.Word.{Word}
 use Rattle.icode.specs.declared.code.Word.TheVariants as words
 use Rattle.icode.specs.Machine.{Context, At, stored, loaded, switched}
-use Rattle.lower.specs.Code.{Operand, Number, Name, Computed, operand_of, place_of, beside, stands_to, test_of, expression_code, target_code, targets_code, condition_code, Kind, OfMain, Called, Serving, returning, narrowed, next_by_number, add_pushed, next_round, is_silent, are_silent, over, failing, choosing, all_of, entries, switching, exit_before, statement_code, statements_code, cases_code}
-use Rattle.lower.specs.Well.{Lies, IsExpression, IsTarget, AreTargets, MayReturn, MayReturnValue, IsStatement, IsLoop, AreStatements}
+use Rattle.lower.specs.Code.{Operand, Number, Name, Computed, operand_of, place_of, beside, stands_to, test_of, expression_code, target_code, targets_code, condition_code, Kind, OfMain, Called, Serving, returning, narrowed, next_by_number, add_pushed, next_round, is_silent, are_silent, over, choosing, all_of, entries, switching, exit_before, statement_code, statements_code, cases_code}
+use Rattle.lower.specs.Well.{Lies, IsExpression, AreTargets, MayReturn, MayReturnValue, IsStatement, IsLoop, AreStatements}
 use Rattle.lower.proofs.Setting.{Setting}
-use Rattle.lower.proofs.Sim.{N, X, T, S, fewer, eased, then_, up, down, down_more, both, both_more, bad, touches, enables, disables, halts}
-use Rattle.lower.proofs.Holes.{IsHole, IsBody, IsTargetHole, in_assign, in_evaluate, in_return, in_if, in_while, in_case, in_iterate, in_comparing, in_stepping, in_only, in_also, acts, HasAt, has_front, has_back}
+use Rattle.lower.proofs.Sim.{N, X, S, fewer, eased, then_, up, down, down_more, both, both_more, touches, enables, disables, halts}
+use Rattle.lower.proofs.Holes.{IsBody, in_assign, in_evaluate, in_return, in_if, in_while, in_case, in_iterate, in_comparing, in_stepping, in_only, in_also, acts, HasAt, has_front, has_back}
 use Rattle.lower.proofs.Bools.{both_true, true_false}
 use Rattle.lower.proofs.Memory.{found_plain}
-use Rattle.lower.proofs.Values.{low_small, values_small, low_word}
-use Rattle.lower.proofs.Exprs.{IsOperand, operand_is, After, ProcedureRuns, moved_to, has_at, rise, soon, push_then}
+use Rattle.lower.proofs.Values.{low_word}
+use Rattle.lower.proofs.Exprs.{IsOperand, operand_is, ProcedureRuns, moved_to, has_at, rise, soon, push_then}
 use Rattle.lower.proofs.Terms.{not_value, expression_sim, target_sim}
 use Rattle.lower.proofs.Tests.{condition_sim, bound_sim}
-use Rattle.lower.proofs.Leads.{lead, loop_lead, leads}
+use Rattle.lower.proofs.Leads.{lead, leads}
 
 -- the first part of code, and one more instruction
 pub has_head : (ops : List Instruction) (p : ℕ) (a : List Instruction) (i : Instruction) (b : List Instruction) → HasAt ops p (a ++ (i ∷ b)) → HasAt ops p (a ++ i ∷ [])
@@ -348,8 +348,8 @@ module _ (x : Setting) (MayCall : ℕ → Type 0) (calls : (q : ℕ) → MayCall
       let h1 : HasAt (x.code r) on tail = (has_back (x.code r) p cc (op.AheadUnless (test_of c) d ∷ tail) has).1 in
       let h2 = has_back (x.code r) on ca (past ++ co) h1 in
       let past_end : K k 2 n later pa = λ a.
-            down x k n 1 (D later) (At r pa a ws) (At r (pa + 1 + (length co + exit)) a ws) (acts x r pa a ws (op.Ahead (length co + exit)) h2.0)
-            (then_ x k n 1 1 (D later) (At r (pa + 1 + (length co + exit)) a ws) (omega (arith, small)) (omega arith) (k_at k 1 n later (p + length whole + exit) (pa + 1 + (length co + exit)) (omega (arith, end_is)) out a)) in
+      down x k n 1 (D later) (At r pa a ws) (At r (pa + 1 + (length co + exit)) a ws) (acts x r pa a ws (op.Ahead (length co + exit)) h2.0)
+      (then_ x k n 1 1 (D later) (At r (pa + 1 + (length co + exit)) a ws) (omega (arith, small)) (omega arith) (k_at k 1 n later (p + length whole + exit) (pa + 1 + (length co + exit)) (omega (arith, end_is)) out a)) in
       let ours = run n ret arm_exit later on k (omega (arith, small)) (has_front (x.code r) on ca (past ++ co) h1) past_end (k_at k 1 n later (p + length whole + exit) (pa + arm_exit) (omega (arith, end_is)) out) in
       let theirs = runs n ret exit later (on + d) k (omega (arith, small)) (has_at x r (pa + 1) (on + d) co (omega arith) h2.1) (k_at k 2 n later (p + length whole) (on + d + length co) (omega (arith, end_is)) to) (k_at k 1 n later (p + length whole + exit) (on + d + length co + exit) (omega (arith, end_is)) out) in
       if_then c arm other gc n (k + (leads arm + leads other + 5)) kk (omega (arith, small)) (omega arith) later p d tail has
@@ -374,8 +374,8 @@ module _ (x : Setting) (MayCall : ℕ → Type 0) (calls : (q : ℕ) → MayCall
       let h1 : HasAt (x.code r) on (cs ++ back) = (has_back (x.code r) p cc (op.AheadUnless (test_of c) d ∷ (cs ++ back)) has).1 in
       let h2 = has_back (x.code r) on cs back h1 in
       let again : K 0 1 (suc n) (Then (While c c ss) later) pb = λ b.
-            down_more x 0 n 0 (D (Then (While c c ss) later)) (At r pb b ws) (At r p b ws) (acts x r pb b ws (op.Back (length cc + length cs + 2)) h2.0 ∙ ap (λ y. Silent (At r y b ws)) (omega arith))
-            (then_ x 3 n 0 0 (D (Then (While c c ss) later)) (At r p b ws) (omega arith) (omega arith) (while_sim c gc ss run exit p k small has later n (fewer_returns around n ret) (k_fewer k 1 n later (on + length cs + 1 + exit) out) b)) in
+      down_more x 0 n 0 (D (Then (While c c ss) later)) (At r pb b ws) (At r p b ws) (acts x r pb b ws (op.Back (length cc + length cs + 2)) h2.0 ∙ ap (λ y. Silent (At r y b ws)) (omega arith))
+      (then_ x 3 n 0 0 (D (Then (While c c ss) later)) (At r p b ws) (omega arith) (omega arith) (while_sim c gc ss run exit p k small has later n (fewer_returns around n ret) (k_fewer k 1 n later (on + length cs + 1 + exit) out) b)) in
       let kk = k + leads ss in
       let ours = run (suc n) ret 0 (Then (While c c ss) later) on 0 (omega (arith, small)) (has_front (x.code r) on cs back h1) (k_more 0 0 1 2 (suc n) (Then (While c c ss) later) pb (omega arith) (omega arith) again) (k_at 0 1 (suc n) (Then (While c c ss) later) pb (pb + 0) (omega arith) again) in
       condition_sim x MayCall calls (suc n) kk (omega (arith, small)) D (behind ss (Then (While c c ss) later)) later r on (on + d) ws
@@ -445,22 +445,30 @@ module _ (x : Setting) (MayCall : ℕ → Type 0) (calls : (q : ℕ) → MayCall
       let len = length-append cs (op.Ahead beyond ∷ []) in
       let len2 = length-append c (all_of others) in
       let leaves : K k 2 n later pa = λ a.
-            down x k n 1 (D later) (At r pa a ws) (At r (pa + 1 + beyond) a ws) (acts x r pa a ws (op.Ahead beyond) ha.0)
-            (then_ x k n 1 1 (D later) (At r (pa + 1 + beyond) a ws) (omega (arith, small)) (omega arith) (k_at k 1 n later to (pa + 1 + beyond) (omega (arith, end, len, len2)) out a)) in
-      (d, (subst (λ y. slice_get (x.code r) y ≡ Some (op.Case d)) (omega arith) has.0,
-      k_at (k + (lead s + leads rest + 1)) 2 n (Then s later) pc (q + suc zero + d) (omega (arith, at))
-      (k_more (k + lead s) (k + (lead s + leads rest + 1)) 2 2 n (Then s later) pc (omega arith) (omega arith)
-      (runs.0 n ret (1 + beyond) later pc k (omega (arith, small)) (has_front (x.code r) pc cs (op.Ahead beyond ∷ []) hc) leaves (k_at k 1 n later to (pa + (1 + beyond)) (omega (arith, end, len, len2)) out)))))
+      down x k n 1 (D later) (At r pa a ws) (At r (pa + 1 + beyond) a ws) (acts x r pa a ws (op.Ahead beyond) ha.0)
+      (then_ x k n 1 1 (D later) (At r (pa + 1 + beyond) a ws) (omega (arith, small)) (omega arith) (k_at k 1 n later to (pa + 1 + beyond) (omega (arith, end, len, len2)) out a)) in (
+        d,
+        (
+          subst (λ y. slice_get (x.code r) y ≡ Some (op.Case d)) (omega arith) has.0,
+          k_at (k + (lead s + leads rest + 1)) 2 n (Then s later) pc (q + suc zero + d) (omega (arith, at))
+              (k_more (k + lead s) (k + (lead s + leads rest + 1)) 2 2 n (Then s later) pc (omega arith) (omega arith)
+              (runs.0 n ret (1 + beyond) later pc k (omega (arith, small)) (has_front (x.code r) pc cs (op.Ahead beyond ∷ []) hc) leaves (k_at k 1 n later to (pa + (1 + beyond)) (omega (arith, end, len, len2)) out))),
+        ),
+      )
   taken (Then s rest) runs n ret exit k later before q pc (suc v) to small lt has code at end out =
       let others = cases_at exit rest in
       let beyond = length (all_of others) + exit in
       let c = code_at (1 + beyond) s ++ op.Ahead beyond ∷ [] in
       let len2 = length-append c (all_of others) in
-      let t = taken rest runs.1 n ret exit k later (before + length c) (q + 1) (pc + length c) v to (omega (arith, small)) (omega (arith, lt)) has.1 (has_back (x.code r) pc c (all_of others) code) (omega (arith, at)) (omega (arith, end, len2)) out in
-      (t.0, (subst (λ y. slice_get (x.code r) y ≡ Some (op.Case t.0)) (omega arith) t.1.0,
-      λ a. eased x (suc (k + leads rest)) (k + (lead s + leads rest + 1)) n 2 2 (D (Then (Case (Value v) rest) later)) (At r (q + suc (suc v) + t.0) a ws) (omega arith) (omega arith)
-      (up x (k + leads rest) n 2 (omega arith) (D (Then (Case (Value v) rest) later)) (D (after_case later v rest)) (At r (q + suc (suc v) + t.0) a ws) (case_is later v rest)
-      (k_at (k + leads rest) 2 n (after_case later v rest) (q + 1 + suc v + t.0) (q + suc (suc v) + t.0) (omega arith) t.1.1 a))))
+      let t = taken rest runs.1 n ret exit k later (before + length c) (q + 1) (pc + length c) v to (omega (arith, small)) (omega (arith, lt)) has.1 (has_back (x.code r) pc c (all_of others) code) (omega (arith, at)) (omega (arith, end, len2)) out in (
+        t.0,
+        (
+          subst (λ y. slice_get (x.code r) y ≡ Some (op.Case t.0)) (omega arith) t.1.0,
+          λ a. eased x (suc (k + leads rest)) (k + (lead s + leads rest + 1)) n 2 2 (D (Then (Case (Value v) rest) later)) (At r (q + suc (suc v) + t.0) a ws) (omega arith) (omega arith)
+              (up x (k + leads rest) n 2 (omega arith) (D (Then (Case (Value v) rest) later)) (D (after_case later v rest)) (At r (q + suc (suc v) + t.0) a ws) (case_is later v rest)
+              (k_at (k + leads rest) 2 n (after_case later v rest) (q + 1 + suc v + t.0) (q + suc (suc v) + t.0) (omega arith) t.1.1 a)),
+        ),
+      )
 
   switch_by : (ss : Statements) → CasesRun ss → (n : ℕ) → Returns around n → (exit k : ℕ) (later : Statements) (p v : ℕ) → k + (leads ss + 5) ≤ x.room → HasAt (x.code r) p (switching (cases_at exit ss) exit) → K k 1 n later (p + length (switching (cases_at exit ss) exit) + exit)
       → (b : Bool) → nat_lt v (length (cases_at exit ss)) ≡ b → S x 2 n 0 (D (Then (Case (Value v) ss) later)) (At r p v ws)
@@ -480,7 +488,7 @@ module _ (x : Setting) (MayCall : ℕ → Type 0) (calls : (q : ℕ) → MayCall
       let Q = after_case later v ss in
       let kk = k + leads ss in
       let done : (q : ℕ) → X x (At r p v ws) ≡ Silent (At r q v ws) → K kk 2 n Q q → S x 2 n 0 R (At r p v ws) = λ q i go.
-            both x 1 n 0 R (D Q) (At r p v ws) (At r q v ws) (case_is later v ss) i (then_ x kk n 2 2 (D Q) (At r q v ws) (omega (arith, small)) (omega arith) (go v)) in
+      both x 1 n 0 R (D Q) (At r p v ws) (At r q v ws) (case_is later v ss) i (then_ x kk n 2 2 (D Q) (At r q v ws) (omega (arith, small)) (omega arith) (go v)) in
       let act = acts x r p v ws (op.Switch m) has.0 in
       by b e done act h1 h2 out'
     where
@@ -622,11 +630,11 @@ module _ (x : Setting) (MayCall : ℕ → Type 0) (calls : (q : ℕ) → MayCall
         let h3 = has_back (x.code r) on cs ca h1.1 in
         let round = round_sim exit k small cb cs ca eb es ea has n (fewer_returns around n ret) (k_fewer k 2 n later pe to) (k_fewer k 1 n later (pe + exit) out) in
         let next : K 3 1 m (Then (Stepping step l) later) pg = step_then (operand_of step) (operand_is step) n k (length cb + length cs + 2) pg (omega (arith, small)) (omega arith)
-              (subst (λ c. HasAt (x.code r) pg c) ea h3) round (k_at k 2 m later pe (pg + length (next_round y (operand_of step) (expression_code x.procedures step) (length cb + length cs + 2))) (omega (arith, ap length ea)) to) in
+        (subst (λ c. HasAt (x.code r) pg c) ea h3) round (k_at k 2 m later pe (pg + length (next_round y (operand_of step) (expression_code x.procedures step) (length cb + length cs + 2))) (omega (arith, ap length ea)) to) in
         let kk = k + leads ss + 3 in
         let ours = run m ret 0 (Then (Stepping step l) later) on 3 (omega (arith, small)) (subst (λ c. HasAt (x.code r) on c) es h2)
-              (k_more 3 3 1 2 m (Then (Stepping step l) later) (on + length (codes_at 0 ss)) (omega arith) (omega arith) (k_at 3 1 m (Then (Stepping step l) later) pg (on + length (codes_at 0 ss)) (omega (arith, ap length es)) next))
-              (k_at 3 1 m (Then (Stepping step l) later) pg (on + length (codes_at 0 ss) + 0) (omega (arith, ap length es)) next) in
+        (k_more 3 3 1 2 m (Then (Stepping step l) later) (on + length (codes_at 0 ss)) (omega arith) (omega arith) (k_at 3 1 m (Then (Stepping step l) later) pg (on + length (codes_at 0 ss)) (omega (arith, ap length es)) next))
+        (k_at 3 1 m (Then (Stepping step l) later) pg (on + length (codes_at 0 ss) + 0) (omega (arith, ap length es)) next) in
         let cb' = beside (operand_of bound) (expression_code x.procedures bound) in
         let len = ap length eb in
         touches x 2 m 0 (Read w y.place) (D (Then (Round l) later)) (λ i. D (Then (Comparing i bound l) later)) (At r pr a ws) (λ i. At r p1 i ws) (dx (Then (Round l) later) refl)

@@ -1,32 +1,31 @@
 -- The code of expressions, references, targets and calls does what their rests do.
-use Rattle.std.proofs.Common.{◌≡◌, ℕ, zero, suc, ◌+◌, ◌*◌, ◌%◌, ◌<◌, ◌≤◌, Bool, true, false, cond, List, [], ◌∷◌, ◌++◌, length, drop, Option, Some, None, refl, sym, ap, ◌∙◌, subst, arith, slice_get, length-append}
-use Rattle.std.specs.Prelude.{if◌then◌else◌, nat_eq, nat_le}
+use Rattle.std.proofs.Common.{◌≡◌, ℕ, suc, ◌+◌, ◌*◌, ◌%◌, ◌≤◌, List, [], ◌∷◌, ◌++◌, length, drop, Some, None, refl, sym, ap, ◌∙◌, subst, arith, slice_get, length-append}
+use Rattle.std.specs.Prelude.{if◌then◌else◌, nat_eq}
 use Rattle.word86.specs.declared.width.Width.{Width}
 use Rattle.word86.specs.declared.width.Width.TheVariants as widths
 use Rattle.word86.specs.declared.operation.BinaryOperation.TheVariants as binary
 use Rattle.word86.specs.Access.{Access, Read, Write, Output, Where}
 use Rattle.word86.specs.Access as access
-use Rattle.word86.specs.Action.{Action, Silent, Touch, Bad, map_action}
+use Rattle.word86.specs.Action.{Silent, Bad, map_action}
 use Rattle.word86.specs.Arithmetic.{low}
 use Rattle.plm_type.specs.Rest.{Anchor, InObject, OnScreen, Behind, There, Scalar, Expression, Constant, Plain, Variable, Location, Unary, Binary, Embedded, Input, Call, Value, Passing, Running, Expressions, NoMore, More, Reference, Refer, Subscripts, NoSubscripts, Subscript, Target, ToPlain, ToVariable, ToPort, Statements, Procedure, Rest}
-use Rattle.plm_type.specs.Next.{value_of, values_of, next_passing, next_call, indexed, next_expressions, parameters_of, body_of}
-use Rattle.icode.specs.declared.instruction.Instruction.{Instruction}
+use Rattle.plm_type.specs.Next.{value_of, next_passing, next_call, indexed, next_expressions, parameters_of, body_of}
 use Rattle.icode.specs.declared.instruction.Instruction.TheVariants as op
 use Rattle.icode.specs.declared.code.Routine.{Routine}
 use Rattle.icode.specs.declared.code.Routine.TheVariants as routine
 use Rattle.icode.specs.declared.code.Word.{Word}
 use Rattle.icode.specs.declared.code.Word.TheVariants.{Return}
 use Rattle.icode.specs.declared.code.Word.TheVariants as words
-use Rattle.icode.specs.Machine.{Context, At, stored, with_value, value_in}
-use Rattle.lower.specs.Code.{Operand, Number, Name, Computed, operand_of, place_of, beside, operation, anchor_place, scaled, reading, locating, writing, based, receiving, sending, passing, alone, count_of, call_code, expression_code, first_code, pushed_code, subscripts_code, further_code, target_code}
-use Rattle.lower.specs.Well.{Lies, ScalarLies, AllLie, IsCall, IsExpression, AreExpressions, AreSubscripts, IsTarget}
+use Rattle.icode.specs.Machine.{At, stored, with_value, value_in}
+use Rattle.lower.specs.Code.{Operand, Number, Name, Computed, operand_of, place_of, beside, operation, anchor_place, scaled, reading, locating, based, receiving, sending, passing, alone, count_of, expression_code, pushed_code, subscripts_code, target_code}
+use Rattle.lower.specs.Well.{AllLie, IsExpression, AreExpressions, AreSubscripts, IsTarget}
 use Rattle.lower.proofs.Setting.{Setting}
-use Rattle.lower.proofs.Sim.{N, X, T, S, eased, then_, up, down, both, bad, touches}
+use Rattle.lower.proofs.Sim.{N, S, eased, then_, up, down, both, touches}
 use Rattle.lower.proofs.Holes.{IsHole, AreHoles, IsReferenceHole, IsTargetHole, in_unary, in_left, in_right, in_input, in_embedded, in_arguments, in_variable, in_location, in_embedded_target, in_first, in_others, in_subscript, acts, HasAt, has_front, has_back}
 use Rattle.lower.proofs.Bools.{to_le}
 use Rattle.lower.proofs.Memory.{found_plain}
 use Rattle.lower.proofs.Values.{values_small}
-use Rattle.lower.proofs.Exprs.{IsOperand, operand_is, of_values, pushed, values_back, get_pushed, drop_pushed, length_pushed, Reached, one_sum, two_sums, After, ProcedureRuns, moved_to, after_at, has_at, rise, ended, soon, push_then, constant_then, plain_then, unary_then, right_then, scaled_then, read_final, locate_final, fixed_written, behind_written}
+use Rattle.lower.proofs.Exprs.{IsOperand, operand_is, of_values, pushed, values_back, get_pushed, drop_pushed, length_pushed, Reached, one_sum, two_sums, After, ProcedureRuns, moved_to, after_at, rise, ended, soon, push_then, constant_then, plain_then, unary_then, right_then, scaled_then, read_final, locate_final, fixed_written, behind_written}
 
 module _ (x : Setting) (MayCall : ℕ → Type 0) (calls : (q : ℕ) → MayCall q → ProcedureRuns x q) where
   abbrev Good : Expression → Type 0
@@ -228,12 +227,12 @@ module _ (x : Setting) (MayCall : ℕ → Type 0) (calls : (q : ℕ) → MayCall
         (soon x n 1 1 (C (Call q (More (Value v) (More f es)))) (At r (pe + 1) v (words.Value v ∷ ws)) (omega arith)
         (arguments_sim (More f es) good.1.1 n (λ ys. C (Call q (More (Value v) ys))) (in_others x (λ ys. C (Call q ys)) (in_arguments x C cx q) v) r (pe + 1) (words.Value v ∷ ws) h1.1
         (λ vs len b.
-          let total_is : total ≡ length (v ∷ vs) = omega (arith, len) in
-          let R = C (Call q (of_values (v ∷ vs))) in
-          moved_to x 2 n 1 R r (p + length cp) (pe + 1 + length cf) b (pushed (v ∷ vs) ws) at
-          (passed q procedure got good.0.3 n C cx r ws total (p + length (cp ++ cr)) after' procedure.parameters (v ∷ vs) ws (omega (arith, good.0.2, len)) (x.parameters_lie q procedure got)
-          (ap (λ k. drop k (pushed (v ∷ vs) ws)) (omega (arith, total_is)) ∙ drop_pushed (v ∷ vs) 0 ws) (omega (arith, total_is, length_pushed (v ∷ vs) ws)) R (called_is q procedure got C cx (v ∷ vs)) (p + length cp) b hr
-          (omega (arith, length-append cp cr, length-append (passing procedure.parameters) tail)))) v)))) a
+        let total_is : total ≡ length (v ∷ vs) = omega (arith, len) in
+        let R = C (Call q (of_values (v ∷ vs))) in
+        moved_to x 2 n 1 R r (p + length cp) (pe + 1 + length cf) b (pushed (v ∷ vs) ws) at
+        (passed q procedure got good.0.3 n C cx r ws total (p + length (cp ++ cr)) after' procedure.parameters (v ∷ vs) ws (omega (arith, good.0.2, len)) (x.parameters_lie q procedure got)
+        (ap (λ k. drop k (pushed (v ∷ vs) ws)) (omega (arith, total_is)) ∙ drop_pushed (v ∷ vs) 0 ws) (omega (arith, total_is, length_pushed (v ∷ vs) ws)) R (called_is q procedure got C cx (v ∷ vs)) (p + length cp) b hr
+        (omega (arith, length-append cp cr, length-append (passing procedure.parameters) tail)))) v)))) a
     expression_sim (Value v) good n C cx r p ws has after a = absurd good
     expression_sim (Passing q xs vs) good n C cx r p ws has after a = absurd good
     expression_sim (Running ss) good n C cx r p ws has after a = absurd good
@@ -266,10 +265,10 @@ module _ (x : Setting) (MayCall : ℕ → Type 0) (calls : (q : ℕ) → MayCall
         subst (λ y. S x 2 n 0 (C (indexed m l anchor offset s y e NoSubscripts)) (At r p a ws)) (not_value e good.0)
         (expression_sim e good.0 n (λ y. C (indexed m l anchor offset s (value_of y) y NoSubscripts)) (in_subscript x C cx m l anchor offset s NoSubscripts) r p ws (has_front (x.code r) p ce cs has)
         (λ v lt.
-          let R = C (Refer m l anchor ((offset + s * v) % 65536) NoSubscripts) in
-          rise x n 1 R (At r pe v ws) (omega arith)
-          (scaled_then x n 0 s v (omega arith) (nat_eq s 1) refl R r pe ws (has_front (x.code r) pe (scaled s) [] he)
-          (λ b is. moved_to x 2 n 0 R r (p + length (ce ++ cs)) (pe + length (scaled s)) b ws (omega (arith, length-append ce cs, length-append (scaled s) [])) (k ((offset + s * v) % 65536) b (one_sum offset (s * v) b is))))) a)
+        let R = C (Refer m l anchor ((offset + s * v) % 65536) NoSubscripts) in
+        rise x n 1 R (At r pe v ws) (omega arith)
+        (scaled_then x n 0 s v (omega arith) (nat_eq s 1) refl R r pe ws (has_front (x.code r) pe (scaled s) [] he)
+        (λ b is. moved_to x 2 n 0 R r (p + length (ce ++ cs)) (pe + length (scaled s)) b ws (omega (arith, length-append ce cs, length-append (scaled s) [])) (k ((offset + s * v) % 65536) b (one_sum offset (s * v) b is))))) a)
     subscripts_sim (Subscript s e (Subscript t f NoSubscripts)) good n C cx m l anchor offset r p ws has k a =
         let ce = expression_code x.procedures e in
         let cf = expression_code x.procedures f in
@@ -289,23 +288,23 @@ module _ (x : Setting) (MayCall : ℕ → Type 0) (calls : (q : ℕ) → MayCall
         subst (λ y. S x 2 n 0 (C (indexed m l anchor offset s y e more)) (At r p a ws)) (not_value e good.0)
         (expression_sim e good.0 n (λ y. C (indexed m l anchor offset s (value_of y) y more)) (in_subscript x C cx m l anchor offset s more) r p ws (has_front (x.code r) p ce c1 has)
         (λ v lt.
-          let o = (offset + s * v) % 65536 in
-          let R = C (Refer m l anchor o more) in
-          rise x n 2 R (At r pe v ws) (omega arith)
-          (scaled_then x n 1 s v (omega arith) (nat_eq s 1) refl R r pe ws (has_front (x.code r) pe (scaled s) c2 h1)
-          (λ b is. push_then x 2 n 0 R r ps b ws h2.0
-          (soon x n 0 0 R (At r (ps + 1) b (words.Value b ∷ ws)) (omega arith)
-          (subst (λ y. S x 2 n 0 (C (indexed m l anchor o t y f NoSubscripts)) (At r (ps + 1) b (words.Value b ∷ ws))) (not_value f good.1.0)
-          (expression_sim f good.1.0 n (λ y. C (indexed m l anchor o t (value_of y) y NoSubscripts)) (in_subscript x C cx m l anchor o t NoSubscripts) r (ps + 1) (words.Value b ∷ ws) (has_front (x.code r) (ps + 1) cf c3 h2.1)
-          (λ u ut.
-            let o' = (o + t * u) % 65536 in
-            let Q = C (Refer m l anchor o' NoSubscripts) in
-            rise x n 2 Q (At r pf u (words.Value b ∷ ws)) (omega arith)
-            (scaled_then x n 1 t u (omega arith) (nat_eq t 1) refl Q r pf (words.Value b ∷ ws) (has_front (x.code r) pf (scaled t) add h3)
-            (λ c js. down x 2 n 0 Q (At r pt c (words.Value b ∷ ws)) (At r (pt + 1) ((b + c) % 65536) ws) (acts x r pt c (words.Value b ∷ ws) (op.Binary binary.Add widths.Word) h4.0)
-            (soon x n 0 0 Q (At r (pt + 1) ((b + c) % 65536) ws) (omega arith)
-            (moved_to x 2 n 0 Q r (p + length (ce ++ c1)) (pt + 1) ((b + c) % 65536) ws (omega (arith, length-append ce c1, length-append (scaled s) c2, length-append cf c3, length-append (scaled t) add))
-            (k o' ((b + c) % 65536) (two_sums offset (s * v) (t * u) b c is js))))))) b)))))) a)
+        let o = (offset + s * v) % 65536 in
+        let R = C (Refer m l anchor o more) in
+        rise x n 2 R (At r pe v ws) (omega arith)
+        (scaled_then x n 1 s v (omega arith) (nat_eq s 1) refl R r pe ws (has_front (x.code r) pe (scaled s) c2 h1)
+        (λ b is. push_then x 2 n 0 R r ps b ws h2.0
+        (soon x n 0 0 R (At r (ps + 1) b (words.Value b ∷ ws)) (omega arith)
+        (subst (λ y. S x 2 n 0 (C (indexed m l anchor o t y f NoSubscripts)) (At r (ps + 1) b (words.Value b ∷ ws))) (not_value f good.1.0)
+        (expression_sim f good.1.0 n (λ y. C (indexed m l anchor o t (value_of y) y NoSubscripts)) (in_subscript x C cx m l anchor o t NoSubscripts) r (ps + 1) (words.Value b ∷ ws) (has_front (x.code r) (ps + 1) cf c3 h2.1)
+        (λ u ut.
+        let o' = (o + t * u) % 65536 in
+        let Q = C (Refer m l anchor o' NoSubscripts) in
+        rise x n 2 Q (At r pf u (words.Value b ∷ ws)) (omega arith)
+        (scaled_then x n 1 t u (omega arith) (nat_eq t 1) refl Q r pf (words.Value b ∷ ws) (has_front (x.code r) pf (scaled t) add h3)
+        (λ c js. down x 2 n 0 Q (At r pt c (words.Value b ∷ ws)) (At r (pt + 1) ((b + c) % 65536) ws) (acts x r pt c (words.Value b ∷ ws) (op.Binary binary.Add widths.Word) h4.0)
+        (soon x n 0 0 Q (At r (pt + 1) ((b + c) % 65536) ws) (omega arith)
+        (moved_to x 2 n 0 Q r (p + length (ce ++ c1)) (pt + 1) ((b + c) % 65536) ws (omega (arith, length-append ce c1, length-append (scaled s) c2, length-append cf c3, length-append (scaled t) add))
+        (k o' ((b + c) % 65536) (two_sums offset (s * v) (t * u) b c is js))))))) b)))))) a)
     subscripts_sim (Subscript s e (Subscript t f (Subscript u g more))) good n C cx m l anchor offset r p ws has k a = absurd good.1.1
 
     pub target_sim : (t : Target) → IsTarget x.sizes x.procedures MayCall t → (n v : ℕ) (C : Target → Rest) (done : Rest) → IsTargetHole x v C done → (r : Routine) (p : ℕ) (ws : List Word) → HasAt (x.code r) p (target_code x.procedures t)

@@ -4,30 +4,27 @@ use Rattle.std.specs.Prelude.{if◌then◌else◌, nat_le, nat_lt, not}
 use Rattle.word86.specs.declared.width.Width.{Width}
 use Rattle.word86.specs.declared.operation.BinaryOperation.{BinaryOperation}
 use Rattle.word86.specs.declared.operation.BinaryOperation.TheVariants as binary
-use Rattle.word86.specs.Access.{Access, Read, Where}
-use Rattle.word86.specs.Action.{Action, Silent, Touch, Bad, map_action}
+use Rattle.word86.specs.Access.{Read}
+use Rattle.word86.specs.Action.{Silent, Touch, map_action}
 use Rattle.word86.specs.Operators.{truth, binary_value}
 use Rattle.plm_type.specs.Rest.{Expression, Constant, Plain, Variable, Location, Unary, Binary, Embedded, Input, Call, Value, Passing, Running, Statements, Rest}
 use Rattle.plm_type.specs.Next.{is_odd, operated}
-use Rattle.icode.specs.declared.instruction.Instruction.{Instruction}
 use Rattle.icode.specs.declared.instruction.Instruction.TheVariants as op
 use Rattle.icode.specs.declared.instruction.Relation.{Relation}
 use Rattle.icode.specs.declared.instruction.Relation.TheVariants as relation
-use Rattle.icode.specs.declared.instruction.Test.{Test}
 use Rattle.icode.specs.declared.instruction.Test.TheVariants as test
 use Rattle.icode.specs.declared.code.Routine.{Routine}
 use Rattle.icode.specs.declared.code.Word.{Word}
 use Rattle.icode.specs.declared.code.Word.TheVariants as words
 use Rattle.icode.specs.Machine.{Context, At, stands, loaded}
-use Rattle.lower.specs.Code.{Operand, Number, Name, Computed, operand_of, place_of, beside, relation_of, stands_to, asked, test_of, asking, expression_code, condition_code}
+use Rattle.lower.specs.Code.{Operand, Number, Name, Computed, operand_of, beside, relation_of, stands_to, asked, test_of, asking, expression_code, condition_code}
 use Rattle.lower.specs.Well.{Lies, IsExpression}
 use Rattle.lower.proofs.Setting.{Setting}
 use Rattle.lower.proofs.Sim.{N, X, T, S, eased, then_, up, both, touches}
 use Rattle.lower.proofs.Holes.{IsHole, in_left, in_right, acts, HasAt, has_front, has_back}
 use Rattle.lower.proofs.Bools.{none_some, not_less}
 use Rattle.lower.proofs.Memory.{found_plain}
-use Rattle.lower.proofs.Values.{values_small}
-use Rattle.lower.proofs.Exprs.{IsOperand, operand_is, After, ProcedureRuns, moved_to, rise, soon, push_then}
+use Rattle.lower.proofs.Exprs.{IsOperand, operand_is, ProcedureRuns, rise, soon, push_then}
 use Rattle.lower.proofs.Terms.{expression_sim}
 
 some_same : (a b : Relation) → Some a ≡ Some b → a ≡ b
@@ -145,15 +142,15 @@ module _ (x : Setting) (MayCall : ℕ → Type 0) (calls : (q : ℕ) → MayCall
           eased x 2 3 n 0 0 (Q (Binary m l o w c b)) (At r p a ws) (omega arith) (omega arith)
           (expression_sim x MayCall calls c gc n (λ y. Q (Binary m l o w y b)) (in_left x Q qx m l o w b) r p ws (has_front (x.code r) p cc (cb ++ jump) has')
           (λ u lt.
-            let Q' = λ (y : Expression). Q (Binary m l o w (Value u) y) in
-            let value : (v : ℕ) → N x (Q (Binary m l o w (Value u) (Value v))) ≡ Silent (Q (Value (truth (stands q u v)))) = λ v. qx (Binary m l o w (Value u) (Value v)) refl ∙ ap (λ y. map_action Q (operated m l y)) (relation_is o q e w u v) in
-            let leads : (v : ℕ) → N x (Q (Value (truth (stands q u v)))) ≡ Silent (D (if stands q u v then yes else no)) = λ v. steps (truth (stands q u v)) ∙ ap (λ y. Silent (D (if y then yes else no))) (odd_truth (stands q u v)) in
-            eased x 3 x.room n 1 2 (Q' b) (At r pc u ws) (omega (arith, x.wide)) (omega arith)
-            (compared_sim q u Q'
-            (λ v j f i le h. up x (suc j) n f le (Q' (Value v)) (Q (Value (truth (stands q u v)))) i (value v) (up x j n f le (Q (Value (truth (stands q u v)))) (D (if stands q u v then yes else no)) i (leads v) h))
-            (λ v i z h. up x 1 n 0 (omega arith) (Q' (Value v)) (Q (Value (truth (stands q u v)))) i (value v)
-            (both x 0 n 0 (Q (Value (truth (stands q u v)))) (D (if stands q u v then yes else no)) i (At r (if stands q u v then on else further) z ws) (leads v) h (led_soon (stands q u v) z)))
-            (in_right x Q qx m l o w u) b gb (operand_of b) (operand_is b) pc d (has_back (x.code r) p cc (cb ++ jump) has') (omega (arith, at, len)) (omega (arith, to, len)))) a)
+          let Q' = λ (y : Expression). Q (Binary m l o w (Value u) y) in
+          let value : (v : ℕ) → N x (Q (Binary m l o w (Value u) (Value v))) ≡ Silent (Q (Value (truth (stands q u v)))) = λ v. qx (Binary m l o w (Value u) (Value v)) refl ∙ ap (λ y. map_action Q (operated m l y)) (relation_is o q e w u v) in
+          let leads : (v : ℕ) → N x (Q (Value (truth (stands q u v)))) ≡ Silent (D (if stands q u v then yes else no)) = λ v. steps (truth (stands q u v)) ∙ ap (λ y. Silent (D (if y then yes else no))) (odd_truth (stands q u v)) in
+          eased x 3 x.room n 1 2 (Q' b) (At r pc u ws) (omega (arith, x.wide)) (omega arith)
+          (compared_sim q u Q'
+          (λ v j f i le h. up x (suc j) n f le (Q' (Value v)) (Q (Value (truth (stands q u v)))) i (value v) (up x j n f le (Q (Value (truth (stands q u v)))) (D (if stands q u v then yes else no)) i (leads v) h))
+          (λ v i z h. up x 1 n 0 (omega arith) (Q' (Value v)) (Q (Value (truth (stands q u v)))) i (value v)
+          (both x 0 n 0 (Q (Value (truth (stands q u v)))) (D (if stands q u v then yes else no)) i (At r (if stands q u v then on else further) z ws) (leads v) h (led_soon (stands q u v) z)))
+          (in_right x Q qx m l o w u) b gb (operand_of b) (operand_is b) pc d (has_back (x.code r) p cc (cb ++ jump) has') (omega (arith, at, len)) (omega (arith, to, len)))) a)
 
       pub condition_sim : (c : Expression) → IsExpression x.sizes x.procedures MayCall c → (p d : ℕ) → HasAt (x.code r) p (condition_code x.procedures c ++ op.AheadUnless (test_of c) d ∷ [])
           → p + length (condition_code x.procedures c) + 1 ≡ on → p + length (condition_code x.procedures c) + 1 + d ≡ further → (a : ℕ) → S x 3 n 0 (Q c) (At r p a ws)

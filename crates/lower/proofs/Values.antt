@@ -1,8 +1,7 @@
 -- Values are below 65,536.
-use Rattle.std.proofs.Common.{◌≡◌, ℕ, zero, suc, ◌+◌, ◌-◌, ◌*◌, ◌/◌, ◌%◌, ◌^◌, ◌<◌, ◌≤◌, Bool, true, false, not, nat_eq, nat_lt, nat_le, Option, Some, None, refl, sym, ap, ◌∙◌, subst, arith}
+use Rattle.std.proofs.Common.{◌≡◌, ℕ, zero, suc, ◌+◌, ◌-◌, ◌*◌, ◌/◌, ◌%◌, ◌^◌, ◌<◌, Bool, true, false, not, nat_eq, nat_lt, nat_le, Option, Some, None, subst, arith}
 use Rattle.std.proofs.lemmas.Nat.{and_le_l, or_of_16, xor_of_16}
 use Rattle.std.proofs.Math.Nat.{div-le_self, mod-le}
-use Rattle.std.specs.Int.Bits.{bit_and, bit_or, bit_xor}
 use Rattle.word86.specs.declared.width.Width.{Width}
 use Rattle.word86.specs.declared.width.Width.TheVariants as widths
 use Rattle.word86.specs.declared.operation.UnaryOperation.{UnaryOperation}
@@ -10,7 +9,7 @@ use Rattle.word86.specs.declared.operation.UnaryOperation.TheVariants as unary
 use Rattle.word86.specs.declared.operation.BinaryOperation.{BinaryOperation}
 use Rattle.word86.specs.declared.operation.BinaryOperation.TheVariants as binary
 use Rattle.word86.specs.Access.{values}
-use Rattle.word86.specs.Arithmetic.{low, rotated_left, rotated_right}
+use Rattle.word86.specs.Arithmetic.{low}
 use Rattle.word86.specs.Operators.{truth, unary_value, binary_value, quotient, remainder}
 
 pub low_small : (w : Width) (v : ℕ) → low w v < 65536

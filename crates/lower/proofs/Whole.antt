@@ -1,27 +1,30 @@
 -- Procedures, main and the interrupt procedures.
-use Rattle.std.proofs.Common.{◌≡◌, ℕ, zero, suc, ◌+◌, ◌-◌, ◌<◌, ◌≤◌, Bool, true, false, List, [], ◌∷◌, ◌++◌, length, Option, Some, None, refl, sym, ap, ◌∙◌, subst, arith, slice_get, length-append, append_assoc}
-use Rattle.word86.specs.Action.{Action, Silent, Halt, Over, map_action}
-use Rattle.plm_type.specs.Rest.{Expression, Running, Value, Statements, End, Then, Returned, Procedure, Rest, Main, Handler}
+use Rattle.std.proofs.Common.{◌≡◌, ℕ, zero, suc, ◌+◌, ◌<◌, ◌≤◌, Bool, true, false, List, [], ◌∷◌, ◌++◌, length, Option, Some, None, refl, sym, ap, ◌∙◌, subst, arith, slice_get, length-append, append_assoc}
+use Rattle.word86.specs.Action.{Silent}
+use Rattle.plm_type.specs.Rest.{Running, Value, Statements, End, Then, Returned, Procedure, Main, Handler}
 use Rattle.plm_type.specs.Next.{behind, body_of}
 use Rattle.plm_type.specs.Calls.{graph_of}
 use Rattle.plm_type.specs.Order.{place_in, IsOrder}
 use Rattle.plm_decl.specs.Placement.{IsPlacement}
 use Rattle.icode.specs.declared.instruction.Instruction.{Instruction}
 use Rattle.icode.specs.declared.instruction.Instruction.TheVariants as op
-use Rattle.icode.specs.declared.code.Routine.{Routine}
 use Rattle.icode.specs.declared.code.Routine.TheVariants as routine
-use Rattle.icode.specs.declared.code.Word.{Word}
 use Rattle.icode.specs.declared.code.Word.TheVariants.{Return}
-use Rattle.icode.specs.Machine.{Context, At}
-use Rattle.lower.specs.Code.{Kind, OfMain, Called, Serving, kind_of, are_silent, statements_code, ending, routine_code, code}
-use Rattle.lower.specs.Well.{AllLie, AreStatements}
+use Rattle.icode.specs.Machine.{At}
+use Rattle.icode.specs.Code.{is_number, procedure_or_none}
+use Rattle.lower.specs.Code.{OfMain, Called, Serving, kind_of, are_silent, statements_code, routine_code, has_vector, serves, number_for, body_for, procedure_code, code}
+use Rattle.lower.specs.Well.{AreStatements}
 use Rattle.lower.specs.Tracking.{IsProgram, CodeTracks, LoweringTracks}
+use Rattle.std.specs.Prelude.{get_or}
+use Rattle.std.proofs.lemmas.Option.{slice_get-get_or}
+use Rattle.std.proofs.lemmas.List.Quantifiers.{position-Some}
+use Rattle.lower.proofs.Bools.{true_false}
 use Rattle.lower.proofs.Setting.{Setting}
-use Rattle.lower.proofs.Sim.{N, X, T, S, eased, then_, down, both, halts_more, ends}
-use Rattle.lower.proofs.Holes.{IsHole, IsBody, in_running, in_main, in_handler, acts, HasAt, has_front, has_back}
-use Rattle.lower.proofs.Exprs.{After, ProcedureRuns}
+use Rattle.lower.proofs.Sim.{N, T, S, eased, then_, down, both, halts_more, ends}
+use Rattle.lower.proofs.Holes.{in_running, in_main, in_handler, acts, HasAt, has_front, has_back}
+use Rattle.lower.proofs.Exprs.{ProcedureRuns}
 use Rattle.lower.proofs.Leads.{leads}
-use Rattle.lower.proofs.Stmts.{K, Returns, arm_runs, statements_sim}
+use Rattle.lower.proofs.Stmts.{arm_runs, statements_sim}
 use Rattle.lower.proofs.Placed.{finds_in, low_in}
 use Rattle.lower.proofs.Ordered.{statements_all, called_before}
 
@@ -48,7 +51,6 @@ module _ (x : Setting) (serves : ℕ → Bool) (rank : ℕ → ℕ)
     (bodies : (q : ℕ) (procedure : Procedure) → slice_get x.procedures q ≡ Some procedure → AreStatements x.sizes x.procedures (λ p. (serves p ≡ false) × (rank p < rank q)) (kind_of (serves q)) procedure.body)
     (coded : (q : ℕ) (procedure : Procedure) → slice_get x.procedures q ≡ Some procedure → HasAt (x.code (routine.Procedure q)) 0 (routine_code x.procedures (kind_of (serves q)) procedure.body))
     (roomy : (q : ℕ) (procedure : Procedure) → slice_get x.procedures q ≡ Some procedure → leads procedure.body + 5 ≤ x.room) where
-
   called_sim : (q : ℕ) → serves q ≡ false → ((p : ℕ) → (serves p ≡ false) × (rank p < rank q) → ProcedureRuns x p) → ProcedureRuns x q
   called_sim q unserving calls procedure got n C cx r p ws after a =
       let D = λ (ss : Statements). C (Running ss) in
@@ -63,14 +65,14 @@ module _ (x : Setting) (serves : ℕ → Bool) (rank : ℕ → ℕ)
       let hb = has_back (x.code me) 0 cb (op.Constant 0 ∷ op.Leave ∷ []) has in
       let pe = 0 + length cb in
       let taken : (ss : Statements) (v q : ℕ) → v < 65536 → N x (D ss) ≡ Silent (C (Value v)) → slice_get (x.code me) q ≡ Some op.Leave → S x 1 n 0 (D ss) (At me q v st) = λ ss v q lt u h.
-            both x 0 n 0 (D ss) (C (Value v)) (At me q v st) (At r p v ws) u (acts x me q v st op.Leave h) (then_ x x.room n 2 2 (C (Value v)) (At r p v ws) (omega arith) (omega arith) (after v lt)) in
+      both x 0 n 0 (D ss) (C (Value v)) (At me q v st) (At r p v ws) u (acts x me q v st op.Leave h) (then_ x x.room n 2 2 (C (Value v)) (At r p v ws) (omega arith) (omega arith) (after v lt)) in
       let end : (f : ℕ) → 1 ≤ f → f ≤ 2 → (b : ℕ) → S x 1 n f (D End) (At me pe b st) = λ f le up b.
-            eased x 1 1 n 1 f (D End) (At me pe b st) (omega arith) le
-            (down x 1 n 0 (D End) (At me pe b st) (At me (pe + 1) 0 st) (acts x me pe b st (op.Constant 0) hb.0)
-            (then_ x 1 n 0 0 (D End) (At me (pe + 1) 0 st) (omega arith) (omega arith) (taken End 0 (pe + 1) (omega arith) (cx (Running End) refl) hb.1.0))) in
+      eased x 1 1 n 1 f (D End) (At me pe b st) (omega arith) le
+      (down x 1 n 0 (D End) (At me pe b st) (At me (pe + 1) 0 st) (acts x me pe b st (op.Constant 0) hb.0)
+      (then_ x 1 n 0 0 (D End) (At me (pe + 1) 0 st) (omega arith) (omega arith) (taken End 0 (pe + 1) (omega arith) (cx (Running End) refl) hb.1.0))) in
       let sim = arm_runs x MayCall calls Called me D (in_running x C cx) st body (statements_sim x MayCall calls Called me D (in_running x C cx) st body good) (are_silent body) refl
-            n (λ v q lt h. taken (Returned v) v q lt (cx (Running (Returned v)) refl) h) 0 End 0 1 (omega (arith, roomy q procedure got)) (has_front (x.code me) 0 cb (op.Constant 0 ∷ op.Leave ∷ []) has)
-            (end 2 (omega arith) (omega arith)) (λ b. subst (λ q. S x 1 n 1 (D End) (At me q b st)) (omega arith) (end 1 (omega arith) (omega arith) b)) in
+      n (λ v q lt h. taken (Returned v) v q lt (cx (Running (Returned v)) refl) h) 0 End 0 1 (omega (arith, roomy q procedure got)) (has_front (x.code me) 0 cb (op.Constant 0 ∷ op.Leave ∷ []) has)
+      (end 2 (omega arith) (omega arith)) (λ b. subst (λ q. S x 1 n 1 (D End) (At me q b st)) (omega arith) (end 1 (omega arith) (omega arith) b)) in
       eased x (1 + leads body) x.room n 2 2 (C (Running body)) (At me 0 a st) (omega (arith, roomy q procedure got)) (omega arith)
       (subst (λ ss. S x (1 + leads body) n 2 (C (Running ss)) (At me 0 a st)) (behind_end body) (sim a))
 
@@ -98,7 +100,7 @@ module _ (x : Setting) (serves : ℕ → Bool) (rank : ℕ → ℕ)
       let MayCall = λ (p : ℕ). serves p ≡ false in
       let end : (f q : ℕ) → pe ≡ q → (b : ℕ) → S x 0 n f (Main End) (At routine.Main q b []) = λ f q e b. subst (λ q. S x 0 n f (Main End) (At routine.Main q b [])) e (eased x 0 0 n 0 f (Main End) (At routine.Main pe b []) (omega arith) (omega arith) (main_end pe hb n b)) in
       let sim = arm_runs x MayCall calls OfMain routine.Main Main (in_main x) [] main (statements_sim x MayCall calls OfMain routine.Main Main (in_main x) [] main good) (are_silent main) refl
-            n tt 0 End 0 0 (omega (arith, small)) (has_front (x.code routine.Main) 0 cb tail has) (end 2 pe refl) (end 1 (pe + 0) (omega arith)) in
+      n tt 0 End 0 0 (omega (arith, small)) (has_front (x.code routine.Main) 0 cb tail has) (end 2 pe refl) (end 1 (pe + 0) (omega arith)) in
       then_ x (0 + leads main) n 2 2 (Main main) (At routine.Main 0 a []) (omega (arith, small)) (omega arith) (subst (λ ss. S x (0 + leads main) n 2 (Main ss) (At routine.Main 0 a [])) (behind_end main) (sim a))
 
   pub handler_tracks : (q : ℕ) (procedure : Procedure) → slice_get x.procedures q ≡ Some procedure → serves q ≡ true → (n a : ℕ) → T x n 2 (Handler procedure.body) (At (routine.Procedure q) 0 a [])
@@ -115,7 +117,7 @@ module _ (x : Setting) (serves : ℕ → Bool) (rank : ℕ → ℕ)
       let inner : (p : ℕ) → (serves p ≡ false) × (rank p < rank q) → ProcedureRuns x p = λ p may. calls p may.0 in
       let end : (f q : ℕ) → pe ≡ q → (b : ℕ) → S x 0 n f (Handler End) (At me q b []) = λ f q e b. subst (λ q. S x 0 n f (Handler End) (At me q b [])) e (ends x 0 n f (Handler End) (At me pe b []) refl (acts x me pe b [] op.Finish hb.0)) in
       let sim = arm_runs x MayCall inner Serving me Handler (in_handler x) [] body (statements_sim x MayCall inner Serving me Handler (in_handler x) [] body good) (are_silent body) refl
-            n (λ v p b h. ends x 0 n 0 (Handler (Returned v)) (At me p b []) refl (acts x me p b [] op.Finish h)) 0 End 0 0 (omega (arith, roomy q procedure got)) (has_front (x.code me) 0 cb (op.Finish ∷ []) has) (end 2 pe refl) (end 1 (pe + 0) (omega arith)) in
+      n (λ v p b h. ends x 0 n 0 (Handler (Returned v)) (At me p b []) refl (acts x me p b [] op.Finish h)) 0 End 0 0 (omega (arith, roomy q procedure got)) (has_front (x.code me) 0 cb (op.Finish ∷ []) has) (end 2 pe refl) (end 1 (pe + 0) (omega arith)) in
       then_ x (0 + leads body) n 2 2 (Handler body) (At me 0 a []) (omega (arith, roomy q procedure got)) (omega arith) (subst (λ ss. S x (0 + leads body) n 2 (Handler ss) (At me 0 a [])) (behind_end body) (sim a))
 
   pub unserved_tracks : slice_get (x.code routine.Unserved) 0 ≡ Some op.Finish → (n a : ℕ) → T x n 2 (Handler End) (At routine.Unserved 0 a [])
@@ -138,24 +140,48 @@ among [] q procedure h = absurd (subst (λ o. NoProcedure o) h tt)
 among (p ∷ ps) zero procedure h = subst (λ (y : Procedure). leads y.body ≤ leads p.body + all_leads ps) (some_same p procedure h) (omega arith)
 among (p ∷ ps) (suc q) procedure h = omega (arith, among ps q procedure h)
 
-pub program_tracks : (sizes : List ℕ) (procedures : List Procedure) (serves : ℕ → Bool) (order : List ℕ) (main : Statements) → IsProgram sizes procedures serves main → IsOrder order (graph_of procedures) → LoweringTracks sizes procedures serves main
-program_tracks sizes procedures serves order main good sorted = (leads main + all_leads procedures + 5 + 5, λ offsets placed n a. whole offsets placed n a)
+-- a vector's number is that of a procedure that serves it
+numbered : (n : Option ℕ) (v : ℕ) → is_number n v ≡ true → has_vector (Some n) ≡ true
+numbered (Some m) v h = refl
+numbered None v h = absurd (true_false (sym h))
+
+pub program_tracks : (sizes : List ℕ) (procedures : List Procedure) (vectors : List (Option ℕ)) (order : List ℕ) (main : Statements) → IsProgram sizes procedures vectors main → IsOrder order (graph_of procedures) → LoweringTracks sizes procedures vectors main
+program_tracks sizes procedures vectors order main good sorted = (leads main + all_leads procedures + 5 + 5, λ offsets placed n a. whole offsets placed n a)
   where
     whole : (offsets : List ℕ) → IsPlacement offsets sizes → (n a : ℕ)
-        → CodeTracks sizes procedures serves main (leads main + all_leads procedures + 5 + 5) n offsets (Main main) (At routine.Main 0 a [])
-        × ((q : ℕ) (procedure : Procedure) → slice_get procedures q ≡ Some procedure → serves q ≡ true → CodeTracks sizes procedures serves main (leads main + all_leads procedures + 5 + 5) n offsets (Handler procedure.body) (At (routine.Procedure q) 0 a []))
-        × CodeTracks sizes procedures serves main (leads main + all_leads procedures + 5 + 5) n offsets (Handler End) (At routine.Unserved 0 a [])
+        → CodeTracks sizes procedures vectors main (leads main + all_leads procedures + 5 + 5) n offsets (Main main) (At routine.Main 0 a [])
+        × ((v : ℕ) → CodeTracks sizes procedures vectors main (leads main + all_leads procedures + 5 + 5) n offsets (Handler (body_for procedures (number_for vectors v))) (At (procedure_or_none (number_for vectors v)) 0 a []))
     whole offsets placed n a =
         let x : Setting = record {
-              offsets = offsets; sizes = sizes; procedures = procedures; code = code procedures serves main;
-              room = leads main + all_leads procedures + 5; most = leads main + all_leads procedures + 5 + 5; big = omega arith; wide = omega arith;
-              finds = finds_in offsets sizes placed; low_enough = low_in offsets sizes placed; parameters_lie = good.parameters
-            } in
-        let bodies : (q : ℕ) (procedure : Procedure) → slice_get procedures q ≡ Some procedure → AreStatements sizes procedures (λ p. (serves p ≡ false) × (place_in order p < place_in order q)) (kind_of (serves q)) procedure.body = λ q procedure got.
-              statements_all sizes procedures (λ p. serves p ≡ false) (λ p. place_in order p < place_in order q) (kind_of (serves q)) procedure.body (good.bodies q procedure got) (called_before procedures order sorted q procedure got) in
-        let coded : (q : ℕ) (procedure : Procedure) → slice_get procedures q ≡ Some procedure → HasAt (code procedures serves main (routine.Procedure q)) 0 (routine_code procedures (kind_of (serves q)) procedure.body) = λ q procedure got.
-              subst (λ o. HasAt (code procedures serves main (routine.Procedure q)) 0 (routine_code procedures (kind_of (serves q)) (body_of o))) got (has_all (code procedures serves main (routine.Procedure q))) in
+          offsets = offsets;
+          sizes = sizes;
+          procedures = procedures;
+          code = code procedures vectors main;
+          room = leads main + all_leads procedures + 5;
+          most = leads main + all_leads procedures + 5 + 5;
+          big = omega arith;
+          wide = omega arith;
+          finds = finds_in offsets sizes placed;
+          low_enough = low_in offsets sizes placed;
+          parameters_lie = good.parameters;
+        } in
+        let bodies : (q : ℕ) (procedure : Procedure) → slice_get procedures q ≡ Some procedure → AreStatements sizes procedures (λ p. (serves vectors p ≡ false) × (place_in order p < place_in order q)) (kind_of (serves vectors q)) procedure.body = λ q procedure got.
+        statements_all sizes procedures (λ p. serves vectors p ≡ false) (λ p. place_in order p < place_in order q) (kind_of (serves vectors q)) procedure.body (good.bodies q procedure got) (called_before procedures order sorted q procedure got) in
+        let coded : (q : ℕ) (procedure : Procedure) → slice_get procedures q ≡ Some procedure → HasAt (code procedures vectors main (routine.Procedure q)) 0 (routine_code procedures (kind_of (serves vectors q)) procedure.body) = λ q procedure got.
+        subst (λ o. HasAt (procedure_code procedures (serves vectors q) o) 0 (routine_code procedures (kind_of (serves vectors q)) procedure.body)) (sym got) (has_all (routine_code procedures (kind_of (serves vectors q)) procedure.body)) in
         let roomy : (q : ℕ) (procedure : Procedure) → slice_get procedures q ≡ Some procedure → leads procedure.body + 5 ≤ leads main + all_leads procedures + 5 = λ q procedure got. omega (arith, among procedures q procedure got) in
-        (main_tracks x serves (place_in order) bodies coded roomy main good.main_body (omega arith) (has_all (code procedures serves main routine.Main)) n a,
-        λ q procedure got ours. handler_tracks x serves (place_in order) bodies coded roomy q procedure got ours n a,
-        unserved_tracks x serves (place_in order) bodies coded roomy refl n a)
+        let handled : (q : ℕ) (procedure : Procedure) → slice_get procedures q ≡ Some procedure → serves vectors q ≡ true → T x n 2 (Handler procedure.body) (At (routine.Procedure q) 0 a []) = λ q procedure got is.
+        handler_tracks x (serves vectors) (place_in order) bodies coded roomy q procedure got is n a in (
+          main_tracks x (serves vectors) (place_in order) bodies coded roomy main good.main_body (omega arith) (has_all (code procedures vectors main routine.Main)) n a,
+          λ v. by_number x (unserved_tracks x (serves vectors) (place_in order) bodies coded roomy refl n a) handled v (number_for vectors v) refl,
+        )
+      where
+        by_number : (x : Setting) → T x n 2 (Handler End) (At routine.Unserved 0 a []) → ((q : ℕ) (procedure : Procedure) → slice_get procedures q ≡ Some procedure → serves vectors q ≡ true → T x n 2 (Handler procedure.body) (At (routine.Procedure q) 0 a []))
+            → (v : ℕ) (o : Option ℕ) → number_for vectors v ≡ o → T x n 2 (Handler (body_for procedures o)) (At (procedure_or_none o) 0 a [])
+        by_number x none some v None e = none
+        by_number x none some v (Some q) e =
+            let first = position-Some (λ m. is_number m v) vectors q None e in
+            let empty : Procedure = record { parameters = []; body = End } in
+            let got = slice_get-get_or procedures q empty (omega (arith, first.0, good.each)) in
+            let serving : serves vectors q ≡ true = ap has_vector (slice_get-get_or vectors q None first.0) ∙ numbered (get_or vectors q None) v first.1 in
+            subst (λ o. T x n 2 (Handler (body_of o)) (At (routine.Procedure q) 0 a [])) (sym got) (some q (get_or procedures q empty) got serving)

@@ -1,5 +1,5 @@
 -- The code of trees. An expression leaves its value in the accumulator, and the stack as it was.
-use Rattle.std.specs.Prelude.{ℕ, suc, ◌+◌, ◌%◌, Bool, true, false, ◌&&◌, nat_eq, cond, List, [], ◌∷◌, ◌++◌, length, Option, Some, None, slice_get}
+use Rattle.std.specs.Prelude.{ℕ, suc, ◌+◌, ◌%◌, Bool, true, false, ◌&&◌, nat_eq, cond, List, [], ◌∷◌, ◌++◌, length, Option, Some, None, slice_get, position}
 use Rattle.word86.specs.declared.width.Width.{Width}
 use Rattle.word86.specs.declared.width.Width.TheVariants as widths
 use Rattle.word86.specs.declared.operation.UnaryOperation.TheVariants as unary
@@ -9,7 +9,7 @@ use Rattle.word86.specs.declared.place.Place.{Place}
 use Rattle.word86.specs.declared.place.Place.TheVariants as places
 use Rattle.word86.specs.Access.{Where, In}
 use Rattle.word86.specs.Access as access
-use Rattle.plm_type.specs.Rest.{Anchor, InObject, OnScreen, Behind, There, Scalar, Expression, Constant, Plain, Variable, Location, Unary, Binary, Embedded, Input, Call, Value, Passing, Running, Expressions, NoMore, More, Reference, Refer, Subscripts, NoSubscripts, Subscript, Target, ToPlain, ToVariable, ToPort, Targets, Only, Also, Loop, Count, Statement, Empty, Assign, Evaluate, Return, ReturnValue, Enabling, Disabling, Halting, If, Block, While, Case, Iterate, Leaving, Round, Comparing, Stepping, Adding, Storing, Ending, Statements, End, Then, Returned, Procedure}
+use Rattle.plm_type.specs.Rest.{Anchor, InObject, OnScreen, Behind, There, Scalar, Expression, Constant, Plain, Variable, Location, Unary, Binary, Embedded, Input, Call, Value, Passing, Running, Expressions, NoMore, More, Refer, Subscripts, NoSubscripts, Subscript, Target, ToPlain, ToVariable, ToPort, Targets, Only, Also, Count, Statement, Empty, Assign, Evaluate, Return, ReturnValue, Enabling, Disabling, Halting, If, Block, While, Case, Iterate, Leaving, Round, Comparing, Stepping, Adding, Storing, Ending, Statements, End, Then, Returned, Procedure}
 use Rattle.plm_type.specs.Next.{parameters_of, body_of}
 use Rattle.icode.specs.declared.instruction.Instruction.{Instruction}
 use Rattle.icode.specs.declared.instruction.Instruction.TheVariants as op
@@ -19,6 +19,7 @@ use Rattle.icode.specs.declared.instruction.Test.{Test}
 use Rattle.icode.specs.declared.instruction.Test.TheVariants as test
 use Rattle.icode.specs.declared.code.Routine.{Routine}
 use Rattle.icode.specs.declared.code.Routine.TheVariants as routine
+use Rattle.icode.specs.Code.{is_number}
 
 -- ---- operands
 
@@ -356,14 +357,34 @@ ending Serving = returning Serving
 abbrev pub routine_code : List Procedure → Kind → Statements → List Instruction
 routine_code procedures around ss = statements_code procedures around 0 ss ++ ending around
 
--- ---- a program
+-- ---- a program: its procedures, the vector of each that serves one, and main's statements
+
+abbrev pub has_vector : Option (Option ℕ) → Bool
+has_vector (Some (Some v)) = true
+has_vector (Some None) = false
+has_vector None = false
+
+abbrev pub serves : (vectors : List (Option ℕ)) → (procedure : ℕ) → Bool
+serves vectors q = has_vector (slice_get vectors q)
+
+-- the first procedure that serves a vector; what it does, and where its code begins; without one nothing is done
+abbrev pub number_for : (vectors : List (Option ℕ)) → (vector : ℕ) → Option ℕ
+number_for vectors v = position (λ n. is_number n v) vectors
+
+abbrev pub body_for : List Procedure → Option ℕ → Statements
+body_for procedures (Some q) = body_of (slice_get procedures q)
+body_for procedures None = End
 
 abbrev pub kind_of : (serves : Bool) → Kind
 kind_of serves = cond serves Serving Called
 
--- the procedures, of which these serve a vector, and main's statements
-abbrev pub code : List Procedure → (serves : ℕ → Bool) → (main : Statements) → Routine → List Instruction
-code procedures serves main routine.Main = routine_code procedures OfMain main
-code procedures serves main (routine.Procedure q) = routine_code procedures (kind_of (serves q)) (body_of (slice_get procedures q))
-code procedures serves main routine.Unserved = op.Finish ∷ []
-code procedures serves main routine.Nowhere = []
+-- a procedure that there is not has no instructions
+abbrev pub procedure_code : List Procedure → (serves : Bool) → Option Procedure → List Instruction
+procedure_code procedures serves (Some p) = routine_code procedures (kind_of serves) p.body
+procedure_code procedures serves None = []
+
+abbrev pub code : List Procedure → (vectors : List (Option ℕ)) → (main : Statements) → Routine → List Instruction
+code procedures vectors main routine.Main = routine_code procedures OfMain main
+code procedures vectors main (routine.Procedure q) = procedure_code procedures (serves vectors q) (slice_get procedures q)
+code procedures vectors main routine.Unserved = op.Finish ∷ []
+code procedures vectors main routine.Nowhere = []
