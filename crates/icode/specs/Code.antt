@@ -2,15 +2,10 @@
 use Rattle.std.specs.Prelude.{ℕ, Bool, false, nat_eq, List, [], ◌∷◌, Option, Some, None, slice_get, position}
 use Rattle.icode.specs.declared.instruction.Instruction.{Instruction}
 use Rattle.icode.specs.declared.instruction.Instruction.TheVariants.{Finish}
-use Rattle.icode.specs.declared.code.Procedure as declared
 use Rattle.icode.specs.declared.code.Routine.{Routine}
 use Rattle.icode.specs.declared.code.Routine.TheVariants.{Main, Procedure, Unserved, Nowhere}
 use Rattle.icode.specs.declared.code.Code.{Code}
-
--- a procedure that there is not has none
-abbrev pub instructions_of : Option declared.Procedure → List Instruction
-instructions_of (Some p) = p.instructions.items
-instructions_of None = []
+use Rattle.icode.specs.Levels.{instructions_of}
 
 abbrev pub code_of : Code → Routine → List Instruction
 code_of c Main = c.main.items

@@ -1,7 +1,7 @@
 //! Code, and the places in it.
 
-ghost use Rattle.std.specs.Prelude.{◌≡◌, position};
-ghost use Rattle.icode.specs.Code.{code_of, is_number, serving};
+ghost use Rattle.std.specs.Prelude.{◌≡◌, ℕ, slice_get, position};
+ghost use Rattle.icode.specs.Levels.{IsLevelled, AreOrdered, instructions_of};
 
 use crate::instruction::Instruction;
 
@@ -37,16 +37,24 @@ pub struct Procedure {
     pub instructions: Vec<Instruction>,
 }
 
-/// A program's code: one section for each module, in which its procedures stand, and main if it is the main module.
+/// A program's code: one section for each module, in which its procedures stand, and main if it is the main module. How many
+/// values are pushed at a place can be told without running it, and no procedure reaches itself: they have an order.
 #[derive(Drop)]
 pub struct Code {
     pub sections: usize,
     pub main_module: usize,
     pub main: Vec<Instruction>,
     pub procedures: Vec<Procedure>,
+    /// The procedures' numbers, each behind those that it calls.
+    pub order: Vec<usize>,
+    pub ghost main_levelled: { IsLevelled main.items },
+    pub ghost levelled: { (p : ℕ) → IsLevelled (instructions_of (slice_get procedures.items p)) },
+    pub ghost ordered: { AreOrdered order.items procedures.items },
 }
 
 impl Code {
+    ghost use Rattle.icode.specs.Code.{code_of, is_number, serving};
+
     /// The instructions of a routine: none of a procedure that there is not.
     pub fn instructions(&self, routine: Routine) -> &[Instruction]
         ensures { result.now ≡ code_of self.now routine }
@@ -83,6 +91,8 @@ impl Code {
 }
 
 impl Procedure {
+    ghost use Rattle.icode.specs.Code.{is_number};
+
     // Whether it is the interrupt procedure of a vector.
     fn serves(&self, vector: u8) -> bool
         ensures { result ≡ is_number self.now.vector vector }

@@ -11,4 +11,4 @@ pub use code::{Code, Position, Procedure, Routine, Word};
 pub use instruction::{Instruction, Relation, Test};
 pub use layout::Layout;
 pub use machine::{Machine, Step, Stop};
-pub use registers::Registers;
+pub use registers::{Registers, is_direct};

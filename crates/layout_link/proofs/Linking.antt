@@ -1,9 +1,11 @@
 -- What is linked fits, and takes few turns.
-use Rattle.std.proofs.Common.{◌≡◌, ℕ, ◌+◌, ◌<◌, ◌≤◌, List, length, get_or, ap, subst, arith}
+use Rattle.std.proofs.Common.{◌≡◌, ℕ, ◌+◌, ◌<◌, ◌≤◌, ◌++◌, List, length, map, get_or, ap, ap₂, ◌∙◌, subst, arith}
 use Rattle.plm_decl.specs.declared.names.Names.{Names}
+use Rattle.plm_decl.specs.declared.names.Object.{Object}
 use Rattle.plm_decl.specs.Placement.{IsPlacement, sizes_of}
 use Rattle.select.specs.declared.part.Part.{Part}
 use Rattle.layout_link.specs.declared.tasks.Task.{Task}
+use Rattle.layout_link.specs.Objects.{offsets_from}
 use Rattle.layout_link.specs.Tasks.{vector_tasks}
 use Rattle.layout_link.specs.Initial.{data_tasks, count_of}
 use Rattle.layout_link.specs.Linker.{offsets_in, initial_in, tasks_in}
@@ -16,7 +18,17 @@ use Rattle.layout_link.proofs.Fitting.{vectors_fit, data_fit, few_turns, few_byt
 pub along : (P : List Part → List Task → List ℕ → Type 0) (ps ps' : List Part) (ts ts' : List Task) (bs bs' : List ℕ) → ps ≡ ps' → ts ≡ ts' → bs ≡ bs' → P ps ts bs → P ps' ts' bs'
 along P ps ps' ts ts' bs bs' p t b h = subst (λ x. P ps' ts' x) b (subst (λ x. P ps' x bs) t (subst (λ x. P x ts bs) p h))
 
+pub vectors_are : (parts ps : List Part) (ts : List Task) → ps ≡ parts → ts ≡ vector_tasks ps 0 256 → ts ≡ vector_tasks parts 0 256
+vectors_are parts ps ts p e = e ∙ ap (λ l. vector_tasks l 0 256) p
+
 module _ (names : Names) where
+  pub offsets_are : (os : List Object) (offsets : List ℕ) → os ≡ names.objects.items → offsets ≡ offsets_from 2 (map (λ o. o.size) os) → offsets ≡ offsets_in names
+  offsets_are os offsets o e = e ∙ ap (λ l. offsets_from 2 (map (λ x. x.size) l)) o
+
+  pub tasks_are : (parts : List Part) (offsets : List ℕ) (vectors ts : List Task) → offsets ≡ offsets_in names → vectors ≡ vector_tasks parts 0 256
+      → ts ≡ vectors ++ data_tasks offsets names.variables.items 0 0 0 names.objects.items → ts ≡ tasks_in names parts
+  tasks_are parts offsets vectors ts o v e = e ∙ ap₂ (λ a b. a ++ data_tasks b names.variables.items 0 0 0 names.objects.items) v o
+
   pub room : (k : ℕ) → get_or (offsets_in names) k 0 + get_or (sizes_of names) k 0 ≤ 61440
   room k = let b = below 2 (sizes_of names) k in let s = sum_sizes names.objects.items in let r = names.has_room in omega (arith, b, s, r)
 

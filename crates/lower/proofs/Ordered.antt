@@ -44,7 +44,7 @@ module _ (sizes : List ℕ) (procedures : List Procedure) (A B : ℕ → Type 0)
     expression_all (Call p es) good all =
         let c = good.0 in
         let here : B p = all p (below_get procedures p c.0 c.1) (Contains-append_left (p ∷ []) (argument_calls es) p (Contains-push [] p)) in
-        ((c.0, c.1, c.2, (c.3, here)), expressions_all es good.1 (right (p ∷ []) (argument_calls es) all))
+        ((c.0, c.1, c.2, c.3, (c.4, here)), expressions_all es good.1 (right (p ∷ []) (argument_calls es) all))
     expression_all (Value v) good all = good
     expression_all (Passing p xs vs) good all = good
     expression_all (Running ss) good all = good

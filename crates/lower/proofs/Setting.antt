@@ -1,12 +1,11 @@
 -- What the simulation is in: a placement of the objects, the procedures, the code of each routine, and how many silent steps of a rest
 -- may come with one instruction.
-use Rattle.std.specs.Prelude.{◌≡◌, ℕ, ◌+◌, ◌≤◌, List, Some, slice_get, slice_index}
+use Rattle.std.specs.Prelude.{◌≡◌, ℕ, ◌+◌, ◌≤◌, List, Some, slice_index}
 use Rattle.word86.specs.Access.{In}
 use Rattle.word86.specs.Places.{held}
 use Rattle.plm_type.specs.Rest.{Procedure}
 use Rattle.icode.specs.declared.instruction.Instruction.{Instruction}
 use Rattle.icode.specs.declared.code.Routine.{Routine}
-use Rattle.lower.specs.Well.{AllLie}
 
 pub record Setting : Type 0 where
   pub offsets : List ℕ
@@ -20,4 +19,3 @@ pub record Setting : Type 0 where
   -- bytes of an object are found in it, below 65,536
   pub finds : (k i n : ℕ) → 1 ≤ n → i + n ≤ slice_index sizes k → held 0 offsets sizes (slice_index offsets k + i) n ≡ Some (In k i)
   pub low_enough : (k i n : ℕ) → 1 ≤ n → i + n ≤ slice_index sizes k → slice_index offsets k + i + n ≤ 65536
-  pub parameters_lie : (q : ℕ) (procedure : Procedure) → slice_get procedures q ≡ Some procedure → AllLie sizes procedure.parameters

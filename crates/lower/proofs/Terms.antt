@@ -190,7 +190,7 @@ module _ (x : Setting) (MayCall : ℕ → Type 0) (calls : (q : ℕ) → MayCall
     expression_sim (Input w e) good n C cx r p ws has after a =
         received e (operand_of e) (operand_is e) n C cx w r p ws has after (λ q h k b. expression_sim e good n (λ y. C (Input w y)) (in_input x C cx w) r q ws h k b) a
     expression_sim (Call q NoMore) good n C cx r p ws has after a =
-        invoked q good.0.0 good.0.1 good.0.3 n C cx (C (Call q NoMore)) (called_is q good.0.0 good.0.1 C cx [] ∙ ap (map_action C) (none_left q good.0.0.parameters good.0.0.body)) r p a ws has.0 after
+        invoked q good.0.0 good.0.1 good.0.4 n C cx (C (Call q NoMore)) (called_is q good.0.0 good.0.1 C cx [] ∙ ap (map_action C) (none_left q good.0.0.parameters good.0.0.body)) r p a ws has.0 after
     expression_sim (Call q (More e NoMore)) good n C cx r p ws has after a =
         let procedure = good.0.0 in
         let got = good.0.1 in
@@ -202,7 +202,7 @@ module _ (x : Setting) (MayCall : ℕ → Type 0) (calls : (q : ℕ) → MayCall
         let pe = p + length ce in
         expression_sim e good.1.0 n (λ y. C (Call q (More y NoMore))) (in_first x (λ es. C (Call q es)) (in_arguments x C cx q) NoMore) r p ws (has_front (x.code r) p ce cr has')
         (λ v lt. rise x n 0 (C (Call q (More (Value v) NoMore))) (At r pe v ws) (omega arith)
-        (alone_then q procedure got good.0.3 n C cx v (C (Call q (More (Value v) NoMore))) procedure.parameters good.0.2 (x.parameters_lie q procedure got) (called_is q procedure got C cx (v ∷ [])) r pe ws (has_back (x.code r) p ce cr has')
+        (alone_then q procedure got good.0.4 n C cx v (C (Call q (More (Value v) NoMore))) procedure.parameters good.0.2 good.0.3 (called_is q procedure got C cx (v ∷ [])) r pe ws (has_back (x.code r) p ce cr has')
         (after_at x n C r (p + length (ce ++ cr)) (pe + length cr) ws (omega (arith, length-append ce cr)) after'))) a
     expression_sim (Call q (More e (More f es))) good n C cx r p ws has after a =
         let procedure = good.0.0 in
@@ -230,7 +230,7 @@ module _ (x : Setting) (MayCall : ℕ → Type 0) (calls : (q : ℕ) → MayCall
         let total_is : total ≡ length (v ∷ vs) = omega (arith, len) in
         let R = C (Call q (of_values (v ∷ vs))) in
         moved_to x 2 n 1 R r (p + length cp) (pe + 1 + length cf) b (pushed (v ∷ vs) ws) at
-        (passed q procedure got good.0.3 n C cx r ws total (p + length (cp ++ cr)) after' procedure.parameters (v ∷ vs) ws (omega (arith, good.0.2, len)) (x.parameters_lie q procedure got)
+        (passed q procedure got good.0.4 n C cx r ws total (p + length (cp ++ cr)) after' procedure.parameters (v ∷ vs) ws (omega (arith, good.0.2, len)) good.0.3
         (ap (λ k. drop k (pushed (v ∷ vs) ws)) (omega (arith, total_is)) ∙ drop_pushed (v ∷ vs) 0 ws) (omega (arith, total_is, length_pushed (v ∷ vs) ws)) R (called_is q procedure got C cx (v ∷ vs)) (p + length cp) b hr
         (omega (arith, length-append cp cr, length-append (passing procedure.parameters) tail)))) v)))) a
     expression_sim (Value v) good n C cx r p ws has after a = absurd good

@@ -163,7 +163,6 @@ program_tracks sizes procedures vectors order main good sorted = (leads main + a
           wide = omega arith;
           finds = finds_in offsets sizes placed;
           low_enough = low_in offsets sizes placed;
-          parameters_lie = good.parameters;
         } in
         let bodies : (q : ℕ) (procedure : Procedure) → slice_get procedures q ≡ Some procedure → AreStatements sizes procedures (λ p. (serves vectors p ≡ false) × (place_in order p < place_in order q)) (kind_of (serves vectors q)) procedure.body = λ q procedure got.
         statements_all sizes procedures (λ p. serves vectors p ≡ false) (λ p. place_in order p < place_in order q) (kind_of (serves vectors q)) procedure.body (good.bodies q procedure got) (called_before procedures order sorted q procedure got) in

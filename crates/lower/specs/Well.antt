@@ -29,9 +29,9 @@ module _ (sizes : List ℕ) where
   AnchorLies (There address) = ⊥
 
   module _ (procedures : List Procedure) (MayCall : ℕ → Type 0) where
-    -- a procedure that may be called, with as many arguments as it has parameters
+    -- a procedure that may be called, with as many arguments as it has parameters, which lie in their objects
     abbrev pub IsCall : ℕ → ℕ → Type 0
-    IsCall p given = (procedure : Procedure) × (slice_get procedures p ≡ Some procedure) × (length procedure.parameters ≡ given) × MayCall p
+    IsCall p given = (procedure : Procedure) × (slice_get procedures p ≡ Some procedure) × (length procedure.parameters ≡ given) × AllLie procedure.parameters × MayCall p
 
     -- there are at most two subscripts: an element's and its member's
     abbrev mutual

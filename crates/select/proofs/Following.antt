@@ -407,10 +407,13 @@ module _ (laws : Laws) (x : Image) (all : IsSelected x)
           let whole : (d % 2 == 0) ≡ true = eq-eqb (d % 2) 0 even in
           let there : nat_le (d / 2) (length st) ≡ true = le-leb (d / 2) (length st) (omega (arith, half, size)) in
           silent r k (op.Drop m) e g n go a inv ws p sm (alu_number Add Sp d) [] g.ax (drop m ws) h (enough_words m ws le (Silent (At r (k + 1) g.ax (drop m ws))))
-          (subst (λ z. Chain r (place r k) (plain (z ∷ [])) (place r (k + 1))) (dropped_is m l) (rows_stand r k (op.Drop m) e)) (omega arith)
-          (h, drop m st, λ q. ap (λ (b : Bool). if b && nat_le (d / 2) (length st) then silently (Own q h (drop (d / 2) st) false given) else refused) whole
-              ∙ ap (λ (b : Bool). if b then silently (Own q h (drop (d / 2) st) false given) else refused) there ∙ ap (λ z. Does (Silent (Own q h (drop z st) false given))) half,
-            (refl, sym (Stacks.dropped_stack place base m ws le)))
+          (subst (λ z. Chain r (place r k) (plain (z ∷ [])) (place r (k + 1))) (dropped_is m l) (rows_stand r k (op.Drop m) e)) (omega arith) (
+            h,
+            drop m st,
+            λ q. ap (λ (b : Bool). if b && nat_le (d / 2) (length st) then silently (Own q h (drop (d / 2) st) false given) else refused) whole
+                ∙ ap (λ (b : Bool). if b then silently (Own q h (drop (d / 2) st) false given) else refused) there ∙ ap (λ z. Does (Silent (Own q h (drop z st) false given))) half,
+            (refl, sym (Stacks.dropped_stack place base m ws le)),
+          )
           refl a (Stacks.dropped_small place base m ws sm) (subst (λ z. OnlyChanges z g h) (sym (drop_changes m l)) (stays none g))
 
       one : m ≡ 1 → m ≤ length ws → Fl n 8 (At r k g.ax ws) (Own (place r k) g (stack_of ws) false given)
@@ -587,9 +590,14 @@ module _ (laws : Laws) (x : Image) (all : IsSelected x)
           → (h : Working) × Str (core o width) (set_word g Cx v) (stack_of ws) h (stack_of ws) × (h.ax ≡ u) × (u < 65536) × OnlyChanges (of_direct o) g h
       word_gives d v lt u is =
           let h = set_word g Cx v in
-          let c = read_value o width (stack_of ws) h g.ax v a refl refl lt (Some u) is in
-          (c.0, c.1, c.2, c.3, subst (λ (b : Bool). OnlyChanges (if b then just_accumulator else of_operator o) g c.0) (sym d)
-          (changes_then (of_operator o) g h c.0 (operands_put o g h refl refl refl refl refl) (changes_wider (of_operator o) (Cores.core_changes o) h c.0 (Cores.core_within o) c.4)))
+          let c = read_value o width (stack_of ws) h g.ax v a refl refl lt (Some u) is in (
+            c.0,
+            c.1,
+            c.2,
+            c.3,
+            subst (λ (b : Bool). OnlyChanges (if b then just_accumulator else of_operator o) g c.0) (sym d)
+                (changes_then (of_operator o) g h c.0 (operands_put o g h refl refl refl refl refl) (changes_wider (of_operator o) (Cores.core_changes o) h c.0 (Cores.core_within o) c.4)),
+          )
 
       by : (b : Bool) → is_direct o ≡ b → Fl n 8 (At r k g.ax ws) (Own (place r k) g (stack_of ws) false given)
       by true d =
@@ -707,8 +715,14 @@ module _ (laws : Laws) (x : Image) (all : IsSelected x)
           let g1 = set_word g Dx port in
           accessing r k (op.ReceiveFrom width port) e g n go a inv ws p sm (load_number Dx port ∷ []) (i.In width ports.Dx) (narrow width) (Input width port) (λ v. v) ws g1 (stack_of ws) (λ v. input_gives width g1 v) refl (stands_so true d) (omega arith) (narrow_pace width)
           (g1, stack_of ws, λ q. refl, (refl, refl)) (λ z. refl) sm
-          (λ v lt. let w = narrowed width g1 (stack_of ws) v lt in (w.0, w.1, w.2, w.3, subst (λ (b : Bool). OnlyChanges (joined just_accumulator (if b then just_high else none)) g w.0) (sym d)
-          (changes_then ported g g1 w.0 (tt, refl, tt, refl, refl, refl, refl) (changes_wider ported just_accumulator g1 w.0 refl w.4))))
+          (λ v lt. let w = narrowed width g1 (stack_of ws) v lt in (
+            w.0,
+            w.1,
+            w.2,
+            w.3,
+            subst (λ (b : Bool). OnlyChanges (joined just_accumulator (if b then just_high else none)) g w.0) (sym d)
+                (changes_then ported g g1 w.0 (tt, refl, tt, refl, refl, refl, refl) (changes_wider ported just_accumulator g1 w.0 refl w.4)),
+          ))
       by false d =
           accessing r k (op.ReceiveFrom width port) e g n go a inv ws p sm [] (i.In width (ports.Fixed port)) (narrow width) (Input width port) (λ v. v) ws g (stack_of ws) (λ v. input_gives width g v) refl (stands_so false d) (omega arith) (narrow_pace width)
           (refl, refl) (λ z. refl) sm

@@ -16,3 +16,4 @@ pub mod Offers
 pub mod Following
 pub mod Routines
 pub mod Whole
+pub mod Backs

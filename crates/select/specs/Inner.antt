@@ -1,3 +1,4 @@
 pub mod Settling
 pub mod Assembly
 pub mod Arriving
+pub mod Numbering

@@ -195,10 +195,17 @@ abbrev pub segment_of : Place → Segment
 segment_of (place.Ram k x) = segments.Ds
 segment_of (place.Screen x) = segments.Es
 
--- an instruction on a place: an object's offset is added when the parts are placed
+-- an instruction on a place, in the data's segment or in the screen's: an object's offset is added when the parts are placed
+abbrev pub placed : Place → (ram screen : Open) → Step
+placed (place.Ram k n) ram screen = Refer ram n Offset k
+placed (place.Screen n) ram screen = Plain (closed screen ((screen_begins + n) % 65536))
+
 abbrev pub on_place : (Segment → Open) → Place → Step
-on_place x (place.Ram k n) = Refer (x segments.Ds) n Offset k
-on_place x (place.Screen n) = Plain (closed (x segments.Es) ((screen_begins + n) % 65536))
+on_place x at = placed at (x segments.Ds) (x segments.Es)
+
+-- an operation on AX and the word at a place
+abbrev pub operates : AluOperation → Segment → Open
+operates f segment = opens.Word (Operate f) Ax (spot None segment)
 
 -- a word of the context's own, so many under the top
 abbrev pub own_word : ℕ → Memory
@@ -219,7 +226,7 @@ plain ns = map Plain ns
 abbrev pub by_read : BinaryOperation → Width → (read : Width) → Place → List Step
 by_read o width widths.Byte x = on_place (loads_right widths.Byte) x ∷ plain (narrow_right widths.Byte ++ core o width)
 by_read o width widths.Word x =
-    if is_direct o then on_place (λ s. opens.Word (Operate (direct o)) Ax (spot None s)) x ∷ plain (narrow_sum o width) else on_place (loads_right widths.Word) x ∷ plain (core o width)
+    if is_direct o then on_place (operates (direct o)) x ∷ plain (narrow_sum o width) else on_place (loads_right widths.Word) x ∷ plain (core o width)
 
 -- after a comparison: the relation does not hold
 abbrev pub fails : Relation → Condition
@@ -235,7 +242,7 @@ abbrev pub unless : Test → (target : ℕ) → List Step
 unless test.Odd t = Plain (i.TestByte (rm.Register Al) (masks.Immediate 1)) ∷ GotoIf conditions.Equal t ∷ []
 unless (test.Constant o k) t = Plain (alu_number Cmp Ax k) ∷ GotoIf (fails o) t ∷ []
 unless (test.Plain o widths.Byte x) t = on_place (loads_right widths.Byte) x ∷ Plain (clear_byte Ch) ∷ Plain (alu Cmp Ax Cx) ∷ GotoIf (fails o) t ∷ []
-unless (test.Plain o widths.Word x) t = on_place (λ s. opens.Word (Operate Cmp) Ax (spot None s)) x ∷ GotoIf (fails o) t ∷ []
+unless (test.Plain o widths.Word x) t = on_place (operates Cmp) x ∷ GotoIf (fails o) t ∷ []
 unless (test.Top o) t = Plain (pop Cx) ∷ Plain (alu Cmp Cx Ax) ∷ GotoIf (fails o) t ∷ []
 
 -- ---- registers that an interrupt procedure saves
@@ -254,6 +261,10 @@ saved rs = map push rs
 abbrev pub given_back : List Register16 → List Instr
 given_back [] = []
 given_back (r ∷ rs) = given_back rs ++ pop r ∷ []
+
+-- an interrupt procedure ends
+abbrev pub finished : Registers → List Step
+finished saves = plain (given_back (registers_of saves) ++ i.InterruptReturn ∷ [])
 
 -- ---- the table
 
@@ -294,7 +305,7 @@ module _ (first : ℕ → ℕ) (part : ℕ → ℕ) (saves : Registers) where
   row p op.Enable = Plain i.EnableInterrupts ∷ Plain i.Nop ∷ []
   row p op.Disable = Plain i.DisableInterrupts ∷ []
   row p op.Halt = Plain i.EnableInterrupts ∷ Plain i.Halt ∷ []
-  row p op.Finish = plain (given_back (registers_of saves) ++ i.InterruptReturn ∷ [])
+  row p op.Finish = finished saves
 
   -- the rows of instructions, the first of which has this index
   abbrev pub rows : ℕ → List Instruction → List Step

@@ -3,7 +3,10 @@
 
 mod assembly;
 mod laws;
+mod operators;
 mod part;
+mod put;
+mod rows;
 mod sizes;
 
 pub use laws::instructions_follow_code;

@@ -1,4 +1,4 @@
-use Rattle.std.proofs.Common.{◌≡◌, ◌+◌, ◌<◌, ◌++◌, ℕ, length, map, refl, ap, ap₂, sym, subst, ◌∙◌, arith}
+use Rattle.std.proofs.Common.{◌≡◌, ◌+◌, ◌<◌, ℕ, length, map, refl, ap, sym, subst, ◌∙◌, arith}
 use Rattle.std.specs.Prelude.{slice_index}
 use Rattle.std.proofs.Common.{get_or}
 use Rattle.plm_decl.specs.Placement.{IsPlacement, sizes_of}
@@ -6,21 +6,21 @@ use Rattle.layout_link.specs.Image.{base_of}
 use Rattle.layout_link.specs.Objects.{offsets_from}
 use Rattle.layout_link.specs.Places.{total_of, places_from}
 use Rattle.layout_link.specs.Startup.{HasStartUp}
-use Rattle.layout_link.specs.Tasks.{placed, bytes_of_tasks, is_main, is_unserved, vector_tasks}
-use Rattle.layout_link.specs.Initial.{data_tasks, copied_bytes}
+use Rattle.layout_link.specs.Tasks.{placed, bytes_of_tasks, is_main, is_unserved}
+use Rattle.layout_link.specs.Initial.{copied_bytes}
 use Rattle.layout_link.specs.Rom.{rom_byte, rom_code, rom_words}
 use Rattle.layout_link.specs.Stand.{PartsStand}
 use Rattle.layout_link.specs.Linker.{offsets_in, initial_in, tasks_in, place_in, places_in}
 use Rattle.layout_link.specs.Inner.Head.{TasksFit, turns_of_tasks}
 use Rattle.layout_link.proofs.Imaging.{base_and_size, place_below}
 use Rattle.layout_link.proofs.Fitting.{all_turns}
-use Rattle.layout_link.proofs.Linking.{along, room, placed_well, tasks_fit, turns_few}
+use Rattle.layout_link.proofs.Linking.{along, offsets_are, vectors_are, tasks_are, room, placed_well, tasks_fit, turns_few}
 use Rattle.layout_link.proofs.linker.link.Goals as goal
 
 pub initial-requires : goal.initial-requires
 initial-requires c = λ k.
     let names = c.args.names.now in
-    let offsets : c.deref-3.result.now ≡ offsets_in names = c.deref-3.ensures.value ∙ c.in_ok-offsets.ensures.offsets ∙ ap (λ os. offsets_from 2 (map (λ o. o.size) os)) c.deref.ensures.value in
+    let offsets = c.deref-3.ensures.value ∙ offsets_are names c.deref.result.now c.in_ok-offsets.offsets.items c.deref.ensures.value c.in_ok-offsets.ensures.offsets in
     let same = ap (λ l. get_or l k 0) offsets in
     let r = room names k in
     omega (arith, same, r)
@@ -29,19 +29,19 @@ pub rom_with-requires : goal.rom_with-requires
 rom_with-requires c =
     let names = c.args.names.now in
     let parts = c.args.parts.items in
-    let offsets : c.deref-3.result.now ≡ offsets_in names = c.deref-3.ensures.value ∙ c.in_ok-offsets.ensures.offsets ∙ ap (λ os. offsets_from 2 (map (λ o. o.size) os)) c.deref.ensures.value in
-    let vectors : c.in_ok-tasks.tasks.items ≡ vector_tasks parts 0 256 = c.in_ok-tasks.ensures.tasks ∙ ap (λ p. vector_tasks p 0 256) c.deref-2.ensures.value in
-    let tasks : c.deref-6.result.now ≡ tasks_in names parts = c.deref-6.ensures.value ∙ c.in_ok-bytes.ensures.tasks ∙ ap₂ (λ a b. a ++ data_tasks b names.variables.items 0 0 0 names.objects.items) vectors offsets in
-    let bytes : c.deref-7.result.now ≡ initial_in names = c.deref-7.ensures.value ∙ c.in_ok-bytes.ensures.bytes ∙ ap (λ b. copied_bytes b names.variables.items 0 names.objects.items) offsets in
+    let offsets = c.deref-3.ensures.value ∙ offsets_are names c.deref.result.now c.in_ok-offsets.offsets.items c.deref.ensures.value c.in_ok-offsets.ensures.offsets in
+    let vectors = vectors_are parts c.deref-2.result.now c.in_ok-tasks.tasks.items c.deref-2.ensures.value c.in_ok-tasks.ensures.tasks in
+    let tasks = c.deref-6.ensures.value ∙ tasks_are names parts c.deref-3.result.now c.in_ok-tasks.tasks.items c.initial.new.tasks.items offsets vectors c.in_ok-bytes.ensures.tasks in
+    let bytes = c.deref-7.ensures.value ∙ c.in_ok-bytes.ensures.bytes ∙ ap (λ b. copied_bytes b names.variables.items 0 names.objects.items) offsets in
     along (λ ps ts bs. (from : ℕ) → from + length bs < 65536 → TasksFit from ts) parts parts (tasks_in names parts) c.deref-6.result.now (initial_in names) c.deref-7.result.now refl (sym tasks) (sym bytes) (tasks_fit names parts)
 
 pub start_turns-requires : goal.start_turns-requires
 start_turns-requires c =
     let names = c.args.names.now in
     let parts = c.args.parts.items in
-    let offsets : c.deref-3.result.now ≡ offsets_in names = c.deref-3.ensures.value ∙ c.in_ok-offsets.ensures.offsets ∙ ap (λ os. offsets_from 2 (map (λ o. o.size) os)) c.deref.ensures.value in
-    let vectors : c.in_ok-tasks.tasks.items ≡ vector_tasks parts 0 256 = c.in_ok-tasks.ensures.tasks ∙ ap (λ p. vector_tasks p 0 256) c.deref-2.ensures.value in
-    let tasks : c.deref-8.result.now ≡ tasks_in names parts = c.deref-8.ensures.value ∙ c.in_ok-bytes.ensures.tasks ∙ ap₂ (λ a b. a ++ data_tasks b names.variables.items 0 0 0 names.objects.items) vectors offsets in
+    let offsets = c.deref-3.ensures.value ∙ offsets_are names c.deref.result.now c.in_ok-offsets.offsets.items c.deref.ensures.value c.in_ok-offsets.ensures.offsets in
+    let vectors = vectors_are parts c.deref-2.result.now c.in_ok-tasks.tasks.items c.deref-2.ensures.value c.in_ok-tasks.ensures.tasks in
+    let tasks = c.deref-8.ensures.value ∙ tasks_are names parts c.deref-3.result.now c.in_ok-tasks.tasks.items c.initial.new.tasks.items offsets vectors c.in_ok-bytes.ensures.tasks in
     let same = ap turns_of_tasks tasks in
     let few = (turns_few names parts).1 in
     omega (arith, same, few)
@@ -51,9 +51,9 @@ returns-clause-start_up c =
     let names = c.args.names.now in
     let parts = c.args.parts.items in
     let base = base_of c.args.size in
-    let offsets : c.deref-3.result.now ≡ offsets_in names = c.deref-3.ensures.value ∙ c.in_ok-offsets.ensures.offsets ∙ ap (λ os. offsets_from 2 (map (λ o. o.size) os)) c.deref.ensures.value in
-    let vectors : c.in_ok-tasks.tasks.items ≡ vector_tasks parts 0 256 = c.in_ok-tasks.ensures.tasks ∙ ap (λ p. vector_tasks p 0 256) c.deref-2.ensures.value in
-    let tasks : c.deref-6.result.now ≡ tasks_in names parts = c.deref-6.ensures.value ∙ c.in_ok-bytes.ensures.tasks ∙ ap₂ (λ a b. a ++ data_tasks b names.variables.items 0 0 0 names.objects.items) vectors offsets in
+    let offsets = c.deref-3.ensures.value ∙ offsets_are names c.deref.result.now c.in_ok-offsets.offsets.items c.deref.ensures.value c.in_ok-offsets.ensures.offsets in
+    let vectors = vectors_are parts c.deref-2.result.now c.in_ok-tasks.tasks.items c.deref-2.ensures.value c.in_ok-tasks.ensures.tasks in
+    let tasks = c.deref-6.ensures.value ∙ tasks_are names parts c.deref-3.result.now c.in_ok-tasks.tasks.items c.initial.new.tasks.items offsets vectors c.in_ok-bytes.ensures.tasks in
     along
     (λ ps ts bs.
     HasStartUp (rom_code c.in_ok-rom.rom.items) (place_in (places_from (base + (39 + bytes_of_tasks ts)) ps) ps is_unserved)
@@ -65,10 +65,10 @@ returns-clause-initial c =
     let names = c.args.names.now in
     let parts = c.args.parts.items in
     let base = base_of c.args.size in
-    let offsets : c.deref-3.result.now ≡ offsets_in names = c.deref-3.ensures.value ∙ c.in_ok-offsets.ensures.offsets ∙ ap (λ os. offsets_from 2 (map (λ o. o.size) os)) c.deref.ensures.value in
-    let vectors : c.in_ok-tasks.tasks.items ≡ vector_tasks parts 0 256 = c.in_ok-tasks.ensures.tasks ∙ ap (λ p. vector_tasks p 0 256) c.deref-2.ensures.value in
-    let tasks : c.deref-6.result.now ≡ tasks_in names parts = c.deref-6.ensures.value ∙ c.in_ok-bytes.ensures.tasks ∙ ap₂ (λ a b. a ++ data_tasks b names.variables.items 0 0 0 names.objects.items) vectors offsets in
-    let bytes : c.deref-7.result.now ≡ initial_in names = c.deref-7.ensures.value ∙ c.in_ok-bytes.ensures.bytes ∙ ap (λ b. copied_bytes b names.variables.items 0 names.objects.items) offsets in
+    let offsets = c.deref-3.ensures.value ∙ offsets_are names c.deref.result.now c.in_ok-offsets.offsets.items c.deref.ensures.value c.in_ok-offsets.ensures.offsets in
+    let vectors = vectors_are parts c.deref-2.result.now c.in_ok-tasks.tasks.items c.deref-2.ensures.value c.in_ok-tasks.ensures.tasks in
+    let tasks = c.deref-6.ensures.value ∙ tasks_are names parts c.deref-3.result.now c.in_ok-tasks.tasks.items c.initial.new.tasks.items offsets vectors c.in_ok-bytes.ensures.tasks in
+    let bytes = c.deref-7.ensures.value ∙ c.in_ok-bytes.ensures.bytes ∙ ap (λ b. copied_bytes b names.variables.items 0 names.objects.items) offsets in
     along (λ ps ts bs. (k : ℕ) → k < length bs → rom_byte c.in_ok-rom.rom.items (base + (39 + bytes_of_tasks ts) + total_of ps + k) ≡ slice_index bs k)
     c.deref-4.result.now parts c.deref-6.result.now (tasks_in names parts) c.deref-7.result.now (initial_in names) c.deref-4.ensures.value tasks bytes c.in_ok-rom.ensures.initial
 
@@ -77,9 +77,9 @@ returns-clause-turns c =
     let names = c.args.names.now in
     let parts = c.args.parts.items in
     let size = c.args.size in
-    let offsets : c.deref-3.result.now ≡ offsets_in names = c.deref-3.ensures.value ∙ c.in_ok-offsets.ensures.offsets ∙ ap (λ os. offsets_from 2 (map (λ o. o.size) os)) c.deref.ensures.value in
-    let vectors : c.in_ok-tasks.tasks.items ≡ vector_tasks parts 0 256 = c.in_ok-tasks.ensures.tasks ∙ ap (λ p. vector_tasks p 0 256) c.deref-2.ensures.value in
-    let tasks : c.deref-8.result.now ≡ tasks_in names parts = c.deref-8.ensures.value ∙ c.in_ok-bytes.ensures.tasks ∙ ap₂ (λ a b. a ++ data_tasks b names.variables.items 0 0 0 names.objects.items) vectors offsets in
+    let offsets = c.deref-3.ensures.value ∙ offsets_are names c.deref.result.now c.in_ok-offsets.offsets.items c.deref.ensures.value c.in_ok-offsets.ensures.offsets in
+    let vectors = vectors_are parts c.deref-2.result.now c.in_ok-tasks.tasks.items c.deref-2.ensures.value c.in_ok-tasks.ensures.tasks in
+    let tasks = c.deref-8.ensures.value ∙ tasks_are names parts c.deref-3.result.now c.in_ok-tasks.tasks.items c.initial.new.tasks.items offsets vectors c.in_ok-bytes.ensures.tasks in
     c.start_turns.ensures ∙ ap (λ ts. 1291 + turns_of_tasks ts) tasks
     ∙ ap (λ n. 1291 + n) (sym (all_turns (places_in names parts size) (base_of size + (39 + bytes_of_tasks (tasks_in names parts)) + total_of parts) (tasks_in names parts)))
 
@@ -87,9 +87,9 @@ pub returns-clause-few_turns : goal.returns-clause-few_turns
 returns-clause-few_turns c =
     let names = c.args.names.now in
     let parts = c.args.parts.items in
-    let offsets : c.deref-3.result.now ≡ offsets_in names = c.deref-3.ensures.value ∙ c.in_ok-offsets.ensures.offsets ∙ ap (λ os. offsets_from 2 (map (λ o. o.size) os)) c.deref.ensures.value in
-    let vectors : c.in_ok-tasks.tasks.items ≡ vector_tasks parts 0 256 = c.in_ok-tasks.ensures.tasks ∙ ap (λ p. vector_tasks p 0 256) c.deref-2.ensures.value in
-    let tasks : c.deref-8.result.now ≡ tasks_in names parts = c.deref-8.ensures.value ∙ c.in_ok-bytes.ensures.tasks ∙ ap₂ (λ a b. a ++ data_tasks b names.variables.items 0 0 0 names.objects.items) vectors offsets in
+    let offsets = c.deref-3.ensures.value ∙ offsets_are names c.deref.result.now c.in_ok-offsets.offsets.items c.deref.ensures.value c.in_ok-offsets.ensures.offsets in
+    let vectors = vectors_are parts c.deref-2.result.now c.in_ok-tasks.tasks.items c.deref-2.ensures.value c.in_ok-tasks.ensures.tasks in
+    let tasks = c.deref-8.ensures.value ∙ tasks_are names parts c.deref-3.result.now c.in_ok-tasks.tasks.items c.initial.new.tasks.items offsets vectors c.in_ok-bytes.ensures.tasks in
     let same = c.start_turns.ensures ∙ ap (λ ts. 1291 + turns_of_tasks ts) tasks in
     let few = (turns_few names parts).0 in
     omega (arith, same, few)
@@ -100,9 +100,9 @@ returns-clause-parts c =
     let parts = c.args.parts.items in
     let base = base_of c.args.size in
     let rom = c.in_ok-rom.rom.items in
-    let offsets : c.deref-3.result.now ≡ offsets_in names = c.deref-3.ensures.value ∙ c.in_ok-offsets.ensures.offsets ∙ ap (λ os. offsets_from 2 (map (λ o. o.size) os)) c.deref.ensures.value in
-    let vectors : c.in_ok-tasks.tasks.items ≡ vector_tasks parts 0 256 = c.in_ok-tasks.ensures.tasks ∙ ap (λ p. vector_tasks p 0 256) c.deref-2.ensures.value in
-    let tasks : c.deref-6.result.now ≡ tasks_in names parts = c.deref-6.ensures.value ∙ c.in_ok-bytes.ensures.tasks ∙ ap₂ (λ a b. a ++ data_tasks b names.variables.items 0 0 0 names.objects.items) vectors offsets in
+    let offsets = c.deref-3.ensures.value ∙ offsets_are names c.deref.result.now c.in_ok-offsets.offsets.items c.deref.ensures.value c.in_ok-offsets.ensures.offsets in
+    let vectors = vectors_are parts c.deref-2.result.now c.in_ok-tasks.tasks.items c.deref-2.ensures.value c.in_ok-tasks.ensures.tasks in
+    let tasks = c.deref-6.ensures.value ∙ tasks_are names parts c.deref-3.result.now c.in_ok-tasks.tasks.items c.initial.new.tasks.items offsets vectors c.in_ok-bytes.ensures.tasks in
     let there : c.deref-5.result.now ≡ offsets_in names = c.deref-5.ensures.value ∙ sym c.deref-3.ensures.value ∙ offsets in
     along (λ ps ts bs. PartsStand (rom_code rom) (rom_words rom) bs (places_from (base + (39 + bytes_of_tasks ts)) ps) ps)
     c.deref-4.result.now parts c.deref-6.result.now (tasks_in names parts) c.deref-5.result.now (offsets_in names) c.deref-4.ensures.value tasks there c.in_ok-rom.ensures.parts
@@ -111,9 +111,9 @@ pub returns-clause-within : goal.returns-clause-within
 returns-clause-within c = λ part.
     let names = c.args.names.now in
     let parts = c.args.parts.items in
-    let offsets : c.deref-3.result.now ≡ offsets_in names = c.deref-3.ensures.value ∙ c.in_ok-offsets.ensures.offsets ∙ ap (λ os. offsets_from 2 (map (λ o. o.size) os)) c.deref.ensures.value in
-    let vectors : c.in_ok-tasks.tasks.items ≡ vector_tasks parts 0 256 = c.in_ok-tasks.ensures.tasks ∙ ap (λ p. vector_tasks p 0 256) c.deref-2.ensures.value in
-    let tasks : c.deref-6.result.now ≡ tasks_in names parts = c.deref-6.ensures.value ∙ c.in_ok-bytes.ensures.tasks ∙ ap₂ (λ a b. a ++ data_tasks b names.variables.items 0 0 0 names.objects.items) vectors offsets in
+    let offsets = c.deref-3.ensures.value ∙ offsets_are names c.deref.result.now c.in_ok-offsets.offsets.items c.deref.ensures.value c.in_ok-offsets.ensures.offsets in
+    let vectors = vectors_are parts c.deref-2.result.now c.in_ok-tasks.tasks.items c.deref-2.ensures.value c.in_ok-tasks.ensures.tasks in
+    let tasks = c.deref-6.ensures.value ∙ tasks_are names parts c.deref-3.result.now c.in_ok-tasks.tasks.items c.initial.new.tasks.items offsets vectors c.in_ok-bytes.ensures.tasks in
     let n = ap bytes_of_tasks tasks in
     let m = ap total_of c.deref-4.ensures.value in
     let fits = c.in_ok-rom.ensures.fits in

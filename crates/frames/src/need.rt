@@ -1,0 +1,124 @@
+//! What a routine needs with all that it calls.
+
+ghost use Rattle.std.specs.Prelude.{◌≡◌, ◌+◌, ◌^◌, ◌<◌, ℕ, slice_set};
+ghost use Rattle.icode.specs.Levels.{after, popped};
+
+use icode::{Instruction, Registers, Test};
+
+/// The most words that are pushed, and the registers that can be changed.
+#[derive(Clone, Copy)]
+pub(crate) struct Need {
+    pub(crate) words: u128,
+    pub(crate) registers: Registers,
+}
+
+/// Keeps what a procedure needs.
+#[tactic(auto, using(crate::proofs::Known::set_past))]
+pub(crate) fn keep(needs: &mut Vec<Need>, procedure: usize, need: Need)
+    ensures { needs.new.items ≡ slice_set needs.old.items procedure need }
+{
+    if procedure < needs.len() {
+        needs[procedure] = need;
+    }
+}
+
+impl Need {
+    ghost use Rattle.frames.specs.Inner.Needs.{nothing, both, met, need, need_at};
+
+    /// Of what there is not.
+    pub(crate) fn nothing() -> Need
+        ensures { result ≡ nothing }
+    {
+        Need {
+            words: 0,
+            registers: Registers::none(),
+        }
+    }
+
+    // What is enough for either.
+    fn and(self, other: Need) -> Need
+        ensures { result ≡ both self other }
+    {
+        Need {
+            words: self.words.max(other.words),
+            registers: self.registers.joined(other.registers),
+        }
+    }
+
+    /// Of the procedure of this number.
+    pub(crate) fn at(needs: &[Need], procedure: usize) -> Need
+        ensures { result ≡ need_at needs.now procedure }
+    {
+        match needs.get(procedure) {
+            None => Need::nothing(),
+            Some(need) => *need,
+        }
+    }
+
+    // Of an instruction, where its routine has pushed so many values.
+    fn met(needs: &[Need], instruction: Instruction, height: usize) -> Need
+        requires { (q : ℕ) → (need_at needs.now q).words + 2 ^ 64 < 2 ^ 128 }
+        ensures { result ≡ met (need_at needs.now) instruction height }
+    {
+        match instruction {
+            Instruction::Invoke(procedure) => {
+                let called = Need::at(needs, procedure);
+                Need {
+                    words: height as u128 + 1 + called.words,
+                    registers: called.registers,
+                }
+            }
+            _ => Need {
+                words: height as u128,
+                registers: instruction.changes(),
+            },
+        }
+    }
+
+    /// Of a routine with these instructions, where the procedures need this.
+    #[tactic(auto, using(crate::proofs::Needing::both_parts, crate::proofs::Needing::both_nothing))]
+    pub(crate) fn of(needs: &[Need], instructions: &[Instruction]) -> Need
+        requires { (q : ℕ) → (need_at needs.now q).words + 2 ^ 64 < 2 ^ 128 }
+        ensures { result ≡ need (need_at needs.now) 0 instructions.now }
+    {
+        let mut height = 0;
+        let mut so_far = Need::nothing();
+        for instruction in instructions {
+            so_far = so_far.and(Need::met(needs, *instruction, height));
+            height = height_after(*instruction, height);
+        }
+        so_far.and(Need {
+            words: height as u128,
+            registers: Registers::none(),
+        })
+    }
+}
+
+// How many values a test takes.
+fn popped(test: Test) -> usize
+    ensures { result ≡ popped test }
+{
+    match test {
+        Test::Top(_) => 1,
+        _ => 0,
+    }
+}
+
+// How many values a routine has pushed behind an instruction, where it had pushed so many before.
+fn height_after(instruction: Instruction, height: usize) -> usize
+    requires { height + 1 < 2 ^ 64 }
+    ensures { result ≡ after instruction height }
+{
+    match instruction {
+        Instruction::Push => height + 1,
+        Instruction::Drop(count) => height.saturating_sub(count),
+        Instruction::Binary(_, _)
+        | Instruction::StoreAt(_, _)
+        | Instruction::StoreThere(_)
+        | Instruction::Send(_) => height.saturating_sub(1),
+        Instruction::AheadUnless(test, _) | Instruction::BackUnless(test, _) => {
+            height.saturating_sub(popped(test))
+        }
+        _ => height,
+    }
+}

@@ -1,0 +1,209 @@
+//! The instructions of operators.
+
+ghost use Rattle.std.specs.Prelude.{◌≡◌, ◌++◌, OnOk};
+ghost use Rattle.select.specs.Rows.{plain, core, changed, narrow, narrow_right, then_narrow, spread, inverted, shift_word, shift_byte, direct, narrow_sum, by_constant};
+
+use crate::part::Step;
+use crate::put::{all, alu, alu_number, clear_byte, copy, load_number};
+use i86_table::{
+    AluOperation, Count, Instr, Operands, Register8, Register16, RmOperand, ShiftOperation,
+    Signedness, UnaryOperation,
+};
+use icode::is_direct;
+use word86::{BinaryOperation, Fault, Width};
+
+const AX: Register16 = Register16::Ax;
+
+const CX: Register16 = Register16::Cx;
+
+/// A value of this width in AX.
+pub(crate) fn narrow(steps: &mut Vec<Step>, width: Width) -> Result<(), Fault>
+    ensures { OnOk result (steps.new.items ≡ steps.old.items ++ plain (narrow width)) }
+{
+    match width {
+        Width::Byte => all(steps, &[clear_byte(Register8::Ah)]),
+        Width::Word => Ok(()),
+    }
+}
+
+/// A value of this width in CX.
+pub(crate) fn narrow_right(steps: &mut Vec<Step>, width: Width) -> Result<(), Fault>
+    ensures { OnOk result (steps.new.items ≡ steps.old.items ++ plain (narrow_right width)) }
+{
+    match width {
+        Width::Byte => all(steps, &[clear_byte(Register8::Ch)]),
+        Width::Word => Ok(()),
+    }
+}
+
+/// An instruction, and a value of this width in AX.
+pub(crate) fn then_narrow(
+    steps: &mut Vec<Step>,
+    width: Width,
+    instruction: Instr,
+) -> Result<(), Fault>
+    ensures { OnOk result (steps.new.items ≡ steps.old.items ++ plain (then_narrow width instruction)) }
+{
+    match width {
+        Width::Byte => all(steps, &[instruction, clear_byte(Register8::Ah)]),
+        Width::Word => all(steps, &[instruction]),
+    }
+}
+
+// SBB AL,AL: 0FFH where the carry is set, else 0.
+fn spread() -> Instr
+    ensures { result ≡ spread }
+{
+    Instr::AluByte(
+        AluOperation::Sbb,
+        Operands::FromRegister(RmOperand::Register(Register8::Al), Register8::Al),
+    )
+}
+
+// NOT AL.
+fn inverted() -> Instr
+    ensures { result ≡ inverted }
+{
+    Instr::UnaryByte(UnaryOperation::Not, RmOperand::Register(Register8::Al))
+}
+
+fn shift_word(operation: ShiftOperation) -> Instr
+    ensures { result ≡ shift_word operation }
+{
+    Instr::ShiftWord(operation, RmOperand::Register(AX), Count::Cl)
+}
+
+fn shift_byte(operation: ShiftOperation) -> Instr
+    ensures { result ≡ shift_byte operation }
+{
+    Instr::ShiftByte(operation, RmOperand::Register(Register8::Al), Count::Cl)
+}
+
+/// An operator on AX and CX.
+pub(crate) fn core(
+    steps: &mut Vec<Step>,
+    operation: BinaryOperation,
+    width: Width,
+) -> Result<(), Fault>
+    ensures { OnOk result (steps.new.items ≡ steps.old.items ++ plain (core operation width)) }
+{
+    let clear = clear_byte(Register8::Ah);
+    let zero_dx = load_number(Register16::Dx, 0);
+    let divide = Instr::DivideWord(Signedness::Unsigned, RmOperand::Register(CX));
+    let subtract = alu(AluOperation::Sub, AX, CX);
+    let one = Instr::AluWord(
+        AluOperation::Cmp,
+        Operands::Immediate(RmOperand::Register(AX), 1),
+    );
+    let compare = alu(AluOperation::Cmp, AX, CX);
+    let compare_back = alu(AluOperation::Cmp, CX, AX);
+    match operation {
+        BinaryOperation::Multiply => {
+            let multiply = Instr::MultiplyWord(Signedness::Unsigned, RmOperand::Register(CX));
+            then_narrow(steps, width, multiply)
+        }
+        BinaryOperation::Divide => all(steps, &[zero_dx, divide]),
+        BinaryOperation::Modulo => all(steps, &[zero_dx, divide, copy(AX, Register16::Dx)]),
+        BinaryOperation::Add => then_narrow(steps, width, alu(AluOperation::Add, AX, CX)),
+        BinaryOperation::Subtract => then_narrow(steps, width, subtract),
+        BinaryOperation::Equal => all(steps, &[subtract, one, spread(), clear]),
+        BinaryOperation::NotEqual => all(steps, &[subtract, one, spread(), inverted(), clear]),
+        BinaryOperation::Less => all(steps, &[compare, spread(), clear]),
+        BinaryOperation::LessEqual => all(steps, &[compare_back, spread(), inverted(), clear]),
+        BinaryOperation::Greater => all(steps, &[compare_back, spread(), clear]),
+        BinaryOperation::GreaterEqual => all(steps, &[compare, spread(), inverted(), clear]),
+        BinaryOperation::And => all(steps, &[alu(AluOperation::And, AX, CX)]),
+        BinaryOperation::Or => all(steps, &[alu(AluOperation::Or, AX, CX)]),
+        BinaryOperation::ExclusiveOr => all(steps, &[alu(AluOperation::Xor, AX, CX)]),
+        BinaryOperation::ShiftLeft => { then_narrow(steps, width, shift_word(ShiftOperation::Shl)) }
+        BinaryOperation::ShiftRight => {
+            let shift = shift_word(ShiftOperation::Shr);
+            match width {
+                Width::Byte => all(steps, &[clear, shift]),
+                Width::Word => all(steps, &[shift]),
+            }
+        }
+        BinaryOperation::RotateLeft => match width {
+            Width::Byte => all(steps, &[shift_byte(ShiftOperation::Rol), clear]),
+            Width::Word => all(steps, &[shift_word(ShiftOperation::Rol)]),
+        },
+        BinaryOperation::RotateRight => match width {
+            Width::Byte => all(steps, &[shift_byte(ShiftOperation::Ror), clear]),
+            Width::Word => all(steps, &[shift_word(ShiftOperation::Ror)]),
+        },
+    }
+}
+
+/// An operator on AX.
+pub(crate) fn changed(
+    steps: &mut Vec<Step>,
+    operation: word86::UnaryOperation,
+    width: Width,
+) -> Result<(), Fault>
+    ensures { OnOk result (steps.new.items ≡ steps.old.items ++ plain (changed operation width)) }
+{
+    let clear = clear_byte(Register8::Ah);
+    match operation {
+        word86::UnaryOperation::Plus | word86::UnaryOperation::Double => all(steps, &[Instr::Nop]),
+        word86::UnaryOperation::Minus => {
+            let negate = Instr::UnaryWord(UnaryOperation::Neg, RmOperand::Register(AX));
+            then_narrow(steps, width, negate)
+        }
+        word86::UnaryOperation::Not => {
+            let invert = Instr::UnaryWord(UnaryOperation::Not, RmOperand::Register(AX));
+            then_narrow(steps, width, invert)
+        }
+        word86::UnaryOperation::Low => all(steps, &[clear]),
+        word86::UnaryOperation::High => {
+            let high = Instr::MoveByte(Operands::FromRegister(
+                RmOperand::Register(Register8::Al),
+                Register8::Ah,
+            ));
+            all(steps, &[high, clear])
+        }
+    }
+}
+
+/// The arithmetic of an operator that takes its right operand where it lies.
+pub(crate) fn direct(operation: BinaryOperation) -> AluOperation
+    ensures { result ≡ direct operation }
+{
+    match operation {
+        BinaryOperation::Add => AluOperation::Add,
+        BinaryOperation::Subtract => AluOperation::Sub,
+        BinaryOperation::And => AluOperation::And,
+        BinaryOperation::Or => AluOperation::Or,
+        _ => AluOperation::Xor,
+    }
+}
+
+/// A sum or a difference of this width in AX.
+pub(crate) fn narrow_sum(
+    steps: &mut Vec<Step>,
+    operation: BinaryOperation,
+    width: Width,
+) -> Result<(), Fault>
+    ensures { OnOk result (steps.new.items ≡ steps.old.items ++ plain (narrow_sum operation width)) }
+{
+    match operation {
+        BinaryOperation::Add | BinaryOperation::Subtract => narrow(steps, width),
+        _ => Ok(()),
+    }
+}
+
+/// An operator on AX and a constant.
+pub(crate) fn by_constant(
+    steps: &mut Vec<Step>,
+    operation: BinaryOperation,
+    width: Width,
+    number: u16,
+) -> Result<(), Fault>
+    ensures { OnOk result (steps.new.items ≡ steps.old.items ++ plain (by_constant operation width number)) }
+{
+    if is_direct(operation) {
+        all(steps, &[alu_number(direct(operation), AX, number)])?;
+        return narrow_sum(steps, operation, width);
+    }
+    all(steps, &[load_number(CX, number)])?;
+    core(steps, operation, width)
+}

@@ -1,0 +1,150 @@
+//! Instructions and steps one behind the other.
+
+ghost use Rattle.std.specs.Prelude.{◌≡◌, ◌*◌, ◌%◌, ◌++◌, ◌∷◌, [], OnOk};
+ghost use Rattle.select.specs.declared.part.Step.TheVariants.{Plain};
+ghost use Rattle.select.specs.Rows.{plain, load_number, copy, clear_byte, alu, alu_number, push, pop, spot, access, placed, own_word};
+
+use crate::part::{Kind, Step};
+use i86_table::{
+    Address, AluOperation, Base, Instr, Memory, Open, Operands, Register8, Register16, RmOperand,
+    Segment, Spot, Use,
+};
+use word86::{Fault, Place, Width};
+
+/// One more step.
+pub(crate) fn put(steps: &mut Vec<Step>, step: Step) -> Result<(), Fault>
+    ensures { OnOk result (steps.new.items ≡ steps.old.items ++ step ∷ []) }
+{
+    steps.push(step)?;
+    Ok(())
+}
+
+/// One more instruction.
+pub(crate) fn add(steps: &mut Vec<Step>, instruction: Instr) -> Result<(), Fault>
+    ensures { OnOk result (steps.new.items ≡ steps.old.items ++ Plain instruction ∷ []) }
+{
+    put(steps, Step::Plain(instruction))
+}
+
+/// These instructions.
+pub(crate) fn all(steps: &mut Vec<Step>, instructions: &[Instr]) -> Result<(), Fault>
+    ensures { OnOk result (steps.new.items ≡ steps.old.items ++ plain instructions.now) }
+{
+    for instruction in instructions {
+        add(steps, *instruction)?;
+    }
+    Ok(())
+}
+
+/// A word register gets a number.
+pub(crate) fn load_number(register: Register16, number: u16) -> Instr
+    ensures { result ≡ load_number register number }
+{
+    Instr::MoveWord(Operands::Immediate(RmOperand::Register(register), number))
+}
+
+/// A word register gets another's value.
+pub(crate) fn copy(to: Register16, from: Register16) -> Instr
+    ensures { result ≡ copy to from }
+{
+    Instr::MoveWord(Operands::FromRegister(RmOperand::Register(to), from))
+}
+
+/// A byte register gets 0.
+pub(crate) fn clear_byte(register: Register8) -> Instr
+    ensures { result ≡ clear_byte register }
+{
+    Instr::MoveByte(Operands::Immediate(RmOperand::Register(register), 0))
+}
+
+/// An operation on two word registers.
+pub(crate) fn alu(operation: AluOperation, to: Register16, from: Register16) -> Instr
+    ensures { result ≡ alu operation to from }
+{
+    Instr::AluWord(
+        operation,
+        Operands::FromRegister(RmOperand::Register(to), from),
+    )
+}
+
+/// An operation on a word register and a number.
+pub(crate) fn alu_number(operation: AluOperation, to: Register16, number: u16) -> Instr
+    ensures { result ≡ alu_number operation to number }
+{
+    Instr::AluWord(
+        operation,
+        Operands::Immediate(RmOperand::Register(to), number),
+    )
+}
+
+/// PUSH of a word register.
+pub(crate) fn push(register: Register16) -> Instr
+    ensures { result ≡ push register }
+{
+    Instr::Push(RmOperand::Register(register))
+}
+
+/// POP of a word register.
+pub(crate) fn pop(register: Register16) -> Instr
+    ensures { result ≡ pop register }
+{
+    Instr::Pop(RmOperand::Register(register))
+}
+
+/// A place in a segment but for its number.
+pub(crate) fn spot(base: Option<Base>, segment: Segment) -> Spot
+    ensures { result ≡ spot base segment }
+{
+    Spot { segment, base }
+}
+
+/// What a register of this width does with a place.
+pub(crate) fn access(
+    usage: Use,
+    half: Register8,
+    whole: Register16,
+    width: Width,
+    spot: Spot,
+) -> Open
+    ensures { result ≡ access usage half whole width spot.base spot.segment }
+{
+    match width {
+        Width::Byte => Open::Byte(usage, half, spot),
+        Width::Word => Open::Word(usage, whole, spot),
+    }
+}
+
+/// An instruction on a place: the first one in the data's segment, or the second one in the screen's.
+pub(crate) fn placed(place: Place, ram: Open, screen: Open) -> Step
+    ensures { result ≡ placed place ram screen }
+{
+    match place {
+        Place::Ram(object, index) => Step::Refer {
+            instruction: ram,
+            number: index,
+            kind: Kind::Offset,
+            name: object,
+        },
+        Place::Screen(index) => Step::Plain(screen.closed(0x8000_u16.wrapping_add(index))),
+    }
+}
+
+/// The context's own word so many under the top, where BP is the stack pointer.
+pub(crate) fn own_word(above: usize) -> Memory
+    ensures { result ≡ own_word above }
+{
+    Memory {
+        segment: Segment::Ss,
+        address: Address::Based {
+            base: Base::Bp,
+            displacement: twice(above),
+        },
+    }
+}
+
+/// The bytes of so many words, modulo 65,536.
+pub(crate) fn twice(words: usize) -> u16
+    ensures { result ≡ 2 * words % 65536 }
+{
+    (2 * (words % 0x8000)) as u16
+}

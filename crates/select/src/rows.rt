@@ -1,0 +1,373 @@
+//! The steps of each instruction of the intermediate code.
+
+ghost use Rattle.std.specs.Prelude.{◌≡◌, ◌+◌, ◌++◌, ◌∷◌, [], OnOk, slice_index};
+ghost use Rattle.icode.specs.Registers.{none};
+ghost use Rattle.icode.specs.declared.instruction.Instruction.TheVariants.{Switch};
+ghost use Rattle.select.specs.declared.part.Step.TheVariants.{Goto};
+ghost use Rattle.select.specs.Inner.Numbering.{step_at};
+ghost use Rattle.select.specs.Rows.{plain, finished, narrow, operates, row, dropped, sent, received, by_read, fails, unless, with_register, given_back, registers_of, on_place, loads, loads_right, stores};
+
+use crate::operators::{
+    by_constant, changed, core, direct, narrow, narrow_right, narrow_sum, then_narrow,
+};
+use crate::part::{Kind, Step};
+use crate::put::{
+    access, add, all, alu, alu_number, clear_byte, copy, load_number, own_word, placed, pop, push,
+    put, spot, twice,
+};
+use i86_table::{
+    AluOperation, Base, Condition, Count, Instr, Open, Operands, Port, Register8, Register16,
+    RmOperand, Segment, ShiftOperation, TestMask, Use,
+};
+use icode::{Instruction, Registers, Relation, Test, is_direct};
+use word86::{BinaryOperation, Fault, Place, Width};
+
+const AX: Register16 = Register16::Ax;
+
+const BX: Register16 = Register16::Bx;
+
+const CX: Register16 = Register16::Cx;
+
+const DX: Register16 = Register16::Dx;
+
+const BP: Register16 = Register16::Bp;
+
+const SP: Register16 = Register16::Sp;
+
+/// AL or AX gets what lies at a place, or behind it as the base says.
+fn load(width: Width, base: Option<Base>, place: Place) -> Step
+    ensures { result ≡ on_place (loads width base) place }
+{
+    let ram = access(Use::Load, Register8::Al, AX, width, spot(base, Segment::Ds));
+    let screen = access(Use::Load, Register8::Al, AX, width, spot(base, Segment::Es));
+    placed(place, ram, screen)
+}
+
+/// CL or CX gets what lies at a place.
+fn load_right(width: Width, place: Place) -> Step
+    ensures { result ≡ on_place (loads_right width) place }
+{
+    let ram = access(Use::Load, Register8::Cl, CX, width, spot(None, Segment::Ds));
+    let screen = access(Use::Load, Register8::Cl, CX, width, spot(None, Segment::Es));
+    placed(place, ram, screen)
+}
+
+/// AL or AX is written at a place, or behind it as the base says.
+fn store(width: Width, base: Option<Base>, place: Place) -> Step
+    ensures { result ≡ on_place (stores width base) place }
+{
+    let ram = access(
+        Use::Store,
+        Register8::Al,
+        AX,
+        width,
+        spot(base, Segment::Ds),
+    );
+    let screen = access(
+        Use::Store,
+        Register8::Al,
+        AX,
+        width,
+        spot(base, Segment::Es),
+    );
+    placed(place, ram, screen)
+}
+
+/// The operation on AX and the word at a place.
+fn operate(operation: AluOperation, place: Place) -> Step
+    ensures { result ≡ on_place (operates operation) place }
+{
+    let ram = Open::Word(Use::Operate(operation), AX, spot(None, Segment::Ds));
+    let screen = Open::Word(Use::Operate(operation), AX, spot(None, Segment::Es));
+    placed(place, ram, screen)
+}
+
+fn dropped(count: usize) -> Instr
+    ensures { result ≡ dropped count }
+{
+    match count {
+        0 => Instr::Nop,
+        1 => pop(CX),
+        _ => alu_number(AluOperation::Add, SP, twice(count)),
+    }
+}
+
+fn sent(steps: &mut Vec<Step>, width: Width, port: u16) -> Result<(), Fault>
+    ensures { OnOk result (steps.new.items ≡ steps.old.items ++ plain (sent width port)) }
+{
+    if port >= 256 {
+        return all(steps, &[load_number(DX, port), Instr::Out(width, Port::Dx)]);
+    }
+    all(steps, &[Instr::Out(width, Port::Fixed(port as u8))])
+}
+
+fn received(steps: &mut Vec<Step>, width: Width, port: u16) -> Result<(), Fault>
+    ensures { OnOk result (steps.new.items ≡ steps.old.items ++ plain (received width port)) }
+{
+    if port >= 256 {
+        add(steps, load_number(DX, port))?;
+        return then_narrow(steps, width, Instr::In(width, Port::Dx));
+    }
+    then_narrow(steps, width, Instr::In(width, Port::Fixed(port as u8)))
+}
+
+/// An operator on AX and what is read at a place.
+fn by_read(
+    steps: &mut Vec<Step>,
+    operation: BinaryOperation,
+    width: Width,
+    read: Width,
+    place: Place,
+) -> Result<(), Fault>
+    ensures { OnOk result (steps.new.items ≡ steps.old.items ++ by_read operation width read place) }
+{
+    if matches!(read, Width::Word) && is_direct(operation) {
+        put(steps, operate(direct(operation), place))?;
+        return narrow_sum(steps, operation, width);
+    }
+    put(steps, load_right(read, place))?;
+    narrow_right(steps, read)?;
+    core(steps, operation, width)
+}
+
+/// The condition after a comparison where the relation does not hold.
+fn fails(relation: Relation) -> Condition
+    ensures { result ≡ fails relation }
+{
+    match relation {
+        Relation::Equal => Condition::NotEqual,
+        Relation::NotEqual => Condition::Equal,
+        Relation::Less => Condition::NotBelow,
+        Relation::LessEqual => Condition::Above,
+        Relation::Greater => Condition::BelowOrEqual,
+        Relation::GreaterEqual => Condition::Below,
+    }
+}
+
+/// A jump to a step unless a test holds.
+fn unless(steps: &mut Vec<Step>, test: Test, target: usize) -> Result<(), Fault>
+    ensures { OnOk result (steps.new.items ≡ steps.old.items ++ unless test target) }
+{
+    let condition = match test {
+        Test::Odd => {
+            let al = RmOperand::Register(Register8::Al);
+            add(steps, Instr::TestByte(al, TestMask::Immediate(1)))?;
+            Condition::Equal
+        }
+        Test::Constant(relation, number) => {
+            add(steps, alu_number(AluOperation::Cmp, AX, number))?;
+            fails(relation)
+        }
+        Test::Plain(relation, Width::Byte, place) => {
+            put(steps, load_right(Width::Byte, place))?;
+            all(
+                steps,
+                &[clear_byte(Register8::Ch), alu(AluOperation::Cmp, AX, CX)],
+            )?;
+            fails(relation)
+        }
+        Test::Plain(relation, Width::Word, place) => {
+            put(steps, operate(AluOperation::Cmp, place))?;
+            fails(relation)
+        }
+        Test::Top(relation) => {
+            all(steps, &[pop(CX), alu(AluOperation::Cmp, CX, AX)])?;
+            fails(relation)
+        }
+    };
+    put(steps, Step::GotoIf { condition, target })
+}
+
+/// The number of the step at which the row of an index begins.
+fn step_at(firsts: &[usize], index: usize) -> usize
+    ensures { result ≡ step_at firsts.now index }
+{
+    let last = firsts.len().saturating_sub(1);
+    match firsts.get(index.min(last)) {
+        None => 0,
+        Some(first) => *first,
+    }
+}
+
+/// The step at which a row so many further on begins.
+fn ahead(firsts: &[usize], next: usize, count: usize) -> usize
+    ensures { result ≡ step_at firsts.now (next + count) }
+{
+    step_at(firsts, next.saturating_add(count))
+}
+
+/// The number of a part, 0 where there is none.
+fn part_of(parts: &[usize], procedure: usize) -> usize
+    ensures { result ≡ slice_index parts.now procedure }
+{
+    match parts.get(procedure) {
+        None => 0,
+        Some(part) => *part,
+    }
+}
+
+/// A register comes back from the stack, if it was saved.
+fn pop_if(steps: &mut Vec<Step>, saved: bool, register: Register16) -> Result<(), Fault>
+    ensures { OnOk result (steps.new.items ≡ steps.old.items ++ plain (given_back (with_register saved register []))) }
+{
+    if saved {
+        add(steps, pop(register))
+    } else {
+        Ok(())
+    }
+}
+
+/// All registers come back, the last one first, and the interrupt procedure ends.
+#[tactic(auto, using(crate::proofs::Backs::all_back))]
+fn finish(steps: &mut Vec<Step>, saves: Registers) -> Result<(), Fault>
+    ensures { OnOk result (steps.new.items ≡ steps.old.items ++ finished saves) }
+{
+    pop_if(steps, saves.frame, BP)?;
+    pop_if(steps, saves.address, BX)?;
+    pop_if(steps, saves.high, DX)?;
+    pop_if(steps, saves.right, CX)?;
+    pop_if(steps, saves.accumulator, AX)?;
+    add(steps, Instr::InterruptReturn)
+}
+
+/// A jump through a table whose words follow, for so many cases, or behind them.
+fn switch(steps: &mut Vec<Step>, firsts: &[usize], next: usize, count: usize) -> Result<(), Fault>
+    ensures { OnOk result (steps.new.items ≡ steps.old.items ++ row (step_at firsts.now) (λ q. 0) none next (Switch count)) }
+{
+    add(
+        steps,
+        alu_number(AluOperation::Cmp, AX, (count % 0x1_0000) as u16),
+    )?;
+    put(
+        steps,
+        Step::GotoIf {
+            condition: Condition::NotBelow,
+            target: ahead(firsts, next, count),
+        },
+    )?;
+    let twice = Instr::ShiftWord(ShiftOperation::Shl, RmOperand::Register(BX), Count::One);
+    all(steps, &[copy(BX, AX), twice])?;
+    put(
+        steps,
+        Step::AtStep {
+            instruction: Open::JumpTo(spot(Some(Base::Bx), Segment::Cs)),
+            target: step_at(firsts, next),
+        },
+    )
+}
+
+/// What stands at a place goes to AL or AX, behind what comes first; a byte fills its word.
+fn loaded(
+    steps: &mut Vec<Step>,
+    width: Width,
+    base: Option<Base>,
+    place: Place,
+) -> Result<(), Fault>
+    ensures { OnOk result (steps.new.items ≡ steps.old.items ++ on_place (loads width base) place ∷ plain (narrow width)) }
+{
+    put(steps, load(width, base, place))?;
+    narrow(steps, width)
+}
+
+/// A jump to the row that stands so many further on.
+fn jump(steps: &mut Vec<Step>, target: usize) -> Result<(), Fault>
+    ensures { OnOk result (steps.new.items ≡ steps.old.items ++ Goto target ∷ []) }
+{
+    put(steps, Step::Goto { target })
+}
+
+/// The steps of an instruction of a routine that saves these registers, where the index behind it is `next`, the rows begin at
+/// `firsts`, the last of which is the end of the routine, and the procedures' parts have the numbers `parts`. The one refusal is want of memory.
+pub(crate) fn row(
+    steps: &mut Vec<Step>,
+    firsts: &[usize],
+    parts: &[usize],
+    saves: Registers,
+    next: usize,
+    instruction: Instruction,
+) -> Result<(), Fault>
+    ensures { OnOk result (steps.new.items ≡ steps.old.items ++ row (step_at firsts.now) (slice_index parts.now) saves next instruction) }
+{
+    match instruction {
+        Instruction::Constant(number) => add(steps, load_number(AX, number)),
+        Instruction::Locate(place) => {
+            put(steps, placed(place, Open::Number(AX), Open::Number(AX)))
+        }
+        Instruction::LocateAt(place) => {
+            let sum = Open::OperateAx(AluOperation::Add);
+            put(steps, placed(place, sum, sum))
+        }
+        Instruction::Load(width, place) => loaded(steps, width, None, place),
+        Instruction::LoadAt(width, place) => {
+            add(steps, copy(BX, AX))?;
+            loaded(steps, width, Some(Base::Bx), place)
+        }
+        Instruction::LoadThere(width) => {
+            let there = spot(Some(Base::Bx), Segment::Ds);
+            let load = access(Use::Load, Register8::Al, AX, width, there);
+            all(steps, &[copy(BX, AX), load.closed(0)])?;
+            narrow(steps, width)
+        }
+        Instruction::Push => add(steps, push(AX)),
+        Instruction::Pick(above) => {
+            let fetch = Instr::MoveWord(Operands::FromMemory(AX, own_word(above)));
+            all(steps, &[copy(BP, SP), fetch])
+        }
+        Instruction::Drop(count) => add(steps, dropped(count)),
+        Instruction::Unary(operation, width) => changed(steps, operation, width),
+        Instruction::Binary(operation, width) => {
+            all(steps, &[copy(CX, AX), pop(AX)])?;
+            core(steps, operation, width)
+        }
+        Instruction::BinaryConstant(operation, width, number) => {
+            by_constant(steps, operation, width, number)
+        }
+        Instruction::BinaryPlain(operation, width, read, place) => {
+            by_read(steps, operation, width, read, place)
+        }
+        Instruction::Store(width, place) => put(steps, store(width, None, place)),
+        Instruction::StoreAt(width, place) => {
+            all(steps, &[copy(BX, AX), pop(AX)])?;
+            put(steps, store(width, Some(Base::Bx), place))
+        }
+        Instruction::StoreThere(width) => {
+            let there = spot(Some(Base::Bx), Segment::Ds);
+            let store = access(Use::Store, Register8::Al, AX, width, there);
+            all(steps, &[copy(BX, AX), pop(AX), store.closed(0)])
+        }
+        Instruction::Send(width) => {
+            all(steps, &[copy(DX, AX), pop(AX), Instr::Out(width, Port::Dx)])
+        }
+        Instruction::SendTo(width, port) => sent(steps, width, port),
+        Instruction::Receive(width) => {
+            add(steps, copy(DX, AX))?;
+            then_narrow(steps, width, Instr::In(width, Port::Dx))
+        }
+        Instruction::ReceiveFrom(width, port) => received(steps, width, port),
+        Instruction::Ahead(count) => jump(steps, ahead(firsts, next, count)),
+        Instruction::AheadUnless(test, count) => unless(steps, test, ahead(firsts, next, count)),
+        Instruction::Back(count) => jump(steps, step_at(firsts, next.saturating_sub(count))),
+        Instruction::BackUnless(test, count) => {
+            unless(steps, test, step_at(firsts, next.saturating_sub(count)))
+        }
+        Instruction::Switch(count) => switch(steps, firsts, next, count),
+        Instruction::Case(count) => {
+            let target = ahead(firsts, next, count);
+            put(steps, Step::Word { target })
+        }
+        Instruction::Invoke(procedure) => put(
+            steps,
+            Step::Refer {
+                instruction: Open::Call,
+                number: 0,
+                kind: Kind::Near,
+                name: part_of(parts, procedure),
+            },
+        ),
+        Instruction::Leave => add(steps, Instr::Return),
+        Instruction::Enable => all(steps, &[Instr::EnableInterrupts, Instr::Nop]),
+        Instruction::Disable => add(steps, Instr::DisableInterrupts),
+        Instruction::Halt => all(steps, &[Instr::EnableInterrupts, Instr::Halt]),
+        Instruction::Finish => finish(steps, saves),
+    }
+}
