@@ -3,6 +3,7 @@
 ghost use Rattle.std.specs.Prelude.{◌≡◌};
 ghost use Rattle.layout_link.specs.Image.{bytes_in};
 
+use frames::Stack;
 use plm_decl::Placement;
 
 /// How large a ROM is.
@@ -30,15 +31,6 @@ impl RomSize {
             RomSize::Kib64 => 0x1_0000,
         }
     }
-}
-
-/// The most bytes that main and an interrupt procedure have on the stack.
-#[derive(Debug, Clone, Copy, PartialEq, Eq)]
-pub struct Stack {
-    /// Those of main.
-    pub main: u16,
-    /// Those of an interrupt procedure, which lie beyond main's, with the 6 bytes of its entry.
-    pub handler: u16,
 }
 
 /// A ROM, and what is known of it.

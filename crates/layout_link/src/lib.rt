@@ -11,6 +11,6 @@ mod startup;
 mod tasks;
 mod words;
 
-pub use image::{Image, RomSize, Stack};
+pub use image::{Image, RomSize};
 pub use linker::link;
 pub use tasks::Task;

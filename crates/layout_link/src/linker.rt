@@ -13,7 +13,7 @@ ghost use Rattle.layout_link.specs.Stand.{PartsStand};
 ghost use Rattle.layout_link.specs.Linker.{offsets_in, needed, place_in, places_in, place_of, acts_in, InitialStands};
 ghost use Rattle.layout_link.specs.Inner.Head.{TasksFit, turns_of_task, turns_of_tasks};
 
-use crate::image::{Image, RomSize, Stack};
+use crate::image::{Image, RomSize};
 use crate::initial::initial;
 use crate::objects::offsets_of;
 use crate::places::{are_within, end_of, places_of};
@@ -21,6 +21,7 @@ use crate::rom::{RESET, code_in_rom, rom_of};
 use crate::startup::{START_UP, start_up};
 use crate::tasks::{Task, bytes_of, is_main, is_unserved, vectors};
 use crate::words::number_at;
+use frames::Stack;
 use plm_decl::{Names, Placement};
 use select::Part;
 use std::alloc::Global;
