@@ -1,6 +1,8 @@
 -- The count of a whole program's code.
 use Rattle.std.proofs.Common.{◌≡◌, ℕ, zero, suc, ◌+◌, ◌*◌, ◌≤◌, ◌<◌, max, Bool, true, false, ◌||◌, List, [], ◌∷◌, length, Option, Some, None, slice_get, get_or, refl, sym, ap, ◌∙◌, subst, arith, ◌⊎◌, inl, inr}
-use Rattle.std.specs.Prelude.{position}
+use Rattle.std.specs.Prelude.{map, position, slice_index_or, Result, Ok, Err, IfOk}
+use Rattle.std.specs.Global.{Vec}
+use Rattle.word86.specs.declared.fault.Fault.{Fault}
 use Rattle.std.proofs.lemmas.Bool.{cases_lt, true≢false}
 use Rattle.std.proofs.lemmas.Option.{none-some, slice_get-get_or}
 use Rattle.std.proofs.lemmas.List.Quantifiers.{position-Some}
@@ -16,10 +18,10 @@ use Rattle.icode.specs.Code.{code_of, is_number, procedure_or_none, serving}
 use Rattle.icode.specs.Counted.{IsDepth, IsChanged, number_of, HasVector, IsHandler, IsRoom, IsCounted}
 use Rattle.icode.specs.Levels.{height, target, place_in, IsLevelled}
 use Rattle.icode.specs.Machine.{At, does}
-use Rattle.icode.specs.Registers.{joined, changes}
+use Rattle.icode.specs.Registers.{none, joined, changes}
 use Rattle.icode.specs.Runs.{Comes}
 use Rattle.frames.specs.declared.need.Need.{Need}
-use Rattle.frames.specs.Counting.{NoRunPasses}
+use Rattle.frames.specs.Counting.{NoRunPasses, AreSaved}
 use Rattle.frames.specs.Inner.Needs.{need, need_at, room_of, largest_room, AreKnown}
 use Rattle.frames.proofs.Needing.{some_is}
 use Rattle.frames.proofs.Registers.{joined_other}
@@ -92,6 +94,13 @@ numbered None v e = absurd (true≢false (sym e))
 abbrev dropped_by : Option Instruction → Option ℕ
 dropped_by (Some (op.Drop n)) = Some n
 dropped_by _ = None
+
+-- ---- the registers of each procedure
+
+registers_at : (t : List Need) (k : ℕ) → slice_index_or (map (λ n. n.registers) t) k none ≡ (need_at t k).registers
+registers_at [] k = refl
+registers_at (n ∷ t) zero = refl
+registers_at (n ∷ t) (suc k) = registers_at t k
 
 module _ (c : Code) where
   unserved_drops : (k n : ℕ) → slice_get (op.Finish ∷ []) k ≡ Some (op.Drop n) → n ≤ height (op.Finish ∷ []) k
@@ -187,3 +196,12 @@ module _ (c : Code) (t : List Need) (size : length t ≡ length c.procedures.ite
         of_registers = λ offsets sizes v n a g r k b ws x d e f.
             changes_by offsets sizes (serving c v) g r k b ws x d f (bounded.comes_ok offsets sizes (code_of c) (levelled c) refl (serving c v) (of (serving c v)).words (is_depth (serving c v)) n a (At r k b ws) e);
       }
+
+  pub are_saved : (gs : List Registers) → gs ≡ map (λ n. n.registers) t → AreSaved c gs
+  are_saved gs e k lt =
+      let one : (of (Procedure k)).registers ≡ slice_index_or gs k none = ap (λ n. n.registers) (sym (known.solved c t size all k)) ∙ sym (registers_at t k) ∙ ap (λ hs. slice_index_or hs k none) (sym e) in
+      subst (IsChanged (code_of c) (Procedure k)) one (is_changed (Procedure k))
+
+  pub saved_by : (s : List Need) (r : Result (Vec Registers) Fault) → s ≡ t → IfOk r (λ v. v.items ≡ map (λ n. n.registers) s) → IfOk r (λ v. AreSaved c v.items)
+  saved_by s (Ok v) e h = are_saved v.items (h ∙ ap (map (λ n. n.registers)) e)
+  saved_by s (Err f) e h = tt

@@ -1,18 +1,18 @@
 -- What the counted stack promises of every run.
-use Rattle.std.specs.Prelude.{◌≡◌, ℕ, ◌+◌, ◌*◌, ◌≤◌, ◌<◌, List, [], length, Some, slice_get, ◌⊎◌}
+use Rattle.std.specs.Prelude.{◌≡◌, ℕ, ◌+◌, ◌*◌, ◌≤◌, ◌<◌, List, [], length, Some, slice_get, slice_index_or, ◌⊎◌}
 use Rattle.word86.specs.declared.fault.Fault.{Fault}
 use Rattle.word86.specs.declared.fault.Fault.TheVariants as fault
 use Rattle.word86.specs.declared.number.Number.TheVariants.{E501}
 use Rattle.icode.specs.declared.instruction.Instruction.{Instruction}
 use Rattle.icode.specs.declared.code.Routine.{Routine}
-use Rattle.icode.specs.declared.code.Routine.TheVariants.{Main}
+use Rattle.icode.specs.declared.code.Routine.TheVariants.{Main, Procedure}
 use Rattle.icode.specs.declared.code.Word.{Word}
 use Rattle.icode.specs.declared.code.Code.{Code}
 use Rattle.icode.specs.declared.registers.Registers.{Registers}
 use Rattle.icode.specs.Code.{code_of, serving}
 use Rattle.icode.specs.Counted.{IsChanged, number_of, IsCounted}
 use Rattle.icode.specs.Machine.{At, does}
-use Rattle.icode.specs.Registers.{joined, changes}
+use Rattle.icode.specs.Registers.{none, joined, changes}
 use Rattle.icode.specs.Runs.{Comes}
 
 -- Wherever main's code comes to, and an interrupt's, whatever is answered and wherever the objects lie, there are no more words on
@@ -40,3 +40,7 @@ pub record IsPastRoom (c : Code) : Type 0 where
 -- Memory, or E501, which stands at the first line of the first module, where the stack has no room
 abbrev pub IsRefusal : Code → Fault → Type 0
 IsRefusal c f = (f ≡ fault.Memory) ⊎ ((f ≡ fault.At 0 1 E501) × IsPastRoom c)
+
+-- of each procedure, the registers that it and what it calls can change
+abbrev pub AreSaved : Code → List Registers → Type 0
+AreSaved c gs = (k : ℕ) → k < length c.procedures.items → IsChanged (code_of c) (Procedure k) (slice_index_or gs k none)

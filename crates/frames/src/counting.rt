@@ -1,9 +1,9 @@
 //! How much of the stack main and an interrupt need.
 
-ghost use Rattle.std.specs.Prelude.{◌≡◌, ℕ, ◌+◌, ◌*◌, ◌^◌, ◌<◌, ◌≤◌, max, length, IfOk, IfErr, IfSome, IfNone};
+ghost use Rattle.std.specs.Prelude.{◌≡◌, ℕ, ◌+◌, ◌*◌, ◌^◌, ◌<◌, ◌≤◌, max, map, length, IfOk, IfErr, IfSome, IfNone};
 ghost use Rattle.word86.specs.declared.fault.Fault.TheVariants.{Memory};
 ghost use Rattle.icode.specs.Counted.{one_if, number_of, IsCounted};
-ghost use Rattle.frames.specs.Counting.{NoRunPasses, IsRefusal};
+ghost use Rattle.frames.specs.Counting.{NoRunPasses, IsRefusal, AreSaved};
 ghost use Rattle.frames.specs.Inner.Needs.{need_at, room_of, largest_room, AreKnown};
 
 use crate::need::{Need, keep};
@@ -114,4 +114,29 @@ pub fn count(alloc: Global, code: &Code) -> Result<Stack, Fault>
         None => Err(Fault::At(0, 1, Number::E501)),
         Some(stack) => Ok(stack),
     }
+}
+
+// The registers of each.
+fn registers_of(alloc: Global, needs: &[Need]) -> Result<Vec<Registers>, Fault>
+    ensures all { IfOk result (λ registers. registers.items ≡ map (λ n. n.registers) needs.now) }
+    ensures err { IfErr result (λ f. f ≡ Memory) }
+{
+    let mut registers = Vec::new(alloc);
+    for need in needs {
+        registers.push(need.registers)?;
+    }
+    Ok(registers)
+}
+
+/// The registers that each procedure and what it calls can change: an interrupt procedure saves these.
+///
+/// # Errors
+///
+/// `Memory`.
+pub fn saved(alloc: Global, code: &Code) -> Result<Vec<Registers>, Fault>
+    ensures saved { IfOk result (λ registers. AreSaved code.now registers.items) }
+    ensures err { IfErr result (λ f. f ≡ Memory) }
+{
+    let needs = needs_of(alloc, code)?;
+    registers_of(alloc, &needs)
 }

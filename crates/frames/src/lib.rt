@@ -4,4 +4,4 @@
 mod counting;
 mod need;
 
-pub use counting::{Stack, count};
+pub use counting::{Stack, count, saved};
