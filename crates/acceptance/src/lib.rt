@@ -15,8 +15,6 @@ mod interrupt_controller;
 #[cfg(test)]
 mod interrupt_procedures;
 #[cfg(test)]
-mod linking;
-#[cfg(test)]
 mod literals;
 #[cfg(test)]
 mod meaning;
