@@ -2,6 +2,7 @@ pub mod Code
 pub mod Counted
 pub mod Levels
 pub mod Machine
+pub mod Made
 pub mod Registers
 pub mod Runs
 pub mod Shown

@@ -2,6 +2,7 @@
 
 ghost use Rattle.std.specs.Prelude.{◌≡◌, ℕ, slice_get, position};
 ghost use Rattle.icode.specs.Levels.{IsLevelled, AreOrdered, instructions_of};
+ghost use Rattle.icode.specs.Made.{IsMade};
 
 use crate::instruction::Instruction;
 
@@ -38,7 +39,8 @@ pub struct Procedure {
 }
 
 /// A program's code: one section for each module, in which its procedures stand, and main if it is the main module. How many
-/// values are pushed at a place can be told without running it, and no procedure reaches itself: they have an order.
+/// values are pushed at a place can be told without running it, jumps lead to instructions, and no procedure reaches itself: they
+/// have an order.
 #[derive(Drop)]
 pub struct Code {
     pub sections: usize,
@@ -49,6 +51,8 @@ pub struct Code {
     pub order: Vec<usize>,
     pub ghost main_levelled: { IsLevelled main.items },
     pub ghost levelled: { (p : ℕ) → IsLevelled (instructions_of (slice_get procedures.items p)) },
+    pub ghost main_made: { IsMade main.items },
+    pub ghost made: { (p : ℕ) → IsMade (instructions_of (slice_get procedures.items p)) },
     pub ghost ordered: { AreOrdered order.items procedures.items },
 }
 

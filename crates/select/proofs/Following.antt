@@ -62,7 +62,10 @@ use Rattle.select.specs.declared.part.Step.TheVariants.{Plain, GotoIf}
 use Rattle.select.specs.Linked.{Stands}
 use Rattle.select.specs.Rows
 use Rattle.select.specs.Rows.{load_number, copy, clear_byte, clear_high, push, pop, alu, alu_number, core, narrow, narrow_right, then_narrow, narrow_sum, loads, loads_right, stores, spot, segment_of, row, first_of, plain, direct, by_constant, by_read, left_from_stack, fails, registers_of, given_back}
-use Rattle.select.specs.Promise.{Leads, Allowed, Comes, Counted, Image, IsSelected, next_of, place_of}
+use Rattle.icode.specs.Made.{constant_in}
+use Rattle.icode.specs.Runs.{Leads, Comes}
+use Rattle.select.proofs.Cases.{a_case}
+use Rattle.select.specs.Promise.{Allowed, Counted, Image, IsSelected, next_of, place_of}
 use Rattle.select.proofs.Rests.{Laws}
 use Rattle.select.proofs.Keeping.{OnlyChanges, Same, same_refl, changes_then, changes_wider, stays}
 use Rattle.select.proofs.Straight.{with_each, also}
@@ -278,7 +281,7 @@ module _ (laws : Laws) (x : Image) (all : IsSelected x)
 
   load_constant_row : (c : ℕ) → RowFollows (op.Constant c)
   load_constant_row c r k e g n go a inv ws p sm =
-      silent r k (op.Constant c) e g n go a inv ws p sm (load_number Ax c) [] c ws (set_word g Ax c) refl (rows_stand r k (op.Constant c) e) (omega arith) (set_word g Ax c, stack_of ws, λ q. refl, (refl, refl)) refl (all.numbered r k (op.Constant c) e) sm (tt, refl, refl, refl, refl, refl, refl)
+      silent r k (op.Constant c) e g n go a inv ws p sm (load_number Ax c) [] c ws (set_word g Ax c) refl (rows_stand r k (op.Constant c) e) (omega arith) (set_word g Ax c, stack_of ws, λ q. refl, (refl, refl)) refl ((all.made r).numbered k (op.Constant c) e) sm (tt, refl, refl, refl, refl, refl, refl)
 
   locate_row : (y : Place) → RowFollows (op.Locate y)
   locate_row y r k e g n go a inv ws p sm =
@@ -499,7 +502,7 @@ module _ (laws : Laws) (x : Image) (all : IsSelected x)
   constant_row o width c r k e g n go a inv ws p sm = by (is_direct o) refl
     where
       small : c < 65536
-      small = all.numbered r k (op.BinaryConstant o width c) e
+      small = (all.made r).numbered k (op.BinaryConstant o width c) e
 
       directly : is_direct o ≡ true → (v : Option ℕ) → binary_value o width g.ax c ≡ v → Cores.After laws x.find x.words x.main x.handler given (narrow_sum o width) g (alu_word (direct o) Ax c g) (stack_of ws) v → Fl n 8 (At r k g.ax ws) (Own (place r k) g (stack_of ws) false given)
       directly d None is after = bad r k (op.BinaryConstant o width c) e g n go a inv ws p sm (ap (λ z. machine.operated z (λ v. At r (k + 1) v ws)) is)
@@ -822,18 +825,18 @@ module _ (laws : Laws) (x : Image) (all : IsSelected x)
     test_jumps (test.Plain o widths.Word y) target right num ws p sm u c = word_jumps r k ins e g n go a inv ws p sm o y target u c
     test_jumps (test.Top o) target right num ws p sm u c = top_jumps o target right ws p sm u c
 
-  ahead_numbered : (t : Test) (m : ℕ) → Rattle.select.specs.Promise.IsNumbered (op.AheadUnless t m) → (o : Relation) (v : ℕ) → t ≡ test.Constant o v → v < 65536
-  ahead_numbered t m h o v is = subst (λ z. Rattle.select.specs.Promise.IsNumbered (op.AheadUnless z m)) is h
+  ahead_numbered : (t : Test) (m : ℕ) → constant_in (op.AheadUnless t m) < 65536 → (o : Relation) (v : ℕ) → t ≡ test.Constant o v → v < 65536
+  ahead_numbered t m h o v is = subst (λ z. constant_in (op.AheadUnless z m) < 65536) is h
 
-  back_numbered : (t : Test) (m : ℕ) → Rattle.select.specs.Promise.IsNumbered (op.BackUnless t m) → (o : Relation) (v : ℕ) → t ≡ test.Constant o v → v < 65536
-  back_numbered t m h o v is = subst (λ z. Rattle.select.specs.Promise.IsNumbered (op.BackUnless z m)) is h
+  back_numbered : (t : Test) (m : ℕ) → constant_in (op.BackUnless t m) < 65536 → (o : Relation) (v : ℕ) → t ≡ test.Constant o v → v < 65536
+  back_numbered t m h o v is = subst (λ z. constant_in (op.BackUnless z m) < 65536) is h
 
   -- ---- a table
 
   -- the cases behind a `Switch` stand two bytes apart
   module _ (r : Routine) (k m : ℕ) (e : slice_get (x.icode r) k ≡ Some (op.Switch m)) where
     case_at : (j : ℕ) → j < m → (c : ℕ) × (slice_get (x.icode r) (k + 1 + j) ≡ Some (op.Case c))
-    case_at = all.cases r k (op.Switch m) e
+    case_at j l = a_case (slice_get (x.icode r) (k + 1 + j)) ((all.made r).cases k j (op.Switch m) e l)
 
     entry_at : (j : ℕ) → j ≤ m → place r (k + 1 + j) ≡ place r (k + 1) + 2 * j
     entry_at zero l = let q : k + 1 + 0 ≡ k + 1 = omega arith in ap (place r) q ∙ by_zero (place r (k + 1))
@@ -1061,9 +1064,9 @@ module _ (laws : Laws) (x : Image) (all : IsSelected x)
     row_follows (op.Receive width) = receive_row width
     row_follows (op.ReceiveFrom width port) = receive_from_row width port
     row_follows (op.Ahead m) = λ r k e g n go a inv ws p sm. jumps r k (op.Ahead m) e g n go a inv ws p sm (k + 1 + m) refl (rows_stand r k (op.Ahead m) e)
-    row_follows (op.AheadUnless t m) = λ r k e g n go a inv ws p sm. test_jumps r k (op.AheadUnless t m) e g n go a inv t (k + 1 + m) refl (ahead_numbered t m (all.numbered r k (op.AheadUnless t m) e)) ws p sm refl (rows_stand r k (op.AheadUnless t m) e)
+    row_follows (op.AheadUnless t m) = λ r k e g n go a inv ws p sm. test_jumps r k (op.AheadUnless t m) e g n go a inv t (k + 1 + m) refl (ahead_numbered t m ((all.made r).numbered k (op.AheadUnless t m) e)) ws p sm refl (rows_stand r k (op.AheadUnless t m) e)
     row_follows (op.Back m) = λ r k e g n go a inv ws p sm. jumps r k (op.Back m) e g n go a inv ws p sm (k + 1 - m) refl (rows_stand r k (op.Back m) e)
-    row_follows (op.BackUnless t m) = λ r k e g n go a inv ws p sm. test_jumps r k (op.BackUnless t m) e g n go a inv t (k + 1 - m) refl (back_numbered t m (all.numbered r k (op.BackUnless t m) e)) ws p sm refl (rows_stand r k (op.BackUnless t m) e)
+    row_follows (op.BackUnless t m) = λ r k e g n go a inv ws p sm. test_jumps r k (op.BackUnless t m) e g n go a inv t (k + 1 - m) refl (back_numbered t m ((all.made r).numbered k (op.BackUnless t m) e)) ws p sm refl (rows_stand r k (op.BackUnless t m) e)
     row_follows (op.Switch m) = switch_row m
     row_follows (op.Case m) = case_row m
     row_follows (op.Invoke q) = invoke_row q

@@ -17,3 +17,6 @@ pub mod Following
 pub mod Routines
 pub mod Whole
 pub mod Backs
+pub mod Cases
+pub mod Steps
+pub mod Selecting

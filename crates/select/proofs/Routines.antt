@@ -28,7 +28,7 @@ unless_size (test.Plain o widths.Byte x) a b = refl
 unless_size (test.Plain o widths.Word x) a b = refl
 unless_size (test.Top o) a b = refl
 
-row_size : (first : ℕ → ℕ) (part : ℕ → ℕ) (saves : Registers) (p : ℕ) (n : Instruction) → length (row first part saves p n) ≡ steps_in saves n
+pub row_size : (first : ℕ → ℕ) (part : ℕ → ℕ) (saves : Registers) (p : ℕ) (n : Instruction) → length (row first part saves p n) ≡ steps_in saves n
 row_size first part saves p (op.Constant k) = refl
 row_size first part saves p (op.Locate x) = refl
 row_size first part saves p (op.LocateAt x) = refl
@@ -63,10 +63,10 @@ row_size first part saves p op.Halt = refl
 row_size first part saves p op.Finish = refl
 
 -- one instruction more
-abbrev total : Registers → List Instruction → ℕ
+abbrev pub total : Registers → List Instruction → ℕ
 total saves xs = prelude.sum (map (steps_in saves) xs)
 
-total_more : (saves : Registers) (y : Instruction) (ys : List Instruction) → total saves (y ∷ ys) ≡ steps_in saves y + total saves ys
+pub total_more : (saves : Registers) (y : Instruction) (ys : List Instruction) → total saves (y ∷ ys) ≡ steps_in saves y + total saves ys
 total_more saves y ys = sum_by-cons (λ z. z) (steps_in saves y) (map (steps_in saves) ys)
 
 taken_more : (saves : Registers) (xs : List Instruction) (k : ℕ) (n : Instruction) → slice_get xs k ≡ Some n → total saves (take (suc k) xs) ≡ total saves (take k xs) + steps_in saves n
@@ -80,7 +80,7 @@ taken_more saves (y ∷ xs) zero n e =
     size_or None = 0
 taken_more saves (y ∷ xs) (suc k) n e = omega (arith, total_more saves y (take (suc k) xs), total_more saves y (take k xs), taken_more saves xs k n e)
 
-first_more : (saves : Registers) (xs : List Instruction) (k : ℕ) (n : Instruction) → slice_get xs k ≡ Some n → first_of saves xs (k + 1) ≡ first_of saves xs k + steps_in saves n
+pub first_more : (saves : Registers) (xs : List Instruction) (k : ℕ) (n : Instruction) → slice_get xs k ≡ Some n → first_of saves xs (k + 1) ≡ first_of saves xs k + steps_in saves n
 first_more saves xs k n e =
     let next : k + 1 ≡ suc k = omega arith in
     let b = length (registers_of saves) in

@@ -22,7 +22,8 @@ use Rattle.icode.specs.Machine.{At, does}
 use Rattle.icode.specs.Machine as machine
 use Rattle.select.specs.declared.part.Step.TheVariants.{Plain}
 use Rattle.select.specs.Rows.{push, pop, saved, given_back, with_register, registers_of, first_of, row, plain}
-use Rattle.select.specs.Promise.{Image, IsSelected, IsServed, Counted, Comes, InstructionsFollow, next_of, place_of, accumulator_of}
+use Rattle.icode.specs.Runs.{Comes}
+use Rattle.select.specs.Promise.{Image, IsSelected, IsServed, Counted, InstructionsFollow, next_of, place_of, accumulator_of}
 use Rattle.select.proofs.Rests.{Laws}
 use Rattle.select.proofs.Keeping.{OnlyChanges, Same, stays, changes_then, changes_wider}
 use Rattle.select.proofs.Straight.{with_each, also}

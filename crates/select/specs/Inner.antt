@@ -2,3 +2,4 @@ pub mod Settling
 pub mod Assembly
 pub mod Arriving
 pub mod Numbering
+pub mod Selecting

@@ -1,3 +1,4 @@
+pub mod Selection
 pub mod Sizes
 pub mod Parts
 pub mod Linked

@@ -1,7 +1,7 @@
 -- What the instructions promise of the intermediate code.
-use Rattle.std.specs.Prelude.{◌≡◌, ℕ, zero, suc, ◌+◌, ◌<◌, ◌≤◌, Bool, true, false, List, [], ◌∷◌, length, Option, Some, None, slice_get, slice_index}
+use Rattle.std.specs.Prelude.{◌≡◌, ℕ, ◌+◌, ◌<◌, ◌≤◌, Bool, true, false, List, [], length, Option, Some, None, slice_get, slice_index}
 use Rattle.word86.specs.Access.{Access, answers}
-use Rattle.word86.specs.Action.{Action, Silent, Touch, Enable, Disable, Halt, Over, Bad}
+use Rattle.word86.specs.Action.{Action, Enable, Halt, Over}
 use Rattle.word86.specs.Following.{Follows}
 use Rattle.word86.specs.Places.{held}
 use Rattle.i86_table.specs.declared.instruction.Instr.{Instr}
@@ -9,12 +9,13 @@ use Rattle.i86_table.specs.Contexts.{Context, Own, Working, in_object, offer, st
 use Rattle.i86_table.specs.Words.{AreWords, HasWords}
 use Rattle.icode.specs.declared.instruction.Instruction.{Instruction}
 use Rattle.icode.specs.declared.instruction.Instruction.TheVariants as op
-use Rattle.icode.specs.declared.instruction.Test.TheVariants as test
 use Rattle.icode.specs.declared.code.Routine.{Routine}
 use Rattle.icode.specs.declared.code.Routine.TheVariants.{Main, Procedure, Nowhere}
 use Rattle.icode.specs.declared.code.Word.{Word}
 use Rattle.icode.specs.declared.registers.Registers.{Registers}
 use Rattle.icode.specs.Registers.{joined, changes}
+use Rattle.icode.specs.Made.{IsMade}
+use Rattle.icode.specs.Runs.{Comes}
 use Rattle.icode.specs.Machine.{At, does}
 use Rattle.icode.specs.Machine as machine
 use Rattle.select.specs.Linked.{AllStand}
@@ -23,16 +24,6 @@ use Rattle.select.specs.Rows.{registers_of, first_of, routine}
 -- how many instructions may come without a step of the code
 abbrev pub limit : ℕ
 limit = 20
-
--- an action leads to a context; what is read is any answer
-abbrev pub Leads : Action Access machine.Context → machine.Context → Type 0
-Leads (Silent d) e = d ≡ e
-Leads (Touch a k) e = (v : ℕ) × (v < answers a) × (k v ≡ e)
-Leads (Enable d) e = d ≡ e
-Leads (Disable d) e = d ≡ e
-Leads (Halt d) e = d ≡ e
-Leads Over e = ⊥
-Leads (Bad file line) e = ⊥
 
 -- main is never used up, and an interrupt procedure has no ENABLE or HALT
 abbrev pub Allowed : (main : Bool) → Action Access machine.Context → Type 0
@@ -45,15 +36,10 @@ abbrev pub words_of : machine.Context → List Word
 words_of (At r k a ws) = ws
 
 module _ (next : machine.Context → Action Access machine.Context) (begin : machine.Context) where
-  -- the code comes to a context in so many steps
-  abbrev pub Comes : ℕ → machine.Context → Type 0
-  Comes zero d = begin ≡ d
-  Comes (suc n) d = (c : machine.Context) × Comes n c × Leads (next c) d
-
   -- no run has more than so many words on the stack
   pub record Counted (main : Bool) (most : ℕ) : Type 0 where
-    pub few : (n : ℕ) (c : machine.Context) → Comes n c → length (words_of c) ≤ most
-    pub allowed : (n : ℕ) (c : machine.Context) → Comes n c → Allowed main (next c)
+    pub few : (n : ℕ) (c : machine.Context) → Comes next begin n c → length (words_of c) ≤ most
+    pub allowed : (n : ℕ) (c : machine.Context) → Comes next begin n c → Allowed main (next c)
 
 abbrev pub accumulator_of : Context → ℕ
 accumulator_of (Own place g st a given) = g.ax
@@ -87,19 +73,6 @@ place_of x r k = x.at r (first_of (x.saves r) (x.icode r) k)
 
 -- ---- what selection asks of the code
 
--- a constant is a word
-abbrev pub IsNumbered : Instruction → Type 0
-IsNumbered (op.Constant k) = k < 65536
-IsNumbered (op.BinaryConstant o width k) = k < 65536
-IsNumbered (op.AheadUnless (test.Constant o k) n) = k < 65536
-IsNumbered (op.BackUnless (test.Constant o k) n) = k < 65536
-IsNumbered _ = Unit {0}
-
--- behind a `Switch` of so many cases they stand
-abbrev pub HasCases : List Instruction → (next : ℕ) → Instruction → Type 0
-HasCases code p (op.Switch n) = (j : ℕ) → j < n → (m : ℕ) × (slice_get code (p + j) ≡ Some (op.Case m))
-HasCases code p _ = Unit {0}
-
 -- a procedure that is called begins with its first row
 abbrev pub IsCallable : Image → Instruction → Type 0
 IsCallable x (op.Invoke q) = slice_index x.places (x.part q) ≡ place_of x (Procedure q) 0
@@ -109,8 +82,7 @@ pub record IsSelected (x : Image) : Type 0 where
   -- each routine stands in the code, below 65,536
   pub stand : (r : Routine) → AllStand x.code x.words x.offsets x.places (x.at r) 0 (routine x.part (x.saves r) (x.icode r))
   pub low : (r : Routine) (step : ℕ) → x.at r step < 65536
-  pub numbered : (r : Routine) (k : ℕ) (n : Instruction) → slice_get (x.icode r) k ≡ Some n → IsNumbered n
-  pub cases : (r : Routine) (k : ℕ) (n : Instruction) → slice_get (x.icode r) k ≡ Some n → HasCases (x.icode r) (k + 1) n
+  pub made : (r : Routine) → IsMade (x.icode r)
   pub callable : (r : Routine) (k : ℕ) (n : Instruction) → slice_get (x.icode r) k ≡ Some n → IsCallable x n
   pub nowhere : x.icode Nowhere ≡ []
   pub finds : (a n : ℕ) → in_object (x.find a n) ≡ held 0 x.offsets x.sizes a n

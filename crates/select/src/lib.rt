@@ -6,8 +6,11 @@ mod laws;
 mod operators;
 mod part;
 mod put;
+mod routine;
 mod rows;
+mod selection;
 mod sizes;
 
 pub use laws::instructions_follow_code;
 pub use part::{Entry, Fixup, Kind, Part, Step};
+pub use selection::{select, select_section};

@@ -1,6 +1,6 @@
 //! The instructions of operators.
 
-ghost use Rattle.std.specs.Prelude.{◌≡◌, ◌++◌, OnOk};
+ghost use Rattle.std.specs.Prelude.{◌≡◌, ◌++◌, IsOkUnless, OnOk};
 ghost use Rattle.select.specs.Rows.{plain, core, changed, narrow, narrow_right, then_narrow, spread, inverted, shift_word, shift_byte, direct, narrow_sum, by_constant};
 
 use crate::part::Step;
@@ -18,7 +18,8 @@ const CX: Register16 = Register16::Cx;
 
 /// A value of this width in AX.
 pub(crate) fn narrow(steps: &mut Vec<Step>, width: Width) -> Result<(), Fault>
-    ensures { OnOk result (steps.new.items ≡ steps.old.items ++ plain (narrow width)) }
+    ensures steps { OnOk result (steps.new.items ≡ steps.old.items ++ plain (narrow width)) }
+    ensures memory { IsOkUnless result Fault.Memory }
 {
     match width {
         Width::Byte => all(steps, &[clear_byte(Register8::Ah)]),
@@ -28,7 +29,8 @@ pub(crate) fn narrow(steps: &mut Vec<Step>, width: Width) -> Result<(), Fault>
 
 /// A value of this width in CX.
 pub(crate) fn narrow_right(steps: &mut Vec<Step>, width: Width) -> Result<(), Fault>
-    ensures { OnOk result (steps.new.items ≡ steps.old.items ++ plain (narrow_right width)) }
+    ensures steps { OnOk result (steps.new.items ≡ steps.old.items ++ plain (narrow_right width)) }
+    ensures memory { IsOkUnless result Fault.Memory }
 {
     match width {
         Width::Byte => all(steps, &[clear_byte(Register8::Ch)]),
@@ -42,7 +44,8 @@ pub(crate) fn then_narrow(
     width: Width,
     instruction: Instr,
 ) -> Result<(), Fault>
-    ensures { OnOk result (steps.new.items ≡ steps.old.items ++ plain (then_narrow width instruction)) }
+    ensures steps { OnOk result (steps.new.items ≡ steps.old.items ++ plain (then_narrow width instruction)) }
+    ensures memory { IsOkUnless result Fault.Memory }
 {
     match width {
         Width::Byte => all(steps, &[instruction, clear_byte(Register8::Ah)]),
@@ -85,7 +88,8 @@ pub(crate) fn core(
     operation: BinaryOperation,
     width: Width,
 ) -> Result<(), Fault>
-    ensures { OnOk result (steps.new.items ≡ steps.old.items ++ plain (core operation width)) }
+    ensures steps { OnOk result (steps.new.items ≡ steps.old.items ++ plain (core operation width)) }
+    ensures memory { IsOkUnless result Fault.Memory }
 {
     let clear = clear_byte(Register8::Ah);
     let zero_dx = load_number(Register16::Dx, 0);
@@ -140,7 +144,8 @@ pub(crate) fn changed(
     operation: word86::UnaryOperation,
     width: Width,
 ) -> Result<(), Fault>
-    ensures { OnOk result (steps.new.items ≡ steps.old.items ++ plain (changed operation width)) }
+    ensures steps { OnOk result (steps.new.items ≡ steps.old.items ++ plain (changed operation width)) }
+    ensures memory { IsOkUnless result Fault.Memory }
 {
     let clear = clear_byte(Register8::Ah);
     match operation {
@@ -183,7 +188,8 @@ pub(crate) fn narrow_sum(
     operation: BinaryOperation,
     width: Width,
 ) -> Result<(), Fault>
-    ensures { OnOk result (steps.new.items ≡ steps.old.items ++ plain (narrow_sum operation width)) }
+    ensures steps { OnOk result (steps.new.items ≡ steps.old.items ++ plain (narrow_sum operation width)) }
+    ensures memory { IsOkUnless result Fault.Memory }
 {
     match operation {
         BinaryOperation::Add | BinaryOperation::Subtract => narrow(steps, width),
@@ -198,7 +204,8 @@ pub(crate) fn by_constant(
     width: Width,
     number: u16,
 ) -> Result<(), Fault>
-    ensures { OnOk result (steps.new.items ≡ steps.old.items ++ plain (by_constant operation width number)) }
+    ensures steps { OnOk result (steps.new.items ≡ steps.old.items ++ plain (by_constant operation width number)) }
+    ensures memory { IsOkUnless result Fault.Memory }
 {
     if is_direct(operation) {
         all(steps, &[alu_number(direct(operation), AX, number)])?;

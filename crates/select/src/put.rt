@@ -1,6 +1,6 @@
 //! Instructions and steps one behind the other.
 
-ghost use Rattle.std.specs.Prelude.{◌≡◌, ◌*◌, ◌%◌, ◌++◌, ◌∷◌, [], OnOk};
+ghost use Rattle.std.specs.Prelude.{◌≡◌, ◌*◌, ◌%◌, ◌++◌, ◌∷◌, [], IsOkUnless, OnOk};
 ghost use Rattle.select.specs.declared.part.Step.TheVariants.{Plain};
 ghost use Rattle.select.specs.Rows.{plain, load_number, copy, clear_byte, alu, alu_number, push, pop, spot, access, placed, own_word};
 
@@ -13,7 +13,8 @@ use word86::{Fault, Place, Width};
 
 /// One more step.
 pub(crate) fn put(steps: &mut Vec<Step>, step: Step) -> Result<(), Fault>
-    ensures { OnOk result (steps.new.items ≡ steps.old.items ++ step ∷ []) }
+    ensures steps { OnOk result (steps.new.items ≡ steps.old.items ++ step ∷ []) }
+    ensures memory { IsOkUnless result Fault.Memory }
 {
     steps.push(step)?;
     Ok(())
@@ -21,14 +22,16 @@ pub(crate) fn put(steps: &mut Vec<Step>, step: Step) -> Result<(), Fault>
 
 /// One more instruction.
 pub(crate) fn add(steps: &mut Vec<Step>, instruction: Instr) -> Result<(), Fault>
-    ensures { OnOk result (steps.new.items ≡ steps.old.items ++ Plain instruction ∷ []) }
+    ensures steps { OnOk result (steps.new.items ≡ steps.old.items ++ Plain instruction ∷ []) }
+    ensures memory { IsOkUnless result Fault.Memory }
 {
     put(steps, Step::Plain(instruction))
 }
 
 /// These instructions.
 pub(crate) fn all(steps: &mut Vec<Step>, instructions: &[Instr]) -> Result<(), Fault>
-    ensures { OnOk result (steps.new.items ≡ steps.old.items ++ plain instructions.now) }
+    ensures steps { OnOk result (steps.new.items ≡ steps.old.items ++ plain instructions.now) }
+    ensures memory { IsOkUnless result Fault.Memory }
 {
     for instruction in instructions {
         add(steps, *instruction)?;

@@ -1,6 +1,6 @@
 //! The steps of each instruction of the intermediate code.
 
-ghost use Rattle.std.specs.Prelude.{◌≡◌, ◌+◌, ◌++◌, ◌∷◌, [], OnOk, slice_index};
+ghost use Rattle.std.specs.Prelude.{◌≡◌, ◌+◌, ◌++◌, ◌∷◌, [], IsOkUnless, OnOk, slice_index};
 ghost use Rattle.icode.specs.Registers.{none};
 ghost use Rattle.icode.specs.declared.instruction.Instruction.TheVariants.{Switch};
 ghost use Rattle.select.specs.declared.part.Step.TheVariants.{Goto};
@@ -93,7 +93,8 @@ fn dropped(count: usize) -> Instr
 }
 
 fn sent(steps: &mut Vec<Step>, width: Width, port: u16) -> Result<(), Fault>
-    ensures { OnOk result (steps.new.items ≡ steps.old.items ++ plain (sent width port)) }
+    ensures steps { OnOk result (steps.new.items ≡ steps.old.items ++ plain (sent width port)) }
+    ensures memory { IsOkUnless result Fault.Memory }
 {
     if port >= 256 {
         return all(steps, &[load_number(DX, port), Instr::Out(width, Port::Dx)]);
@@ -102,7 +103,8 @@ fn sent(steps: &mut Vec<Step>, width: Width, port: u16) -> Result<(), Fault>
 }
 
 fn received(steps: &mut Vec<Step>, width: Width, port: u16) -> Result<(), Fault>
-    ensures { OnOk result (steps.new.items ≡ steps.old.items ++ plain (received width port)) }
+    ensures steps { OnOk result (steps.new.items ≡ steps.old.items ++ plain (received width port)) }
+    ensures memory { IsOkUnless result Fault.Memory }
 {
     if port >= 256 {
         add(steps, load_number(DX, port))?;
@@ -119,7 +121,8 @@ fn by_read(
     read: Width,
     place: Place,
 ) -> Result<(), Fault>
-    ensures { OnOk result (steps.new.items ≡ steps.old.items ++ by_read operation width read place) }
+    ensures steps { OnOk result (steps.new.items ≡ steps.old.items ++ by_read operation width read place) }
+    ensures memory { IsOkUnless result Fault.Memory }
 {
     if matches!(read, Width::Word) && is_direct(operation) {
         put(steps, operate(direct(operation), place))?;
@@ -146,7 +149,8 @@ fn fails(relation: Relation) -> Condition
 
 /// A jump to a step unless a test holds.
 fn unless(steps: &mut Vec<Step>, test: Test, target: usize) -> Result<(), Fault>
-    ensures { OnOk result (steps.new.items ≡ steps.old.items ++ unless test target) }
+    ensures steps { OnOk result (steps.new.items ≡ steps.old.items ++ unless test target) }
+    ensures memory { IsOkUnless result Fault.Memory }
 {
     let condition = match test {
         Test::Odd => {
@@ -208,7 +212,8 @@ fn part_of(parts: &[usize], procedure: usize) -> usize
 
 /// A register comes back from the stack, if it was saved.
 fn pop_if(steps: &mut Vec<Step>, saved: bool, register: Register16) -> Result<(), Fault>
-    ensures { OnOk result (steps.new.items ≡ steps.old.items ++ plain (given_back (with_register saved register []))) }
+    ensures steps { OnOk result (steps.new.items ≡ steps.old.items ++ plain (given_back (with_register saved register []))) }
+    ensures memory { IsOkUnless result Fault.Memory }
 {
     if saved {
         add(steps, pop(register))
@@ -220,7 +225,8 @@ fn pop_if(steps: &mut Vec<Step>, saved: bool, register: Register16) -> Result<()
 /// All registers come back, the last one first, and the interrupt procedure ends.
 #[tactic(auto, using(crate::proofs::Backs::all_back))]
 fn finish(steps: &mut Vec<Step>, saves: Registers) -> Result<(), Fault>
-    ensures { OnOk result (steps.new.items ≡ steps.old.items ++ finished saves) }
+    ensures steps { OnOk result (steps.new.items ≡ steps.old.items ++ finished saves) }
+    ensures memory { IsOkUnless result Fault.Memory }
 {
     pop_if(steps, saves.frame, BP)?;
     pop_if(steps, saves.address, BX)?;
@@ -232,7 +238,8 @@ fn finish(steps: &mut Vec<Step>, saves: Registers) -> Result<(), Fault>
 
 /// A jump through a table whose words follow, for so many cases, or behind them.
 fn switch(steps: &mut Vec<Step>, firsts: &[usize], next: usize, count: usize) -> Result<(), Fault>
-    ensures { OnOk result (steps.new.items ≡ steps.old.items ++ row (step_at firsts.now) (λ q. 0) none next (Switch count)) }
+    ensures steps { OnOk result (steps.new.items ≡ steps.old.items ++ row (step_at firsts.now) (λ q. 0) none next (Switch count)) }
+    ensures memory { IsOkUnless result Fault.Memory }
 {
     add(
         steps,
@@ -263,7 +270,8 @@ fn loaded(
     base: Option<Base>,
     place: Place,
 ) -> Result<(), Fault>
-    ensures { OnOk result (steps.new.items ≡ steps.old.items ++ on_place (loads width base) place ∷ plain (narrow width)) }
+    ensures steps { OnOk result (steps.new.items ≡ steps.old.items ++ on_place (loads width base) place ∷ plain (narrow width)) }
+    ensures memory { IsOkUnless result Fault.Memory }
 {
     put(steps, load(width, base, place))?;
     narrow(steps, width)
@@ -271,7 +279,8 @@ fn loaded(
 
 /// A jump to the row that stands so many further on.
 fn jump(steps: &mut Vec<Step>, target: usize) -> Result<(), Fault>
-    ensures { OnOk result (steps.new.items ≡ steps.old.items ++ Goto target ∷ []) }
+    ensures steps { OnOk result (steps.new.items ≡ steps.old.items ++ Goto target ∷ []) }
+    ensures memory { IsOkUnless result Fault.Memory }
 {
     put(steps, Step::Goto { target })
 }
@@ -286,7 +295,8 @@ pub(crate) fn row(
     next: usize,
     instruction: Instruction,
 ) -> Result<(), Fault>
-    ensures { OnOk result (steps.new.items ≡ steps.old.items ++ row (step_at firsts.now) (slice_index parts.now) saves next instruction) }
+    ensures steps { OnOk result (steps.new.items ≡ steps.old.items ++ row (step_at firsts.now) (slice_index parts.now) saves next instruction) }
+    ensures memory { IsOkUnless result Fault.Memory }
 {
     match instruction {
         Instruction::Constant(number) => add(steps, load_number(AX, number)),

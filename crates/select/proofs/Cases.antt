@@ -1,0 +1,41 @@
+-- An instruction that is a case has its number.
+use Rattle.std.proofs.Common.{◌≡◌, ℕ, Bool, true, Option, Some, None, refl, sym}
+use Rattle.std.proofs.lemmas.Bool.{true≢false}
+use Rattle.icode.specs.declared.instruction.Instruction.{Instruction}
+use Rattle.icode.specs.declared.instruction.Instruction.TheVariants as op
+use Rattle.icode.specs.Made.{is_case}
+
+pub a_case : (x : Option Instruction) → is_case x ≡ true → (m : ℕ) × (x ≡ Some (op.Case m))
+a_case None h = absurd (true≢false (sym h))
+a_case (Some (op.Case m)) h = (m, refl)
+a_case (Some (op.Constant k)) h = absurd (true≢false (sym h))
+a_case (Some (op.Locate x)) h = absurd (true≢false (sym h))
+a_case (Some (op.LocateAt x)) h = absurd (true≢false (sym h))
+a_case (Some (op.Load w x)) h = absurd (true≢false (sym h))
+a_case (Some (op.LoadAt w x)) h = absurd (true≢false (sym h))
+a_case (Some (op.LoadThere w)) h = absurd (true≢false (sym h))
+a_case (Some op.Push) h = absurd (true≢false (sym h))
+a_case (Some (op.Pick n)) h = absurd (true≢false (sym h))
+a_case (Some (op.Drop n)) h = absurd (true≢false (sym h))
+a_case (Some (op.Unary o w)) h = absurd (true≢false (sym h))
+a_case (Some (op.Binary o w)) h = absurd (true≢false (sym h))
+a_case (Some (op.BinaryConstant o w k)) h = absurd (true≢false (sym h))
+a_case (Some (op.BinaryPlain o w r x)) h = absurd (true≢false (sym h))
+a_case (Some (op.Store w x)) h = absurd (true≢false (sym h))
+a_case (Some (op.StoreAt w x)) h = absurd (true≢false (sym h))
+a_case (Some (op.StoreThere w)) h = absurd (true≢false (sym h))
+a_case (Some (op.Send w)) h = absurd (true≢false (sym h))
+a_case (Some (op.SendTo w p)) h = absurd (true≢false (sym h))
+a_case (Some (op.Receive w)) h = absurd (true≢false (sym h))
+a_case (Some (op.ReceiveFrom w p)) h = absurd (true≢false (sym h))
+a_case (Some (op.Ahead n)) h = absurd (true≢false (sym h))
+a_case (Some (op.AheadUnless t n)) h = absurd (true≢false (sym h))
+a_case (Some (op.Back n)) h = absurd (true≢false (sym h))
+a_case (Some (op.BackUnless t n)) h = absurd (true≢false (sym h))
+a_case (Some (op.Switch n)) h = absurd (true≢false (sym h))
+a_case (Some (op.Invoke q)) h = absurd (true≢false (sym h))
+a_case (Some op.Leave) h = absurd (true≢false (sym h))
+a_case (Some op.Enable) h = absurd (true≢false (sym h))
+a_case (Some op.Disable) h = absurd (true≢false (sym h))
+a_case (Some op.Halt) h = absurd (true≢false (sym h))
+a_case (Some op.Finish) h = absurd (true≢false (sym h))
