@@ -1,3 +1,6 @@
 pub mod Code
 pub mod Well
 pub mod Tracking
+pub mod Lowered
+pub mod Checked
+pub mod Runs

@@ -1,0 +1,34 @@
+-- What `lower` gives: the code of a program's trees, each procedure in the section of its module.
+use Rattle.std.specs.Prelude.{◌≡◌, ℕ, suc, max, cond, List, [], ◌∷◌, map, Option, None}
+use Rattle.plm_decl.specs.declared.names.Names.{Names}
+use Rattle.plm_decl.specs.Names.{ProcedureR, main_of}
+use Rattle.plm_type.specs.Programs.{declared_procedures, main_tree, procedures_of}
+use Rattle.plm_type.specs.Statements.{is_external}
+use Rattle.icode.specs.declared.instruction.Instruction.{Instruction}
+use Rattle.icode.specs.declared.code.Routine.{Routine}
+use Rattle.icode.specs.declared.code.Code.{Code}
+use Rattle.icode.specs.Code.{code_of}
+use Rattle.lower.specs.Code.{code}
+
+-- an EXTERNAL procedure serves no interrupt
+abbrev pub vector_of : ProcedureR → Option ℕ
+vector_of p = cond (is_external p.linkage) None p.interrupt
+
+-- the last module that has a procedure, or main
+abbrev pub last_module : ℕ → List ProcedureR → ℕ
+last_module main [] = main
+last_module main (p ∷ ps) = max p.module (last_module main ps)
+
+module _ (names : Names) where
+  abbrev pub vectors_of : List (Option ℕ)
+  vectors_of = map vector_of (declared_procedures names)
+
+  abbrev pub program_code : Routine → List Instruction
+  program_code = code (procedures_of names) vectors_of (main_tree names)
+
+  pub record IsLowered (c : Code) : Type 0 where
+    pub code_is : (r : Routine) → code_of c r ≡ program_code r
+    pub vectors_are : map (λ p. p.vector) c.procedures.items ≡ vectors_of
+    pub modules_are : map (λ p. p.module) c.procedures.items ≡ map (λ p. p.module) (declared_procedures names)
+    pub main_is_in : c.main_module ≡ (main_of names.main).module
+    pub sections_are : c.sections ≡ suc (last_module (main_of names.main).module (declared_procedures names))
