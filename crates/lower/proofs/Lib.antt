@@ -12,3 +12,6 @@ pub mod Stmts
 pub mod Placed
 pub mod Ordered
 pub mod Whole
+pub mod Rows
+pub mod Trees
+pub mod Outermost

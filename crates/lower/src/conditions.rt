@@ -1,0 +1,85 @@
+//! What a jump asks.
+
+ghost use Rattle.std.specs.Prelude.{◌≡◌, ◌++◌, OnOk, IfOk};
+ghost use Rattle.plm_type.specs.View.{expression_of, procedures_of};
+ghost use Rattle.lower.specs.Code.{operand_of, relation_of, stands_to, test_of, condition_code, expression_code, beside};
+ghost use Rattle.lower.specs.Inner.Shown.{operand_shown};
+ghost use Rattle.lower.specs.Inner.Chains.{chain_code};
+
+use crate::expressions::{chain, expression, right};
+use crate::put::{Operand, as_operand};
+use icode::{Instruction, Relation, Test};
+use plm_type::{Expression, Operation, Procedure};
+use word86::{BinaryOperation, Fault};
+
+/// The relation that an operator asks for.
+pub fn relation(operation: BinaryOperation) -> Option<Relation>
+    ensures { result ≡ relation_of operation }
+{
+    match operation {
+        BinaryOperation::Equal => Some(Relation::Equal),
+        BinaryOperation::NotEqual => Some(Relation::NotEqual),
+        BinaryOperation::Less => Some(Relation::Less),
+        BinaryOperation::LessEqual => Some(Relation::LessEqual),
+        BinaryOperation::Greater => Some(Relation::Greater),
+        BinaryOperation::GreaterEqual => Some(Relation::GreaterEqual),
+        _ => None,
+    }
+}
+
+/// Whether the left operand stands in a relation to the right one.
+pub fn stands_to(relation: Relation, right: Operand) -> Test
+    ensures { result ≡ stands_to relation (operand_shown right) }
+{
+    match right {
+        Operand::Number(value) => Test::Constant(relation, value),
+        Operand::Name(read, at) => Test::Plain(relation, read, at),
+        Operand::Computed => Test::Top(relation),
+    }
+}
+
+// The left operand of a relation, and what of its right one is computed.
+fn compare(
+    code: &mut Vec<Instruction>,
+    procedures: &[Procedure],
+    first: &Expression,
+    others: &[Operation],
+    last: &Expression,
+) -> Result<(), Fault>
+    ensures { OnOk result (code.new.items ≡ code.old.items ++ ((expression_code (procedures_of procedures.now) (expression_of first.now) ++ chain_code (procedures_of procedures.now) others.now) ++ beside (operand_of (expression_of last.now)) (expression_code (procedures_of procedures.now) (expression_of last.now)))) }
+{
+    expression(code, procedures, first)?;
+    chain(code, procedures, others)?;
+    right(code, procedures, last)
+}
+
+/// What is computed before the test of a condition, and the test. A relation is the jump's own test: the last operator of a chain
+/// decides, and its left operand is what the others give.
+pub fn condition(
+    code: &mut Vec<Instruction>,
+    procedures: &[Procedure],
+    tree: &Expression,
+) -> Result<Test, Fault>
+    ensures code { OnOk result (code.new.items ≡ code.old.items ++ condition_code (procedures_of procedures.now) (expression_of tree.now)) }
+    ensures test { IfOk result (λ t. t ≡ test_of (expression_of tree.now)) }
+{
+    match tree {
+        Expression::Chain(first, operations) => match operations.as_slice() {
+            [] => condition(code, procedures, first),
+            [others @ .., last] => match relation(last.operation) {
+                Some(relation) => {
+                    compare(code, procedures, first, others, &last.operand)?;
+                    Ok(stands_to(relation, as_operand(&last.operand)))
+                }
+                None => {
+                    expression(code, procedures, tree)?;
+                    Ok(Test::Odd)
+                }
+            },
+        },
+        _ => {
+            expression(code, procedures, tree)?;
+            Ok(Test::Odd)
+        }
+    }
+}

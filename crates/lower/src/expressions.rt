@@ -1,0 +1,436 @@
+//! The code of expressions: the value is left in the accumulator, and the stack as it was.
+
+ghost use Rattle.std.specs.Prelude.{◌≡◌, ◌++◌, ◌∷◌, ◌%◌, [], map, slice_get, OnOk};
+ghost use Rattle.plm_type.specs.View.{scalar_of, anchor_of, expression_of, expressions_of, reference_of, subscripts_of, target_of, targets_of, procedures_of};
+ghost use Rattle.word86.specs.Places.{where_of};
+ghost use Rattle.plm_type.specs.Rest.{Call};
+ghost use Rattle.plm_type.specs.Next.{parameters_of};
+ghost use Rattle.lower.specs.Code.{anchor_place, scaled, moved, based, reading, locating, writing, receiving, sending, passing, expression_code, subscripts_code, pushed_code, target_code, targets_code, operand_of, alone, beside};
+ghost use Rattle.lower.specs.Inner.Chains.{operation_code, chain_code};
+
+use crate::put::{Operand, add, as_operand, put};
+use icode::Instruction;
+use plm_type::{
+    Anchor, Expression, Operation, Place, Procedure, Reference, Scalar, Subscript, Target,
+};
+use word86::{BinaryOperation, Fault, Width};
+
+type Instructions = Vec<Instruction>;
+
+// The low 16 bits of a number of bytes.
+fn low(bytes: u128) -> u16
+    ensures { result ≡ bytes % 65536 }
+{
+    (bytes % 0x1_0000) as u16
+}
+
+// So many bytes behind the first of an anchor that lies at a fixed place, else its base.
+#[tactic(auto, using(crate::proofs::Trees::same_place))]
+fn anchor_place(anchor: Anchor, offset: u64) -> Place
+    ensures { result ≡ anchor_place (anchor_of anchor) offset }
+{
+    match anchor {
+        Anchor::Ram(object, start, _) => {
+            Place::Ram(object, low(u128::from(start) + u128::from(offset)))
+        }
+        Anchor::Screen(start, _) => Place::Screen(low(u128::from(start) + u128::from(offset))),
+        Anchor::Based(base) => base,
+    }
+}
+
+// The accumulator counts elements of so many bytes.
+fn scale(code: &mut Instructions, stride: u64) -> Result<(), Fault>
+    ensures { OnOk result (code.new.items ≡ code.old.items ++ scaled stride) }
+{
+    if stride == 1 {
+        return Ok(());
+    }
+    let factor = low(u128::from(stride));
+    put(
+        code,
+        Instruction::BinaryConstant(BinaryOperation::Multiply, Width::Word, factor),
+    )
+}
+
+// The accumulator holds an address, from which it goes so many bytes on.
+fn step(code: &mut Instructions, offset: u64) -> Result<(), Fault>
+    ensures { OnOk result (code.new.items ≡ code.old.items ++ moved offset) }
+{
+    if offset == 0 {
+        return Ok(());
+    }
+    let bytes = low(u128::from(offset));
+    put(
+        code,
+        Instruction::BinaryConstant(BinaryOperation::Add, Width::Word, bytes),
+    )
+}
+
+// The address of a based name behind its subscripts.
+#[tactic(auto, using(crate::proofs::Trees::same_place))]
+fn follow(
+    code: &mut Instructions,
+    base: Place,
+    offset: u64,
+    subscripts: &[Subscript],
+) -> Result<(), Fault>
+    ensures { OnOk result (code.new.items ≡ code.old.items ++ based (where_of base) offset (subscripts_of subscripts.now)) }
+{
+    match subscripts {
+        [] => {
+            put(code, Instruction::Load(Width::Word, base))?;
+            step(code, offset)
+        }
+        [_, ..] => {
+            put(
+                code,
+                Instruction::BinaryPlain(BinaryOperation::Add, Width::Word, Width::Word, base),
+            )?;
+            step(code, offset)
+        }
+    }
+}
+
+// The parameters of a procedure: none where there is no such procedure.
+fn parameters_of(procedures: &[Procedure], number: usize) -> &[Scalar]
+    ensures { map scalar_of result.now ≡ parameters_of (slice_get (procedures_of procedures.now) number) }
+{
+    match procedures.get(number) {
+        None => &[],
+        Some(procedure) => &procedure.parameters,
+    }
+}
+
+// The stores of a call's values, which are pushed.
+#[tactic(auto, using(crate::proofs::Trees::same_place))]
+fn pass(code: &mut Instructions, parameters: &[Scalar]) -> Result<(), Fault>
+    ensures { OnOk result (code.new.items ≡ code.old.items ++ passing (map scalar_of parameters.now)) }
+{
+    for (k, parameter) in parameters.iter().enumerate() {
+        put(code, Instruction::Pick(parameters.len() - 1 - k))?;
+        put(
+            code,
+            Instruction::Store(parameter.width, parameter.place),
+        )?;
+    }
+    Ok(())
+}
+
+/// The code of an expression.
+#[cycle(expressions)]
+#[tactic(auto, using(crate::proofs::Trees::same_place))]
+pub fn expression(
+    code: &mut Instructions,
+    procedures: &[Procedure],
+    tree: &Expression,
+) -> Result<(), Fault>
+    ensures { OnOk result (code.new.items ≡ code.old.items ++ expression_code (procedures_of procedures.now) (expression_of tree.now)) }
+{
+    match tree {
+        Expression::Constant(value) => put(code, Instruction::Constant(*value)),
+        Expression::Plain(width, at) => put(code, Instruction::Load(*width, *at)),
+        Expression::Variable(width, reference) => {
+            subscripts(code, procedures, &reference.subscripts)?;
+            read(code, *width, reference.anchor, reference.offset, &reference.subscripts)
+        }
+        Expression::Location(reference) => {
+            subscripts(code, procedures, &reference.subscripts)?;
+            locate(code, reference.anchor, reference.offset, &reference.subscripts)
+        }
+        Expression::Unary(operation, width, operand) => {
+            expression(code, procedures, operand)?;
+            put(code, Instruction::Unary(*operation, *width))
+        }
+        Expression::Chain(first, operations) => {
+            expression(code, procedures, first)?;
+            chain(code, procedures, operations)
+        }
+        Expression::Embedded(to, value) => {
+            expression(code, procedures, value)?;
+            target(code, procedures, to)
+        }
+        Expression::Input(width, port) => receive(code, procedures, *width, port),
+        Expression::Call(number, arguments) => call(code, procedures, *number, arguments),
+    }
+}
+
+// What is read behind the subscripts.
+fn read(
+    code: &mut Instructions,
+    width: Width,
+    anchor: Anchor,
+    offset: u64,
+    subscripts: &[Subscript],
+) -> Result<(), Fault>
+    ensures { OnOk result (code.new.items ≡ code.old.items ++ reading width (anchor_of anchor) offset (subscripts_of subscripts.now)) }
+{
+    let at = anchor_place(anchor, offset);
+    match (anchor, subscripts) {
+        (Anchor::Based(base), _) => {
+            follow(code, base, offset, subscripts)?;
+            put(code, Instruction::LoadThere(width))
+        }
+        (_, []) => put(code, Instruction::Load(width, at)),
+        (_, [_, ..]) => put(code, Instruction::LoadAt(width, at)),
+    }
+}
+
+// The address behind the subscripts.
+fn locate(
+    code: &mut Instructions,
+    anchor: Anchor,
+    offset: u64,
+    subscripts: &[Subscript],
+) -> Result<(), Fault>
+    ensures { OnOk result (code.new.items ≡ code.old.items ++ locating (anchor_of anchor) offset (subscripts_of subscripts.now)) }
+{
+    let at = anchor_place(anchor, offset);
+    match (anchor, subscripts) {
+        (Anchor::Based(base), _) => follow(code, base, offset, subscripts),
+        (_, []) => put(code, Instruction::Locate(at)),
+        (_, [_, ..]) => put(code, Instruction::LocateAt(at)),
+    }
+}
+
+/// Operators with their right operands, where the left one is in the accumulator.
+#[cycle(expressions)]
+pub fn chain(
+    code: &mut Instructions,
+    procedures: &[Procedure],
+    operations: &[Operation],
+) -> Result<(), Fault>
+    ensures { OnOk result (code.new.items ≡ code.old.items ++ chain_code (procedures_of procedures.now) operations.now) }
+{
+    for operation in operations {
+        operate(code, procedures, operation)?;
+    }
+    Ok(())
+}
+
+// An operator with its right operand.
+#[cycle(expressions)]
+fn operate(
+    code: &mut Instructions,
+    procedures: &[Procedure],
+    operation: &Operation,
+) -> Result<(), Fault>
+    ensures { OnOk result (code.new.items ≡ code.old.items ++ operation_code (procedures_of procedures.now) operation.now) }
+{
+    let Operation {
+        operation: operator,
+        width,
+        ..
+    } = operation;
+    right(code, procedures, &operation.operand)?;
+    let instruction = match as_operand(&operation.operand) {
+        Operand::Number(value) => Instruction::BinaryConstant(*operator, *width, value),
+        Operand::Name(read, at) => Instruction::BinaryPlain(*operator, *width, read, at),
+        Operand::Computed => Instruction::Binary(*operator, *width),
+    };
+    put(code, instruction)
+}
+
+/// What is computed of a right operand, while the left one is pushed: nothing of a constant and of a plain variable.
+#[cycle(expressions)]
+pub fn right(
+    code: &mut Instructions,
+    procedures: &[Procedure],
+    tree: &Expression,
+) -> Result<(), Fault>
+    ensures { OnOk result (code.new.items ≡ code.old.items ++ beside (operand_of (expression_of tree.now)) (expression_code (procedures_of procedures.now) (expression_of tree.now))) }
+{
+    match as_operand(tree) {
+        Operand::Number(_) => Ok(()),
+        Operand::Name(_, _) => Ok(()),
+        Operand::Computed => {
+            put(code, Instruction::Push)?;
+            expression(code, procedures, tree)
+        }
+    }
+}
+
+// The value of a port.
+#[cycle(expressions)]
+fn receive(
+    code: &mut Instructions,
+    procedures: &[Procedure],
+    width: Width,
+    port: &Expression,
+) -> Result<(), Fault>
+    ensures { OnOk result (code.new.items ≡ code.old.items ++ receiving width (operand_of (expression_of port.now)) (expression_code (procedures_of procedures.now) (expression_of port.now))) }
+{
+    match as_operand(port) {
+        Operand::Number(number) => put(code, Instruction::ReceiveFrom(width, number)),
+        Operand::Name(_, _) => {
+            expression(code, procedures, port)?;
+            put(code, Instruction::Receive(width))
+        }
+        Operand::Computed => {
+            expression(code, procedures, port)?;
+            put(code, Instruction::Receive(width))
+        }
+    }
+}
+
+// A call: one argument alone is not pushed.
+#[cycle(expressions)]
+fn call(
+    code: &mut Instructions,
+    procedures: &[Procedure],
+    number: usize,
+    arguments: &[Expression],
+) -> Result<(), Fault>
+    ensures { OnOk result (code.new.items ≡ code.old.items ++ expression_code (procedures_of procedures.now) (Call number (expressions_of arguments.now))) }
+{
+    let parameters = parameters_of(procedures, number);
+    match arguments {
+        [] => put(code, Instruction::Invoke(number)),
+        [argument] => {
+            expression(code, procedures, argument)?;
+            store_alone(code, parameters)?;
+            put(code, Instruction::Invoke(number))
+        }
+        [_, _, ..] => {
+            push_all(code, procedures, arguments)?;
+            pass(code, parameters)?;
+            let drop = Instruction::Drop(arguments.len());
+            add(code, &[drop, Instruction::Invoke(number)])
+        }
+    }
+}
+
+// The values of several arguments are pushed.
+#[cycle(expressions)]
+fn push_all(
+    code: &mut Instructions,
+    procedures: &[Procedure],
+    arguments: &[Expression],
+) -> Result<(), Fault>
+    ensures { OnOk result (code.new.items ≡ code.old.items ++ pushed_code (procedures_of procedures.now) (expressions_of arguments.now)) }
+{
+    for argument in arguments {
+        expression(code, procedures, argument)?;
+        put(code, Instruction::Push)?;
+    }
+    Ok(())
+}
+
+// The first parameter gets the accumulator.
+#[tactic(auto, using(crate::proofs::Trees::same_place))]
+fn store_alone(code: &mut Instructions, parameters: &[Scalar]) -> Result<(), Fault>
+    ensures { OnOk result (code.new.items ≡ code.old.items ++ alone (map scalar_of parameters.now)) }
+{
+    match parameters {
+        [] => Ok(()),
+        [first, ..] => put(code, Instruction::Store(first.width, first.place)),
+    }
+}
+
+// How many bytes subscripts lead on.
+#[cycle(expressions)]
+fn subscripts(
+    code: &mut Instructions,
+    procedures: &[Procedure],
+    subscripts: &[Subscript],
+) -> Result<(), Fault>
+    ensures { OnOk result (code.new.items ≡ code.old.items ++ subscripts_code (procedures_of procedures.now) (subscripts_of subscripts.now)) }
+{
+    match subscripts {
+        [] => Ok(()),
+        [first, more @ ..] => {
+            expression(code, procedures, &first.index)?;
+            scale(code, first.stride)?;
+            for subscript in more {
+                put(code, Instruction::Push)?;
+                expression(code, procedures, &subscript.index)?;
+                scale(code, subscript.stride)?;
+                put(
+                    code,
+                    Instruction::Binary(BinaryOperation::Add, Width::Word),
+                )?;
+            }
+            Ok(())
+        }
+    }
+}
+
+/// A target gets the value in the accumulator, which is there afterwards.
+#[cycle(expressions)]
+#[tactic(auto, using(crate::proofs::Trees::same_place))]
+pub fn target(code: &mut Instructions, procedures: &[Procedure], to: &Target) -> Result<(), Fault>
+    ensures { OnOk result (code.new.items ≡ code.old.items ++ target_code (procedures_of procedures.now) (target_of to.now)) }
+{
+    match to {
+        Target::Plain(width, at) => put(code, Instruction::Store(*width, *at)),
+        Target::Variable(width, reference) => {
+            let Reference { anchor, offset, .. } = reference;
+            write(code, procedures, *width, *anchor, *offset, &reference.subscripts)
+        }
+        Target::Port(width, port) => send(code, procedures, *width, port),
+    }
+}
+
+// A variable whose place is computed gets the value.
+#[cycle(expressions)]
+fn write(
+    code: &mut Instructions,
+    procedures: &[Procedure],
+    width: Width,
+    anchor: Anchor,
+    offset: u64,
+    list: &[Subscript],
+) -> Result<(), Fault>
+    ensures { OnOk result (code.new.items ≡ code.old.items ++ writing width (anchor_of anchor) offset (subscripts_of list.now) (subscripts_code (procedures_of procedures.now) (subscripts_of list.now))) }
+{
+    let at = anchor_place(anchor, offset);
+    match (anchor, list) {
+        (Anchor::Based(base), _) => {
+            put(code, Instruction::Push)?;
+            subscripts(code, procedures, list)?;
+            follow(code, base, offset, list)?;
+            put(code, Instruction::StoreThere(width))
+        }
+        (_, []) => put(code, Instruction::Store(width, at)),
+        (_, [_, ..]) => {
+            put(code, Instruction::Push)?;
+            subscripts(code, procedures, list)?;
+            put(code, Instruction::StoreAt(width, at))
+        }
+    }
+}
+
+// A port gets the value.
+#[cycle(expressions)]
+fn send(
+    code: &mut Instructions,
+    procedures: &[Procedure],
+    width: Width,
+    port: &Expression,
+) -> Result<(), Fault>
+    ensures { OnOk result (code.new.items ≡ code.old.items ++ sending width (operand_of (expression_of port.now)) (expression_code (procedures_of procedures.now) (expression_of port.now))) }
+{
+    match as_operand(port) {
+        Operand::Number(number) => put(code, Instruction::SendTo(width, number)),
+        _ => {
+            put(code, Instruction::Push)?;
+            expression(code, procedures, port)?;
+            put(code, Instruction::Send(width))
+        }
+    }
+}
+
+/// The targets of an assignment get the value in the accumulator, from left to right.
+pub fn assign(
+    code: &mut Instructions,
+    procedures: &[Procedure],
+    first: &Target,
+    others: &[Target],
+) -> Result<(), Fault>
+    ensures { OnOk result (code.new.items ≡ code.old.items ++ targets_code (procedures_of procedures.now) (targets_of (target_of first.now) others.now)) }
+{
+    target(code, procedures, first)?;
+    for other in others {
+        target(code, procedures, other)?;
+    }
+    Ok(())
+}

@@ -1,0 +1,57 @@
+//! Instructions one behind the other, and operands.
+
+ghost use Rattle.std.specs.Prelude.{◌≡◌, ◌++◌, ◌∷◌, [], OnOk};
+ghost use Rattle.plm_type.specs.View.{expression_of};
+ghost use Rattle.lower.specs.Code.{operand_of};
+ghost use Rattle.lower.specs.Inner.Shown.{operand_shown};
+
+use icode::Instruction;
+use plm_type::{Expression, Place};
+use word86::{Fault, Width};
+
+/// One more instruction.
+pub fn put(code: &mut Vec<Instruction>, instruction: Instruction) -> Result<(), Fault>
+    ensures { OnOk result (code.new.items ≡ code.old.items ++ instruction ∷ []) }
+{
+    code.push(instruction)?;
+    Ok(())
+}
+
+/// More instructions.
+pub fn add(code: &mut Vec<Instruction>, others: &[Instruction]) -> Result<(), Fault>
+    ensures { OnOk result (code.new.items ≡ code.old.items ++ others.now) }
+{
+    code.extend_from_slice(others)?;
+    Ok(())
+}
+
+/// What an expression is as an operand.
+#[derive(Clone, Copy)]
+pub enum Operand {
+    /// Of an instruction: a constant, and a plain variable.
+    Number(u16),
+    Name(Width, Place),
+    /// The value in the accumulator, once it is computed.
+    Computed,
+}
+
+/// What an expression is as an operand.
+#[tactic(auto, using(crate::proofs::Trees::same_place))]
+pub fn as_operand(tree: &Expression) -> Operand
+    ensures { operand_shown result ≡ operand_of (expression_of tree.now) }
+{
+    match tree {
+        Expression::Constant(value) => Operand::Number(*value),
+        Expression::Plain(width, at) => Operand::Name(*width, *at),
+        Expression::Variable(_, _) => Operand::Computed,
+        Expression::Location(_) => Operand::Computed,
+        Expression::Unary(_, _, _) => Operand::Computed,
+        Expression::Chain(first, others) => match others.as_slice() {
+            [] => as_operand(first),
+            [_, ..] => Operand::Computed,
+        },
+        Expression::Embedded(_, _) => Operand::Computed,
+        Expression::Input(_, _) => Operand::Computed,
+        Expression::Call(_, _) => Operand::Computed,
+    }
+}
