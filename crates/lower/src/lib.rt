@@ -1,11 +1,14 @@
 //! From the trees of a checked program to its intermediate code.
 #![tactic(auto)]
 
+mod cases;
 mod conditions;
 mod expressions;
 mod kind;
 mod laws;
+mod loops;
 mod put;
+mod silence;
 mod statements;
 
 pub use laws::lowering_tracks;
