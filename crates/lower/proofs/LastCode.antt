@@ -1,5 +1,6 @@
 -- How many statements there are up to the last one that has code.
-use Rattle.std.proofs.Common.{◌≡◌, ℕ, zero, suc, ◌+◌, ◌<◌, ◌≤◌, Bool, true, false, ◌&&◌, List, [], ◌∷◌, length, drop, get_or, nat_le, refl, ap, sym, ◌∙◌, arith}
+use Rattle.std.proofs.Common.{◌≡◌, ℕ, zero, suc, ◌+◌, ◌<◌, ◌≤◌, Bool, true, false, ◌&&◌, List, [], ◌∷◌, length, drop, get_or, nat_le, refl, ap, sym, ◌∙◌, arith, true≢false}
+use Rattle.std.proofs.Math.Dec.{leb-zero, leb-suc-zero, leb-suc-suc}
 use Rattle.std.specs.Global.{Box}
 use Rattle.plm_type.specs.declared.program.Statement.{Statement}
 use Rattle.plm_type.specs.View.{statement_of, statements_of}
@@ -30,25 +31,19 @@ silent_behind (s ∷ ss) (suc k) h = silent_behind ss k (and_right (is_silent (s
 -- one more silent statement
 pub silent_at : (ss : List (Box Statement)) (k : ℕ) (d : Box Statement) → k < length ss → is_silent (statement_of (get_or ss k d).value) ≡ true → are_silent (statements_of (drop (suc k) ss)) ≡ true
     → are_silent (statements_of (drop k ss)) ≡ true
-silent_at [] k d lt here behind = refl
+silent_at [] k d lt here behind = absurd (omega (arith, lt))
 silent_at (s ∷ ss) zero d lt here behind = ap (λ b. b && are_silent (statements_of ss)) here ∙ behind
 silent_at (s ∷ ss) (suc k) d lt here behind = silent_at ss k d (omega (arith, lt)) here behind
 
-le_zero : (k : ℕ) → nat_le 0 k ≡ true
-le_zero k = search
-
-le_suc : (m k : ℕ) → nat_le (suc m) (suc k) ≡ nat_le m k
-le_suc m k = refl
-
 -- without code there is none anywhere
 pub none : (ss : List (Box Statement)) (k : ℕ) → are_silent (statements_of ss) ≡ true → nat_le 0 k ≡ are_silent (statements_of (drop k ss))
-none ss k h = le_zero k ∙ sym (silent_behind ss k h)
+none ss k h = leb-zero k ∙ sym (silent_behind ss k h)
 
 -- the last one that has code
 pub last : (ss : List (Box Statement)) (m : ℕ) (d : Box Statement) → m < length ss → is_silent (statement_of (get_or ss m d).value) ≡ false → are_silent (statements_of (drop (suc m) ss)) ≡ true
     → (k : ℕ) → nat_le (suc m) k ≡ are_silent (statements_of (drop k ss))
 last [] m d lt here behind k = absurd (omega (arith, lt))
-last (s ∷ ss) zero d lt here behind zero = sym (first_false (is_silent (statement_of s.value)) (are_silent (statements_of ss)) here)
-last (s ∷ ss) zero d lt here behind (suc k) = le_suc 0 k ∙ none ss k behind
-last (s ∷ ss) (suc m) d lt here behind zero = sym (and_false (is_silent (statement_of s.value)) (are_silent (statements_of ss)) (sym (last ss m d (omega (arith, lt)) here behind zero)))
-last (s ∷ ss) (suc m) d lt here behind (suc k) = le_suc (suc m) k ∙ last ss m d (omega (arith, lt)) here behind k
+last (s ∷ ss) zero d lt here behind zero = leb-suc-zero 0 ∙ sym (first_false (is_silent (statement_of s.value)) (are_silent (statements_of ss)) here)
+last (s ∷ ss) zero d lt here behind (suc k) = leb-suc-suc 0 k ∙ none ss k behind
+last (s ∷ ss) (suc m) d lt here behind zero = leb-suc-zero (suc m) ∙ sym (and_false (is_silent (statement_of s.value)) (are_silent (statements_of ss)) (sym (last ss m d (omega (arith, lt)) here behind zero) ∙ leb-suc-zero m))
+last (s ∷ ss) (suc m) d lt here behind (suc k) = leb-suc-suc (suc m) k ∙ last ss m d (omega (arith, lt)) here behind k

@@ -17,10 +17,12 @@ with_code-returns-then-not-is_silent t c k in_range =
     let here : is_silent (statement_of (get_or body m c.index-body-k.result).value) ≡ false =
         ap (λ b. is_silent (statement_of b.value)) (sym c.index-body-k.is) ∙ sym (ap (λ s. is_silent (statement_of s)) c.deref.ensures) ∙ sym c.is_silent.ensures ∙ c.if-not-is_silent.true in
     let behind : are_silent (statements_of (drop (suc m) body)) ≡ true = ap (λ n. are_silent (statements_of (drop n body))) some ∙ c.loop-k.invariant in
-    ap (λ n. nat_le n k) (omega (arith)) ∙ last body m c.index-body-k.result (omega (arith, some, c.loop-k.auto.k)) here behind k
+    let one : m + 1 ≡ suc m = omega arith in
+    ap (λ n. nat_le n k) one ∙ last body m c.index-body-k.result (omega (arith, some, c.loop-k.auto.k)) here behind k
 
 pub with_code-returns : goal.with_code-returns
 with_code-returns t c k in_range =
     let body = c.args.body.now in
-    let all : are_silent (statements_of body) ≡ true = ap (λ n. are_silent (statements_of (drop n body))) (omega (arith, c.loop-k-test.false)) ∙ c.loop-k.invariant in
+    let at : 0 ≡ c.loop-k.k = omega (arith, c.loop-k-test.false) in
+    let all : are_silent (statements_of body) ≡ true = ap (λ n. are_silent (statements_of (drop n body))) at ∙ c.loop-k.invariant in
     none body k all
