@@ -3,8 +3,9 @@
 ghost use Rattle.std.specs.Prelude.{◌≡◌, ◌++◌, ◌+◌, ◌∷◌, [], length, map, vec_items, IfOk, OnOk, IsOkUnless};
 ghost use Rattle.icode.specs.declared.instruction.Instruction.TheVariants as op;
 ghost use Rattle.plm_type.specs.View.{statement_of, statements_of, expression_of, target_of, targets_of, loop_of, procedures_of};
-ghost use Rattle.plm_type.specs.Rest.{If, While, Case, Iterate};
+ghost use Rattle.plm_type.specs.Rest.{While, Case, Iterate};
 ghost use Rattle.lower.specs.Code.{returning, narrowed, statement_code, statements_code, cases_code, targets_code, over, failing, choosing, ending, routine_code, expression_code, condition_code, test_of};
+ghost use Rattle.lower.specs.Inner.Parts.{branching};
 
 use crate::cases::switch;
 use crate::conditions::condition;
@@ -190,7 +191,10 @@ impl Around<'_> {
             Statement::Enable => self.alone(Instruction::Enable),
             Statement::Disable => self.alone(Instruction::Disable),
             Statement::Halt => self.alone(Instruction::Halt),
-            Statement::If(condition, arm, other) => self.branch(arm, other, condition, exit),
+            Statement::If(condition, arm, other) => {
+                let otherwise = self.statements(other, exit)?;
+                self.branch(arm, condition, are_silent(other), &otherwise, exit)
+            }
             Statement::Block(body) => self.statements(body, exit),
             Statement::While(condition, body) => self.repetition(body, condition, exit),
             Statement::Case(value, cases) => self.cases(cases, value, exit),
@@ -214,23 +218,22 @@ impl Around<'_> {
         Ok(code)
     }
 
-    // IF.
+    // IF, by the code of what is done otherwise.
     #[cycle(statements)]
     fn branch(
         self,
         arm: &[Box<Statement>],
-        other: &[Box<Statement>],
         tree: &Expression,
+        silent: bool,
+        otherwise: &[Instruction],
         exit: usize,
     ) -> Result<Instructions, Fault>
-        ensures code { IfOk result (λ r. r.items ≡ statement_code (procedures_of self.entry.procedures.now) self.entry.kind exit (If (expression_of tree.now) (statements_of arm.now) (statements_of other.now))) }
+        ensures code { IfOk result (λ r. r.items ≡ branching (procedures_of self.entry.procedures.now) self.entry.kind (expression_of tree.now) (statements_of arm.now) silent otherwise.now exit) }
         ensures memory { IsOkUnless result Fault.Memory }
     {
-        let otherwise = self.statements(other, exit)?;
-        let silent = are_silent(other);
-        let own = arm_exit(silent, &otherwise, exit)?;
+        let own = arm_exit(silent, otherwise, exit)?;
         let arm = self.statements(arm, own)?;
-        self.choice(tree, &arm, silent, &otherwise, exit)
+        self.choice(tree, &arm, silent, otherwise, exit)
     }
 
     // DO WHILE.

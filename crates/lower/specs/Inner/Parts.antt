@@ -1,11 +1,15 @@
--- The code of loops, by that of their parts.
-use Rattle.std.specs.Prelude.{ℕ, ◌+◌, List, [], ◌∷◌, ◌++◌, length}
-use Rattle.plm_type.specs.Rest.{Scalar}
+-- The code of conditions and loops, by that of their parts.
+use Rattle.std.specs.Prelude.{ℕ, ◌+◌, Bool, List, [], ◌∷◌, ◌++◌, length}
+use Rattle.plm_type.specs.Rest.{Scalar, Expression, Statements, Procedure}
 use Rattle.icode.specs.declared.instruction.Instruction.{Instruction}
 use Rattle.icode.specs.declared.instruction.Instruction.TheVariants as op
 use Rattle.icode.specs.declared.instruction.Relation.TheVariants as relation
 use Rattle.icode.specs.declared.instruction.Test.{Test}
-use Rattle.lower.specs.Code.{Operand, place_of, stands_to, next_round}
+use Rattle.lower.specs.Code.{Kind, Operand, place_of, stands_to, next_round, over, choosing, condition_code, test_of, statements_code}
+
+abbrev pub branching : List Procedure → Kind → (condition : Expression) (arm : Statements) (silent : Bool) (otherwise : List Instruction) (exit : ℕ) → List Instruction
+branching ps kind c arm silent otherwise exit =
+    choosing (condition_code ps c) (test_of c) (statements_code ps kind (length (over silent otherwise exit) + length otherwise + exit) arm) silent otherwise exit
 
 abbrev pub repeating : (condition : List Instruction) → Test → (body : List Instruction) (exit : ℕ) → List Instruction
 repeating condition t body exit = condition ++ (op.AheadUnless t (length body + 1 + exit) ∷ (body ++ op.Back (length condition + length body + 2) ∷ []))
