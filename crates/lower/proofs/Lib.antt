@@ -15,3 +15,5 @@ pub mod Whole
 pub mod Rows
 pub mod Trees
 pub mod Outermost
+pub mod LastCode
+pub mod Turned
