@@ -52,6 +52,7 @@ call_of_many p xs (e ∷ f ∷ es) first pushed h = ap (λ n. pushed ++ (passing
   all : (es : List declared_expression.Expression) → count_of (expressions_of es) ≡ length es
   all [] = refl
   all (e ∷ es) = ap suc (all es)
+
   counted : (es : List declared_expression.Expression) → 2 + count_of (expressions_of es) ≡ length (e ∷ f ∷ es)
   counted es = omega (arith, all es)
 

@@ -264,7 +264,14 @@ impl Around<'_> {
     {
         let rounds = self.statements(&iteration.body, 0)?;
         let mut code = self.value(first)?;
-        iterate(&mut code, self.alloc, self.procedures, iteration, &rounds, exit)?;
+        iterate(
+            &mut code,
+            self.alloc,
+            self.procedures,
+            iteration,
+            &rounds,
+            exit,
+        )?;
         Ok(code)
     }
 

@@ -15,7 +15,7 @@ with_code-returns-then-not-is_silent t c k in_range =
     let m = c.loop-k.k - 1 in
     let some : suc m ≡ c.loop-k.k = omega (arith, c.loop-k-test.true) in
     let here : is_silent (statement_of (get_or body m c.index-body-k.result).value) ≡ false =
-        ap (λ b. is_silent (statement_of b.value)) (sym c.index-body-k.is) ∙ sym (ap (λ s. is_silent (statement_of s)) c.deref.ensures) ∙ sym c.is_silent.ensures ∙ c.if-not-is_silent.true in
+    ap (λ b. is_silent (statement_of b.value)) (sym c.index-body-k.is) ∙ sym (ap (λ s. is_silent (statement_of s)) c.deref.ensures) ∙ sym c.is_silent.ensures ∙ c.if-not-is_silent.true in
     let behind : are_silent (statements_of (drop (suc m) body)) ≡ true = ap (λ n. are_silent (statements_of (drop n body))) some ∙ c.loop-k.invariant in
     let one : m + 1 ≡ suc m = omega arith in
     ap (λ n. nat_le n k) one ∙ last body m c.index-body-k.result (omega (arith, some, c.loop-k.auto.k)) here behind k

@@ -43,11 +43,11 @@ statement-returns-in_ok-otherwise-in-If-clause-code t c =
     let silent : c.are_silent.result ≡ are_silent (statements_of c.in-If.other.items) = c.are_silent.ensures ∙ ap (λ ss. are_silent (statements_of ss)) c.deref-in-If-3.ensures.value in
     let otherwise = c.deref-in-If-4.ensures.value ∙ c.in_ok-otherwise-in-If.ensures.code ∙ ap (λ ss. statements_code ps kind exit (statements_of ss)) c.deref-in-If.ensures.value in
     subst (λ x. IfOk c.branch-self.result (λ r. r.items ≡ x))
-        (ap (λ ss. branching ps kind e (statements_of ss) c.are_silent.result c.deref-in-If-4.result.now exit) c.deref-in-If-2.ensures.value
-        ∙ ap (λ b. branching ps kind e arm b c.deref-in-If-4.result.now exit) silent
-        ∙ ap (λ o. branching ps kind e arm (are_silent (statements_of c.in-If.other.items)) o exit) otherwise
-        ∙ sym (ap (statement_code ps kind exit) (ap statement_of c.in-If.is ∙ if_tree c.in-If.condition c.in-If.arm c.in-If.other)))
-        c.branch-self.ensures.code
+    (ap (λ ss. branching ps kind e (statements_of ss) c.are_silent.result c.deref-in-If-4.result.now exit) c.deref-in-If-2.ensures.value
+    ∙ ap (λ b. branching ps kind e arm b c.deref-in-If-4.result.now exit) silent
+    ∙ ap (λ o. branching ps kind e arm (are_silent (statements_of c.in-If.other.items)) o exit) otherwise
+    ∙ sym (ap (statement_code ps kind exit) (ap statement_of c.in-If.is ∙ if_tree c.in-If.condition c.in-If.arm c.in-If.other)))
+    c.branch-self.ensures.code
 
 pub each_case-returns-clause-code : goal.each_case-returns-clause-code
 each_case-returns-clause-code t c =

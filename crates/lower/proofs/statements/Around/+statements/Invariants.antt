@@ -13,5 +13,6 @@ invariant-each_case-loop-k l =
     let ps = procedures_of l.self.procedures.now in
     let others = cases_code ps l.self.kind l.exit (statements_of (drop l.k l.cases)) in
     record {
-        coded : map vec_items l.codes.items ≡ reverse others;
-        passed : l.behind ≡ length (all_of others) + l.exit }
+      coded : map vec_items l.codes.items ≡ reverse others;
+      passed : l.behind ≡ length (all_of others) + l.exit;
+    }
