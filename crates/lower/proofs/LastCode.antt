@@ -1,5 +1,5 @@
 -- How many statements there are up to the last one that has code.
-use Rattle.std.proofs.Common.{◌≡◌, ℕ, zero, suc, ◌+◌, ◌<◌, ◌≤◌, Bool, true, false, ◌&&◌, List, [], ◌∷◌, length, drop, get_or, nat_le, refl, ap, sym, ◌∙◌, arith, true≢false}
+use Rattle.std.proofs.Common.{◌≡◌, ℕ, zero, suc, ◌<◌, Bool, true, false, ◌&&◌, List, [], ◌∷◌, length, drop, get_or, nat_le, refl, ap, sym, ◌∙◌, arith, true≢false}
 use Rattle.std.proofs.Math.Dec.{leb-zero, leb-suc-zero, leb-suc-suc}
 use Rattle.std.specs.Global.{Box}
 use Rattle.plm_type.specs.declared.program.Statement.{Statement}

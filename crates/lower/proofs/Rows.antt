@@ -4,7 +4,6 @@ use Rattle.std.specs.Global.{Vec, Box}
 use Rattle.plm_type.specs.declared.program.Expression.{Expression, Row_of-Expression, end_of-Expression, more_of-Expression, items-the_row-Expression, items_hidden-the_row-Expression-1, Row_of-Operation, end_of-Operation, more_of-Operation, items-the_row-Operation, items_hidden-the_row-Operation-0}
 use Rattle.plm_type.specs.declared.program.Expression.TheVariants as expression
 use Rattle.plm_type.specs.declared.program.Expression.TheBlock.{hidden-the_row-Expression-1, hidden-the_row-Operation-0}
-use Rattle.plm_type.specs.declared.program.Subscript.{Subscript}
 use Rattle.plm_type.specs.declared.program.Reference.{Reference, Row_of-Subscript, end_of-Subscript, more_of-Subscript, items-the_row-Subscript, items_shown-the_row-Subscript-2, Reference', out-Reference}
 use Rattle.plm_type.specs.declared.program.Operation.{Operation}
 use Rattle.plm_type.specs.declared.program.Statement.{Statement, Row_of-Statement-If-1-1, end_of-Statement-If-1-1, more_of-Statement-If-1-1, items-the_row-Statement-If-1-1, items_hidden-the_row-Statement-If-1-1-0}
