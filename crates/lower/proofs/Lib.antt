@@ -12,3 +12,6 @@ pub mod Stmts
 pub mod Placed
 pub mod Ordered
 pub mod Whole
+pub mod Heights
+pub mod Fits
+pub mod Calm
