@@ -17,12 +17,7 @@ use Rattle.icode.specs.Made.{asked_constant}
 use Rattle.lower.specs.Code.{Operand, Number, Name, Computed, operand_of, anchor_place, beside, operation, scaled, moved, based, reading, locating, writing, receiving, sending, passing, alone, count_of, relation_of, stands_to, asked, test_of, asking, expression_code, first_code, pushed_code, subscripts_code, further_code, target_code, targets_code, condition_code}
 use Rattle.lower.specs.Well.{IsExpression, AreExpressions, AreSubscripts, IsTarget, AreTargets}
 use Rattle.lower.proofs.Heights.{Keeps, behind_append, keeps_then, scaled_keeps, moved_keeps, based_keeps, alone_keeps, passing_keeps, expression_keeps, subscripts_keep, further_keep, target_keeps, targets_keep, pushed_up}
-use Rattle.lower.proofs.Fits.{Fits, Calm, calm_then}
-
--- a constant operand is a word
-abbrev pub IsWord : Operand → Type 0
-IsWord (Number k) = k < 65536
-IsWord _ = Unit {0}
+use Rattle.lower.proofs.Fits.{IsWord, Calm, calm_then}
 
 module _ (MayCall : ℕ → Type 0) (Enables Finishes : Type 0) (Spot : ℕ → Type 0) where
   abbrev C : ℕ → List Instruction → Type 0
