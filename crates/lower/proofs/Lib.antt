@@ -15,3 +15,4 @@ pub mod Whole
 pub mod Heights
 pub mod Fits
 pub mod Calm
+pub mod Fitting
