@@ -16,3 +16,4 @@ pub mod Heights
 pub mod Fits
 pub mod Calm
 pub mod Fitting
+pub mod Routines
