@@ -17,3 +17,4 @@ pub mod Fits
 pub mod Calm
 pub mod Fitting
 pub mod Routines
+pub mod Visits
