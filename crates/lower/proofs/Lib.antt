@@ -18,3 +18,4 @@ pub mod Calm
 pub mod Fitting
 pub mod Routines
 pub mod Visits
+pub mod Reached
