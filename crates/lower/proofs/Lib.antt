@@ -19,3 +19,4 @@ pub mod Fitting
 pub mod Routines
 pub mod Visits
 pub mod Reached
+pub mod Sound

@@ -3,4 +3,4 @@
 
 mod laws;
 
-pub use laws::lowering_tracks;
+pub use laws::{checked_code_is_sound, lowering_tracks};
