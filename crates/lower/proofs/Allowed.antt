@@ -30,7 +30,7 @@ use Rattle.icode.specs.Code.{procedure_or_none}
 module _ (variables : List Variable) (ps : List ProcedureR) (sizes : List ℕ) where
   external_within : (external : Bool) (p : ProcedureR) → cond external [] (typed.of_statements variables ps p.module (stands.Procedure p.returned) p.body) ≡ []
       → Within ps (statements_calls (cond external End (statements_for variables ps sizes p.module (stands.Procedure p.returned) p.body))) (cond external [] (of_statements p.body))
-  external_within true p h q c = c
+  external_within true p h = λ q c. c
   external_within false p h = statements_within ps variables sizes p.module (stands.Procedure p.returned) p.body h
 
   external_lets : (external : Bool) (p : ProcedureR) → Let (cond external End (statements_for variables ps sizes p.module (stands.Procedure p.returned) p.body)) → lets_in (cond external [] (of_statements p.body)) ≡ true

@@ -21,10 +21,6 @@ behind_append h (x ∷ xs) ys = behind_append (after x h) xs ys
 abbrev pub Keeps : List Instruction → Type 0
 Keeps xs = (h : ℕ) → behind h xs ≡ h
 
--- one value is used up
-abbrev pub Spends : List Instruction → Type 0
-Spends xs = (h : ℕ) → behind (suc h) xs ≡ h
-
 pub keeps_then : (xs ys : List Instruction) → Keeps xs → (h j : ℕ) → behind h ys ≡ j → behind h (xs ++ ys) ≡ j
 keeps_then xs ys a h j b = behind_append h xs ys ∙ (ap (λ i. behind i ys) (a h) ∙ b)
 

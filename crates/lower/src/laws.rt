@@ -2,6 +2,7 @@
 
 ghost use Rattle.lower.specs.Tracking.{LoweringLaw};
 ghost use Rattle.lower.specs.Checked.{SoundLaw};
+ghost use Rattle.lower.specs.Runs.{RunsLaw};
 
 /// The code of a well-formed program does what the program means, up to its first Bad step. Wherever the objects lie and whatever
 /// happens to what is shared between two steps, main's code tracks main, and what serves a vector tracks that vector's procedure. At
@@ -15,4 +16,10 @@ pub fn lowering_tracks()
 /// A procedure calls only those that its tree calls, and none that serves an interrupt is called.
 pub fn checked_code_is_sound()
     ensures { SoundLaw }
+{}
+
+/// Of a checked program whose trees are well formed, whatever is answered and wherever the objects lie: main's code is never used up.
+/// What an interrupt enters comes to no ENABLE or HALT, in what it calls either, and is used up only in the procedure that was entered.
+pub fn checked_runs_are_allowed()
+    ensures { RunsLaw }
 {}

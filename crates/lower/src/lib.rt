@@ -3,4 +3,4 @@
 
 mod laws;
 
-pub use laws::{checked_code_is_sound, lowering_tracks};
+pub use laws::{checked_code_is_sound, checked_runs_are_allowed, lowering_tracks};
