@@ -1,10 +1,25 @@
 //! What the code of a program does.
 
 ghost use Rattle.lower.specs.Tracking.{LoweringLaw};
+ghost use Rattle.lower.specs.Checked.{SoundLaw};
+ghost use Rattle.lower.specs.Runs.{RunsLaw};
 
 /// The code of a well-formed program does what the program means, up to its first Bad step. Wherever the objects lie and whatever
 /// happens to what is shared between two steps, main's code tracks main, and what serves a vector tracks that vector's procedure. At
 /// most two instructions come without a step of the program.
 pub fn lowering_tracks()
     ensures { LoweringLaw }
+{}
+
+/// The code of a well-formed program can be counted and selected: the number of pushed values is the same along every run, and none
+/// is pushed behind a jump or where one leads; jumps lead to instructions, cases stand behind their `Switch`, and constants are words.
+/// A procedure calls only those that its tree calls, and none that serves an interrupt is called.
+pub fn checked_code_is_sound()
+    ensures { SoundLaw }
+{}
+
+/// Of a checked program whose trees are well formed, whatever is answered and wherever the objects lie: main's code is never used up.
+/// What an interrupt enters comes to no ENABLE or HALT, in what it calls either, and is used up only in the procedure that was entered.
+pub fn checked_runs_are_allowed()
+    ensures { RunsLaw }
 {}
