@@ -20,3 +20,6 @@ pub mod Backs
 pub mod Cases
 pub mod Steps
 pub mod Selecting
+pub mod Bounding
+pub mod Saving
+pub mod Rooming
