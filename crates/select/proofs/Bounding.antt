@@ -3,12 +3,11 @@ use Rattle.std.proofs.Common.{◌≡◌, ℕ, zero, suc, ◌+◌, ◌<◌, ◌�
 use Rattle.std.specs.Prelude.{sum}
 use Rattle.std.proofs.lemmas.Bool.{cases_lt}
 use Rattle.std.proofs.lemmas.List.{length-map, get_or_past}
-use Rattle.select.specs.declared.sizes.Extent.{Extent}
-use Rattle.select.specs.declared.sizes.Extent.TheVariants.{Fixed, Jump}
+use Rattle.select.specs.declared.sizes.Extent.TheVariants.{Jump}
 use Rattle.select.specs.declared.part.Fixup.{Fixup}
 use Rattle.select.specs.declared.part.Step.{Step}
 use Rattle.select.specs.declared.part.Step.TheVariants.{Plain, Refer, AtStep, Word, Goto, GotoIf}
-use Rattle.select.specs.Sizes.{start, extent_at, IsSettled, AreSettled}
+use Rattle.select.specs.Sizes.{start, extent_at, IsSettled}
 use Rattle.select.specs.Parts.{extent_of, AreSpelt, IsPart}
 use Rattle.select.specs.Inner.Settling.{longest}
 use Rattle.select.specs.Inner.Assembly.{nothing}

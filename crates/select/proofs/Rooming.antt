@@ -1,5 +1,5 @@
 -- How many bytes the rows of instructions have at most.
-use Rattle.std.proofs.Common.{◌≡◌, ℕ, zero, suc, ◌+◌, ◌-◌, ◌*◌, ◌%◌, ◌≤◌, ◌==◌, ◌&&◌, Bool, true, false, List, [], ◌∷◌, ◌++◌, length, map, Some, None, refl, sym, ap, ◌∙◌, arith}
+use Rattle.std.proofs.Common.{◌≡◌, ℕ, ◌+◌, ◌-◌, ◌*◌, ◌%◌, ◌≤◌, ◌==◌, ◌&&◌, Bool, true, false, List, [], ◌∷◌, ◌++◌, length, map, Some, None, refl, ap, ◌∙◌, arith}
 use Rattle.std.specs.Prelude.{sum, nat_eq, nat_le, not, if◌then◌else◌}
 use Rattle.std.specs.List.{sum_by}
 use Rattle.std.proofs.lemmas.List.Sums.{sum_by-cons}
@@ -13,16 +13,14 @@ use Rattle.word86.specs.declared.place.Place.{Place}
 use Rattle.word86.specs.declared.place.Place.TheVariants as place
 use Rattle.word86.specs.Places.{screen_begins}
 use Rattle.i86_table.specs.declared.registers.Register16.{Register16}
-use Rattle.i86_table.specs.declared.registers.Register16.TheVariants.{Ax, Bx, Cx, Dx, Bp, Sp}
-use Rattle.i86_table.specs.declared.registers.Register8.TheVariants.{Ch}
+use Rattle.i86_table.specs.declared.registers.Register16.TheVariants.{Ax, Cx, Dx, Sp}
 use Rattle.i86_table.specs.declared.registers.Segment.{Segment}
 use Rattle.i86_table.specs.declared.registers.Segment.TheVariants as segments
 use Rattle.i86_table.specs.declared.instruction.Base.{Base}
 use Rattle.i86_table.specs.declared.instruction.Base.TheVariants as bases
-use Rattle.i86_table.specs.declared.instruction.Condition.{Condition}
 use Rattle.i86_table.specs.declared.instruction.RmOperand.TheVariants as rm
 use Rattle.i86_table.specs.declared.instruction.AluOperation.{AluOperation}
-use Rattle.i86_table.specs.declared.instruction.AluOperation.TheVariants.{Add, Sub, And, Or, Xor, Cmp}
+use Rattle.i86_table.specs.declared.instruction.AluOperation.TheVariants.{Add, Cmp}
 use Rattle.i86_table.specs.declared.instruction.Operands.TheVariants.{FromMemory}
 use Rattle.i86_table.specs.declared.instruction.Port.TheVariants as ports
 use Rattle.i86_table.specs.declared.instruction.Instr.{Instr}
@@ -40,7 +38,6 @@ use Rattle.i86_code.specs.Open.{front_of}
 use Rattle.i86_code.specs.Writing.{is_near, is_bp, based_form, with_byte, with_word, alu_byte_of, alu_word_of, move_byte_of, move_word_of, form_of, bytes_of}
 use Rattle.icode.specs.declared.instruction.Instruction.{Instruction}
 use Rattle.icode.specs.declared.instruction.Instruction.TheVariants as op
-use Rattle.icode.specs.declared.instruction.Relation.{Relation}
 use Rattle.icode.specs.declared.instruction.Test.{Test}
 use Rattle.icode.specs.declared.instruction.Test.TheVariants as test
 use Rattle.icode.specs.declared.code.Routine.{Routine}
@@ -51,10 +48,9 @@ use Rattle.icode.specs.Registers.{is_direct}
 use Rattle.icode.specs.Room as room
 use Rattle.select.specs.declared.part.Part.{Part}
 use Rattle.select.specs.declared.part.Step.{Step}
-use Rattle.select.specs.declared.part.Step.TheVariants.{Plain, Refer, AtStep, Word, Goto, GotoIf}
 use Rattle.select.specs.Parts.{extent_of}
 use Rattle.select.specs.Inner.Settling.{longest}
-use Rattle.select.specs.Rows.{load_number, copy, clear_byte, alu, alu_number, push, pop, narrow, then_narrow, narrow_right, core, direct, narrow_sum, by_constant, changed, left_from_stack, dropped, access, loads, loads_right, stores, placed, on_place, operates, own_word, sent, received, plain, by_read, fails, unless, registers_of, saved, given_back, finished, row, rows, first_of, routine}
+use Rattle.select.specs.Rows.{load_number, alu_number, pop, narrow, then_narrow, narrow_right, core, direct, narrow_sum, by_constant, changed, left_from_stack, dropped, loads, loads_right, stores, on_place, operates, own_word, sent, received, plain, by_read, unless, registers_of, saved, given_back, finished, row, rows, first_of, routine}
 use Rattle.select.specs.Selection.{IsPartOf, ArePartsOf, part_of}
 use Rattle.select.specs.Room.{room_of, room_for, PartsHaveRoom}
 use Rattle.select.proofs.Bounding.{part_bounded}

@@ -1,5 +1,5 @@
 -- The registers that are saved, and those of the routine for vectors without a procedure.
-use Rattle.std.proofs.Common.{◌≡◌, ℕ, zero, suc, ◌+◌, ◌≤◌, Bool, true, false, List, [], ◌∷◌, length, Some, None, slice_get, refl, sym, ap, ◌∙◌, ap₂, subst, arith}
+use Rattle.std.proofs.Common.{◌≡◌, ℕ, zero, suc, ◌+◌, ◌≤◌, Bool, true, false, List, [], ◌∷◌, length, Some, slice_get, refl, sym, ap, ◌∙◌, ap₂, subst, arith}
 use Rattle.std.proofs.lemmas.Option.{none-some}
 use Rattle.std.specs.Prelude.{◌||◌}
 use Rattle.i86_table.specs.declared.registers.Register16.{Register16}
@@ -12,7 +12,7 @@ use Rattle.icode.specs.declared.code.Routine.TheVariants.{Unserved}
 use Rattle.icode.specs.declared.code.Code.{Code}
 use Rattle.icode.specs.declared.registers.Registers.{Registers}
 use Rattle.icode.specs.Code.{code_of}
-use Rattle.icode.specs.Counted.{IsPath, HasAll, IsChanged, one_if, number_of}
+use Rattle.icode.specs.Counted.{IsPath, HasAll, one_if}
 use Rattle.icode.specs.Registers.{none, joined, changes}
 use Rattle.select.specs.Rows.{with_register, registers_of}
 use Rattle.select.specs.Saved.{UnservedChangesNone, RegistersAreCounted}
