@@ -23,3 +23,4 @@ pub mod Selecting
 pub mod Bounding
 pub mod Saving
 pub mod Rooming
+pub mod Totalling

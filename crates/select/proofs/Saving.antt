@@ -28,7 +28,7 @@ one_few true = omega arith
 one_few false = omega arith
 
 pub counted : RegistersAreCounted
-counted g = 
+counted g =
     let bp = with_register g.frame Bp [] in
     let bx = with_register g.address Bx bp in
     let dx = with_register g.high Dx bx in
@@ -55,7 +55,7 @@ or_false true = refl
 or_false false = refl
 
 with_none : (h : Registers) → joined h none ≡ h
-with_none h = 
+with_none h =
     ap₂ (λ a b. record { accumulator = a; right = b; high = h.high || false; address = h.address || false; frame = h.frame || false }) (or_false h.accumulator) (or_false h.right)
     ∙ ap₂ (λ a b. record { accumulator = h.accumulator; right = h.right; high = a; address = b; frame = h.frame || false }) (or_false h.high) (or_false h.address)
     ∙ ap (λ a. record { accumulator = h.accumulator; right = h.right; high = h.high; address = h.address; frame = a }) (or_false h.frame)
