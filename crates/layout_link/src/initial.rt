@@ -64,8 +64,7 @@ fn put_datum(bytes: &mut Vec<u8>, names: &Names, offsets: &[u16], datum: Datum) 
 /// The law that bytes are numbers below 256.
 fn are_bytes(bytes: &[u8])
     ensures { AreBytes bytes.now }
-{
-}
+{}
 
 /// The initial bytes of an object, as many as it has room for.
 fn first_of(
