@@ -4,3 +4,4 @@ pub mod Tracking
 pub mod Lowered
 pub mod Checked
 pub mod Runs
+pub mod Room
