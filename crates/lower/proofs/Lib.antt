@@ -12,3 +12,4 @@ pub mod Stmts
 pub mod Placed
 pub mod Ordered
 pub mod Whole
+pub mod Rooms
