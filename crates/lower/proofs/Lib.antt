@@ -13,3 +13,4 @@ pub mod Placed
 pub mod Ordered
 pub mod Whole
 pub mod Rooms
+pub mod Counts
