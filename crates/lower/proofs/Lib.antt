@@ -14,3 +14,4 @@ pub mod Ordered
 pub mod Whole
 pub mod Rooms
 pub mod Counts
+pub mod Fitting

@@ -8,6 +8,7 @@ use Rattle.plm_type.specs.Nodes.{procedures_nodes, statements_nodes}
 use Rattle.plm_type.specs.Programs.{declared_procedures}
 use Rattle.icode.specs.declared.code.Routine.TheVariants as routine
 use Rattle.icode.specs.Room.{room_in}
+use Rattle.lower.specs.Checked.{IsWellFormed}
 use Rattle.lower.specs.Lowered.{program_code}
 
 module _ (names : Names) where
@@ -21,6 +22,6 @@ module _ (names : Names) where
     pub main : room_in (program_code names routine.Main) ≤ 46 * statements_nodes (main_of names.main).statements + 5
     pub procedures : procedures_room (length (declared_procedures names)) + 12 * length (declared_procedures names) ≤ 46 * procedures_nodes (declared_procedures names)
 
--- for every checked program
+-- for every checked program whose trees are well formed
 abbrev pub RoomLaw : Type 0
-RoomLaw = (program : Program) (names : Names) → AreTyped program names → HasRoom names
+RoomLaw = (program : Program) (names : Names) → AreTyped program names → IsWellFormed names → HasRoom names

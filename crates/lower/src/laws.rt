@@ -1,5 +1,6 @@
 //! What the code of a program does.
 
+ghost use Rattle.lower.specs.Room.{RoomLaw};
 ghost use Rattle.lower.specs.Tracking.{LoweringLaw};
 
 /// The code of a well-formed program does what the program means, up to its first Bad step. Wherever the objects lie and whatever
@@ -7,4 +8,10 @@ ghost use Rattle.lower.specs.Tracking.{LoweringLaw};
 /// most two instructions come without a step of the program.
 pub fn lowering_tracks()
     ensures { LoweringLaw }
+{}
+
+/// The code of a checked program whose trees are well formed takes at most 46 bytes of a ROM for each node of the program, and 5 for
+/// main's end; 12 bytes for each procedure are left of that.
+pub fn programs_have_room()
+    ensures { RoomLaw }
 {}

@@ -3,4 +3,4 @@
 
 mod laws;
 
-pub use laws::lowering_tracks;
+pub use laws::{lowering_tracks, programs_have_room};
