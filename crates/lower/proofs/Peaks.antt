@@ -282,3 +282,167 @@ module _ (procedures : List Procedure) where
   targets_stay : (ts : Targets) (m h : ℕ) → h + targets_peak ts ≤ m → Stays m h h (targets_code procedures ts)
   targets_stay (Only t) m h le = target_stays t m h le
   targets_stay (Also t ts) m h le = then_stays m h h h (target_code procedures t) (targets_code procedures ts) (target_stays t m h (omega (arith, le))) (targets_stay ts m h (omega (arith, le)))
+
+-- ---- conditions, and parts of statements
+
+module _ (procedures : List Procedure) where
+  abbrev value_code : Expression → List Instruction
+  value_code e = expression_code procedures e
+
+  -- what its test uses up is pushed
+  condition_stays : (e : Expression) (m : ℕ) → peak e ≤ m → Stays m 0 (popped (test_of e)) (condition_code procedures e)
+  condition_stays (Constant k) m le = expression_stays procedures (Constant k) m 0 le
+  condition_stays (Plain width x) m le = expression_stays procedures (Plain width x) m 0 le
+  condition_stays (Variable width r) m le = expression_stays procedures (Variable width r) m 0 (omega (arith, le))
+  condition_stays (Location r) m le = expression_stays procedures (Location r) m 0 (omega (arith, le))
+  condition_stays (Unary o width e) m le = expression_stays procedures (Unary o width e) m 0 (omega (arith, le))
+  condition_stays (Binary i l o width a b) m le = cases (relation_of o)
+    where
+      cases : (r : Option Relation) → Stays m 0 (popped (asked r (operand_of b))) (asking r (value_code a) (beside (operand_of b) (value_code b)) (value_code (Binary i l o width a b)))
+      cases (Some r) =
+          then_stays m 0 0 (popped (stands_to r (operand_of b))) (value_code a) (beside (operand_of b) (value_code b)) (expression_stays procedures a m 0 (omega (arith, le)))
+          (beside_stays m r (operand_of b) (value_code b) (expression_stays procedures b m 1 (omega (arith, le))))
+      cases None = expression_stays procedures (Binary i l o width a b) m 0 (omega (arith, le))
+  condition_stays (Embedded t e) m le = expression_stays procedures (Embedded t e) m 0 (omega (arith, le))
+  condition_stays (Input width e) m le = expression_stays procedures (Input width e) m 0 (omega (arith, le))
+  condition_stays (Call p es) m le = expression_stays procedures (Call p es) m 0 (omega (arith, le))
+  condition_stays (Value v) m le = (le, refl)
+  condition_stays (Passing p xs vs) m le = (le, refl)
+  condition_stays (Running ss) m le = (le, refl)
+
+  -- the step is pushed twice
+  added_stays : (m : ℕ) (x : Scalar) (code : List Instruction) (before : ℕ) → 2 ≤ m → Stays m 0 0 code → Stays m 0 0 (code ++ add_pushed x before)
+  added_stays m x code before le s =
+      let one : 1 ≤ m = omega (arith, le) in
+      then_stays m 0 0 0 code (add_pushed x before) s (omega arith, (one, (le, (le, (one, (one, (omega arith, refl)))))))
+
+  next_stays : (m : ℕ) (x : Scalar) (e : Expression) (before : ℕ) → 2 ≤ m → Stays m 0 0 (value_code e) → Stays m 0 0 (next_round x (operand_of e) (value_code e) before)
+  next_stays m x (Constant k) before le s = let low : 0 ≤ m = omega arith in (low, (low, (low, (low, (low, refl)))))
+  next_stays m x (Plain w y) before le s = added_stays m x (value_code (Plain w y)) (before + length (value_code (Plain w y))) le s
+  next_stays m x (Variable w r) before le s = added_stays m x (value_code (Variable w r)) (before + length (value_code (Variable w r))) le s
+  next_stays m x (Location r) before le s = added_stays m x (value_code (Location r)) (before + length (value_code (Location r))) le s
+  next_stays m x (Unary o w e) before le s = added_stays m x (value_code (Unary o w e)) (before + length (value_code (Unary o w e))) le s
+  next_stays m x (Binary i l o w a b) before le s = added_stays m x (value_code (Binary i l o w a b)) (before + length (value_code (Binary i l o w a b))) le s
+  next_stays m x (Embedded t e) before le s = added_stays m x (value_code (Embedded t e)) (before + length (value_code (Embedded t e))) le s
+  next_stays m x (Input w e) before le s = added_stays m x (value_code (Input w e)) (before + length (value_code (Input w e))) le s
+  next_stays m x (Call p es) before le s = added_stays m x (value_code (Call p es)) (before + length (value_code (Call p es))) le s
+  next_stays m x (Value v) before le s = added_stays m x (value_code (Value v)) (before + length (value_code (Value v))) le s
+  next_stays m x (Passing p xs vs) before le s = added_stays m x (value_code (Passing p xs vs)) (before + length (value_code (Passing p xs vs))) le s
+  next_stays m x (Running ss) before le s = added_stays m x (value_code (Running ss)) (before + length (value_code (Running ss))) le s
+
+over_stays : (m : ℕ) (silent : Bool) (otherwise : List Instruction) (exit : ℕ) → Stays m 0 0 (over silent otherwise exit)
+over_stays m true otherwise exit = (omega arith, refl)
+over_stays m false otherwise exit = (omega arith, (omega arith, refl))
+
+choosing_stays : (m : ℕ) (condition : List Instruction) (t : Test) (arm : List Instruction) (silent : Bool) (otherwise : List Instruction) (exit : ℕ)
+    → Stays m 0 (popped t) condition → Stays m 0 0 arm → Stays m 0 0 otherwise → Stays m 0 0 (choosing condition t arm silent otherwise exit)
+choosing_stays m condition t arm silent otherwise exit sc sa so =
+    let rest = arm ++ (over silent otherwise exit ++ otherwise) in
+    let x = op.AheadUnless t (failing silent arm exit) in
+    then_stays m 0 (popped t) 0 condition (x ∷ rest) sc (step_stays m (popped t) 0 0 x rest (ends m 0 (popped t) condition sc) (omega arith)
+    (then_stays m 0 0 0 arm (over silent otherwise exit ++ otherwise) sa (then_stays m 0 0 0 (over silent otherwise exit) otherwise (over_stays m silent otherwise exit) so)))
+
+repeating_stays : (m : ℕ) (condition : List Instruction) (t : Test) (body : List Instruction) (n k : ℕ) → Stays m 0 (popped t) condition → Stays m 0 0 body
+    → Stays m 0 0 (condition ++ (op.AheadUnless t n ∷ (body ++ op.Back k ∷ [])))
+repeating_stays m condition t body n k sc sb =
+    then_stays m 0 (popped t) 0 condition (op.AheadUnless t n ∷ (body ++ op.Back k ∷ [])) sc
+    (step_stays m (popped t) 0 0 (op.AheadUnless t n) (body ++ op.Back k ∷ []) (ends m 0 (popped t) condition sc) (omega arith) (then_stays m 0 0 0 body (op.Back k ∷ []) sb (omega arith, (omega arith, refl))))
+
+entries_stay : (m before : ℕ) (cs : List (List Instruction)) → Stays m 0 0 (entries before cs)
+entries_stay m before [] = (omega arith, refl)
+entries_stay m before (c ∷ cs) = (omega arith, entries_stay m (before + length c) cs)
+
+switching_stays : (m : ℕ) (cs : List (List Instruction)) (exit : ℕ) → Stays m 0 0 (all_of cs) → Stays m 0 0 (switching cs exit)
+switching_stays m cs exit s =
+    (omega arith, then_stays m 0 0 0 (entries 0 cs) (op.Ahead (length (all_of cs) + exit) ∷ all_of cs) (entries_stay m 0 cs) (omega arith, s))
+
+returning_stays : (m : ℕ) (around : Kind) → Stays m 0 0 (returning around)
+returning_stays m OfMain = (omega arith, refl)
+returning_stays m Called = (omega arith, (omega arith, (omega arith, refl)))
+returning_stays m Serving = (omega arith, (omega arith, refl))
+
+narrowed_stays : (m : ℕ) (width : Width) → Stays m 0 0 (narrowed width ++ op.Leave ∷ [])
+narrowed_stays m widths.Byte = (omega arith, (omega arith, (omega arith, refl)))
+narrowed_stays m widths.Word = (omega arith, (omega arith, refl))
+
+ending_stays : (m : ℕ) (around : Kind) → Stays m 0 0 (ending around)
+ending_stays m OfMain = (omega arith, (omega arith, (omega arith, refl)))
+ending_stays m Called = (omega arith, (omega arith, (omega arith, refl)))
+ending_stays m Serving = (omega arith, (omega arith, refl))
+
+-- ---- statements
+
+module _ (procedures : List Procedure) (around : Kind) where
+  iterate_stays : (m : ℕ) (a : Expression) (x : Scalar) (bound step : Expression) (body : List Instruction) (n exit : ℕ) → max (max (peak a) (suc (peak bound))) (max (peak step) 2) ≤ m → Stays m 0 0 body
+      → Stays m 0 0 (expression_code procedures a ++ (op.Store x.width (place_of x.place) ∷ op.Load x.width (place_of x.place)
+      ∷ (beside (operand_of bound) (expression_code procedures bound)
+      ++ (op.AheadUnless (stands_to relation.LessEqual (operand_of bound)) exit ∷ (body ++ next_round x (operand_of step) (expression_code procedures step) n)))))
+  iterate_stays m a x bound step body n exit le sb =
+      let again = next_round x (operand_of step) (expression_code procedures step) n in
+      let compared = beside (operand_of bound) (expression_code procedures bound) in
+      let t = stands_to relation.LessEqual (operand_of bound) in
+      let rest = op.AheadUnless t exit ∷ (body ++ again) in
+      let sn = next_stays procedures m x step n (omega (arith, le)) (expression_stays procedures step m 0 (omega (arith, le))) in
+      let sc = beside_stays m relation.LessEqual (operand_of bound) (expression_code procedures bound) (expression_stays procedures bound m 1 (omega (arith, le))) in
+      let sr = step_stays m (popped t) 0 0 (op.AheadUnless t exit) (body ++ again) (ends m 0 (popped t) compared sc) (omega arith) (then_stays m 0 0 0 body again sb sn) in
+      then_stays m 0 0 0 (expression_code procedures a) (op.Store x.width (place_of x.place) ∷ op.Load x.width (place_of x.place) ∷ (compared ++ rest)) (expression_stays procedures a m 0 (omega (arith, le)))
+      (omega arith, (omega arith, then_stays m 0 (popped t) 0 compared rest sc sr))
+
+  mutual
+    statement_stays : (s : Statement) (exit m : ℕ) → statement_peak s ≤ m → Stays m 0 0 (statement_code procedures around exit s)
+    statement_stays Empty exit m le = (le, refl)
+    statement_stays (Assign ts e) exit m le =
+        then_stays m 0 0 0 (expression_code procedures e) (targets_code procedures ts) (expression_stays procedures e m 0 (omega (arith, le))) (targets_stay procedures ts m 0 (omega (arith, le)))
+    statement_stays (Evaluate e) exit m le = expression_stays procedures e m 0 (omega (arith, le))
+    statement_stays Return exit m le = returning_stays m around
+    statement_stays (ReturnValue width e) exit m le =
+        then_stays m 0 0 0 (expression_code procedures e) (narrowed width ++ op.Leave ∷ []) (expression_stays procedures e m 0 (omega (arith, le))) (narrowed_stays m width)
+    statement_stays Enabling exit m le = (le, (le, refl))
+    statement_stays Disabling exit m le = (le, (le, refl))
+    statement_stays Halting exit m le = (le, (le, refl))
+    statement_stays (If c arm other) exit m le =
+        let otherwise = statements_code procedures around exit other in
+        let arm_exit = length (over (are_silent other) otherwise exit) + length otherwise + exit in
+        choosing_stays m (condition_code procedures c) (test_of c) (statements_code procedures around arm_exit arm) (are_silent other) otherwise exit (condition_stays procedures c m (omega (arith, le)))
+        (statements_stay arm arm_exit m (omega (arith, le))) (statements_stay other exit m (omega (arith, le)))
+    statement_stays (Block ss) exit m le = statements_stay ss exit m le
+    statement_stays (While c d ss) exit m le =
+        let condition = condition_code procedures d in
+        let body = statements_code procedures around 0 ss in
+        repeating_stays m condition (test_of d) body (length body + 1 + exit) (length condition + length body + 2) (condition_stays procedures d m (omega (arith, le))) (statements_stay ss 0 m (omega (arith, le)))
+    statement_stays (Case e ss) exit m le =
+        let cs = cases_code procedures around exit ss in
+        then_stays m 0 0 0 (expression_code procedures e) (switching cs exit) (expression_stays procedures e m 0 (omega (arith, le))) (switching_stays m cs exit (cases_stay ss exit m (omega (arith, le))))
+    statement_stays (Iterate a (Count x bound step ss)) exit m le =
+        let body = statements_code procedures around 0 ss in
+        let n = length (beside (operand_of bound) (expression_code procedures bound)) + length body + 2 in
+        iterate_stays m a x bound step body n (length body + length (next_round x (operand_of step) (expression_code procedures step) n) + exit) (omega (arith, le)) (statements_stay ss 0 m (omega (arith, le)))
+    statement_stays Leaving exit m le = (le, refl)
+    statement_stays (Round l) exit m le = (le, refl)
+    statement_stays (Comparing i e l) exit m le = (le, refl)
+    statement_stays (Stepping e l) exit m le = (le, refl)
+    statement_stays (Adding i s l) exit m le = (le, refl)
+    statement_stays (Storing s l) exit m le = (le, refl)
+    statement_stays (Ending s l) exit m le = (le, refl)
+
+    statements_stay : (ss : Statements) (exit m : ℕ) → statements_peak ss ≤ m → Stays m 0 0 (statements_code procedures around exit ss)
+    statements_stay End exit m le = (le, refl)
+    statements_stay (Then s later) exit m le =
+        let at = exit_before (are_silent later) exit in
+        then_stays m 0 0 0 (statement_code procedures around at s) (statements_code procedures around exit later) (statement_stays s at m (omega (arith, le))) (statements_stay later exit m (omega (arith, le)))
+    statements_stay (Returned v) exit m le = (le, refl)
+
+    cases_stay : (ss : Statements) (exit m : ℕ) → statements_peak ss ≤ m → Stays m 0 0 (all_of (cases_code procedures around exit ss))
+    cases_stay End exit m le = (le, refl)
+    cases_stay (Then s later) exit m le =
+        let others = cases_code procedures around exit later in
+        let behind = length (all_of others) + exit in
+        let this = statement_code procedures around (1 + behind) s in
+        then_stays m 0 0 0 (this ++ op.Ahead behind ∷ []) (all_of others) (then_stays m 0 0 0 this (op.Ahead behind ∷ []) (statement_stays s (1 + behind) m (omega (arith, le))) (omega arith, (omega arith, refl)))
+        (cases_stay later exit m (omega (arith, le)))
+    cases_stay (Returned v) exit m le = (le, refl)
+
+  pub routine_low : (ss : Statements) (m : ℕ) → statements_peak ss ≤ m → (k : ℕ) → height (routine_code procedures around ss) k ≤ m
+  routine_low ss m le k =
+      let body = statements_code procedures around 0 ss in
+      low m 0 0 (body ++ ending around) (then_stays m 0 0 0 body (ending around) (statements_stay ss 0 m le) (ending_stays m around)) k
