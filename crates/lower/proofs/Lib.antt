@@ -15,3 +15,5 @@ pub mod Whole
 pub mod Rooms
 pub mod Counts
 pub mod Fitting
+pub mod Peaks
+pub mod Lows

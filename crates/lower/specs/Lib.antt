@@ -5,3 +5,4 @@ pub mod Lowered
 pub mod Checked
 pub mod Runs
 pub mod Room
+pub mod Heights

@@ -1,5 +1,6 @@
 //! What the code of a program does.
 
+ghost use Rattle.lower.specs.Heights.{HeightLaw};
 ghost use Rattle.lower.specs.Room.{RoomLaw};
 ghost use Rattle.lower.specs.Tracking.{LoweringLaw};
 
@@ -14,4 +15,10 @@ pub fn lowering_tracks()
 /// main's end; 12 bytes for each procedure are left of that.
 pub fn programs_have_room()
     ensures { RoomLaw }
+{}
+
+/// Nowhere in a program's code are more values pushed than a statement of the program, without the statements inside it, has
+/// constants and references.
+pub fn heights_are_low()
+    ensures { HeightLaw }
 {}

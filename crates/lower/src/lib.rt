@@ -3,4 +3,4 @@
 
 mod laws;
 
-pub use laws::{lowering_tracks, programs_have_room};
+pub use laws::{heights_are_low, lowering_tracks, programs_have_room};
