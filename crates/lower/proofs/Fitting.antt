@@ -60,9 +60,9 @@ module _ (variables : List Variable) (declared : List ProcedureR) (sizes : List 
       nothing_there e = cc
   no_fault_in (r ∷ ps) zero p none got =
       let here : body_faults r ≡ [] = none_right (of_stray r.module r.stray) (body_faults r)
-                  (none_right (fault_unless r.module (interrupt_fits r.interrupt) E401 r.place) (of_stray r.module r.stray ++ body_faults r)
-                  (none_right (of_parameters variables r.module r.parameters) (fault_unless r.module (interrupt_fits r.interrupt) E401 r.place ++ (of_stray r.module r.stray ++ body_faults r))
-                  (none_left (of_procedure variables declared r) (of_procedures variables declared ps) none))) in
+      (none_right (fault_unless r.module (interrupt_fits r.interrupt) E401 r.place) (of_stray r.module r.stray ++ body_faults r)
+      (none_right (of_parameters variables r.module r.parameters) (fault_unless r.module (interrupt_fits r.interrupt) E401 r.place ++ (of_stray r.module r.stray ++ body_faults r))
+      (none_left (of_procedure variables declared r) (of_procedures variables declared ps) none))) in
       subst (λ x. body_faults x ≡ []) (ap (λ (o : Option ProcedureR). elim o [ None ↦ r | Some x ↦ x ]) got) here
   no_fault_in (r ∷ ps) (suc q) p none got = no_fault_in ps q p (none_right (of_procedure variables declared r) (of_procedures variables declared ps) none) got
 
