@@ -1,5 +1,5 @@
 -- Typed trees have no more nodes than the resolved ones that they come from.
-use Rattle.std.proofs.Common.{◌≡◌, ℕ, zero, suc, ◌+◌, ◌*◌, ◌≤◌, Bool, true, false, List, [], ◌∷◌, ◌++◌, length, Option, Some, None, map, refl, ap, ◌∙◌, subst, arith, slice_get, take, true≢false}
+use Rattle.std.proofs.Common.{◌≡◌, ℕ, ◌+◌, ◌≤◌, Bool, true, false, List, [], ◌∷◌, ◌++◌, Option, Some, None, refl, ap, arith, slice_get, take, true≢false}
 use Rattle.std.specs.Prelude.{cond}
 use Rattle.word86.specs.declared.width.Width.{Width}
 use Rattle.word86.specs.declared.width.Width.TheVariants as width
@@ -25,7 +25,7 @@ use Rattle.plm_type.specs.Shapes.{designated, fixed_place, read_of, store_to, me
 use Rattle.word86.specs.declared.number.Number.TheVariants.{E401, E402}
 use Rattle.plm_type.specs.Faults.{fault_unless, port_faults, target_faults}
 use Rattle.plm_type.specs.Statements.{of_targets, of_statement, of_statements, of_number, of_index, of_step, statement_for, statements_for, target_trees, assignment, targets, called, step_for}
-use Rattle.plm_type.specs.Trees.{tree_of, trees_of, selector_trees, value_of, location_of, target_of, use_read, use_stored, refer, strided, to_port, operated, read_port, shifted, builtin_value, reference_value, argument_value, measured_value, entry_of}
+use Rattle.plm_type.specs.Trees.{tree_of, trees_of, selector_trees, value_of, location_of, target_of, use_read, use_stored, refer, strided, to_port, operated, read_port, shifted, builtin_value, reference_value, argument_value, measured_value}
 use Rattle.plm_type.specs.Types.{width_of, may_be_numbers}
 use Rattle.plm_type.specs.Typing.{is_plain, is_measure, is_target, first_type, types_of}
 use Rattle.plm_type.specs.Nodes.{is_constant, expression_nodes, expressions_nodes, selector_nodes, reference_nodes, location_nodes, target_nodes, targets_nodes, step_nodes, statement_nodes, statements_nodes}

@@ -1,5 +1,5 @@
 -- How many values the code of trees has pushed at most: its peak. The code of an expression leaves as many pushed as there were.
-use Rattle.std.proofs.Common.{◌≡◌, ℕ, zero, suc, ◌+◌, ◌-◌, ◌*◌, ◌≤◌, Bool, true, false, List, [], ◌∷◌, ◌++◌, length, take, Option, Some, None, refl, sym, ap, ◌∙◌, subst, arith, slice_get}
+use Rattle.std.proofs.Common.{◌≡◌, ℕ, zero, suc, ◌+◌, ◌≤◌, Bool, true, false, List, [], ◌∷◌, ◌++◌, length, take, Option, Some, None, refl, sym, subst, arith, slice_get}
 use Rattle.std.specs.Prelude.{cond, nat_eq, ◌%◌, max}
 use Rattle.word86.specs.declared.width.Width.{Width}
 use Rattle.word86.specs.declared.width.Width.TheVariants as widths
@@ -14,7 +14,7 @@ use Rattle.icode.specs.declared.instruction.Relation.{Relation}
 use Rattle.icode.specs.declared.instruction.Relation.TheVariants as relation
 use Rattle.icode.specs.declared.instruction.Test.{Test}
 use Rattle.icode.specs.Levels.{popped, after, behind, height}
-use Rattle.lower.specs.Code.{Operand, Number, Name, Computed, operand_of, place_of, beside, operation, anchor_place, scaled, moved, from_base, based, reading, locating, writing, receiving, sending, passing, alone, count_of, relation_of, stands_to, asked, test_of, asking, expression_code, first_code, pushed_code, subscripts_code, further_code, target_code, targets_code, condition_code, Kind, OfMain, Called, Serving, returning, narrowed, add_pushed, next_round, are_silent, over, failing, choosing, all_of, entries, switching, exit_before, statement_code, statements_code, cases_code, ending, routine_code}
+use Rattle.lower.specs.Code.{Operand, Number, Name, Computed, operand_of, place_of, beside, operation, anchor_place, scaled, moved, based, reading, locating, writing, receiving, sending, passing, alone, count_of, relation_of, stands_to, asked, test_of, asking, expression_code, pushed_code, subscripts_code, further_code, target_code, targets_code, condition_code, Kind, OfMain, Called, Serving, returning, narrowed, add_pushed, next_round, are_silent, over, failing, choosing, all_of, entries, switching, exit_before, statement_code, statements_code, cases_code, ending, routine_code}
 
 -- ---- peaks of typed trees
 

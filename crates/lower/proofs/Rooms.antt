@@ -1,5 +1,5 @@
 -- How much room the code of trees takes at most: 46 bytes for each node.
-use Rattle.std.proofs.Common.{◌≡◌, ℕ, zero, suc, ◌+◌, ◌*◌, ◌≤◌, Bool, true, false, List, [], ◌∷◌, ◌++◌, length, Option, Some, None, refl, sym, ap, ◌∙◌, subst, arith, slice_get}
+use Rattle.std.proofs.Common.{◌≡◌, ℕ, suc, ◌+◌, ◌*◌, ◌≤◌, Bool, true, false, List, [], ◌∷◌, ◌++◌, length, Option, Some, None, refl, ap, ◌∙◌, arith, slice_get}
 use Rattle.std.specs.Prelude.{cond, nat_eq, if◌then◌else◌, ◌%◌}
 use Rattle.word86.specs.declared.width.Width.{Width}
 use Rattle.word86.specs.declared.width.Width.TheVariants as widths
@@ -15,8 +15,8 @@ use Rattle.icode.specs.declared.instruction.Relation.TheVariants as relation
 use Rattle.icode.specs.declared.instruction.Test.{Test}
 use Rattle.icode.specs.Registers.{is_direct}
 use Rattle.icode.specs.Room.{room_of, room_of_constant, room_of_read, room_of_test, room_in}
-use Rattle.lower.specs.Code.{Operand, Number, Name, Computed, operand_of, place_of, beside, operation, anchor_place, scaled, moved, from_base, based, reading, locating, writing, receiving, sending, passing, alone, count_of, call_code, relation_of, stands_to, asked, test_of, asking, expression_code, first_code, pushed_code, subscripts_code, further_code, target_code, targets_code, condition_code, Kind, OfMain, Called, Serving, returning, narrowed, next_by_number, add_pushed, next_round, are_silent, over, failing, choosing, all_of, entries, switching, exit_before, statement_code, statements_code, cases_code, ending, routine_code}
-use Rattle.lower.specs.Well.{IsCall, IsExpression, AreExpressions, IsReference, AreSubscripts, IsTarget, AreTargets, IsStatement, AreStatements}
+use Rattle.lower.specs.Code.{Operand, Number, Name, Computed, operand_of, place_of, beside, operation, anchor_place, scaled, moved, based, reading, locating, writing, receiving, sending, passing, alone, count_of, relation_of, stands_to, asked, test_of, asking, expression_code, pushed_code, subscripts_code, further_code, target_code, targets_code, condition_code, Kind, OfMain, Called, Serving, returning, narrowed, add_pushed, next_round, are_silent, over, failing, choosing, all_of, entries, switching, exit_before, statement_code, statements_code, cases_code, ending, routine_code}
+use Rattle.lower.specs.Well.{IsExpression, AreExpressions, AreSubscripts, IsTarget, AreTargets, IsStatement, AreStatements}
 
 -- ---- the nodes of typed trees
 
