@@ -15,19 +15,19 @@ use Rattle.plm_decl.specs.declared.layout.ScalarType.{ScalarType}
 use Rattle.plm_decl.specs.declared.layout.ScalarType.TheVariants.{Word}
 use Rattle.plm_decl.specs.declared.names.Variable.{Variable}
 use Rattle.plm_decl.specs.declared.resolved.Binding.TheVariants as binding
-use Rattle.plm_decl.specs.Names.{ProcedureR, MainR}
+use Rattle.plm_decl.specs.Names.{ProcedureR}
 use Rattle.plm_decl.specs.Resolved.{ExpressionR, NumberR, TextR, ReferenceR, LocationR, ParenthesisedR, EmbeddedR, UnaryR, BinaryR, ReferenceR', Use, ExpressionsR, no_expressions, expressions, SelectorR, no_member, member, member_at, LocationR', LocationOf, ConstantsOf, ReferencesR, no_references, references, StatementR, EmptyR, AssignR, CallR, ReturnR, ReturnValueR, EnableR, DisableR, HaltR, IfR, IfElseR, DoR, WhileR, CaseR, IterateR, StatementsR, no_statements, statements}
 use Rattle.plm_type.specs.declared.statements.Around.{Around}
 use Rattle.plm_type.specs.declared.statements.Around.TheVariants as stands
 use Rattle.plm_type.specs.Rest as rest
 use Rattle.plm_type.specs.Rest.{Expression, Expressions, NoMore, More, Reference, Refer, Subscripts, NoSubscripts, Target, Statements, End, Procedure}
 use Rattle.plm_type.specs.Shapes.{designated, fixed_place, read_of, store_to, member_stride}
-use Rattle.plm_type.specs.Statements.{statement_for, statements_for, target_trees, assignment, targets, called, step_for, is_external, body_for, procedure_for, main_for}
-use Rattle.plm_type.specs.Trees.{tree_of, trees_of, selector_trees, value_of, location_of, target_of, use_read, use_stored, refer, strided, to_port, operated, read_port, shifted, builtin_value, reference_value, argument_value, measured_value, entry_of}
+use Rattle.plm_type.specs.Statements.{statement_for, statements_for, target_trees, assignment, targets, called, step_for, is_external, body_for, procedure_for}
+use Rattle.plm_type.specs.Trees.{tree_of, trees_of, selector_trees, value_of, location_of, target_of, use_read, use_stored, refer, strided, operated, read_port, shifted, builtin_value, reference_value, argument_value, measured_value}
 use Rattle.plm_type.specs.Types.{width_of}
 use Rattle.plm_type.specs.Typing.{is_measure, is_target, first_type, types_of}
 use Rattle.plm_type.specs.Nodes.{is_constant}
-use Rattle.plm_type.specs.Leaves.{expression_leaves, expressions_leaves, selector_leaves, reference_leaves, target_leaves, location_leaves, targets_leaves, step_leaves, statement_leaves, most_in, most_of, procedures_most}
+use Rattle.plm_type.specs.Leaves.{expression_leaves, expressions_leaves, selector_leaves, reference_leaves, target_leaves, location_leaves, targets_leaves, step_leaves, most_in, most_of, procedures_most}
 use Rattle.plm_decl.specs.declared.names.Names.{Names}
 use Rattle.plm_decl.specs.Names.{main_of}
 use Rattle.plm_decl.specs.Placement.{sizes_of}
