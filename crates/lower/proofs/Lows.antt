@@ -15,7 +15,7 @@ use Rattle.plm_decl.specs.declared.layout.ScalarType.{ScalarType}
 use Rattle.plm_decl.specs.declared.layout.ScalarType.TheVariants.{Word}
 use Rattle.plm_decl.specs.declared.names.Variable.{Variable}
 use Rattle.plm_decl.specs.declared.resolved.Binding.TheVariants as binding
-use Rattle.plm_decl.specs.Names.{ProcedureR}
+use Rattle.plm_decl.specs.Names.{ProcedureR, main_of}
 use Rattle.plm_decl.specs.Resolved.{ExpressionR, NumberR, TextR, ReferenceR, LocationR, ParenthesisedR, EmbeddedR, UnaryR, BinaryR, ReferenceR', Use, ExpressionsR, no_expressions, expressions, SelectorR, no_member, member, member_at, LocationR', LocationOf, ConstantsOf, ReferencesR, no_references, references, StatementR, EmptyR, AssignR, CallR, ReturnR, ReturnValueR, EnableR, DisableR, HaltR, IfR, IfElseR, DoR, WhileR, CaseR, IterateR, StatementsR, no_statements, statements}
 use Rattle.plm_type.specs.declared.statements.Around.{Around}
 use Rattle.plm_type.specs.declared.statements.Around.TheVariants as stands
@@ -27,11 +27,9 @@ use Rattle.plm_type.specs.Trees.{tree_of, trees_of, selector_trees, value_of, lo
 use Rattle.plm_type.specs.Types.{width_of}
 use Rattle.plm_type.specs.Typing.{is_measure, is_target, first_type, types_of}
 use Rattle.plm_type.specs.Nodes.{is_constant}
-use Rattle.plm_type.specs.Leaves.{expression_leaves, expressions_leaves, selector_leaves, reference_leaves, target_leaves, location_leaves, targets_leaves, step_leaves, most_in, most_of, procedures_most}
+use Rattle.plm_type.specs.Leaves.{expression_leaves, expressions_leaves, selector_leaves, reference_leaves, target_leaves, location_leaves, targets_leaves, step_leaves, most_in, most_of, procedures_most, most_leaves}
 use Rattle.plm_decl.specs.declared.names.Names.{Names}
-use Rattle.plm_decl.specs.Names.{main_of}
 use Rattle.plm_decl.specs.Placement.{sizes_of}
-use Rattle.plm_type.specs.Leaves.{most_leaves}
 use Rattle.plm_type.specs.Programs.{declared_procedures, main_tree, procedures_of}
 use Rattle.icode.specs.declared.code.Routine.{Routine}
 use Rattle.icode.specs.declared.code.Routine.TheVariants as routine
@@ -39,8 +37,7 @@ use Rattle.icode.specs.declared.instruction.Instruction.TheVariants.{Finish}
 use Rattle.icode.specs.Levels.{height}
 use Rattle.lower.specs.Code.{OfMain, kind_of, serves, procedure_code}
 use Rattle.lower.specs.Lowered.{vectors_of, program_code}
-use Rattle.lower.proofs.Peaks.{low, routine_low}
-use Rattle.lower.proofs.Peaks.{peak, pushed_peak, reference_peak, subscripts_peak, port_peak, target_peak, targets_peak, statement_peak, statements_peak}
+use Rattle.lower.proofs.Peaks.{peak, pushed_peak, reference_peak, subscripts_peak, port_peak, target_peak, targets_peak, statement_peak, statements_peak, low, routine_low}
 
 -- ---- references
 
