@@ -1,5 +1,7 @@
 //! What the code of a program does.
 
+ghost use Rattle.lower.specs.Heights.{HeightLaw};
+ghost use Rattle.lower.specs.Room.{RoomLaw};
 ghost use Rattle.lower.specs.Tracking.{LoweringLaw};
 ghost use Rattle.lower.specs.Checked.{SoundLaw};
 ghost use Rattle.lower.specs.Runs.{RunsLaw};
@@ -22,4 +24,16 @@ pub fn checked_code_is_sound()
 /// What an interrupt enters comes to no ENABLE or HALT, in what it calls either, and is used up only in the procedure that was entered.
 pub fn checked_runs_are_allowed()
     ensures { RunsLaw }
+{}
+
+/// The code of a checked program whose trees are well formed takes at most 46 bytes of a ROM for each node of the program, and 5 for
+/// main's end; 12 bytes for each procedure are left of that.
+pub fn code_has_room()
+    ensures { RoomLaw }
+{}
+
+/// Nowhere in a program's code are more values pushed than a statement of the program, without the statements inside it, has
+/// constants and references.
+pub fn heights_are_low()
+    ensures { HeightLaw }
 {}

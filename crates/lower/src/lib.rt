@@ -11,4 +11,4 @@ mod put;
 mod silence;
 mod statements;
 
-pub use laws::{checked_code_is_sound, checked_runs_are_allowed, lowering_tracks};
+pub use laws::{checked_code_is_sound, checked_runs_are_allowed, code_has_room, heights_are_low, lowering_tracks};
