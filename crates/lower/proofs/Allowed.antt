@@ -1,11 +1,8 @@
 -- The runs of a checked program's code are allowed.
-use Rattle.std.proofs.Common.{◌≡◌, ℕ, zero, suc, Bool, true, false, List, [], ◌∷◌, ◌++◌, Option, Some, None, refl, sym, ap, ◌∙◌, subst, slice_get}
-use Rattle.std.specs.Prelude.{cond, not, ◌&&◌, is_some, Contains, map, option_map}
-use Rattle.std.proofs.lemmas.Option.{slice_get-map}
-use Rattle.plm_decl.specs.declared.found.Found.{Found}
-use Rattle.plm_decl.specs.declared.names.Names.{Names}
+use Rattle.std.proofs.Common.{◌≡◌, ℕ, zero, suc, Bool, true, false, List, [], ◌∷◌, ◌++◌, Option, Some, None, refl, slice_get}
+use Rattle.std.specs.Prelude.{cond, not, ◌&&◌, is_some, Contains, map}
 use Rattle.plm_decl.specs.declared.names.Variable.{Variable}
-use Rattle.plm_decl.specs.Names.{ProcedureR, declared_location_of, main_of}
+use Rattle.plm_decl.specs.Names.{ProcedureR, declared_location_of}
 use Rattle.plm_decl.specs.Placement.{sizes_of}
 use Rattle.plm_type.specs.declared.statements.Around.TheVariants as stands
 use Rattle.plm_type.specs.Rest.{Procedure, End}

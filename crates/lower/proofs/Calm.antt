@@ -1,5 +1,5 @@
 -- The code of an expression is as it has to be, wherever it stands.
-use Rattle.std.proofs.Common.{◌≡◌, ℕ, zero, suc, ◌+◌, ◌-◌, ◌%◌, ◌<◌, ◌≤◌, Bool, true, false, List, [], ◌∷◌, ◌++◌, length, Option, Some, None, refl, sym, ap, ◌∙◌, arith, slice_get}
+use Rattle.std.proofs.Common.{◌≡◌, ℕ, zero, suc, ◌+◌, ◌-◌, ◌%◌, ◌<◌, Bool, true, false, List, [], ◌∷◌, ◌++◌, Option, Some, None, refl, arith, slice_get}
 use Rattle.std.specs.Prelude.{cond, nat_eq}
 use Rattle.word86.specs.declared.width.Width.{Width}
 use Rattle.word86.specs.declared.width.Width.TheVariants as widths
@@ -11,12 +11,11 @@ use Rattle.plm_type.specs.Next.{parameters_of}
 use Rattle.icode.specs.declared.instruction.Instruction.{Instruction}
 use Rattle.icode.specs.declared.instruction.Instruction.TheVariants as op
 use Rattle.icode.specs.declared.instruction.Relation.{Relation}
-use Rattle.icode.specs.declared.instruction.Test.{Test}
 use Rattle.icode.specs.Levels.{popped, behind}
 use Rattle.icode.specs.Made.{asked_constant}
-use Rattle.lower.specs.Code.{Operand, Number, Name, Computed, operand_of, anchor_place, beside, operation, scaled, moved, based, reading, locating, writing, receiving, sending, passing, alone, count_of, relation_of, stands_to, asked, test_of, asking, expression_code, first_code, pushed_code, subscripts_code, further_code, target_code, targets_code, condition_code}
+use Rattle.lower.specs.Code.{Operand, Number, Name, Computed, operand_of, anchor_place, beside, operation, scaled, moved, based, reading, locating, writing, receiving, sending, passing, alone, count_of, relation_of, stands_to, asked, test_of, asking, expression_code, pushed_code, subscripts_code, further_code, target_code, targets_code, condition_code}
 use Rattle.lower.specs.Well.{IsExpression, AreExpressions, AreSubscripts, IsTarget, AreTargets}
-use Rattle.lower.proofs.Heights.{Keeps, behind_append, keeps_then, scaled_keeps, moved_keeps, based_keeps, alone_keeps, passing_keeps, expression_keeps, subscripts_keep, further_keep, target_keeps, targets_keep, pushed_up}
+use Rattle.lower.proofs.Heights.{Keeps, keeps_then, scaled_keeps, based_keeps, alone_keeps, passing_keeps, expression_keeps, subscripts_keep, target_keeps, pushed_up}
 use Rattle.lower.proofs.Fits.{IsWord, Calm, calm_then}
 
 module _ (MayCall : ℕ → Type 0) (Enables Finishes : Type 0) (Spot : ℕ → Type 0) where

@@ -1,13 +1,11 @@
 -- Instructions as they have to be where they stand, one after another.
-use Rattle.std.proofs.Common.{◌≡◌, ℕ, zero, suc, ◌+◌, ◌-◌, ◌<◌, ◌≤◌, Bool, true, false, List, [], ◌∷◌, ◌++◌, length, Option, Some, None, refl, sym, ap, ◌∙◌, subst, arith, slice_get, length-append}
+use Rattle.std.proofs.Common.{◌≡◌, ℕ, zero, suc, ◌+◌, ◌-◌, ◌<◌, ◌≤◌, Bool, true, false, List, [], ◌∷◌, ◌++◌, length, Some, refl, sym, ap, ◌∙◌, subst, arith, slice_get, length-append}
 use Rattle.std.proofs.lemmas.List.{take-append-le}
 use Rattle.std.proofs.Math.Seq.{take-append-add, take-length}
 use Rattle.std.specs.Prelude.{take, drop}
 use Rattle.icode.specs.declared.instruction.Instruction.{Instruction}
 use Rattle.icode.specs.declared.instruction.Instruction.TheVariants as op
-use Rattle.icode.specs.declared.instruction.Relation.TheVariants as relation
 use Rattle.icode.specs.declared.instruction.Test.{Test}
-use Rattle.icode.specs.declared.instruction.Test.TheVariants as test
 use Rattle.icode.specs.Levels.{after, behind, popped}
 use Rattle.icode.specs.Made.{asked_constant, is_case}
 use Rattle.plm_type.specs.Rest.{Scalar}
@@ -210,9 +208,10 @@ module _ (MayCall : ℕ → Type 0) (Enables Finishes : Type 0) (Spot : ℕ → 
 
   entries_fit : (before : ℕ) (cases : List (List Instruction)) (p : ℕ) → AreLevel cases → Spots (p + length cases + 1 + before) (all_of cases) → Fits p 0 (entries before cases)
   entries_fit before [] p level s = tt
-  entries_fit before (c ∷ cs) p level s =
-      ((refl, subst Spot (omega arith) (spots_first (p + suc (length cs) + 1 + before) (c ++ all_of cs) s)),
-      entries_fit (before + length c) cs (suc p) level.1 (subst (λ q. Spots q (all_of cs)) (omega arith) (spots_back (p + suc (length cs) + 1 + before) c (all_of cs) level.0 s)))
+  entries_fit before (c ∷ cs) p level s = (
+    (refl, subst Spot (omega arith) (spots_first (p + suc (length cs) + 1 + before) (c ++ all_of cs) s)),
+    entries_fit (before + length c) cs (suc p) level.1 (subst (λ q. Spots q (all_of cs)) (omega arith) (spots_back (p + suc (length cs) + 1 + before) c (all_of cs) level.0 s)),
+  )
 
   pub switching_fits : (cases : List (List Instruction)) (exit : ℕ) → AreLevel cases → Fitting exit (all_of cases) → Fitting exit (switching cases exit)
   switching_fits cases exit level fits p s end =
@@ -222,10 +221,11 @@ module _ (MayCall : ℕ → Type 0) (Enables Finishes : Type 0) (Spot : ℕ → 
       let n = entries_length 0 cases in
       let rest = spots_next p (op.Switch (length cases)) (table ++ (jump ∷ all_of cases)) refl s in
       let last = spots_over (suc p) table jump (all_of cases) (entries_level 0 cases) rest in
-      let q = suc (suc p + length table) in
-      ((refl, subst Spot (omega (arith, n)) (spots_first (suc p + length table) (jump ∷ all_of cases) (spots_back (suc p) table (jump ∷ all_of cases) (entries_level 0 cases) rest)), entries_cases 0 cases (jump ∷ all_of cases)),
-      fits_then (suc p) 0 0 table (jump ∷ all_of cases) (entries_fit 0 cases (suc p) level (subst (λ q. Spots q (all_of cases)) (omega (arith, n)) last)) (entries_level 0 cases)
-      ((refl, subst Spot (omega (arith, l)) end), fits q last (subst Spot (omega (arith, l)) end)))
+      let q = suc (suc p + length table) in (
+        (refl, subst Spot (omega (arith, n)) (spots_first (suc p + length table) (jump ∷ all_of cases) (spots_back (suc p) table (jump ∷ all_of cases) (entries_level 0 cases) rest)), entries_cases 0 cases (jump ∷ all_of cases)),
+        fits_then (suc p) 0 0 table (jump ∷ all_of cases) (entries_fit 0 cases (suc p) level (subst (λ q. Spots q (all_of cases)) (omega (arith, n)) last)) (entries_level 0 cases)
+            ((refl, subst Spot (omega (arith, l)) end), fits q last (subst Spot (omega (arith, l)) end)),
+      )
 
   pub case_fits : (code others : List Instruction) (exit : ℕ) → behind 0 code ≡ 0 → Fitting (1 + (length others + exit)) code → Fitting exit others → Fitting exit ((code ++ op.Ahead (length others + exit) ∷ []) ++ others)
   case_fits code others exit level f g p s end =
@@ -266,7 +266,12 @@ module _ (MayCall : ℕ → Type 0) (Enables Finishes : Type 0) (Spot : ℕ → 
       let begin = spots_next (suc (p + length first)) (op.Load x.width (place_of x.place)) (compared ++ test) refl round in
       let rest = spots_over q compared (op.AheadUnless t n) (body ++ again) (tested_down t n (behind 0 compared) up) begin in
       let r = suc (q + length compared) in
-      fits_then p 0 0 first stored (f p) fl
-      (tt, (tt, tested_fits compared (body ++ again) t n q c up word (subst Spot (omega (arith, lf, lc, lb)) end)
-      (fits_then r 0 0 body again (fits r (spots_front r body again rest) (subst Spot (omega arith) (spots_first (r + length body) again (spots_back r body again level rest)))) level
-      (next_fits x by step (length compared + length body + 2) (r + length body) lt k g (subst Spot (omega arith) (spots_first (suc (p + length first)) (op.Load x.width (place_of x.place) ∷ (compared ++ test)) round))))))
+      fits_then p 0 0 first stored (f p) fl (
+        tt,
+        (
+          tt,
+          tested_fits compared (body ++ again) t n q c up word (subst Spot (omega (arith, lf, lc, lb)) end)
+              (fits_then r 0 0 body again (fits r (spots_front r body again rest) (subst Spot (omega arith) (spots_first (r + length body) again (spots_back r body again level rest)))) level
+              (next_fits x by step (length compared + length body + 2) (r + length body) lt k g (subst Spot (omega arith) (spots_first (suc (p + length first)) (op.Load x.width (place_of x.place) ∷ (compared ++ test)) round)))),
+        ),
+      )

@@ -1,16 +1,15 @@
 -- The code of statements is as it has to be where jumps may lead to each of its places and to its exit.
-use Rattle.std.proofs.Common.{◌≡◌, ℕ, zero, suc, ◌+◌, ◌<◌, ◌⊎◌, inl, inr, Bool, true, false, List, [], ◌∷◌, ◌++◌, length, refl, ap, ◌∙◌, arith}
+use Rattle.std.proofs.Common.{◌≡◌, ℕ, ◌+◌, ◌⊎◌, inl, inr, false, List, [], ◌∷◌, ◌++◌, length, refl, arith}
 use Rattle.word86.specs.declared.width.Width.{Width}
 use Rattle.word86.specs.declared.width.Width.TheVariants as widths
-use Rattle.word86.specs.declared.operation.UnaryOperation.TheVariants as unary
 use Rattle.plm_type.specs.Rest.{Expression, Loop, Count, Statement, Empty, Assign, Evaluate, Return, ReturnValue, Enabling, Disabling, Halting, If, Block, While, Case, Iterate, Leaving, Round, Comparing, Stepping, Adding, Storing, Ending, Statements, End, Then, Returned, Procedure}
 use Rattle.icode.specs.declared.instruction.Instruction.{Instruction}
 use Rattle.icode.specs.declared.instruction.Instruction.TheVariants as op
 use Rattle.icode.specs.declared.instruction.Relation.TheVariants as relation
 use Rattle.icode.specs.Levels.{behind}
 use Rattle.lower.specs.Code.{Kind, OfMain, Called, Serving, operand_of, place_of, beside, stands_to, test_of, expression_code, targets_code, condition_code, returning, narrowed, next_round, are_silent, over, all_of, switching, exit_before, statement_code, statements_code, cases_code}
-use Rattle.lower.specs.Well.{MayReturn, MayReturnValue, IsStatement, AreStatements}
-use Rattle.lower.proofs.Heights.{Keeps, keeps_then, expression_keeps, targets_keep}
+use Rattle.lower.specs.Well.{MayReturn, IsStatement, AreStatements}
+use Rattle.lower.proofs.Heights.{Keeps, expression_keeps, targets_keep}
 use Rattle.lower.proofs.Fits.{Fits, Calm, Fitting, AreLevel, level_then, tested_level, choosing_level, switching_level, next_level, fits_then, choosing_fits, one_then_more, repeated_fits, switching_fits, case_fits, counted_fits}
 use Rattle.lower.proofs.Calm.{expression_calm, targets_calm, beside_calm, operand_word, condition_calm, bound_word, test_word, beside_up, condition_up}
 use Rattle.lower.proofs.Stmts.{silents_code}

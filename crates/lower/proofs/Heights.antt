@@ -1,5 +1,5 @@
 -- The code of an expression leaves as many values pushed as there were.
-use Rattle.std.proofs.Common.{◌≡◌, ℕ, zero, suc, ◌+◌, ◌-◌, ◌%◌, Bool, true, false, List, [], ◌∷◌, ◌++◌, length, refl, sym, ap, ◌∙◌, arith, slice_get}
+use Rattle.std.proofs.Common.{◌≡◌, ℕ, suc, ◌+◌, ◌-◌, ◌%◌, Bool, true, false, List, [], ◌∷◌, ◌++◌, refl, ap, ◌∙◌, arith, slice_get}
 use Rattle.std.specs.Prelude.{cond, nat_eq}
 use Rattle.word86.specs.declared.width.Width.{Width}
 use Rattle.word86.specs.declared.width.Width.TheVariants as widths
@@ -11,7 +11,7 @@ use Rattle.plm_type.specs.Next.{parameters_of}
 use Rattle.icode.specs.declared.instruction.Instruction.{Instruction}
 use Rattle.icode.specs.declared.instruction.Instruction.TheVariants as op
 use Rattle.icode.specs.Levels.{after, behind}
-use Rattle.lower.specs.Code.{Operand, anchor_place, Number, Name, Computed, operand_of, place_of, beside, operation, scaled, moved, from_base, based, reading, locating, writing, receiving, sending, passing, alone, count_of, call_code, expression_code, first_code, pushed_code, subscripts_code, further_code, target_code, targets_code}
+use Rattle.lower.specs.Code.{Operand, anchor_place, Number, Name, Computed, operand_of, beside, operation, scaled, moved, based, reading, locating, writing, receiving, sending, passing, alone, count_of, expression_code, pushed_code, subscripts_code, further_code, target_code, targets_code}
 
 pub behind_append : (h : ℕ) (xs ys : List Instruction) → behind h (xs ++ ys) ≡ behind (behind h xs) ys
 behind_append h [] ys = refl

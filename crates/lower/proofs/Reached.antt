@@ -1,11 +1,10 @@
 -- Which routines main and an interrupt come to, and what stands in them.
-use Rattle.std.proofs.Common.{◌≡◌, ℕ, zero, suc, ◌+◌, ◌<◌, ◌⊎◌, inl, inr, ⊎_elim, Bool, true, false, List, [], ◌∷◌, length, Option, Some, None, refl, sym, ap, ◌∙◌, subst, arith, slice_get}
+use Rattle.std.proofs.Common.{◌≡◌, ℕ, zero, suc, ◌⊎◌, inl, inr, ⊎_elim, Bool, true, false, List, [], ◌∷◌, Option, Some, None, refl, sym, ap, ◌∙◌, slice_get}
 use Rattle.std.specs.Prelude.{Contains, get_or}
 use Rattle.std.proofs.lemmas.Option.{slice_get-get_or}
 use Rattle.std.proofs.lemmas.List.Elements.{Contains-push}
 use Rattle.std.proofs.lemmas.List.Quantifiers.{position-Some}
-use Rattle.word86.specs.Access.{Access}
-use Rattle.word86.specs.Action.{Action, Enable, Halt, Over}
+use Rattle.word86.specs.Action.{Enable, Halt, Over}
 use Rattle.plm_type.specs.Rest.{Statements, Procedure}
 use Rattle.plm_type.specs.Next.{body_of}
 use Rattle.plm_type.specs.Calls.{graph_of}
@@ -23,7 +22,7 @@ use Rattle.lower.specs.Tracking.{IsProgram}
 use Rattle.lower.proofs.Bools.{true_false}
 use Rattle.lower.proofs.Fitting.{Let, IsServing}
 use Rattle.lower.proofs.Routines.{Calls, LetsIn, Ends, program_fits, invokes, enables, halts, finishes}
-use Rattle.lower.proofs.Visits.{IsInside, Meets, comes_inside, over_meets, enable_meets, halt_meets}
+use Rattle.lower.proofs.Visits.{IsInside, comes_inside, over_meets, enable_meets, halt_meets}
 
 -- a vector's number is that of a procedure that serves it
 numbered : (n : Option ℕ) (v : ℕ) → is_number n v ≡ true → has_vector (Some n) ≡ true

@@ -1,6 +1,6 @@
 -- The code of each routine of a well-formed program, and what it is by that.
 use Rattle.std.proofs.Common.{◌≡◌, ℕ, zero, suc, ◌+◌, ◌-◌, ◌<◌, ◌≤◌, Bool, true, false, List, [], ◌∷◌, ◌++◌, length, Option, Some, None, refl, sym, ap, ◌∙◌, subst, arith, slice_get, length-append}
-use Rattle.std.specs.Prelude.{take, drop, Contains, map, option_map}
+use Rattle.std.specs.Prelude.{take, drop, Contains, option_map}
 use Rattle.std.proofs.lemmas.List.{take-append-le}
 use Rattle.std.proofs.Math.Seq.{take-length}
 use Rattle.std.proofs.lemmas.Option.{slice_get-map}

@@ -1,5 +1,4 @@
 -- The code of a program of well-formed trees is sound.
-use Rattle.plm_decl.specs.declared.names.Names.{Names}
 use Rattle.plm_decl.specs.Placement.{sizes_of}
 use Rattle.plm_type.specs.Programs.{main_tree, procedures_of}
 use Rattle.lower.specs.Checked.{SoundLaw}

@@ -1,9 +1,11 @@
 -- The tree of a text without fault calls only what the text calls, and has ENABLE and HALT only where the text has them.
-use Rattle.std.proofs.Common.{◌≡◌, ℕ, zero, suc, ◌⊎◌, inl, inr, ⊎_elim, Bool, true, false, List, [], ◌∷◌, ◌++◌, Option, Some, None, refl, sym, ap, ◌∙◌, subst, arith, slice_get}
-use Rattle.std.specs.Prelude.{cond, Contains, map}
+use Rattle.std.proofs.Common.{◌≡◌, ℕ, ⊎_elim, Bool, true, false, List, [], ◌∷◌, ◌++◌, Option, Some, None, refl, sym, ap, subst, arith, slice_get}
+use Rattle.std.specs.Prelude.{cond, Contains}
 use Rattle.std.proofs.lemmas.List.Elements.{Contains-append_left, Contains-append_right, Contains-append_cases}
 use Rattle.word86.specs.declared.width.Width.{Width}
 use Rattle.word86.specs.declared.number.Number.{Number}
+use Rattle.word86.specs.declared.operation.UnaryOperation.{UnaryOperation}
+use Rattle.word86.specs.declared.operation.BinaryOperation.{BinaryOperation}
 use Rattle.word86.specs.Access.{Where}
 use Rattle.plm_syntax.specs.declared.tree.Position.{Position}
 use Rattle.plm_decl.specs.declared.builtin.Builtin.{Builtin}
@@ -28,7 +30,7 @@ use Rattle.plm_type.specs.Statements.{targets, assignment, target_trees, called,
 use Rattle.plm_type.specs.Statements as typed
 use Rattle.plm_type.specs.Faults.{fault_unless, faults_of, faults_in, selector_faults, value_faults, location_faults, target_faults}
 use Rattle.plm_type.specs.Calls.{calls_in, argument_calls, reference_calls, subscript_calls, target_calls, targets_calls, statement_calls, statements_calls}
-use Rattle.plm_type.specs.Effects.{is_unevaluated, of_expression, of_list, of_selector, of_parts, of_value, of_location, of_targets, of_step, of_statement, of_statements}
+use Rattle.plm_type.specs.Effects.{of_expression, of_list, of_selector, of_parts, of_value, of_location, of_targets, of_step, of_statement, of_statements}
 use Rattle.plm_type.specs.Interrupts as interrupts
 use Rattle.lower.proofs.Fitting.{Lets, Let}
 
@@ -107,7 +109,7 @@ module _ (ps : List ProcedureR) where
       by (Some t) = store_within t r (fixed_place r) fs f
       by None = store_within Word r (fixed_place r) fs f
 
-  operated_within : (es : Expressions) (fs : List Effect) → Within (argument_calls es) fs → (o : Rattle.word86.specs.declared.operation.UnaryOperation.UnaryOperation) (w : Width) → Within (calls_in (operated o w es)) fs
+  operated_within : (es : Expressions) (fs : List Effect) → Within (argument_calls es) fs → (o : UnaryOperation) (w : Width) → Within (calls_in (operated o w es)) fs
   operated_within NoMore fs f o w = none fs
   operated_within (More e NoMore) fs f o w = λ q c. f q (Contains-append_left (calls_in e) [] q c)
   operated_within (More e (More d es)) fs f o w = none fs
@@ -127,7 +129,7 @@ module _ (ps : List ProcedureR) where
     refer_within line None s es gs fs f g = none fs
     refer_within line (Some v) s es gs fs f g = strided_within v.stride es (strided _ gs NoSubscripts) fs f (strided_within _ gs NoSubscripts fs g (none fs))
 
-    shifted_within : (line : ℕ) (es : Expressions) (fs : List Effect) → Within (argument_calls es) fs → (o : Rattle.word86.specs.declared.operation.BinaryOperation.BinaryOperation) (w : Width) → Within (calls_in (shifted m line o w es)) fs
+    shifted_within : (line : ℕ) (es : Expressions) (fs : List Effect) → Within (argument_calls es) fs → (o : BinaryOperation) (w : Width) → Within (calls_in (shifted m line o w es)) fs
     shifted_within line NoMore fs f o w = none fs
     shifted_within line (More e NoMore) fs f o w = none fs
     shifted_within line (More e (More d NoMore)) fs f o w = λ q c.

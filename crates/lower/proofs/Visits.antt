@@ -1,8 +1,8 @@
 -- Code that runs stays in the routines that it begins in and that they call.
-use Rattle.std.proofs.Common.{◌≡◌, ℕ, zero, suc, ◌+◌, ◌-◌, Bool, true, false, List, [], ◌∷◌, Option, Some, None, refl, sym, subst, slice_get}
+use Rattle.std.proofs.Common.{◌≡◌, ℕ, zero, suc, ◌+◌, ◌-◌, Bool, true, false, List, [], ◌∷◌, Option, Some, None, refl, subst, slice_get}
 use Rattle.std.specs.Prelude.{drop, nat_le, nat_lt, length, if◌then◌else◌}
 use Rattle.word86.specs.declared.width.Width.{Width}
-use Rattle.word86.specs.Access.{Access, Where, answers}
+use Rattle.word86.specs.Access.{Access, Where}
 use Rattle.word86.specs.Action.{Action, Silent, Touch, Enable, Disable, Halt, Over, Bad}
 use Rattle.word86.specs.Operators.{binary_value}
 use Rattle.word86.specs.Places.{bytes, held}
@@ -12,10 +12,9 @@ use Rattle.icode.specs.declared.instruction.Test.{Test}
 use Rattle.icode.specs.declared.instruction.Test.TheVariants as test
 use Rattle.icode.specs.declared.code.Routine.{Routine}
 use Rattle.icode.specs.declared.code.Routine.TheVariants as routine
-use Rattle.icode.specs.declared.code.Position.{Position}
 use Rattle.icode.specs.declared.code.Word.{Word}
 use Rattle.icode.specs.declared.code.Word.TheVariants.{Value, Return}
-use Rattle.icode.specs.Machine.{Context, At, operated, computed, with_value, value_in, value_on_top, return_on_top, loaded, stored, left, dropped, finished, switched, address, found, jumped, run, run_at, does, stands, is_odd}
+use Rattle.icode.specs.Machine.{Context, At, operated, computed, with_value, value_in, value_on_top, return_on_top, loaded, stored, left, finished, switched, address, found, jumped, run, run_at, does, stands}
 use Rattle.icode.specs.Runs.{Leads, Comes}
 
 module _ (Inside : Routine → Type 0) (nowhere : Inside routine.Nowhere) where

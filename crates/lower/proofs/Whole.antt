@@ -12,13 +12,12 @@ use Rattle.icode.specs.declared.code.Routine.TheVariants as routine
 use Rattle.icode.specs.declared.code.Word.TheVariants.{Return}
 use Rattle.icode.specs.Machine.{At}
 use Rattle.icode.specs.Code.{is_number, procedure_or_none}
-use Rattle.lower.specs.Code.{OfMain, Called, Serving, kind_of, are_silent, statements_code, routine_code, has_vector, serves, number_for, body_for, procedure_code, code}
+use Rattle.lower.specs.Code.{OfMain, Called, Serving, kind_of, are_silent, statements_code, routine_code, serves, number_for, body_for, procedure_code, code}
 use Rattle.lower.specs.Well.{AreStatements}
 use Rattle.lower.specs.Tracking.{IsProgram, CodeTracks, LoweringTracks}
 use Rattle.std.specs.Prelude.{get_or}
 use Rattle.std.proofs.lemmas.Option.{slice_get-get_or}
 use Rattle.std.proofs.lemmas.List.Quantifiers.{position-Some}
-use Rattle.lower.proofs.Bools.{true_false}
 use Rattle.lower.proofs.Setting.{Setting}
 use Rattle.lower.proofs.Sim.{N, T, S, eased, then_, down, both, halts_more, ends}
 use Rattle.lower.proofs.Holes.{in_running, in_main, in_handler, acts, HasAt, has_front, has_back}
