@@ -1,5 +1,5 @@
 -- How many bytes of a ROM a program's code takes at most, for each node of the program.
-use Rattle.std.specs.Prelude.{ℕ, zero, suc, ◌+◌, ◌*◌, ◌≤◌, List, [], ◌∷◌, length}
+use Rattle.std.specs.Prelude.{ℕ, zero, suc, ◌+◌, ◌*◌, ◌≤◌, length}
 use Rattle.plm_decl.specs.declared.names.Names.{Names}
 use Rattle.plm_decl.specs.Names.{main_of}
 use Rattle.plm_type.specs.declared.checked.Program.{Program}
