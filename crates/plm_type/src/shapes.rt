@@ -244,13 +244,13 @@ fn fixed_place(bytes: u64, reference: &Reference) -> Option<Place>
         return None;
     }
     match reference.anchor {
-        Anchor::Ram(object, start, size) if fits(bytes, reference.offset, size) => Some(
+        Anchor::Ram(object, start, size) => fits(bytes, reference.offset, size).then_some(
             Place::Ram(object, capped(start.saturating_add(reference.offset))),
         ),
-        Anchor::Screen(start, size) if fits(bytes, reference.offset, size) => Some(
+        Anchor::Screen(start, size) => fits(bytes, reference.offset, size).then_some(
             Place::Screen(capped(start.saturating_add(reference.offset))),
         ),
-        _ => None,
+        Anchor::Based(_) => None,
     }
 }
 
