@@ -55,7 +55,7 @@ module _ (sizes : List ℕ) (trees : List Procedure) (MayCall : ℕ → Type 0) 
   two_strided a b (More e NoMore) (More f (More d fs)) n m h g = absurd (omega (arith, m))
   two_strided a b (More e (More d es)) fs n m h g = absurd (omega (arith, n))
 
-  zero_well : IsExpression sizes trees MayCall (Constant 0)
+  pub zero_well : IsExpression sizes trees MayCall (Constant 0)
   zero_well = omega arith
 
   constant_if : (n : ℕ) (c : Bool) → nat_le n 65535 ≡ c → cond c n 0 < 65536
@@ -245,7 +245,7 @@ module _ (ps : List ProcedureR) (sizes : List ℕ) (trees : List Procedure) (May
 
   -- ---- expressions
   module _ (vs : List Variable) (all : AreLying sizes vs) (m : ℕ) where
-    as_many : (es : ExpressionsR) → length (types_of vs ps es) ≡ count_of (trees_of vs ps sizes m es)
+    pub as_many : (es : ExpressionsR) → length (types_of vs ps es) ≡ count_of (trees_of vs ps sizes m es)
     as_many no_expressions = refl
     as_many (expressions e es) = ap suc (as_many es)
 
