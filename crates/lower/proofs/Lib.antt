@@ -12,3 +12,7 @@ pub mod Stmts
 pub mod Placed
 pub mod Ordered
 pub mod Whole
+mod TypedPlaces
+mod TypedTrees
+mod TypedStatements
+mod TypedProgram

@@ -3,4 +3,4 @@
 
 mod laws;
 
-pub use laws::lowering_tracks;
+pub use laws::{checked_trees_are_well_formed, lowering_tracks};
