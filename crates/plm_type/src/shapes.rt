@@ -247,9 +247,9 @@ fn fixed_place(bytes: u64, reference: &Reference) -> Option<Place>
         Anchor::Ram(object, start, size) => fits(bytes, reference.offset, size).then_some(
             Place::Ram(object, capped(start.saturating_add(reference.offset))),
         ),
-        Anchor::Screen(start, size) => fits(bytes, reference.offset, size).then_some(
-            Place::Screen(capped(start.saturating_add(reference.offset))),
-        ),
+        Anchor::Screen(start, size) => fits(bytes, reference.offset, size).then_some(Place::Screen(
+            capped(start.saturating_add(reference.offset)),
+        )),
         Anchor::Based(_) => None,
     }
 }
