@@ -1,9 +1,8 @@
 -- Of a program without faults of types: what its variables stand for lies in objects, or on the screen.
-use Rattle.std.proofs.Common.{◌≡◌, ℕ, zero, suc, ◌+◌, ◌*◌, ◌-◌, ◌^◌, ◌≤◌, Bool, true, false, not, cond, nat_eq, List, [], ◌∷◌, ◌++◌, map, length, slice_get, Option, Some, None, is_some, refl, sym, ap, ◌∙◌, subst, arith}
-use Rattle.std.specs.Prelude.{◌&&◌, ◌||◌, nat_le, slice_index}
+use Rattle.std.proofs.Common.{◌≡◌, ℕ, ◌+◌, ◌*◌, ◌-◌, ◌^◌, ◌≤◌, Bool, true, false, not, cond, List, [], ◌∷◌, ◌++◌, slice_get, Option, Some, None, is_some, refl, sym, arith}
+use Rattle.std.specs.Prelude.{◌&&◌, nat_le, slice_index}
 use Rattle.std.proofs.Math.Nat.{min-le_left}
 use Rattle.word86.specs.declared.number.Number.{Number}
-use Rattle.word86.specs.Access.{In, Screen}
 use Rattle.word86.specs.Places.{bytes}
 use Rattle.plm_syntax.specs.declared.tree.Position.{Position}
 use Rattle.plm_decl.specs.declared.layout.Form.{Form}
@@ -14,17 +13,13 @@ use Rattle.plm_decl.specs.declared.names.Region.{Region}
 use Rattle.plm_decl.specs.declared.names.Region.TheVariants as region
 use Rattle.plm_decl.specs.declared.names.Variable.{Variable}
 use Rattle.plm_decl.specs.declared.found.Found.{Found}
-use Rattle.plm_decl.specs.Layout.{counted, elements, size_of}
-use Rattle.plm_decl.specs.Resolved.{SelectorR, no_member, member, member_at}
-use Rattle.plm_type.specs.Rest.{Anchor, InObject, OnScreen, Behind, There, Expression, Constant, Expressions, NoMore, More, Reference, Refer, NoSubscripts, Subscript}
+use Rattle.plm_decl.specs.Layout.{elements, size_of}
+use Rattle.plm_type.specs.Rest.{Behind}
 use Rattle.plm_type.specs.Types.{width_of}
-use Rattle.plm_type.specs.Shapes.{subscripts_fit, shape_fits, form_type, designated, span, where_at, is_based, capped, scalar_size, lies_somewhere, has_room, nowhere, behind, anchor_at, anchor_for, scalar_for, fixed_place, read_of, store_to}
-use Rattle.plm_type.specs.Statements.{is_plain_scalar, is_placed_scalar, index_for}
-use Rattle.plm_type.specs.Trees.{strided, use_read, use_stored, refer}
+use Rattle.plm_type.specs.Shapes.{form_type, span, where_at, is_based, capped, scalar_size, lies_somewhere, has_room, nowhere, behind, anchor_at, anchor_for, scalar_for}
+use Rattle.plm_type.specs.Statements.{is_plain_scalar, is_placed_scalar}
 use Rattle.plm_type.specs.Faults.{fault_unless}
-use Rattle.lower.specs.Code.{count_of}
-use Rattle.lower.specs.Well.{Lies, ScalarLies, AnchorLies, IsExpression, AreExpressions, IsReference, AreSubscripts, IsTarget}
-use Rattle.plm_type.specs.Rest.{Procedure}
+use Rattle.lower.specs.Well.{Lies, ScalarLies, AnchorLies}
 use Rattle.lower.proofs.Bools.{true_false, both_true, le_of}
 
 -- ---- no fault

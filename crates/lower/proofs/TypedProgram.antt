@@ -1,8 +1,7 @@
 -- A checked program has well-formed trees.
-use Rattle.std.proofs.Common.{◌≡◌, ℕ, zero, suc, ◌+◌, ◌*◌, ◌<◌, Bool, true, false, not, cond, nat_eq, List, [], ◌∷◌, ◌++◌, map, length, slice_get, Option, Some, None, is_some, option_map, inl, inr, refl, sym, ap, ◌∙◌, subst, arith}
+use Rattle.std.proofs.Common.{◌≡◌, ℕ, zero, suc, ◌+◌, ◌*◌, Bool, true, false, not, cond, nat_eq, List, [], ◌∷◌, map, length, slice_get, Option, Some, None, is_some, option_map, inl, inr, refl, sym, ap, ◌∙◌, subst, arith}
 use Rattle.std.specs.Prelude.{◌&&◌, ◌||◌, nat_lt, slice_index, Contains}
 use Rattle.std.specs.List.{list_all}
-use Rattle.std.specs.Option.{option_map_or}
 use Rattle.std.proofs.lemmas.Bool.Decides.{nat_tests}
 use Rattle.std.proofs.lemmas.List.{length-map}
 use Rattle.std.proofs.lemmas.List.Elements.{Contains-append_right}
@@ -16,9 +15,9 @@ use Rattle.plm_decl.specs.declared.names.Region.TheVariants as region
 use Rattle.plm_decl.specs.declared.names.Variable.{Variable}
 use Rattle.plm_decl.specs.declared.found.Found.{Found}
 use Rattle.plm_decl.specs.Layout.{elements, structure_of}
-use Rattle.plm_decl.specs.Names.{ObjectR, ProcedureR, object_of, declared_location_of, main_of}
+use Rattle.plm_decl.specs.Names.{ProcedureR, object_of, declared_location_of, main_of}
 use Rattle.plm_decl.specs.Placement.{sizes_of}
-use Rattle.plm_decl.specs.Ranges.{Counts, variable_within, object_within, procedure_within, declared_location_within, main_within}
+use Rattle.plm_decl.specs.Ranges.{Counts, variable_within, object_within, procedure_within}
 use Rattle.plm_decl.specs.Regions.{size_at, region_holds, view_lies}
 use Rattle.plm_type.specs.declared.checked.Program.{Program}
 use Rattle.plm_type.specs.declared.effects.Effect.{Effect}
@@ -26,11 +25,11 @@ use Rattle.plm_type.specs.declared.effects.Effect.TheVariants.{Calls, Enables}
 use Rattle.plm_type.specs.declared.statements.Around.TheVariants as stands
 use Rattle.plm_type.specs.Checked.{AreTyped}
 use Rattle.plm_type.specs.Effects as effects
-use Rattle.plm_type.specs.Interrupts.{called, body_effects, text_graph, main_calls, IsCalled, is_for_interrupt, has_interface, IsMisused}
-use Rattle.plm_type.specs.Programs.{declared_procedures, faults, main_tree, procedures_of}
+use Rattle.plm_type.specs.Interrupts.{called, body_effects, text_graph, IsCalled, is_for_interrupt, has_interface}
+use Rattle.plm_type.specs.Programs.{declared_procedures, main_tree, procedures_of}
 use Rattle.plm_type.specs.Reach.{row_of}
 use Rattle.plm_type.specs.Rest.{Statements, End, Procedure}
-use Rattle.plm_type.specs.Statements.{may_return, may_return_value, is_external, is_placed_scalar, index_for, of_parameter, of_parameters, of_entry, is_entry, of_body, of_procedure, of_procedures, of_locations, of_main, of_statements, parameters_for, body_for, procedure_for, statements_for}
+use Rattle.plm_type.specs.Statements.{may_return_value, is_external, is_placed_scalar, index_for, of_parameter, of_parameters, of_entry, is_entry, of_body, of_procedure, of_procedures, of_locations, of_main, of_statements, parameters_for, body_for, procedure_for, statements_for}
 use Rattle.plm_type.specs.Trees.{entry_of}
 use Rattle.lower.specs.Code.{Kind, OfMain, has_vector, serves, kind_of}
 use Rattle.lower.specs.Lowered.{vector_of, vectors_of}

@@ -1,6 +1,6 @@
 -- Of a program without faults of types: the trees of its statements are well formed.
-use Rattle.std.proofs.Common.{◌≡◌, ℕ, Bool, true, false, List, [], ◌∷◌, ◌++◌, slice_get, Option, Some, None, refl, sym, arith}
-use Rattle.word86.specs.declared.number.Number.TheVariants.{E401, E403}
+use Rattle.std.proofs.Common.{◌≡◌, ℕ, true, List, [], slice_get, Option, Some, None, refl, sym, arith}
+use Rattle.word86.specs.declared.number.Number.TheVariants.{E401}
 use Rattle.plm_syntax.specs.declared.tree.Position.{Position}
 use Rattle.plm_decl.specs.declared.layout.ScalarType.{ScalarType}
 use Rattle.plm_decl.specs.declared.names.Variable.{Variable}

@@ -1,6 +1,6 @@
 -- Of a program without faults of types: the trees of its expressions are well formed.
-use Rattle.std.proofs.Common.{◌≡◌, ℕ, zero, suc, ◌+◌, ◌*◌, ◌≤◌, ◌<◌, Bool, true, false, not, cond, nat_eq, List, [], ◌∷◌, ◌++◌, map, length, slice_get, Option, Some, None, is_some, refl, sym, ap, ◌∙◌, subst, arith}
-use Rattle.std.specs.Prelude.{◌&&◌, ◌||◌, nat_le, slice_index}
+use Rattle.std.proofs.Common.{◌≡◌, ℕ, zero, suc, ◌+◌, ◌≤◌, ◌<◌, Bool, true, false, not, cond, nat_eq, List, [], ◌∷◌, ◌++◌, length, slice_get, Option, Some, None, refl, sym, ap, ◌∙◌, subst, arith}
+use Rattle.std.specs.Prelude.{nat_le, slice_index}
 use Rattle.std.proofs.lemmas.Bool.Decides.{nat_tests}
 use Rattle.word86.specs.declared.number.Number.TheVariants.{E401, E402}
 use Rattle.word86.specs.declared.width.Width.{Width}
@@ -9,8 +9,6 @@ use Rattle.word86.specs.declared.operation.BinaryOperation.{BinaryOperation}
 use Rattle.plm_syntax.specs.declared.tree.Position.{Position}
 use Rattle.plm_decl.specs.declared.builtin.Builtin.{Builtin}
 use Rattle.plm_decl.specs.declared.builtin.Builtin.TheVariants as builtin
-use Rattle.plm_decl.specs.declared.layout.Form.{Form}
-use Rattle.plm_decl.specs.declared.layout.Form.TheVariants as form
 use Rattle.plm_decl.specs.declared.layout.ScalarType.{ScalarType}
 use Rattle.plm_decl.specs.declared.layout.ScalarType.TheVariants.{Word}
 use Rattle.plm_decl.specs.declared.names.Variable.{Variable}
@@ -29,12 +27,12 @@ use Rattle.word86.specs.Access.{Where, In, Screen}
 use Rattle.plm_type.specs.Rest as rest
 use Rattle.plm_type.specs.Rest.{Anchor, InObject, OnScreen, Behind, There, Expression, Constant, Expressions, NoMore, More, Reference, Refer, Subscripts, NoSubscripts, Subscript, Target, Scalar, Procedure}
 use Rattle.plm_type.specs.Types.{width_of}
-use Rattle.plm_type.specs.Typing.{arity, is_measure, is_target, is_plain, measured, first_type, type_of, types_of, selector_types, measure, port_type, may_be_located, may_be_assigned}
-use Rattle.plm_type.specs.Shapes.{subscripts_fit, selector_fits, shape_fits, designated, member_offset, member_stride, anchor_for, capped, fixed_place, read_of, store_to}
-use Rattle.plm_type.specs.Faults.{fault_unless, may_be_used, use_faults, builtin_faults, port_faults, call_faults, called_faults, faults_of, faults_in, selector_faults, value_faults, measured_faults, location_faults, target_faults}
+use Rattle.plm_type.specs.Typing.{is_measure, is_target, first_type, types_of, selector_types, measure, may_be_located}
+use Rattle.plm_type.specs.Shapes.{subscripts_fit, selector_fits, shape_fits, designated, member_stride, capped, read_of, store_to}
+use Rattle.plm_type.specs.Faults.{fault_unless, may_be_used, use_faults, builtin_faults, call_faults, faults_of, faults_in, selector_faults, value_faults, location_faults, target_faults}
 use Rattle.plm_type.specs.Trees.{constant, text_value, operated, read_port, to_port, shifted, builtin_value, strided, entry_of, object_size, use_read, use_stored, constants_at, refer, reference_value, argument_value, measured_value, tree_of, trees_of, selector_trees, value_of, location_of, target_of}
 use Rattle.lower.specs.Code.{count_of}
-use Rattle.lower.specs.Well.{Lies, AnchorLies, IsCall, IsExpression, AreExpressions, IsReference, AreSubscripts, IsTarget}
+use Rattle.lower.specs.Well.{Lies, IsCall, IsExpression, AreExpressions, IsReference, AreSubscripts, IsTarget}
 use Rattle.lower.proofs.Bools.{true_false, both_true, le_of}
 use Rattle.lower.proofs.TypedPlaces.{none_both, holds_there, width_bytes, capped_least, IsLying, AreLying, anchor_lies}
 
