@@ -32,3 +32,7 @@ pub mod Rooming
 pub mod Counts
 pub mod Peaks
 pub mod Lows
+mod TypedPlaces
+mod TypedTrees
+mod TypedStatements
+mod TypedProgram

@@ -3,7 +3,7 @@
 ghost use Rattle.lower.specs.Heights.{HeightLaw};
 ghost use Rattle.lower.specs.Room.{RoomLaw};
 ghost use Rattle.lower.specs.Tracking.{LoweringLaw};
-ghost use Rattle.lower.specs.Checked.{SoundLaw};
+ghost use Rattle.lower.specs.Checked.{CheckedLaw, SoundLaw};
 ghost use Rattle.lower.specs.Runs.{RunsLaw};
 
 /// The code of a well-formed program does what the program means, up to its first Bad step. Wherever the objects lie and whatever
@@ -36,4 +36,11 @@ pub fn code_has_room()
 /// constants and references.
 pub fn heights_are_low()
     ensures { HeightLaw }
+{}
+
+/// The trees of a checked program are well formed: what is read or written at a fixed place lies in its object or on the screen,
+/// a variable's bytes do, a base is a word that does, and what is called has as many parameters as there are arguments and serves
+/// no interrupt.
+pub fn checked_trees_are_well_formed()
+    ensures { CheckedLaw }
 {}

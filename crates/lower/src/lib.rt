@@ -11,4 +11,7 @@ mod put;
 mod silence;
 mod statements;
 
-pub use laws::{checked_code_is_sound, checked_runs_are_allowed, code_has_room, heights_are_low, lowering_tracks};
+pub use laws::{
+    checked_code_is_sound, checked_runs_are_allowed, checked_trees_are_well_formed, code_has_room, heights_are_low,
+    lowering_tracks,
+};
