@@ -132,23 +132,14 @@ pub fn expression(
         Expression::Constant(value) => put(code, Instruction::Constant(*value)),
         Expression::Plain(width, at) => put(code, Instruction::Load(*width, *at)),
         Expression::Variable(width, reference) => {
+            let Reference { anchor, offset, .. } = reference;
             subscripts(code, procedures, &reference.subscripts)?;
-            read(
-                code,
-                *width,
-                reference.anchor,
-                reference.offset,
-                &reference.subscripts,
-            )
+            read(code, *width, *anchor, *offset, &reference.subscripts)
         }
         Expression::Location(reference) => {
+            let Reference { anchor, offset, .. } = reference;
             subscripts(code, procedures, &reference.subscripts)?;
-            locate(
-                code,
-                reference.anchor,
-                reference.offset,
-                &reference.subscripts,
-            )
+            locate(code, *anchor, *offset, &reference.subscripts)
         }
         Expression::Unary(operation, width, operand) => {
             expression(code, procedures, operand)?;
