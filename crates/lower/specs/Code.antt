@@ -20,6 +20,8 @@ use Rattle.icode.specs.declared.instruction.Test.TheVariants as test
 use Rattle.icode.specs.declared.code.Routine.{Routine}
 use Rattle.icode.specs.declared.code.Routine.TheVariants as routine
 use Rattle.icode.specs.Code.{is_number}
+pub use Rattle.lower.specs.declared.kind.Kind.{Kind}
+pub use Rattle.lower.specs.declared.kind.Kind.TheVariants.{OfMain, Called, Serving}
 
 -- ---- operands
 
@@ -217,12 +219,6 @@ module _ (procedures : List Procedure) where
   condition_code e = expression_code e
 
 -- ---- statements
-
--- whose statements they are: main's; those of a procedure that is called; those of one that serves a vector
-pub data Kind : Type 0 where
-  OfMain : Kind
-  Called : Kind
-  Serving : Kind
 
 -- what RETURN is in a routine; a procedure without a value gives 0 too
 abbrev pub returning : Kind → List Instruction

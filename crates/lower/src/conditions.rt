@@ -1,6 +1,6 @@
 //! What a jump asks.
 
-ghost use Rattle.std.specs.Prelude.{◌≡◌, ◌++◌, OnOk, IfOk};
+ghost use Rattle.std.specs.Prelude.{◌≡◌, ◌++◌, OnOk, IfOk, IsOkUnless};
 ghost use Rattle.plm_type.specs.View.{expression_of, procedures_of};
 ghost use Rattle.lower.specs.Code.{operand_of, relation_of, stands_to, test_of, condition_code, expression_code, beside};
 ghost use Rattle.lower.specs.Inner.Shown.{operand_shown};
@@ -46,7 +46,8 @@ fn compare(
     others: &[Operation],
     last: &Expression,
 ) -> Result<(), Fault>
-    ensures { OnOk result (code.new.items ≡ code.old.items ++ ((expression_code (procedures_of procedures.now) (expression_of first.now) ++ chain_code (procedures_of procedures.now) others.now) ++ beside (operand_of (expression_of last.now)) (expression_code (procedures_of procedures.now) (expression_of last.now)))) }
+    ensures code { OnOk result (code.new.items ≡ code.old.items ++ ((expression_code (procedures_of procedures.now) (expression_of first.now) ++ chain_code (procedures_of procedures.now) others.now) ++ beside (operand_of (expression_of last.now)) (expression_code (procedures_of procedures.now) (expression_of last.now)))) }
+    ensures memory { IsOkUnless result Fault.Memory }
 {
     expression(code, procedures, first)?;
     chain(code, procedures, others)?;
@@ -61,6 +62,7 @@ pub fn condition(
     tree: &Expression,
 ) -> Result<Test, Fault>
     ensures code { OnOk result (code.new.items ≡ code.old.items ++ condition_code (procedures_of procedures.now) (expression_of tree.now)) }
+    ensures memory { IsOkUnless result Fault.Memory }
     ensures test { IfOk result (λ t. t ≡ test_of (expression_of tree.now)) }
 {
     match tree {

@@ -1,6 +1,6 @@
 //! The code of expressions: the value is left in the accumulator, and the stack as it was.
 
-ghost use Rattle.std.specs.Prelude.{◌≡◌, ◌++◌, ◌∷◌, ◌%◌, [], map, slice_get, OnOk};
+ghost use Rattle.std.specs.Prelude.{◌≡◌, ◌++◌, ◌∷◌, ◌%◌, [], map, slice_get, OnOk, IsOkUnless};
 ghost use Rattle.plm_type.specs.View.{scalar_of, anchor_of, expression_of, expressions_of, reference_of, subscripts_of, target_of, targets_of, procedures_of};
 ghost use Rattle.word86.specs.Places.{where_of};
 ghost use Rattle.plm_type.specs.Rest.{Call};
@@ -40,7 +40,8 @@ fn anchor_place(anchor: Anchor, offset: u64) -> Place
 
 // The accumulator counts elements of so many bytes.
 fn scale(code: &mut Instructions, stride: u64) -> Result<(), Fault>
-    ensures { OnOk result (code.new.items ≡ code.old.items ++ scaled stride) }
+    ensures code { OnOk result (code.new.items ≡ code.old.items ++ scaled stride) }
+    ensures memory { IsOkUnless result Fault.Memory }
 {
     if stride == 1 {
         return Ok(());
@@ -54,7 +55,8 @@ fn scale(code: &mut Instructions, stride: u64) -> Result<(), Fault>
 
 // The accumulator holds an address, from which it goes so many bytes on.
 fn step(code: &mut Instructions, offset: u64) -> Result<(), Fault>
-    ensures { OnOk result (code.new.items ≡ code.old.items ++ moved offset) }
+    ensures code { OnOk result (code.new.items ≡ code.old.items ++ moved offset) }
+    ensures memory { IsOkUnless result Fault.Memory }
 {
     if offset == 0 {
         return Ok(());
@@ -74,7 +76,8 @@ fn follow(
     offset: u64,
     subscripts: &[Subscript],
 ) -> Result<(), Fault>
-    ensures { OnOk result (code.new.items ≡ code.old.items ++ based (where_of base) offset (subscripts_of subscripts.now)) }
+    ensures code { OnOk result (code.new.items ≡ code.old.items ++ based (where_of base) offset (subscripts_of subscripts.now)) }
+    ensures memory { IsOkUnless result Fault.Memory }
 {
     match subscripts {
         [] => {
@@ -104,7 +107,8 @@ fn parameters_of(procedures: &[Procedure], number: usize) -> &[Scalar]
 // The stores of a call's values, which are pushed.
 #[tactic(auto, using(crate::proofs::Trees::same_place))]
 fn pass(code: &mut Instructions, parameters: &[Scalar]) -> Result<(), Fault>
-    ensures { OnOk result (code.new.items ≡ code.old.items ++ passing (map scalar_of parameters.now)) }
+    ensures code { OnOk result (code.new.items ≡ code.old.items ++ passing (map scalar_of parameters.now)) }
+    ensures memory { IsOkUnless result Fault.Memory }
 {
     for (k, parameter) in parameters.iter().enumerate() {
         put(code, Instruction::Pick(parameters.len() - 1 - k))?;
@@ -124,7 +128,8 @@ pub fn expression(
     procedures: &[Procedure],
     tree: &Expression,
 ) -> Result<(), Fault>
-    ensures { OnOk result (code.new.items ≡ code.old.items ++ expression_code (procedures_of procedures.now) (expression_of tree.now)) }
+    ensures code { OnOk result (code.new.items ≡ code.old.items ++ expression_code (procedures_of procedures.now) (expression_of tree.now)) }
+    ensures memory { IsOkUnless result Fault.Memory }
 {
     match tree {
         Expression::Constant(value) => put(code, Instruction::Constant(*value)),
@@ -162,7 +167,8 @@ fn read(
     offset: u64,
     subscripts: &[Subscript],
 ) -> Result<(), Fault>
-    ensures { OnOk result (code.new.items ≡ code.old.items ++ reading width (anchor_of anchor) offset (subscripts_of subscripts.now)) }
+    ensures code { OnOk result (code.new.items ≡ code.old.items ++ reading width (anchor_of anchor) offset (subscripts_of subscripts.now)) }
+    ensures memory { IsOkUnless result Fault.Memory }
 {
     let at = anchor_place(anchor, offset);
     match (anchor, subscripts) {
@@ -182,7 +188,8 @@ fn locate(
     offset: u64,
     subscripts: &[Subscript],
 ) -> Result<(), Fault>
-    ensures { OnOk result (code.new.items ≡ code.old.items ++ locating (anchor_of anchor) offset (subscripts_of subscripts.now)) }
+    ensures code { OnOk result (code.new.items ≡ code.old.items ++ locating (anchor_of anchor) offset (subscripts_of subscripts.now)) }
+    ensures memory { IsOkUnless result Fault.Memory }
 {
     let at = anchor_place(anchor, offset);
     match (anchor, subscripts) {
@@ -199,7 +206,8 @@ pub fn chain(
     procedures: &[Procedure],
     operations: &[Operation],
 ) -> Result<(), Fault>
-    ensures { OnOk result (code.new.items ≡ code.old.items ++ chain_code (procedures_of procedures.now) operations.now) }
+    ensures code { OnOk result (code.new.items ≡ code.old.items ++ chain_code (procedures_of procedures.now) operations.now) }
+    ensures memory { IsOkUnless result Fault.Memory }
 {
     for operation in operations {
         operate(code, procedures, operation)?;
@@ -214,7 +222,8 @@ fn operate(
     procedures: &[Procedure],
     operation: &Operation,
 ) -> Result<(), Fault>
-    ensures { OnOk result (code.new.items ≡ code.old.items ++ operation_code (procedures_of procedures.now) operation.now) }
+    ensures code { OnOk result (code.new.items ≡ code.old.items ++ operation_code (procedures_of procedures.now) operation.now) }
+    ensures memory { IsOkUnless result Fault.Memory }
 {
     let Operation {
         operation: operator,
@@ -237,7 +246,8 @@ pub fn right(
     procedures: &[Procedure],
     tree: &Expression,
 ) -> Result<(), Fault>
-    ensures { OnOk result (code.new.items ≡ code.old.items ++ beside (operand_of (expression_of tree.now)) (expression_code (procedures_of procedures.now) (expression_of tree.now))) }
+    ensures code { OnOk result (code.new.items ≡ code.old.items ++ beside (operand_of (expression_of tree.now)) (expression_code (procedures_of procedures.now) (expression_of tree.now))) }
+    ensures memory { IsOkUnless result Fault.Memory }
 {
     match as_operand(tree) {
         Operand::Number(_) => Ok(()),
@@ -257,7 +267,8 @@ fn receive(
     width: Width,
     port: &Expression,
 ) -> Result<(), Fault>
-    ensures { OnOk result (code.new.items ≡ code.old.items ++ receiving width (operand_of (expression_of port.now)) (expression_code (procedures_of procedures.now) (expression_of port.now))) }
+    ensures code { OnOk result (code.new.items ≡ code.old.items ++ receiving width (operand_of (expression_of port.now)) (expression_code (procedures_of procedures.now) (expression_of port.now))) }
+    ensures memory { IsOkUnless result Fault.Memory }
 {
     match as_operand(port) {
         Operand::Number(number) => put(code, Instruction::ReceiveFrom(width, number)),
@@ -280,7 +291,8 @@ fn call(
     number: usize,
     arguments: &[Expression],
 ) -> Result<(), Fault>
-    ensures { OnOk result (code.new.items ≡ code.old.items ++ expression_code (procedures_of procedures.now) (Call number (expressions_of arguments.now))) }
+    ensures code { OnOk result (code.new.items ≡ code.old.items ++ expression_code (procedures_of procedures.now) (Call number (expressions_of arguments.now))) }
+    ensures memory { IsOkUnless result Fault.Memory }
 {
     let parameters = parameters_of(procedures, number);
     match arguments {
@@ -306,7 +318,8 @@ fn push_all(
     procedures: &[Procedure],
     arguments: &[Expression],
 ) -> Result<(), Fault>
-    ensures { OnOk result (code.new.items ≡ code.old.items ++ pushed_code (procedures_of procedures.now) (expressions_of arguments.now)) }
+    ensures code { OnOk result (code.new.items ≡ code.old.items ++ pushed_code (procedures_of procedures.now) (expressions_of arguments.now)) }
+    ensures memory { IsOkUnless result Fault.Memory }
 {
     for argument in arguments {
         expression(code, procedures, argument)?;
@@ -318,7 +331,8 @@ fn push_all(
 // The first parameter gets the accumulator.
 #[tactic(auto, using(crate::proofs::Trees::same_place))]
 fn store_alone(code: &mut Instructions, parameters: &[Scalar]) -> Result<(), Fault>
-    ensures { OnOk result (code.new.items ≡ code.old.items ++ alone (map scalar_of parameters.now)) }
+    ensures code { OnOk result (code.new.items ≡ code.old.items ++ alone (map scalar_of parameters.now)) }
+    ensures memory { IsOkUnless result Fault.Memory }
 {
     match parameters {
         [] => Ok(()),
@@ -333,7 +347,8 @@ fn subscripts(
     procedures: &[Procedure],
     subscripts: &[Subscript],
 ) -> Result<(), Fault>
-    ensures { OnOk result (code.new.items ≡ code.old.items ++ subscripts_code (procedures_of procedures.now) (subscripts_of subscripts.now)) }
+    ensures code { OnOk result (code.new.items ≡ code.old.items ++ subscripts_code (procedures_of procedures.now) (subscripts_of subscripts.now)) }
+    ensures memory { IsOkUnless result Fault.Memory }
 {
     match subscripts {
         [] => Ok(()),
@@ -358,7 +373,8 @@ fn subscripts(
 #[cycle(expressions)]
 #[tactic(auto, using(crate::proofs::Trees::same_place))]
 pub fn target(code: &mut Instructions, procedures: &[Procedure], to: &Target) -> Result<(), Fault>
-    ensures { OnOk result (code.new.items ≡ code.old.items ++ target_code (procedures_of procedures.now) (target_of to.now)) }
+    ensures code { OnOk result (code.new.items ≡ code.old.items ++ target_code (procedures_of procedures.now) (target_of to.now)) }
+    ensures memory { IsOkUnless result Fault.Memory }
 {
     match to {
         Target::Plain(width, at) => put(code, Instruction::Store(*width, *at)),
@@ -380,7 +396,8 @@ fn write(
     offset: u64,
     list: &[Subscript],
 ) -> Result<(), Fault>
-    ensures { OnOk result (code.new.items ≡ code.old.items ++ writing width (anchor_of anchor) offset (subscripts_of list.now) (subscripts_code (procedures_of procedures.now) (subscripts_of list.now))) }
+    ensures code { OnOk result (code.new.items ≡ code.old.items ++ writing width (anchor_of anchor) offset (subscripts_of list.now) (subscripts_code (procedures_of procedures.now) (subscripts_of list.now))) }
+    ensures memory { IsOkUnless result Fault.Memory }
 {
     let at = anchor_place(anchor, offset);
     match (anchor, list) {
@@ -407,7 +424,8 @@ fn send(
     width: Width,
     port: &Expression,
 ) -> Result<(), Fault>
-    ensures { OnOk result (code.new.items ≡ code.old.items ++ sending width (operand_of (expression_of port.now)) (expression_code (procedures_of procedures.now) (expression_of port.now))) }
+    ensures code { OnOk result (code.new.items ≡ code.old.items ++ sending width (operand_of (expression_of port.now)) (expression_code (procedures_of procedures.now) (expression_of port.now))) }
+    ensures memory { IsOkUnless result Fault.Memory }
 {
     match as_operand(port) {
         Operand::Number(number) => put(code, Instruction::SendTo(width, number)),
@@ -426,7 +444,8 @@ pub fn assign(
     first: &Target,
     others: &[Target],
 ) -> Result<(), Fault>
-    ensures { OnOk result (code.new.items ≡ code.old.items ++ targets_code (procedures_of procedures.now) (targets_of (target_of first.now) others.now)) }
+    ensures code { OnOk result (code.new.items ≡ code.old.items ++ targets_code (procedures_of procedures.now) (targets_of (target_of first.now) others.now)) }
+    ensures memory { IsOkUnless result Fault.Memory }
 {
     target(code, procedures, first)?;
     for other in others {

@@ -3,7 +3,9 @@
 
 mod conditions;
 mod expressions;
+mod kind;
 mod laws;
 mod put;
+mod statements;
 
 pub use laws::lowering_tracks;

@@ -1,6 +1,6 @@
 //! Instructions one behind the other, and operands.
 
-ghost use Rattle.std.specs.Prelude.{◌≡◌, ◌++◌, ◌∷◌, [], OnOk};
+ghost use Rattle.std.specs.Prelude.{◌≡◌, ◌++◌, ◌∷◌, [], OnOk, IsOkUnless};
 ghost use Rattle.plm_type.specs.View.{expression_of};
 ghost use Rattle.lower.specs.Code.{operand_of};
 ghost use Rattle.lower.specs.Inner.Shown.{operand_shown};
@@ -11,7 +11,8 @@ use word86::{Fault, Width};
 
 /// One more instruction.
 pub fn put(code: &mut Vec<Instruction>, instruction: Instruction) -> Result<(), Fault>
-    ensures { OnOk result (code.new.items ≡ code.old.items ++ instruction ∷ []) }
+    ensures code { OnOk result (code.new.items ≡ code.old.items ++ instruction ∷ []) }
+    ensures memory { IsOkUnless result Fault.Memory }
 {
     code.push(instruction)?;
     Ok(())
@@ -19,7 +20,8 @@ pub fn put(code: &mut Vec<Instruction>, instruction: Instruction) -> Result<(), 
 
 /// More instructions.
 pub fn add(code: &mut Vec<Instruction>, others: &[Instruction]) -> Result<(), Fault>
-    ensures { OnOk result (code.new.items ≡ code.old.items ++ others.now) }
+    ensures code { OnOk result (code.new.items ≡ code.old.items ++ others.now) }
+    ensures memory { IsOkUnless result Fault.Memory }
 {
     code.extend_from_slice(others)?;
     Ok(())

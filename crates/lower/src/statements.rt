@@ -1,12 +1,13 @@
 //! The code of statements.
 
-ghost use Rattle.std.specs.Prelude.{◌≡◌, ℕ, suc, ◌<◌, ◌++◌, ◌+◌, ◌∷◌, [], length, drop, nat_eq, nat_le, IfOk, OnOk};
+ghost use Rattle.std.specs.Prelude.{◌≡◌, ℕ, suc, ◌<◌, ◌++◌, ◌+◌, ◌∷◌, [], length, drop, nat_eq, nat_le, IfOk, OnOk, IsOkUnless};
 ghost use Rattle.plm_type.specs.View.{statement_of, statements_of, expression_of, loop_of, procedures_of, scalar_of};
 ghost use Rattle.plm_type.specs.Rest.{While, Case, Iterate};
 ghost use Rattle.lower.specs.Code.{operand_of, returning, narrowed, statement_code, statements_code, is_silent, are_silent, over, choosing, next_by_number, add_pushed, next_round, ending, routine_code, expression_code, condition_code, test_of};
 
 use crate::conditions::{condition, stands_to};
 use crate::expressions::{assign, expression, right};
+use crate::kind::Kind;
 use crate::put::{Operand, add, as_operand, put};
 use icode::{Instruction, Relation, Test};
 use plm_type::{Expression, Loop, Procedure, Scalar, Statement};
@@ -14,14 +15,6 @@ use std::alloc::Global;
 use word86::{BinaryOperation, Fault, UnaryOperation, Width};
 
 type Instructions = Vec<Instruction>;
-
-/// What a routine is, which decides how it ends.
-#[derive(Debug, Clone, Copy, PartialEq, Eq)]
-pub enum Kind {
-    OfMain,
-    Called,
-    Serving,
-}
 
 /// What lowering statements needs: room, the procedures, and what the routine is.
 #[derive(Clone, Copy)]
@@ -33,7 +26,8 @@ pub struct Around<'p> {
 
 // The code of RETURN.
 fn leave(code: &mut Instructions, kind: Kind) -> Result<(), Fault>
-    ensures { OnOk result (code.new.items ≡ code.old.items ++ returning kind) }
+    ensures code { OnOk result (code.new.items ≡ code.old.items ++ returning kind) }
+    ensures memory { IsOkUnless result Fault.Memory }
 {
     match kind {
         Kind::OfMain => Ok(()),
@@ -44,7 +38,8 @@ fn leave(code: &mut Instructions, kind: Kind) -> Result<(), Fault>
 
 // The end of a routine: main halts there again and again.
 fn end(code: &mut Instructions, kind: Kind) -> Result<(), Fault>
-    ensures { OnOk result (code.new.items ≡ code.old.items ++ ending kind) }
+    ensures code { OnOk result (code.new.items ≡ code.old.items ++ ending kind) }
+    ensures memory { IsOkUnless result Fault.Memory }
 {
     match kind {
         Kind::OfMain => add(code, &[Instruction::Halt, Instruction::Back(2)]),
@@ -55,7 +50,8 @@ fn end(code: &mut Instructions, kind: Kind) -> Result<(), Fault>
 
 // A value of this width is in the accumulator.
 fn narrow(code: &mut Instructions, width: Width) -> Result<(), Fault>
-    ensures { OnOk result (code.new.items ≡ code.old.items ++ narrowed width) }
+    ensures code { OnOk result (code.new.items ≡ code.old.items ++ narrowed width) }
+    ensures memory { IsOkUnless result Fault.Memory }
 {
     match width {
         Width::Byte => put(code, Instruction::Unary(UnaryOperation::Low, Width::Word)),
@@ -92,7 +88,8 @@ fn with_code(body: &[Box<Statement>]) -> usize
 
 // How many instructions a jump leads over: beyond what memory can hold there are none.
 fn distance(near: usize, far: usize) -> Result<usize, Fault>
-    ensures { IfOk result (λ r. r ≡ near + far) }
+    ensures code { IfOk result (λ r. r ≡ near + far) }
+    ensures memory { IsOkUnless result Fault.Memory }
 {
     near.checked_add(far).ok_or(Fault::Memory)
 }
@@ -100,7 +97,8 @@ fn distance(near: usize, far: usize) -> Result<usize, Fault>
 impl Around<'_> {
     // The code of an expression.
     fn value(self, tree: &Expression) -> Result<Instructions, Fault>
-        ensures { IfOk result (λ r. r.items ≡ expression_code (procedures_of self.entry.procedures.now) (expression_of tree.now)) }
+        ensures code { IfOk result (λ r. r.items ≡ expression_code (procedures_of self.entry.procedures.now) (expression_of tree.now)) }
+        ensures memory { IsOkUnless result Fault.Memory }
     {
         let mut code = Vec::new(self.alloc);
         expression(&mut code, self.procedures, tree)?;
@@ -110,7 +108,8 @@ impl Around<'_> {
     // The code of a statement behind which control goes on so many instructions behind its end.
     #[cycle(statements)]
     fn statement(self, statement: &Statement, exit: usize) -> Result<Instructions, Fault>
-        ensures { IfOk result (λ r. r.items ≡ statement_code (procedures_of self.entry.procedures.now) self.entry.kind exit (statement_of statement.now)) }
+        ensures code { IfOk result (λ r. r.items ≡ statement_code (procedures_of self.entry.procedures.now) self.entry.kind exit (statement_of statement.now)) }
+        ensures memory { IsOkUnless result Fault.Memory }
     {
         match statement {
             Statement::Empty => Ok(Vec::new(self.alloc)),
@@ -148,7 +147,8 @@ impl Around<'_> {
 
     // One instruction.
     fn alone(self, instruction: Instruction) -> Result<Instructions, Fault>
-        ensures { IfOk result (λ r. r.items ≡ instruction ∷ []) }
+        ensures code { IfOk result (λ r. r.items ≡ instruction ∷ []) }
+        ensures memory { IsOkUnless result Fault.Memory }
     {
         let mut code = Vec::new(self.alloc);
         put(&mut code, instruction)?;
@@ -158,7 +158,8 @@ impl Around<'_> {
     // The code of statements in sequence; the last one has the exit of all.
     #[cycle(statements)]
     pub fn statements(self, body: &[Box<Statement>], exit: usize) -> Result<Instructions, Fault>
-        ensures { IfOk result (λ r. r.items ≡ statements_code (procedures_of self.entry.procedures.now) self.entry.kind exit (statements_of body.now)) }
+        ensures code { IfOk result (λ r. r.items ≡ statements_code (procedures_of self.entry.procedures.now) self.entry.kind exit (statements_of body.now)) }
+        ensures memory { IsOkUnless result Fault.Memory }
     {
         let mut code = Vec::new(self.alloc);
         let with_code = with_code(body);
@@ -180,7 +181,8 @@ impl Around<'_> {
         otherwise: &[Instruction],
         exit: usize,
     ) -> Result<Instructions, Fault>
-        ensures { IfOk result (λ r. r.items ≡ choosing (condition_code (procedures_of self.entry.procedures.now) (expression_of tree.now)) (test_of (expression_of tree.now)) (statements_code (procedures_of self.entry.procedures.now) self.entry.kind (length (over silent otherwise.now exit) + length otherwise.now + exit) (statements_of arm.now)) silent otherwise.now exit) }
+        ensures code { IfOk result (λ r. r.items ≡ choosing (condition_code (procedures_of self.entry.procedures.now) (expression_of tree.now)) (test_of (expression_of tree.now)) (statements_code (procedures_of self.entry.procedures.now) self.entry.kind (length (over silent otherwise.now exit) + length otherwise.now + exit) (statements_of arm.now)) silent otherwise.now exit) }
+        ensures memory { IsOkUnless result Fault.Memory }
     {
         let mut code = Vec::new(self.alloc);
         let test = condition(&mut code, self.procedures, tree)?;
@@ -207,7 +209,8 @@ impl Around<'_> {
         tree: &Expression,
         exit: usize,
     ) -> Result<Instructions, Fault>
-        ensures { IfOk result (λ r. r.items ≡ statement_code (procedures_of self.entry.procedures.now) self.entry.kind exit (While (expression_of tree.now) (expression_of tree.now) (statements_of body.now))) }
+        ensures code { IfOk result (λ r. r.items ≡ statement_code (procedures_of self.entry.procedures.now) self.entry.kind exit (While (expression_of tree.now) (expression_of tree.now) (statements_of body.now))) }
+        ensures memory { IsOkUnless result Fault.Memory }
     {
         let rounds = self.statements(body, 0)?;
         let mut code = Vec::new(self.alloc);
@@ -228,7 +231,8 @@ impl Around<'_> {
         value: &Expression,
         exit: usize,
     ) -> Result<Instructions, Fault>
-        ensures { IfOk result (λ r. r.items ≡ statement_code (procedures_of self.entry.procedures.now) self.entry.kind exit (Case (expression_of value.now) (statements_of cases.now))) }
+        ensures code { IfOk result (λ r. r.items ≡ statement_code (procedures_of self.entry.procedures.now) self.entry.kind exit (Case (expression_of value.now) (statements_of cases.now))) }
+        ensures memory { IsOkUnless result Fault.Memory }
     {
         let mut behind = exit;
         let mut codes: Vec<Instructions> = Vec::new(self.alloc);
@@ -261,7 +265,8 @@ impl Around<'_> {
         first: &Expression,
         exit: usize,
     ) -> Result<Instructions, Fault>
-        ensures { IfOk result (λ r. r.items ≡ statement_code (procedures_of self.entry.procedures.now) self.entry.kind exit (Iterate (expression_of first.now) (loop_of iteration.now))) }
+        ensures code { IfOk result (λ r. r.items ≡ statement_code (procedures_of self.entry.procedures.now) self.entry.kind exit (Iterate (expression_of first.now) (loop_of iteration.now))) }
+        ensures memory { IsOkUnless result Fault.Memory }
     {
         let Scalar { width, place: at } = iteration.index;
         let rounds = self.statements(&iteration.body, 0)?;
@@ -287,7 +292,8 @@ impl Around<'_> {
         step: &Expression,
         before: usize,
     ) -> Result<Instructions, Fault>
-        ensures { IfOk result (λ r. r.items ≡ next_round (scalar_of index) (operand_of (expression_of step.now)) (expression_code (procedures_of self.entry.procedures.now) (expression_of step.now)) before) }
+        ensures code { IfOk result (λ r. r.items ≡ next_round (scalar_of index) (operand_of (expression_of step.now)) (expression_code (procedures_of self.entry.procedures.now) (expression_of step.now)) before) }
+        ensures memory { IsOkUnless result Fault.Memory }
     {
         match as_operand(step) {
             Operand::Number(value) => self.next_by_number(index, value, before),
@@ -303,7 +309,8 @@ impl Around<'_> {
         step: u16,
         before: usize,
     ) -> Result<Instructions, Fault>
-        ensures { IfOk result (λ r. r.items ≡ next_by_number (scalar_of index) step before) }
+        ensures code { IfOk result (λ r. r.items ≡ next_by_number (scalar_of index) step before) }
+        ensures memory { IsOkUnless result Fault.Memory }
     {
         let Scalar { width, place: at } = index;
         let mut code = Vec::new(self.alloc);
@@ -324,7 +331,8 @@ impl Around<'_> {
         step: &Expression,
         before: usize,
     ) -> Result<Instructions, Fault>
-        ensures { IfOk result (λ r. r.items ≡ next_by_stack (scalar_of index) (expression_code (procedures_of self.entry.procedures.now) (expression_of step.now)) before) }
+        ensures code { IfOk result (λ r. r.items ≡ next_by_stack (scalar_of index) (expression_code (procedures_of self.entry.procedures.now) (expression_of step.now)) before) }
+        ensures memory { IsOkUnless result Fault.Memory }
     {
         let Scalar { width, place: at } = index;
         let mut code = self.value(step)?;
@@ -342,7 +350,8 @@ impl Around<'_> {
 
     /// The code of a routine that does this.
     pub fn routine(self, body: &[Box<Statement>]) -> Result<Instructions, Fault>
-        ensures { IfOk result (λ r. r.items ≡ routine_code (procedures_of self.entry.procedures.now) self.entry.kind (statements_of body.now)) }
+        ensures code { IfOk result (λ r. r.items ≡ routine_code (procedures_of self.entry.procedures.now) self.entry.kind (statements_of body.now)) }
+        ensures memory { IsOkUnless result Fault.Memory }
     {
         let mut code = self.statements(body, 0)?;
         end(&mut code, self.kind)?;

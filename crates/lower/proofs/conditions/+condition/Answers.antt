@@ -33,7 +33,7 @@ returns-in_ok-compare-in-Some-clause-code t c =
     let is = ap expression_of c.in-Chain.is ∙ chain_split c.in-Chain.first c.in-Chain.operations os o c.as_slice.ensures.value c.in-len1-up.len_at_least c.last-item.is in
     let asks : relation_of o.operation ≡ Some c.in-Some.relation = sym c.relation.ensures ∙ c.in-Some.is in
     let right = expression_of o.operand in
-    c.in_ok-compare-in-Some.ensures
+    c.in_ok-compare-in-Some.ensures.code
     ∙ ap (λ e. c.args.code.now.items ++ ((expression_code ps (expression_of e) ++ chain_code ps others) ++ beside (operand_of right) (expression_code ps right))) c.deref-in-Some.ensures
     ∙ ap (λ x. c.args.code.now.items ++ x) (sym (ap (condition_code ps) is ∙ relation_coded ps left others o c.in-Some.relation asks))
 
@@ -56,7 +56,7 @@ returns-in_ok-expression-in-None-clause-code t c =
     let left = expression_of c.in-Chain.first.value in
     let is = ap expression_of c.in-Chain.is ∙ chain_split c.in-Chain.first c.in-Chain.operations os o c.as_slice.ensures.value c.in-len1-up.len_at_least c.last-item.is in
     let asks : relation_of o.operation ≡ None = sym c.relation.ensures ∙ c.in-None.is in
-    c.in_ok-expression-in-None.ensures
+    c.in_ok-expression-in-None.ensures.code
     ∙ ap (λ x. c.args.code.now.items ++ x) (sym (ap (condition_code ps) is ∙ value_coded ps left others o asks ∙ sym (ap (expression_code ps) is)))
 
 pub returns-in_ok-expression-in-None-clause-test : goal.returns-in_ok-expression-in-None-clause-test

@@ -1,0 +1,9 @@
+//! What a routine is.
+
+/// What a routine is, which decides how it ends: main; a procedure that is called; one that serves a vector.
+#[derive(Debug, Clone, Copy, PartialEq, Eq)]
+pub enum Kind {
+    OfMain,
+    Called,
+    Serving,
+}
