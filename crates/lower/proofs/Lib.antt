@@ -15,3 +15,5 @@ pub mod Whole
 pub mod Rows
 pub mod Trees
 pub mod Outermost
+pub mod Modules
+pub mod Routines
