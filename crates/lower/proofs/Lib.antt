@@ -17,3 +17,5 @@ pub mod Trees
 pub mod Outermost
 pub mod Modules
 pub mod Routines
+pub mod Handlers
+pub mod Numbers
