@@ -16,6 +16,6 @@ pub mod Rows
 pub mod Trees
 pub mod Outermost
 pub mod Modules
-pub mod Routines
+pub mod Procedures
 pub mod Handlers
 pub mod Numbers

@@ -6,7 +6,7 @@ use Rattle.icode.specs.Levels.{IsLevelled}
 use Rattle.icode.specs.Made.{IsMade}
 use Rattle.icode.specs.declared.code.Routine.TheVariants as routine
 use Rattle.lower.proofs.Numbers.{numbers_fit}
-use Rattle.lower.proofs.Routines.{names_lowered, main_lowered, procedure_codes, procedures_ordered, program_lowered}
+use Rattle.lower.proofs.Procedures.{names_lowered, main_lowered, procedure_codes, procedures_ordered, program_lowered}
 use Rattle.lower.proofs.lowering.lower.Goals as goal
 
 pub all-requires : goal.all-requires

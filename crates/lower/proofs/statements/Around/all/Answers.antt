@@ -7,7 +7,7 @@ use Rattle.plm_decl.specs.Names.{procedure_of}
 use Rattle.plm_type.specs.declared.program.Procedure as typed
 use Rattle.plm_type.specs.View.{statements_of, procedures_of}
 use Rattle.lower.specs.Inner.Lowering.{plain, lowered, all_lowered}
-use Rattle.lower.proofs.Routines.{one_more, nothing_left}
+use Rattle.lower.proofs.Procedures.{one_more, nothing_left}
 use Rattle.lower.proofs.statements.Around.all.Goals as goal
 
 pub loop-declared-preserved : goal.loop-declared-preserved

@@ -1,6 +1,6 @@
 use Rattle.plm_decl.specs.Names.{procedure_of}
 use Rattle.plm_type.specs.View.{statements_of, procedures_of}
-use Rattle.lower.proofs.Routines.{lowered_by}
+use Rattle.lower.proofs.Procedures.{lowered_by}
 use Rattle.lower.proofs.statements.Around.procedure.Goals as goal
 
 pub returns-clause-code : goal.returns-clause-code
