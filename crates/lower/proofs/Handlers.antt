@@ -17,7 +17,7 @@ use Rattle.icode.specs.declared.code.Procedure as code
 use Rattle.icode.specs.declared.code.Code.{Code}
 use Rattle.icode.specs.Code.{is_number, procedure_or_none, serving}
 use Rattle.lower.specs.Code.{number_for, body_for}
-use Rattle.lower.specs.Lowered.{vector_of, vectors_of, IsLowered}
+use Rattle.lower.specs.Lowered.{vector_of, vectors_of, IsLowered, EntryLaw}
 
 -- ---- the first one that passes
 
@@ -59,15 +59,18 @@ module _ (variables : List Variable) (all : List ProcedureR) (sizes : List ℕ) 
       ∙ ap (λ b. body_for (p ∷ ps) (cond b (Some 0) (option_map suc others))) (sym (handles_is d.linkage d.interrupt v))
       ∙ ap (λ o. body_for (p ∷ ps) (cond (is_number (vector_of d) v) (Some 0) o)) (sym (shifted (λ n. is_number n v) (0 + 1) 0 (map vector_of ds) (omega arith)))
 
-pub handler_bodies : (names : Names) (v : ℕ) → handler_tree names v ≡ body_for (procedures_of names) (number_for (vectors_of names) v)
+handler_bodies : (names : Names) (v : ℕ) → handler_tree names v ≡ body_for (procedures_of names) (number_for (vectors_of names) v)
 handler_bodies names v =
     handlers_from names.variables.items (declared_procedures names) (sizes_of names) v (declared_procedures names)
     ∙ ap (λ o. body_for (procedures_of names) o) (sym (position_from-zero (λ n. is_number n v) (vectors_of names)))
 
-pub handler_routines : (names : Names) (c : Code) → IsLowered names c → (v : ℕ) → serving c v ≡ procedure_or_none (number_for (vectors_of names) v)
-handler_routines names c is v =
+handler_routines : (names : Names) (v : ℕ) (c : Code) → IsLowered names c → serving c v ≡ procedure_or_none (number_for (vectors_of names) v)
+handler_routines names v c is =
     ap procedure_or_none
       (position_from-zero (λ (p : code.Procedure). is_number p.vector v) c.procedures.items
       ∙ mapped (λ (p : code.Procedure). p.vector) (λ n. is_number n v) 0 c.procedures.items
       ∙ ap (λ vs. position_from (λ n. is_number n v) 0 vs) is.vectors_are
       ∙ sym (position_from-zero (λ n. is_number n v) (vectors_of names)))
+
+pub enters_first : EntryLaw
+enters_first names v = record { meant = handler_bodies names v; coded = handler_routines names v }

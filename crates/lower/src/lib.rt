@@ -5,7 +5,9 @@ mod conditions;
 mod expressions;
 mod kind;
 mod laws;
+mod lowering;
 mod put;
 mod statements;
 
-pub use laws::lowering_tracks;
+pub use laws::{interrupts_enter_their_procedures, lowering_tracks};
+pub use lowering::lower;
