@@ -15,6 +15,8 @@ pub mod Whole
 pub mod Rows
 pub mod Trees
 pub mod Outermost
+pub mod LastCode
+pub mod Turned
 pub mod Modules
 pub mod Procedures
 pub mod Handlers

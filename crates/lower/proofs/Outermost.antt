@@ -1,5 +1,5 @@
 -- The test of a chain is that of its last operator.
-use Rattle.std.proofs.Common.{◌≡◌, ◌++◌, ℕ, zero, suc, ◌-◌, ◌≤◌, List, [], ◌∷◌, length, take, get_or, Option, Some, None, refl, ap, sym, ◌∙◌, subst, arith}
+use Rattle.std.proofs.Common.{◌≡◌, ◌++◌, ℕ, zero, suc, ◌-◌, ◌≤◌, List, [], ◌∷◌, length, take, get_or, Some, None, refl, ap, sym, ◌∙◌, arith}
 use Rattle.std.specs.Global.{Vec, Box}
 use Rattle.plm_type.specs.declared.program.Operation.{Operation}
 use Rattle.plm_type.specs.declared.program.Expression as declared_expression

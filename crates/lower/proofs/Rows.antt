@@ -4,7 +4,6 @@ use Rattle.std.specs.Global.{Vec, Box}
 use Rattle.plm_type.specs.declared.program.Expression.{Expression, Row_of-Expression, end_of-Expression, more_of-Expression, items-the_row-Expression, items_hidden-the_row-Expression-1, Row_of-Operation, end_of-Operation, more_of-Operation, items-the_row-Operation, items_hidden-the_row-Operation-0}
 use Rattle.plm_type.specs.declared.program.Expression.TheVariants as expression
 use Rattle.plm_type.specs.declared.program.Expression.TheBlock.{hidden-the_row-Expression-1, hidden-the_row-Operation-0}
-use Rattle.plm_type.specs.declared.program.Subscript.{Subscript}
 use Rattle.plm_type.specs.declared.program.Reference.{Reference, Row_of-Subscript, end_of-Subscript, more_of-Subscript, items-the_row-Subscript, items_shown-the_row-Subscript-2, Reference', out-Reference}
 use Rattle.plm_type.specs.declared.program.Operation.{Operation}
 use Rattle.plm_type.specs.declared.program.Statement.{Statement, Row_of-Statement-If-1-1, end_of-Statement-If-1-1, more_of-Statement-If-1-1, items-the_row-Statement-If-1-1, items_hidden-the_row-Statement-If-1-1-0}
@@ -42,3 +41,18 @@ chain_tree e os = operation_rows (hidden-the_row-Operation-0 os) (expression_of 
 pub reference_tree : (r : Reference) → reference_of r ≡ rest.Refer (out-Reference r).line.module (out-Reference r).line.line (anchor_of (out-Reference r).anchor) (out-Reference r).offset (subscripts_of (out-Reference r).subscripts.items)
 unfolding out-Reference denote.Hole.Carrier.out
 reference_tree (Reference' l a offset shape ss) = ap (rest.Refer l.module l.line (anchor_of a) offset) (subscript_rows ss ∙ ap subscripts_of (sym (items_shown-the_row-Subscript-2 shape ss)))
+
+pub block_tree : (body : Vec (Box Statement)) → statement_of (statement.Block body) ≡ rest.Block (statements_of body.items)
+block_tree body = ap rest.Block (statement_row body)
+
+pub if_tree : (e : Expression) (body otherwise : Vec (Box Statement)) → statement_of (statement.If e body otherwise) ≡ rest.If (expression_of e) (statements_of body.items) (statements_of otherwise.items)
+if_tree e body otherwise = ap (λ ss. rest.If (expression_of e) ss (statements_in (hidden-the_row-Statement-If-1-1-0 otherwise))) (statement_row body) ∙ ap (rest.If (expression_of e) (statements_of body.items)) (statement_row otherwise)
+
+pub while_tree : (e : Expression) (body : Vec (Box Statement)) → statement_of (statement.While e body) ≡ rest.While (expression_of e) (expression_of e) (statements_of body.items)
+while_tree e body = ap (rest.While (expression_of e) (expression_of e)) (statement_row body)
+
+pub case_tree : (e : Expression) (cases : Vec (Box Statement)) → statement_of (statement.Case e cases) ≡ rest.Case (expression_of e) (statements_of cases.items)
+case_tree e cases = ap (rest.Case (expression_of e)) (statement_row cases)
+
+pub iterate_tree : (e : Expression) (l : Loop) → statement_of (statement.Iterate e l) ≡ rest.Iterate (expression_of e) (loop_of l)
+iterate_tree e l = ap (λ ss. rest.Iterate (expression_of e) (rest.Count (scalar_of l.index) (expression_of l.bound) (expression_of l.step) ss)) (statement_row l.body)

@@ -1,6 +1,5 @@
 -- The code of trees that the syntax of Rust holds in other shapes.
 use Rattle.std.proofs.Common.{◌≡◌, ℕ, suc, ◌+◌, ◌≤◌, ◌++◌, List, [], ◌∷◌, length, refl, ap, sym, ◌∙◌, append_assoc, append-nil, arith}
-use Rattle.word86.specs.Access.{Where}
 use Rattle.word86.specs.declared.width.Width.{Width}
 use Rattle.word86.specs.declared.width.Width.TheVariants as widths
 use Rattle.word86.specs.declared.operation.BinaryOperation.TheVariants as binary
@@ -13,8 +12,8 @@ use Rattle.plm_type.specs.declared.program.Expression as declared_expression
 use Rattle.plm_type.specs.declared.program.Anchor as declared_anchor
 use Rattle.plm_type.specs.declared.program.Anchor.TheVariants as anchors
 use Rattle.plm_type.specs.declared.program.Target as declared_target
-use Rattle.plm_type.specs.Rest.{Expression, Binary, Scalar, Procedure, Target}
-use Rattle.plm_type.specs.View.{expression_of, expressions_of, subscripts_of, chained, anchor_of, target_of, targets_of}
+use Rattle.plm_type.specs.Rest.{Expression, Scalar, Procedure, Target}
+use Rattle.plm_type.specs.View.{expressions_of, subscripts_of, chained, anchor_of, target_of, targets_of}
 use Rattle.icode.specs.declared.instruction.Instruction.{Instruction}
 use Rattle.icode.specs.declared.instruction.Instruction.TheVariants as op
 use Rattle.lower.specs.Code.{place_of, expression_code, operand_of, Computed, passing, call_code, count_of, anchor_place, moved, based, reading, locating, writing, target_code, targets_code}
@@ -52,6 +51,7 @@ call_of_many p xs (e ∷ f ∷ es) first pushed h = ap (λ n. pushed ++ (passing
   all : (es : List declared_expression.Expression) → count_of (expressions_of es) ≡ length es
   all [] = refl
   all (e ∷ es) = ap suc (all es)
+
   counted : (es : List declared_expression.Expression) → 2 + count_of (expressions_of es) ≡ length (e ∷ f ∷ es)
   counted es = omega (arith, all es)
 

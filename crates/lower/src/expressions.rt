@@ -112,10 +112,7 @@ fn pass(code: &mut Instructions, parameters: &[Scalar]) -> Result<(), Fault>
 {
     for (k, parameter) in parameters.iter().enumerate() {
         put(code, Instruction::Pick(parameters.len() - 1 - k))?;
-        put(
-            code,
-            Instruction::Store(parameter.width, parameter.place),
-        )?;
+        put(code, Instruction::Store(parameter.width, parameter.place))?;
     }
     Ok(())
 }
@@ -136,11 +133,22 @@ pub fn expression(
         Expression::Plain(width, at) => put(code, Instruction::Load(*width, *at)),
         Expression::Variable(width, reference) => {
             subscripts(code, procedures, &reference.subscripts)?;
-            read(code, *width, reference.anchor, reference.offset, &reference.subscripts)
+            read(
+                code,
+                *width,
+                reference.anchor,
+                reference.offset,
+                &reference.subscripts,
+            )
         }
         Expression::Location(reference) => {
             subscripts(code, procedures, &reference.subscripts)?;
-            locate(code, reference.anchor, reference.offset, &reference.subscripts)
+            locate(
+                code,
+                reference.anchor,
+                reference.offset,
+                &reference.subscripts,
+            )
         }
         Expression::Unary(operation, width, operand) => {
             expression(code, procedures, operand)?;
@@ -359,10 +367,7 @@ fn subscripts(
                 put(code, Instruction::Push)?;
                 expression(code, procedures, &subscript.index)?;
                 scale(code, subscript.stride)?;
-                put(
-                    code,
-                    Instruction::Binary(BinaryOperation::Add, Width::Word),
-                )?;
+                put(code, Instruction::Binary(BinaryOperation::Add, Width::Word))?;
             }
             Ok(())
         }
@@ -380,7 +385,14 @@ pub fn target(code: &mut Instructions, procedures: &[Procedure], to: &Target) ->
         Target::Plain(width, at) => put(code, Instruction::Store(*width, *at)),
         Target::Variable(width, reference) => {
             let Reference { anchor, offset, .. } = reference;
-            write(code, procedures, *width, *anchor, *offset, &reference.subscripts)
+            write(
+                code,
+                procedures,
+                *width,
+                *anchor,
+                *offset,
+                &reference.subscripts,
+            )
         }
         Target::Port(width, port) => send(code, procedures, *width, port),
     }

@@ -1,6 +1,6 @@
 //! Instructions one behind the other, and operands.
 
-ghost use Rattle.std.specs.Prelude.{◌≡◌, ◌++◌, ◌∷◌, [], OnOk, IsOkUnless};
+ghost use Rattle.std.specs.Prelude.{◌≡◌, ◌+◌, ◌++◌, ◌∷◌, [], IfOk, OnOk, IsOkUnless};
 ghost use Rattle.plm_type.specs.View.{expression_of};
 ghost use Rattle.lower.specs.Code.{operand_of};
 ghost use Rattle.lower.specs.Inner.Shown.{operand_shown};
@@ -25,6 +25,14 @@ pub fn add(code: &mut Vec<Instruction>, others: &[Instruction]) -> Result<(), Fa
 {
     code.extend_from_slice(others)?;
     Ok(())
+}
+
+/// How many instructions a jump leads over: beyond what memory can hold there are none.
+pub fn distance(near: usize, far: usize) -> Result<usize, Fault>
+    ensures sum { IfOk result (λ r. r ≡ near + far) }
+    ensures memory { IsOkUnless result Fault.Memory }
+{
+    near.checked_add(far).ok_or(Fault::Memory)
 }
 
 /// What an expression is as an operand.

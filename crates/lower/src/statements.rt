@@ -1,18 +1,23 @@
 //! The code of statements.
 
-ghost use Rattle.std.specs.Prelude.{◌≡◌, ℕ, suc, ◌<◌, ◌++◌, ◌+◌, ◌∷◌, [], length, drop, nat_eq, nat_le, IfOk, OnOk, IsOkUnless};
-ghost use Rattle.plm_type.specs.View.{statement_of, statements_of, expression_of, loop_of, procedures_of, scalar_of};
+ghost use Rattle.std.specs.Prelude.{◌≡◌, ◌++◌, ◌+◌, ◌∷◌, [], length, map, vec_items, IfOk, OnOk, IsOkUnless};
+ghost use Rattle.icode.specs.declared.instruction.Instruction.TheVariants as op;
+ghost use Rattle.plm_type.specs.View.{statement_of, statements_of, expression_of, target_of, targets_of, loop_of, procedures_of};
 ghost use Rattle.plm_type.specs.Rest.{While, Case, Iterate};
-ghost use Rattle.lower.specs.Code.{operand_of, returning, narrowed, statement_code, statements_code, is_silent, are_silent, over, choosing, next_by_number, add_pushed, next_round, ending, routine_code, expression_code, condition_code, test_of};
+ghost use Rattle.lower.specs.Code.{returning, narrowed, statement_code, statements_code, cases_code, targets_code, over, failing, choosing, ending, routine_code, expression_code, condition_code, test_of};
+ghost use Rattle.lower.specs.Inner.Parts.{branching};
 
-use crate::conditions::{condition, stands_to};
-use crate::expressions::{assign, expression, right};
+use crate::cases::switch;
+use crate::conditions::condition;
+use crate::expressions::{assign, expression};
 use crate::kind::Kind;
-use crate::put::{Operand, add, as_operand, put};
-use icode::{Instruction, Relation, Test};
-use plm_type::{Expression, Loop, Procedure, Scalar, Statement};
+use crate::loops::{iterate, repeat};
+use crate::put::{add, distance, put};
+use crate::silence::{are_silent, exit_before, with_code};
+use icode::Instruction;
+use plm_type::{Expression, Loop, Procedure, Statement, Target};
 use std::alloc::Global;
-use word86::{BinaryOperation, Fault, UnaryOperation, Width};
+use word86::{Fault, UnaryOperation, Width};
 
 type Instructions = Vec<Instruction>;
 
@@ -43,8 +48,8 @@ fn end(code: &mut Instructions, kind: Kind) -> Result<(), Fault>
 {
     match kind {
         Kind::OfMain => add(code, &[Instruction::Halt, Instruction::Back(2)]),
-        Kind::Called => add(code, &[Instruction::Constant(0), Instruction::Leave]),
-        Kind::Serving => put(code, Instruction::Finish),
+        Kind::Called => leave(code, kind),
+        Kind::Serving => leave(code, kind),
     }
 }
 
@@ -59,39 +64,37 @@ fn narrow(code: &mut Instructions, width: Width) -> Result<(), Fault>
     }
 }
 
-// Whether nothing stands for a statement: for the empty one, and for a block of such.
-#[cycle(silence)]
-fn is_silent(statement: &Statement) -> bool
-    ensures { result ≡ is_silent (statement_of statement.now) }
-{
-    match statement {
-        Statement::Empty => true,
-        Statement::Block(body) => with_code(body) == 0,
-        _ => false,
-    }
-}
-
-// How many statements there are up to the last one that has code.
-#[cycle(silence)]
-fn with_code(body: &[Box<Statement>]) -> usize
-    ensures none { (nat_eq result 0) ≡ are_silent (statements_of body.now) }
-    ensures last { (k : ℕ) → k < length body.now → nat_le result (suc k) ≡ are_silent (statements_of (drop (suc k) body.now)) }
-{
-    let mut count = 0;
-    for (k, statement) in body.iter().enumerate() {
-        if !is_silent(statement) {
-            count = k + 1;
-        }
-    }
-    count
-}
-
-// How many instructions a jump leads over: beyond what memory can hold there are none.
-fn distance(near: usize, far: usize) -> Result<usize, Fault>
-    ensures code { IfOk result (λ r. r ≡ near + far) }
+// A jump over what is done otherwise, if anything is.
+fn pass_over(
+    code: &mut Instructions,
+    silent: bool,
+    otherwise: &[Instruction],
+    exit: usize,
+) -> Result<(), Fault>
+    ensures code { OnOk result (code.new.items ≡ code.old.items ++ over silent otherwise.now exit) }
     ensures memory { IsOkUnless result Fault.Memory }
 {
-    near.checked_add(far).ok_or(Fault::Memory)
+    if silent {
+        return Ok(());
+    }
+    put(code, Instruction::Ahead(distance(otherwise.len(), exit)?))
+}
+
+// How far behind the code of an arm its exit is.
+fn arm_exit(silent: bool, otherwise: &[Instruction], exit: usize) -> Result<usize, Fault>
+    ensures exit { IfOk result (λ r. r ≡ length (over silent otherwise.now exit) + length otherwise.now + exit) }
+    ensures memory { IsOkUnless result Fault.Memory }
+{
+    let jump = if silent { 0 } else { 1 };
+    distance(distance(jump, otherwise.len())?, exit)
+}
+
+// How far a test that fails leads.
+fn failing(silent: bool, arm: &[Instruction], exit: usize) -> Result<usize, Fault>
+    ensures exit { IfOk result (λ r. r ≡ failing silent arm.now exit) }
+    ensures memory { IsOkUnless result Fault.Memory }
+{
+    distance(arm.len(), if silent { exit } else { 1 })
 }
 
 impl Around<'_> {
@@ -105,46 +108,6 @@ impl Around<'_> {
         Ok(code)
     }
 
-    // The code of a statement behind which control goes on so many instructions behind its end.
-    #[cycle(statements)]
-    fn statement(self, statement: &Statement, exit: usize) -> Result<Instructions, Fault>
-        ensures code { IfOk result (λ r. r.items ≡ statement_code (procedures_of self.entry.procedures.now) self.entry.kind exit (statement_of statement.now)) }
-        ensures memory { IsOkUnless result Fault.Memory }
-    {
-        match statement {
-            Statement::Empty => Ok(Vec::new(self.alloc)),
-            Statement::Assign(first, others, value) => {
-                let mut code = self.value(value)?;
-                assign(&mut code, self.procedures, first, others)?;
-                Ok(code)
-            }
-            Statement::Evaluate(value) => self.value(value),
-            Statement::Return => {
-                let mut code = Vec::new(self.alloc);
-                leave(&mut code, self.kind)?;
-                Ok(code)
-            }
-            Statement::ReturnValue(width, value) => {
-                let mut code = self.value(value)?;
-                narrow(&mut code, *width)?;
-                put(&mut code, Instruction::Leave)?;
-                Ok(code)
-            }
-            Statement::Enable => self.alone(Instruction::Enable),
-            Statement::Disable => self.alone(Instruction::Disable),
-            Statement::Halt => self.alone(Instruction::Halt),
-            Statement::If(condition, arm, other) => {
-                let otherwise = self.statements(other, exit)?;
-                let silent = with_code(other) == 0;
-                self.choice(arm, condition, silent, &otherwise, exit)
-            }
-            Statement::Block(body) => self.statements(body, exit),
-            Statement::While(condition, body) => self.repetition(body, condition, exit),
-            Statement::Case(value, cases) => self.cases(cases, value, exit),
-            Statement::Iterate(first, iteration) => self.iteration(iteration, first, exit),
-        }
-    }
-
     // One instruction.
     fn alone(self, instruction: Instruction) -> Result<Instructions, Fault>
         ensures code { IfOk result (λ r. r.items ≡ instruction ∷ []) }
@@ -155,25 +118,109 @@ impl Around<'_> {
         Ok(code)
     }
 
+    // The code of assignments.
+    fn assignment(
+        self,
+        first: &Target,
+        others: &[Target],
+        value: &Expression,
+    ) -> Result<Instructions, Fault>
+        ensures code { IfOk result (λ r. r.items ≡ expression_code (procedures_of self.entry.procedures.now) (expression_of value.now) ++ targets_code (procedures_of self.entry.procedures.now) (targets_of (target_of first.now) others.now)) }
+        ensures memory { IsOkUnless result Fault.Memory }
+    {
+        let mut code = self.value(value)?;
+        assign(&mut code, self.procedures, first, others)?;
+        Ok(code)
+    }
+
+    // The code of RETURN without a value.
+    fn bare_return(self) -> Result<Instructions, Fault>
+        ensures code { IfOk result (λ r. r.items ≡ returning self.entry.kind) }
+        ensures memory { IsOkUnless result Fault.Memory }
+    {
+        let mut code = Vec::new(self.alloc);
+        leave(&mut code, self.kind)?;
+        Ok(code)
+    }
+
+    // The code of RETURN with a value.
+    fn value_return(self, width: Width, value: &Expression) -> Result<Instructions, Fault>
+        ensures code { IfOk result (λ r. r.items ≡ expression_code (procedures_of self.entry.procedures.now) (expression_of value.now) ++ (narrowed width ++ op.Leave ∷ [])) }
+        ensures memory { IsOkUnless result Fault.Memory }
+    {
+        let mut code = self.value(value)?;
+        narrow(&mut code, width)?;
+        put(&mut code, Instruction::Leave)?;
+        Ok(code)
+    }
+
+    // IF, by the code of its arms.
+    fn choice(
+        self,
+        tree: &Expression,
+        arm: &[Instruction],
+        silent: bool,
+        otherwise: &[Instruction],
+        exit: usize,
+    ) -> Result<Instructions, Fault>
+        ensures code { IfOk result (λ r. r.items ≡ choosing (condition_code (procedures_of self.entry.procedures.now) (expression_of tree.now)) (test_of (expression_of tree.now)) arm.now silent otherwise.now exit) }
+        ensures memory { IsOkUnless result Fault.Memory }
+    {
+        let mut code = Vec::new(self.alloc);
+        let test = condition(&mut code, self.procedures, tree)?;
+        let fails = failing(silent, arm, exit)?;
+        put(&mut code, Instruction::AheadUnless(test, fails))?;
+        add(&mut code, arm)?;
+        pass_over(&mut code, silent, otherwise, exit)?;
+        add(&mut code, otherwise)?;
+        Ok(code)
+    }
+
+    // The code of a statement behind which control goes on so many instructions behind its end.
+    #[cycle(statements)]
+    fn statement(self, statement: &Statement, exit: usize) -> Result<Instructions, Fault>
+        ensures code { IfOk result (λ r. r.items ≡ statement_code (procedures_of self.entry.procedures.now) self.entry.kind exit (statement_of statement.now)) }
+        ensures memory { IsOkUnless result Fault.Memory }
+    {
+        match statement {
+            Statement::Empty => Ok(Vec::new(self.alloc)),
+            Statement::Assign(first, others, value) => self.assignment(first, others, value),
+            Statement::Evaluate(value) => self.value(value),
+            Statement::Return => self.bare_return(),
+            Statement::ReturnValue(width, value) => self.value_return(*width, value),
+            Statement::Enable => self.alone(Instruction::Enable),
+            Statement::Disable => self.alone(Instruction::Disable),
+            Statement::Halt => self.alone(Instruction::Halt),
+            Statement::If(condition, arm, other) => {
+                let otherwise = self.statements(other, exit)?;
+                self.branch(arm, condition, are_silent(other), &otherwise, exit)
+            }
+            Statement::Block(body) => self.statements(body, exit),
+            Statement::While(condition, body) => self.repetition(body, condition, exit),
+            Statement::Case(value, cases) => self.cases(cases, value, exit),
+            Statement::Iterate(first, iteration) => self.iteration(iteration, first, exit),
+        }
+    }
+
     // The code of statements in sequence; the last one has the exit of all.
     #[cycle(statements)]
-    pub fn statements(self, body: &[Box<Statement>], exit: usize) -> Result<Instructions, Fault>
+    fn statements(self, body: &[Box<Statement>], exit: usize) -> Result<Instructions, Fault>
         ensures code { IfOk result (λ r. r.items ≡ statements_code (procedures_of self.entry.procedures.now) self.entry.kind exit (statements_of body.now)) }
         ensures memory { IsOkUnless result Fault.Memory }
     {
         let mut code = Vec::new(self.alloc);
         let with_code = with_code(body);
         for (k, statement) in body.iter().enumerate() {
-            let own = if k + 1 >= with_code { exit } else { 0 };
+            let own = exit_before(with_code <= k + 1, exit);
             let more = self.statement(statement, own)?;
             add(&mut code, &more)?;
         }
         Ok(code)
     }
 
-    // IF, where this is done otherwise, if anything is.
+    // IF, by the code of what is done otherwise.
     #[cycle(statements)]
-    fn choice(
+    fn branch(
         self,
         arm: &[Box<Statement>],
         tree: &Expression,
@@ -181,24 +228,12 @@ impl Around<'_> {
         otherwise: &[Instruction],
         exit: usize,
     ) -> Result<Instructions, Fault>
-        ensures code { IfOk result (λ r. r.items ≡ choosing (condition_code (procedures_of self.entry.procedures.now) (expression_of tree.now)) (test_of (expression_of tree.now)) (statements_code (procedures_of self.entry.procedures.now) self.entry.kind (length (over silent otherwise.now exit) + length otherwise.now + exit) (statements_of arm.now)) silent otherwise.now exit) }
+        ensures code { IfOk result (λ r. r.items ≡ branching (procedures_of self.entry.procedures.now) self.entry.kind (expression_of tree.now) (statements_of arm.now) silent otherwise.now exit) }
         ensures memory { IsOkUnless result Fault.Memory }
     {
-        let mut code = Vec::new(self.alloc);
-        let test = condition(&mut code, self.procedures, tree)?;
-        if silent {
-            let arm = self.statements(arm, distance(otherwise.len(), exit)?)?;
-            put(&mut code, Instruction::AheadUnless(test, distance(arm.len(), exit)?))?;
-            add(&mut code, &arm)?;
-        } else {
-            let behind = distance(otherwise.len(), exit)?;
-            let arm = self.statements(arm, distance(1, behind)?)?;
-            put(&mut code, Instruction::AheadUnless(test, distance(arm.len(), 1)?))?;
-            add(&mut code, &arm)?;
-            put(&mut code, Instruction::Ahead(behind))?;
-        }
-        add(&mut code, otherwise)?;
-        Ok(code)
+        let own = arm_exit(silent, otherwise, exit)?;
+        let arm = self.statements(arm, own)?;
+        self.choice(tree, &arm, silent, otherwise, exit)
     }
 
     // DO WHILE.
@@ -213,48 +248,7 @@ impl Around<'_> {
         ensures memory { IsOkUnless result Fault.Memory }
     {
         let rounds = self.statements(body, 0)?;
-        let mut code = Vec::new(self.alloc);
-        let test = condition(&mut code, self.procedures, tree)?;
-        let over = distance(distance(rounds.len(), 1)?, exit)?;
-        let back = distance(distance(code.len(), rounds.len())?, 2)?;
-        put(&mut code, Instruction::AheadUnless(test, over))?;
-        add(&mut code, &rounds)?;
-        put(&mut code, Instruction::Back(back))?;
-        Ok(code)
-    }
-
-    // DO CASE: a table of jumps, one to each case, and one over them all.
-    #[cycle(statements)]
-    fn cases(
-        self,
-        cases: &[Box<Statement>],
-        value: &Expression,
-        exit: usize,
-    ) -> Result<Instructions, Fault>
-        ensures code { IfOk result (λ r. r.items ≡ statement_code (procedures_of self.entry.procedures.now) self.entry.kind exit (Case (expression_of value.now) (statements_of cases.now))) }
-        ensures memory { IsOkUnless result Fault.Memory }
-    {
-        let mut behind = exit;
-        let mut codes: Vec<Instructions> = Vec::new(self.alloc);
-        for case in cases.iter().rev() {
-            let mut code = self.statement(case, distance(1, behind)?)?;
-            put(&mut code, Instruction::Ahead(behind))?;
-            behind = distance(code.len(), behind)?;
-            codes.push(code)?;
-        }
-        let mut code = self.value(value)?;
-        put(&mut code, Instruction::Switch(codes.len()))?;
-        let mut before = 0;
-        for (k, case) in codes.iter().rev().enumerate() {
-            let over = distance(codes.len() - k, before)?;
-            put(&mut code, Instruction::Case(over))?;
-            before = distance(before, case.len())?;
-        }
-        put(&mut code, Instruction::Ahead(behind))?;
-        for case in codes.iter().rev() {
-            add(&mut code, case)?;
-        }
-        Ok(code)
+        repeat(self.alloc, self.procedures, tree, &rounds, exit)
     }
 
     // DO with an index.
@@ -268,84 +262,52 @@ impl Around<'_> {
         ensures code { IfOk result (λ r. r.items ≡ statement_code (procedures_of self.entry.procedures.now) self.entry.kind exit (Iterate (expression_of first.now) (loop_of iteration.now))) }
         ensures memory { IsOkUnless result Fault.Memory }
     {
-        let Scalar { width, place: at } = iteration.index;
         let rounds = self.statements(&iteration.body, 0)?;
-        let mut bound = Vec::new(self.alloc);
-        right(&mut bound, self.procedures, &iteration.bound)?;
-        let before = distance(distance(bound.len(), rounds.len())?, 2)?;
-        let again = self.next_round(iteration.index, &iteration.step, before)?;
-        let over = distance(distance(rounds.len(), again.len())?, exit)?;
         let mut code = self.value(first)?;
-        add(&mut code, &[Instruction::Store(width, at), Instruction::Load(width, at)])?;
-        add(&mut code, &bound)?;
-        let test = stands_to(Relation::LessEqual, as_operand(&iteration.bound));
-        put(&mut code, Instruction::AheadUnless(test, over))?;
-        add(&mut code, &rounds)?;
-        add(&mut code, &again)?;
+        iterate(
+            &mut code,
+            self.alloc,
+            self.procedures,
+            iteration,
+            &rounds,
+            exit,
+        )?;
         Ok(code)
     }
 
-    // The end of a round: the step is added, and a next round begins so many instructions before, unless the sum wrapped.
-    fn next_round(
+    // DO CASE.
+    #[cycle(statements)]
+    fn cases(
         self,
-        index: Scalar,
-        step: &Expression,
-        before: usize,
+        cases: &[Box<Statement>],
+        value: &Expression,
+        exit: usize,
     ) -> Result<Instructions, Fault>
-        ensures code { IfOk result (λ r. r.items ≡ next_round (scalar_of index) (operand_of (expression_of step.now)) (expression_code (procedures_of self.entry.procedures.now) (expression_of step.now)) before) }
+        ensures code { IfOk result (λ r. r.items ≡ statement_code (procedures_of self.entry.procedures.now) self.entry.kind exit (Case (expression_of value.now) (statements_of cases.now))) }
         ensures memory { IsOkUnless result Fault.Memory }
     {
-        match as_operand(step) {
-            Operand::Number(value) => self.next_by_number(index, value, before),
-            Operand::Name(_, _) => self.next_by_stack(index, step, before),
-            Operand::Computed => self.next_by_stack(index, step, before),
+        let codes = self.each_case(cases, exit)?;
+        let mut code = self.value(value)?;
+        switch(&mut code, &codes, exit)?;
+        Ok(code)
+    }
+
+    // The code of each case. The last one is made first, since each jumps over those behind it.
+    #[cycle(statements)]
+    fn each_case(self, cases: &[Box<Statement>], exit: usize) -> Result<Vec<Instructions>, Fault>
+        ensures code { IfOk result (λ r. map vec_items r.items ≡ cases_code (procedures_of self.entry.procedures.now) self.entry.kind exit (statements_of cases.now)) }
+        ensures memory { IsOkUnless result Fault.Memory }
+    {
+        let mut behind = exit;
+        let mut codes: Vec<Instructions> = Vec::new(self.alloc);
+        for k in (0..cases.len()).rev() {
+            let mut code = self.statement(&cases[k], distance(1, behind)?)?;
+            put(&mut code, Instruction::Ahead(behind))?;
+            behind = distance(code.len(), behind)?;
+            codes.push(code)?;
         }
-    }
-
-    // The same where the step is a constant.
-    fn next_by_number(
-        self,
-        index: Scalar,
-        step: u16,
-        before: usize,
-    ) -> Result<Instructions, Fault>
-        ensures code { IfOk result (λ r. r.items ≡ next_by_number (scalar_of index) step before) }
-        ensures memory { IsOkUnless result Fault.Memory }
-    {
-        let Scalar { width, place: at } = index;
-        let mut code = Vec::new(self.alloc);
-        let sum = [
-            Instruction::Load(width, at),
-            Instruction::BinaryConstant(BinaryOperation::Add, width, step),
-            Instruction::Store(width, at),
-            Instruction::BackUnless(Test::Constant(Relation::Less, step), distance(before, 4)?),
-        ];
-        add(&mut code, &sum)?;
-        Ok(code)
-    }
-
-    // The same by way of the stack.
-    fn next_by_stack(
-        self,
-        index: Scalar,
-        step: &Expression,
-        before: usize,
-    ) -> Result<Instructions, Fault>
-        ensures code { IfOk result (λ r. r.items ≡ next_by_stack (scalar_of index) (expression_code (procedures_of self.entry.procedures.now) (expression_of step.now)) before) }
-        ensures memory { IsOkUnless result Fault.Memory }
-    {
-        let Scalar { width, place: at } = index;
-        let mut code = self.value(step)?;
-        let sum = [
-            Instruction::Push,
-            Instruction::Push,
-            Instruction::Load(width, at),
-            Instruction::Binary(BinaryOperation::Add, width),
-            Instruction::Store(width, at),
-            Instruction::BackUnless(Test::Top(Relation::Greater), distance(distance(before, code.len())?, 6)?),
-        ];
-        add(&mut code, &sum)?;
-        Ok(code)
+        codes.reverse();
+        Ok(codes)
     }
 
     /// The code of a routine that does this.

@@ -14,7 +14,7 @@ returns-in-empty-clause-code t c =
     let none : length c.in-Chain.operations.items ≡ 0 = omega (arith, ap length c.as_slice.ensures.value, c.in-empty.len_below) in
     let is : expression_of c.args.tree.now ≡ left = ap expression_of c.in-Chain.is ∙ chain_tree c.in-Chain.first c.in-Chain.operations ∙ chain_none left c.in-Chain.operations.items none in
     subst (λ e. OnOk after.result (after.new.code.items ≡ c.args.code.now.items ++ condition_code (procedures_of c.args.procedures.now) e))
-        (ap expression_of c.deref.ensures ∙ sym is) after.ensures.code
+    (ap expression_of c.deref.ensures ∙ sym is) after.ensures.code
 
 pub returns-in-empty-clause-test : goal.returns-in-empty-clause-test
 returns-in-empty-clause-test t c =

@@ -12,7 +12,7 @@ pub expression-returns-in-Call-clause-code : goal.expression-returns-in-Call-cla
 expression-returns-in-Call-clause-code t c =
     let after = c.call in
     subst (λ e. OnOk after.result (after.new.code.items ≡ c.args.code.now.items ++ expression_code (procedures_of c.args.procedures.now) e))
-        (sym (ap expression_of c.in-Call.is ∙ call_tree c.in-Call.number c.in-Call.arguments)) (grind (arith, common_steps))
+    (sym (ap expression_of c.in-Call.is ∙ call_tree c.in-Call.number c.in-Call.arguments)) (grind (arith, common_steps))
 
 pub expression-returns-in_ok-expression-in-Chain-clause-code : goal.expression-returns-in_ok-expression-in-Chain-clause-code
 expression-returns-in_ok-expression-in-Chain-clause-code t c =

@@ -7,4 +7,4 @@ pub returns-in_ok-put-in-len1-up-clause-code : goal.returns-in_ok-put-in-len1-up
 returns-in_ok-put-in-len1-up-clause-code c =
     let after = c.step-in-len1-up in
     subst (λ e. OnOk after.result (after.new.code.items ≡ c.args.code.now.items ++ e))
-        (sym (based_behind c.args.base c.args.offset c.args.subscripts.now c.in-len1-up.len_at_least)) (grind (arith, common_steps))
+    (sym (based_behind c.args.base c.args.offset c.args.subscripts.now c.in-len1-up.len_at_least)) (grind (arith, common_steps))

@@ -1,0 +1,158 @@
+//! Loops, by the code of their bodies.
+
+ghost use Rattle.std.specs.Prelude.{◌≡◌, ◌++◌, ◌+◌, length, IfOk, OnOk, IsOkUnless};
+ghost use Rattle.plm_type.specs.View.{expression_of, procedures_of, scalar_of};
+ghost use Rattle.lower.specs.Code.{operand_of, beside, next_by_number, add_pushed, next_round, expression_code, condition_code, test_of};
+ghost use Rattle.lower.specs.Inner.Parts.{repeating, counting, iterating};
+
+use crate::conditions::{condition, stands_to};
+use crate::expressions::{expression, right};
+use crate::put::{Operand, add, as_operand, distance, put};
+use icode::{Instruction, Relation, Test};
+use plm_type::{Expression, Loop, Procedure, Scalar};
+use std::alloc::Global;
+use word86::{BinaryOperation, Fault};
+
+type Instructions = Vec<Instruction>;
+
+/// DO WHILE.
+pub fn repeat(
+    alloc: Global,
+    procedures: &[Procedure],
+    tree: &Expression,
+    body: &[Instruction],
+    exit: usize,
+) -> Result<Instructions, Fault>
+    ensures code { IfOk result (λ r. r.items ≡ repeating (condition_code (procedures_of procedures.now) (expression_of tree.now)) (test_of (expression_of tree.now)) body.now exit) }
+    ensures memory { IsOkUnless result Fault.Memory }
+{
+    let mut code = Vec::new(alloc);
+    let test = condition(&mut code, procedures, tree)?;
+    let over = distance(distance(body.len(), 1)?, exit)?;
+    let back = distance(distance(code.len(), body.len())?, 2)?;
+    put(&mut code, Instruction::AheadUnless(test, over))?;
+    add(&mut code, body)?;
+    put(&mut code, Instruction::Back(back))?;
+    Ok(code)
+}
+
+// A round, if its test holds, and the end of it.
+fn count(
+    code: &mut Instructions,
+    compared: &[Instruction],
+    test: Test,
+    body: &[Instruction],
+    again: &[Instruction],
+    exit: usize,
+) -> Result<(), Fault>
+    ensures code { OnOk result (code.new.items ≡ code.old.items ++ counting compared.now test body.now again.now exit) }
+    ensures memory { IsOkUnless result Fault.Memory }
+{
+    let over = distance(distance(body.len(), again.len())?, exit)?;
+    add(code, compared)?;
+    put(code, Instruction::AheadUnless(test, over))?;
+    add(code, body)?;
+    add(code, again)
+}
+
+/// DO with an index, whose first value is in the accumulator.
+pub fn iterate(
+    code: &mut Instructions,
+    alloc: Global,
+    procedures: &[Procedure],
+    iteration: &Loop,
+    body: &[Instruction],
+    exit: usize,
+) -> Result<(), Fault>
+    ensures code { OnOk result (code.new.items ≡ code.old.items ++ iterating (scalar_of iteration.now.index) (operand_of (expression_of iteration.now.bound)) (beside (operand_of (expression_of iteration.now.bound)) (expression_code (procedures_of procedures.now) (expression_of iteration.now.bound))) (operand_of (expression_of iteration.now.step)) (expression_code (procedures_of procedures.now) (expression_of iteration.now.step)) body.now exit) }
+    ensures memory { IsOkUnless result Fault.Memory }
+{
+    let Scalar { width, place } = iteration.index;
+    let mut compared = Vec::new(alloc);
+    right(&mut compared, procedures, &iteration.bound)?;
+    let before = distance(distance(compared.len(), body.len())?, 2)?;
+    let again = next_round(alloc, procedures, iteration.index, &iteration.step, before)?;
+    put(code, Instruction::Store(width, place))?;
+    put(code, Instruction::Load(width, place))?;
+    let test = stands_to(Relation::LessEqual, as_operand(&iteration.bound));
+    count(code, &compared, test, body, &again, exit)
+}
+
+// The end of a round: the step is added, and a next round begins so many instructions before, unless the sum wrapped.
+fn next_round(
+    alloc: Global,
+    procedures: &[Procedure],
+    index: Scalar,
+    step: &Expression,
+    before: usize,
+) -> Result<Instructions, Fault>
+    ensures code { IfOk result (λ r. r.items ≡ next_round (scalar_of index) (operand_of (expression_of step.now)) (expression_code (procedures_of procedures.now) (expression_of step.now)) before) }
+    ensures memory { IsOkUnless result Fault.Memory }
+{
+    match as_operand(step) {
+        Operand::Number(value) => next_by_number(alloc, index, value, before),
+        Operand::Name(_, _) => next_by_stack(alloc, procedures, index, step, before),
+        Operand::Computed => next_by_stack(alloc, procedures, index, step, before),
+    }
+}
+
+// The same where the step is a constant.
+#[tactic(auto, using(crate::proofs::Trees::same_place))]
+fn next_by_number(
+    alloc: Global,
+    index: Scalar,
+    step: u16,
+    before: usize,
+) -> Result<Instructions, Fault>
+    ensures code { IfOk result (λ r. r.items ≡ next_by_number (scalar_of index) step before) }
+    ensures memory { IsOkUnless result Fault.Memory }
+{
+    let Scalar { width, place } = index;
+    let back = distance(before, 4)?;
+    let sum = [
+        Instruction::Load(width, place),
+        Instruction::BinaryConstant(BinaryOperation::Add, width, step),
+        Instruction::Store(width, place),
+        Instruction::BackUnless(Test::Constant(Relation::Less, step), back),
+    ];
+    let mut code = Vec::new(alloc);
+    add(&mut code, &sum)?;
+    Ok(code)
+}
+
+// The same by way of the stack.
+fn next_by_stack(
+    alloc: Global,
+    procedures: &[Procedure],
+    index: Scalar,
+    step: &Expression,
+    before: usize,
+) -> Result<Instructions, Fault>
+    ensures code { IfOk result (λ r. r.items ≡ expression_code (procedures_of procedures.now) (expression_of step.now) ++ add_pushed (scalar_of index) (before + length (expression_code (procedures_of procedures.now) (expression_of step.now)))) }
+    ensures memory { IsOkUnless result Fault.Memory }
+{
+    let mut code = Vec::new(alloc);
+    expression(&mut code, procedures, step)?;
+    let before = distance(before, code.len())?;
+    add_pushed(&mut code, index, before)?;
+    Ok(code)
+}
+
+// The step, which is in the accumulator, is added.
+#[tactic(auto, using(crate::proofs::Trees::same_place))]
+fn add_pushed(code: &mut Instructions, index: Scalar, before: usize) -> Result<(), Fault>
+    ensures code { OnOk result (code.new.items ≡ code.old.items ++ add_pushed (scalar_of index) before) }
+    ensures memory { IsOkUnless result Fault.Memory }
+{
+    let Scalar { width, place } = index;
+    let back = distance(before, 6)?;
+    let sum = [
+        Instruction::Push,
+        Instruction::Push,
+        Instruction::Load(width, place),
+        Instruction::Binary(BinaryOperation::Add, width),
+        Instruction::Store(width, place),
+        Instruction::BackUnless(Test::Top(Relation::Greater), back),
+    ];
+    add(code, &sum)
+}
