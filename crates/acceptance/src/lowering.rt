@@ -100,14 +100,22 @@ fn answer_to(store: &Store, access: Option<Access>) -> u16 {
     }
 }
 
-/// The accesses of main's steps up to its HALT of this number, or why they end before.
+/// Where a run is looked at no further.
+#[derive(Debug, Clone, Copy, PartialEq, Eq)]
+enum End {
+    Halted,
+    Stopped(Stop),
+    GoesOn,
+}
+
+/// The accesses of main's steps up to its HALT of this number, if it comes so far in 4,000 steps.
 fn accesses_of(
     alloc: Global,
     code: &Code,
     names: &Names,
     offsets: &[u16],
     halts: u32,
-) -> Result<(Vec<Access>, Option<Stop>), Fault> {
+) -> Result<(Vec<Access>, End), Fault> {
     let mut sizes = Vec::new(alloc);
     for object in &names.objects {
         sizes.push(object.size)?;
@@ -123,7 +131,7 @@ fn accesses_of(
     for _ in 0..4000u32 {
         let access = machine.access();
         match machine.step(answer_to(&store, access)) {
-            Err(stop) => return Ok((accesses, Some(stop))),
+            Err(stop) => return Ok((accesses, End::Stopped(stop))),
             Ok(Step::Halt) => halted = halted.saturating_add(1),
             Ok(_) => {}
         }
@@ -134,29 +142,29 @@ fn accesses_of(
             }
         }
         if halted >= halts {
-            return Ok((accesses, None));
+            return Ok((accesses, End::Halted));
         }
     }
-    Ok((accesses, Some(Stop::Memory)))
+    Ok((accesses, End::GoesOn))
 }
 
-/// The labels of main's steps up to its first HALT, or why they end before.
+/// The labels of the same steps, of a program with these modules.
 fn labels_of(
     alloc: Global,
     texts: &[&[u8]],
     offsets: &[u16],
     halts: u32,
-) -> Result<(Vec<Label>, Option<Stop>), Fault> {
+) -> Result<(Vec<Label>, End), Fault> {
     let program = program_of(alloc, texts)?;
     let code = lower(alloc, &program)?;
-    let (accesses, stop) = accesses_of(alloc, &code, program.names(), offsets, halts)?;
+    let (accesses, end) = accesses_of(alloc, &code, program.names(), offsets, halts)?;
     let mut labels = Vec::new(alloc);
     for access in &accesses {
         if let Some(label) = label_of(*access) {
             labels.push(label)?;
         }
     }
-    Ok((labels, stop))
+    Ok((labels, end))
 }
 
 /// A text, its objects' offsets, its labels, and whether it ends by a Bad step.
@@ -165,9 +173,13 @@ type Row<'a> = (&'a [u8], &'a [u16], &'a [Label], bool);
 /// Whether the code of each text makes just these labels up to main's first HALT or Bad step, as the meaning does.
 fn are_shown(alloc: Global, rows: &[Row<'_>]) -> Result<bool, Fault> {
     for (text, offsets, labels, bad) in rows {
-        let (shown, stop) = labels_of(alloc, &[*text], offsets, 1)?;
-        let end = if *bad { Some(Stop::Bad) } else { None };
-        if shown.as_slice() != *labels || stop != end {
+        let (shown, end) = labels_of(alloc, &[*text], offsets, 1)?;
+        let wanted = if *bad {
+            End::Stopped(Stop::Bad)
+        } else {
+            End::Halted
+        };
+        if shown.as_slice() != *labels || end != wanted {
             return Ok(false);
         }
         let (meant, ended) = run(alloc, text, offsets)?;
@@ -387,18 +399,18 @@ fn main_goes_on_behind_halts(rt: HostRuntime) -> Result<(), Fail> {
     let alloc = rt.alloc();
     let forever =
         b"M: DO; DECLARE FOREVER LITERALLY 'WHILE 1'; DO FOREVER; OUTPUT(300H) = 1; HALT; END; END M;";
-    let (labels, stop) = labels_of(alloc, &[forever], &[], 3)?;
+    let (labels, end) = labels_of(alloc, &[forever], &[], 3)?;
     let three = [
         Label::Out(0x300, 1),
         Label::Out(0x300, 1),
         Label::Out(0x300, 1),
     ];
     assert_eq!(rt; labels.as_slice(), three.as_slice());
-    assert_eq!(rt; stop, None);
+    assert_eq!(rt; end, End::Halted);
     // Behind its last statement main halts again and again.
     let waiting =
         b"M: DO; OUTPUT(20H) = 13H; OUTPUT(21H) = 8; OUTPUT(21H) = 1; OUTPUT(21H) = 0FEH; OUTPUT(43H) = 14H; OUTPUT(40H) = 4; HALT; OUTPUT(300H) = 1; END M;";
-    let (labels, stop) = labels_of(alloc, &[waiting], &[], 5)?;
+    let (labels, end) = labels_of(alloc, &[waiting], &[], 5)?;
     let shown = [
         Label::Out(0x20, 0x13),
         Label::Out(0x21, 8),
@@ -409,7 +421,35 @@ fn main_goes_on_behind_halts(rt: HostRuntime) -> Result<(), Fail> {
         Label::Out(0x300, 1),
     ];
     assert_eq!(rt; labels.as_slice(), shown.as_slice());
-    assert_eq!(rt; stop, None);
+    assert_eq!(rt; end, End::Halted);
+    Ok(())
+}
+
+#[test]
+fn main_goes_on_where_interrupts_come(rt: HostRuntime) -> Result<(), Fail> {
+    let alloc = rt.alloc();
+    // Without the interrupt the base is A's address in each round.
+    let based =
+        b"M: DO; DECLARE P WORD, A BYTE INITIAL (1), C BYTE INITIAL (2), B BASED P BYTE, I BYTE; H: PROCEDURE INTERRUPT 8; P = .C; END H; OUTPUT(43H) = 14H; OUTPUT(40H) = 2; HALT; P = .A; DO I = 1 TO 200; OUTPUT(300H) = B; END; END M;";
+    let (labels, end) = labels_of(alloc, &[based], &[2, 4, 5, 6], 2)?;
+    let mut wanted = [Label::Out(0x43, 0x14), Label::Out(0x40, 2)].to_vec(alloc)?;
+    for _ in 0..200u32 {
+        wanted.push(Label::Out(0x300, 1))?;
+    }
+    assert_eq!(rt; labels.as_slice(), wanted.as_slice());
+    assert_eq!(rt; end, End::Halted);
+    let waiting =
+        b"M: DO; K: PROCEDURE INTERRUPT 9; OUTPUT(300H) = INPUT(60H); OUTPUT(61H) = 80H; OUTPUT(61H) = 0; END K; OUTPUT(63H) = 99H; OUTPUT(20H) = 13H; OUTPUT(21H) = 8; OUTPUT(21H) = 3; OUTPUT(21H) = 0FDH; ENABLE; DO WHILE 1; END; END M;";
+    let (labels, end) = labels_of(alloc, &[waiting], &[], 1)?;
+    let shown = [
+        Label::Out(0x63, 0x99),
+        Label::Out(0x20, 0x13),
+        Label::Out(0x21, 8),
+        Label::Out(0x21, 3),
+        Label::Out(0x21, 0xFD),
+    ];
+    assert_eq!(rt; labels.as_slice(), shown.as_slice());
+    assert_eq!(rt; end, End::GoesOn);
     Ok(())
 }
 
@@ -437,9 +477,9 @@ fn modules_have_sections(rt: HostRuntime) -> Result<(), Fail> {
     let first =
         b"A: DO; DECLARE X BYTE EXTERNAL; P: PROCEDURE EXTERNAL; END P; CALL P; OUTPUT(300H) = X; END A;";
     let second = b"B: DO; DECLARE X BYTE PUBLIC; P: PROCEDURE PUBLIC; X = 9; END P; END B;";
-    let (labels, stop) = labels_of(alloc, &[first, second], &[2], 1)?;
+    let (labels, end) = labels_of(alloc, &[first, second], &[2], 1)?;
     assert_eq!(rt; labels.as_slice(), [Label::Out(0x300, 9)].as_slice());
-    assert_eq!(rt; stop, None);
+    assert_eq!(rt; end, End::Halted);
     let program = program_of(alloc, &[first, second])?;
     let code = lower(alloc, &program)?;
     assert_eq!(rt; code.sections, 2);
