@@ -11,6 +11,16 @@ pub mod Tests
 pub mod Stmts
 pub mod Placed
 pub mod Ordered
+pub mod Heights
+pub mod Fits
+pub mod Calm
+pub mod Fitting
+pub mod Routines
+pub mod Sound
+pub mod Visits
+pub mod Reached
+pub mod Texts
+pub mod Allowed
 pub mod Whole
 pub mod Rows
 pub mod Trees

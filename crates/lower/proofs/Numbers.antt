@@ -1,7 +1,6 @@
 -- The numbers of INTERRUPT fit a byte.
 use Rattle.std.proofs.Common.{◌≡◌, ℕ, zero, suc, ◌<◌, Bool, true, false, List, [], ◌∷◌, ◌++◌, length, map, slice_index_or, refl, ap, true≢false, arith}
 use Rattle.word86.specs.declared.number.Number.{Number}
-use Rattle.word86.specs.declared.number.Number.TheVariants.{E401}
 use Rattle.plm_syntax.specs.declared.tree.Position.{Position}
 use Rattle.plm_decl.specs.declared.found.Found.{Found}
 use Rattle.plm_decl.specs.declared.names.Variable.{Variable}
@@ -9,7 +8,7 @@ use Rattle.plm_decl.specs.declared.names.Names.{Names}
 use Rattle.plm_decl.specs.declared.names.Procedure as declared
 use Rattle.plm_decl.specs.Names.{ProcedureR, procedure_of, declared_location_of, main_of}
 use Rattle.plm_type.specs.Faults.{fault_unless}
-use Rattle.plm_type.specs.Statements.{of_locations, of_parameters, of_procedure, of_procedures, of_main, of_stray, of_body, interrupt_fits}
+use Rattle.plm_type.specs.Statements.{of_locations, of_procedure, of_procedures, of_main, interrupt_fits}
 use Rattle.plm_type.specs.Programs.{faults, declared_procedures}
 
 none_of_both : (fs gs : List Found) → fs ++ gs ≡ [] → (fs ≡ []) × (gs ≡ [])
@@ -22,11 +21,7 @@ holds_without_fault m false n p e = absurd (true≢false (ap (λ (l : List Found
 
 module _ (variables : List Variable) (all : List ProcedureR) where
   number_fits : (p : ProcedureR) → of_procedure variables all p ≡ [] → interrupt_fits p.interrupt ≡ true
-  number_fits p e =
-      let checked = fault_unless p.module (interrupt_fits p.interrupt) E401 p.place in
-      let behind = of_stray p.module p.stray ++ of_body variables all p in
-      let later = none_of_both (of_parameters variables p.module p.parameters) (checked ++ behind) e in
-      holds_without_fault p.module (interrupt_fits p.interrupt) E401 p.place (none_of_both checked behind later.1).0
+  number_fits p e = holds_without_fault _ _ _ _ (none_of_both _ _ (none_of_both _ _ e).1).0
 
   each_fits : (ps : List declared.Procedure) → of_procedures variables all (map procedure_of ps) ≡ [] → (k : ℕ) (d : declared.Procedure) → k < length ps → interrupt_fits (slice_index_or ps k d).interrupt ≡ true
   each_fits [] e k d h = absurd (omega (arith, h))

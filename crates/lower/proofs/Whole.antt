@@ -12,13 +12,12 @@ use Rattle.icode.specs.declared.code.Routine.TheVariants as routine
 use Rattle.icode.specs.declared.code.Word.TheVariants.{Return}
 use Rattle.icode.specs.Machine.{At}
 use Rattle.icode.specs.Code.{is_number, procedure_or_none}
-use Rattle.lower.specs.Code.{OfMain, Called, Serving, kind_of, are_silent, statements_code, routine_code, has_vector, serves, number_for, body_for, procedure_code, code}
+use Rattle.lower.specs.Code.{OfMain, Called, Serving, kind_of, are_silent, statements_code, routine_code, serves, number_for, body_for, procedure_code, code}
 use Rattle.lower.specs.Well.{AreStatements}
 use Rattle.lower.specs.Tracking.{IsProgram, CodeTracks, LoweringTracks}
 use Rattle.std.specs.Prelude.{get_or}
 use Rattle.std.proofs.lemmas.Option.{slice_get-get_or}
 use Rattle.std.proofs.lemmas.List.Quantifiers.{position-Some}
-use Rattle.lower.proofs.Bools.{true_false}
 use Rattle.lower.proofs.Setting.{Setting}
 use Rattle.lower.proofs.Sim.{N, T, S, eased, then_, down, both, halts_more, ends}
 use Rattle.lower.proofs.Holes.{in_running, in_main, in_handler, acts, HasAt, has_front, has_back}
@@ -27,6 +26,7 @@ use Rattle.lower.proofs.Leads.{leads}
 use Rattle.lower.proofs.Stmts.{arm_runs, statements_sim}
 use Rattle.lower.proofs.Placed.{finds_in, low_in}
 use Rattle.lower.proofs.Ordered.{statements_all, called_before}
+use Rattle.lower.proofs.Reached.{number_serves}
 
 behind_end : (ss : Statements) → behind ss End ≡ ss
 behind_end End = refl
@@ -140,11 +140,6 @@ among [] q procedure h = absurd (subst (λ o. NoProcedure o) h tt)
 among (p ∷ ps) zero procedure h = subst (λ (y : Procedure). leads y.body ≤ leads p.body + all_leads ps) (some_same p procedure h) (omega arith)
 among (p ∷ ps) (suc q) procedure h = omega (arith, among ps q procedure h)
 
--- a vector's number is that of a procedure that serves it
-numbered : (n : Option ℕ) (v : ℕ) → is_number n v ≡ true → has_vector (Some n) ≡ true
-numbered (Some m) v h = refl
-numbered None v h = absurd (true_false (sym h))
-
 pub program_tracks : (sizes : List ℕ) (procedures : List Procedure) (vectors : List (Option ℕ)) (order : List ℕ) (main : Statements) → IsProgram sizes procedures vectors main → IsOrder order (graph_of procedures) → LoweringTracks sizes procedures vectors main
 program_tracks sizes procedures vectors order main good sorted = (leads main + all_leads procedures + 5 + 5, λ offsets placed n a. whole offsets placed n a)
   where
@@ -182,5 +177,4 @@ program_tracks sizes procedures vectors order main good sorted = (leads main + a
             let first = position-Some (λ m. is_number m v) vectors q None e in
             let empty : Procedure = record { parameters = []; body = End } in
             let got = slice_get-get_or procedures q empty (omega (arith, first.0, good.each)) in
-            let serving : serves vectors q ≡ true = ap has_vector (slice_get-get_or vectors q None first.0) ∙ numbered (get_or vectors q None) v first.1 in
-            subst (λ o. T x n 2 (Handler (body_of o)) (At (routine.Procedure q) 0 a [])) (sym got) (some q (get_or procedures q empty) got serving)
+            subst (λ o. T x n 2 (Handler (body_of o)) (At (routine.Procedure q) 0 a [])) (sym got) (some q (get_or procedures q empty) got (number_serves vectors v q e))

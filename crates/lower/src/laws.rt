@@ -1,13 +1,9 @@
 //! What the code of a program does.
 
-ghost use Rattle.lower.specs.Tracking.{LoweringLaw};
-ghost use Rattle.lower.specs.Lowered.{EntryLaw};
 ghost use Rattle.lower.specs.Checked.{CheckedLaw, SoundLaw};
-
-/// An interrupt enters the first procedure with its vector, in what the program means and in its code.
-pub fn interrupts_enter_their_procedures()
-    ensures { EntryLaw }
-{}
+ghost use Rattle.lower.specs.Lowered.{EntryLaw};
+ghost use Rattle.lower.specs.Runs.{RunsLaw};
+ghost use Rattle.lower.specs.Tracking.{LoweringLaw};
 
 /// The code of a well-formed program does what the program means, up to its first Bad step. Wherever the objects lie and whatever
 /// happens to what is shared between two steps, main's code tracks main, and what serves a vector tracks that vector's procedure. At
@@ -16,12 +12,27 @@ pub fn lowering_tracks()
     ensures { LoweringLaw }
 {}
 
-/// The trees of a checked program are well formed.
+/// The trees of a checked program are well formed: what is read or written at a fixed place lies in its object or on the screen,
+/// a variable's bytes do, a base is a word that does, and what is called has as many parameters as there are arguments and serves
+/// no interrupt.
 pub fn checked_trees_are_well_formed()
     ensures { CheckedLaw }
 {}
 
-/// The code of well-formed trees is sound: heights can be told, jumps lead to instructions, calls are those of the trees.
+/// The code of a well-formed program can be counted and selected: the number of pushed values is the same along every run, and none
+/// is pushed behind a jump or where one leads; jumps lead to instructions, cases stand behind their `Switch`, and constants are words.
+/// A procedure calls only those that its tree calls, and none that serves an interrupt is called.
 pub fn checked_code_is_sound()
     ensures { SoundLaw }
+{}
+
+/// Of a checked program whose trees are well formed, whatever is answered and wherever the objects lie: main's code is never used up.
+/// What an interrupt enters comes to no ENABLE or HALT, in what it calls either, and is used up only in the procedure that was entered.
+pub fn checked_runs_are_allowed()
+    ensures { RunsLaw }
+{}
+
+/// An interrupt enters the first procedure with its vector, in what the program means and in its code.
+pub fn interrupts_enter_their_procedures()
+    ensures { EntryLaw }
 {}

@@ -12,5 +12,8 @@ mod put;
 mod silence;
 mod statements;
 
-pub use laws::{interrupts_enter_their_procedures, lowering_tracks};
+pub use laws::{
+    checked_code_is_sound, checked_runs_are_allowed, checked_trees_are_well_formed,
+    interrupts_enter_their_procedures, lowering_tracks,
+};
 pub use lowering::lower;

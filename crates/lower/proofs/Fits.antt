@@ -1,0 +1,277 @@
+-- Instructions as they have to be where they stand, one after another.
+use Rattle.std.proofs.Common.{◌≡◌, ℕ, zero, suc, ◌+◌, ◌-◌, ◌<◌, ◌≤◌, Bool, true, false, List, [], ◌∷◌, ◌++◌, length, Some, refl, sym, ap, ◌∙◌, subst, arith, slice_get, length-append}
+use Rattle.std.proofs.lemmas.List.{take-append-le}
+use Rattle.std.proofs.Math.Seq.{take-append-add, take-length}
+use Rattle.std.specs.Prelude.{take, drop}
+use Rattle.icode.specs.declared.instruction.Instruction.{Instruction}
+use Rattle.icode.specs.declared.instruction.Instruction.TheVariants as op
+use Rattle.icode.specs.declared.instruction.Test.{Test}
+use Rattle.icode.specs.Levels.{after, behind, popped}
+use Rattle.icode.specs.Made.{asked_constant, is_case}
+use Rattle.plm_type.specs.Rest.{Scalar}
+use Rattle.lower.specs.Code.{Operand, Number, Name, Computed, next_round, add_pushed, over, failing, choosing, all_of, entries, switching, exit_before, place_of}
+use Rattle.lower.proofs.Heights.{Keeps, behind_append}
+
+some_same : (x y : Instruction) → Some x ≡ Some y → x ≡ y
+some_same x y e = cc
+
+-- a constant operand is a word
+abbrev pub IsWord : Operand → Type 0
+IsWord (Number k) = k < 65536
+IsWord _ = Unit {0}
+
+-- ---- pieces that begin and end where no value is pushed
+
+pub level_then : (xs ys : List Instruction) → behind 0 xs ≡ 0 → behind 0 ys ≡ 0 → behind 0 (xs ++ ys) ≡ 0
+level_then xs ys f g = behind_append 0 xs ys ∙ (ap (λ h. behind h ys) f ∙ g)
+
+tested_down : (t : Test) (n : ℕ) (h : ℕ) → h ≡ popped t → after (op.AheadUnless t n) h ≡ 0
+tested_down t n h e = omega (arith, e)
+
+pub tested_level : (xs ys : List Instruction) (t : Test) (n : ℕ) → behind 0 xs ≡ popped t → behind 0 ys ≡ 0 → behind 0 (xs ++ (op.AheadUnless t n ∷ ys)) ≡ 0
+tested_level xs ys t n f g = behind_append 0 xs (op.AheadUnless t n ∷ ys) ∙ (ap (λ h. behind h ys) (tested_down t n (behind 0 xs) f) ∙ g)
+
+over_level : (silent : Bool) (otherwise : List Instruction) (exit : ℕ) → behind 0 (over silent otherwise exit) ≡ 0
+over_level true otherwise exit = refl
+over_level false otherwise exit = refl
+
+pub choosing_level : (condition arm otherwise : List Instruction) (t : Test) (silent : Bool) (exit : ℕ) → behind 0 condition ≡ popped t → behind 0 arm ≡ 0 → behind 0 otherwise ≡ 0 → behind 0 (choosing condition t arm silent otherwise exit) ≡ 0
+choosing_level condition arm otherwise t silent exit up a o =
+    tested_level condition (arm ++ (over silent otherwise exit ++ otherwise)) t (failing silent arm exit) up
+    (level_then arm (over silent otherwise exit ++ otherwise) a (level_then (over silent otherwise exit) otherwise (over_level silent otherwise exit) o))
+
+entries_level : (before : ℕ) (cases : List (List Instruction)) → behind 0 (entries before cases) ≡ 0
+entries_level before [] = refl
+entries_level before (c ∷ cs) = entries_level (before + length c) cs
+
+entries_length : (before : ℕ) (cases : List (List Instruction)) → length (entries before cases) ≡ length cases
+entries_length before [] = refl
+entries_length before (c ∷ cs) = ap suc (entries_length (before + length c) cs)
+
+entries_cases : (before : ℕ) (cases : List (List Instruction)) (more : List Instruction) (j : ℕ) → j < length cases → is_case (slice_get (entries before cases ++ more) j) ≡ true
+entries_cases before [] more j lt = absurd (omega (arith, lt))
+entries_cases before (c ∷ cs) more zero lt = refl
+entries_cases before (c ∷ cs) more (suc j) lt = entries_cases (before + length c) cs more j (omega (arith, lt))
+
+abbrev pub AreLevel : List (List Instruction) → Type 0
+AreLevel [] = Unit {0}
+AreLevel (c ∷ cs) = (behind 0 c ≡ 0) × AreLevel cs
+
+all_level : (cases : List (List Instruction)) → AreLevel cases → behind 0 (all_of cases) ≡ 0
+all_level [] f = refl
+all_level (c ∷ cs) f = level_then c (all_of cs) f.0 (all_level cs f.1)
+
+pub switching_level : (cases : List (List Instruction)) (exit : ℕ) → AreLevel cases → behind 0 (switching cases exit) ≡ 0
+switching_level cases exit f = level_then (entries 0 cases) (op.Ahead (length (all_of cases) + exit) ∷ all_of cases) (entries_level 0 cases) (all_level cases f)
+
+pub next_level : (x : Scalar) (step : Operand) (code : List Instruction) (before : ℕ) → Keeps code → behind 0 (next_round x step code before) ≡ 0
+next_level x (Number s) code before k = refl
+next_level x (Name read y) code before k = level_then code (add_pushed x (before + length code)) (k 0) refl
+next_level x Computed code before k = level_then code (add_pushed x (before + length code)) (k 0) refl
+
+-- which procedures may be called; whether ENABLE and HALT may stand; whether the end of an interrupt procedure may; where jumps may lead
+module _ (MayCall : ℕ → Type 0) (Enables Finishes : Type 0) (Spot : ℕ → Type 0) where
+  -- at an index, where so many values are pushed, before others
+  abbrev pub Fit : (p h : ℕ) → Instruction → List Instruction → Type 0
+  Fit p h (op.Constant k) more = k < 65536
+  Fit p h (op.BinaryConstant o width k) more = k < 65536
+  Fit p h (op.Drop n) more = n ≤ h
+  Fit p h (op.Ahead n) more = (h ≡ 0) × Spot (p + 1 + n)
+  Fit p h (op.AheadUnless t n) more = (after (op.AheadUnless t n) h ≡ 0) × Spot (p + 1 + n) × (asked_constant t < 65536)
+  Fit p h (op.Back n) more = (h ≡ 0) × Spot (p + 1 - n)
+  Fit p h (op.BackUnless t n) more = (after (op.BackUnless t n) h ≡ 0) × Spot (p + 1 - n) × (asked_constant t < 65536)
+  Fit p h (op.Switch n) more = (h ≡ 0) × Spot (p + 1 + n) × ((j : ℕ) → j < n → is_case (slice_get more j) ≡ true)
+  Fit p h (op.Case n) more = (h ≡ 0) × Spot (p + 1 + n)
+  Fit p h (op.Invoke q) more = MayCall q
+  Fit p h op.Enable more = Enables
+  Fit p h op.Halt more = Enables
+  Fit p h op.Finish more = Finishes
+  Fit p h _ more = Unit {0}
+
+  abbrev pub Fits : (p h : ℕ) → List Instruction → Type 0
+  Fits p h [] = Unit {0}
+  Fits p h (x ∷ xs) = Fit p h x xs × Fits (suc p) (after x h) xs
+
+  case_more : (xs ys : List Instruction) (j : ℕ) → is_case (slice_get xs j) ≡ true → is_case (slice_get (xs ++ ys) j) ≡ true
+  case_more [] ys j e = cc
+  case_more (x ∷ xs) ys zero e = e
+  case_more (x ∷ xs) ys (suc j) e = case_more xs ys j e
+
+  fit_more : (p h : ℕ) (x : Instruction) (xs ys : List Instruction) → Fit p h x xs → Fit p h x (xs ++ ys)
+  fit_more p h (op.Switch n) xs ys f = (f.0, f.1, λ j lt. case_more xs ys j (f.2 j lt))
+  fit_more p h _ xs ys f = f
+
+  pub fits_both : (p h : ℕ) (xs ys : List Instruction) → Fits p h xs → Fits (p + length xs) (behind h xs) ys → Fits p h (xs ++ ys)
+  fits_both p h [] ys f g = subst (λ q. Fits q h ys) (omega arith) g
+  fits_both p h (x ∷ xs) ys f g = (fit_more p h x xs ys f.0, fits_both (suc p) (after x h) xs ys f.1 (subst (λ q. Fits q (behind (after x h) xs) ys) (omega arith) g))
+
+  -- wherever it stands
+  abbrev pub Calm : ℕ → List Instruction → Type 0
+  Calm h xs = (p : ℕ) → Fits p h xs
+
+  pub calm_then : (h i : ℕ) (xs ys : List Instruction) → Calm h xs → behind h xs ≡ i → Calm i ys → Calm h (xs ++ ys)
+  calm_then h i xs ys f e g p = fits_both p h xs ys (f p) (subst (λ j. Fits (p + length xs) j ys) (sym e) (g (p + length xs)))
+
+  pub fits_then : (p h i : ℕ) (xs ys : List Instruction) → Fits p h xs → behind h xs ≡ i → Fits (p + length xs) i ys → Fits p h (xs ++ ys)
+  fits_then p h i xs ys f e g = fits_both p h xs ys f (subst (λ j. Fits (p + length xs) j ys) (sym e) g)
+
+  -- one of them
+  pub fit_at : (p h k : ℕ) (xs : List Instruction) (x : Instruction) → Fits p h xs → slice_get xs k ≡ Some x → Fit (p + k) (behind h (take k xs)) x (drop (suc k) xs)
+  fit_at p h k [] x f e = absurd cc
+  fit_at p h zero (y ∷ xs) x f e = subst (λ z. Fit (p + 0) h z xs) (some_same y x e) (subst (λ q. Fit q h y xs) (omega arith) f.0)
+  fit_at p h (suc k) (y ∷ xs) x f e = subst (λ q. Fit q (behind (after y h) (take k xs)) x (drop (suc k) xs)) (omega arith) (fit_at (suc p) (after y h) k xs x f.1 e)
+
+  -- ---- where jumps may lead in a piece of code at an index: wherever no value is pushed, its end among these places
+  abbrev pub Spots : ℕ → List Instruction → Type 0
+  Spots p xs = (k : ℕ) → k ≤ length xs → behind 0 (take k xs) ≡ 0 → Spot (p + k)
+
+  pub spots_front : (p : ℕ) (xs ys : List Instruction) → Spots p (xs ++ ys) → Spots p xs
+  spots_front p xs ys s k le e = s k (omega (arith, le, length-append xs ys)) (ap (behind 0) (take-append-le k xs ys le) ∙ e)
+
+  pub spots_back : (p : ℕ) (xs ys : List Instruction) → behind 0 xs ≡ 0 → Spots p (xs ++ ys) → Spots (p + length xs) ys
+  spots_back p xs ys keeps s k le e =
+      subst Spot (omega arith) (s (length xs + k) (omega (arith, le, length-append xs ys))
+      (ap (behind 0) (take-append-add xs ys k) ∙ (behind_append 0 xs (take k ys) ∙ (ap (λ h. behind h (take k ys)) keeps ∙ e))))
+
+  pub spots_next : (p : ℕ) (x : Instruction) (xs : List Instruction) → after x 0 ≡ 0 → Spots p (x ∷ xs) → Spots (suc p) xs
+  spots_next p x xs keeps s k le e = subst Spot (omega arith) (s (suc k) (omega (arith, le)) (ap (λ h. behind h (take k xs)) keeps ∙ e))
+
+  pub spots_first : (p : ℕ) (xs : List Instruction) → Spots p xs → Spot p
+  spots_first p xs s = subst Spot (omega arith) (s 0 (omega arith) refl)
+
+  pub spots_last : (p : ℕ) (xs : List Instruction) → behind 0 xs ≡ 0 → Spots p xs → Spot (p + length xs)
+  spots_last p xs keeps s = s (length xs) (omega arith) (ap (behind 0) (take-length xs) ∙ keeps)
+
+  -- behind an instruction after which no value is pushed
+  spots_over : (p : ℕ) (xs : List Instruction) (x : Instruction) (ys : List Instruction) → after x (behind 0 xs) ≡ 0 → Spots p (xs ++ (x ∷ ys)) → Spots (suc (p + length xs)) ys
+  spots_over p xs x ys keeps s k le e =
+      subst Spot (omega arith) (s (length xs + suc k) (omega (arith, le, length-append xs (x ∷ ys)))
+      (ap (behind 0) (take-append-add xs (x ∷ ys) (suc k)) ∙ (behind_append 0 xs (x ∷ take k ys) ∙ (ap (λ h. behind h (take k ys)) keeps ∙ e))))
+
+  -- ---- statements
+
+  -- it is as it has to be wherever a jump may lead to each of its places and to its exit
+  abbrev pub Fitting : ℕ → List Instruction → Type 0
+  Fitting exit xs = (p : ℕ) → Spots p xs → Spot (p + length xs + exit) → Fits p 0 xs
+
+  tested_fits : (xs ys : List Instruction) (t : Test) (n p : ℕ) → Calm 0 xs → behind 0 xs ≡ popped t → asked_constant t < 65536 → Spot (p + length xs + 1 + n) → Fits (suc (p + length xs)) 0 ys → Fits p 0 (xs ++ (op.AheadUnless t n ∷ ys))
+  tested_fits xs ys t n p f up word spot g =
+      let down = tested_down t n (popped t) refl in
+      fits_then p 0 (popped t) xs (op.AheadUnless t n ∷ ys) (f p) up ((down, spot, word), subst (λ h. Fits (suc (p + length xs)) h ys) (sym down) g)
+
+  pub choosing_fits : (condition arm otherwise : List Instruction) (t : Test) (silent : Bool) (exit : ℕ) → (silent ≡ true → otherwise ≡ []) → Calm 0 condition → behind 0 condition ≡ popped t → asked_constant t < 65536 → behind 0 arm ≡ 0
+      → Fitting (length (over silent otherwise exit) + length otherwise + exit) arm → Fitting exit otherwise → Fitting exit (choosing condition t arm silent otherwise exit)
+  choosing_fits condition arm otherwise t true exit none f up word level fits other p s end =
+      let lc = length-append condition (op.AheadUnless t (length arm + exit) ∷ (arm ++ otherwise)) in
+      let la = length-append arm otherwise in
+      let lo = ap length (none refl) in
+      let q = suc (p + length condition) in
+      let rest = spots_over p condition (op.AheadUnless t (length arm + exit)) (arm ++ otherwise) (tested_down t (length arm + exit) (behind 0 condition) up) s in
+      tested_fits condition (arm ++ otherwise) t (length arm + exit) p f up word (subst Spot (omega (arith, lc, la, lo)) end)
+      (fits_then q 0 0 arm otherwise (fits q (spots_front q arm otherwise rest) (subst Spot (omega (arith, lc, la, lo)) end)) level
+      (other (q + length arm) (spots_back q arm otherwise level rest) (subst Spot (omega (arith, lc, la, lo)) end)))
+  choosing_fits condition arm otherwise t false exit none f up word level fits other p s end =
+      let jump = op.Ahead (length otherwise + exit) in
+      let lc = length-append condition (op.AheadUnless t (length arm + 1) ∷ (arm ++ (jump ∷ otherwise))) in
+      let la = length-append arm (jump ∷ otherwise) in
+      let q = suc (p + length condition) in
+      let rest = spots_over p condition (op.AheadUnless t (length arm + 1)) (arm ++ (jump ∷ otherwise)) (tested_down t (length arm + 1) (behind 0 condition) up) s in
+      let last = spots_over q arm jump otherwise level rest in
+      tested_fits condition (arm ++ (jump ∷ otherwise)) t (length arm + 1) p f up word (subst Spot (omega arith) (spots_first (suc (q + length arm)) otherwise last))
+      (fits_then q 0 0 arm (jump ∷ otherwise) (fits q (spots_front q arm (jump ∷ otherwise) rest) (subst Spot (omega (arith, lc, la)) end)) level
+      ((refl, subst Spot (omega (arith, lc, la)) end), other (suc (q + length arm)) last (subst Spot (omega (arith, lc, la)) end)))
+
+  pub one_then_more : (silent : Bool) (xs ys : List Instruction) (exit : ℕ) → (silent ≡ true → ys ≡ []) → behind 0 xs ≡ 0 → Fitting (exit_before silent exit) xs → Fitting exit ys → Fitting exit (xs ++ ys)
+  one_then_more true xs ys exit none level f g p s end =
+      let l = length-append xs ys in
+      let lo = ap length (none refl) in
+      fits_then p 0 0 xs ys (f p (spots_front p xs ys s) (subst Spot (omega (arith, l, lo)) end)) level (g (p + length xs) (spots_back p xs ys level s) (subst Spot (omega (arith, l)) end))
+  one_then_more false xs ys exit none level f g p s end =
+      let l = length-append xs ys in
+      let rest = spots_back p xs ys level s in
+      fits_then p 0 0 xs ys (f p (spots_front p xs ys s) (subst Spot (omega arith) (spots_first (p + length xs) ys rest))) level (g (p + length xs) rest (subst Spot (omega (arith, l)) end))
+
+  pub repeated_fits : (condition body : List Instruction) (t : Test) (exit : ℕ) → Calm 0 condition → behind 0 condition ≡ popped t → asked_constant t < 65536 → behind 0 body ≡ 0 → Fitting 0 body
+      → Fitting exit (condition ++ (op.AheadUnless t (length body + 1 + exit) ∷ (body ++ op.Back (length condition + length body + 2) ∷ [])))
+  repeated_fits condition body t exit f up word level fits p s end =
+      let n = length body + 1 + exit in
+      let back = op.Back (length condition + length body + 2) ∷ [] in
+      let lc = length-append condition (op.AheadUnless t n ∷ (body ++ back)) in
+      let lb = length-append body back in
+      let q = suc (p + length condition) in
+      let rest = spots_over p condition (op.AheadUnless t n) (body ++ back) (tested_down t n (behind 0 condition) up) s in
+      tested_fits condition (body ++ back) t n p f up word (subst Spot (omega (arith, lc, lb)) end)
+      (fits_then q 0 0 body back (fits q (spots_front q body back rest) (subst Spot (omega arith) (spots_first (q + length body) back (spots_back q body back level rest)))) level
+      ((refl, subst Spot (omega arith) (spots_first p (condition ++ (op.AheadUnless t n ∷ (body ++ back))) s)), tt))
+
+  -- ---- cases
+
+  entries_fit : (before : ℕ) (cases : List (List Instruction)) (p : ℕ) → AreLevel cases → Spots (p + length cases + 1 + before) (all_of cases) → Fits p 0 (entries before cases)
+  entries_fit before [] p level s = tt
+  entries_fit before (c ∷ cs) p level s = (
+    (refl, subst Spot (omega arith) (spots_first (p + suc (length cs) + 1 + before) (c ++ all_of cs) s)),
+    entries_fit (before + length c) cs (suc p) level.1 (subst (λ q. Spots q (all_of cs)) (omega arith) (spots_back (p + suc (length cs) + 1 + before) c (all_of cs) level.0 s)),
+  )
+
+  pub switching_fits : (cases : List (List Instruction)) (exit : ℕ) → AreLevel cases → Fitting exit (all_of cases) → Fitting exit (switching cases exit)
+  switching_fits cases exit level fits p s end =
+      let table = entries 0 cases in
+      let jump = op.Ahead (length (all_of cases) + exit) in
+      let l = length-append table (jump ∷ all_of cases) in
+      let n = entries_length 0 cases in
+      let rest = spots_next p (op.Switch (length cases)) (table ++ (jump ∷ all_of cases)) refl s in
+      let last = spots_over (suc p) table jump (all_of cases) (entries_level 0 cases) rest in
+      let q = suc (suc p + length table) in (
+        (refl, subst Spot (omega (arith, n)) (spots_first (suc p + length table) (jump ∷ all_of cases) (spots_back (suc p) table (jump ∷ all_of cases) (entries_level 0 cases) rest)), entries_cases 0 cases (jump ∷ all_of cases)),
+        fits_then (suc p) 0 0 table (jump ∷ all_of cases) (entries_fit 0 cases (suc p) level (subst (λ q. Spots q (all_of cases)) (omega (arith, n)) last)) (entries_level 0 cases)
+            ((refl, subst Spot (omega (arith, l)) end), fits q last (subst Spot (omega (arith, l)) end)),
+      )
+
+  pub case_fits : (code others : List Instruction) (exit : ℕ) → behind 0 code ≡ 0 → Fitting (1 + (length others + exit)) code → Fitting exit others → Fitting exit ((code ++ op.Ahead (length others + exit) ∷ []) ++ others)
+  case_fits code others exit level f g p s end =
+      let jump = op.Ahead (length others + exit) ∷ [] in
+      let l = length-append (code ++ jump) others in
+      let m = length-append code jump in
+      let here = spots_front p (code ++ jump) others s in
+      let both = level_then code jump level refl in
+      fits_then p 0 0 (code ++ jump) others
+      (fits_then p 0 0 code jump (f p (spots_front p code jump here) (subst Spot (omega (arith, l, m)) end)) level ((refl, subst Spot (omega (arith, l, m)) end), tt))
+      both (g (p + length (code ++ jump)) (spots_back p (code ++ jump) others both s) (subst Spot (omega (arith, l)) end))
+
+  -- ---- loops with an index
+
+  added_fits : (x : Scalar) (before q : ℕ) → Spot (q - before) → Fits q 0 (add_pushed x before)
+  added_fits x before q s = (tt, (tt, (tt, (tt, (tt, ((omega arith, subst Spot (omega arith) s, omega arith), tt))))))
+
+  next_fits : (x : Scalar) (step : Operand) (code : List Instruction) (before q : ℕ) → IsWord step → Keeps code → Calm 0 code → Spot (q - before) → Fits q 0 (next_round x step code before)
+  next_fits x (Number n) code before q lt k f s = (tt, (lt, (tt, ((omega arith, subst Spot (omega arith) s, lt), tt))))
+  next_fits x (Name read y) code before q lt k f s = fits_then q 0 0 code (add_pushed x (before + length code)) (f q) (k 0) (added_fits x (before + length code) (q + length code) (subst Spot (omega arith) s))
+  next_fits x Computed code before q lt k f s = fits_then q 0 0 code (add_pushed x (before + length code)) (f q) (k 0) (added_fits x (before + length code) (q + length code) (subst Spot (omega arith) s))
+
+  pub counted_fits : (first compared body step : List Instruction) (x : Scalar) (by : Operand) (t : Test) (exit : ℕ) → Calm 0 first → behind 0 first ≡ 0 → Calm 0 compared → behind 0 compared ≡ popped t → asked_constant t < 65536
+      → behind 0 body ≡ 0 → Fitting 0 body → IsWord by → Keeps step → Calm 0 step
+      → Fitting exit (first
+      ++ (op.Store x.width (place_of x.place) ∷ op.Load x.width (place_of x.place)
+      ∷ (compared ++ (op.AheadUnless t (length body + length (next_round x by step (length compared + length body + 2)) + exit) ∷ (body ++ next_round x by step (length compared + length body + 2))))))
+  counted_fits first compared body step x by t exit f fl c up word level fits lt k g p s end =
+      let again = next_round x by step (length compared + length body + 2) in
+      let n = length body + length again + exit in
+      let test = op.AheadUnless t n ∷ (body ++ again) in
+      let q = suc (suc (p + length first)) in
+      let stored = op.Store x.width (place_of x.place) ∷ op.Load x.width (place_of x.place) ∷ (compared ++ test) in
+      let lf = length-append first stored in
+      let lc = length-append compared test in
+      let lb = length-append body again in
+      let round = spots_over p first (op.Store x.width (place_of x.place)) (op.Load x.width (place_of x.place) ∷ (compared ++ test)) fl s in
+      let begin = spots_next (suc (p + length first)) (op.Load x.width (place_of x.place)) (compared ++ test) refl round in
+      let rest = spots_over q compared (op.AheadUnless t n) (body ++ again) (tested_down t n (behind 0 compared) up) begin in
+      let r = suc (q + length compared) in
+      fits_then p 0 0 first stored (f p) fl (
+        tt,
+        (
+          tt,
+          tested_fits compared (body ++ again) t n q c up word (subst Spot (omega (arith, lf, lc, lb)) end)
+              (fits_then r 0 0 body again (fits r (spots_front r body again rest) (subst Spot (omega arith) (spots_first (r + length body) again (spots_back r body again level rest)))) level
+              (next_fits x by step (length compared + length body + 2) (r + length body) lt k g (subst Spot (omega arith) (spots_first (suc (p + length first)) (op.Load x.width (place_of x.place) ∷ (compared ++ test)) round)))),
+        ),
+      )

@@ -1,0 +1,367 @@
+-- The tree of a text without fault calls only what the text calls, and has ENABLE and HALT only where the text has them.
+use Rattle.std.proofs.Common.{◌≡◌, ℕ, ⊎_elim, Bool, true, false, List, [], ◌∷◌, ◌++◌, Option, Some, None, refl, sym, ap, subst, arith, slice_get}
+use Rattle.std.specs.Prelude.{cond, Contains}
+use Rattle.std.proofs.lemmas.List.Elements.{Contains-append_left, Contains-append_right, Contains-append_cases}
+use Rattle.word86.specs.declared.width.Width.{Width}
+use Rattle.word86.specs.declared.number.Number.{Number}
+use Rattle.word86.specs.declared.operation.UnaryOperation.{UnaryOperation}
+use Rattle.word86.specs.declared.operation.BinaryOperation.{BinaryOperation}
+use Rattle.word86.specs.Access.{Where}
+use Rattle.plm_syntax.specs.declared.tree.Position.{Position}
+use Rattle.plm_decl.specs.declared.builtin.Builtin.{Builtin}
+use Rattle.plm_decl.specs.declared.builtin.Builtin.TheVariants as builtin
+use Rattle.plm_decl.specs.declared.layout.ScalarType.{ScalarType}
+use Rattle.plm_decl.specs.declared.layout.ScalarType.TheVariants.{Word}
+use Rattle.plm_decl.specs.declared.names.Variable.{Variable}
+use Rattle.plm_decl.specs.declared.resolved.Binding.TheVariants as binding
+use Rattle.plm_decl.specs.declared.found.Found.{Found}
+use Rattle.plm_decl.specs.Names.{ProcedureR}
+use Rattle.plm_decl.specs.Resolved.{ExpressionR, NumberR, TextR, ReferenceR, LocationR, ParenthesisedR, EmbeddedR, UnaryR, BinaryR, ReferenceR', Use, ExpressionsR, no_expressions, expressions, SelectorR, no_member, member, member_at, LocationR', LocationOf, ConstantsOf, ReferencesR, no_references, references, StatementR, EmptyR, AssignR, CallR, ReturnR, ReturnValueR, EnableR, DisableR, HaltR, IfR, IfElseR, DoR, WhileR, CaseR, IterateR, StatementsR, no_statements, statements}
+use Rattle.plm_type.specs.declared.effects.Effect.{Effect}
+use Rattle.plm_type.specs.declared.effects.Effect.TheVariants.{Calls, Enables}
+use Rattle.plm_type.specs.declared.statements.Around.{Around}
+use Rattle.plm_type.specs.Rest.{Expression, Plain, Expressions, NoMore, More, Reference, Subscripts, NoSubscripts, Target, ToPlain, Targets}
+use Rattle.plm_type.specs.Rest as rest
+use Rattle.plm_type.specs.Typing.{is_measure, is_target}
+use Rattle.plm_type.specs.Types.{width_of}
+use Rattle.plm_type.specs.Shapes.{fixed_place, designated, read_of, store_to}
+use Rattle.plm_type.specs.Trees.{entry_of, strided, use_read, use_stored, refer, builtin_value, measured_value, argument_value, reference_value, operated, shifted, read_port, to_port, tree_of, trees_of, selector_trees, value_of, location_of, target_of}
+use Rattle.plm_type.specs.Statements.{targets, assignment, target_trees, called, step_for, statement_for, statements_for}
+use Rattle.plm_type.specs.Statements as typed
+use Rattle.plm_type.specs.Faults.{fault_unless, faults_of, faults_in, selector_faults, value_faults, location_faults, target_faults}
+use Rattle.plm_type.specs.Calls.{calls_in, argument_calls, reference_calls, subscript_calls, target_calls, targets_calls, statement_calls, statements_calls}
+use Rattle.plm_type.specs.Effects.{of_expression, of_list, of_selector, of_parts, of_value, of_location, of_targets, of_step, of_statement, of_statements}
+use Rattle.plm_type.specs.Interrupts as interrupts
+use Rattle.lower.proofs.Fitting.{Lets, Let}
+
+-- ---- lists without a fault
+
+pub none_of_both : (fs gs : List Found) → fs ++ gs ≡ [] → (fs ≡ []) × (gs ≡ [])
+none_of_both [] gs e = (refl, e)
+none_of_both (f ∷ fs) gs e = cc
+
+unless : (b : Bool) (m : ℕ) (n : Number) (p : Position) → fault_unless m b n p ≡ [] → b ≡ true
+unless true m n p e = refl
+unless false m n p e = cc
+
+target_measures : (b : Builtin) → is_target b ≡ true → is_measure b ≡ false
+target_measures builtin.Output e = refl
+target_measures builtin.OutputWord e = refl
+target_measures builtin.Length e = cc
+target_measures builtin.Last e = cc
+target_measures builtin.Size e = cc
+target_measures _ e = refl
+
+-- ---- what calls are among
+
+module _ (ps : List ProcedureR) where
+  abbrev pub Within : List ℕ → List Effect → Type 0
+  Within xs es = (q : ℕ) → Contains xs q → Contains (interrupts.called ps es) q
+
+  called_append : (es fs : List Effect) → interrupts.called ps (es ++ fs) ≡ interrupts.called ps es ++ interrupts.called ps fs
+  called_append [] fs = refl
+  called_append (Calls q ∷ es) fs = ap (λ (l : List ℕ). q ∷ entry_of (slice_get ps q) ∷ l) (called_append es fs)
+  called_append (Enables ∷ es) fs = called_append es fs
+
+  none : (es : List Effect) → Within [] es
+  none es q c = absurd (omega (arith, c.1))
+
+  left : (xs : List ℕ) (es fs : List Effect) → Within xs es → Within xs (es ++ fs)
+  left xs es fs f q c = subst (λ l. Contains l q) (sym (called_append es fs)) (Contains-append_left (interrupts.called ps es) (interrupts.called ps fs) q (f q c))
+
+  right : (xs : List ℕ) (es fs : List Effect) → Within xs fs → Within xs (es ++ fs)
+  right xs es fs f q c = subst (λ l. Contains l q) (sym (called_append es fs)) (Contains-append_right (interrupts.called ps es) (interrupts.called ps fs) q (f q c))
+
+  all : (xs ys : List ℕ) (es : List Effect) → Within xs es → Within ys es → Within (xs ++ ys) es
+  all xs ys es f g q c = ⊎_elim (f q) (g q) (Contains-append_cases xs ys q c)
+
+  both : (xs ys : List ℕ) (es fs : List Effect) → Within xs es → Within ys fs → Within (xs ++ ys) (es ++ fs)
+  both xs ys es fs f g = all xs ys (es ++ fs) (left xs es fs f) (right ys es fs g)
+
+  -- ---- expressions
+
+  strided_within : (stride : ℕ) (es : Expressions) (more : Subscripts) (fs : List Effect) → Within (argument_calls es) fs → Within (subscript_calls more) fs → Within (subscript_calls (strided stride es more)) fs
+  strided_within stride NoMore more fs f g = g
+  strided_within stride (More e es) more fs f g =
+      all (calls_in e) (subscript_calls (strided stride es more)) fs (λ q c. f q (Contains-append_left (calls_in e) (argument_calls es) q c)) (strided_within stride es more fs (λ q c. f q (Contains-append_right (calls_in e) (argument_calls es) q c)) g)
+
+  read_within : (t : ScalarType) (r : Reference) (o : Option Where) (fs : List Effect) → Within (reference_calls r) fs → Within (calls_in (elim o [ Some w ↦ Plain (width_of (Some t)) w | None ↦ rest.Variable (width_of (Some t)) r ])) fs
+  read_within t r (Some w) fs f = none fs
+  read_within t r None fs f = f
+
+  store_within : (t : ScalarType) (r : Reference) (o : Option Where) (fs : List Effect) → Within (reference_calls r) fs → Within (target_calls (elim o [ Some w ↦ ToPlain (width_of (Some t)) w | None ↦ rest.ToVariable (width_of (Some t)) r ])) fs
+  store_within t r (Some w) fs f = none fs
+  store_within t r None fs f = f
+
+  use_read_within : (v : Option Variable) (s : SelectorR) (r : Reference) (fs : List Effect) → Within (reference_calls r) fs → Within (calls_in (use_read v s r)) fs
+  use_read_within None s r fs f = none fs
+  use_read_within (Some v) s r fs f = by (designated v s)
+    where
+      by : (d : Option ScalarType) → Within (calls_in (elim d [ Some t ↦ read_of t r | None ↦ rest.Constant 0 ])) fs
+      by (Some t) = read_within t r (fixed_place r) fs f
+      by None = none fs
+
+  use_stored_within : (v : Option Variable) (s : SelectorR) (r : Reference) (fs : List Effect) → Within (reference_calls r) fs → Within (target_calls (use_stored v s r)) fs
+  use_stored_within None s r fs f = store_within Word r (fixed_place r) fs f
+  use_stored_within (Some v) s r fs f = by (designated v s)
+    where
+      by : (d : Option ScalarType) → Within (target_calls (elim d [ Some t ↦ store_to t r | None ↦ store_to Word r ])) fs
+      by (Some t) = store_within t r (fixed_place r) fs f
+      by None = store_within Word r (fixed_place r) fs f
+
+  operated_within : (es : Expressions) (fs : List Effect) → Within (argument_calls es) fs → (o : UnaryOperation) (w : Width) → Within (calls_in (operated o w es)) fs
+  operated_within NoMore fs f o w = none fs
+  operated_within (More e NoMore) fs f o w = λ q c. f q (Contains-append_left (calls_in e) [] q c)
+  operated_within (More e (More d es)) fs f o w = none fs
+
+  port_within : (es : Expressions) (fs : List Effect) → Within (argument_calls es) fs → (w : Width) → Within (calls_in (read_port w es)) fs
+  port_within NoMore fs f w = none fs
+  port_within (More e NoMore) fs f w = λ q c. f q (Contains-append_left (calls_in e) [] q c)
+  port_within (More e (More d es)) fs f w = none fs
+
+  to_port_within : (es : Expressions) (fs : List Effect) → Within (argument_calls es) fs → (b : Builtin) → Within (target_calls (to_port b es)) fs
+  to_port_within NoMore fs f b = none fs
+  to_port_within (More e NoMore) fs f b = λ q c. f q (Contains-append_left (calls_in e) [] q c)
+  to_port_within (More e (More d es)) fs f b = none fs
+
+  module _ (variables : List Variable) (sizes : List ℕ) (m : ℕ) where
+    refer_within : (line : ℕ) (v : Option Variable) (s : SelectorR) (es gs : Expressions) (fs : List Effect) → Within (argument_calls es) fs → Within (argument_calls gs) fs → Within (reference_calls (refer variables m line v s es gs)) fs
+    refer_within line None s es gs fs f g = none fs
+    refer_within line (Some v) s es gs fs f g = strided_within v.stride es (strided _ gs NoSubscripts) fs f (strided_within _ gs NoSubscripts fs g (none fs))
+
+    shifted_within : (line : ℕ) (es : Expressions) (fs : List Effect) → Within (argument_calls es) fs → (o : BinaryOperation) (w : Width) → Within (calls_in (shifted m line o w es)) fs
+    shifted_within line NoMore fs f o w = none fs
+    shifted_within line (More e NoMore) fs f o w = none fs
+    shifted_within line (More e (More d NoMore)) fs f o w = λ q c.
+        ⊎_elim (λ l. f q (Contains-append_left (calls_in e) (calls_in d ++ []) q l)) (λ r. f q (Contains-append_right (calls_in e) (calls_in d ++ []) q (Contains-append_left (calls_in d) [] q r))) (Contains-append_cases (calls_in e) (calls_in d) q c)
+    shifted_within line (More e (More d (More c es))) fs f o w = none fs
+
+    builtin_within : (b : Builtin) (line : ℕ) (w : Width) (es : Expressions) (fs : List Effect) → Within (argument_calls es) fs → Within (calls_in (builtin_value m line b w es)) fs
+    builtin_within builtin.Low line w es fs f = operated_within es fs f _ w
+    builtin_within builtin.High line w es fs f = operated_within es fs f _ w
+    builtin_within builtin.Double line w es fs f = operated_within es fs f _ w
+    builtin_within builtin.ShiftLeft line w es fs f = shifted_within line es fs f _ w
+    builtin_within builtin.ShiftRight line w es fs f = shifted_within line es fs f _ w
+    builtin_within builtin.RotateLeft line w es fs f = shifted_within line es fs f _ w
+    builtin_within builtin.RotateRight line w es fs f = shifted_within line es fs f _ w
+    builtin_within builtin.Input line w es fs f = port_within es fs f _
+    builtin_within builtin.InputWord line w es fs f = port_within es fs f _
+    builtin_within _ line w es fs f = none fs
+
+    -- what LENGTH, LAST and SIZE give is a constant
+    reference_within : (b : Builtin) (x : ReferenceR') (fs : List Effect) → Within (calls_in (reference_value variables ps b x)) fs
+    reference_within b (Use p (binding.Variable v) es s) fs = none fs
+    reference_within b (Use p _ es s) fs = none fs
+
+    argument_within : (b : Builtin) (e : ExpressionR) (fs : List Effect) → Within (calls_in (argument_value variables ps b e)) fs
+    argument_within b (ReferenceR x) fs = reference_within b x fs
+    argument_within b _ fs = none fs
+
+    measured_within : (b : Builtin) (es : ExpressionsR) (fs : List Effect) → Within (calls_in (measured_value variables ps b es)) fs
+    measured_within b no_expressions fs = none fs
+    measured_within b (expressions e no_expressions) fs = argument_within b e fs
+    measured_within b (expressions e (expressions d es)) fs = none fs
+
+    -- what a measure holds is not evaluated
+    either_within : (b : Builtin) (es : ExpressionsR) (s : SelectorR) (measures : Bool) (fs gs : List Found) → cond measures fs (faults_in variables ps m es ++ gs) ≡ []
+        → (faults_in variables ps m es ≡ [] → Within (argument_calls (trees_of variables ps sizes m es)) (of_list es)) → (line : ℕ) (w : Width)
+        → Within (calls_in (cond measures (measured_value variables ps b es) (builtin_value m line b w (trees_of variables ps sizes m es)))) (cond measures [] (of_list es ++ of_selector s))
+    either_within b es s true fs gs h f line w = measured_within b es []
+    either_within b es s false fs gs h f line w =
+        let all = trees_of variables ps sizes m es in
+        builtin_within b line w all (of_list es ++ of_selector s) (left (argument_calls all) (of_list es) (of_selector s) (f (none_of_both (faults_in variables ps m es) gs h).0))
+
+    called_within : (n : ℕ) (xs : List ℕ) (fs : List Effect) → Within xs fs → Within (entry_of (slice_get ps n) ∷ xs) (Calls n ∷ fs)
+    called_within n xs fs f q c =
+        let entry = entry_of (slice_get ps n) in
+        Contains-append_right (n ∷ []) (entry ∷ interrupts.called ps fs) q
+        (⊎_elim (λ l. Contains-append_left (entry ∷ []) (interrupts.called ps fs) q l) (λ r. Contains-append_right (entry ∷ []) (interrupts.called ps fs) q (f q r)) (Contains-append_cases (entry ∷ []) xs q c))
+
+    mutual
+      pub expression_within : (e : ExpressionR) → faults_of variables ps m e ≡ [] → Within (calls_in (tree_of variables ps sizes m e)) (of_expression e)
+      expression_within (NumberR n) h = none []
+      expression_within (TextR p cs) h = none []
+      expression_within (ReferenceR x) h = value_within x h
+      expression_within (LocationR l) h = location_within l h
+      expression_within (ParenthesisedR p e) h = expression_within e h
+      expression_within (EmbeddedR p x e) h =
+          let a = none_of_both (target_faults variables ps m x) _ h in
+          all (calls_in (tree_of variables ps sizes m e)) (target_calls (target_of variables ps sizes m x)) (of_parts x ++ of_expression e)
+          (right (calls_in (tree_of variables ps sizes m e)) (of_parts x) (of_expression e) (expression_within e (none_of_both (faults_of variables ps m e) _ a.1).0))
+          (left (target_calls (target_of variables ps sizes m x)) (of_parts x) (of_expression e) (target_within x a.0))
+      expression_within (UnaryR p o e) h = expression_within e (none_of_both (faults_of variables ps m e) _ h).0
+      expression_within (BinaryR p o a b) h =
+          let f = none_of_both (faults_of variables ps m a) _ h in
+          both (calls_in (tree_of variables ps sizes m a)) (calls_in (tree_of variables ps sizes m b)) (of_expression a) (of_expression b) (expression_within a f.0) (expression_within b (none_of_both (faults_of variables ps m b) _ f.1).0)
+
+      expressions_within : (es : ExpressionsR) → faults_in variables ps m es ≡ [] → Within (argument_calls (trees_of variables ps sizes m es)) (of_list es)
+      expressions_within no_expressions h = none []
+      expressions_within (expressions e es) h =
+          let f = none_of_both (faults_of variables ps m e) _ h in
+          both (calls_in (tree_of variables ps sizes m e)) (argument_calls (trees_of variables ps sizes m es)) (of_expression e) (of_list es) (expression_within e f.0) (expressions_within es f.1)
+
+      selector_within : (s : SelectorR) → selector_faults variables ps m s ≡ [] → Within (argument_calls (selector_trees variables ps sizes m s)) (of_selector s)
+      selector_within no_member h = none []
+      selector_within (member p n) h = none []
+      selector_within (member_at p n e) h = all (calls_in (tree_of variables ps sizes m e)) [] (of_expression e) (expression_within e h) (none (of_expression e))
+
+      value_within : (x : ReferenceR') → value_faults variables ps m x ≡ [] → Within (calls_in (value_of variables ps sizes m x)) (of_value x)
+      value_within (Use p (binding.Variable v) es s) h =
+          let f = none_of_both (faults_in variables ps m es) (selector_faults variables ps m s) (none_of_both (faults_in variables ps m es ++ selector_faults variables ps m s) _ h).0 in
+          use_read_within (slice_get variables v) s (refer variables m p.line (slice_get variables v) s (trees_of variables ps sizes m es) (selector_trees variables ps sizes m s)) (of_list es ++ of_selector s)
+          (refer_within p.line (slice_get variables v) s (trees_of variables ps sizes m es) (selector_trees variables ps sizes m s) (of_list es ++ of_selector s)
+          (left (argument_calls (trees_of variables ps sizes m es)) (of_list es) (of_selector s) (expressions_within es f.0)) (right (argument_calls (selector_trees variables ps sizes m s)) (of_list es) (of_selector s) (selector_within s f.1)))
+      value_within (Use p (binding.Procedure n) es s) h =
+          called_within n (argument_calls (trees_of variables ps sizes m es)) (of_list es ++ of_selector s)
+          (left (argument_calls (trees_of variables ps sizes m es)) (of_list es) (of_selector s) (expressions_within es (none_of_both (faults_in variables ps m es) _ h).0))
+      value_within (Use p (binding.Builtin b) es s) h = either_within b es s (is_measure b) _ _ (none_of_both (fault_unless m _ _ p) _ h).1 (λ k. expressions_within es k) p.line _
+      value_within (Use p binding.Nothing es s) h = none (of_list es ++ of_selector s)
+
+      location_within : (l : LocationR') → location_faults variables ps m l ≡ [] → Within (calls_in (location_of variables ps sizes m l)) (of_location l)
+      location_within (LocationOf p f (Use q (binding.Variable v) es s)) h =
+          let g = none_of_both (faults_in variables ps m es) (selector_faults variables ps m s) (none_of_both (faults_in variables ps m es ++ selector_faults variables ps m s) _ h).0 in
+          refer_within q.line (slice_get variables v) s (trees_of variables ps sizes m es) (selector_trees variables ps sizes m s) (of_list es ++ of_selector s)
+          (left (argument_calls (trees_of variables ps sizes m es)) (of_list es) (of_selector s) (expressions_within es g.0)) (right (argument_calls (selector_trees variables ps sizes m s)) (of_list es) (of_selector s) (selector_within s g.1))
+      location_within (LocationOf p f (Use q (binding.Procedure n) es s)) h = none (of_parts (Use q (binding.Procedure n) es s))
+      location_within (LocationOf p f (Use q (binding.Builtin b) es s)) h = none (of_parts (Use q (binding.Builtin b) es s))
+      location_within (LocationOf p f (Use q binding.Nothing es s)) h = none (of_parts (Use q binding.Nothing es s))
+      location_within (ConstantsOf p f k) h = none []
+
+      target_within : (x : ReferenceR') → target_faults variables ps m x ≡ [] → Within (target_calls (target_of variables ps sizes m x)) (of_parts x)
+      target_within (Use p (binding.Variable v) es s) h =
+          let f = none_of_both (faults_in variables ps m es) (selector_faults variables ps m s) (none_of_both (faults_in variables ps m es ++ selector_faults variables ps m s) _ h).0 in
+          use_stored_within (slice_get variables v) s (refer variables m p.line (slice_get variables v) s (trees_of variables ps sizes m es) (selector_trees variables ps sizes m s)) (of_list es ++ of_selector s)
+          (refer_within p.line (slice_get variables v) s (trees_of variables ps sizes m es) (selector_trees variables ps sizes m s) (of_list es ++ of_selector s)
+          (left (argument_calls (trees_of variables ps sizes m es)) (of_list es) (of_selector s) (expressions_within es f.0)) (right (argument_calls (selector_trees variables ps sizes m s)) (of_list es) (of_selector s) (selector_within s f.1)))
+      target_within (Use p (binding.Builtin b) es s) h =
+          let f = none_of_both (faults_in variables ps m es) _ h in
+          let port = unless (is_target b) m _ p (none_of_both (fault_unless m (is_target b) _ p) _ f.1).0 in
+          subst (λ c. Within (target_calls (to_port b (trees_of variables ps sizes m es))) (cond c [] (of_list es ++ of_selector s))) (sym (target_measures b port))
+          (left (target_calls (to_port b (trees_of variables ps sizes m es))) (of_list es) (of_selector s) (to_port_within (trees_of variables ps sizes m es) (of_list es) (expressions_within es f.0) b))
+      target_within (Use p (binding.Procedure n) es s) h = none (of_parts (Use p (binding.Procedure n) es s))
+      target_within (Use p binding.Nothing es s) h = none (of_parts (Use p binding.Nothing es s))
+
+    -- ---- statements
+
+    abbrev list_calls : List Target → List ℕ
+    list_calls [] = []
+    list_calls (t ∷ ts) = target_calls t ++ list_calls ts
+
+    targets_within : (t : Target) (ts : List Target) (q : ℕ) → Contains (targets_calls (targets t ts)) q → Contains (target_calls t ++ list_calls ts) q
+    targets_within t [] q c = Contains-append_left (target_calls t) [] q c
+    targets_within t (u ∷ us) q c =
+        ⊎_elim (λ l. Contains-append_left (target_calls t) (list_calls (u ∷ us)) q l) (λ r. Contains-append_right (target_calls t) (list_calls (u ∷ us)) q (targets_within u us q r)) (Contains-append_cases (target_calls t) (targets_calls (targets u us)) q c)
+
+    assignment_within : (ts : List Target) (e : Expression) (es fs : List Effect) → Within (list_calls ts) es → Within (calls_in e) fs → Within (statement_calls (assignment ts e)) (es ++ fs)
+    assignment_within [] e es fs f g = right (calls_in e) es fs g
+    assignment_within (t ∷ ts) e es fs f g = all (calls_in e) (targets_calls (targets t ts)) (es ++ fs) (right (calls_in e) es fs g) (left (targets_calls (targets t ts)) es fs (λ q c. f q (targets_within t ts q c)))
+
+    target_trees_within : (xs : ReferencesR) → typed.of_targets variables ps m xs ≡ [] → Within (list_calls (target_trees variables ps sizes m xs)) (of_targets xs)
+    target_trees_within no_references h = none []
+    target_trees_within (references x xs) h =
+        let f = none_of_both (target_faults variables ps m x) (typed.of_targets variables ps m xs) h in
+        both (target_calls (target_of variables ps sizes m x)) (list_calls (target_trees variables ps sizes m xs)) (of_parts x) (of_targets xs) (target_within x f.0) (target_trees_within xs f.1)
+
+    call_within : (p : Position) (x : ReferenceR') → typed.of_call variables ps m p x ≡ [] → Within (calls_in (called variables ps sizes m x)) (of_value x)
+    call_within p (Use r (binding.Procedure n) es s) h =
+        called_within n (argument_calls (trees_of variables ps sizes m es)) (of_list es ++ of_selector s)
+        (left (argument_calls (trees_of variables ps sizes m es)) (of_list es) (of_selector s) (expressions_within es (none_of_both (faults_in variables ps m es) _ h).0))
+    call_within p (Use r (binding.Variable v) es s) h = none (of_value (Use r (binding.Variable v) es s))
+    call_within p (Use r (binding.Builtin b) es s) h = none (of_value (Use r (binding.Builtin b) es s))
+    call_within p (Use r binding.Nothing es s) h = none (of_value (Use r binding.Nothing es s))
+
+    step_within : (p : Position) (o : Option ExpressionR) → typed.of_step variables ps m p o ≡ [] → Within (calls_in (step_for variables ps sizes m o)) (of_step o)
+    step_within p None h = none []
+    step_within p (Some e) h = expression_within e (none_of_both (faults_of variables ps m e) _ h).0
+
+    abbrev tree : ExpressionR → List ℕ
+    tree e = calls_in (tree_of variables ps sizes m e)
+
+    mutual
+      pub statement_within : (around : Around) (s : StatementR) → typed.of_statement variables ps m around s ≡ [] → Within (statement_calls (statement_for variables ps sizes m around s)) (of_statement s)
+      statement_within around (EmptyR p) h = none []
+      statement_within around (AssignR xs e) h =
+          let f = none_of_both (typed.of_targets variables ps m xs) _ h in
+          assignment_within (target_trees variables ps sizes m xs) (tree_of variables ps sizes m e) (of_targets xs) (of_expression e) (target_trees_within xs f.0) (expression_within e (none_of_both (faults_of variables ps m e) _ f.1).0)
+      statement_within around (CallR p x) h = call_within p x h
+      statement_within around (ReturnR p) h = none []
+      statement_within around (ReturnValueR p e) h = expression_within e (none_of_both (faults_of variables ps m e) _ h).0
+      statement_within around (EnableR p) h = none (Enables ∷ [])
+      statement_within around (DisableR p) h = none []
+      statement_within around (HaltR p) h = none (Enables ∷ [])
+      statement_within around (IfR p e s) h =
+          let f = none_of_both (typed.of_number variables ps m p e) (typed.of_statement variables ps m around s) h in
+          let arm = statement_calls (statement_for variables ps sizes m around s) in
+          both (tree e) ((arm ++ []) ++ []) (of_expression e) (of_statement s) (expression_within e (none_of_both (faults_of variables ps m e) _ f.0).0)
+          (all (arm ++ []) [] (of_statement s) (all arm [] (of_statement s) (statement_within around s f.1) (none (of_statement s))) (none (of_statement s)))
+      statement_within around (IfElseR p e s t) h =
+          let f = none_of_both (typed.of_number variables ps m p e) (typed.of_statement variables ps m around s ++ typed.of_statement variables ps m around t) h in
+          let g = none_of_both (typed.of_statement variables ps m around s) (typed.of_statement variables ps m around t) f.1 in
+          let arm = statement_calls (statement_for variables ps sizes m around s) in
+          let other = statement_calls (statement_for variables ps sizes m around t) in
+          both (tree e) ((arm ++ []) ++ (other ++ [])) (of_expression e) (of_statement s ++ of_statement t) (expression_within e (none_of_both (faults_of variables ps m e) _ f.0).0)
+          (both (arm ++ []) (other ++ []) (of_statement s) (of_statement t) (all arm [] (of_statement s) (statement_within around s g.0) (none (of_statement s))) (all other [] (of_statement t) (statement_within around t g.1) (none (of_statement t))))
+      statement_within around (DoR p ss) h = statements_within around ss h
+      statement_within around (WhileR p e ss) h =
+          let f = none_of_both (typed.of_number variables ps m p e) (typed.of_statements variables ps m around ss) h in
+          both (tree e) (statements_calls (statements_for variables ps sizes m around ss)) (of_expression e) (of_statements ss) (expression_within e (none_of_both (faults_of variables ps m e) _ f.0).0) (statements_within around ss f.1)
+      statement_within around (CaseR p e ss) h =
+          let f = none_of_both (typed.of_number variables ps m p e) (typed.of_statements variables ps m around ss) h in
+          both (tree e) (statements_calls (statements_for variables ps sizes m around ss)) (of_expression e) (of_statements ss) (expression_within e (none_of_both (faults_of variables ps m e) _ f.0).0) (statements_within around ss f.1)
+      statement_within around (IterateR p q i a b s ss) h =
+          let f = none_of_both (typed.of_index variables ps m p q i) _ h in
+          let g = none_of_both (typed.of_number variables ps m p a) _ f.1 in
+          let k = none_of_both (typed.of_number variables ps m p b) _ g.1 in
+          let l = none_of_both (typed.of_step variables ps m p s) (typed.of_statements variables ps m around ss) k.1 in
+          let step = calls_in (step_for variables ps sizes m s) in
+          let body = statements_calls (statements_for variables ps sizes m around ss) in
+          both (tree a) (tree b ++ (step ++ body)) (of_expression a) (of_expression b ++ (of_step s ++ of_statements ss)) (expression_within a (none_of_both (faults_of variables ps m a) _ g.0).0)
+          (both (tree b) (step ++ body) (of_expression b) (of_step s ++ of_statements ss) (expression_within b (none_of_both (faults_of variables ps m b) _ k.0).0)
+          (both step body (of_step s) (of_statements ss) (step_within p s l.0) (statements_within around ss l.1)))
+
+      pub statements_within : (around : Around) (ss : StatementsR) → typed.of_statements variables ps m around ss ≡ [] → Within (statements_calls (statements_for variables ps sizes m around ss)) (of_statements ss)
+      statements_within around no_statements h = none []
+      statements_within around (statements s ss) h =
+          let f = none_of_both (typed.of_statement variables ps m around s) (typed.of_statements variables ps m around ss) h in
+          both (statement_calls (statement_for variables ps sizes m around s)) (statements_calls (statements_for variables ps sizes m around ss)) (of_statement s) (of_statements ss) (statement_within around s f.0) (statements_within around ss f.1)
+
+-- ---- ENABLE and HALT
+
+lets_left : (es fs : List Effect) → interrupts.lets_in es ≡ true → interrupts.lets_in (es ++ fs) ≡ true
+lets_left [] fs e = cc
+lets_left (Calls q ∷ es) fs e = lets_left es fs e
+lets_left (Enables ∷ es) fs e = refl
+
+lets_right : (es fs : List Effect) → interrupts.lets_in fs ≡ true → interrupts.lets_in (es ++ fs) ≡ true
+lets_right [] fs e = e
+lets_right (Calls q ∷ es) fs e = lets_right es fs e
+lets_right (Enables ∷ es) fs e = refl
+
+assignment_lets : (ts : List Target) (e : Expression) → Lets (assignment ts e) → ⊥
+assignment_lets [] e l = l
+assignment_lets (t ∷ ts) e l = l
+
+module _ (variables : List Variable) (ps : List ProcedureR) (sizes : List ℕ) (m : ℕ) where
+  mutual
+    statement_lets : (around : Around) (s : StatementR) → Lets (statement_for variables ps sizes m around s) → interrupts.lets_in (of_statement s) ≡ true
+    statement_lets around (EmptyR p) l = absurd l
+    statement_lets around (AssignR xs e) l = absurd (assignment_lets (target_trees variables ps sizes m xs) (tree_of variables ps sizes m e) l)
+    statement_lets around (CallR p x) l = absurd l
+    statement_lets around (ReturnR p) l = absurd l
+    statement_lets around (ReturnValueR p e) l = absurd l
+    statement_lets around (EnableR p) l = refl
+    statement_lets around (DisableR p) l = absurd l
+    statement_lets around (HaltR p) l = refl
+    statement_lets around (IfR p e s) l = lets_right (of_expression e) (of_statement s) (⊎_elim (λ a. ⊎_elim (λ b. statement_lets around s b) (λ b. absurd b) a) (λ a. absurd a) l)
+    statement_lets around (IfElseR p e s t) l =
+        lets_right (of_expression e) (of_statement s ++ of_statement t)
+        (⊎_elim (λ a. lets_left (of_statement s) (of_statement t) (⊎_elim (λ b. statement_lets around s b) (λ b. absurd b) a)) (λ a. lets_right (of_statement s) (of_statement t) (⊎_elim (λ b. statement_lets around t b) (λ b. absurd b) a)) l)
+    statement_lets around (DoR p ss) l = statements_let around ss l
+    statement_lets around (WhileR p e ss) l = lets_right (of_expression e) (of_statements ss) (statements_let around ss l)
+    statement_lets around (CaseR p e ss) l = lets_right (of_expression e) (of_statements ss) (statements_let around ss l)
+    statement_lets around (IterateR p q i a b s ss) l =
+        lets_right (of_expression a) (of_expression b ++ (of_step s ++ of_statements ss)) (lets_right (of_expression b) (of_step s ++ of_statements ss) (lets_right (of_step s) (of_statements ss) (statements_let around ss l)))
+
+    pub statements_let : (around : Around) (ss : StatementsR) → Let (statements_for variables ps sizes m around ss) → interrupts.lets_in (of_statements ss) ≡ true
+    statements_let around no_statements l = absurd l
+    statements_let around (statements s ss) l = ⊎_elim (λ a. lets_left (of_statement s) (of_statements ss) (statement_lets around s a)) (λ a. lets_right (of_statement s) (of_statements ss) (statements_let around ss a)) l
