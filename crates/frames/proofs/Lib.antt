@@ -4,3 +4,4 @@ pub mod Needing
 pub mod Depths
 pub mod Known
 pub mod Whole
+pub mod Limiting

@@ -2,6 +2,8 @@
 #![tactic(auto)]
 
 mod counting;
+mod laws;
 mod need;
 
 pub use counting::{Stack, count, saved};
+pub use laws::{small_programs_fit, stack_is_bounded};

@@ -4,6 +4,7 @@ pub mod Levels
 pub mod Machine
 pub mod Made
 pub mod Registers
+pub mod Room
 pub mod Runs
 pub mod Shown
 pub mod Inner

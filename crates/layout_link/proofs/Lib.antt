@@ -3,6 +3,7 @@ pub mod Standing
 pub mod Starts
 pub mod Whole
 pub mod Coded
+pub mod Worded
 pub mod Tasking
 pub mod Placing
 pub mod Putting

@@ -6,6 +6,7 @@ use Rattle.plm_decl.specs.declared.names.Region.{Region}
 use Rattle.plm_decl.specs.declared.names.Region.TheVariants as region
 use Rattle.plm_decl.specs.declared.names.Variable.{Variable}
 use Rattle.plm_decl.specs.declared.names.Object.{Object}
+use Rattle.i86_code.specs.Decoding.{AreBytes}
 use Rattle.layout_link.specs.declared.tasks.Task.{Task}
 use Rattle.layout_link.specs.declared.tasks.Task.TheVariants as tasks
 
@@ -61,6 +62,11 @@ module _ (offsets : List ℕ) (variables : List Variable) where
   -- the initial bytes of an object, as many as it has room for
   abbrev pub first_bytes : Object → List ℕ
   first_bytes o = take o.size (initial_bytes o.initial.items)
+
+  -- what these objects have at start are bytes
+  abbrev pub HaveBytes : List Object → Type 0
+  HaveBytes [] = Unit {0}
+  HaveBytes (o ∷ os) = AreBytes (first_bytes o) × HaveBytes os
 
   -- what is done for the objects from the k-th on, where so many bytes and objects are copied before them; the data segment is 0040H
   abbrev pub data_tasks : (at copies k : ℕ) → List Object → List Task

@@ -1,5 +1,5 @@
 -- The code in the bytes of a ROM.
-use Rattle.std.specs.Prelude.{ℕ, ◌≡◌, ◌+◌, ◌*◌, ◌-◌, ◌%◌, ◌<◌, ◌≤◌, ◌||◌, nat_lt, if◌then◌else◌, List, length, drop, slice_index, Option, Some, None}
+use Rattle.std.specs.Prelude.{ℕ, ◌≡◌, ◌+◌, ◌*◌, ◌-◌, ◌/◌, ◌%◌, ◌<◌, ◌≤◌, ◌||◌, nat_lt, if◌then◌else◌, List, [], ◌∷◌, length, drop, slice_index, Option, Some, None}
 use Rattle.i86_table.specs.declared.instruction.Instr.{Instr}
 use Rattle.i86_code.specs.Instructions.{Spells}
 use Rattle.i86_code.specs.Decoding.{decoded}
@@ -19,6 +19,10 @@ pub record CodeInRom (rom : List ℕ) (code : (place : ℕ) → Option (Instr ×
   pub size : length rom ≤ 65536
   pub low : (place : ℕ) (d : Instr × ℕ) → code place ≡ Some d → place < 65536
   pub written : (place : ℕ) (d : Instr × ℕ) → code place ≡ Some d → (bytes : List ℕ) × Spells bytes d.0 × (length bytes ≡ d.1) × Written rom place bytes
+
+-- at the offset of each word of a table the ROM has its two bytes, the low one first
+abbrev pub WordsInRom : (rom : List ℕ) → (words : (offset : ℕ) → Option ℕ) → Type 0
+WordsInRom rom words = (offset v : ℕ) → words offset ≡ Some v → Written rom offset (v % 256 ∷ v / 256 ∷ [])
 
 -- the instruction at a place, as it is decoded, and its length
 abbrev pub rom_code : (rom : List ℕ) → (place : ℕ) → Option (Instr × ℕ)

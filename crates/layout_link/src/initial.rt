@@ -1,7 +1,8 @@
 //! The bytes that the objects of a program have at start.
 
 ghost use Rattle.std.specs.Prelude.{◌≡◌, ◌+◌, ◌-◌, ◌<◌, ◌≤◌, ◌^◌, ◌++◌, ℕ, IfOk, OnOk, IsOkUnless, length, map, slice_get, slice_index};
-ghost use Rattle.layout_link.specs.Initial.{word, puts, is_copied, object_tasks, copied, copies_with, variable_address, datum_bytes, initial_bytes, first_bytes, data_tasks, copied_bytes};
+ghost use Rattle.i86_code.specs.Decoding.{AreBytes};
+ghost use Rattle.layout_link.specs.Initial.{word, puts, is_copied, object_tasks, copied, copies_with, variable_address, datum_bytes, initial_bytes, first_bytes, HaveBytes, data_tasks, copied_bytes};
 
 use crate::tasks::Task;
 use crate::words::number_at;
@@ -60,6 +61,11 @@ fn put_datum(bytes: &mut Vec<u8>, names: &Names, offsets: &[u16], datum: Datum) 
     }
 }
 
+/// The law that bytes are numbers below 256.
+fn are_bytes(bytes: &[u8])
+    ensures { AreBytes bytes.now }
+{}
+
 /// The initial bytes of an object, as many as it has room for.
 fn first_of(
     alloc: Global,
@@ -68,6 +74,7 @@ fn first_of(
     object: &Object,
 ) -> Result<Vec<u8>, Fault>
     ensures bytes { IfOk result (λ bytes. bytes.items ≡ first_bytes offsets.now names.now.variables.items object.now) }
+    ensures small { OnOk result (AreBytes (first_bytes offsets.now names.now.variables.items object.now)) }
     ensures memory { IsOkUnless result Fault.Memory }
 {
     let mut bytes = Vec::new(alloc);
@@ -75,6 +82,7 @@ fn first_of(
         put_datum(&mut bytes, names, offsets, *datum)?;
     }
     bytes.truncate(object.size as usize);
+    are_bytes(&bytes);
     Ok(bytes)
 }
 
@@ -142,6 +150,7 @@ pub(crate) fn initial(
     requires { (k : ℕ) → slice_index offsets.now k + slice_index (map (λ o. o.size) names.now.objects.items) k ≤ 61440 }
     ensures tasks { OnOk result (tasks.new.items ≡ tasks.old.items ++ data_tasks offsets.now names.now.variables.items 0 0 0 names.now.objects.items) }
     ensures bytes { IfOk result (λ bytes. bytes.items ≡ copied_bytes offsets.now names.now.variables.items 0 names.now.objects.items) }
+    ensures small { OnOk result (HaveBytes offsets.now names.now.variables.items names.now.objects.items) }
     ensures memory { IsOkUnless result Fault.Memory }
 {
     let mut bytes = Vec::new(alloc);

@@ -6,7 +6,7 @@ ghost use Rattle.i86_code.specs.Instructions.{Spells};
 ghost use Rattle.i86_code.specs.Writing.{bytes_of};
 ghost use Rattle.layout_link.specs.Image.{bytes_in, base_of};
 ghost use Rattle.layout_link.specs.Places.{total_of, places_from};
-ghost use Rattle.layout_link.specs.Rom.{rom_byte, CodeInRom, rom_code, rom_words};
+ghost use Rattle.layout_link.specs.Rom.{rom_byte, CodeInRom, WordsInRom, rom_code, rom_words};
 ghost use Rattle.layout_link.specs.Stand.{PartsStand};
 ghost use Rattle.layout_link.specs.Inner.Words.{filled};
 ghost use Rattle.layout_link.specs.Inner.Bytes.{all_filled, rom_bytes, all_bytes, AreCoded, StandInOrder};
@@ -87,10 +87,11 @@ fn pad(code: &mut Vec<u8>, size: usize) -> Result<(), Fault>
     Ok(code.resize(size, 0)?)
 }
 
-/// The law that what is decoded at each place of a ROM is spelt by its bytes there.
+/// The law that what is decoded at each place of a ROM is spelt by its bytes there, and a word by two of them.
 pub(crate) fn code_in_rom(rom: &[u8])
     requires { length rom.now ≤ 65536 }
-    ensures { CodeInRom rom.now (rom_code rom.now) }
+    ensures code { CodeInRom rom.now (rom_code rom.now) }
+    ensures words { WordsInRom rom.now (rom_words rom.now) }
 {
     decoded_spells();
 }

@@ -27,6 +27,11 @@ pub mod Trees
 pub mod Outermost
 pub mod LastCode
 pub mod Turned
+pub mod Rooms
+pub mod Rooming
+pub mod Counts
+pub mod Peaks
+pub mod Lows
 pub mod Modules
 pub mod Procedures
 pub mod Handlers

@@ -4,4 +4,6 @@ pub mod Tracking
 pub mod Lowered
 pub mod Checked
 pub mod Runs
+pub mod Room
+pub mod Heights
 pub mod Inner

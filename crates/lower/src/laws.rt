@@ -1,7 +1,9 @@
 //! What the code of a program does.
 
 ghost use Rattle.lower.specs.Checked.{CheckedLaw, SoundLaw};
+ghost use Rattle.lower.specs.Heights.{HeightLaw};
 ghost use Rattle.lower.specs.Lowered.{EntryLaw};
+ghost use Rattle.lower.specs.Room.{RoomLaw};
 ghost use Rattle.lower.specs.Runs.{RunsLaw};
 ghost use Rattle.lower.specs.Tracking.{LoweringLaw};
 
@@ -30,6 +32,18 @@ pub fn checked_code_is_sound()
 /// What an interrupt enters comes to no ENABLE or HALT, in what it calls either, and is used up only in the procedure that was entered.
 pub fn checked_runs_are_allowed()
     ensures { RunsLaw }
+{}
+
+/// The code of a checked program whose trees are well formed takes at most 46 bytes of a ROM for each node of the program, and 5 for
+/// main's end; 12 bytes for each procedure are left of that.
+pub fn code_has_room()
+    ensures { RoomLaw }
+{}
+
+/// Nowhere in a program's code are more values pushed than a statement of the program, without the statements inside it, has
+/// constants and references.
+pub fn heights_are_low()
+    ensures { HeightLaw }
 {}
 
 /// An interrupt enters the first procedure with its vector, in what the program means and in its code.

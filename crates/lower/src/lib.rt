@@ -13,7 +13,7 @@ mod silence;
 mod statements;
 
 pub use laws::{
-    checked_code_is_sound, checked_runs_are_allowed, checked_trees_are_well_formed,
-    interrupts_enter_their_procedures, lowering_tracks,
+    checked_code_is_sound, checked_runs_are_allowed, checked_trees_are_well_formed, code_has_room,
+    heights_are_low, interrupts_enter_their_procedures, lowering_tracks,
 };
 pub use lowering::lower;

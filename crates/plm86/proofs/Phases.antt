@@ -38,7 +38,7 @@ use Rattle.plm86.specs.Headline.{Firmware, RomIsCorrect}
 use Rattle.plm86.specs.First.Programs as programs
 use Rattle.plm86.specs.Inner.Parsed.{ParsesAll}
 use Rattle.plm86.specs.First.Sizes.{room_of}
-use Rattle.plm86.specs.Nodes.{nodes_of}
+use Rattle.plm_type.specs.Nodes.{nodes_of}
 use Rattle.plm86.specs.Image.{bytes_in, kib_of}
 use Rattle.plm86.proofs.FirstForms.Accepted.{handlers_are, stores_are}
 use Rattle.plm86.proofs.FirstForms.Nodes.{room_small}

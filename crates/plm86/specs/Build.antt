@@ -31,7 +31,7 @@ use Rattle.plm86.specs.declared.image.RomSize.{RomSize}
 use Rattle.plm86.specs.First.Forms.{HasFirstForms, refused_forms, refused_program}
 use Rattle.plm86.specs.Headline.{RomIsCorrect}
 use Rattle.plm86.specs.Image.{bytes_in, kib_of}
-use Rattle.plm86.specs.Nodes.{nodes_of, initial_size}
+use Rattle.plm_type.specs.Nodes.{nodes_of, initial_size}
 
 abbrev pub text_of : Source → List ℕ
 text_of s = s.text.now

@@ -1,5 +1,4 @@
 pub mod Image
-pub mod Nodes
 pub mod Headline
 pub mod Boots
 pub mod Relation

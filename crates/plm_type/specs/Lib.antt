@@ -8,6 +8,8 @@ pub mod Typing
 pub mod Faults
 pub mod Trees
 pub mod Statements
+pub mod Nodes
+pub mod Leaves
 pub mod Programs
 pub mod Reach
 pub mod Order

@@ -20,3 +20,7 @@ pub mod Backs
 pub mod Cases
 pub mod Steps
 pub mod Selecting
+pub mod Bounding
+pub mod Saving
+pub mod Rooming
+pub mod Totalling

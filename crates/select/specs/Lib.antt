@@ -4,4 +4,6 @@ pub mod Parts
 pub mod Linked
 pub mod Rows
 pub mod Promise
+pub mod Room
+pub mod Saved
 pub mod Inner

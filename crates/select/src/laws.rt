@@ -1,6 +1,8 @@
 //! What the instructions promise.
 
 ghost use Rattle.select.specs.Promise.{InstructionsFollow};
+ghost use Rattle.select.specs.Room.{PartsHaveRoom, ProgramsHaveRoom};
+ghost use Rattle.select.specs.Saved.{UnservedChangesNone, RegistersAreCounted};
 
 use i86_table::{flag_laws, rotation_laws, shift_laws};
 
@@ -14,3 +16,24 @@ pub fn instructions_follow_code()
     rotation_laws();
     shift_laws();
 }
+
+/// A part has at most the bytes that its routine's instructions take, and 5.
+pub fn parts_have_room()
+    ensures { PartsHaveRoom }
+{}
+
+/// The parts of a program have together at most the bytes that main's and its procedures' instructions take, 5 for each of these
+/// routines, and 11.
+pub fn programs_have_room()
+    ensures { ProgramsHaveRoom }
+{}
+
+/// The routine for vectors without a procedure changes no register.
+pub fn unserved_changes_none()
+    ensures { UnservedChangesNone }
+{}
+
+/// An interrupt procedure pushes a word for each register that is counted.
+pub fn registers_are_counted()
+    ensures { RegistersAreCounted }
+{}

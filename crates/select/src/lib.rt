@@ -11,6 +11,9 @@ mod rows;
 mod selection;
 mod sizes;
 
-pub use laws::instructions_follow_code;
+pub use laws::{
+    instructions_follow_code, parts_have_room, programs_have_room, registers_are_counted,
+    unserved_changes_none,
+};
 pub use part::{Entry, Fixup, Kind, Part, Step};
 pub use selection::{select, select_section};

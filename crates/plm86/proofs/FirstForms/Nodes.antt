@@ -45,7 +45,7 @@ use Rattle.plm86.specs.First.Linked.{length_of, total_of}
 use Rattle.plm86.specs.First.Programs as programs
 use Rattle.plm86.specs.First.Sizes.{room_of}
 use Rattle.plm86.specs.Image.{kib_of, bytes_in}
-use Rattle.plm86.specs.Nodes.{is_constant, expression_nodes, expressions_nodes, selector_nodes, reference_nodes, location_nodes, target_nodes, targets_nodes, statement_nodes, statements_nodes, values_nodes, procedures_nodes, nodes_of}
+use Rattle.plm_type.specs.Nodes.{is_constant, expression_nodes, expressions_nodes, selector_nodes, reference_nodes, location_nodes, target_nodes, targets_nodes, statement_nodes, statements_nodes, values_nodes, procedures_nodes, nodes_of}
 
 -- ---- the nodes of typed trees, as far as the first forms have them
 

@@ -7,7 +7,7 @@ use Rattle.layout_link.specs.Objects.{offsets_from}
 use Rattle.layout_link.specs.Places.{total_of, places_from}
 use Rattle.layout_link.specs.Startup.{HasStartUp}
 use Rattle.layout_link.specs.Tasks.{placed, bytes_of_tasks, is_main, is_unserved}
-use Rattle.layout_link.specs.Initial.{copied_bytes}
+use Rattle.layout_link.specs.Initial.{HaveBytes, copied_bytes}
 use Rattle.layout_link.specs.Rom.{rom_byte, rom_code, rom_words}
 use Rattle.layout_link.specs.Stand.{PartsStand}
 use Rattle.layout_link.specs.Linker.{offsets_in, initial_in, tasks_in, place_in, places_in}
@@ -71,6 +71,12 @@ returns-clause-initial c =
     let bytes = c.deref-7.ensures.value ∙ c.in_ok-bytes.ensures.bytes ∙ ap (λ b. copied_bytes b names.variables.items 0 names.objects.items) offsets in
     along (λ ps ts bs. (k : ℕ) → k < length bs → rom_byte c.in_ok-rom.rom.items (base + (39 + bytes_of_tasks ts) + total_of ps + k) ≡ slice_index bs k)
     c.deref-4.result.now parts c.deref-6.result.now (tasks_in names parts) c.deref-7.result.now (initial_in names) c.deref-4.ensures.value tasks bytes c.in_ok-rom.ensures.initial
+
+pub returns-clause-bytes : goal.returns-clause-bytes
+returns-clause-bytes c =
+    let names = c.args.names.now in
+    let offsets = c.deref-3.ensures.value ∙ offsets_are names c.deref.result.now c.in_ok-offsets.offsets.items c.deref.ensures.value c.in_ok-offsets.ensures.offsets in
+    subst (λ l. HaveBytes l names.variables.items names.objects.items) offsets c.in_ok-bytes.ensures.small
 
 pub returns-clause-turns : goal.returns-clause-turns
 returns-clause-turns c =

@@ -1,0 +1,64 @@
+-- How many bytes of a ROM an instruction takes at most.
+use Rattle.std.specs.Prelude.{ℕ, ◌+◌, if◌then◌else◌, List, [], ◌∷◌}
+use Rattle.word86.specs.declared.width.Width.{Width}
+use Rattle.word86.specs.declared.width.Width.TheVariants as widths
+use Rattle.word86.specs.declared.operation.BinaryOperation.{BinaryOperation}
+use Rattle.icode.specs.declared.instruction.Instruction.{Instruction}
+use Rattle.icode.specs.declared.instruction.Instruction.TheVariants as op
+use Rattle.icode.specs.declared.instruction.Test.{Test}
+use Rattle.icode.specs.declared.instruction.Test.TheVariants as test
+use Rattle.icode.specs.Registers.{is_direct}
+
+abbrev pub room_of_constant : BinaryOperation → ℕ
+room_of_constant o = if is_direct o then 5 else 14
+
+abbrev pub room_of_read : Width → BinaryOperation → ℕ
+room_of_read widths.Byte o = 18
+room_of_read widths.Word o = if is_direct o then 7 else 16
+
+-- a jump that is too far for a short one
+abbrev pub room_of_test : Test → ℕ
+room_of_test test.Odd = 7
+room_of_test (test.Constant o k) = 8
+room_of_test (test.Plain o widths.Byte x) = 14
+room_of_test (test.Plain o widths.Word x) = 10
+room_of_test (test.Top o) = 8
+
+abbrev pub room_of : Instruction → ℕ
+room_of (op.Constant k) = 3
+room_of (op.Locate x) = 3
+room_of (op.LocateAt x) = 3
+room_of (op.Load width x) = 6
+room_of (op.LoadAt width x) = 9
+room_of (op.LoadThere width) = 8
+room_of op.Push = 1
+room_of (op.Pick n) = 6
+room_of (op.Drop n) = 4
+room_of (op.Unary o width) = 4
+room_of (op.Binary o width) = 14
+room_of (op.BinaryConstant o width k) = room_of_constant o
+room_of (op.BinaryPlain o width read x) = room_of_read read o
+room_of (op.Store width x) = 4
+room_of (op.StoreAt width x) = 8
+room_of (op.StoreThere width) = 7
+room_of (op.Send width) = 4
+room_of (op.SendTo width port) = 4
+room_of (op.Receive width) = 5
+room_of (op.ReceiveFrom width port) = 6
+room_of (op.Ahead n) = 3
+room_of (op.AheadUnless t n) = room_of_test t
+room_of (op.Back n) = 3
+room_of (op.BackUnless t n) = room_of_test t
+room_of (op.Switch n) = 17
+room_of (op.Case n) = 2
+room_of (op.Invoke q) = 3
+room_of op.Leave = 1
+room_of op.Enable = 2
+room_of op.Disable = 1
+room_of op.Halt = 2
+-- all registers are given back
+room_of op.Finish = 6
+
+abbrev pub room_in : List Instruction → ℕ
+room_in [] = 0
+room_in (x ∷ xs) = room_of x + room_in xs

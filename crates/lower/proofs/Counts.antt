@@ -1,0 +1,395 @@
+-- Typed trees have no more nodes than the resolved ones that they come from.
+use Rattle.std.proofs.Common.{◌≡◌, ℕ, ◌+◌, ◌≤◌, Bool, true, false, List, [], ◌∷◌, ◌++◌, Option, Some, None, refl, ap, arith, slice_get, take, true≢false}
+use Rattle.std.specs.Prelude.{cond}
+use Rattle.word86.specs.declared.width.Width.{Width}
+use Rattle.word86.specs.declared.width.Width.TheVariants as width
+use Rattle.word86.specs.declared.operation.UnaryOperation.{UnaryOperation}
+use Rattle.word86.specs.declared.operation.UnaryOperation.TheVariants as unary
+use Rattle.word86.specs.declared.operation.BinaryOperation.{BinaryOperation}
+use Rattle.word86.specs.declared.operation.BinaryOperation.TheVariants as binary
+use Rattle.word86.specs.Access.{Where}
+use Rattle.plm_syntax.specs.declared.tree.Position.{Position}
+use Rattle.plm_decl.specs.declared.builtin.Builtin.{Builtin}
+use Rattle.plm_decl.specs.declared.builtin.Builtin.TheVariants as builtin
+use Rattle.plm_decl.specs.declared.layout.ScalarType.{ScalarType}
+use Rattle.plm_decl.specs.declared.layout.ScalarType.TheVariants.{Word}
+use Rattle.plm_decl.specs.declared.names.Variable.{Variable}
+use Rattle.plm_decl.specs.declared.resolved.Binding.TheVariants as binding
+use Rattle.plm_decl.specs.declared.found.Found.{Found}
+use Rattle.plm_decl.specs.Names.{ProcedureR}
+use Rattle.plm_decl.specs.Resolved.{ExpressionR, NumberR, TextR, ReferenceR, LocationR, ParenthesisedR, EmbeddedR, UnaryR, BinaryR, ReferenceR', Use, ExpressionsR, no_expressions, expressions, SelectorR, no_member, member, member_at, LocationR', LocationOf, ConstantsOf, ReferencesR, no_references, references, StatementR, EmptyR, AssignR, CallR, ReturnR, ReturnValueR, EnableR, DisableR, HaltR, IfR, IfElseR, DoR, WhileR, CaseR, IterateR, StatementsR, no_statements, statements}
+use Rattle.plm_type.specs.declared.statements.Around.{Around}
+use Rattle.plm_type.specs.Rest as rest
+use Rattle.plm_type.specs.Rest.{Expression, Expressions, NoMore, More, Reference, Refer, Subscripts, NoSubscripts, Target}
+use Rattle.plm_type.specs.Shapes.{designated, fixed_place, read_of, store_to, member_stride}
+use Rattle.word86.specs.declared.number.Number.TheVariants.{E401, E402}
+use Rattle.plm_type.specs.Faults.{fault_unless, port_faults, target_faults}
+use Rattle.plm_type.specs.Statements.{of_targets, of_statement, of_statements, of_number, of_index, of_step, statement_for, statements_for, target_trees, assignment, targets, called, step_for}
+use Rattle.plm_type.specs.Trees.{tree_of, trees_of, selector_trees, value_of, location_of, target_of, use_read, use_stored, refer, strided, to_port, operated, read_port, shifted, builtin_value, reference_value, argument_value, measured_value}
+use Rattle.plm_type.specs.Types.{width_of, may_be_numbers}
+use Rattle.plm_type.specs.Typing.{is_plain, is_measure, is_target, first_type, types_of}
+use Rattle.plm_type.specs.Nodes.{is_constant, expression_nodes, expressions_nodes, selector_nodes, reference_nodes, location_nodes, target_nodes, targets_nodes, step_nodes, statement_nodes, statements_nodes}
+use Rattle.lower.proofs.Rooms as typed
+
+-- ---- lists without items
+
+pub not_none : (x : Found) (xs : List Found) → x ∷ xs ≡ [] → ⊥
+not_none x xs e = true≢false (ap (λ (l : List Found). elim l [ [] ↦ false | g ∷ hs ↦ true ]) e)
+
+pub none_left : (xs ys : List Found) → xs ++ ys ≡ [] → xs ≡ []
+none_left [] ys e = refl
+none_left (x ∷ xs) ys e = absurd (not_none x (xs ++ ys) e)
+
+pub none_right : (xs ys : List Found) → xs ++ ys ≡ [] → ys ≡ []
+none_right [] ys e = e
+none_right (x ∷ xs) ys e = absurd (not_none x (xs ++ ys) e)
+
+-- ---- references
+
+read_count : (t : ScalarType) (x : Reference) → typed.nodes (read_of t x) ≤ typed.reference_nodes x
+read_count t (Refer m l anchor offset ss) = cases (fixed_place (Refer m l anchor offset ss))
+  where
+    cases : (o : Option Where) → typed.nodes (elim o [ Some w ↦ rest.Plain (width_of (Some t)) w | None ↦ rest.Variable (width_of (Some t)) (Refer m l anchor offset ss) ]) ≤ 1 + typed.subscripts_nodes ss
+    cases (Some w) = omega arith
+    cases None = omega arith
+
+store_count : (t : ScalarType) (x : Reference) → typed.target_nodes (store_to t x) ≤ typed.reference_nodes x
+store_count t (Refer m l anchor offset ss) = cases (fixed_place (Refer m l anchor offset ss))
+  where
+    cases : (o : Option Where) → typed.target_nodes (elim o [ Some w ↦ rest.ToPlain (width_of (Some t)) w | None ↦ rest.ToVariable (width_of (Some t)) (Refer m l anchor offset ss) ]) ≤ 1 + typed.subscripts_nodes ss
+    cases (Some w) = omega arith
+    cases None = omega arith
+
+one_at_least : (x : Reference) → 1 ≤ typed.reference_nodes x
+one_at_least (Refer m l anchor offset ss) = omega arith
+
+use_count : (o : Option Variable) (s : SelectorR) (x : Reference) → typed.nodes (use_read o s x) ≤ typed.reference_nodes x
+use_count None s x = one_at_least x
+use_count (Some v) s x = cases (designated v s)
+  where
+    cases : (o : Option ScalarType) → typed.nodes (elim o [ Some t ↦ read_of t x | None ↦ rest.Constant 0 ]) ≤ typed.reference_nodes x
+    cases (Some t) = read_count t x
+    cases None = one_at_least x
+
+stored_count : (o : Option Variable) (s : SelectorR) (x : Reference) → typed.target_nodes (use_stored o s x) ≤ typed.reference_nodes x
+stored_count None s x = store_count Word x
+stored_count (Some v) s x = cases (designated v s)
+  where
+    cases : (o : Option ScalarType) → typed.target_nodes (elim o [ Some t ↦ store_to t x | None ↦ store_to Word x ]) ≤ typed.reference_nodes x
+    cases (Some t) = store_count t x
+    cases None = store_count Word x
+
+strided_count : (stride : ℕ) (es : Expressions) (others : Subscripts) → typed.subscripts_nodes (strided stride es others) ≡ typed.all_nodes es + typed.subscripts_nodes others
+strided_count stride NoMore others = omega arith
+strided_count stride (More e es) others = let h = strided_count stride es others in omega (arith, h)
+
+refer_count : (variables : List Variable) (module_index line : ℕ) (o : Option Variable) (s : SelectorR) (es fs : Expressions)
+    → typed.reference_nodes (refer variables module_index line o s es fs) ≤ 1 + typed.all_nodes es + typed.all_nodes fs
+refer_count variables module_index line None s es fs = omega arith
+refer_count variables module_index line (Some v) s es fs =
+    let h = strided_count v.stride es (strided (member_stride s) fs NoSubscripts) in
+    let i = strided_count (member_stride s) fs NoSubscripts in
+    omega (arith, h, i)
+
+-- ---- built-ins
+
+operated_count : (o : UnaryOperation) (w : Width) (es : Expressions) → typed.nodes (operated o w es) ≤ 1 + typed.all_nodes es
+operated_count o w NoMore = omega arith
+operated_count o w (More e NoMore) = omega arith
+operated_count o w (More e (More d es)) = omega arith
+
+port_count : (w : Width) (es : Expressions) → typed.nodes (read_port w es) ≤ 1 + typed.all_nodes es
+port_count w NoMore = omega arith
+port_count w (More e NoMore) = omega arith
+port_count w (More e (More d es)) = omega arith
+
+to_port_count : (b : Builtin) (es : Expressions) → typed.target_nodes (to_port b es) ≤ 1 + typed.all_nodes es
+to_port_count b NoMore = omega arith
+to_port_count b (More e NoMore) = omega arith
+to_port_count b (More e (More d es)) = omega arith
+
+shifted_count : (module_index line : ℕ) (o : BinaryOperation) (w : Width) (es : Expressions) → typed.nodes (shifted module_index line o w es) ≤ 1 + typed.all_nodes es
+shifted_count module_index line o w NoMore = omega arith
+shifted_count module_index line o w (More a NoMore) = omega arith
+shifted_count module_index line o w (More a (More b NoMore)) = omega arith
+shifted_count module_index line o w (More a (More b (More c es))) = omega arith
+
+builtin_count : (module_index line : ℕ) (b : Builtin) (w : Width) (es : Expressions) → typed.nodes (builtin_value module_index line b w es) ≤ 1 + typed.all_nodes es
+builtin_count module_index line builtin.Low w es = operated_count unary.Low w es
+builtin_count module_index line builtin.High w es = operated_count unary.High w es
+builtin_count module_index line builtin.Double w es = operated_count unary.Double w es
+builtin_count module_index line builtin.ShiftLeft w es = shifted_count module_index line binary.ShiftLeft w es
+builtin_count module_index line builtin.ShiftRight w es = shifted_count module_index line binary.ShiftRight w es
+builtin_count module_index line builtin.RotateLeft w es = shifted_count module_index line binary.RotateLeft w es
+builtin_count module_index line builtin.RotateRight w es = shifted_count module_index line binary.RotateRight w es
+builtin_count module_index line builtin.Input w es = port_count width.Byte es
+builtin_count module_index line builtin.InputWord w es = port_count width.Word es
+builtin_count module_index line builtin.Length w es = omega arith
+builtin_count module_index line builtin.Last w es = omega arith
+builtin_count module_index line builtin.Size w es = omega arith
+builtin_count module_index line builtin.Output w es = omega arith
+builtin_count module_index line builtin.OutputWord w es = omega arith
+
+reference_count : (variables : List Variable) (procedures : List ProcedureR) (b : Builtin) (x : ReferenceR') → typed.nodes (reference_value variables procedures b x) ≤ 1
+reference_count variables procedures b (Use p (binding.Variable v) es s) = omega arith
+reference_count variables procedures b (Use p (binding.Procedure q) es s) = omega arith
+reference_count variables procedures b (Use p (binding.Builtin c) es s) = omega arith
+reference_count variables procedures b (Use p binding.Nothing es s) = omega arith
+
+argument_count : (variables : List Variable) (procedures : List ProcedureR) (b : Builtin) (e : ExpressionR) → typed.nodes (argument_value variables procedures b e) ≤ 1
+argument_count variables procedures b (ReferenceR x) = reference_count variables procedures b x
+argument_count variables procedures b (NumberR n) = omega arith
+argument_count variables procedures b (TextR p cs) = omega arith
+argument_count variables procedures b (LocationR l) = omega arith
+argument_count variables procedures b (ParenthesisedR p e) = omega arith
+argument_count variables procedures b (EmbeddedR p x e) = omega arith
+argument_count variables procedures b (UnaryR p o e) = omega arith
+argument_count variables procedures b (BinaryR p o d e) = omega arith
+
+measured_count : (variables : List Variable) (procedures : List ProcedureR) (b : Builtin) (es : ExpressionsR) → typed.nodes (measured_value variables procedures b es) ≤ 1
+measured_count variables procedures b no_expressions = omega arith
+measured_count variables procedures b (expressions e no_expressions) = argument_count variables procedures b e
+measured_count variables procedures b (expressions e (expressions d es)) = omega arith
+
+-- ---- each expression has a node
+
+use_positive : (x : ReferenceR') → 1 ≤ reference_nodes x
+use_positive (Use p m es s) = cases (is_constant m)
+  where
+    cases : (b : Bool) → 1 ≤ cond b 1 (1 + expressions_nodes es + selector_nodes s)
+    cases true = omega arith
+    cases false = omega arith
+
+positive : (e : ExpressionR) → 1 ≤ expression_nodes e
+positive (NumberR n) = omega arith
+positive (TextR p cs) = omega arith
+positive (ReferenceR x) = use_positive x
+positive (LocationR (LocationOf p f x)) = use_positive x
+positive (LocationR (ConstantsOf p f k)) = omega arith
+positive (ParenthesisedR p e) = positive e
+positive (EmbeddedR p x e) = omega arith
+positive (UnaryR p o e) = omega arith
+positive (BinaryR p o a b) = omega arith
+
+-- ---- trees
+
+module _ (variables : List Variable) (procedures : List ProcedureR) (objects : List ℕ) (module_index : ℕ) where
+  abbrev tree : ExpressionR → Expression
+  tree e = tree_of variables procedures objects module_index e
+
+  abbrev trees : ExpressionsR → Expressions
+  trees es = trees_of variables procedures objects module_index es
+
+  built_in : (p : Position) (b : Builtin) (es : ExpressionsR) (s : SelectorR) (m : Bool) → typed.all_nodes (trees es) ≤ expressions_nodes es
+      → typed.nodes (cond m (measured_value variables procedures b es) (builtin_value module_index p.line b (width_of (first_type (types_of variables procedures es))) (trees es))) ≤ cond m 1 (1 + expressions_nodes es + selector_nodes s)
+  built_in p b es s true h = measured_count variables procedures b es
+  built_in p b es s false h = let k = builtin_count module_index p.line b (width_of (first_type (types_of variables procedures es))) (trees es) in omega (arith, h, k)
+
+  -- OUTPUT without a port is a fault of types
+  loose_port : (b : Builtin) (es : ExpressionsR) (s : SelectorR) (m : Bool) → typed.all_nodes (trees es) ≤ expressions_nodes es
+      → typed.target_nodes (to_port b (trees es)) ≤ 1 + cond m (expressions_nodes es) (1 + expressions_nodes es + selector_nodes s)
+  loose_port b es s true h = let k = to_port_count b (trees es) in omega (arith, h, k)
+  loose_port b es s false h = let k = to_port_count b (trees es) in omega (arith, h, k)
+
+  mutual
+    pub tree_count : (e : ExpressionR) → typed.nodes (tree e) ≤ expression_nodes e
+    tree_count (NumberR n) = omega arith
+    tree_count (TextR p cs) = omega arith
+    tree_count (ReferenceR x) = value_count x
+    tree_count (LocationR l) = location_count l
+    tree_count (ParenthesisedR p e) = tree_count e
+    tree_count (EmbeddedR p x e) = let h = target_count x in let i = tree_count e in omega (arith, h, i)
+    tree_count (UnaryR p o e) = let h = tree_count e in omega (arith, h)
+    tree_count (BinaryR p o a b) = let x = tree_count a in let y = tree_count b in omega (arith, x, y)
+
+    trees_count : (es : ExpressionsR) → typed.all_nodes (trees es) ≤ expressions_nodes es
+    trees_count no_expressions = omega arith
+    trees_count (expressions e es) = let x = tree_count e in let y = trees_count es in omega (arith, x, y)
+
+    selector_count : (s : SelectorR) → typed.all_nodes (selector_trees variables procedures objects module_index s) ≤ selector_nodes s
+    selector_count no_member = omega arith
+    selector_count (member p m) = omega arith
+    selector_count (member_at p m e) = let x = tree_count e in omega (arith, x)
+
+    value_count : (x : ReferenceR') → typed.nodes (value_of variables procedures objects module_index x) ≤ reference_nodes x
+    value_count (Use p (binding.Variable v) es s) =
+        let fs = selector_trees variables procedures objects module_index s in
+        let h = use_count (slice_get variables v) s (refer variables module_index p.line (slice_get variables v) s (trees es) fs) in
+        let i = refer_count variables module_index p.line (slice_get variables v) s (trees es) fs in
+        let j = trees_count es in
+        let k = selector_count s in
+        omega (arith, h, i, j, k)
+    value_count (Use p (binding.Procedure q) es s) = let h = trees_count es in omega (arith, h)
+    value_count (Use p (binding.Builtin b) es s) = built_in p b es s (is_measure b) (trees_count es)
+    value_count (Use p binding.Nothing es s) = omega arith
+
+    location_count : (l : LocationR') → typed.nodes (location_of variables procedures objects module_index l) ≤ location_nodes l
+    location_count (LocationOf p f (Use q (binding.Variable v) es s)) =
+        let fs = selector_trees variables procedures objects module_index s in
+        let i = refer_count variables module_index q.line (slice_get variables v) s (trees es) fs in
+        let j = trees_count es in
+        let k = selector_count s in
+        omega (arith, i, j, k)
+    location_count (LocationOf p f (Use q (binding.Procedure n) es s)) = omega arith
+    location_count (LocationOf p f (Use q (binding.Builtin b) es s)) = use_positive (Use q (binding.Builtin b) es s)
+    location_count (LocationOf p f (Use q binding.Nothing es s)) = omega arith
+    location_count (ConstantsOf p f k) = omega arith
+
+    target_count : (x : ReferenceR') → typed.target_nodes (target_of variables procedures objects module_index x) ≤ 1 + target_nodes x
+    target_count (Use p (binding.Variable v) es s) =
+        let fs = selector_trees variables procedures objects module_index s in
+        let h = stored_count (slice_get variables v) s (refer variables module_index p.line (slice_get variables v) s (trees es) fs) in
+        let i = refer_count variables module_index p.line (slice_get variables v) s (trees es) fs in
+        let j = trees_count es in
+        let k = selector_count s in
+        omega (arith, h, i, j, k)
+    target_count (Use p (binding.Procedure q) es s) = omega arith
+    target_count (Use p (binding.Builtin b) es s) = loose_port b es s (is_target b) (trees_count es)
+    target_count (Use p binding.Nothing es s) = omega arith
+
+  -- ---- targets and values of statements
+
+  either : (m : Bool) (n a b : ℕ) → n ≤ a → n ≤ b → n ≤ cond m a b
+  either true n a b x y = x
+  either false n a b x y = y
+
+  no_port : (p : Position) (b : Builtin) (s : SelectorR) → port_faults module_index p b s [] ≡ [] → 1 ≤ cond (is_target b) 0 (1 + 0 + selector_nodes s)
+  no_port p builtin.Output s e = absurd (not_none _ [] (none_left (fault_unless module_index false E402 p) (fault_unless module_index (may_be_numbers (take 1 [])) E401 p) (none_right (fault_unless module_index (is_plain s) E401 p) _ (none_right [] _ e))))
+  no_port p builtin.OutputWord s e = absurd (not_none _ [] (none_left (fault_unless module_index false E402 p) (fault_unless module_index (may_be_numbers (take 1 [])) E401 p) (none_right (fault_unless module_index (is_plain s) E401 p) _ (none_right [] _ e))))
+  no_port p builtin.Length s e = omega arith
+  no_port p builtin.Last s e = omega arith
+  no_port p builtin.Size s e = omega arith
+  no_port p builtin.Low s e = omega arith
+  no_port p builtin.High s e = omega arith
+  no_port p builtin.Double s e = omega arith
+  no_port p builtin.ShiftLeft s e = omega arith
+  no_port p builtin.ShiftRight s e = omega arith
+  no_port p builtin.RotateLeft s e = omega arith
+  no_port p builtin.RotateRight s e = omega arith
+  no_port p builtin.Input s e = omega arith
+  no_port p builtin.InputWord s e = omega arith
+
+  tight_port : (p : Position) (b : Builtin) (es : ExpressionsR) (s : SelectorR) → target_faults variables procedures module_index (Use p (binding.Builtin b) es s) ≡ []
+      → typed.target_nodes (to_port b (trees es)) ≤ cond (is_target b) (expressions_nodes es) (1 + expressions_nodes es + selector_nodes s)
+  tight_port p b no_expressions s e = no_port p b s e
+  tight_port p b (expressions d no_expressions) s e =
+      let h = tree_count d in either (is_target b) (typed.nodes (tree d)) (expression_nodes d + 0) (1 + (expression_nodes d + 0) + selector_nodes s) (omega (arith, h)) (omega (arith, h))
+  tight_port p b (expressions c (expressions d es)) s e =
+      let h = positive c in
+      either (is_target b) 1 (expression_nodes c + (expression_nodes d + expressions_nodes es)) (1 + (expression_nodes c + (expression_nodes d + expressions_nodes es)) + selector_nodes s) (omega (arith, h)) (omega (arith, h))
+
+  checked_target : (x : ReferenceR') → target_faults variables procedures module_index x ≡ [] → typed.target_nodes (target_of variables procedures objects module_index x) ≤ target_nodes x
+  checked_target (Use p (binding.Variable v) es s) e =
+      let fs = selector_trees variables procedures objects module_index s in
+      let h = stored_count (slice_get variables v) s (refer variables module_index p.line (slice_get variables v) s (trees es) fs) in
+      let i = refer_count variables module_index p.line (slice_get variables v) s (trees es) fs in
+      let j = trees_count es in
+      let k = selector_count s in
+      omega (arith, h, i, j, k)
+  checked_target (Use p (binding.Procedure q) es s) e = omega arith
+  checked_target (Use p (binding.Builtin b) es s) e = tight_port p b es s e
+  checked_target (Use p binding.Nothing es s) e = omega arith
+
+  abbrev sum_of : List Target → ℕ
+  sum_of [] = 0
+  sum_of (t ∷ ts) = typed.target_nodes t + sum_of ts
+
+  targets_sum : (t : Target) (ts : List Target) → typed.targets_nodes (targets t ts) ≡ typed.target_nodes t + sum_of ts
+  targets_sum t [] = omega arith
+  targets_sum t (u ∷ us) = let h = targets_sum u us in omega (arith, h)
+
+  targets_count : (xs : ReferencesR) → of_targets variables procedures module_index xs ≡ [] → sum_of (target_trees variables procedures objects module_index xs) ≤ targets_nodes xs
+  targets_count no_references e = omega arith
+  targets_count (references x xs) e =
+      let h = checked_target x (none_left (target_faults variables procedures module_index x) (of_targets variables procedures module_index xs) e) in
+      let i = targets_count xs (none_right (target_faults variables procedures module_index x) (of_targets variables procedures module_index xs) e) in
+      omega (arith, h, i)
+
+  assignment_count : (xs : ReferencesR) (d : ExpressionR) → of_targets variables procedures module_index xs ≡ []
+      → typed.statement_nodes (assignment (target_trees variables procedures objects module_index xs) (tree d)) ≤ 1 + targets_nodes xs + expression_nodes d
+  assignment_count no_references d e = let h = tree_count d in omega (arith, h)
+  assignment_count (references x xs) d e =
+      let h = targets_sum (target_of variables procedures objects module_index x) (target_trees variables procedures objects module_index xs) in
+      let i = targets_count (references x xs) e in
+      let j = tree_count d in
+      omega (arith, h, i, j)
+
+  called_count : (x : ReferenceR') → typed.nodes (called variables procedures objects module_index x) ≤ reference_nodes x
+  called_count (Use q (binding.Procedure n) es s) = let h = trees_count es in omega (arith, h)
+  called_count (Use q (binding.Variable v) es s) = omega arith
+  called_count (Use q (binding.Builtin b) es s) = use_positive (Use q (binding.Builtin b) es s)
+  called_count (Use q binding.Nothing es s) = omega arith
+
+  step_at_most : (e : Expression) → typed.step_nodes e ≤ typed.nodes e
+  step_at_most (rest.Constant k) = omega arith
+  step_at_most (rest.Plain w x) = omega arith
+  step_at_most (rest.Variable w r) = omega arith
+  step_at_most (rest.Location r) = omega arith
+  step_at_most (rest.Unary o w e) = omega arith
+  step_at_most (rest.Binary m l o w a b) = omega arith
+  step_at_most (rest.Embedded t e) = omega arith
+  step_at_most (rest.Input w e) = omega arith
+  step_at_most (rest.Call p es) = omega arith
+  step_at_most (rest.Value v) = omega arith
+  step_at_most (rest.Passing p xs vs) = omega arith
+  step_at_most (rest.Running ss) = omega arith
+
+  step_count : (s : Option ExpressionR) → typed.step_nodes (step_for variables procedures objects module_index s) ≤ step_nodes s
+  step_count None = omega arith
+  step_count (Some e) = let h = step_at_most (tree e) in let i = tree_count e in omega (arith, h, i)
+
+  -- ---- statements
+
+  abbrev faults_for : Around → StatementR → List Found
+  faults_for around s = of_statement variables procedures module_index around s
+
+  abbrev faults_among : Around → StatementsR → List Found
+  faults_among around ss = of_statements variables procedures module_index around ss
+
+  abbrev number_faults : Position → ExpressionR → List Found
+  number_faults p e = of_number variables procedures module_index p e
+
+  mutual
+    statement_count : (around : Around) (s : StatementR) → faults_for around s ≡ [] → typed.statement_nodes (statement_for variables procedures objects module_index around s) ≤ statement_nodes s
+    statement_count around (EmptyR p) n = omega arith
+    statement_count around (AssignR xs e) n = assignment_count xs e (none_left (of_targets variables procedures module_index xs) _ n)
+    statement_count around (CallR p x) n = let h = called_count x in omega (arith, h)
+    statement_count around (ReturnR p) n = omega arith
+    statement_count around (ReturnValueR p e) n = let h = tree_count e in omega (arith, h)
+    statement_count around (EnableR p) n = omega arith
+    statement_count around (DisableR p) n = omega arith
+    statement_count around (HaltR p) n = omega arith
+    statement_count around (IfR p e s) n =
+        let h = tree_count e in
+        let i = statement_count around s (none_right (number_faults p e) (faults_for around s) n) in
+        omega (arith, h, i)
+    statement_count around (IfElseR p e s t) n =
+        let both = none_right (number_faults p e) (faults_for around s ++ faults_for around t) n in
+        let h = tree_count e in
+        let i = statement_count around s (none_left (faults_for around s) (faults_for around t) both) in
+        let j = statement_count around t (none_right (faults_for around s) (faults_for around t) both) in
+        omega (arith, h, i, j)
+    statement_count around (DoR p ss) n = let h = statements_count around ss n in omega (arith, h)
+    statement_count around (WhileR p e ss) n =
+        let h = tree_count e in
+        let i = statements_count around ss (none_right (number_faults p e) (faults_among around ss) n) in
+        omega (arith, h, i)
+    statement_count around (CaseR p e ss) n =
+        let h = tree_count e in
+        let i = statements_count around ss (none_right (number_faults p e) (faults_among around ss) n) in
+        omega (arith, h, i)
+    statement_count around (IterateR p q m a b s ss) n =
+        let last = of_step variables procedures module_index p s in
+        let h = tree_count a in
+        let i = tree_count b in
+        let j = step_count s in
+        let k = statements_count around ss (none_right last (faults_among around ss) (none_right (number_faults p b) (last ++ faults_among around ss) (none_right (number_faults p a) (number_faults p b ++ (last ++ faults_among around ss))
+        (none_right (of_index variables procedures module_index p q m) (number_faults p a ++ (number_faults p b ++ (last ++ faults_among around ss))) n)))) in
+        omega (arith, h, i, j, k)
+
+    pub statements_count : (around : Around) (ss : StatementsR) → faults_among around ss ≡ [] → typed.statements_nodes (statements_for variables procedures objects module_index around ss) ≤ statements_nodes ss
+    statements_count around no_statements n = omega arith
+    statements_count around (statements s ss) n =
+        let h = statement_count around s (none_left (faults_for around s) (faults_among around ss) n) in
+        let i = statements_count around ss (none_right (faults_for around s) (faults_among around ss) n) in
+        omega (arith, h, i)

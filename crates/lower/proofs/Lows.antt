@@ -1,0 +1,342 @@
+-- The peak of a tree's code is at most the leaves of the resolved tree that it comes from.
+use Rattle.std.proofs.Common.{◌≡◌, ℕ, zero, suc, ◌+◌, ◌≤◌, Bool, true, false, List, [], ◌∷◌, Option, Some, None, map, refl, ap, arith, slice_get}
+use Rattle.std.specs.Prelude.{cond, max}
+use Rattle.word86.specs.declared.width.Width.{Width}
+use Rattle.word86.specs.declared.width.Width.TheVariants as width
+use Rattle.word86.specs.declared.operation.UnaryOperation.{UnaryOperation}
+use Rattle.word86.specs.declared.operation.UnaryOperation.TheVariants as unary
+use Rattle.word86.specs.declared.operation.BinaryOperation.{BinaryOperation}
+use Rattle.word86.specs.declared.operation.BinaryOperation.TheVariants as binary
+use Rattle.word86.specs.Access.{Where}
+use Rattle.plm_syntax.specs.declared.tree.Position.{Position}
+use Rattle.plm_decl.specs.declared.builtin.Builtin.{Builtin}
+use Rattle.plm_decl.specs.declared.builtin.Builtin.TheVariants as builtin
+use Rattle.plm_decl.specs.declared.layout.ScalarType.{ScalarType}
+use Rattle.plm_decl.specs.declared.layout.ScalarType.TheVariants.{Word}
+use Rattle.plm_decl.specs.declared.names.Variable.{Variable}
+use Rattle.plm_decl.specs.declared.resolved.Binding.TheVariants as binding
+use Rattle.plm_decl.specs.Names.{ProcedureR, main_of}
+use Rattle.plm_decl.specs.Resolved.{ExpressionR, NumberR, TextR, ReferenceR, LocationR, ParenthesisedR, EmbeddedR, UnaryR, BinaryR, ReferenceR', Use, ExpressionsR, no_expressions, expressions, SelectorR, no_member, member, member_at, LocationR', LocationOf, ConstantsOf, ReferencesR, no_references, references, StatementR, EmptyR, AssignR, CallR, ReturnR, ReturnValueR, EnableR, DisableR, HaltR, IfR, IfElseR, DoR, WhileR, CaseR, IterateR, StatementsR, no_statements, statements}
+use Rattle.plm_type.specs.declared.statements.Around.{Around}
+use Rattle.plm_type.specs.declared.statements.Around.TheVariants as stands
+use Rattle.plm_type.specs.Rest as rest
+use Rattle.plm_type.specs.Rest.{Expression, Expressions, NoMore, More, Reference, Refer, Subscripts, NoSubscripts, Target, Statements, End, Procedure}
+use Rattle.plm_type.specs.Shapes.{designated, fixed_place, read_of, store_to, member_stride}
+use Rattle.plm_type.specs.Statements.{statement_for, statements_for, target_trees, assignment, targets, called, step_for, is_external, body_for, procedure_for}
+use Rattle.plm_type.specs.Trees.{tree_of, trees_of, selector_trees, value_of, location_of, target_of, use_read, use_stored, refer, strided, operated, read_port, shifted, builtin_value, reference_value, argument_value, measured_value}
+use Rattle.plm_type.specs.Types.{width_of}
+use Rattle.plm_type.specs.Typing.{is_measure, is_target, first_type, types_of}
+use Rattle.plm_type.specs.Nodes.{is_constant}
+use Rattle.plm_type.specs.Leaves.{expression_leaves, expressions_leaves, selector_leaves, reference_leaves, target_leaves, location_leaves, targets_leaves, step_leaves, most_in, most_of, procedures_most, most_leaves}
+use Rattle.plm_decl.specs.declared.names.Names.{Names}
+use Rattle.plm_decl.specs.Placement.{sizes_of}
+use Rattle.plm_type.specs.Programs.{declared_procedures, main_tree, procedures_of}
+use Rattle.icode.specs.declared.code.Routine.{Routine}
+use Rattle.icode.specs.declared.code.Routine.TheVariants as routine
+use Rattle.icode.specs.declared.instruction.Instruction.TheVariants.{Finish}
+use Rattle.icode.specs.Levels.{height}
+use Rattle.lower.specs.Code.{OfMain, kind_of, serves, procedure_code}
+use Rattle.lower.specs.Lowered.{vectors_of, program_code}
+use Rattle.lower.proofs.Peaks.{peak, pushed_peak, reference_peak, subscripts_peak, port_peak, target_peak, targets_peak, statement_peak, statements_peak, low, routine_low}
+
+-- ---- references
+
+read_peak : (t : ScalarType) (x : Reference) → peak (read_of t x) ≤ reference_peak x
+read_peak t x = cases (fixed_place x)
+  where
+    cases : (o : Option Where) → peak (elim o [ Some w ↦ rest.Plain (width_of (Some t)) w | None ↦ rest.Variable (width_of (Some t)) x ]) ≤ reference_peak x
+    cases (Some w) = omega arith
+    cases None = omega arith
+
+store_peak : (t : ScalarType) (x : Reference) → target_peak (store_to t x) ≤ suc (reference_peak x)
+store_peak t x = cases (fixed_place x)
+  where
+    cases : (o : Option Where) → target_peak (elim o [ Some w ↦ rest.ToPlain (width_of (Some t)) w | None ↦ rest.ToVariable (width_of (Some t)) x ]) ≤ suc (reference_peak x)
+    cases (Some w) = omega arith
+    cases None = omega arith
+
+use_peak : (o : Option Variable) (s : SelectorR) (x : Reference) → peak (use_read o s x) ≤ reference_peak x
+use_peak None s x = omega arith
+use_peak (Some v) s x = cases (designated v s)
+  where
+    cases : (o : Option ScalarType) → peak (elim o [ Some t ↦ read_of t x | None ↦ rest.Constant 0 ]) ≤ reference_peak x
+    cases (Some t) = read_peak t x
+    cases None = omega arith
+
+stored_peak : (o : Option Variable) (s : SelectorR) (x : Reference) → target_peak (use_stored o s x) ≤ suc (reference_peak x)
+stored_peak None s x = store_peak Word x
+stored_peak (Some v) s x = cases (designated v s)
+  where
+    cases : (o : Option ScalarType) → target_peak (elim o [ Some t ↦ store_to t x | None ↦ store_to Word x ]) ≤ suc (reference_peak x)
+    cases (Some t) = store_peak t x
+    cases None = store_peak Word x
+
+-- of expressions as subscripts
+abbrev indexed_peak : Expressions → ℕ
+indexed_peak NoMore = 0
+indexed_peak (More e es) = max (suc (peak e)) (indexed_peak es)
+
+strided_peak : (stride : ℕ) (es : Expressions) (others : Subscripts) → subscripts_peak (strided stride es others) ≡ max (indexed_peak es) (subscripts_peak others)
+strided_peak stride NoMore others = omega arith
+strided_peak stride (More e es) others = let h = strided_peak stride es others in omega (arith, h)
+
+refer_peak : (variables : List Variable) (module_index line : ℕ) (o : Option Variable) (s : SelectorR) (es fs : Expressions) → reference_peak (refer variables module_index line o s es fs) ≤ max (indexed_peak es) (indexed_peak fs)
+refer_peak variables module_index line None s es fs = omega arith
+refer_peak variables module_index line (Some v) s es fs =
+    let h = strided_peak v.stride es (strided (member_stride s) fs NoSubscripts) in
+    let i = strided_peak (member_stride s) fs NoSubscripts in
+    omega (arith, h, i)
+
+-- ---- built-ins
+
+operated_peak : (o : UnaryOperation) (w : Width) (es : Expressions) → peak (operated o w es) ≤ pushed_peak es
+operated_peak o w NoMore = omega arith
+operated_peak o w (More e NoMore) = omega arith
+operated_peak o w (More e (More d es)) = omega arith
+
+read_port_peak : (w : Width) (es : Expressions) → peak (read_port w es) ≤ pushed_peak es
+read_port_peak w NoMore = omega arith
+read_port_peak w (More e NoMore) = omega arith
+read_port_peak w (More e (More d es)) = omega arith
+
+port_at_most : (e : Expression) (n : ℕ) → port_peak e n ≤ suc n
+port_at_most (rest.Constant k) n = omega arith
+port_at_most (rest.Plain w x) n = omega arith
+port_at_most (rest.Variable w r) n = omega arith
+port_at_most (rest.Location r) n = omega arith
+port_at_most (rest.Unary o w e) n = omega arith
+port_at_most (rest.Binary i l o w a b) n = omega arith
+port_at_most (rest.Embedded t e) n = omega arith
+port_at_most (rest.Input w e) n = omega arith
+port_at_most (rest.Call p es) n = omega arith
+port_at_most (rest.Value v) n = omega arith
+port_at_most (rest.Passing p xs vs) n = omega arith
+port_at_most (rest.Running ss) n = omega arith
+
+shifted_peak : (module_index line : ℕ) (o : BinaryOperation) (w : Width) (es : Expressions) → peak (shifted module_index line o w es) ≤ pushed_peak es
+shifted_peak module_index line o w NoMore = omega arith
+shifted_peak module_index line o w (More a NoMore) = omega arith
+shifted_peak module_index line o w (More a (More b NoMore)) = omega arith
+shifted_peak module_index line o w (More a (More b (More c es))) = omega arith
+
+builtin_peak : (module_index line : ℕ) (b : Builtin) (w : Width) (es : Expressions) → peak (builtin_value module_index line b w es) ≤ pushed_peak es
+builtin_peak module_index line builtin.Low w es = operated_peak unary.Low w es
+builtin_peak module_index line builtin.High w es = operated_peak unary.High w es
+builtin_peak module_index line builtin.Double w es = operated_peak unary.Double w es
+builtin_peak module_index line builtin.ShiftLeft w es = shifted_peak module_index line binary.ShiftLeft w es
+builtin_peak module_index line builtin.ShiftRight w es = shifted_peak module_index line binary.ShiftRight w es
+builtin_peak module_index line builtin.RotateLeft w es = shifted_peak module_index line binary.RotateLeft w es
+builtin_peak module_index line builtin.RotateRight w es = shifted_peak module_index line binary.RotateRight w es
+builtin_peak module_index line builtin.Input w es = read_port_peak width.Byte es
+builtin_peak module_index line builtin.InputWord w es = read_port_peak width.Word es
+builtin_peak module_index line builtin.Length w es = omega arith
+builtin_peak module_index line builtin.Last w es = omega arith
+builtin_peak module_index line builtin.Size w es = omega arith
+builtin_peak module_index line builtin.Output w es = omega arith
+builtin_peak module_index line builtin.OutputWord w es = omega arith
+
+reference_value_peak : (variables : List Variable) (procedures : List ProcedureR) (b : Builtin) (x : ReferenceR') → peak (reference_value variables procedures b x) ≤ 0
+reference_value_peak variables procedures b (Use p (binding.Variable v) es s) = omega arith
+reference_value_peak variables procedures b (Use p (binding.Procedure q) es s) = omega arith
+reference_value_peak variables procedures b (Use p (binding.Builtin c) es s) = omega arith
+reference_value_peak variables procedures b (Use p binding.Nothing es s) = omega arith
+
+argument_peak : (variables : List Variable) (procedures : List ProcedureR) (b : Builtin) (e : ExpressionR) → peak (argument_value variables procedures b e) ≤ 0
+argument_peak variables procedures b (ReferenceR x) = reference_value_peak variables procedures b x
+argument_peak variables procedures b (NumberR n) = omega arith
+argument_peak variables procedures b (TextR p cs) = omega arith
+argument_peak variables procedures b (LocationR l) = omega arith
+argument_peak variables procedures b (ParenthesisedR p e) = omega arith
+argument_peak variables procedures b (EmbeddedR p x e) = omega arith
+argument_peak variables procedures b (UnaryR p o e) = omega arith
+argument_peak variables procedures b (BinaryR p o d e) = omega arith
+
+measured_peak : (variables : List Variable) (procedures : List ProcedureR) (b : Builtin) (es : ExpressionsR) → peak (measured_value variables procedures b es) ≤ 0
+measured_peak variables procedures b no_expressions = omega arith
+measured_peak variables procedures b (expressions e no_expressions) = argument_peak variables procedures b e
+measured_peak variables procedures b (expressions e (expressions d es)) = omega arith
+
+one_leaf : (x : ReferenceR') → 1 ≤ reference_leaves x
+one_leaf (Use p m es s) = cases (is_constant m)
+  where
+    cases : (b : Bool) → 1 ≤ cond b 1 (1 + expressions_leaves es + selector_leaves s)
+    cases true = omega arith
+    cases false = omega arith
+
+either : (m : Bool) (n a b : ℕ) → n ≤ a → n ≤ b → n ≤ cond m a b
+either true n a b x y = x
+either false n a b x y = y
+
+-- ---- trees
+
+module _ (variables : List Variable) (procedures : List ProcedureR) (objects : List ℕ) (module_index : ℕ) where
+  abbrev tree : ExpressionR → Expression
+  tree e = tree_of variables procedures objects module_index e
+
+  abbrev trees : ExpressionsR → Expressions
+  trees es = trees_of variables procedures objects module_index es
+
+  abbrev member_trees : SelectorR → Expressions
+  member_trees s = selector_trees variables procedures objects module_index s
+
+  built_in : (p : Position) (b : Builtin) (es : ExpressionsR) (s : SelectorR) (m : Bool) → pushed_peak (trees es) ≤ expressions_leaves es
+      → suc (peak (cond m (measured_value variables procedures b es) (builtin_value module_index p.line b (width_of (first_type (types_of variables procedures es))) (trees es)))) ≤ cond m 1 (1 + expressions_leaves es + selector_leaves s)
+  built_in p b es s true h = let k = measured_peak variables procedures b es in omega (arith, k)
+  built_in p b es s false h = let k = builtin_peak module_index p.line b (width_of (first_type (types_of variables procedures es))) (trees es) in omega (arith, h, k)
+
+  mutual
+    pub tree_peak : (e : ExpressionR) → suc (peak (tree e)) ≤ expression_leaves e
+    tree_peak (NumberR n) = omega arith
+    tree_peak (TextR p cs) = omega arith
+    tree_peak (ReferenceR x) = value_peak x
+    tree_peak (LocationR l) = location_peak l
+    tree_peak (ParenthesisedR p e) = tree_peak e
+    tree_peak (EmbeddedR p x e) = let h = stored_at_peak x in let i = tree_peak e in omega (arith, h, i)
+    tree_peak (UnaryR p o e) = tree_peak e
+    tree_peak (BinaryR p o a b) = let x = tree_peak a in let y = tree_peak b in omega (arith, x, y)
+
+    trees_peak : (es : ExpressionsR) → pushed_peak (trees es) ≤ expressions_leaves es
+    trees_peak no_expressions = omega arith
+    trees_peak (expressions e es) = let x = tree_peak e in let y = trees_peak es in omega (arith, x, y)
+
+    indices_peak : (es : ExpressionsR) → indexed_peak (trees es) ≤ expressions_leaves es
+    indices_peak no_expressions = omega arith
+    indices_peak (expressions e es) = let x = tree_peak e in let y = indices_peak es in omega (arith, x, y)
+
+    selector_peak : (s : SelectorR) → indexed_peak (member_trees s) ≤ selector_leaves s
+    selector_peak no_member = omega arith
+    selector_peak (member p m) = omega arith
+    selector_peak (member_at p m e) = let x = tree_peak e in omega (arith, x)
+
+    value_peak : (x : ReferenceR') → suc (peak (value_of variables procedures objects module_index x)) ≤ reference_leaves x
+    value_peak (Use p (binding.Variable v) es s) =
+        let h = use_peak (slice_get variables v) s (refer variables module_index p.line (slice_get variables v) s (trees es) (member_trees s)) in
+        let i = refer_peak variables module_index p.line (slice_get variables v) s (trees es) (member_trees s) in
+        let j = indices_peak es in
+        let k = selector_peak s in
+        omega (arith, h, i, j, k)
+    value_peak (Use p (binding.Procedure q) es s) = let h = trees_peak es in omega (arith, h)
+    value_peak (Use p (binding.Builtin b) es s) = built_in p b es s (is_measure b) (trees_peak es)
+    value_peak (Use p binding.Nothing es s) = omega arith
+
+    location_peak : (l : LocationR') → suc (peak (location_of variables procedures objects module_index l)) ≤ location_leaves l
+    location_peak (LocationOf p f (Use q (binding.Variable v) es s)) =
+        let i = refer_peak variables module_index q.line (slice_get variables v) s (trees es) (member_trees s) in
+        let j = indices_peak es in
+        let k = selector_peak s in
+        omega (arith, i, j, k)
+    location_peak (LocationOf p f (Use q (binding.Procedure n) es s)) = omega arith
+    location_peak (LocationOf p f (Use q (binding.Builtin b) es s)) = one_leaf (Use q (binding.Builtin b) es s)
+    location_peak (LocationOf p f (Use q binding.Nothing es s)) = omega arith
+    location_peak (ConstantsOf p f k) = omega arith
+
+    stored_at_peak : (x : ReferenceR') → target_peak (target_of variables procedures objects module_index x) ≤ target_leaves x
+    stored_at_peak (Use p (binding.Variable v) es s) =
+        let h = stored_peak (slice_get variables v) s (refer variables module_index p.line (slice_get variables v) s (trees es) (member_trees s)) in
+        let i = refer_peak variables module_index p.line (slice_get variables v) s (trees es) (member_trees s) in
+        let j = indices_peak es in
+        let k = selector_peak s in
+        omega (arith, h, i, j, k)
+    stored_at_peak (Use p (binding.Procedure q) es s) = omega arith
+    stored_at_peak (Use p (binding.Builtin b) no_expressions s) = omega arith
+    stored_at_peak (Use p (binding.Builtin b) (expressions e no_expressions) s) =
+        let h = tree_peak e in
+        let i = port_at_most (tree e) (peak (tree e)) in
+        either (is_target b) (port_peak (tree e) (peak (tree e))) (expression_leaves e + 0) (1 + (expression_leaves e + 0) + selector_leaves s) (omega (arith, h, i)) (omega (arith, h, i))
+    stored_at_peak (Use p (binding.Builtin b) (expressions e (expressions d es)) s) = omega arith
+    stored_at_peak (Use p binding.Nothing es s) = omega arith
+
+  abbrev highest : List Target → ℕ
+  highest [] = 0
+  highest (t ∷ ts) = max (target_peak t) (highest ts)
+
+  targets_highest : (t : Target) (ts : List Target) → targets_peak (targets t ts) ≡ max (target_peak t) (highest ts)
+  targets_highest t [] = omega arith
+  targets_highest t (u ∷ us) = let h = targets_highest u us in omega (arith, h)
+
+  highest_low : (xs : ReferencesR) → highest (target_trees variables procedures objects module_index xs) ≤ targets_leaves xs
+  highest_low no_references = omega arith
+  highest_low (references x xs) = let h = stored_at_peak x in let i = highest_low xs in omega (arith, h, i)
+
+  assignment_peak : (xs : ReferencesR) (d : ExpressionR) → statement_peak (assignment (target_trees variables procedures objects module_index xs) (tree d)) ≤ targets_leaves xs + expression_leaves d
+  assignment_peak no_references d = let h = tree_peak d in omega (arith, h)
+  assignment_peak (references x xs) d =
+      let h = targets_highest (target_of variables procedures objects module_index x) (target_trees variables procedures objects module_index xs) in
+      let i = highest_low (references x xs) in
+      let j = tree_peak d in
+      omega (arith, h, i, j)
+
+  called_peak : (x : ReferenceR') → peak (called variables procedures objects module_index x) ≤ reference_leaves x
+  called_peak (Use q (binding.Procedure n) es s) = let h = trees_peak es in omega (arith, h)
+  called_peak (Use q (binding.Variable v) es s) = omega arith
+  called_peak (Use q (binding.Builtin b) es s) = omega arith
+  called_peak (Use q binding.Nothing es s) = omega arith
+
+  step_peak : (s : Option ExpressionR) → peak (step_for variables procedures objects module_index s) ≤ step_leaves s
+  step_peak None = omega arith
+  step_peak (Some e) = let h = tree_peak e in omega (arith, h)
+
+  mutual
+    statement_low : (around : Around) (s : StatementR) → statement_peak (statement_for variables procedures objects module_index around s) ≤ most_in s
+    statement_low around (EmptyR p) = omega arith
+    statement_low around (AssignR xs e) = assignment_peak xs e
+    statement_low around (CallR p x) = called_peak x
+    statement_low around (ReturnR p) = omega arith
+    statement_low around (ReturnValueR p e) = let h = tree_peak e in omega (arith, h)
+    statement_low around (EnableR p) = omega arith
+    statement_low around (DisableR p) = omega arith
+    statement_low around (HaltR p) = omega arith
+    statement_low around (IfR p e s) = let h = tree_peak e in let i = statement_low around s in omega (arith, h, i)
+    statement_low around (IfElseR p e s t) = let h = tree_peak e in let i = statement_low around s in let j = statement_low around t in omega (arith, h, i, j)
+    statement_low around (DoR p ss) = statements_low around ss
+    statement_low around (WhileR p e ss) = let h = tree_peak e in let i = statements_low around ss in omega (arith, h, i)
+    statement_low around (CaseR p e ss) = let h = tree_peak e in let i = statements_low around ss in omega (arith, h, i)
+    statement_low around (IterateR p q m a b s ss) =
+        let h = tree_peak a in
+        let i = tree_peak b in
+        let j = step_peak s in
+        let k = statements_low around ss in
+        omega (arith, h, i, j, k)
+
+    pub statements_low : (around : Around) (ss : StatementsR) → statements_peak (statements_for variables procedures objects module_index around ss) ≤ most_of ss
+    statements_low around no_statements = omega arith
+    statements_low around (statements s ss) = let h = statement_low around s in let i = statements_low around ss in omega (arith, h, i)
+
+-- ---- a program's procedures
+
+module _ (variables : List Variable) (declared : List ProcedureR) (sizes : List ℕ) where
+  body_low : (p : ProcedureR) → statements_peak (body_for variables declared sizes p) ≤ most_of p.body
+  body_low p = cases (is_external p.linkage)
+    where
+      cases : (b : Bool) → statements_peak (cond b End (statements_for variables declared sizes p.module (stands.Procedure p.returned) p.body)) ≤ most_of p.body
+      cases true = omega arith
+      cases false = statements_low variables declared sizes p.module (stands.Procedure p.returned) p.body
+
+  pub procedure_low : (ps : List ProcedureR) (q : ℕ) (x : Procedure) → slice_get (map (procedure_for variables declared sizes) ps) q ≡ Some x → statements_peak x.body ≤ procedures_most ps
+  procedure_low [] q x got = absurd (nothing_there got)
+    where
+      nothing_there : None ≡ Some x → ⊥
+      nothing_there e = cc
+  procedure_low (p ∷ ps) zero x got =
+      let h = body_low p in
+      let same : statements_peak (body_for variables declared sizes p) ≡ statements_peak x.body = ap (λ (o : Option Procedure). elim o [ None ↦ statements_peak (body_for variables declared sizes p) | Some y ↦ statements_peak y.body ]) got in
+      omega (arith, h, same)
+  procedure_low (p ∷ ps) (suc q) x got = let h = procedure_low ps q x got in omega (arith, h)
+
+-- ---- programs
+
+module _ (names : Names) where
+  procedure_code_low : (q : ℕ) (o : Option Procedure) → slice_get (procedures_of names) q ≡ o → (s : Bool) (k : ℕ) → height (procedure_code (procedures_of names) s o) k ≤ most_leaves names
+  procedure_code_low q None got s k = low (most_leaves names) 0 0 [] (omega arith, refl) k
+  procedure_code_low q (Some x) got s k =
+      let h = procedure_low names.variables.items (declared_procedures names) (sizes_of names) (declared_procedures names) q x got in
+      routine_low (procedures_of names) (kind_of s) x.body (most_leaves names) (omega (arith, h)) k
+
+  pub code_low : (r : Routine) (k : ℕ) → height (program_code names r) k ≤ most_leaves names
+  code_low routine.Main k =
+      let m = main_of names.main in
+      let h = statements_low names.variables.items (declared_procedures names) (sizes_of names) m.module stands.Main m.statements in
+      routine_low (procedures_of names) OfMain (main_tree names) (most_leaves names) (omega (arith, h)) k
+  code_low (routine.Procedure q) k = procedure_code_low q (slice_get (procedures_of names) q) refl (serves (vectors_of names) q) k
+  code_low routine.Unserved k = low (most_leaves names) 0 0 (Finish ∷ []) (omega arith, (omega arith, refl)) k
+  code_low routine.Nowhere k = low (most_leaves names) 0 0 [] (omega arith, refl) k

@@ -1,0 +1,486 @@
+-- How much room the code of trees takes at most: 46 bytes for each node.
+use Rattle.std.proofs.Common.{◌≡◌, ℕ, suc, ◌+◌, ◌*◌, ◌≤◌, Bool, true, false, List, [], ◌∷◌, ◌++◌, length, Option, Some, None, refl, ap, ◌∙◌, arith, slice_get}
+use Rattle.std.specs.Prelude.{cond, nat_eq, if◌then◌else◌, ◌%◌}
+use Rattle.word86.specs.declared.width.Width.{Width}
+use Rattle.word86.specs.declared.width.Width.TheVariants as widths
+use Rattle.word86.specs.declared.operation.BinaryOperation.{BinaryOperation}
+use Rattle.word86.specs.declared.operation.BinaryOperation.TheVariants as binary
+use Rattle.word86.specs.Access.{Where}
+use Rattle.plm_type.specs.Rest.{Anchor, InObject, OnScreen, Behind, There, Scalar, Expression, Constant, Plain, Variable, Location, Unary, Binary, Embedded, Input, Call, Value, Passing, Running, Expressions, NoMore, More, Reference, Refer, Subscripts, NoSubscripts, Subscript, Target, ToPlain, ToVariable, ToPort, Targets, Only, Also, Count, Statement, Empty, Assign, Evaluate, Return, ReturnValue, Enabling, Disabling, Halting, If, Block, While, Case, Iterate, Leaving, Round, Comparing, Stepping, Adding, Storing, Ending, Statements, End, Then, Returned, Procedure}
+use Rattle.plm_type.specs.Next.{parameters_of}
+use Rattle.icode.specs.declared.instruction.Instruction.{Instruction}
+use Rattle.icode.specs.declared.instruction.Instruction.TheVariants as op
+use Rattle.icode.specs.declared.instruction.Relation.{Relation}
+use Rattle.icode.specs.declared.instruction.Relation.TheVariants as relation
+use Rattle.icode.specs.declared.instruction.Test.{Test}
+use Rattle.icode.specs.Registers.{is_direct}
+use Rattle.icode.specs.Room.{room_of, room_of_constant, room_of_read, room_of_test, room_in}
+use Rattle.lower.specs.Code.{Operand, Number, Name, Computed, operand_of, place_of, beside, operation, anchor_place, scaled, moved, based, reading, locating, writing, receiving, sending, passing, alone, count_of, relation_of, stands_to, asked, test_of, asking, expression_code, pushed_code, subscripts_code, further_code, target_code, targets_code, condition_code, Kind, OfMain, Called, Serving, returning, narrowed, add_pushed, next_round, are_silent, over, failing, choosing, all_of, entries, switching, exit_before, statement_code, statements_code, cases_code, ending, routine_code}
+use Rattle.lower.specs.Well.{IsExpression, AreExpressions, AreSubscripts, IsTarget, AreTargets, IsStatement, AreStatements}
+
+-- ---- the nodes of typed trees
+
+abbrev mutual
+  pub nodes : Expression → ℕ
+  nodes (Constant k) = 1
+  nodes (Plain width x) = 1
+  nodes (Variable width r) = reference_nodes r
+  nodes (Location r) = reference_nodes r
+  nodes (Unary o width e) = 1 + nodes e
+  nodes (Binary module_index line o width a b) = 1 + nodes a + nodes b
+  nodes (Embedded t e) = target_nodes t + nodes e
+  nodes (Input width e) = 1 + nodes e
+  nodes (Call p es) = 1 + all_nodes es
+  nodes (Value v) = 0
+  nodes (Passing p xs vs) = 0
+  nodes (Running ss) = 0
+
+  pub all_nodes : Expressions → ℕ
+  all_nodes NoMore = 0
+  all_nodes (More e es) = nodes e + all_nodes es
+
+  pub reference_nodes : Reference → ℕ
+  reference_nodes (Refer module_index line anchor offset ss) = 1 + subscripts_nodes ss
+
+  pub subscripts_nodes : Subscripts → ℕ
+  subscripts_nodes NoSubscripts = 0
+  subscripts_nodes (Subscript stride e more) = nodes e + subscripts_nodes more
+
+  pub target_nodes : Target → ℕ
+  target_nodes (ToPlain width x) = 1
+  target_nodes (ToVariable width r) = reference_nodes r
+  target_nodes (ToPort width e) = nodes e
+
+abbrev pub targets_nodes : Targets → ℕ
+targets_nodes (Only t) = target_nodes t
+targets_nodes (Also t ts) = target_nodes t + targets_nodes ts
+
+-- a constant step may be missing
+abbrev pub step_nodes : Expression → ℕ
+step_nodes (Constant k) = 0
+step_nodes e = nodes e
+
+abbrev mutual
+  pub statement_nodes : Statement → ℕ
+  statement_nodes (Assign ts e) = 1 + targets_nodes ts + nodes e
+  statement_nodes (Evaluate e) = 1 + nodes e
+  statement_nodes (ReturnValue width e) = 1 + nodes e
+  statement_nodes (If c arm other) = 1 + nodes c + statements_nodes arm + statements_nodes other
+  statement_nodes (Block ss) = 1 + statements_nodes ss
+  statement_nodes (While c d ss) = 1 + nodes d + statements_nodes ss
+  statement_nodes (Case e ss) = 1 + nodes e + statements_nodes ss
+  statement_nodes (Iterate a (Count x bound step ss)) = 2 + nodes a + nodes bound + step_nodes step + statements_nodes ss
+  statement_nodes _ = 1
+
+  pub statements_nodes : Statements → ℕ
+  statements_nodes End = 0
+  statements_nodes (Then s later) = statement_nodes s + statements_nodes later
+  statements_nodes (Returned v) = 0
+
+-- ---- parts of expressions
+
+pub room_append : (xs ys : List Instruction) → room_in (xs ++ ys) ≡ room_in xs + room_in ys
+room_append [] ys = omega arith
+room_append (x ∷ xs) ys = let h = room_append xs ys in omega (arith, h)
+
+constant_room : (o : BinaryOperation) → room_of_constant o ≤ 14
+constant_room o = cases (is_direct o)
+  where
+    cases : (b : Bool) → (if b then 5 else 14) ≤ 14
+    cases true = omega arith
+    cases false = omega arith
+
+read_room : (width : Width) (o : BinaryOperation) → room_of_read width o ≤ 18
+read_room widths.Byte o = omega arith
+read_room widths.Word o = cases (is_direct o)
+  where
+    cases : (b : Bool) → (if b then 7 else 16) ≤ 18
+    cases true = omega arith
+    cases false = omega arith
+
+chosen_room : (b : Bool) (x : Instruction) → room_in (cond b [] (x ∷ [])) ≤ room_of x
+chosen_room true x = omega arith
+chosen_room false x = omega arith
+
+scaled_room : (stride : ℕ) → room_in (scaled stride) ≤ 14
+scaled_room stride = chosen_room (nat_eq stride 1) (op.BinaryConstant binary.Multiply widths.Word (stride % 65536))
+
+moved_room : (offset : ℕ) → room_in (moved offset) ≤ 5
+moved_room offset = chosen_room (nat_eq offset 0) (op.BinaryConstant binary.Add widths.Word (offset % 65536))
+
+based_room : (base : Where) (offset : ℕ) (ss : Subscripts) → room_in (based base offset ss) ≤ 12
+based_room base offset NoSubscripts = let h = moved_room offset in omega (arith, h)
+based_room base offset (Subscript stride e more) = let h = moved_room offset in omega (arith, h)
+
+reading_room : (width : Width) (anchor : Anchor) (offset : ℕ) (ss : Subscripts) → room_in (reading width anchor offset ss) ≤ 20
+reading_room width (Behind base) offset ss =
+    let h = room_append (based base offset ss) (op.LoadThere width ∷ []) in let k = based_room base offset ss in omega (arith, h, k)
+reading_room width (InObject k start size) offset NoSubscripts = omega arith
+reading_room width (InObject k start size) offset (Subscript stride e more) = omega arith
+reading_room width (OnScreen start size) offset NoSubscripts = omega arith
+reading_room width (OnScreen start size) offset (Subscript stride e more) = omega arith
+reading_room width (There address) offset NoSubscripts = omega arith
+reading_room width (There address) offset (Subscript stride e more) = omega arith
+
+locating_room : (anchor : Anchor) (offset : ℕ) (ss : Subscripts) → room_in (locating anchor offset ss) ≤ 20
+locating_room (Behind base) offset ss = let k = based_room base offset ss in omega (arith, k)
+locating_room (InObject k start size) offset NoSubscripts = omega arith
+locating_room (InObject k start size) offset (Subscript stride e more) = omega arith
+locating_room (OnScreen start size) offset NoSubscripts = omega arith
+locating_room (OnScreen start size) offset (Subscript stride e more) = omega arith
+locating_room (There address) offset NoSubscripts = omega arith
+locating_room (There address) offset (Subscript stride e more) = omega arith
+
+writing_room : (width : Width) (anchor : Anchor) (offset : ℕ) (ss : Subscripts) (code : List Instruction) → room_in (writing width anchor offset ss code) ≤ 20 + room_in code
+writing_room width (Behind base) offset ss code =
+    let back = based base offset ss ++ op.StoreThere width ∷ [] in
+    let h = room_append code back in
+    let i = room_append (based base offset ss) (op.StoreThere width ∷ []) in
+    let k = based_room base offset ss in
+    omega (arith, h, i, k)
+writing_room width (InObject k start size) offset NoSubscripts code = omega arith
+writing_room width (InObject k start size) offset (Subscript stride e more) code =
+    let h = room_append code (op.StoreAt width (anchor_place (InObject k start size) offset) ∷ []) in omega (arith, h)
+writing_room width (OnScreen start size) offset NoSubscripts code = omega arith
+writing_room width (OnScreen start size) offset (Subscript stride e more) code =
+    let h = room_append code (op.StoreAt width (anchor_place (OnScreen start size) offset) ∷ []) in omega (arith, h)
+writing_room width (There address) offset NoSubscripts code = omega arith
+writing_room width (There address) offset (Subscript stride e more) code =
+    let h = room_append code (op.StoreAt width (anchor_place (There address) offset) ∷ []) in omega (arith, h)
+
+receiving_room : (width : Width) (o : Operand) (code : List Instruction) → room_in (receiving width o code) ≤ 6 + room_in code
+receiving_room width (Number port) code = omega arith
+receiving_room width (Name read x) code = let h = room_append code (op.Receive width ∷ []) in omega (arith, h)
+receiving_room width Computed code = let h = room_append code (op.Receive width ∷ []) in omega (arith, h)
+
+sending_room : (width : Width) (o : Operand) (code : List Instruction) → room_in (sending width o code) ≤ 5 + room_in code
+sending_room width (Number port) code = omega arith
+sending_room width (Name read x) code = let h = room_append code (op.Send width ∷ []) in omega (arith, h)
+sending_room width Computed code = let h = room_append code (op.Send width ∷ []) in omega (arith, h)
+
+operated_room : (o : BinaryOperation) (width : Width) (right : Operand) (code : List Instruction) → room_in (beside right code ++ operation o width right ∷ []) ≤ 18 + room_in code
+operated_room o width (Number k) code = let h = constant_room o in omega (arith, h)
+operated_room o width (Name read x) code = let h = read_room read o in omega (arith, h)
+operated_room o width Computed code = let h = room_append code (op.Binary o width ∷ []) in omega (arith, h)
+
+tested_room : (o : Relation) (right : Operand) (code : List Instruction) → room_in (beside right code) + room_of_test (stands_to o right) ≤ 14 + room_in code
+tested_room o (Number k) code = omega arith
+tested_room o (Name widths.Byte x) code = omega arith
+tested_room o (Name widths.Word x) code = omega arith
+tested_room o Computed code = omega arith
+
+passing_room : (xs : List Scalar) → room_in (passing xs) ≡ 10 * length xs
+passing_room [] = refl
+passing_room (x ∷ xs) = let h = passing_room xs in omega (arith, h)
+
+alone_room : (xs : List Scalar) → room_in (alone xs) ≤ 4
+alone_room [] = omega arith
+alone_room (x ∷ xs) = omega arith
+
+-- ---- expressions
+
+module _ (sizes : List ℕ) (procedures : List Procedure) (MayCall : ℕ → Type 0) where
+  abbrev code : Expression → List Instruction
+  code e = expression_code procedures e
+
+  several_room : (p : ℕ) (xs : List Scalar) (n : ℕ) (pushed : List Instruction) → length xs ≡ suc (suc n) → room_in (pushed ++ (passing xs ++ op.Drop (2 + n) ∷ op.Invoke p ∷ [])) ≤ room_in pushed + 10 * n + 27
+  several_room p xs n pushed same =
+      let h = room_append pushed (passing xs ++ op.Drop (2 + n) ∷ op.Invoke p ∷ []) in
+      let i = room_append (passing xs) (op.Drop (2 + n) ∷ op.Invoke p ∷ []) in
+      let j = passing_room xs in
+      omega (arith, h, i, j, same)
+
+  mutual
+    pub expression_room : (e : Expression) → IsExpression sizes procedures MayCall e → room_in (code e) + 20 ≤ 46 * nodes e
+    expression_room (Constant k) is = omega arith
+    expression_room (Plain width x) is = omega arith
+    expression_room (Variable width (Refer m l anchor offset ss)) is =
+        let h = room_append (subscripts_code procedures ss) (reading width anchor offset ss) in
+        let i = subscripts_room ss is.1 in
+        let j = reading_room width anchor offset ss in
+        omega (arith, h, i, j)
+    expression_room (Location (Refer m l anchor offset ss)) is =
+        let h = room_append (subscripts_code procedures ss) (locating anchor offset ss) in
+        let i = subscripts_room ss is.1 in
+        let j = locating_room anchor offset ss in
+        omega (arith, h, i, j)
+    expression_room (Unary o width e) is = let h = room_append (code e) (op.Unary o width ∷ []) in let i = expression_room e is in omega (arith, h, i)
+    expression_room (Binary m l o width a b) is =
+        let h = room_append (code a) (beside (operand_of b) (code b) ++ operation o width (operand_of b) ∷ []) in
+        let i = expression_room a is.0 in
+        let j = expression_room b is.1 in
+        let k = operated_room o width (operand_of b) (code b) in
+        omega (arith, h, i, j, k)
+    expression_room (Embedded t e) is =
+        let h = room_append (code e) (target_code procedures t) in
+        let i = expression_room e is.1 in
+        let j = target_room t is.0 in
+        omega (arith, h, i, j)
+    expression_room (Input width e) is = let h = receiving_room width (operand_of e) (code e) in let i = expression_room e is in omega (arith, h, i)
+    expression_room (Call p NoMore) is = omega arith
+    expression_room (Call p (More e NoMore)) is =
+        let xs = parameters_of (slice_get procedures p) in
+        let h = room_append (code e) (alone xs ++ op.Invoke p ∷ []) in
+        let i = room_append (alone xs) (op.Invoke p ∷ []) in
+        let j = alone_room xs in
+        let k = expression_room e is.1.0 in
+        omega (arith, h, i, j, k)
+    expression_room (Call p (More e (More f es))) is =
+        let xs = parameters_of (slice_get procedures p) in
+        let same : length xs ≡ suc (suc (count_of es)) = ap (λ o. length (parameters_of o)) is.0.1 ∙ is.0.2 in
+        let h = several_room p xs (count_of es) (pushed_code procedures (More e (More f es))) same in
+        let i = pushed_room (More e (More f es)) is.1 in
+        omega (arith, h, i)
+    expression_room (Value v) is = absurd is
+    expression_room (Passing p xs vs) is = absurd is
+    expression_room (Running ss) is = absurd is
+
+    pushed_room : (es : Expressions) → AreExpressions sizes procedures MayCall es → room_in (pushed_code procedures es) + 19 * count_of es ≤ 46 * all_nodes es
+    pushed_room NoMore is = omega arith
+    pushed_room (More e es) is =
+        let h = room_append (code e) (op.Push ∷ pushed_code procedures es) in
+        let i = expression_room e is.0 in
+        let j = pushed_room es is.1 in
+        omega (arith, h, i, j)
+
+    -- of at most two
+    subscripts_room : (ss : Subscripts) → AreSubscripts sizes procedures MayCall 2 ss → room_in (subscripts_code procedures ss) ≤ 46 * subscripts_nodes ss + 3
+    subscripts_room NoSubscripts is = omega arith
+    subscripts_room (Subscript stride e more) is =
+        let h = room_append (code e) (scaled stride ++ further_code procedures more) in
+        let i = room_append (scaled stride) (further_code procedures more) in
+        let j = expression_room e is.0 in
+        let k = further_room more is.1 in
+        let l = scaled_room stride in
+        omega (arith, h, i, j, k, l)
+
+    further_room : (ss : Subscripts) → AreSubscripts sizes procedures MayCall 1 ss → room_in (further_code procedures ss) ≤ 46 * subscripts_nodes ss + 9
+    further_room NoSubscripts is = omega arith
+    further_room (Subscript stride e NoSubscripts) is =
+        let h = room_append (code e) (scaled stride ++ op.Binary binary.Add widths.Word ∷ []) in
+        let i = room_append (scaled stride) (op.Binary binary.Add widths.Word ∷ []) in
+        let j = expression_room e is.0 in
+        let l = scaled_room stride in
+        omega (arith, h, i, j, l)
+    further_room (Subscript stride e (Subscript s f more)) is = absurd is.1
+
+    pub target_room : (t : Target) → IsTarget sizes procedures MayCall t → room_in (target_code procedures t) ≤ 46 * target_nodes t
+    target_room (ToPlain width x) is = omega arith
+    target_room (ToVariable width (Refer m l anchor offset ss)) is =
+        let h = writing_room width anchor offset ss (subscripts_code procedures ss) in
+        let i = subscripts_room ss is.1 in
+        omega (arith, h, i)
+    target_room (ToPort width e) is = let h = sending_room width (operand_of e) (code e) in let i = expression_room e is in omega (arith, h, i)
+
+  targets_room : (ts : Targets) → AreTargets sizes procedures MayCall ts → room_in (targets_code procedures ts) ≤ 46 * targets_nodes ts
+  targets_room (Only t) is = target_room t is
+  targets_room (Also t ts) is =
+      let h = room_append (target_code procedures t) (targets_code procedures ts) in
+      let i = target_room t is.0 in
+      let j = targets_room ts is.1 in
+      omega (arith, h, i, j)
+
+  -- with its test
+  condition_room : (e : Expression) → IsExpression sizes procedures MayCall e → room_in (condition_code procedures e) + room_of_test (test_of e) ≤ 46 * nodes e
+  condition_room (Constant k) is = let h = expression_room (Constant k) is in omega (arith, h)
+  condition_room (Plain width x) is = let h = expression_room (Plain width x) is in omega (arith, h)
+  condition_room (Variable width r) is = let h = expression_room (Variable width r) is in omega (arith, h)
+  condition_room (Location r) is = let h = expression_room (Location r) is in omega (arith, h)
+  condition_room (Unary o width e) is = let h = expression_room (Unary o width e) is in omega (arith, h)
+  condition_room (Binary m l o width a b) is = cases (relation_of o)
+    where
+      cases : (r : Option Relation) → room_in (asking r (code a) (beside (operand_of b) (code b)) (code (Binary m l o width a b))) + room_of_test (asked r (operand_of b)) ≤ 46 * (1 + nodes a + nodes b)
+      cases (Some r) =
+          let h = room_append (code a) (beside (operand_of b) (code b)) in
+          let i = expression_room a is.0 in
+          let j = expression_room b is.1 in
+          let k = tested_room r (operand_of b) (code b) in
+          omega (arith, h, i, j, k)
+      cases None = let h = expression_room (Binary m l o width a b) is in omega (arith, h)
+  condition_room (Embedded t e) is = let h = expression_room (Embedded t e) is in omega (arith, h)
+  condition_room (Input width e) is = let h = expression_room (Input width e) is in omega (arith, h)
+  condition_room (Call p es) is = let h = expression_room (Call p es) is in omega (arith, h)
+  condition_room (Value v) is = absurd is
+  condition_room (Passing p xs vs) is = absurd is
+  condition_room (Running ss) is = absurd is
+
+-- ---- parts of statements
+
+returning_room : (around : Kind) → room_in (returning around) ≤ 6
+returning_room OfMain = omega arith
+returning_room Called = omega arith
+returning_room Serving = omega arith
+
+narrowed_room : (width : Width) → room_in (narrowed width) ≤ 4
+narrowed_room widths.Byte = omega arith
+narrowed_room widths.Word = omega arith
+
+over_room : (silent : Bool) (otherwise : List Instruction) (exit : ℕ) → room_in (over silent otherwise exit) ≤ 3
+over_room true otherwise exit = omega arith
+over_room false otherwise exit = omega arith
+
+pushed_step_room : (x : Scalar) (code : List Instruction) (before : ℕ) → room_in (code ++ add_pushed x before) ≤ room_in code + 34
+pushed_step_room x code before = let h = room_append code (add_pushed x before) in omega (arith, h)
+
+choosing_room : (condition : List Instruction) (t : Test) (arm : List Instruction) (silent : Bool) (otherwise : List Instruction) (exit : ℕ)
+    → room_in (choosing condition t arm silent otherwise exit) ≤ (room_in condition + room_of_test t) + room_in arm + room_in otherwise + 3
+choosing_room condition t arm silent otherwise exit =
+    let h = room_append condition (op.AheadUnless t (failing silent arm exit) ∷ (arm ++ (over silent otherwise exit ++ otherwise))) in
+    let i = room_append arm (over silent otherwise exit ++ otherwise) in
+    let j = room_append (over silent otherwise exit) otherwise in
+    let k = over_room silent otherwise exit in
+    omega (arith, h, i, j, k)
+
+entries_room : (before : ℕ) (cs : List (List Instruction)) → room_in (entries before cs) ≡ 2 * length cs
+entries_room before [] = refl
+entries_room before (c ∷ cs) = let h = entries_room (before + length c) cs in omega (arith, h)
+
+switching_room : (cs : List (List Instruction)) (exit : ℕ) → room_in (switching cs exit) ≡ 20 + 2 * length cs + room_in (all_of cs)
+switching_room cs exit =
+    let h = room_append (entries 0 cs) (op.Ahead (length (all_of cs) + exit) ∷ all_of cs) in
+    let i = entries_room 0 cs in
+    omega (arith, h, i)
+
+-- ---- statements
+
+module _ (sizes : List ℕ) (procedures : List Procedure) (MayCall : ℕ → Type 0) (around : Kind) where
+  abbrev value_code : Expression → List Instruction
+  value_code e = expression_code procedures e
+
+  computed_step_room : (x : Scalar) (e : Expression) (before : ℕ) → IsExpression sizes procedures MayCall e → room_in (value_code e ++ add_pushed x before) ≤ 46 * nodes e + 34
+  computed_step_room x e before is = let h = pushed_step_room x (value_code e) before in let i = expression_room sizes procedures MayCall e is in omega (arith, h, i)
+
+  next_room : (x : Scalar) (e : Expression) (before : ℕ) → IsExpression sizes procedures MayCall e → room_in (next_round x (operand_of e) (value_code e) before) ≤ 46 * step_nodes e + 34
+  next_room x (Constant k) before is = omega arith
+  next_room x (Plain width y) before is = computed_step_room x (Plain width y) (before + length (value_code (Plain width y))) is
+  next_room x (Variable width r) before is = computed_step_room x (Variable width r) (before + length (value_code (Variable width r))) is
+  next_room x (Location r) before is = computed_step_room x (Location r) (before + length (value_code (Location r))) is
+  next_room x (Unary o width e) before is = computed_step_room x (Unary o width e) (before + length (value_code (Unary o width e))) is
+  next_room x (Binary m l o width a b) before is = computed_step_room x (Binary m l o width a b) (before + length (value_code (Binary m l o width a b))) is
+  next_room x (Embedded t e) before is = computed_step_room x (Embedded t e) (before + length (value_code (Embedded t e))) is
+  next_room x (Input width e) before is = computed_step_room x (Input width e) (before + length (value_code (Input width e))) is
+  next_room x (Call p es) before is = computed_step_room x (Call p es) (before + length (value_code (Call p es))) is
+  next_room x (Value v) before is = absurd is
+  next_room x (Passing p xs vs) before is = absurd is
+  next_room x (Running ss) before is = absurd is
+
+  iterate_room : (a : Expression) (x : Scalar) (bound step : Expression) (body : List Instruction) (n exit : ℕ) → IsExpression sizes procedures MayCall a → IsExpression sizes procedures MayCall bound
+      → IsExpression sizes procedures MayCall step
+      → room_in (value_code a ++ (op.Store x.width (place_of x.place) ∷ op.Load x.width (place_of x.place)
+      ∷ (beside (operand_of bound) (value_code bound) ++ (op.AheadUnless (stands_to relation.LessEqual (operand_of bound)) exit ∷ (body ++ next_round x (operand_of step) (value_code step) n)))))
+      ≤ 46 * (nodes a + nodes bound + step_nodes step) + room_in body + 18
+  iterate_room a x bound step body n exit ia ib is =
+      let again = next_round x (operand_of step) (value_code step) n in
+      let compared = beside (operand_of bound) (value_code bound) in
+      let rest = op.AheadUnless (stands_to relation.LessEqual (operand_of bound)) exit ∷ (body ++ again) in
+      let h = room_append (value_code a) (op.Store x.width (place_of x.place) ∷ op.Load x.width (place_of x.place) ∷ (compared ++ rest)) in
+      let i = room_append compared rest in
+      let j = room_append body again in
+      let k = tested_room relation.LessEqual (operand_of bound) (value_code bound) in
+      let l = next_room x step n is in
+      let m = expression_room sizes procedures MayCall a ia in
+      let o = expression_room sizes procedures MayCall bound ib in
+      omega (arith, h, i, j, k, l, m, o)
+
+  mutual
+    statement_room : (s : Statement) (exit : ℕ) → IsStatement sizes procedures MayCall around s → room_in (statement_code procedures around exit s) + 5 ≤ 46 * statement_nodes s
+    statement_room Empty exit is = omega arith
+    statement_room (Assign ts e) exit is =
+        let h = room_append (value_code e) (targets_code procedures ts) in
+        let i = expression_room sizes procedures MayCall e is.1 in
+        let j = targets_room sizes procedures MayCall ts is.0 in
+        omega (arith, h, i, j)
+    statement_room (Evaluate e) exit is = let i = expression_room sizes procedures MayCall e is in omega (arith, i)
+    statement_room Return exit is = let h = returning_room around in omega (arith, h)
+    statement_room (ReturnValue width e) exit is =
+        let h = room_append (value_code e) (narrowed width ++ op.Leave ∷ []) in
+        let i = room_append (narrowed width) (op.Leave ∷ []) in
+        let j = narrowed_room width in
+        let k = expression_room sizes procedures MayCall e is.1 in
+        omega (arith, h, i, j, k)
+    statement_room Enabling exit is = omega arith
+    statement_room Disabling exit is = omega arith
+    statement_room Halting exit is = omega arith
+    statement_room (If c arm other) exit is =
+        let otherwise = statements_code procedures around exit other in
+        let arm_exit = length (over (are_silent other) otherwise exit) + length otherwise + exit in
+        let h = choosing_room (condition_code procedures c) (test_of c) (statements_code procedures around arm_exit arm) (are_silent other) otherwise exit in
+        let i = condition_room sizes procedures MayCall c is.0 in
+        let j = statements_room arm arm_exit is.1 in
+        let k = statements_room other exit is.2 in
+        omega (arith, h, i, j, k)
+    statement_room (Block ss) exit is = let h = statements_room ss exit is in omega (arith, h)
+    statement_room (While c d ss) exit is =
+        let condition = condition_code procedures d in
+        let body = statements_code procedures around 0 ss in
+        let back = op.Back (length condition + length body + 2) ∷ [] in
+        let h = room_append condition (op.AheadUnless (test_of d) (length body + 1 + exit) ∷ (body ++ back)) in
+        let i = room_append body back in
+        let j = condition_room sizes procedures MayCall d is.1 in
+        let k = statements_room ss 0 is.2 in
+        omega (arith, h, i, j, k)
+    statement_room (Case e ss) exit is =
+        let cs = cases_code procedures around exit ss in
+        let h = room_append (value_code e) (switching cs exit) in
+        let i = switching_room cs exit in
+        let j = expression_room sizes procedures MayCall e is.0 in
+        let k = cases_room ss exit is.1 in
+        omega (arith, h, i, j, k)
+    statement_room (Iterate a (Count x bound step ss)) exit is =
+        let body = statements_code procedures around 0 ss in
+        let n = length (beside (operand_of bound) (value_code bound)) + length body + 2 in
+        let h = iterate_room a x bound step body n (length body + length (next_round x (operand_of step) (value_code step) n) + exit) is.0 is.1.1 is.1.2 in
+        let i = statements_room ss 0 is.1.3 in
+        omega (arith, h, i)
+    statement_room Leaving exit is = absurd is
+    statement_room (Round l) exit is = absurd is
+    statement_room (Comparing i e l) exit is = absurd is
+    statement_room (Stepping e l) exit is = absurd is
+    statement_room (Adding i s l) exit is = absurd is
+    statement_room (Storing s l) exit is = absurd is
+    statement_room (Ending s l) exit is = absurd is
+
+    pub statements_room : (ss : Statements) (exit : ℕ) → AreStatements sizes procedures MayCall around ss → room_in (statements_code procedures around exit ss) ≤ 46 * statements_nodes ss
+    statements_room End exit is = omega arith
+    statements_room (Then s later) exit is =
+        let at = exit_before (are_silent later) exit in
+        let h = room_append (statement_code procedures around at s) (statements_code procedures around exit later) in
+        let i = statement_room s at is.0 in
+        let j = statements_room later exit is.1 in
+        omega (arith, h, i, j)
+    statements_room (Returned v) exit is = absurd is
+
+    -- with their entries
+    cases_room : (ss : Statements) (exit : ℕ) → AreStatements sizes procedures MayCall around ss
+        → room_in (all_of (cases_code procedures around exit ss)) + 2 * length (cases_code procedures around exit ss) ≤ 46 * statements_nodes ss
+    cases_room End exit is = omega arith
+    cases_room (Then s later) exit is =
+        let others = cases_code procedures around exit later in
+        let behind = length (all_of others) + exit in
+        let h = room_append (statement_code procedures around (1 + behind) s ++ op.Ahead behind ∷ []) (all_of others) in
+        let i = room_append (statement_code procedures around (1 + behind) s) (op.Ahead behind ∷ []) in
+        let j = statement_room s (1 + behind) is.0 in
+        let k = cases_room later exit is.1 in
+        omega (arith, h, i, j, k)
+    cases_room (Returned v) exit is = absurd is
+
+-- ---- routines
+
+module _ (sizes : List ℕ) (procedures : List Procedure) (MayCall : ℕ → Type 0) where
+  pub main_room : (ss : Statements) → AreStatements sizes procedures MayCall OfMain ss → room_in (routine_code procedures OfMain ss) ≤ 46 * statements_nodes ss + 5
+  main_room ss is =
+      let h = room_append (statements_code procedures OfMain 0 ss) (ending OfMain) in
+      let i = statements_room sizes procedures MayCall OfMain ss 0 is in
+      omega (arith, h, i)
+
+  ending_room : (around : Kind) → room_in (ending around) ≤ 6
+  ending_room OfMain = omega arith
+  ending_room Called = omega arith
+  ending_room Serving = omega arith
+
+  pub body_room : (around : Kind) (ss : Statements) → AreStatements sizes procedures MayCall around ss → room_in (routine_code procedures around ss) + 12 ≤ 46 * (1 + statements_nodes ss)
+  body_room around ss is =
+      let h = room_append (statements_code procedures around 0 ss) (ending around) in
+      let i = statements_room sizes procedures MayCall around ss 0 is in
+      let j = ending_room around in
+      omega (arith, h, i, j)

@@ -1,0 +1,356 @@
+-- How many bytes the rows of instructions have at most.
+use Rattle.std.proofs.Common.{◌≡◌, ℕ, ◌+◌, ◌-◌, ◌*◌, ◌%◌, ◌≤◌, ◌==◌, ◌&&◌, Bool, true, false, List, [], ◌∷◌, ◌++◌, length, map, Some, None, refl, ap, ◌∙◌, arith}
+use Rattle.std.specs.Prelude.{sum, nat_eq, nat_le, not, if◌then◌else◌}
+use Rattle.std.specs.List.{sum_by}
+use Rattle.std.proofs.lemmas.List.Sums.{sum_by-cons}
+use Rattle.word86.specs.declared.width.Width.{Width}
+use Rattle.word86.specs.declared.width.Width.TheVariants as widths
+use Rattle.word86.specs.declared.operation.UnaryOperation.{UnaryOperation}
+use Rattle.word86.specs.declared.operation.UnaryOperation.TheVariants as unary
+use Rattle.word86.specs.declared.operation.BinaryOperation.{BinaryOperation}
+use Rattle.word86.specs.declared.operation.BinaryOperation.TheVariants as binary
+use Rattle.word86.specs.declared.place.Place.{Place}
+use Rattle.word86.specs.declared.place.Place.TheVariants as place
+use Rattle.word86.specs.Places.{screen_begins}
+use Rattle.i86_table.specs.declared.registers.Register16.{Register16}
+use Rattle.i86_table.specs.declared.registers.Register16.TheVariants.{Ax, Cx, Dx, Sp}
+use Rattle.i86_table.specs.declared.registers.Segment.{Segment}
+use Rattle.i86_table.specs.declared.registers.Segment.TheVariants as segments
+use Rattle.i86_table.specs.declared.instruction.Base.{Base}
+use Rattle.i86_table.specs.declared.instruction.Base.TheVariants as bases
+use Rattle.i86_table.specs.declared.instruction.RmOperand.TheVariants as rm
+use Rattle.i86_table.specs.declared.instruction.AluOperation.{AluOperation}
+use Rattle.i86_table.specs.declared.instruction.AluOperation.TheVariants.{Add, Cmp}
+use Rattle.i86_table.specs.declared.instruction.Operands.TheVariants.{FromMemory}
+use Rattle.i86_table.specs.declared.instruction.Port.TheVariants as ports
+use Rattle.i86_table.specs.declared.instruction.Instr.{Instr}
+use Rattle.i86_table.specs.declared.instruction.Instr.TheVariants as i
+use Rattle.i86_table.specs.declared.open.Open.{Open}
+use Rattle.i86_table.specs.declared.open.Open.TheVariants as opens
+use Rattle.i86_table.specs.Open.{closed}
+use Rattle.i86_code.specs.declared.form.RegisterOrMemory.TheVariants.{Indirect, Near, Far}
+use Rattle.i86_table.specs.Numbers.{word_register_code}
+use Rattle.i86_code.specs.declared.form.Opcode.TheVariants as opcode
+use Rattle.i86_code.specs.Opcodes.{operation_code}
+use Rattle.i86_code.specs.Forms.{place_bytes, form_bytes}
+use Rattle.i86_code.specs.Instructions.{is_short}
+use Rattle.i86_code.specs.Open.{front_of}
+use Rattle.i86_code.specs.Writing.{is_near, is_bp, based_form, with_byte, with_word, alu_byte_of, alu_word_of, move_byte_of, move_word_of, form_of, bytes_of}
+use Rattle.icode.specs.declared.instruction.Instruction.{Instruction}
+use Rattle.icode.specs.declared.instruction.Instruction.TheVariants as op
+use Rattle.icode.specs.declared.instruction.Test.{Test}
+use Rattle.icode.specs.declared.instruction.Test.TheVariants as test
+use Rattle.icode.specs.declared.code.Routine.{Routine}
+use Rattle.icode.specs.declared.code.Code.{Code}
+use Rattle.icode.specs.declared.registers.Registers.{Registers}
+use Rattle.icode.specs.Code.{code_of}
+use Rattle.icode.specs.Registers.{is_direct}
+use Rattle.icode.specs.Room as room
+use Rattle.select.specs.declared.part.Part.{Part}
+use Rattle.select.specs.declared.part.Step.{Step}
+use Rattle.select.specs.Parts.{extent_of}
+use Rattle.select.specs.Inner.Settling.{longest}
+use Rattle.select.specs.Rows.{load_number, alu_number, pop, narrow, then_narrow, narrow_right, core, direct, narrow_sum, by_constant, changed, left_from_stack, dropped, loads, loads_right, stores, on_place, operates, own_word, sent, received, plain, by_read, unless, registers_of, saved, given_back, finished, row, rows, first_of, routine}
+use Rattle.select.specs.Selection.{IsPartOf, ArePartsOf, part_of}
+use Rattle.select.specs.Room.{room_of, room_for, PartsHaveRoom}
+use Rattle.select.proofs.Bounding.{part_bounded}
+use Rattle.select.proofs.Saving.{few_registers}
+use Rattle.select.proofs.Starts.{sum-cons}
+
+-- ---- the bytes of steps, jumps counted long
+
+abbrev room_of_step : Step → ℕ
+room_of_step x = longest (extent_of x)
+
+abbrev most : List Step → ℕ
+most [] = 0
+most (x ∷ xs) = room_of_step x + most xs
+
+most_is : (xs : List Step) → sum (map room_of_step xs) ≡ most xs
+most_is [] = refl
+most_is (x ∷ xs) = sum-cons (room_of_step x) (map room_of_step xs) ∙ ap (λ n. room_of_step x + n) (most_is xs)
+
+most-append : (xs ys : List Step) → most (xs ++ ys) ≡ most xs + most ys
+most-append [] ys = omega arith
+most-append (x ∷ xs) ys = omega (arith, most-append xs ys)
+
+abbrev size : List Instr → ℕ
+size [] = 0
+size (n ∷ ns) = length (bytes_of n) + size ns
+
+size-append : (ms ns : List Instr) → size (ms ++ ns) ≡ size ms + size ns
+size-append [] ns = omega arith
+size-append (m ∷ ms) ns = omega (arith, size-append ms ns)
+
+plain_room : (ns : List Instr) → most (plain ns) ≡ size ns
+plain_room [] = refl
+plain_room (n ∷ ns) = ap (λ m. length (bytes_of n) + m) (plain_room ns)
+
+-- ---- places
+
+place_room : (r : ℕ) (b : Base) (d : ℕ) → length (place_bytes r (based_form b d)) ≤ 3
+unfolding based_form
+place_room r b d = cases (d == 0 && not (is_bp b)) (is_near d)
+  where
+    cases : (x y : Bool) → length (place_bytes r (if x then Indirect b else if y then Near b (d % 256) else Far b d)) ≤ 3
+    cases true y = omega arith
+    cases false true = omega arith
+    cases false false = omega arith
+
+-- a step on a place has at most so many bytes, wherever that is
+abbrev IsWithin : (Segment → Open) → ℕ → Type 0
+IsWithin x n = (length (front_of (x segments.Ds)) + 2 ≤ n) × ((k : ℕ) → length (bytes_of (closed (x segments.Es) k)) ≤ n)
+
+on_place_room : (x : Segment → Open) (n : ℕ) (p : Place) → IsWithin x n → room_of_step (on_place x p) ≤ n
+on_place_room x n (place.Ram k m) h = h.0
+on_place_room x n (place.Screen m) h = h.1 ((screen_begins + m) % 65536)
+
+locate_within : IsWithin (λ s. opens.Number Ax) 3
+unfolding form_of move_word_of
+locate_within = (omega arith, λ k. omega arith)
+
+locate_at_within : IsWithin (λ s. opens.OperateAx Add) 3
+unfolding form_of alu_word_of
+locate_at_within = (omega arith, λ k. omega arith)
+
+loads_within : (w : Width) → IsWithin (loads w None) 4
+unfolding form_of move_word_of move_byte_of
+loads_within widths.Byte = (omega arith, λ k. omega arith)
+loads_within widths.Word = (omega arith, λ k. omega arith)
+
+loads_at_within : (w : Width) → IsWithin (loads w (Some bases.Bx)) 5
+unfolding form_of move_word_of move_byte_of
+loads_at_within widths.Byte = (omega arith, λ k. omega (arith, place_room 0 bases.Bx k))
+loads_at_within widths.Word = (omega arith, λ k. omega (arith, place_room 0 bases.Bx k))
+
+loads_right_within : (w : Width) → IsWithin (loads_right w) 5
+unfolding form_of move_word_of move_byte_of
+loads_right_within widths.Byte = (omega arith, λ k. omega arith)
+loads_right_within widths.Word = (omega arith, λ k. omega arith)
+
+stores_within : (w : Width) → IsWithin (stores w None) 4
+unfolding form_of move_word_of move_byte_of
+stores_within widths.Byte = (omega arith, λ k. omega arith)
+stores_within widths.Word = (omega arith, λ k. omega arith)
+
+stores_at_within : (w : Width) → IsWithin (stores w (Some bases.Bx)) 5
+unfolding form_of move_word_of move_byte_of
+stores_at_within widths.Byte = (omega arith, λ k. omega (arith, place_room 0 bases.Bx k))
+stores_at_within widths.Word = (omega arith, λ k. omega (arith, place_room 0 bases.Bx k))
+
+operates_within : (f : AluOperation) → IsWithin (operates f) 5
+unfolding form_of alu_word_of
+operates_within f = (omega arith, λ k. omega arith)
+
+-- ---- operators
+
+narrow_room : (w : Width) → size (narrow w) ≤ 2
+unfolding form_of move_byte_of
+narrow_room widths.Byte = omega arith
+narrow_room widths.Word = omega arith
+
+then_narrow_room : (w : Width) (n : Instr) → size (then_narrow w n) ≤ length (bytes_of n) + 2
+then_narrow_room w n = omega (arith, narrow_room w)
+
+core_room : (o : BinaryOperation) (w : Width) → size (core o w) ≤ 11
+unfolding form_of alu_byte_of alu_word_of move_byte_of move_word_of
+core_room binary.Multiply w = omega (arith, narrow_room w)
+core_room binary.Divide w = omega arith
+core_room binary.Modulo w = omega arith
+core_room binary.Add w = omega (arith, narrow_room w)
+core_room binary.Subtract w = omega (arith, narrow_room w)
+core_room binary.Equal w = omega arith
+core_room binary.NotEqual w = omega arith
+core_room binary.Less w = omega arith
+core_room binary.LessEqual w = omega arith
+core_room binary.Greater w = omega arith
+core_room binary.GreaterEqual w = omega arith
+core_room binary.And w = omega arith
+core_room binary.Or w = omega arith
+core_room binary.ExclusiveOr w = omega arith
+core_room binary.ShiftLeft w = omega (arith, narrow_room w)
+core_room binary.ShiftRight widths.Byte = omega arith
+core_room binary.ShiftRight widths.Word = omega arith
+core_room binary.RotateLeft widths.Byte = omega arith
+core_room binary.RotateLeft widths.Word = omega arith
+core_room binary.RotateRight widths.Byte = omega arith
+core_room binary.RotateRight widths.Word = omega arith
+
+sum_room : (o : BinaryOperation) (w : Width) → size (narrow_sum o w) ≤ 2
+sum_room binary.Add w = narrow_room w
+sum_room binary.Subtract w = narrow_room w
+sum_room _ w = omega arith
+
+-- an operation on the accumulator and a number
+on_accumulator : (f : AluOperation) (k : ℕ) → length (bytes_of (alu_number f Ax k)) ≡ 3
+unfolding form_of alu_word_of
+on_accumulator f k = refl
+
+load_room : (k : ℕ) → length (bytes_of (load_number Cx k)) ≡ 3
+unfolding form_of move_word_of
+load_room k = refl
+
+by_constant_room : (o : BinaryOperation) (w : Width) (k : ℕ) → size (by_constant o w k) ≤ room.room_of_constant o
+by_constant_room o w k = cases (is_direct o)
+  where
+    cases : (b : Bool) → size (if b then alu_number (direct o) Ax k ∷ narrow_sum o w else load_number Cx k ∷ core o w) ≤ (if b then 5 else 14)
+    cases true = omega (arith, on_accumulator (direct o) k, sum_room o w)
+    cases false = omega (arith, load_room k, core_room o w)
+
+from_stack_room : size left_from_stack ≡ 3
+unfolding form_of move_word_of
+from_stack_room = refl
+
+changed_room : (o : UnaryOperation) (w : Width) → size (changed o w) ≤ 4
+unfolding form_of move_byte_of
+changed_room unary.Plus w = omega arith
+changed_room unary.Minus w = omega (arith, narrow_room w)
+changed_room unary.Not w = omega (arith, narrow_room w)
+changed_room unary.Low w = omega arith
+changed_room unary.High w = omega arith
+changed_room unary.Double w = omega arith
+
+-- an operation on another register and a number
+number_room : (f : AluOperation) (k : ℕ) → length (bytes_of (alu_number f Sp k)) ≤ 4
+unfolding form_of alu_word_of
+number_room f k = cases (is_short (operation_code f) && is_near k)
+  where
+    cases : (b : Bool) → length (form_bytes (if b then with_byte word_register_code opcode.AluShort (operation_code f) (rm.Register Sp) (k % 256) else with_word (opcode.AluImmediate widths.Word) (operation_code f) (rm.Register Sp) k)) ≤ 4
+    cases true = omega arith
+    cases false = omega arith
+
+dropped_room : (n : ℕ) → length (bytes_of (dropped n)) ≤ 4
+unfolding form_of
+dropped_room n = cases (nat_eq n 0) (nat_eq n 1)
+  where
+    cases : (x y : Bool) → length (bytes_of (if x then i.Nop else if y then pop Cx else alu_number Add Sp (2 * n % 65536))) ≤ 4
+    cases true y = omega arith
+    cases false true = omega arith
+    cases false false = number_room Add (2 * n % 65536)
+
+sent_room : (w : Width) (port : ℕ) → size (sent w port) ≤ 4
+unfolding form_of move_word_of
+sent_room w port = cases (nat_le 256 port)
+  where
+    cases : (b : Bool) → size (if b then load_number Dx port ∷ i.Out w ports.Dx ∷ [] else i.Out w (ports.Fixed port) ∷ []) ≤ 4
+    cases true = omega arith
+    cases false = omega arith
+
+received_room : (w : Width) (port : ℕ) → size (received w port) ≤ 6
+unfolding form_of move_word_of
+received_room w port = cases (nat_le 256 port)
+  where
+    cases : (b : Bool) → size (if b then load_number Dx port ∷ then_narrow w (i.In w ports.Dx) else then_narrow w (i.In w (ports.Fixed port))) ≤ 6
+    cases true = omega (arith, narrow_room w)
+    cases false = omega (arith, narrow_room w)
+
+right_room : (w : Width) → size (narrow_right w) ≤ 2
+unfolding form_of move_byte_of
+right_room widths.Byte = omega arith
+right_room widths.Word = omega arith
+
+by_read_room : (o : BinaryOperation) (w read : Width) (x : Place) → most (by_read o w read x) ≤ room.room_of_read read o
+by_read_room o w widths.Byte x =
+    omega (arith, on_place_room (loads_right widths.Byte) 5 x (loads_right_within widths.Byte), plain_room (narrow_right widths.Byte ++ core o w), size-append (narrow_right widths.Byte) (core o w), right_room widths.Byte, core_room o w)
+by_read_room o w widths.Word x = cases (is_direct o)
+  where
+    cases : (b : Bool) → most (if b then on_place (operates (direct o)) x ∷ plain (narrow_sum o w) else on_place (loads_right widths.Word) x ∷ plain (core o w)) ≤ (if b then 7 else 16)
+    cases true = omega (arith, on_place_room (operates (direct o)) 5 x (operates_within (direct o)), plain_room (narrow_sum o w), sum_room o w)
+    cases false = omega (arith, on_place_room (loads_right widths.Word) 5 x (loads_right_within widths.Word), plain_room (core o w), core_room o w)
+
+unless_room : (t : Test) (target : ℕ) → most (unless t target) ≤ room.room_of_test t
+unfolding form_of alu_word_of move_byte_of
+unless_room test.Odd target = omega arith
+unless_room (test.Constant o k) target = omega arith
+unless_room (test.Plain o widths.Byte x) target = omega (arith, on_place_room (loads_right widths.Byte) 5 x (loads_right_within widths.Byte))
+unless_room (test.Plain o widths.Word x) target = omega (arith, on_place_room (operates Cmp) 5 x (operates_within Cmp))
+unless_room (test.Top o) target = omega arith
+
+-- ---- registers
+
+saved_room : (rs : List Register16) → size (saved rs) ≡ length rs
+unfolding form_of
+saved_room [] = refl
+saved_room (r ∷ rs) = omega (arith, saved_room rs)
+
+given_back_room : (rs : List Register16) → size (given_back rs) ≡ length rs
+unfolding form_of
+given_back_room [] = refl
+given_back_room (r ∷ rs) = omega (arith, size-append (given_back rs) (pop r ∷ []), given_back_room rs)
+
+finished_room : (saves : Registers) → most (finished saves) ≤ 6
+unfolding form_of
+finished_room saves =
+    let rs = registers_of saves in
+    omega (arith, plain_room (given_back rs ++ i.InterruptReturn ∷ []), size-append (given_back rs) (i.InterruptReturn ∷ []), given_back_room rs, few_registers saves)
+
+-- ---- rows
+
+from_own : (n : ℕ) → length (bytes_of (i.MoveWord (FromMemory Ax (own_word n)))) ≤ 4
+unfolding form_of move_word_of
+from_own n = omega (arith, place_room 0 bases.Bp (2 * n % 65536))
+
+module _ (first : ℕ → ℕ) (part : ℕ → ℕ) (saves : Registers) where
+  row_room : (p : ℕ) (x : Instruction) → most (row first part saves p x) ≤ room.room_of x
+  unfolding form_of alu_word_of move_byte_of move_word_of based_form
+  row_room p (op.Constant k) = omega arith
+  row_room p (op.Locate x) = omega (arith, on_place_room (λ s. opens.Number Ax) 3 x locate_within)
+  row_room p (op.LocateAt x) = omega (arith, on_place_room (λ s. opens.OperateAx Add) 3 x locate_at_within)
+  row_room p (op.Load width x) = omega (arith, on_place_room (loads width None) 4 x (loads_within width), plain_room (narrow width), narrow_room width)
+  row_room p (op.LoadAt width x) = omega (arith, on_place_room (loads width (Some bases.Bx)) 5 x (loads_at_within width), plain_room (narrow width), narrow_room width)
+  row_room p (op.LoadThere widths.Byte) = omega arith
+  row_room p (op.LoadThere widths.Word) = omega arith
+  row_room p op.Push = omega arith
+  row_room p (op.Pick n) = omega (arith, from_own n)
+  row_room p (op.Drop n) = omega (arith, dropped_room n)
+  row_room p (op.Unary o width) = omega (arith, plain_room (changed o width), changed_room o width)
+  row_room p (op.Binary o width) = omega (arith, plain_room (left_from_stack ++ core o width), size-append left_from_stack (core o width), from_stack_room, core_room o width)
+  row_room p (op.BinaryConstant o width k) = omega (arith, plain_room (by_constant o width k), by_constant_room o width k)
+  row_room p (op.BinaryPlain o width read x) = by_read_room o width read x
+  row_room p (op.Store width x) = omega (arith, on_place_room (stores width None) 4 x (stores_within width))
+  row_room p (op.StoreAt width x) = omega (arith, on_place_room (stores width (Some bases.Bx)) 5 x (stores_at_within width))
+  row_room p (op.StoreThere widths.Byte) = omega arith
+  row_room p (op.StoreThere widths.Word) = omega arith
+  row_room p (op.Send width) = omega arith
+  row_room p (op.SendTo width port) = omega (arith, plain_room (sent width port), sent_room width port)
+  row_room p (op.Receive width) = omega (arith, plain_room (narrow width), narrow_room width)
+  row_room p (op.ReceiveFrom width port) = omega (arith, plain_room (received width port), received_room width port)
+  row_room p (op.Ahead n) = omega arith
+  row_room p (op.AheadUnless t n) = unless_room t (first (p + n))
+  row_room p (op.Back n) = omega arith
+  row_room p (op.BackUnless t n) = unless_room t (first (p - n))
+  row_room p (op.Switch n) = omega arith
+  row_room p (op.Case n) = omega arith
+  row_room p (op.Invoke q) = omega arith
+  row_room p op.Leave = omega arith
+  row_room p op.Enable = omega arith
+  row_room p op.Disable = omega arith
+  row_room p op.Halt = omega arith
+  row_room p op.Finish = finished_room saves
+
+  rows_room : (k : ℕ) (xs : List Instruction) → most (rows first part saves k xs) ≤ room.room_in xs
+  rows_room k [] = omega arith
+  rows_room k (x ∷ xs) = omega (arith, most-append (row first part saves (k + 1) x) (rows first part saves (k + 1) xs), row_room (k + 1) x, rows_room (k + 1) xs)
+
+routine_room : (part : ℕ → ℕ) (saves : Registers) (code : List Instruction) → most (routine part saves code) ≤ room.room_in code + 5
+routine_room part saves code =
+    let rs = registers_of saves in
+    let xs = rows (first_of saves code) part saves 0 code in
+    omega (arith, most-append (plain (saved rs)) xs, plain_room (saved rs), saved_room rs, few_registers saves, rows_room (first_of saves code) part saves 0 code)
+
+-- ---- parts
+
+module _ (c : Code) (saves : Routine → Registers) where
+  one : (own : ℕ) (r : Routine) (p : Part) → IsPartOf c saves own r p → length p.bytes.items ≤ room_of c r
+  one own r p is =
+      let steps = routine (part_of c) (saves r) (code_of c r) in
+      omega (arith, part_bounded own steps p.bytes.items p.fixups.items is.is_part, most_is steps, routine_room (part_of c) (saves r) (code_of c r))
+
+  all : (own : ℕ) (rs : List Routine) (ps : List Part) → ArePartsOf c saves own rs ps → sum_by (λ p. length p.bytes.items) ps ≤ room_for c rs
+  all own [] [] h = omega arith
+  all own [] (p ∷ ps) h = absurd h
+  all own (r ∷ rs) [] h = absurd h
+  all own (r ∷ rs) (p ∷ ps) h = omega (arith, sum_by-cons (λ (x : Part). length x.bytes.items) p ps, one own r p h.0, all (own + 1) rs ps h.1)
+
+pub have_room : PartsHaveRoom
+have_room c saves own = (one c saves own, all c saves own)
