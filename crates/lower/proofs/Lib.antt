@@ -36,3 +36,7 @@ pub mod Modules
 pub mod Procedures
 pub mod Handlers
 pub mod Numbers
+pub mod TypedPlaces
+pub mod TypedTrees
+pub mod TypedStatements
+pub mod TypedProgram

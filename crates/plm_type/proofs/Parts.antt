@@ -1,9 +1,12 @@
 -- Trees as they are put together, and as the code takes them apart.
-use Rattle.std.proofs.Common.{◌≡◌, ◌≤◌, ◌-◌, ◌^◌, min, ℕ, List, [], ◌∷◌, ◌++◌, length, nat_eq, true, false, None, arith, append_assoc, map, refl, sym, ap, subst, ◌∙◌}
+use Rattle.std.proofs.Common.{◌≡◌, ◌≤◌, ◌-◌, ◌^◌, min, ℕ, List, [], ◌∷◌, ◌++◌, length, nat_eq, Bool, true, false, cond, Option, Some, None, option_map, arith, append_assoc, map, refl, sym, ap, subst, ◌∙◌}
 use Rattle.std.specs.Global.{Vec}
+use Rattle.std.specs.Bool.{then_some}
 use Rattle.std.proofs.lemmas.List.{append-nil}
 use Rattle.std.proofs.Math.Nat.{min-le_left, min-le_right, le-min}
+use Rattle.word86.specs.declared.place.Place.{Place}
 use Rattle.word86.specs.declared.width.Width.{Width}
+use Rattle.word86.specs.Places.{where_of}
 use Rattle.word86.specs.declared.operation.BinaryOperation.{BinaryOperation}
 use Rattle.plm_type.specs.declared.program.Expression.{Expression}
 use Rattle.plm_type.specs.declared.program.Operation.{Operation}
@@ -52,17 +55,21 @@ not_two module_index line o w (e ∷ d ∷ f ∷ es) h = refl
 
 -- ---- fixed places
 
-pub moved : (module_index line : ℕ) (a : rest.Anchor) (offset : ℕ) (ss : List Subscript) → (length ss ≡ 0 → ⊥) → fixed_place (rest.Refer module_index line a offset (subscripts_of ss)) ≡ None
-moved module_index line a offset [] h = absurd (h refl)
-moved module_index line (rest.InObject k start size) offset (s ∷ ss) h = refl
-moved module_index line (rest.OnScreen start size) offset (s ∷ ss) h = refl
-moved module_index line (rest.Behind b) offset (s ∷ ss) h = refl
-moved module_index line (rest.There b) offset (s ∷ ss) h = refl
+pub moved : (n module_index line : ℕ) (a : rest.Anchor) (offset : ℕ) (ss : List Subscript) → (length ss ≡ 0 → ⊥) → fixed_place n (rest.Refer module_index line a offset (subscripts_of ss)) ≡ None
+moved n module_index line a offset [] h = absurd (h refl)
+moved n module_index line (rest.InObject k start size) offset (s ∷ ss) h = refl
+moved n module_index line (rest.OnScreen start size) offset (s ∷ ss) h = refl
+moved n module_index line (rest.Behind b) offset (s ∷ ss) h = refl
+moved n module_index line (rest.There b) offset (s ∷ ss) h = refl
 
-pub unmoved : (module_index line : ℕ) (a b : Anchor) (offset : ℕ) (ss : List Subscript) → length ss ≡ 0 → a ≡ b
-    → fixed_place (rest.Refer module_index line (anchor_of a) offset (subscripts_of ss)) ≡ fixed_place (rest.Refer module_index line (anchor_of b) offset rest.NoSubscripts)
-unmoved module_index line a b offset [] h e = ap (λ (x : Anchor). fixed_place (rest.Refer module_index line (anchor_of x) offset rest.NoSubscripts)) e
-unmoved module_index line a b offset (s ∷ ss) h e = cc
+pub unmoved : (n module_index line : ℕ) (a b : Anchor) (offset : ℕ) (ss : List Subscript) → length ss ≡ 0 → a ≡ b
+    → fixed_place n (rest.Refer module_index line (anchor_of a) offset (subscripts_of ss)) ≡ fixed_place n (rest.Refer module_index line (anchor_of b) offset rest.NoSubscripts)
+unmoved n module_index line a b offset [] h e = ap (λ (x : Anchor). fixed_place n (rest.Refer module_index line (anchor_of x) offset rest.NoSubscripts)) e
+unmoved n module_index line a b offset (s ∷ ss) h e = cc
+
+pub some_if : (b : Bool) (p : Place) → option_map where_of (then_some b p) ≡ cond b (Some (where_of p)) None
+some_if true p = refl
+some_if false p = refl
 
 -- a sum that is cut at 2^64 - 1 first
 pub capped_counted : (n : ℕ) → capped (counted n) ≡ capped n

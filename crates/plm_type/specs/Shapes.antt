@@ -1,5 +1,5 @@
 -- What a reference to a variable designates.
-use Rattle.std.specs.Prelude.{ℕ, ◌+◌, ◌*◌, min, Bool, true, false, ◌&&◌, ◌||◌, nat_eq, cond, List, Option, Some, None, slice_get}
+use Rattle.std.specs.Prelude.{ℕ, ◌+◌, ◌*◌, min, Bool, true, false, ◌&&◌, ◌||◌, nat_eq, nat_le, cond, List, Option, Some, None, slice_get}
 use Rattle.word86.specs.Access.{Where, In, Screen}
 use Rattle.plm_decl.specs.declared.layout.ScalarType.{ScalarType}
 use Rattle.plm_decl.specs.declared.layout.Form.{Form}
@@ -89,15 +89,35 @@ where_at (region.Screen i) = Screen (capped i)
 where_at (region.Based b) = In 0 0
 where_at region.Nowhere = In 0 0
 
-abbrev pub base_place : Option Variable → Where
-base_place (Some b) = where_at b.region
-base_place None = In 0 0
+-- how many bytes a scalar has; a structure is none
+abbrev pub scalar_size : Option ScalarType → ℕ
+scalar_size (Some t) = size_of t
+scalar_size None = 0
+
+-- in RAM or on the screen
+abbrev pub lies_somewhere : Region → Bool
+lies_somewhere (region.Ram k i) = true
+lies_somewhere (region.Screen i) = true
+lies_somewhere _ = false
+
+-- this many bytes lie there
+abbrev pub has_room : ℕ → Variable → Bool
+has_room n v = lies_somewhere v.region && nat_le n (span v)
+
+-- the anchor of what lies nowhere: it has no bytes
+abbrev pub nowhere : Anchor
+nowhere = InObject 0 0 0
+
+-- a base lies somewhere itself, with room for an address
+abbrev pub behind : Option Variable → Anchor
+behind (Some b) = cond (has_room 2 b) (Behind (where_at b.region)) nowhere
+behind None = nowhere
 
 abbrev pub anchor_at : List Variable → Region → ℕ → Anchor
 anchor_at variables (region.Ram k i) size = InObject k i size
 anchor_at variables (region.Screen i) size = OnScreen i size
-anchor_at variables (region.Based b) size = Behind (base_place (slice_get variables b))
-anchor_at variables region.Nowhere size = InObject 0 0 0
+anchor_at variables (region.Based b) size = behind (slice_get variables b)
+anchor_at variables region.Nowhere size = nowhere
 
 abbrev pub anchor_for : List Variable → Variable → Anchor
 anchor_for variables v = anchor_at variables v.region (span v)
@@ -113,14 +133,14 @@ abbrev pub is_based : Region → Bool
 is_based (region.Based b) = true
 is_based _ = false
 
--- a place that no subscript and no base moves
-abbrev pub fixed_place : Reference → Option Where
-fixed_place (Refer module_index line (InObject k start size) offset NoSubscripts) = Some (In k (capped (start + offset)))
-fixed_place (Refer module_index line (OnScreen start size) offset NoSubscripts) = Some (Screen (capped (start + offset)))
-fixed_place _ = None
+-- a place that no subscript and no base moves, where n bytes are among those declared
+abbrev pub fixed_place : ℕ → Reference → Option Where
+fixed_place n (Refer module_index line (InObject k start size) offset NoSubscripts) = cond (nat_le (offset + n) size) (Some (In k (capped (start + offset)))) None
+fixed_place n (Refer module_index line (OnScreen start size) offset NoSubscripts) = cond (nat_le (offset + n) size) (Some (Screen (capped (start + offset)))) None
+fixed_place n _ = None
 
 abbrev pub read_of : ScalarType → Reference → Expression
-read_of t r = elim (fixed_place r) [ Some w ↦ Plain (width_of (Some t)) w | None ↦ rest.Variable (width_of (Some t)) r ]
+read_of t r = elim (fixed_place (size_of t) r) [ Some w ↦ Plain (width_of (Some t)) w | None ↦ rest.Variable (width_of (Some t)) r ]
 
 abbrev pub store_to : ScalarType → Reference → Target
-store_to t r = elim (fixed_place r) [ Some w ↦ ToPlain (width_of (Some t)) w | None ↦ ToVariable (width_of (Some t)) r ]
+store_to t r = elim (fixed_place (size_of t) r) [ Some w ↦ ToPlain (width_of (Some t)) w | None ↦ ToVariable (width_of (Some t)) r ]

@@ -1,5 +1,5 @@
 -- Statements, procedures and main: their faults, and what they do with types known and names as places.
-use Rattle.std.specs.Prelude.{ℕ, Bool, true, false, not, ◌&&◌, ◌||◌, nat_le, cond, List, [], ◌∷◌, ◌++◌, slice_get, Option, Some, None, is_some}
+use Rattle.std.specs.Prelude.{ℕ, Bool, true, false, not, ◌&&◌, ◌||◌, nat_eq, nat_le, cond, List, [], ◌∷◌, ◌++◌, length, slice_get, Option, Some, None, is_some}
 use Rattle.word86.specs.declared.number.Number.TheVariants.{E401, E403}
 use Rattle.word86.specs.declared.width.Width.{Width}
 use Rattle.word86.specs.declared.width.Width.TheVariants as width
@@ -18,7 +18,7 @@ use Rattle.plm_type.specs.declared.statements.Around.{Around}
 use Rattle.plm_type.specs.declared.statements.Around.TheVariants as stands
 use Rattle.plm_type.specs.Rest.{Expression, Constant, Call, Target, Targets, Only, Also, Scalar, Count, Statement, Empty, Assign, Evaluate, Return, ReturnValue, Enabling, Disabling, Halting, If, Block, While, Case, Iterate, Statements, End, Then, Procedure}
 use Rattle.plm_type.specs.Types.{width_of, may_be_number, may_be_pointer, takes, may_be_numbers, may_be_pointers}
-use Rattle.plm_type.specs.Shapes.{form_type, is_based, scalar_for}
+use Rattle.plm_type.specs.Shapes.{form_type, has_room, is_based, scalar_for, scalar_size}
 use Rattle.plm_type.specs.Typing.{type_of, types_of, target_type, may_be_assigned}
 use Rattle.plm_type.specs.Faults.{first_place, fault_unless, faults_of, faults_in, call_faults, target_faults, location_faults}
 use Rattle.plm_type.specs.Trees.{tree_of, trees_of, target_of, entry_of}
@@ -41,10 +41,14 @@ returned_width (stands.Procedure t) = width_of t
 abbrev pub is_plain_scalar : Variable → Bool
 is_plain_scalar v = is_some (form_type v.form) && (not (is_some v.dimension) && not (is_based v.region))
 
--- an index is a plain BYTE or WORD scalar that is not based
+-- a scalar with room for its bytes where it lies
+abbrev pub is_placed_scalar : Variable → Bool
+is_placed_scalar v = is_plain_scalar v && has_room (scalar_size (form_type v.form)) v
+
+-- an index is a BYTE or WORD scalar that lies somewhere
 abbrev pub is_index : Option Variable → Bool
 is_index None = false
-is_index (Some v) = is_plain_scalar v && may_be_number (form_type v.form)
+is_index (Some v) = is_placed_scalar v && may_be_number (form_type v.form)
 
 abbrev pub index_for : Option Variable → Scalar
 index_for (Some v) = scalar_for v
@@ -181,15 +185,27 @@ abbrev pub is_external : Linkage → Bool
 is_external linkage.External = true
 is_external _ = false
 
-module _ (variables : List Variable) where
-  -- a parameter is a scalar that is not based
-  abbrev pub of_parameter : ℕ → Option Variable → List Found
-  of_parameter module_index None = []
-  of_parameter module_index (Some v) = fault_unless module_index (is_plain_scalar v) E401 v.place
+-- a parameter is a scalar that is not based; those of an EXTERNAL procedure lie nowhere, as its arguments go to another's
+abbrev pub is_parameter : (external : Bool) → Variable → Bool
+is_parameter external v = cond external (is_plain_scalar v) (is_placed_scalar v)
 
-  abbrev pub of_parameters : ℕ → List ℕ → List Found
-  of_parameters module_index [] = []
-  of_parameters module_index (x ∷ xs) = of_parameter module_index (slice_get variables x) ++ of_parameters module_index xs
+abbrev pub of_parameter : (external : Bool) → ℕ → Option Variable → List Found
+of_parameter external module_index None = []
+of_parameter external module_index (Some v) = fault_unless module_index (is_parameter external v) E401 v.place
+
+module _ (variables : List Variable) where
+  abbrev pub of_parameters : (external : Bool) → ℕ → List ℕ → List Found
+  of_parameters external module_index [] = []
+  of_parameters external module_index (x ∷ xs) = of_parameter external module_index (slice_get variables x) ++ of_parameters external module_index xs
+
+-- what a call runs has a body of its own, and so many parameters
+abbrev pub is_entry : ℕ → Option ProcedureR → Bool
+is_entry n None = false
+is_entry n (Some p) = not (is_external p.linkage) && nat_eq (length p.parameters) n
+
+-- a call of an EXTERNAL procedure passes its arguments to the PUBLIC one's parameters
+abbrev pub of_entry : List ProcedureR → ProcedureR → List Found
+of_entry procedures p = fault_unless p.module (is_entry (length p.parameters) (slice_get procedures p.entry)) E401 p.place
 
 abbrev pub of_stray : ℕ → Option Position → List Found
 of_stray module_index None = []
@@ -206,8 +222,8 @@ module _ (variables : List Variable) (procedures : List ProcedureR) where
 
   abbrev pub of_procedure : ProcedureR → List Found
   of_procedure p =
-      of_parameters variables p.module p.parameters
-      ++ (fault_unless p.module (interrupt_fits p.interrupt) E401 p.place ++ (of_stray p.module p.stray ++ of_body p))
+      of_parameters variables (is_external p.linkage) p.module p.parameters
+      ++ (fault_unless p.module (interrupt_fits p.interrupt) E401 p.place ++ (of_entry procedures p ++ (of_stray p.module p.stray ++ of_body p)))
 
   abbrev pub of_procedures : List ProcedureR → List Found
   of_procedures [] = []

@@ -1,17 +1,17 @@
 //! The types of whole declarations: procedures with their parameters and bodies, main, and the locations in AT, INITIAL and
 //! DATA.
 
-ghost use Rattle.std.specs.Prelude.{◌≡◌, ◌++◌, IfOk, OnOk, map, slice_get};
+ghost use Rattle.std.specs.Prelude.{◌≡◌, ◌++◌, IfOk, OnOk, map, option_map, slice_get};
 ghost use Rattle.plm_decl.specs.Names.{procedure_of, declared_location_of, main_of};
 ghost use Rattle.plm_type.specs.Inner.Typer.{variables, procedures, sizes};
 ghost use Rattle.plm_type.specs.Statements as spec;
 ghost use Rattle.plm_type.specs.View as view;
 
 use crate::program::{Procedure, Scalar, Statement};
-use crate::statements::{Around, index_for, is_plain_scalar};
+use crate::statements::{Around, index_for, is_placed_scalar, is_plain_scalar};
 use crate::typer::Typer;
-use plm_decl::DeclaredLocation;
 use plm_decl::found::Found;
+use plm_decl::{DeclaredLocation, Variable};
 use plm_syntax::{Linkage, Position};
 use std::alloc::AllocError;
 use word86::Number;
@@ -26,14 +26,51 @@ fn interrupt_fits(interrupt: Option<u32>) -> bool
     }
 }
 
+/// Whether it is a parameter: a scalar that is not based. One of an EXTERNAL procedure may lie nowhere.
+fn is_parameter(external: bool, variable: &Variable) -> bool
+    ensures { result ≡ spec.is_parameter external variable.now }
+{
+    if external {
+        is_plain_scalar(variable)
+    } else {
+        is_placed_scalar(variable)
+    }
+}
+
+fn is_external(linkage: Linkage) -> bool
+    ensures { result ≡ spec.is_external linkage }
+{
+    match linkage {
+        Linkage::External => true,
+        _ => false,
+    }
+}
+
+/// Whether a procedure is what a call with so many arguments may run.
+fn is_entry(count: usize, procedure: Option<&plm_decl::Procedure>) -> bool
+    ensures { result ≡ spec.is_entry count (option_map (λ p. procedure_of p.now) procedure.entry) }
+{
+    match procedure {
+        Some(procedure) => {
+            !is_external(procedure.linkage) && procedure.parameters.len() == count
+        }
+        None => false,
+    }
+}
+
 impl Typer<'_> {
-    /// Notes a parameter that is no scalar, or is based.
-    fn note_parameter(&self, parameter: usize, faults: &mut Vec<Found>) -> Result<(), AllocError>
-        ensures { OnOk result (faults.new.items ≡ faults.old.items ++ spec.of_parameter (variables self.now) self.now.module (slice_get (variables self.now) parameter)) }
+    /// Notes a parameter that is no scalar, is based or lies nowhere.
+    fn note_parameter(
+        &self,
+        external: bool,
+        parameter: usize,
+        faults: &mut Vec<Found>,
+    ) -> Result<(), AllocError>
+        ensures { OnOk result (faults.new.items ≡ faults.old.items ++ spec.of_parameter external self.now.module (slice_get (variables self.now) parameter)) }
     {
         match self.variable(parameter) {
             Some(variable) => self.note_unless(
-                is_plain_scalar(&variable),
+                is_parameter(external, &variable),
                 Number::E401,
                 variable.place,
                 faults,
@@ -44,18 +81,33 @@ impl Typer<'_> {
 
     fn parameters(
         &self,
+        external: bool,
         parameters: &[usize],
         faults: &mut Vec<Found>,
     ) -> Result<Vec<Scalar>, AllocError>
         ensures tree { IfOk result (λ r. map view.scalar_of r.items ≡ spec.parameters_for (variables self.now) parameters.now) }
-        ensures faults { OnOk result (faults.new.items ≡ faults.old.items ++ spec.of_parameters (variables self.now) self.now.module parameters.now) }
+        ensures faults { OnOk result (faults.new.items ≡ faults.old.items ++ spec.of_parameters (variables self.now) external self.now.module parameters.now) }
     {
         let mut scalars = Vec::new(self.alloc);
         for parameter in parameters {
-            self.note_parameter(*parameter, faults)?;
+            self.note_parameter(external, *parameter, faults)?;
             scalars.push(index_for(self.variable(*parameter)))?;
         }
         Ok(scalars)
+    }
+
+    /// Notes a procedure whose calls run none with as many parameters.
+    fn note_entry(
+        &self,
+        procedure: &plm_decl::Procedure,
+        faults: &mut Vec<Found>,
+    ) -> Result<(), AllocError>
+        requires { procedure.now.module ≡ self.now.module }
+        ensures { OnOk result (faults.new.items ≡ faults.old.items ++ spec.of_entry (procedures self.now) (procedure_of procedure.now)) }
+    {
+        let entry = self.procedure(procedure.entry);
+        let fits = is_entry(procedure.parameters.len(), entry);
+        self.note_unless(fits, Number::E401, procedure.place, faults)
     }
 
     /// Notes what stands first in an EXTERNAL procedure besides the declarations of its parameters.
@@ -98,9 +150,11 @@ impl Typer<'_> {
         ensures tree { IfOk result (λ r. view.procedure_of r ≡ spec.procedure_for (variables self.now) (procedures self.now) (sizes self.now) (procedure_of procedure.now)) }
         ensures faults { OnOk result (faults.new.items ≡ faults.old.items ++ spec.of_procedure (variables self.now) (procedures self.now) (procedure_of procedure.now)) }
     {
-        let parameters = self.parameters(&procedure.parameters, faults)?;
+        let external = is_external(procedure.linkage);
+        let parameters = self.parameters(external, &procedure.parameters, faults)?;
         let fits = interrupt_fits(procedure.interrupt);
         self.note_unless(fits, Number::E401, procedure.place, faults)?;
+        self.note_entry(procedure, faults)?;
         self.note_stray(procedure.stray, faults)?;
         let body = self.body(procedure, faults)?;
         Ok(Procedure { parameters, body })

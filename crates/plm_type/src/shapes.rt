@@ -1,7 +1,7 @@
 //! What a reference to a variable designates: whether it has the variable's shape, the type and the size of what it names, and
 //! where that lies.
 
-ghost use Rattle.std.specs.Prelude.{◌≡◌, option_map};
+ghost use Rattle.std.specs.Prelude.{◌≡◌, ◌+◌, nat_le, option_map};
 ghost use Rattle.word86.specs.Places.{where_of};
 ghost use Rattle.plm_decl.specs.Layout as layout;
 ghost use Rattle.plm_decl.specs.ResolvedView.{selector_of};
@@ -150,12 +150,40 @@ fn place_at(region: Region) -> Place
     }
 }
 
-fn base_place(base: Option<Variable>) -> Place
-    ensures { where_of result ≡ spec.base_place base }
+/// How many bytes a scalar has; a structure is none.
+pub fn scalar_size(scalar: Option<ScalarType>) -> u64
+    ensures { result ≡ spec.scalar_size scalar }
+{
+    match scalar {
+        Some(scalar) => scalar.size(),
+        None => 0,
+    }
+}
+
+/// Whether it lies in RAM or on the screen.
+fn lies_somewhere(region: Region) -> bool
+    ensures { result ≡ spec.lies_somewhere region }
+{
+    match region {
+        Region::Ram(_, _) | Region::Screen(_) => true,
+        Region::Based(_) | Region::Nowhere => false,
+    }
+}
+
+/// Whether this many bytes of it lie there.
+pub fn has_room(bytes: u64, variable: &Variable) -> bool
+    ensures { result ≡ spec.has_room bytes variable.now }
+{
+    lies_somewhere(variable.region) && bytes <= span(variable)
+}
+
+/// What a base points to. A base lies somewhere itself, with room for an address.
+fn behind(base: Option<Variable>) -> Anchor
+    ensures { view.anchor_of result ≡ spec.behind base }
 {
     match base {
-        Some(base) => place_at(base.region),
-        None => Place::Ram(0, 0),
+        Some(base) if has_room(2, &base) => Anchor::Based(place_at(base.region)),
+        _ => Anchor::Ram(0, 0, 0),
     }
 }
 
@@ -166,7 +194,7 @@ pub fn anchor(variables: &[Variable], variable: &Variable) -> Anchor
     match variable.region {
         Region::Ram(object, start) => Anchor::Ram(object, start, span(variable)),
         Region::Screen(start) => Anchor::Screen(start, span(variable)),
-        Region::Based(base) => Anchor::Based(base_place(variables.get(base).copied())),
+        Region::Based(base) => behind(variables.get(base).copied()),
         Region::Nowhere => Anchor::Ram(0, 0, 0),
     }
 }
@@ -201,21 +229,27 @@ pub fn is_based(region: Region) -> bool
     }
 }
 
-/// A place that no subscript and no base moves.
-fn fixed_place(reference: &Reference) -> Option<Place>
-    ensures { option_map where_of result ≡ spec.fixed_place (view.reference_of reference.now) }
+/// Whether this many bytes from an offset on are among those declared. No sum is cut.
+fn fits(bytes: u64, offset: u64, size: u64) -> bool
+    ensures { result ≡ nat_le (offset + bytes) size }
+{
+    bytes <= size && offset <= size - bytes
+}
+
+/// A place that no subscript and no base moves, where this many bytes are among those declared.
+fn fixed_place(bytes: u64, reference: &Reference) -> Option<Place>
+    ensures { option_map where_of result ≡ spec.fixed_place bytes (view.reference_of reference.now) }
 {
     if !reference.subscripts.is_empty() {
         return None;
     }
     match reference.anchor {
-        Anchor::Ram(object, start, _) => Some(Place::Ram(
-            object,
+        Anchor::Ram(object, start, size) => fits(bytes, reference.offset, size).then_some(
+            Place::Ram(object, capped(start.saturating_add(reference.offset))),
+        ),
+        Anchor::Screen(start, size) => fits(bytes, reference.offset, size).then_some(Place::Screen(
             capped(start.saturating_add(reference.offset)),
         )),
-        Anchor::Screen(start, _) => Some(Place::Screen(capped(start.saturating_add(
-            reference.offset,
-        )))),
         Anchor::Based(_) => None,
     }
 }
@@ -224,7 +258,7 @@ fn fixed_place(reference: &Reference) -> Option<Place>
 pub fn read_of(scalar: ScalarType, reference: Reference) -> Expression
     ensures { view.expression_of result ≡ spec.read_of scalar (view.reference_of reference) }
 {
-    match fixed_place(&reference) {
+    match fixed_place(scalar.size(), &reference) {
         Some(place) => Expression::Plain(width_of(Some(scalar)), place),
         None => Expression::Variable(width_of(Some(scalar)), reference),
     }
@@ -234,7 +268,7 @@ pub fn read_of(scalar: ScalarType, reference: Reference) -> Expression
 pub fn store_to(scalar: ScalarType, reference: Reference) -> Target
     ensures { view.target_of result ≡ spec.store_to scalar (view.reference_of reference) }
 {
-    match fixed_place(&reference) {
+    match fixed_place(scalar.size(), &reference) {
         Some(place) => Target::Plain(width_of(Some(scalar)), place),
         None => Target::Variable(width_of(Some(scalar)), reference),
     }

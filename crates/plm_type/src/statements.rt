@@ -14,7 +14,7 @@ use crate::applications::entry_of;
 use crate::expressions::first_place;
 use crate::program::{Expression, Loop, Scalar, Statement, Target};
 use crate::references::{TypedTarget, may_be_assigned};
-use crate::shapes::{form_type, is_based, scalar};
+use crate::shapes::{form_type, has_room, is_based, scalar, scalar_size};
 use crate::typer::Typer;
 use crate::types::{
     may_be_number, may_be_numbers, may_be_pointer, may_be_pointers, takes, width_of,
@@ -114,12 +114,19 @@ pub fn is_plain_scalar(variable: &Variable) -> bool
     form_type(variable.form).is_some() && variable.dimension.is_none() && !is_based(variable.region)
 }
 
-/// Whether it is a BYTE or WORD scalar that is not based.
+/// Whether it is a scalar with room for its bytes where it lies.
+pub fn is_placed_scalar(variable: &Variable) -> bool
+    ensures { result ≡ spec.is_placed_scalar variable.now }
+{
+    is_plain_scalar(variable) && has_room(scalar_size(form_type(variable.form)), variable)
+}
+
+/// Whether it is a BYTE or WORD scalar that lies somewhere.
 fn is_index(variable: Option<Variable>) -> bool
     ensures { result ≡ spec.is_index variable }
 {
     match variable {
-        Some(variable) => is_plain_scalar(&variable) && may_be_number(form_type(variable.form)),
+        Some(variable) => is_placed_scalar(&variable) && may_be_number(form_type(variable.form)),
         None => false,
     }
 }

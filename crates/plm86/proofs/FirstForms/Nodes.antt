@@ -23,6 +23,7 @@ use Rattle.plm_type.specs.declared.statements.Around.TheVariants as stands
 use Rattle.plm_type.specs.Programs.{declared_procedures, main_tree, main_rest}
 use Rattle.plm_type.specs.Rest as rest
 use Rattle.plm_type.specs.Rest.{Expression, Expressions, NoMore, More, Reference, Statements, End, Then, Main, Rest}
+use Rattle.plm_decl.specs.Layout.{size_of}
 use Rattle.plm_type.specs.Shapes.{designated, fixed_place, read_of}
 use Rattle.plm_type.specs.Statements.{statement_for, statements_for, target_trees, assignment, targets, called}
 use Rattle.plm_type.specs.Trees.{tree_of, trees_of, selector_trees, value_of, location_of, use_read, refer, operated, read_port, shifted, builtin_value, reference_value, argument_value, measured_value, entry_of}
@@ -82,7 +83,7 @@ count_statements (rest.Returned v) = 0
 -- ---- resolved trees have at least as many
 
 read_count : (t : ScalarType) (x : Reference) → count (read_of t x) ≤ 1
-read_count t x = cases (fixed_place x)
+read_count t x = cases (fixed_place (size_of t) x)
   where
     cases : (o : Option Where) → count (elim o [ Some w ↦ rest.Plain (width_of (Some t)) w | None ↦ rest.Variable (width_of (Some t)) x ]) ≤ 1
     cases (Some w) = omega arith

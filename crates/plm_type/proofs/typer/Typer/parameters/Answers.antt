@@ -13,6 +13,7 @@ loop-parameter-preserved c =
     let here = c.loop-parameter in
     let vs = variables c.args.self.now in
     let m = c.args.self.now.module in
+    let external = c.args.external in
     let xs = c.args.parameters.now in
     let i = here.parameter-index in
     let x = get_or xs i 0 in
@@ -25,8 +26,8 @@ loop-parameter-preserved c =
           ∙ ap (λ (s : rest.Scalar). before ++ s ∷ spec.parameters_for vs left) (c.index_for.ensures ∙ ap spec.index_for c.variable.ensures)
           ∙ ap (λ (l : List ℕ). before ++ spec.parameters_for vs l) (sym at)
           ∙ here.invariant.tree;
-      faults = ap (λ (l : List Found). l ++ spec.of_parameters vs m left) c.in_ok-note_parameter.ensures
+      faults = ap (λ (l : List Found). l ++ spec.of_parameters vs external m left) c.in_ok-note_parameter.ensures
           ∙ append_assoc here.faults.items _ _
-          ∙ ap (λ (l : List ℕ). here.faults.items ++ spec.of_parameters vs m l) (sym at)
+          ∙ ap (λ (l : List ℕ). here.faults.items ++ spec.of_parameters vs external m l) (sym at)
           ∙ here.invariant.faults;
     }

@@ -9,5 +9,5 @@ invariant-loop-parameter l =
     let vs = variables l.self in
     record {
       tree : map view.scalar_of l.scalars.items ++ parameters_for vs (drop l.parameter-index l.parameters) ≡ parameters_for vs l.parameters;
-      faults : l.faults.items ++ of_parameters vs l.self.module (drop l.parameter-index l.parameters) ≡ l.initial.faults.items ++ of_parameters vs l.self.module l.parameters;
+      faults : l.faults.items ++ of_parameters vs l.external l.self.module (drop l.parameter-index l.parameters) ≡ l.initial.faults.items ++ of_parameters vs l.external l.self.module l.parameters;
     }
