@@ -30,7 +30,7 @@ use Rattle.icode.specs.Levels.{AreOrdered, instructions_of, place_in}
 use Rattle.lower.specs.Code.{Kind, OfMain, routine_code, kind_of, has_vector, serves, procedure_code}
 use Rattle.lower.specs.Lowered.{IsLowered, vector_of, vectors_of, last_module, program_code}
 use Rattle.lower.specs.Checked.{IsSound}
-use Rattle.lower.specs.Inner.Lowering.{ProcedureC, plain, lowered, all_lowered}
+use Rattle.lower.specs.Inner.Lowering.{ProcedureC, plain, one_lowered, all_lowered}
 
 none_is_some : {A : Type 0} {x : A} → None ≡ Some x → ⊥
 none_is_some {A} e = true≢false (ap (λ (o : Option A). elim o [ None ↦ true | Some x ↦ false ]) e)
@@ -77,7 +77,7 @@ module _ (ps : List Procedure) (f : ProcedureR → Procedure) where
 -- a procedure is lowered by its parts
 pub lowered_by : (ps : List Procedure) (d : ProcedureR) (body : Statements) (vector : Option ℕ) (kind : Kind) (instructions : List Instruction)
     → vector ≡ vector_of d → kind ≡ kind_of (has_vector (Some vector)) → instructions ≡ routine_code ps kind body
-    → record { «module» = d.module; vector = vector; instructions = instructions } ≡ lowered ps d body
+    → record { «module» = d.module; vector = vector; instructions = instructions } ≡ one_lowered ps d body
 lowered_by ps d body v k is served ends made =
     let kind : k ≡ kind_of (has_vector (Some (vector_of d))) = ends ∙ ap (λ w. kind_of (has_vector (Some w))) served in
     ap (λ (xs : List Instruction). record { «module» = d.module; vector = v; instructions = xs }) (made ∙ ap (λ l. routine_code ps l body) kind)
@@ -85,7 +85,7 @@ lowered_by ps d body v k is served ends made =
 
 -- one more of them, where declared and typed procedures are gone through side by side
 pub one_more : (ps : List Procedure) (ds : List declared.Procedure) (ts : List typed_procedure.Procedure) (n m : ℕ) (d : declared.Procedure) (t : typed_procedure.Procedure) (before : List code.Procedure) (q : code.Procedure)
-    → n < length ds → n < length ts → d ≡ get_or ds n d → t ≡ get_or ts n t → m ≡ n + 1 → plain q ≡ lowered ps (procedure_of d) (statements_of t.body.items)
+    → n < length ds → n < length ts → d ≡ get_or ds n d → t ≡ get_or ts n t → m ≡ n + 1 → plain q ≡ one_lowered ps (procedure_of d) (statements_of t.body.items)
     → map plain (before ++ q ∷ []) ++ all_lowered ps (map procedure_of (drop m ds)) (typed_procedures (drop m ts)) ≡ map plain before ++ all_lowered ps (map procedure_of (drop n ds)) (typed_procedures (drop n ts))
 one_more ps ds ts n m d t before q a b du tu mn made =
     let dd : drop n ds ≡ d ∷ drop m ds = drop_more ds n d a ∙ ap (λ x. x ∷ drop (n + 1) ds) (sym du) ∙ ap (λ k. d ∷ drop k ds) (sym mn) in

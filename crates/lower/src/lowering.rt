@@ -6,7 +6,7 @@ ghost use Rattle.plm_type.specs.Statements.{interrupt_fits};
 ghost use Rattle.plm_type.specs.View.{statements_of, procedures_of};
 ghost use Rattle.lower.specs.Code.{kind_of, has_vector};
 ghost use Rattle.lower.specs.Lowered.{IsLowered, vector_of, last_module};
-ghost use Rattle.lower.specs.Inner.Lowering.{plain, lowered, all_lowered};
+ghost use Rattle.lower.specs.Inner.Lowering.{plain, one_lowered, all_lowered};
 
 use crate::kind::Kind;
 use crate::laws::{checked_code_is_sound, checked_trees_are_well_formed};
@@ -59,7 +59,7 @@ impl Around<'_> {
         body: &[Box<Statement>],
     ) -> Result<Procedure, Fault>
         requires { interrupt_fits declared.now.interrupt ≡ true }
-        ensures code { IfOk result (λ p. plain p ≡ lowered (procedures_of self.entry.procedures.now) (procedure_of declared.now) (statements_of body.now)) }
+        ensures code { IfOk result (λ p. plain p ≡ one_lowered (procedures_of self.entry.procedures.now) (procedure_of declared.now) (statements_of body.now)) }
         ensures memory { IsOkUnless result Fault.Memory }
     {
         let vector = vector_of(declared);

@@ -16,8 +16,8 @@ abbrev pub plain : code.Procedure → ProcedureC
 plain p = record { «module» = p.module; vector = p.vector; instructions = p.instructions.items }
 
 module _ (procedures : List Procedure) where
-  abbrev pub lowered : ProcedureR → Statements → ProcedureC
-  lowered p body = record {
+  abbrev pub one_lowered : ProcedureR → Statements → ProcedureC
+  one_lowered p body = record {
     «module» = p.module;
     vector = vector_of p;
     instructions = routine_code procedures (kind_of (has_vector (Some (vector_of p)))) body;
@@ -26,4 +26,4 @@ module _ (procedures : List Procedure) where
   abbrev pub all_lowered : List ProcedureR → List Procedure → List ProcedureC
   all_lowered [] qs = []
   all_lowered (p ∷ ps) [] = []
-  all_lowered (p ∷ ps) (q ∷ qs) = lowered p q.body ∷ all_lowered ps qs
+  all_lowered (p ∷ ps) (q ∷ qs) = one_lowered p q.body ∷ all_lowered ps qs

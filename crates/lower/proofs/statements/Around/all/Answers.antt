@@ -6,7 +6,7 @@ use Rattle.plm_decl.specs.declared.names.Procedure.{Procedure}
 use Rattle.plm_decl.specs.Names.{procedure_of}
 use Rattle.plm_type.specs.declared.program.Procedure as typed
 use Rattle.plm_type.specs.View.{statements_of, procedures_of}
-use Rattle.lower.specs.Inner.Lowering.{plain, lowered, all_lowered}
+use Rattle.lower.specs.Inner.Lowering.{plain, one_lowered, all_lowered}
 use Rattle.lower.proofs.Procedures.{one_more, nothing_left}
 use Rattle.lower.proofs.statements.Around.all.Goals as goal
 
@@ -20,7 +20,7 @@ loop-declared-preserved c =
     let first : iter_rest (zip_first s) ≡ ds = search rules in
     let second : iter_rest (zip_second s) ≡ ts = search rules in
     let turn = zip_turn ds ts c.loop-declared.yielded s c.loop-declared.declared-iterator c.next.new.self c.next.result first second c.loop-declared.yielded_by pair c.in-Some.is c.next.ensures.steps in
-    let made = c.in_ok-procedure.ensures.code ∙ ap (λ b. lowered ps (procedure_of c.in-Some.declared.now) (statements_of b)) c.deref-in-loop-declared.ensures.value in
+    let made = c.in_ok-procedure.ensures.code ∙ ap (λ b. one_lowered ps (procedure_of c.in-Some.declared.now) (statements_of b)) c.deref-in-loop-declared.ensures.value in
     let m = length (c.loop-declared.yielded ++ pair ∷ []) in
     ap (λ qs. map plain qs ++ all_lowered ps (map procedure_of (drop m ds)) (procedures_of (drop m ts))) c.in_ok-push.ensures.items
     ∙ one_more ps ds ts (length c.loop-declared.yielded) m c.in-Some.declared.now c.in-Some.procedure.now c.loop-declared.procedures.items c.in_ok-procedure.field-0
