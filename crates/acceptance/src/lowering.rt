@@ -522,7 +522,10 @@ fn interrupts_are_served(rt: HostRuntime) -> Result<(), Fail> {
         Instruction::Invoke(0),
         Instruction::Finish,
     ];
-    assert_eq!(rt; code.instructions(Routine::Procedure(1)), serving.as_slice());
+    assert_eq!(rt;
+        code.instructions(Routine::Procedure(1)),
+        serving.as_slice()
+    );
     // The interrupt procedure calls the other one, which stands before it.
     assert_eq!(rt; code.order.as_slice(), [0, 1].as_slice());
     Ok(())

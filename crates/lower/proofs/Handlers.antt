@@ -67,10 +67,10 @@ handler_bodies names v =
 handler_routines : (names : Names) (v : ℕ) (c : Code) → IsLowered names c → serving c v ≡ procedure_or_none (number_for (vectors_of names) v)
 handler_routines names v c is =
     ap procedure_or_none
-      (position_from-zero (λ (p : code.Procedure). is_number p.vector v) c.procedures.items
-      ∙ mapped (λ (p : code.Procedure). p.vector) (λ n. is_number n v) 0 c.procedures.items
-      ∙ ap (λ vs. position_from (λ n. is_number n v) 0 vs) is.vectors_are
-      ∙ sym (position_from-zero (λ n. is_number n v) (vectors_of names)))
+    (position_from-zero (λ (p : code.Procedure). is_number p.vector v) c.procedures.items
+    ∙ mapped (λ (p : code.Procedure). p.vector) (λ n. is_number n v) 0 c.procedures.items
+    ∙ ap (λ vs. position_from (λ n. is_number n v) 0 vs) is.vectors_are
+    ∙ sym (position_from-zero (λ n. is_number n v) (vectors_of names)))
 
 pub enters_first : EntryLaw
 enters_first names v = record { meant = handler_bodies names v; coded = handler_routines names v }

@@ -24,7 +24,7 @@ loop-declared-preserved c =
     let m = length (c.loop-declared.yielded ++ pair ∷ []) in
     ap (λ qs. map plain qs ++ all_lowered ps (map procedure_of (drop m ds)) (procedures_of (drop m ts))) c.in_ok-push.ensures.items
     ∙ one_more ps ds ts (length c.loop-declared.yielded) m c.in-Some.declared.now c.in-Some.procedure.now c.loop-declared.procedures.items c.in_ok-procedure.field-0
-      turn.0 turn.1 (turn.2 c.in-Some.declared.now) (turn.3 c.in-Some.procedure.now) (length-append c.loop-declared.yielded (pair ∷ [])) made
+    turn.0 turn.1 (turn.2 c.in-Some.declared.now) (turn.3 c.in-Some.procedure.now) (length-append c.loop-declared.yielded (pair ∷ [])) made
     ∙ c.loop-declared.invariant
 
 pub returns-clause-code : goal.returns-clause-code
