@@ -17,6 +17,8 @@ mod interrupt_procedures;
 #[cfg(test)]
 mod literals;
 #[cfg(test)]
+mod lowering;
+#[cfg(test)]
 mod meaning;
 #[cfg(test)]
 mod names;

@@ -52,7 +52,11 @@ fn run_of(
 }
 
 /// The run of a text whose objects lie at these offsets.
-fn run(alloc: Global, text: &[u8], offsets: &[u16]) -> Result<(Vec<Label>, Option<Stop>), Fault> {
+pub fn run(
+    alloc: Global,
+    text: &[u8],
+    offsets: &[u16],
+) -> Result<(Vec<Label>, Option<Stop>), Fault> {
     let program = program_of(alloc, text)?;
     let placement = Placement::of(offsets.to_vec(alloc)?);
     run_of(alloc, &program, &placement)

@@ -32,7 +32,11 @@ pub mod Rooming
 pub mod Counts
 pub mod Peaks
 pub mod Lows
-mod TypedPlaces
-mod TypedTrees
-mod TypedStatements
-mod TypedProgram
+pub mod Modules
+pub mod Procedures
+pub mod Handlers
+pub mod Numbers
+pub mod TypedPlaces
+pub mod TypedTrees
+pub mod TypedStatements
+pub mod TypedProgram

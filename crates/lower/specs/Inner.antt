@@ -1,3 +1,4 @@
 pub mod Shown
 pub mod Chains
 pub mod Parts
+pub mod Lowering

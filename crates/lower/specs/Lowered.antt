@@ -2,13 +2,13 @@
 use Rattle.std.specs.Prelude.{◌≡◌, ℕ, suc, max, cond, List, [], ◌∷◌, map, Option, None}
 use Rattle.plm_decl.specs.declared.names.Names.{Names}
 use Rattle.plm_decl.specs.Names.{ProcedureR, main_of}
-use Rattle.plm_type.specs.Programs.{declared_procedures, main_tree, procedures_of}
+use Rattle.plm_type.specs.Programs.{declared_procedures, main_tree, procedures_of, handler_tree}
 use Rattle.plm_type.specs.Statements.{is_external}
 use Rattle.icode.specs.declared.instruction.Instruction.{Instruction}
 use Rattle.icode.specs.declared.code.Routine.{Routine}
 use Rattle.icode.specs.declared.code.Code.{Code}
-use Rattle.icode.specs.Code.{code_of}
-use Rattle.lower.specs.Code.{code}
+use Rattle.icode.specs.Code.{code_of, serving, procedure_or_none}
+use Rattle.lower.specs.Code.{code, number_for, body_for}
 
 -- an EXTERNAL procedure serves no interrupt
 abbrev pub vector_of : ProcedureR → Option ℕ
@@ -32,3 +32,11 @@ module _ (names : Names) where
     pub modules_are : map (λ p. p.module) c.procedures.items ≡ map (λ p. p.module) (declared_procedures names)
     pub main_is_in : c.main_module ≡ (main_of names.main).module
     pub sections_are : c.sections ≡ suc (last_module (main_of names.main).module (declared_procedures names))
+
+-- What an interrupt does: it enters the first procedure with its vector, in the meaning and in the code.
+pub record EntersFirst (names : Names) (vector : ℕ) : Type 0 where
+  pub meant : handler_tree names vector ≡ body_for (procedures_of names) (number_for (vectors_of names) vector)
+  pub coded : (c : Code) → IsLowered names c → serving c vector ≡ procedure_or_none (number_for (vectors_of names) vector)
+
+abbrev pub EntryLaw : Type 0
+EntryLaw = (names : Names) (vector : ℕ) → EntersFirst names vector

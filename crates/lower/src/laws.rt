@@ -1,16 +1,24 @@
 //! What the code of a program does.
 
-ghost use Rattle.lower.specs.Heights.{HeightLaw};
-ghost use Rattle.lower.specs.Room.{RoomLaw};
-ghost use Rattle.lower.specs.Tracking.{LoweringLaw};
 ghost use Rattle.lower.specs.Checked.{CheckedLaw, SoundLaw};
+ghost use Rattle.lower.specs.Heights.{HeightLaw};
+ghost use Rattle.lower.specs.Lowered.{EntryLaw};
+ghost use Rattle.lower.specs.Room.{RoomLaw};
 ghost use Rattle.lower.specs.Runs.{RunsLaw};
+ghost use Rattle.lower.specs.Tracking.{LoweringLaw};
 
 /// The code of a well-formed program does what the program means, up to its first Bad step. Wherever the objects lie and whatever
 /// happens to what is shared between two steps, main's code tracks main, and what serves a vector tracks that vector's procedure. At
 /// most two instructions come without a step of the program.
 pub fn lowering_tracks()
     ensures { LoweringLaw }
+{}
+
+/// The trees of a checked program are well formed: what is read or written at a fixed place lies in its object or on the screen,
+/// a variable's bytes do, a base is a word that does, and what is called has as many parameters as there are arguments and serves
+/// no interrupt.
+pub fn checked_trees_are_well_formed()
+    ensures { CheckedLaw }
 {}
 
 /// The code of a well-formed program can be counted and selected: the number of pushed values is the same along every run, and none
@@ -38,9 +46,7 @@ pub fn heights_are_low()
     ensures { HeightLaw }
 {}
 
-/// The trees of a checked program are well formed: what is read or written at a fixed place lies in its object or on the screen,
-/// a variable's bytes do, a base is a word that does, and what is called has as many parameters as there are arguments and serves
-/// no interrupt.
-pub fn checked_trees_are_well_formed()
-    ensures { CheckedLaw }
+/// An interrupt enters the first procedure with its vector, in what the program means and in its code.
+pub fn interrupts_enter_their_procedures()
+    ensures { EntryLaw }
 {}

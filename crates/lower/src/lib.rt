@@ -7,11 +7,13 @@ mod expressions;
 mod kind;
 mod laws;
 mod loops;
+mod lowering;
 mod put;
 mod silence;
 mod statements;
 
 pub use laws::{
     checked_code_is_sound, checked_runs_are_allowed, checked_trees_are_well_formed, code_has_room,
-    heights_are_low, lowering_tracks,
+    heights_are_low, interrupts_enter_their_procedures, lowering_tracks,
 };
+pub use lowering::lower;

@@ -1,0 +1,36 @@
+-- The numbers of INTERRUPT fit a byte.
+use Rattle.std.proofs.Common.{◌≡◌, ℕ, zero, suc, ◌<◌, Bool, true, false, List, [], ◌∷◌, ◌++◌, length, map, slice_index_or, refl, ap, true≢false, arith}
+use Rattle.word86.specs.declared.number.Number.{Number}
+use Rattle.plm_syntax.specs.declared.tree.Position.{Position}
+use Rattle.plm_decl.specs.declared.found.Found.{Found}
+use Rattle.plm_decl.specs.declared.names.Variable.{Variable}
+use Rattle.plm_decl.specs.declared.names.Names.{Names}
+use Rattle.plm_decl.specs.declared.names.Procedure as declared
+use Rattle.plm_decl.specs.Names.{ProcedureR, procedure_of, declared_location_of, main_of}
+use Rattle.plm_type.specs.Faults.{fault_unless}
+use Rattle.plm_type.specs.Statements.{of_locations, of_procedure, of_procedures, of_main, interrupt_fits}
+use Rattle.plm_type.specs.Programs.{faults, declared_procedures}
+
+none_of_both : (fs gs : List Found) → fs ++ gs ≡ [] → (fs ≡ []) × (gs ≡ [])
+none_of_both [] gs e = (refl, e)
+none_of_both (f ∷ fs) gs e = absurd (true≢false (ap (λ (l : List Found). elim l [ [] ↦ false | g ∷ hs ↦ true ]) e))
+
+holds_without_fault : (m : ℕ) (b : Bool) (n : Number) (p : Position) → fault_unless m b n p ≡ [] → b ≡ true
+holds_without_fault m true n p e = refl
+holds_without_fault m false n p e = absurd (true≢false (ap (λ (l : List Found). elim l [ [] ↦ false | f ∷ fs ↦ true ]) e))
+
+module _ (variables : List Variable) (all : List ProcedureR) where
+  number_fits : (p : ProcedureR) → of_procedure variables all p ≡ [] → interrupt_fits p.interrupt ≡ true
+  number_fits p e = holds_without_fault _ _ _ _ (none_of_both _ _ (none_of_both _ _ e).1).0
+
+  each_fits : (ps : List declared.Procedure) → of_procedures variables all (map procedure_of ps) ≡ [] → (k : ℕ) (d : declared.Procedure) → k < length ps → interrupt_fits (slice_index_or ps k d).interrupt ≡ true
+  each_fits [] e k d h = absurd (omega (arith, h))
+  each_fits (p ∷ ps) e zero d h = number_fits (procedure_of p) (none_of_both (of_procedure variables all (procedure_of p)) (of_procedures variables all (map procedure_of ps)) e).0
+  each_fits (p ∷ ps) e (suc k) d h = each_fits ps (none_of_both (of_procedure variables all (procedure_of p)) (of_procedures variables all (map procedure_of ps)) e).1 k d (omega (arith, h))
+
+pub numbers_fit : (names : Names) → faults names ≡ [] → (k : ℕ) (d : declared.Procedure) → k < length names.procedures.items → interrupt_fits (slice_index_or names.procedures.items k d).interrupt ≡ true
+numbers_fit names e =
+    let vs = names.variables.items in
+    let ps = declared_procedures names in
+    let behind = none_of_both (of_locations vs ps (map declared_location_of names.locations.items)) (of_procedures vs ps ps ++ of_main vs ps (main_of names.main)) e in
+    each_fits vs ps names.procedures.items (none_of_both (of_procedures vs ps ps) (of_main vs ps (main_of names.main)) behind.1).0
