@@ -11,7 +11,7 @@ use Rattle.plm_type.specs.Calls.{graph_of, statements_calls}
 use Rattle.plm_type.specs.Effects.{of_statements}
 use Rattle.plm_type.specs.Interrupts.{called, lets_in, body_effects, text_graph, procedure_lets_in, serves_interrupt}
 use Rattle.plm_type.specs.Reach.{row_of, Leads}
-use Rattle.plm_type.specs.Statements.{is_external, of_body, of_procedure, of_procedures, of_locations, of_main, of_parameters, of_stray, body_for, procedure_for, statements_for}
+use Rattle.plm_type.specs.Statements.{is_external, of_body, of_procedure, of_procedures, of_locations, of_main, of_parameters, of_stray, body_for, procedure_for, statements_for, of_entry}
 use Rattle.plm_type.specs.Statements as typed
 use Rattle.plm_type.specs.Programs.{declared_procedures, main_tree, procedures_of}
 use Rattle.lower.specs.Code.{has_vector, serves, number_for}
@@ -36,8 +36,10 @@ module _ (variables : List Variable) (ps : List ProcedureR) (sizes : List ℕ) w
 
   body_faultless : (p : ProcedureR) → of_procedure variables ps p ≡ [] → of_body variables ps p ≡ []
   body_faultless p h =
+      let behind = of_stray p.module p.stray ++ of_body variables ps p in
       (none_of_both (of_stray p.module p.stray) (of_body variables ps p)
-      (none_of_both _ (of_stray p.module p.stray ++ of_body variables ps p) (none_of_both (of_parameters variables p.module p.parameters) _ h).1).1).1
+      (none_of_both (of_entry ps p) behind
+      (none_of_both _ (of_entry ps p ++ behind) (none_of_both (of_parameters variables (is_external p.linkage) p.module p.parameters) _ h).1).1).1).1
 
   -- the rows of the typed trees are among those of the texts
   row_within : (qs : List ProcedureR) → of_procedures variables ps qs ≡ [] → (p q : ℕ) → Contains (row_of (slice_get (map (λ (y : Procedure). statements_calls y.body) (map (procedure_for variables ps sizes) qs)) p)) q

@@ -16,6 +16,7 @@ use Rattle.plm_decl.specs.declared.layout.ScalarType.TheVariants.{Word}
 use Rattle.plm_decl.specs.declared.names.Variable.{Variable}
 use Rattle.plm_decl.specs.declared.resolved.Binding.TheVariants as binding
 use Rattle.plm_decl.specs.declared.found.Found.{Found}
+use Rattle.plm_decl.specs.Layout.{size_of}
 use Rattle.plm_decl.specs.Names.{ProcedureR}
 use Rattle.plm_decl.specs.Resolved.{ExpressionR, NumberR, TextR, ReferenceR, LocationR, ParenthesisedR, EmbeddedR, UnaryR, BinaryR, ReferenceR', Use, ExpressionsR, no_expressions, expressions, SelectorR, no_member, member, member_at, LocationR', LocationOf, ConstantsOf, ReferencesR, no_references, references, StatementR, EmptyR, AssignR, CallR, ReturnR, ReturnValueR, EnableR, DisableR, HaltR, IfR, IfElseR, DoR, WhileR, CaseR, IterateR, StatementsR, no_statements, statements}
 use Rattle.plm_type.specs.declared.statements.Around.{Around}
@@ -47,14 +48,14 @@ none_right (x ∷ xs) ys e = absurd (not_none x (xs ++ ys) e)
 -- ---- references
 
 read_count : (t : ScalarType) (x : Reference) → typed.nodes (read_of t x) ≤ typed.reference_nodes x
-read_count t (Refer m l anchor offset ss) = cases (fixed_place (Refer m l anchor offset ss))
+read_count t (Refer m l anchor offset ss) = cases (fixed_place (size_of t) (Refer m l anchor offset ss))
   where
     cases : (o : Option Where) → typed.nodes (elim o [ Some w ↦ rest.Plain (width_of (Some t)) w | None ↦ rest.Variable (width_of (Some t)) (Refer m l anchor offset ss) ]) ≤ 1 + typed.subscripts_nodes ss
     cases (Some w) = omega arith
     cases None = omega arith
 
 store_count : (t : ScalarType) (x : Reference) → typed.target_nodes (store_to t x) ≤ typed.reference_nodes x
-store_count t (Refer m l anchor offset ss) = cases (fixed_place (Refer m l anchor offset ss))
+store_count t (Refer m l anchor offset ss) = cases (fixed_place (size_of t) (Refer m l anchor offset ss))
   where
     cases : (o : Option Where) → typed.target_nodes (elim o [ Some w ↦ rest.ToPlain (width_of (Some t)) w | None ↦ rest.ToVariable (width_of (Some t)) (Refer m l anchor offset ss) ]) ≤ 1 + typed.subscripts_nodes ss
     cases (Some w) = omega arith

@@ -15,6 +15,7 @@ use Rattle.plm_decl.specs.declared.layout.ScalarType.{ScalarType}
 use Rattle.plm_decl.specs.declared.layout.ScalarType.TheVariants.{Word}
 use Rattle.plm_decl.specs.declared.names.Variable.{Variable}
 use Rattle.plm_decl.specs.declared.resolved.Binding.TheVariants as binding
+use Rattle.plm_decl.specs.Layout.{size_of}
 use Rattle.plm_decl.specs.Names.{ProcedureR, main_of}
 use Rattle.plm_decl.specs.Resolved.{ExpressionR, NumberR, TextR, ReferenceR, LocationR, ParenthesisedR, EmbeddedR, UnaryR, BinaryR, ReferenceR', Use, ExpressionsR, no_expressions, expressions, SelectorR, no_member, member, member_at, LocationR', LocationOf, ConstantsOf, ReferencesR, no_references, references, StatementR, EmptyR, AssignR, CallR, ReturnR, ReturnValueR, EnableR, DisableR, HaltR, IfR, IfElseR, DoR, WhileR, CaseR, IterateR, StatementsR, no_statements, statements}
 use Rattle.plm_type.specs.declared.statements.Around.{Around}
@@ -42,14 +43,14 @@ use Rattle.lower.proofs.Peaks.{peak, pushed_peak, reference_peak, subscripts_pea
 -- ---- references
 
 read_peak : (t : ScalarType) (x : Reference) → peak (read_of t x) ≤ reference_peak x
-read_peak t x = cases (fixed_place x)
+read_peak t x = cases (fixed_place (size_of t) x)
   where
     cases : (o : Option Where) → peak (elim o [ Some w ↦ rest.Plain (width_of (Some t)) w | None ↦ rest.Variable (width_of (Some t)) x ]) ≤ reference_peak x
     cases (Some w) = omega arith
     cases None = omega arith
 
 store_peak : (t : ScalarType) (x : Reference) → target_peak (store_to t x) ≤ suc (reference_peak x)
-store_peak t x = cases (fixed_place x)
+store_peak t x = cases (fixed_place (size_of t) x)
   where
     cases : (o : Option Where) → target_peak (elim o [ Some w ↦ rest.ToPlain (width_of (Some t)) w | None ↦ rest.ToVariable (width_of (Some t)) x ]) ≤ suc (reference_peak x)
     cases (Some w) = omega arith

@@ -1,5 +1,5 @@
 -- The last module that has a procedure.
-use Rattle.std.proofs.Common.{◌≡◌, ◌≤◌, max, List, [], ◌∷◌, ℕ, arith}
+use Rattle.std.proofs.Common.{◌≤◌, List, [], ◌∷◌, ℕ, arith}
 use Rattle.plm_decl.specs.Names.{ProcedureR}
 use Rattle.lower.specs.Lowered.{last_module}
 

@@ -8,7 +8,7 @@ use Rattle.plm_decl.specs.Names.{ProcedureR, MainR}
 use Rattle.plm_type.specs.declared.statements.Around.TheVariants as stands
 use Rattle.plm_type.specs.Rest.{Statements, End, Procedure}
 use Rattle.plm_type.specs.Faults.{fault_unless}
-use Rattle.plm_type.specs.Statements.{of_statements, statements_for, is_external, of_parameters, of_stray, interrupt_fits, of_body, of_procedure, of_procedures, of_locations, of_main, body_for, procedure_for, main_for}
+use Rattle.plm_type.specs.Statements.{of_statements, statements_for, is_external, of_parameters, of_stray, interrupt_fits, of_body, of_procedure, of_procedures, of_locations, of_main, body_for, procedure_for, main_for, of_entry}
 use Rattle.plm_type.specs.Nodes.{statements_nodes, procedures_nodes}
 use Rattle.word86.specs.declared.number.Number.TheVariants.{E401}
 use Rattle.icode.specs.declared.code.Routine.TheVariants as routine
@@ -59,10 +59,13 @@ module _ (variables : List Variable) (declared : List ProcedureR) (sizes : List 
       nothing_there : None ≡ Some p → ⊥
       nothing_there e = cc
   no_fault_in (r ∷ ps) zero p none got =
+      let behind = of_stray r.module r.stray ++ body_faults r in
+      let fits = fault_unless r.module (interrupt_fits r.interrupt) E401 r.place in
       let here : body_faults r ≡ [] = none_right (of_stray r.module r.stray) (body_faults r)
-      (none_right (fault_unless r.module (interrupt_fits r.interrupt) E401 r.place) (of_stray r.module r.stray ++ body_faults r)
-      (none_right (of_parameters variables r.module r.parameters) (fault_unless r.module (interrupt_fits r.interrupt) E401 r.place ++ (of_stray r.module r.stray ++ body_faults r))
-      (none_left (of_procedure variables declared r) (of_procedures variables declared ps) none))) in
+      (none_right (of_entry declared r) behind
+      (none_right fits (of_entry declared r ++ behind)
+      (none_right (of_parameters variables (is_external r.linkage) r.module r.parameters) (fits ++ (of_entry declared r ++ behind))
+      (none_left (of_procedure variables declared r) (of_procedures variables declared ps) none)))) in
       subst (λ x. body_faults x ≡ []) (ap (λ (o : Option ProcedureR). elim o [ None ↦ r | Some x ↦ x ]) got) here
   no_fault_in (r ∷ ps) (suc q) p none got = no_fault_in ps q p (none_right (of_procedure variables declared r) (of_procedures variables declared ps) none) got
 

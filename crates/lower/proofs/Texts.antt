@@ -15,6 +15,7 @@ use Rattle.plm_decl.specs.declared.layout.ScalarType.TheVariants.{Word}
 use Rattle.plm_decl.specs.declared.names.Variable.{Variable}
 use Rattle.plm_decl.specs.declared.resolved.Binding.TheVariants as binding
 use Rattle.plm_decl.specs.declared.found.Found.{Found}
+use Rattle.plm_decl.specs.Layout.{size_of}
 use Rattle.plm_decl.specs.Names.{ProcedureR}
 use Rattle.plm_decl.specs.Resolved.{ExpressionR, NumberR, TextR, ReferenceR, LocationR, ParenthesisedR, EmbeddedR, UnaryR, BinaryR, ReferenceR', Use, ExpressionsR, no_expressions, expressions, SelectorR, no_member, member, member_at, LocationR', LocationOf, ConstantsOf, ReferencesR, no_references, references, StatementR, EmptyR, AssignR, CallR, ReturnR, ReturnValueR, EnableR, DisableR, HaltR, IfR, IfElseR, DoR, WhileR, CaseR, IterateR, StatementsR, no_statements, statements}
 use Rattle.plm_type.specs.declared.effects.Effect.{Effect}
@@ -98,16 +99,16 @@ module _ (ps : List ProcedureR) where
   use_read_within (Some v) s r fs f = by (designated v s)
     where
       by : (d : Option ScalarType) → Within (calls_in (elim d [ Some t ↦ read_of t r | None ↦ rest.Constant 0 ])) fs
-      by (Some t) = read_within t r (fixed_place r) fs f
+      by (Some t) = read_within t r (fixed_place (size_of t) r) fs f
       by None = none fs
 
   use_stored_within : (v : Option Variable) (s : SelectorR) (r : Reference) (fs : List Effect) → Within (reference_calls r) fs → Within (target_calls (use_stored v s r)) fs
-  use_stored_within None s r fs f = store_within Word r (fixed_place r) fs f
+  use_stored_within None s r fs f = store_within Word r (fixed_place (size_of Word) r) fs f
   use_stored_within (Some v) s r fs f = by (designated v s)
     where
       by : (d : Option ScalarType) → Within (target_calls (elim d [ Some t ↦ store_to t r | None ↦ store_to Word r ])) fs
-      by (Some t) = store_within t r (fixed_place r) fs f
-      by None = store_within Word r (fixed_place r) fs f
+      by (Some t) = store_within t r (fixed_place (size_of t) r) fs f
+      by None = store_within Word r (fixed_place (size_of Word) r) fs f
 
   operated_within : (es : Expressions) (fs : List Effect) → Within (argument_calls es) fs → (o : UnaryOperation) (w : Width) → Within (calls_in (operated o w es)) fs
   operated_within NoMore fs f o w = none fs

@@ -1,4 +1,4 @@
-use Rattle.std.proofs.Common.{◌≤◌, map, arith}
+use Rattle.std.proofs.Common.{map, arith}
 use Rattle.plm_decl.specs.Names.{procedure_of}
 use Rattle.lower.proofs.Modules.{main_before_last}
 use Rattle.lower.proofs.lowering.sections_of.Goals as goal
