@@ -156,12 +156,13 @@ module _ (program : Program) (names : Names) (typed : AreTyped program names) wh
   entered : (n k : ℕ) (o : Option ProcedureR) → slice_get ps k ≡ o → is_entry n o ≡ true → is_for_interrupt o ≡ false → IsCall (sizes_of names) (procedures_of names) MayCall k n
   entered n k None e h i = absurd (true_false (sym h))
   entered n k (Some p) e h i =
-      let both = both_true (not (is_external p.linkage)) (nat_eq (length p.parameters) n) h in
-      (procedure_for vs ps (sizes_of names) p,
-      slice_get-map (procedure_for vs ps (sizes_of names)) ps k ∙ ap (option_map (procedure_for vs ps (sizes_of names))) e,
-      as_many_parameters vs p.parameters ∙ nat_same (length p.parameters) n both.1,
-      own_parameters k p e (not_true (is_external p.linkage) both.0),
-      ap has_vector (vector_at k p e) ∙ unserved (is_external p.linkage) p.interrupt i)
+      let both = both_true (not (is_external p.linkage)) (nat_eq (length p.parameters) n) h in (
+        procedure_for vs ps (sizes_of names) p,
+        slice_get-map (procedure_for vs ps (sizes_of names)) ps k ∙ ap (option_map (procedure_for vs ps (sizes_of names))) e,
+        as_many_parameters vs p.parameters ∙ nat_same (length p.parameters) n both.1,
+        own_parameters k p e (not_true (is_external p.linkage) both.0),
+        ap has_vector (vector_at k p e) ∙ unserved (is_external p.linkage) p.interrupt i,
+      )
 
   entry_sound : (k : ℕ) (p : ProcedureR) → slice_get ps k ≡ Some p → is_entry (length p.parameters) (slice_get ps p.entry) ≡ true
   entry_sound k p e =
@@ -175,9 +176,10 @@ module _ (program : Program) (names : Names) (typed : AreTyped program names) wh
   texts_callable : (es : List Effect) → ((k : ℕ) → Contains (called ps es) k → is_for_interrupt (slice_get ps k) ≡ false) → AllCallable ps (sizes_of names) (procedures_of names) MayCall es
   texts_callable [] h = tt
   texts_callable (Calls q ∷ es) h =
-      let entry = entry_of (slice_get ps q) in
-      (callable_at q (slice_get ps q) refl (h entry (1, omega arith, refl)),
-      texts_callable es (λ k c. h k (Contains-append_right (q ∷ entry ∷ []) (called ps es) k c)))
+      let entry = entry_of (slice_get ps q) in (
+        callable_at q (slice_get ps q) refl (h entry (1, omega arith, refl)),
+        texts_callable es (λ k c. h k (Contains-append_right (q ∷ entry ∷ []) (called ps es) k c)),
+      )
   texts_callable (Enables ∷ es) h = texts_callable es h
 
   uncalled : (k : ℕ) → IsCalled names k → is_for_interrupt (slice_get ps k) ≡ false
