@@ -1,5 +1,5 @@
 -- Trees as they are put together, and as the code takes them apart.
-use Rattle.std.proofs.Common.{◌≡◌, ◌≤◌, ◌-◌, ◌^◌, min, ℕ, List, [], ◌∷◌, ◌++◌, length, nat_eq, Bool, true, false, cond, Option, Some, None, option_map, arith, append_assoc, map, refl, sym, ap, subst, ◌∙◌}
+use Rattle.std.proofs.Common.{◌≡◌, ◌≤◌, ◌-◌, ◌^◌, min, ℕ, List, [], ◌∷◌, ◌++◌, length, nat_eq, Bool, true, false, cond, Some, None, option_map, arith, append_assoc, map, refl, sym, ap, subst, ◌∙◌}
 use Rattle.std.specs.Global.{Vec}
 use Rattle.std.specs.Bool.{then_some}
 use Rattle.std.proofs.lemmas.List.{append-nil}

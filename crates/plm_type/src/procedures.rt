@@ -130,7 +130,7 @@ impl Typer<'_> {
         ensures tree { IfOk result (λ r. view.statements_of r.items ≡ spec.body_for (variables self.now) (procedures self.now) (sizes self.now) (procedure_of procedure.now)) }
         ensures faults { OnOk result (faults.new.items ≡ faults.old.items ++ spec.of_body (variables self.now) (procedures self.now) (procedure_of procedure.now)) }
     {
-        if procedure.linkage == Linkage::External {
+        if is_external(procedure.linkage) {
             return Ok(Vec::new(self.alloc));
         }
         self.statements(
