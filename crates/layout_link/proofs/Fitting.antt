@@ -12,7 +12,8 @@ use Rattle.layout_link.specs.declared.tasks.Task.{Task}
 use Rattle.layout_link.specs.declared.tasks.Task.TheVariants as tasks
 use Rattle.layout_link.specs.Startup.{turns_of, turns_of_all}
 use Rattle.layout_link.specs.Tasks.{placed, serving, vector_task, vector_tasks}
-use Rattle.layout_link.specs.Initial.{puts, is_copied, object_tasks, copied, copies_with, initial_bytes, first_bytes, data_tasks, copied_bytes, count_of}
+use Rattle.plm_decl.specs.Initial.{initial_bytes}
+use Rattle.layout_link.specs.Initial.{puts, is_copied, object_tasks, copied, copies_with, object_bytes, data_tasks, copied_bytes, count_of}
 use Rattle.layout_link.specs.Inner.Head.{TasksFit, turns_of_task, turns_of_tasks}
 use Rattle.layout_link.proofs.Heading.{fit_both}
 
@@ -119,13 +120,13 @@ object_fits from at to copies bytes room lt =
     room lt
 
 module _ (offsets : List ℕ) (variables : List Variable) where
-  first_long : (o : Object) → length (first_bytes offsets variables o) ≤ o.size
+  first_long : (o : Object) → length (object_bytes offsets variables o) ≤ o.size
   first_long o = let l = length-take o.size (initial_bytes offsets variables o.initial.items) in omega (arith, l)
 
   pub data_turns : (at copies k : ℕ) (os : List Object) → copies ≤ 840 → turns_of_tasks (data_tasks offsets variables at copies k os) + 3 * copies ≤ count_of offsets variables os + 2520
   data_turns at copies k [] le = omega (arith, le)
   data_turns at copies k (o ∷ os) le =
-      let b = first_bytes offsets variables o in
+      let b = object_bytes offsets variables o in
       let to = 1024 + get_or offsets k 0 in
       let more = data_tasks offsets variables (at + length (copied copies b)) (copies_with copies b) (k + 1) os in
       let a = turns_append (object_tasks at copies to b) more in
@@ -138,7 +139,7 @@ module _ (offsets : List ℕ) (variables : List Variable) where
       → ((i : ℕ) → get_or offsets (k + i) 0 + get_or (map (λ o. o.size) os) i 0 ≤ 61440) → TasksFit from (data_tasks offsets variables at copies k os)
   data_fit from at copies k [] lt room = tt
   data_fit from at copies k (o ∷ os) lt room =
-      let b = first_bytes offsets variables o in
+      let b = object_bytes offsets variables o in
       let to = 1024 + get_or offsets k 0 in
       let here : k + 0 ≡ k = omega arith in
       let r = room 0 in

@@ -2,7 +2,8 @@
 
 ghost use Rattle.std.specs.Prelude.{◌≡◌, ◌+◌, ◌-◌, ◌<◌, ◌≤◌, ◌^◌, ◌++◌, ℕ, IfOk, OnOk, IsOkUnless, length, map, slice_get, slice_index};
 ghost use Rattle.i86_code.specs.Decoding.{AreBytes};
-ghost use Rattle.layout_link.specs.Initial.{word, puts, is_copied, object_tasks, copied, copies_with, variable_address, datum_bytes, initial_bytes, first_bytes, HaveBytes, data_tasks, copied_bytes};
+ghost use Rattle.plm_decl.specs.Initial.{word, variable_address, datum_bytes, initial_bytes};
+ghost use Rattle.layout_link.specs.Initial.{puts, is_copied, object_tasks, copied, copies_with, object_bytes, HaveBytes, data_tasks, copied_bytes};
 
 use crate::tasks::Task;
 use crate::words::number_at;
@@ -73,8 +74,8 @@ fn first_of(
     offsets: &[u16],
     object: &Object,
 ) -> Result<Vec<u8>, Fault>
-    ensures bytes { IfOk result (λ bytes. bytes.items ≡ first_bytes offsets.now names.now.variables.items object.now) }
-    ensures small { OnOk result (AreBytes (first_bytes offsets.now names.now.variables.items object.now)) }
+    ensures bytes { IfOk result (λ bytes. bytes.items ≡ object_bytes offsets.now names.now.variables.items object.now) }
+    ensures small { OnOk result (AreBytes (object_bytes offsets.now names.now.variables.items object.now)) }
     ensures memory { IsOkUnless result Fault.Memory }
 {
     let mut bytes = Vec::new(alloc);

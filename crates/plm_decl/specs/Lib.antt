@@ -19,6 +19,7 @@ pub mod Statements
 pub mod Joins
 pub mod Modules
 pub mod Placement
+pub mod Initial
 pub mod Ranges
 pub mod BlockNames
 pub mod Laws

@@ -2,7 +2,8 @@
 
 ghost use Rattle.std.specs.Prelude.{◌≡◌, ◌<◌, ◌^◌, ◌++◌, IfOk, slice_get, map, take, drop};
 ghost use Rattle.plm_decl.specs.Names.{object_of};
-ghost use Rattle.plm_meaning.specs.Opening.{word as word_bytes, variable_address, datum_bytes, object_at, objects_at};
+ghost use Rattle.plm_decl.specs.Initial.{word as word_bytes, variable_address, datum_bytes};
+ghost use Rattle.plm_meaning.specs.Opening.{object_at, objects_at};
 ghost use Rattle.plm_meaning.specs.Around.{names_of};
 ghost use Rattle.plm_meaning.specs.Inner.Redex.{offsets_of};
 
@@ -77,7 +78,7 @@ impl Surroundings<'_> {
         }
     }
 
-    // The bytes of an object: its initial ones, and after them those of RAM.
+    // The bytes of an object: its initial ones, as far as it has room, and after them those of RAM.
     fn object(
         self,
         alloc: Global,
@@ -95,6 +96,7 @@ impl Surroundings<'_> {
             without_first(ram, DATA + usize::from(offset)),
             object.size as usize,
         );
+        bytes.truncate(object.size as usize);
         let initial = bytes.len();
         bytes.extend_from_slice(without_first(held, initial))?;
         Ok(bytes)

@@ -1,5 +1,5 @@
 use Rattle.std.proofs.Common.{◌≡◌, ◌++◌, drop}
-use Rattle.layout_link.specs.Initial.{initial_bytes}
+use Rattle.plm_decl.specs.Initial.{initial_bytes}
 use Rattle.layout_link.proofs.initial.first_of.Given as goal
 
 abbrev pub invariant-loop-datum : goal.invariant-loop-datum

@@ -1,5 +1,5 @@
 use Rattle.std.proofs.Common.{◌≡◌, ◌++◌, drop}
-use Rattle.plm_meaning.specs.Opening.{initial_bytes}
+use Rattle.plm_decl.specs.Initial.{initial_bytes}
 use Rattle.plm_meaning.specs.Around.{names_of}
 use Rattle.plm_meaning.specs.Inner.Redex.{offsets_of}
 use Rattle.plm_meaning.proofs.around.Surroundings.object.Given as goal
