@@ -12,12 +12,12 @@ use Rattle.board.specs.declared.run.End.{End}
 use Rattle.board.specs.Machine.{power_on as powered_on}
 use Rattle.board.specs.Rom.{is_rom_length}
 use Rattle.board.specs.Run.{Ran, Broke}
-use Rattle.plm86.specs.declared.image.Image.{Image}
-use Rattle.plm86.specs.declared.image.RomSize.{RomSize}
-use Rattle.plm86.specs.declared.image.RomSize.TheVariants as sizes
+use Rattle.layout_link.specs.declared.image.Image.{Image}
+use Rattle.layout_link.specs.declared.image.RomSize.{RomSize}
+use Rattle.layout_link.specs.declared.image.RomSize.TheVariants as sizes
 use Rattle.plm86.specs.Build.{IsBuilt}
 use Rattle.plm86.specs.BuildAndRun.{HasRun, HasNotRun, wants_memory, not_written}
-use Rattle.plm86.specs.Image.{bytes_in}
+use Rattle.layout_link.specs.Image.{bytes_in}
 
 -- each size is one that the board takes
 pub is_taken : (size : RomSize) → is_rom_length (bytes_in size) ≡ true

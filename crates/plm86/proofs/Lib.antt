@@ -1,6 +1,6 @@
 pub mod Machine
 pub mod Headline
-mod FirstForms
+pub mod Composition
 pub mod Meets
 mod Phases
 mod BuiltRuns

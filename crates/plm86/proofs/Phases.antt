@@ -26,8 +26,8 @@ use Rattle.plm_type.specs.Rest.{Rest}
 use Rattle.ppi_kbd.specs.Chips.{reset}
 use Rattle.ppi_kbd.specs.BoardChips.{board_chips}
 use Rattle.plm86.specs.declared.build.Source.{Source}
-use Rattle.plm86.specs.declared.image.Image.{Image}
-use Rattle.plm86.specs.declared.image.RomSize.{RomSize}
+use Rattle.layout_link.specs.declared.image.Image.{Image}
+use Rattle.layout_link.specs.declared.image.RomSize.{RomSize}
 use Rattle.plm86.specs.declared.first.program.Program.{Program}
 use Rattle.plm86.specs.Build.{text_of, IsFirst, module_number, in_module, fault_in, scan_faults, tokens_of, IsTree, AreTrees, IsFirstUnparsed, AreModules, AreDeclared, AreTyped, AreAccepted, IsTooLarge, MeansNames, IsBuilt, unresolved, untyped, unformed, too_large, Refuses}
 use Rattle.plm86.specs.First.Faithful.{MeansProgram}
@@ -39,7 +39,7 @@ use Rattle.plm86.specs.First.Programs as programs
 use Rattle.plm86.specs.Inner.Parsed.{ParsesAll}
 use Rattle.plm86.specs.First.Sizes.{room_of}
 use Rattle.plm_type.specs.Nodes.{nodes_of}
-use Rattle.plm86.specs.Image.{bytes_in, kib_of}
+use Rattle.layout_link.specs.Image.{bytes_in, kib_of}
 use Rattle.plm86.proofs.FirstForms.Accepted.{handlers_are, stores_are}
 use Rattle.plm86.proofs.FirstForms.Nodes.{room_small}
 

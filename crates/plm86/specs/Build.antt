@@ -3,7 +3,7 @@ use Rattle.std.specs.Prelude.{◌≡◌, ℕ, ◌+◌, ◌*◌, ◌<◌, ◌≤�
 use Rattle.word86.specs.declared.fault.Fault.{Fault}
 use Rattle.word86.specs.declared.fault.Fault.TheVariants.{Memory, At}
 use Rattle.word86.specs.declared.number.Number.{Number}
-use Rattle.word86.specs.declared.number.Number.TheVariants.{E601}
+use Rattle.word86.specs.declared.number.Number.TheVariants.{E501, E601}
 use Rattle.plm_token.specs.Scanner.{Lexeme, scan_of}
 use Rattle.plm_syntax.specs.Tree.{ModuleT}
 use Rattle.plm_syntax.specs.Literals.{expanded}
@@ -26,11 +26,11 @@ use Rattle.plm_meaning.specs.Opening.{first_store}
 use Rattle.ppi_kbd.specs.Chips.{reset}
 use Rattle.ppi_kbd.specs.BoardChips.{board_chips}
 use Rattle.plm86.specs.declared.build.Source.{Source}
-use Rattle.plm86.specs.declared.image.Image.{Image}
-use Rattle.plm86.specs.declared.image.RomSize.{RomSize}
-use Rattle.plm86.specs.First.Forms.{HasFirstForms, refused_forms, refused_program}
+use Rattle.layout_link.specs.declared.image.Image.{Image}
+use Rattle.layout_link.specs.declared.image.RomSize.{RomSize}
+use Rattle.plm86.specs.Depth.{IsShallow}
 use Rattle.plm86.specs.Headline.{RomIsCorrect}
-use Rattle.plm86.specs.Image.{bytes_in, kib_of}
+use Rattle.layout_link.specs.Image.{bytes_in, kib_of}
 use Rattle.plm_type.specs.Nodes.{nodes_of, initial_size}
 
 abbrev pub text_of : Source → List ℕ
@@ -120,11 +120,6 @@ pub record AreTyped (texts : List (List ℕ)) (names : Names) : Type 0 where
   pub none_misused : (p : ℕ) → ¬ IsMisused names p
   pub no_recursion : (p : ℕ) → ¬ IsRecursive (procedures_of names) p
 
--- Nothing is refused in the texts, whatever the ROM's size. Of what may be built, only some forms can be in a ROM today.
-pub record AreAccepted (texts : List (List ℕ)) (names : Names) : Type 0 where
-  pub typed : AreTyped texts names
-  pub forms : HasFirstForms names
-
 -- ---- the image
 
 -- For every power-on memory and schedule the ROM, on the board with its chips from their reset on, does what the modules mean that
@@ -140,7 +135,7 @@ pub record MeansNames (names : Names) (image : Image) : Type 0 where
 -- The image of texts: nothing in them is refused, and the ROM does what they mean.
 pub record IsBuilt (texts : List (List ℕ)) (size : RomSize) (image : Image) : Type 0 where
   pub names : Names
-  pub accepted : AreAccepted texts names
+  pub typed : AreTyped texts names
   pub means : MeansNames names image
   pub placement : IsPlacement image.placement.offsets.items (sizes_of names)
   pub size_is : length image.rom.items ≡ bytes_in size
@@ -152,14 +147,14 @@ abbrev pub IsTooLarge : Names → RomSize → Type 0
 IsTooLarge names size = (16 * kib_of size < nodes_of names) ⊎ (bytes_in size < 4 * initial_size names)
 
 -- The first fault of the phases, each over all texts: scanning; parsing; names, where the least is answered, and those of the whole
--- program come last; types, likewise; forms that a ROM cannot have yet, likewise; and the ROM's room.
+-- program come last; types, likewise; the stack's room; and the ROM's.
 pub data IsRefusal (texts : List (List ℕ)) (size : RomSize) (f : Fault) : Type 0 where
   unscanned : IsFirst (scan_faults 0 texts) f → IsRefusal texts size f
   unparsed : scan_faults 0 texts ≡ [] → IsFirstUnparsed 0 (map tokens_of texts) f → IsRefusal texts size f
   unresolved : (trees : List ModuleT) → AreModules texts trees → IsLeastOf f (faults_of trees) (whole_faults_of trees) → IsRefusal texts size f
   untyped : (names : Names) → AreDeclared texts names → IsRefusedFor f names → IsRefusal texts size f
-  unformed : (names : Names) → AreTyped texts names → IsLeastOf f (refused_forms names) (refused_program names) → IsRefusal texts size f
-  too_large : (names : Names) → AreAccepted texts names → IsTooLarge names size → f ≡ At 0 1 E601 → IsRefusal texts size f
+  too_deep : (names : Names) → AreTyped texts names → ¬ IsShallow names → f ≡ At 0 1 E501 → IsRefusal texts size f
+  too_large : (names : Names) → AreTyped texts names → IsTooLarge names size → f ≡ At 0 1 E601 → IsRefusal texts size f
 
 -- want of memory may come at any point
 abbrev pub Refuses : List (List ℕ) → RomSize → Fault → Type 0

@@ -10,8 +10,8 @@ use Rattle.board.specs.declared.board.Board.{Board}
 use Rattle.board.specs.declared.run.End.{End}
 use Rattle.board.specs.Machine.{power_on as powered_on}
 use Rattle.board.specs.Run.{Ran, Broke}
-use Rattle.plm86.specs.declared.image.Image.{Image}
-use Rattle.plm86.specs.declared.image.RomSize.{RomSize}
+use Rattle.layout_link.specs.declared.image.Image.{Image}
+use Rattle.layout_link.specs.declared.image.RomSize.{RomSize}
 use Rattle.plm86.specs.Build.{IsBuilt, Refuses}
 
 -- The texts are built, and the board ran the ROM from its reset on: the sink took the run's whole text.

@@ -1,4 +1,5 @@
 pub mod BoardLaws
+pub mod Compiling
 pub mod Duo
 pub mod Parsed
 pub mod Stacks

@@ -14,8 +14,9 @@ use Rattle.board.specs.Machine.{Board, power_on}
 use Rattle.plm86.specs.Boots.{Boots}
 use Rattle.plm86.specs.Headline.{Firmware, RunsProgram, RomIsCorrect, board_turn}
 use Rattle.plm86.specs.Relation.{Fine, Placed, Finds, FlagsAre}
-use Rattle.plm86.specs.Rom.{CodeInRom, WordsInRom}
-use Rattle.plm86.specs.Startup.{Act, HasStartUp, start_up_turns, with_vectors, after_acts}
+use Rattle.layout_link.specs.Rom.{CodeInRom, WordsInRom}
+use Rattle.layout_link.specs.Startup.{Act, HasStartUp, start_up_turns}
+use Rattle.plm86.specs.Startup.{with_vectors, after_acts}
 
 -- How a ROM is assembled: its bytes; the instruction at each place of its code segment, with its length; the words of tables there;
 -- where main begins; and each vector's procedure. Then the offset and the size of each object; what lies at an offset of the data;

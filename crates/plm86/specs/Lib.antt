@@ -1,11 +1,9 @@
-pub mod Image
 pub mod Headline
 pub mod Boots
 pub mod Relation
-pub mod Rom
 pub mod Startup
 pub mod Laws
-pub mod First
+pub mod Depth
 pub mod Build
 pub mod BuildAndRun
 pub mod CommandLine

@@ -4,8 +4,8 @@ use Rattle.std.specs.Str.{bytes_eq}
 use Rattle.clap.specs.Words.{Row, Text, all_of, first_of, subcommand_of, takes}
 use Rattle.clap.specs.Faults.{fault_of}
 use Rattle.plm86.specs.CommandLine.{plm86_app, value_of, values_of}
-use Rattle.plm86.specs.declared.image.RomSize.{RomSize}
-use Rattle.plm86.specs.declared.image.RomSize.TheVariants.{Kib8, Kib16, Kib32, Kib64}
+use Rattle.layout_link.specs.declared.image.RomSize.{RomSize}
+use Rattle.layout_link.specs.declared.image.RomSize.TheVariants.{Kib8, Kib16, Kib32, Kib64}
 use Rattle.plm86.specs.declared.order.Order.{Order}
 use Rattle.plm86.specs.declared.order.Order.TheVariants.{Build, Run}
 use Rattle.plm86.specs.declared.order.OrderFault.{OrderFault}

@@ -8,10 +8,9 @@ ghost use Rattle.plm86.specs.BuildAndRun.{HasRun, HasNotRun};
 ghost use Rattle.plm86.specs.Build.{text_of, module_number, in_module, Says, scan_faults, tokens_of, IsBuilt, Refuses};
 ghost use Rattle.plm86.specs.Inner.Parsed.{ParsesAll};
 
-use crate::first::compile::compile;
-use crate::first::reading::first_program;
-use crate::image::{Image, RomSize};
+use crate::compile::compile;
 use board::{Board, End, Schedule};
+use layout_link::{Image, RomSize};
 use plm_decl::resolve;
 use plm_syntax::{Module, parse};
 use plm_token::{Token, scan};
@@ -78,9 +77,11 @@ fn parse_all<'a>(alloc: Global, scanned: Vec<Vec<Token<'a>>>) -> Result<Vec<Modu
 ///
 /// The first fault of the phases, each over all sources: scanning (E101 to E107), parsing with literals replaced (E101, E103
 /// to E105 of a literal's text, E201 to E205), names (E301 to E305, the least of them; else E306 to E310, of the whole program),
-/// types (E401 to E403, E405 and E406, the least; else E404), forms that a ROM cannot have yet (E401 at the least first token of one), the ROM's
-/// room (E601, never where the program has at most 16 nodes for each KiB and its initial bytes fill at most a quarter of the ROM;
-/// a node is a statement, procedure, operator, reference or constant, each value of INITIAL, DATA and location lists among them).
+/// types (E401 to E403, E405 and E406, the least; else E404), the stack's room (E501, where main and an interrupt procedure take more
+/// than 4,094 bytes; never where the longest paths of calls of both have together at most 8 procedures and no statement has more than
+/// 32 constants and references), the ROM's room (E601, never where the program has at most 16 nodes for each KiB and its initial bytes
+/// fill at most a quarter of the ROM; a node is a statement, procedure, operator, reference or constant, each value of INITIAL, DATA
+/// and location lists among them).
 /// Modules count from 0. The one other refusal is want of memory.
 pub fn build(alloc: Global, sources: &[Source<'_>], size: RomSize) -> Result<Image, Fault>
     ensures built { IfOk result (IsBuilt (map text_of sources.now) size) }
@@ -90,8 +91,7 @@ pub fn build(alloc: Global, sources: &[Source<'_>], size: RomSize) -> Result<Ima
     let modules = parse_all(alloc, scanned)?;
     let names = resolve(alloc, &modules)?;
     let program = check(alloc, names)?;
-    let forms = first_program(alloc, &program)?;
-    compile(alloc, &forms, size)
+    compile(alloc, &program, size)
 }
 
 /// Builds sources, and runs the ROM on the board from its reset on under a schedule, with this power-on memory: the trace goes

@@ -2,7 +2,7 @@
 
 use crate::build::{Source, build};
 use crate::files::{read_file, refusal, write_file};
-use crate::image::RomSize;
+use layout_link::RomSize;
 use crate::stop::Stop;
 use plm_token::SOURCE_LIMIT;
 use std::alloc::Global;

@@ -4,9 +4,8 @@
 mod build;
 mod building;
 mod command_line;
+mod compile;
 mod files;
-mod first;
-mod image;
 mod input;
 mod laws;
 mod order;

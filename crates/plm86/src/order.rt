@@ -3,7 +3,7 @@
 ghost use Rattle.std.specs.Prelude.{◌≡◌};
 ghost use Rattle.plm86.specs.declared.order.OrderFault.TheVariants.{Memory};
 
-use crate::image::RomSize;
+use layout_link::RomSize;
 use std::alloc::{AllocError, AllocFailed};
 
 /// What the command line asks for.

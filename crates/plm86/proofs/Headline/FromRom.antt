@@ -8,8 +8,9 @@ use Rattle.plm_meaning.specs.Store.{Store}
 use Rattle.board.specs.World.{World, Whole, board_model, comes}
 use Rattle.board.specs.Machine.{power_on}
 use Rattle.plm86.specs.Laws.{Assembly, IsSound, Begins, StartsUp, FromRom, HoldsStore, power_on_memory}
-use Rattle.plm86.specs.Rom.{CodeInRom, WordsInRom}
-use Rattle.plm86.specs.Startup.{Act, HasStartUp, start_up_turns, with_vectors, after_acts}
+use Rattle.layout_link.specs.Rom.{CodeInRom, WordsInRom}
+use Rattle.layout_link.specs.Startup.{Act, HasStartUp, start_up_turns}
+use Rattle.plm86.specs.Startup.{with_vectors, after_acts}
 use Rattle.plm86.proofs.Machine.Regions.{of_board, events_law}
 use Rattle.plm86.proofs.Machine.Placing.{spelled_by_rom}
 use Rattle.plm86.proofs.Machine.Startup.{Boot, boots_by}

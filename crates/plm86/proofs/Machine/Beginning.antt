@@ -11,7 +11,7 @@ use Rattle.plm86.specs.Laws.{Assembly, IsSound, Begins, HoldsStore}
 use Rattle.plm86.proofs.Machine.Regions.{of_board, events_law}
 use Rattle.plm86.proofs.Machine.Startup.{Boot}
 use Rattle.plm86.proofs.Machine.Placing.{tables_by_rom}
-use Rattle.plm86.specs.Rom.{WordsInRom}
+use Rattle.layout_link.specs.Rom.{WordsInRom}
 use Rattle.i86_table.specs.Words.{AreWords}
 
 word_of_halves : (v : ℕ) → v < 65536 → v % 256 % 256 + 256 * (v / 256 % 256) ≡ v

@@ -27,7 +27,8 @@ use Rattle.cpu8086.specs.Turn.{reset_cpu, phase_after, fetched}
 use Rattle.plm86.specs.Inner.BoardLaws.{OfBoard, Events}
 use Rattle.board.specs.Machine.{Board, all_come, goes}
 use Rattle.plm86.specs.Relation.{FlagsAre}
-use Rattle.plm86.specs.Startup.{load_word, put_word, put_byte, Stands, Act, PutWord, PutByte, Copy, HasAct, HasActs, turns_of, turns_of_all, word_put, byte_put, with_vectors, copied, after_act, after_acts, HasStartUp, start_up_turns}
+use Rattle.layout_link.specs.Startup.{load_word, put_word, put_byte, Stands, Act, PutWord, PutByte, Copy, HasAct, HasActs, turns_of, turns_of_all, HasStartUp, start_up_turns}
+use Rattle.plm86.specs.Startup.{word_put, byte_put, with_vectors, copied, after_act, after_acts}
 use Rattle.plm86.proofs.Machine.Data.{store_at}
 use Rattle.plm86.proofs.Machine.FlagLaws.{with_flag_keeps}
 use Rattle.plm86.proofs.Machine.Startup

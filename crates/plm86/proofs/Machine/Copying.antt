@@ -18,7 +18,8 @@ use Rattle.cpu8086.specs.Effect.{effect}
 use Rattle.plm86.specs.Inner.BoardLaws.{OfBoard, Events}
 use Rattle.board.specs.Machine.{Board}
 use Rattle.plm86.specs.Relation.{FlagsAre}
-use Rattle.plm86.specs.Startup.{rep_movsb, byte_put, word_put, copied}
+use Rattle.layout_link.specs.Startup.{rep_movsb}
+use Rattle.plm86.specs.Startup.{byte_put, word_put, copied}
 use Rattle.plm86.proofs.Machine.Memory
 use Rattle.plm86.proofs.Machine.Startup.{Known, Boot, Leads, steps_by, then_leads}
 use Rattle.plm86.proofs.Machine.Vectors.{world_stored}

@@ -9,7 +9,7 @@ use Rattle.cpu8086.specs.Machine.{physical, next_offset, loaded_byte, loaded_wor
 use Rattle.cpu8086.specs.Turn.{fetched}
 use Rattle.board.specs.World.{World, Whole, board_model, region, screen_at}
 use Rattle.plm86.specs.Relation.{Spelled, HasTables}
-use Rattle.plm86.specs.Rom.{rom_byte, Written, CodeInRom, WordsInRom}
+use Rattle.layout_link.specs.Rom.{rom_byte, Written, CodeInRom, WordsInRom}
 use Rattle.plm86.proofs.Machine.Regions.{within_true, within_above}
 
 begins_with : (front l : List ℕ) → length front ≤ length l → ((k : ℕ) → k < length front → slice_index l k ≡ slice_index front k) → l ≡ front ++ drop (length front) l

@@ -27,7 +27,8 @@ use Rattle.cpu8086.specs.Arithmetic.{computed}
 use Rattle.cpu8086.specs.Moves.{moved}
 use Rattle.cpu8086.specs.Effect.{effect}
 use Rattle.cpu8086.specs.Turn.{phase_after}
-use Rattle.plm86.specs.Startup.{low_half, high_half, HasLoop, word_put, with_vectors}
+use Rattle.layout_link.specs.Startup.{low_half, high_half, HasLoop}
+use Rattle.plm86.specs.Startup.{word_put, with_vectors}
 use Rattle.plm86.specs.Inner.BoardLaws.{OfBoard, Events}
 use Rattle.board.specs.Machine.{Board}
 use Rattle.plm86.specs.Relation.{FlagsAre}
