@@ -1,5 +1,5 @@
 -- What the layers of the compiler promise together, and when a program has no image.
-use Rattle.std.specs.Prelude.{◌≡◌, ◌⊎◌, ⊤}
+use Rattle.std.specs.Prelude.{◌≡◌, ℕ, ◌<◌, ◌≤◌, ◌⊎◌, ⊤, List, length, slice_index}
 use Rattle.word86.specs.declared.fault.Fault.{Fault}
 use Rattle.word86.specs.declared.fault.Fault.TheVariants.{Memory, At}
 use Rattle.word86.specs.declared.number.Number.TheVariants.{E501, E601}
@@ -7,6 +7,8 @@ use Rattle.i86_table.specs.Words.{KeepsWords}
 use Rattle.i86_code.specs.Decoding.{IsOneForm, IsShort}
 use Rattle.i86_code.specs.Widths.{DecodedHasWidths}
 use Rattle.plm_decl.specs.declared.names.Names.{Names}
+use Rattle.plm_decl.specs.Placement.{IsPlacement, sizes_of}
+use Rattle.frames.specs.declared.counting.Stack.{Stack}
 use Rattle.frames.specs.Limits.{SmallProgramsFit}
 use Rattle.lower.specs.Checked.{CheckedLaw, SoundLaw}
 use Rattle.lower.specs.Heights.{HeightLaw}
@@ -14,10 +16,19 @@ use Rattle.lower.specs.Lowered.{EntryLaw}
 use Rattle.lower.specs.Room.{RoomLaw}
 use Rattle.lower.specs.Runs.{RunsLaw}
 use Rattle.lower.specs.Tracking.{LoweringLaw}
+use Rattle.select.specs.declared.part.Part.{Part}
 use Rattle.select.specs.Promise.{InstructionsFollow}
 use Rattle.select.specs.Room.{ProgramsHaveRoom}
 use Rattle.select.specs.Saved.{UnservedChangesNone, RegistersAreCounted}
+use Rattle.layout_link.specs.declared.image.Image.{Image}
 use Rattle.layout_link.specs.declared.image.RomSize.{RomSize}
+use Rattle.layout_link.specs.Image.{bytes_in}
+use Rattle.layout_link.specs.Initial.{HaveBytes}
+use Rattle.layout_link.specs.Linker.{offsets_in, needed, places_in, place_of, acts_in, InitialStands}
+use Rattle.layout_link.specs.Rom.{CodeInRom, WordsInRom, rom_code, rom_words}
+use Rattle.layout_link.specs.Stand.{PartsStand}
+use Rattle.layout_link.specs.Startup.{HasStartUp, start_up_turns}
+use Rattle.layout_link.specs.Tasks.{is_main, is_unserved}
 use Rattle.plm86.specs.Build.{IsTooLarge}
 use Rattle.plm86.specs.Depth.{IsShallow}
 
@@ -43,3 +54,19 @@ pub record Promises : Type 0 where
 abbrev pub HasNoRoom : Names → RomSize → Fault → Type 0
 HasNoRoom names size Memory = ⊤
 HasNoRoom names size (At which line number) = ((At which line number ≡ At 0 1 E501) × ¬ IsShallow names) ⊎ ((At which line number ≡ At 0 1 E601) × IsTooLarge names size)
+
+-- what linking gives
+pub record IsLinked (names : Names) (parts : List Part) (stack : Stack) (size : RomSize) (image : Image) : Type 0 where
+  pub long : length image.rom.items ≡ bytes_in size
+  pub code : CodeInRom image.rom.items (rom_code image.rom.items)
+  pub words : WordsInRom image.rom.items (rom_words image.rom.items)
+  pub start_up : HasStartUp (rom_code image.rom.items) (place_of names parts size is_unserved) (acts_in names parts size) (place_of names parts size is_main)
+  pub initial : InitialStands names parts size image.rom.items
+  pub bytes : HaveBytes (offsets_in names) names.variables.items names.objects.items
+  pub turns : image.start_turns ≡ start_up_turns (acts_in names parts size)
+  pub stand : PartsStand (rom_code image.rom.items) (rom_words image.rom.items) (offsets_in names) (places_in names parts size) parts
+  pub within : (part : ℕ) → slice_index (places_in names parts size) part < 65536
+  pub offsets : image.placement.offsets.items ≡ offsets_in names
+  pub placement : IsPlacement image.placement.offsets.items (sizes_of names)
+  pub stack_is : image.stack ≡ stack
+  pub fits : needed names parts ≤ bytes_in size

@@ -1,0 +1,111 @@
+-- What the layers give for a checked program, as the headline wants it.
+use Rattle.std.proofs.Common.{◌≡◌, ℕ, ◌+◌, ◌*◌, ◌<◌, ◌≤◌, List, map, length, refl, sym, ap, ◌∙◌, subst, arith}
+use Rattle.std.specs.Prelude.{slice_index}
+use Rattle.word86.specs.Chips.{Chips}
+use Rattle.plm_decl.specs.declared.names.Names.{Names}
+use Rattle.plm_decl.specs.Names.{object_of}
+use Rattle.plm_decl.specs.Placement.{IsPlacement, sizes_of}
+use Rattle.plm_type.specs.declared.checked.Program.{Program}
+use Rattle.plm_type.specs.Checked.{AreTyped}
+use Rattle.plm_type.specs.Next.{next}
+use Rattle.plm_type.specs.Programs.{main_rest, handler_rest, procedures_of}
+use Rattle.plm_type.specs.Rest.{Rest}
+use Rattle.plm_meaning.specs.Opening.{first_store}
+use Rattle.ppi_kbd.specs.Chips as chips
+use Rattle.ppi_kbd.specs.BoardChips.{board_chips}
+use Rattle.icode.specs.declared.code.Code.{Code}
+use Rattle.icode.specs.Counted.{IsCounted}
+use Rattle.icode.specs.Machine.{Context}
+use Rattle.frames.specs.declared.counting.Stack.{Stack}
+use Rattle.frames.specs.Counting.{NoRunPasses}
+use Rattle.lower.specs.Lowered.{IsLowered}
+use Rattle.select.specs.declared.part.Part.{Part}
+use Rattle.select.specs.Promise.{next_of}
+use Rattle.select.specs.Promise as promise
+use Rattle.select.specs.Selection.{AreParts}
+use Rattle.layout_link.specs.declared.image.Image.{Image}
+use Rattle.layout_link.specs.declared.image.RomSize.{RomSize}
+use Rattle.layout_link.specs.Linker.{offsets_in, place_of, acts_in}
+use Rattle.layout_link.specs.Startup.{start_up_turns}
+use Rattle.layout_link.specs.Tasks.{is_unserved}
+use Rattle.plm86.specs.Headline.{RomIsCorrect}
+use Rattle.plm86.specs.Laws.{Assembly, IsSound, firmware_of}
+use Rattle.plm86.specs.Build.{MeansNames}
+use Rattle.plm86.specs.Inner.Compiling.{Promises, IsLinked}
+use Rattle.plm86.specs.Inner.Assembled.{IsAssembled, image_of}
+use Rattle.plm86.specs.Inner.Images.{assembly_of, begins_at, enters_at, IsJoined, IsInWords}
+use Rattle.plm86.proofs.Machine.Placements.{placed_by}
+use Rattle.plm86.proofs.Composition.Stacking.{in_words}
+use Rattle.plm86.proofs.Composition.Meeting.{joined}
+use Rattle.plm86.proofs.Composition.Finding.{finds}
+use Rattle.plm86.proofs.Composition.Selected.{is_selected, is_image, main_low}
+use Rattle.plm86.proofs.Composition.FirstStore.{first_store_stands}
+use Rattle.plm86.proofs.Headline.FromRom.{from_rom}
+
+module _ (promises : Promises) (program : Program) (names : Names) (typed : AreTyped program names) (c : Code) (lowered : IsLowered names c) (stack : Stack) (counted : IsCounted c stack.main stack.handler) (enough : stack.main + stack.handler ≤ 4094) (runs : NoRunPasses c stack.main stack.handler) (parts : List Part) (selected : AreParts c parts) (size : RomSize) (image : Image) (linked : IsLinked names parts stack size image) where
+  abbrev assembled : IsAssembled names c parts size image.rom.items stack.main stack.handler
+  assembled = record {
+    lowered = lowered;
+    sound = promises.sound names (promises.well_formed program names typed);
+    selected = selected;
+    counted = counted;
+    enough = enough;
+    stand = linked.stand;
+    fits = linked.fits;
+    within = linked.within;
+  }
+
+  abbrev x : promise.Image
+  x = image_of names c parts size image.rom.items stack.main stack.handler assembled
+
+  abbrev rom : Assembly
+  rom = assembly_of image.rom.items x
+
+  words : IsInWords c stack.main stack.handler x.main x.handler
+  words = in_words c stack.main stack.handler counted runs enough
+
+  placement : IsPlacement (offsets_in names) (sizes_of names)
+  placement = subst (λ offsets. IsPlacement offsets (sizes_of names)) linked.offsets linked.placement
+
+  together : IsJoined names x image.rom.items
+  together =
+      joined program names c x image.rom.items promises.tracks promises.well_formed promises.runs promises.entries promises.follow promises.unserved promises.counted typed lowered words.runs placement
+      (is_image names c parts size image.rom.items stack.main stack.handler assembled) (is_selected names c parts size image.rom.items stack.main stack.handler assembled)
+
+  is_sound : IsSound rom
+  is_sound = record {
+    is_placed = placed_by (offsets_in names) (sizes_of names) placement;
+    finds = finds (offsets_in names) (sizes_of names);
+    main_low = main_low names c parts size image.rom.items stack.main stack.handler assembled;
+    enough = words.fits;
+  }
+
+  -- in the words of the assembly
+  correct :
+      RomIsCorrect board_chips (firmware_of rom) Rest (next (offsets_in names) (sizes_of names) (procedures_of names)) (main_rest names) (handler_rest names) (start_up_turns (acts_in names parts size)) chips.reset
+      (λ ram screen. first_store ram screen (offsets_in names) names.variables.items (map object_of names.objects.items) chips.reset)
+  correct =
+      let f = together.is_followed in
+      from_rom promises.one_form promises.short promises.widths promises.words chips.ChipState Rest Context board_chips rom is_sound linked.code linked.words (place_of names parts size is_unserved) (acts_in names parts size) linked.start_up
+      (next (offsets_in names) (sizes_of names) (procedures_of names)) (main_rest names) (handler_rest names) (next_of x) begins_at (enters_at x) 2 together.most promise.limit 1 f.lowered f.compiled f.paced chips.reset
+      (λ ram screen. first_store ram screen (offsets_in names) names.variables.items (map object_of names.objects.items) chips.reset)
+      (λ ram screen ram_long screen_long. first_store_stands rom names parts size image.rom.items ram screen chips.reset ram_long screen_long linked.long linked.fits linked.initial linked.bytes placement (λ v. refl) linked.within (λ k. refl) (λ k. refl))
+
+  pub means : MeansNames names image
+  means = record {
+    entry = rom.entry;
+    faithful =
+        subst
+        (λ offsets. RomIsCorrect board_chips (record { rom = image.rom.items; entry = rom.entry; main = image.stack.main; handler = image.stack.handler }) Rest (next offsets (sizes_of names) (procedures_of names)) (main_rest names) (handler_rest names) image.start_turns chips.reset
+        (λ ram screen. first_store ram screen offsets names.variables.items (map object_of names.objects.items) chips.reset)) (sym linked.offsets)
+        (subst
+        (λ turns. RomIsCorrect board_chips (record { rom = image.rom.items; entry = rom.entry; main = image.stack.main; handler = image.stack.handler }) Rest (next (offsets_in names) (sizes_of names) (procedures_of names)) (main_rest names) (handler_rest names) turns chips.reset
+        (λ ram screen. first_store ram screen (offsets_in names) names.variables.items (map object_of names.objects.items) chips.reset)) (sym linked.turns)
+        (subst
+        (λ n. RomIsCorrect board_chips (record { rom = image.rom.items; entry = rom.entry; main = image.stack.main; handler = n }) Rest (next (offsets_in names) (sizes_of names) (procedures_of names)) (main_rest names) (handler_rest names) (start_up_turns (acts_in names parts size)) chips.reset
+        (λ ram screen. first_store ram screen (offsets_in names) names.variables.items (map object_of names.objects.items) chips.reset)) (sym words.handler_is ∙ ap (λ s. s.handler) (sym linked.stack_is))
+        (subst
+        (λ n. RomIsCorrect board_chips (record { rom = image.rom.items; entry = rom.entry; main = n; handler = 2 * (3 + x.handler) }) Rest (next (offsets_in names) (sizes_of names) (procedures_of names)) (main_rest names) (handler_rest names) (start_up_turns (acts_in names parts size)) chips.reset
+        (λ ram screen. first_store ram screen (offsets_in names) names.variables.items (map object_of names.objects.items) chips.reset)) (sym words.main_is ∙ ap (λ s. s.main) (sym linked.stack_is))
+        correct)));
+  }
