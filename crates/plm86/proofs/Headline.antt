@@ -3,3 +3,4 @@ pub mod Joining
 pub mod Words
 pub mod Whole
 pub mod FromRom
+pub mod Quiet

@@ -1,8 +1,9 @@
 -- What a ROM does on the board: the labels of an allowed run of a program, whatever happens outside.
-use Rattle.std.specs.Prelude.{ℕ, zero, suc, Bool, true, false, ◌≡◌, ◌+◌, ◌*◌, ◌<◌, ◌≤◌, Option, Some, None, List, [], ◌∷◌, length, drop}
+use Rattle.std.specs.Prelude.{ℕ, zero, suc, Bool, true, false, ◌≡◌, ◌+◌, ◌*◌, ◌<◌, ◌≤◌, Some, None, List, [], ◌∷◌, map, length, take, drop, slice_index}
 use Rattle.word86.specs.declared.event.Event.{Event}
 use Rattle.word86.specs.declared.label.Label.{Label}
 use Rattle.word86.specs.Access.{Access}
+use Rattle.word86.specs.Events.{event_label}
 use Rattle.word86.specs.Chips.{Chips}
 use Rattle.word86.specs.Action.{Shared, Action}
 use Rattle.plm_meaning.specs.System.{Choice, System, State, first_state, steps, FitsTurns, HasNoBad, KeepsPace, joined}
@@ -10,7 +11,7 @@ use Rattle.plm_meaning.specs.Store.{Store, shared}
 use Rattle.cpu8086.specs.BusModel.{BusModel}
 use Rattle.cpu8086.specs.Machine.{loaded_word}
 use Rattle.board.specs.World.{World, board_model, comes}
-use Rattle.board.specs.Machine.{Board, turn, outputs, power_on}
+use Rattle.board.specs.Machine.{Board, turn, outputs, final, power_on}
 
 -- What stands throughout a run: the ROM's bytes; the place in segment 0F000H to which each vector leads; and how many bytes main has
 -- on the stack at most, and an interrupt procedure with the six bytes of its entry.
@@ -93,3 +94,17 @@ module _ {P : Type 0} (c : Chips P) (x : Firmware) (R : Type 0) (next : R → Ac
   RomIsCorrect chips first_store =
       (ram screen : List ℕ) → length ram ≡ 0x20000 → length screen ≡ 4000
       → RunsProgram (power_on x.rom ram screen chips) (first_store ram screen)
+
+-- ---- start-up
+
+module _ {P : Type 0} (c : Chips P) (start_turns : ℕ) (IsSet : (address : ℕ) → Type 0) where
+  -- Whatever events are due turn by turn: the labels of start-up's turns are those of their events alone, and after these turns RAM is
+  -- as it was at each address that start-up does not set.
+  pub record QuietStart (reset : Board (World P)) : Type 0 where
+    pub quiet : (due : List (List Event)) → take start_turns (outputs (board_turn c) due reset) ≡ map (map event_label) (take start_turns due)
+    pub keeps : (due : List (List Event)) → length due ≡ start_turns → (address : ℕ) → address < 0x20000 → ¬ IsSet address
+        → slice_index (final (board_turn c) due reset).world.ram address ≡ slice_index reset.world.ram address
+
+  -- for every power-on memory
+  abbrev pub StartsQuietly : (rom : List ℕ) (chips : P) → Type 0
+  StartsQuietly rom chips = (ram screen : List ℕ) → length ram ≡ 0x20000 → length screen ≡ 4000 → QuietStart (power_on rom ram screen chips)

@@ -1,5 +1,5 @@
--- The two laws: what a ROM does on the board, from the promises on its code and on its start-up, whatever the code generator.
-use Rattle.std.specs.Prelude.{ℕ, suc, true, false, ◌≡◌, ◌+◌, ◌*◌, ◌/◌, ◌%◌, ◌<◌, ◌-◌, ◌≤◌, Option, None, List, [], length, slice_index}
+-- The laws: what a ROM does on the board, from the promises on its code and on its start-up, whatever the code generator.
+use Rattle.std.specs.Prelude.{ℕ, suc, true, false, ◌≡◌, ◌+◌, ◌*◌, ◌/◌, ◌%◌, ◌<◌, ◌-◌, ◌≤◌, Option, None, List, [], ◌∷◌, ◌⊎◌, length, slice_index}
 use Rattle.word86.specs.Access.{Access, answers}
 use Rattle.word86.specs.Chips.{Chips}
 use Rattle.word86.specs.Action.{Action}
@@ -12,10 +12,10 @@ use Rattle.cpu8086.specs.declared.cpu.Phase.TheVariants.{Running}
 use Rattle.board.specs.World.{World, Whole, board_model, region, screen_at}
 use Rattle.board.specs.Machine.{Board, power_on}
 use Rattle.plm86.specs.Boots.{Boots}
-use Rattle.plm86.specs.Headline.{Firmware, RunsProgram, RomIsCorrect, board_turn}
+use Rattle.plm86.specs.Headline.{Firmware, RunsProgram, RomIsCorrect, StartsQuietly, board_turn}
 use Rattle.plm86.specs.Relation.{Fine, Placed, Finds, FlagsAre}
 use Rattle.layout_link.specs.Rom.{CodeInRom, WordsInRom}
-use Rattle.layout_link.specs.Startup.{Act, HasStartUp, start_up_turns}
+use Rattle.layout_link.specs.Startup.{Act, PutWord, PutByte, Copy, HasStartUp, start_up_turns}
 use Rattle.plm86.specs.Startup.{with_vectors, after_acts}
 
 -- How a ROM is assembled: its bytes; the instruction at each place of its code segment, with its length; the words of tables there;
@@ -135,3 +135,21 @@ FromRom P R I =
     → ((ram screen : List ℕ) → length ram ≡ 0x20000 → length screen ≡ 4000
     → HoldsStore x (first_store ram screen) (after_acts acts (with_vectors entry 0 256 (power_on_memory x.rom ram screen))) × ((first_store ram screen).chips ≡ chips))
     → RomIsCorrect c (firmware_of x) R next first body (start_up_turns acts) chips first_store
+
+-- what start-up sets in RAM: the vectors, and what its acts put
+abbrev pub IsPut : Act → (address : ℕ) → Type 0
+IsPut (PutWord to value) address = (to ≤ address) × (address < to + 2)
+IsPut (PutByte to value) address = address ≡ to
+IsPut (Copy from to more) address = (to ≤ address) × (address < to + suc more)
+
+abbrev pub IsSetBy : List Act → (address : ℕ) → Type 0
+IsSetBy [] address = address < 1024
+IsSetBy (act ∷ acts) address = IsPut act address ⊎ IsSetBy acts address
+
+-- The ROM has the code, and the code has a start-up. Then, whatever events are due, start-up makes no label but theirs, and leaves the
+-- rest of RAM alone.
+abbrev pub QuietFromRom : Type 0 → Type 0
+QuietFromRom P =
+    (c : Chips P) (x : Assembly) → CodeInRom x.rom x.code
+    → (entry : ℕ) (acts : List Act) → HasStartUp x.code entry acts x.main_at
+    → (chips : P) → StartsQuietly c (start_up_turns acts) (IsSetBy acts) x.rom chips

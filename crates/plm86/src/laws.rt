@@ -1,6 +1,6 @@
 //! What stands between the layers of the compiler and the board.
 
-ghost use Rattle.plm86.specs.Laws.{FromLayers, FromRom};
+ghost use Rattle.plm86.specs.Laws.{FromLayers, FromRom, QuietFromRom};
 
 use i86_code::{decoded_widths, one_form};
 use i86_table::instructions_keep_words;
@@ -36,4 +36,12 @@ pub fn rom_is_correct<L: Layers>()
     one_form();
     decoded_widths();
     instructions_keep_words();
+}
+
+/// From the bytes of a ROM whose code has a start-up: whatever events are due, start-up makes no label but theirs, and leaves each
+/// byte of RAM that it does not set as it was when the power came on.
+pub fn rom_starts_quietly<L: Layers>()
+    ensures { QuietFromRom L.Ports }
+{
+    one_form();
 }
