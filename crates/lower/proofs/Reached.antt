@@ -7,7 +7,7 @@ use Rattle.std.proofs.lemmas.List.Quantifiers.{position-Some}
 use Rattle.word86.specs.Action.{Enable, Halt, Over}
 use Rattle.plm_type.specs.Rest.{Statements, Procedure}
 use Rattle.plm_type.specs.Next.{body_of}
-use Rattle.plm_type.specs.Calls.{graph_of}
+use Rattle.plm_type.specs.Calls.{graph_of, statements_calls}
 use Rattle.plm_type.specs.Reach.{Graph, row_of, Leads, LeadsBy}
 use Rattle.icode.specs.declared.instruction.Instruction.{Instruction}
 use Rattle.icode.specs.declared.instruction.Instruction.TheVariants as op
@@ -60,13 +60,16 @@ module _ (sizes : List ℕ) (procedures : List Procedure) (vectors : List (Optio
 
   -- what a routine calls serves no vector
   pub unserving : (r : Routine) (k q : ℕ) → slice_get (code procedures vectors main r) k ≡ Some (op.Invoke q) → serves vectors q ≡ false
-  unserving routine.Main k q e = calls_at routine.Main k q e
+  unserving routine.Main k q e = (calls_at routine.Main k q e).0
   unserving (routine.Procedure p) k q e = (calls_at (routine.Procedure p) k q e).0
   unserving routine.Unserved k q e = calls_at routine.Unserved k q e
   unserving routine.Nowhere k q e = calls_at routine.Nowhere k q e
 
   pub in_graph : (p k q : ℕ) → slice_get (code procedures vectors main (routine.Procedure p)) k ≡ Some (op.Invoke q) → Contains (row_of (slice_get (graph_of procedures) p)) q
   in_graph p k q e = (calls_at (routine.Procedure p) k q e).1
+
+  pub in_main : (k q : ℕ) → slice_get (code procedures vectors main routine.Main) k ≡ Some (op.Invoke q) → Contains (statements_calls main) q
+  in_main k q e = (calls_at routine.Main k q e).1
 
   -- ---- main
 

@@ -146,6 +146,7 @@ module _ (MayCall : ℕ → Type 0) (Enables : Type 0) (sizes : List ℕ) (proce
 
 module _ (sizes : List ℕ) (procedures : List Procedure) (vectors : List (Option ℕ)) (main : Statements) (good : IsProgram sizes procedures vectors main) where
   abbrev pub Calls : Routine → ℕ → Type 0
+  Calls routine.Main q = (serves vectors q ≡ false) × Contains (statements_calls main) q
   Calls (routine.Procedure p) q = (serves vectors q ≡ false) × Contains (row_of (slice_get (graph_of procedures) p)) q
   Calls _ q = serves vectors q ≡ false
 
@@ -177,7 +178,10 @@ module _ (sizes : List ℕ) (procedures : List Procedure) (vectors : List (Optio
       not_main false m = absurd m
 
   pub program_fits : (r : Routine) → Fits (Calls r) (LetsIn r) (Ends r) (Lands (code procedures vectors main r)) 0 0 (code procedures vectors main r)
-  program_fits routine.Main = routine_fits (λ q. serves vectors q ≡ false) (Unit {0}) sizes procedures OfMain main good.main_body (λ l. tt) (λ l. tt)
+  program_fits routine.Main =
+      routine_fits (Calls routine.Main) (Unit {0}) sizes procedures OfMain main
+      (statements_all sizes procedures (λ q. serves vectors q ≡ false) (λ q. Contains (statements_calls main) q) OfMain main good.main_body (λ q lt c. c))
+      (λ l. tt) (λ l. tt)
   program_fits (routine.Procedure p) = procedure_fits p (slice_get procedures p) refl
   program_fits routine.Unserved = (tt, tt)
   program_fits routine.Nowhere = tt
