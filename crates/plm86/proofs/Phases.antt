@@ -6,7 +6,6 @@ use Rattle.std.proofs.lemmas.List.{at_drop_more, append_assoc, append-nil, map-a
 use Rattle.std.proofs.lemmas.Bool.{cases_lt}
 use Rattle.word86.specs.declared.fault.Fault.{Fault}
 use Rattle.word86.specs.declared.fault.Fault.TheVariants.{Memory, At}
-use Rattle.word86.specs.declared.number.Number.TheVariants.{E601}
 use Rattle.plm_token.specs.declared.token.Token.{Token}
 use Rattle.plm_token.specs.Scanner.{Lexeme, lexemes, scan_of, Answers}
 use Rattle.plm_syntax.specs.declared.tree.Module.{Module}
@@ -17,31 +16,14 @@ use Rattle.plm_syntax.specs.View.{module_of}
 use Rattle.plm_decl.specs.declared.names.Names.{Names}
 use Rattle.plm_decl.specs.Modules.{faults_of, whole_faults_of}
 use Rattle.plm_decl.specs.Found.{IsRefusal as IsLeastOf}
-use Rattle.plm_decl.specs.Placement.{IsPlacement, sizes_of}
 use Rattle.plm_type.specs.declared.checked.Program as typed
 use Rattle.plm_type.specs.Checked as types
-use Rattle.plm_type.specs.Next.{next}
-use Rattle.plm_type.specs.Programs.{main_rest, handler_rest, procedures_of}
-use Rattle.plm_type.specs.Rest.{Rest}
-use Rattle.ppi_kbd.specs.Chips.{reset}
-use Rattle.ppi_kbd.specs.BoardChips.{board_chips}
 use Rattle.plm86.specs.declared.build.Source.{Source}
 use Rattle.layout_link.specs.declared.image.Image.{Image}
 use Rattle.layout_link.specs.declared.image.RomSize.{RomSize}
-use Rattle.plm86.specs.declared.first.program.Program.{Program}
-use Rattle.plm86.specs.Build.{text_of, IsFirst, module_number, in_module, fault_in, scan_faults, tokens_of, IsTree, AreTrees, IsFirstUnparsed, AreModules, AreDeclared, AreTyped, AreAccepted, IsTooLarge, MeansNames, IsBuilt, unresolved, untyped, unformed, too_large, Refuses}
-use Rattle.plm86.specs.First.Faithful.{MeansProgram}
-use Rattle.plm86.specs.First.Objects as first
-use Rattle.plm86.specs.First.Forms.{HasFirstForms, refused_forms, refused_program}
-use Rattle.plm86.specs.First.FormsView.{IsProgramOf}
-use Rattle.plm86.specs.Headline.{Firmware, RomIsCorrect}
-use Rattle.plm86.specs.First.Programs as programs
+use Rattle.plm86.specs.Build.{text_of, IsFirst, module_number, in_module, fault_in, scan_faults, tokens_of, IsTree, AreTrees, IsFirstUnparsed, AreModules, AreDeclared, AreTyped, IsBuilt, unresolved, untyped, too_deep, too_large, Refuses}
+use Rattle.plm86.specs.Inner.Compiling.{IsImage, HasNoRoom}
 use Rattle.plm86.specs.Inner.Parsed.{ParsesAll}
-use Rattle.plm86.specs.First.Sizes.{room_of}
-use Rattle.plm_type.specs.Nodes.{nodes_of}
-use Rattle.layout_link.specs.Image.{bytes_in, kib_of}
-use Rattle.plm86.proofs.FirstForms.Accepted.{handlers_are, stores_are}
-use Rattle.plm86.proofs.FirstForms.Nodes.{room_small}
 
 -- ---- scanning
 
@@ -94,28 +76,6 @@ module _ (all : List (List Lexeme)) (old rest : List (Vec Token)) (x : Vec Token
 pub parsed_all : (all : List (List Lexeme)) (old : List (Vec Token)) (mods : List Module) → old ≡ [] → ParsedSoFar all old mods → AreTrees all (map module_of mods)
 parsed_all all old mods none so_far = subst (λ ms. AreTrees all ms) (append-nil (map module_of mods)) (so_far [] (subst (λ zs. AreTrees (tokens_of_all zs) []) (sym none) tt))
 
--- ---- the image
-
-pub means_names : (names : Names) (p : Program) (image : Image) → HasFirstForms names → IsProgramOf names p
-    → MeansProgram p image.rom.items image.placement.offsets.items image.stack.main image.stack.handler image.start_turns → MeansNames names image
-means_names names p image forms is means =
-    let offsets = image.placement.offsets.items in
-    let turns = image.start_turns in
-    let x : Firmware = record { rom = image.rom.items; entry = means.entry; main = image.stack.main; handler = image.stack.handler } in
-    record {
-      entry = means.entry;
-      faithful =
-          subst (λ store. RomIsCorrect board_chips x Rest (next offsets (sizes_of names) (procedures_of names)) (main_rest names) (handler_rest names) turns reset store) (stores_are names offsets reset forms)
-          (subst (λ handler. RomIsCorrect board_chips x Rest (next offsets (sizes_of names) (procedures_of names)) (main_rest names) handler turns reset (λ ram screen. first.first_store ram screen offsets (sizes_of names) reset)) (handlers_are names forms)
-          (subst (λ main. RomIsCorrect board_chips x Rest (next offsets (sizes_of names) (procedures_of names)) main (programs.body_of p) turns reset (λ ram screen. first.first_store ram screen offsets (sizes_of names) reset)) is.main
-          (subst (λ sizes. RomIsCorrect board_chips x Rest (next offsets sizes (procedures_of names)) (programs.main_of p) (programs.body_of p) turns reset (λ ram screen. first.first_store ram screen offsets sizes reset)) is.sizes
-          (means.faithful (procedures_of names)))));
-    }
-
-many_nodes : (names : Names) (p : Program) (size : RomSize) → IsProgramOf names p → bytes_in size < room_of p → (16 * kib_of size < nodes_of names) ⊎ (nodes_of names ≤ 16 * kib_of size) → IsTooLarge names size
-many_nodes names p size is large (inl more) = inl more
-many_nodes names p size is large (inr few) = let small = room_small names p size is few in absurd (omega (arith, large, small))
-
 -- ---- the answer
 
 pub modules_are : (texts : List (List ℕ)) (scanned : List (Vec Token)) (mods lent : List Module) → scan_faults 0 texts ≡ [] → tokens_of_all scanned ≡ map tokens_of texts → AreTrees (tokens_of_all scanned) (map module_of mods) → lent ≡ mods → AreModules texts (map module_of lent)
@@ -141,42 +101,21 @@ module _ (texts : List (List ℕ)) (size : RomSize) (names : Names) where
   program_typed p are said = subst (λ n. AreTyped texts n) (sym said.kept) (are_typed p are said)
 
   module _ (are : AreTyped texts names) where
-    pub unformed_refused : (f : Fault) → IsLeastOf f (refused_forms names) (refused_program names) → Refuses texts size f
-    unformed_refused Memory said = tt
-    unformed_refused (At which line number) said = unformed names are said
+    pub compile_refused : (r : Result Image Fault) → IfErr r (HasNoRoom names size) → IfErr r (Refuses texts size)
+    compile_refused (Ok image) refused = tt
+    compile_refused (Err Memory) refused = tt
+    compile_refused (Err (At which line number)) (inl deep) = too_deep names are deep.1 deep.0
+    compile_refused (Err (At which line number)) (inr large) = too_large names are large.1 large.0
 
-    module _ (forms : HasFirstForms names) (p : Program) (is : IsProgramOf names p) where
-      accepted : AreAccepted texts names
-      accepted = record { typed = are; forms = forms }
-
-      abbrev IsAt : Fault → Type 0
-      IsAt Memory = ⊥
-      IsAt (At which line number) = Unit {0}
-
-      full_refused : (f : Fault) → (f ≡ Memory) ⊎ (f ≡ At 0 1 E601) → (f ≡ At 0 1 E601 → bytes_in size < room_of p) → Refuses texts size f
-      full_refused Memory known full = tt
-      full_refused (At which line number) (inl memory) full = elim (subst IsAt memory tt) [ ]
-      full_refused (At which line number) (inr e) full = too_large names accepted (many_nodes names p size is (full e) (cases_lt (16 * kib_of size) (nodes_of names))) e
-
-      pub compile_refused : (r : Result Image Fault) → IfErr r (λ e. (e ≡ Memory) ⊎ (e ≡ At 0 1 E601)) → (IsErrOf r (At 0 1 E601) → bytes_in size < room_of p) → IfErr r (Refuses texts size)
-      compile_refused (Ok image) known full = tt
-      compile_refused (Err f) known full = full_refused f known (λ e. full (ap (λ z. Err z) e))
-
-      pub compile_built :
-          (r : Result Image Fault)
-          → IfOk r (λ image. MeansProgram p image.rom.items image.placement.offsets.items image.stack.main image.stack.handler image.start_turns)
-          → IfOk r (λ image. IsPlacement image.placement.offsets.items (programs.sizes_of p.names))
-          → IfOk r (λ image. length image.rom.items ≡ bytes_in size)
-          → IfOk r (λ image. image.start_turns ≤ 4096)
-          → IfOk r (λ image. image.stack.main + image.stack.handler ≤ 4094)
-          → IfOk r (IsBuilt texts size)
-      compile_built (Err f) means placement sized start stack = tt
-      compile_built (Ok image) means placement sized start stack = record {
-        names = names;
-        accepted = accepted;
-        means = means_names names p image forms is means;
-        placement = subst (λ sizes. IsPlacement image.placement.offsets.items sizes) is.sizes placement;
-        size_is = sized;
-        start = omega (arith, start);
-        stack = stack;
-      }
+    pub compile_built : (r : Result Image Fault) → IfOk r (IsImage names size) → IfOk r (IsBuilt texts size)
+    compile_built (Err f) is = tt
+    compile_built (Ok image) is = record {
+      names = names;
+      typed = are;
+      means = is.means;
+      starts = is.starts;
+      placement = is.placement;
+      size_is = is.long;
+      start = is.start;
+      stack = is.stack;
+    }

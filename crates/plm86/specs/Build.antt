@@ -1,5 +1,5 @@
 -- What is built from texts, and what is refused in them.
-use Rattle.std.specs.Prelude.{◌≡◌, ℕ, ◌+◌, ◌*◌, ◌<◌, ◌≤◌, ◌⊎◌, List, [], ◌∷◌, ◌++◌, map, length, min, None, Result, Ok, Err, ⊤}
+use Rattle.std.specs.Prelude.{◌≡◌, ℕ, ◌+◌, ◌*◌, ◌<◌, ◌≤◌, ◌⊎◌, List, [], ◌∷◌, ◌++◌, map, length, min, Some, None, slice_get, slice_index, Result, Ok, Err, ⊤}
 use Rattle.word86.specs.declared.fault.Fault.{Fault}
 use Rattle.word86.specs.declared.fault.Fault.TheVariants.{Memory, At}
 use Rattle.word86.specs.declared.number.Number.{Number}
@@ -12,10 +12,12 @@ use Rattle.plm_syntax.specs.Sentence.{Spells, AllWithin}
 use Rattle.plm_syntax.specs.Spelling.{levels_of}
 use Rattle.plm_syntax.specs.WellFormed.{WellModule}
 use Rattle.plm_decl.specs.declared.names.Names.{Names}
+use Rattle.plm_decl.specs.declared.names.Object.{Object}
 use Rattle.plm_decl.specs.Modules.{AreNames, faults_of, whole_faults_of}
 use Rattle.plm_decl.specs.Names.{object_of}
 use Rattle.plm_decl.specs.Found.{IsRefusal as IsLeastOf}
 use Rattle.plm_decl.specs.Placement.{IsPlacement, sizes_of}
+use Rattle.plm_decl.specs.Initial.{first_bytes}
 use Rattle.plm_type.specs.Calls.{IsRecursive}
 use Rattle.plm_type.specs.Checked.{IsRefusal as IsRefusedFor}
 use Rattle.plm_type.specs.Next.{next}
@@ -29,7 +31,7 @@ use Rattle.plm86.specs.declared.build.Source.{Source}
 use Rattle.layout_link.specs.declared.image.Image.{Image}
 use Rattle.layout_link.specs.declared.image.RomSize.{RomSize}
 use Rattle.plm86.specs.Depth.{IsShallow}
-use Rattle.plm86.specs.Headline.{RomIsCorrect}
+use Rattle.plm86.specs.Headline.{RomIsCorrect, StartsQuietly}
 use Rattle.layout_link.specs.Image.{bytes_in, kib_of}
 use Rattle.plm_type.specs.Nodes.{nodes_of, initial_size}
 
@@ -132,11 +134,25 @@ pub record MeansNames (names : Names) (image : Image) : Type 0 where
       (next image.placement.offsets.items (sizes_of names) (procedures_of names)) (main_rest names) (handler_rest names) image.start_turns reset
       (λ ram screen. first_store ram screen image.placement.offsets.items names.variables.items (map object_of names.objects.items) reset)
 
+-- the address of an initial byte of an object, where the objects lie at these offsets
+abbrev pub IsInitialByte : Names → (offsets : List ℕ) → (address : ℕ) → Type 0
+IsInitialByte names offsets a =
+    (k : ℕ) × (o : Object) × (slice_get names.objects.items k ≡ Some o) × (i : ℕ) × (i < length (first_bytes offsets names.variables.items (object_of o))) × (a ≡ 1024 + slice_index offsets k + i)
+
+-- start-up sets the vectors and the objects' initial bytes
+abbrev pub IsSet : Names → (offsets : List ℕ) → (address : ℕ) → Type 0
+IsSet names offsets a = (a < 1024) ⊎ IsInitialByte names offsets a
+
+-- Start-up sets nothing else in RAM, and makes no label but those of events.
+abbrev pub StartsUp : Names → Image → Type 0
+StartsUp names image = StartsQuietly board_chips image.start_turns (IsSet names image.placement.offsets.items) image.rom.items reset
+
 -- The image of texts: nothing in them is refused, and the ROM does what they mean.
 pub record IsBuilt (texts : List (List ℕ)) (size : RomSize) (image : Image) : Type 0 where
   pub names : Names
   pub typed : AreTyped texts names
   pub means : MeansNames names image
+  pub starts : StartsUp names image
   pub placement : IsPlacement image.placement.offsets.items (sizes_of names)
   pub size_is : length image.rom.items ≡ bytes_in size
   pub start : image.start_turns ≤ 4096 + initial_size names

@@ -1,13 +1,11 @@
 //! From a typed program to its image.
 
-ghost use Rattle.std.specs.Prelude.{◌≡◌, ◌+◌, ◌≤◌, IfOk, IfErr, length};
+ghost use Rattle.std.specs.Prelude.{◌≡◌, ◌<◌, ◌⊎◌, IfOk, IfErr};
 ghost use Rattle.layout_link.specs.Image.{bytes_in};
-ghost use Rattle.plm_decl.specs.Placement.{IsPlacement, sizes_of};
-ghost use Rattle.plm_type.specs.Nodes.{initial_size};
-ghost use Rattle.plm86.specs.Build.{MeansNames};
-ghost use Rattle.plm86.specs.Inner.Compiling.{Promises, HasNoRoom};
+ghost use Rattle.layout_link.specs.Linker.{needed};
+ghost use Rattle.plm86.specs.Inner.Compiling.{Promises, IsLinked, IsImage, HasNoRoom};
 
-use frames::{count, small_programs_fit};
+use frames::{Stack, count, small_programs_fit};
 use i86_code::{decoded_widths, one_form};
 use i86_table::instructions_keep_words;
 use layout_link::{Image, RomSize, link};
@@ -15,13 +13,14 @@ use lower::{
     checked_code_is_sound, checked_runs_are_allowed, checked_trees_are_well_formed, code_has_room,
     heights_are_low, interrupts_enter_their_procedures, lower, lowering_tracks,
 };
+use plm_decl::Names;
 use plm_type::Program;
 use select::{
-    instructions_follow_code, programs_have_room, registers_are_counted, select,
+    Part, instructions_follow_code, programs_have_room, registers_are_counted, select,
     unserved_changes_none,
 };
 use std::alloc::Global;
-use word86::Fault;
+use word86::{Fault, Number};
 
 /// What the layers promise, each for all that it is given.
 fn layers_keep_their_promises()
@@ -44,20 +43,27 @@ fn layers_keep_their_promises()
     unserved_changes_none();
 }
 
+/// The image of these parts.
+fn assemble(
+    alloc: Global,
+    parts: Vec<Part>,
+    names: &Names,
+    stack: Stack,
+    size: RomSize,
+) -> Result<Image, Fault>
+    ensures linked { IfOk result (IsLinked names.now parts.items stack size) }
+    ensures full { IfErr result (λ e. (e ≡ Fault.Memory) ⊎ ((e ≡ Fault.At 0 1 Number.E601) × (bytes_in size < needed names.now parts.items))) }
+{
+    link(alloc, parts, names, stack, size)
+}
+
 /// A ROM of this size that does what the program means on the board, interrupts included.
 ///
 /// # Errors
 ///
 /// E501 where the stack has no room for main and an interrupt procedure; E601 where the ROM has none for the code; want of memory.
 pub(crate) fn compile(alloc: Global, program: &Program, size: RomSize) -> Result<Image, Fault>
-    // What the image promises.
-    ensures meaning { IfOk result (MeansNames program.now.names) }
-    ensures placement { IfOk result (λ image. IsPlacement image.placement.offsets.items (sizes_of program.now.names)) }
-    ensures size { IfOk result (λ image. length image.rom.items ≡ bytes_in size) }
-    ensures start { IfOk result (λ image. image.start_turns ≤ 4096 + initial_size program.now.names) }
-    ensures stack { IfOk result (λ image. image.stack.main + image.stack.handler ≤ 4094) }
-
-    // When there is none.
+    ensures image { IfOk result (IsImage program.now.names size) }
     ensures refused { IfErr result (HasNoRoom program.now.names size) }
 {
     layers_keep_their_promises();
@@ -65,5 +71,5 @@ pub(crate) fn compile(alloc: Global, program: &Program, size: RomSize) -> Result
     let code = lower(alloc, program)?;
     let stack = count(alloc, &code)?;
     let parts = select(alloc, &code)?;
-    link(alloc, parts, names, stack, size)
+    assemble(alloc, parts, names, stack, size)
 }

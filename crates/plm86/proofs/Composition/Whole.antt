@@ -1,7 +1,7 @@
 -- What the layers give for a checked program, as the headline wants it.
-use Rattle.std.proofs.Common.{◌≡◌, ℕ, ◌+◌, ◌*◌, ◌<◌, ◌≤◌, List, map, length, refl, sym, ap, ◌∙◌, subst, arith}
+use Rattle.std.proofs.Common.{◌≡◌, ℕ, ◌+◌, ◌*◌, ◌<◌, ◌≤◌, List, map, length, refl, sym, ap, ◌∙◌, subst, arith, inl, inr}
 use Rattle.std.specs.Prelude.{slice_index}
-use Rattle.word86.specs.Chips.{Chips}
+use Rattle.std.proofs.lemmas.Bool.{cases_lt}
 use Rattle.plm_decl.specs.declared.names.Names.{Names}
 use Rattle.plm_decl.specs.Names.{object_of}
 use Rattle.plm_decl.specs.Placement.{IsPlacement, sizes_of}
@@ -28,9 +28,10 @@ use Rattle.layout_link.specs.declared.image.RomSize.{RomSize}
 use Rattle.layout_link.specs.Linker.{offsets_in, place_of, acts_in}
 use Rattle.layout_link.specs.Startup.{start_up_turns}
 use Rattle.layout_link.specs.Tasks.{is_unserved}
-use Rattle.plm86.specs.Headline.{RomIsCorrect}
-use Rattle.plm86.specs.Laws.{Assembly, IsSound, firmware_of}
-use Rattle.plm86.specs.Build.{MeansNames}
+use Rattle.plm86.specs.Headline.{RomIsCorrect, StartsQuietly}
+use Rattle.plm86.specs.Laws.{Assembly, IsSound, firmware_of, power_on_memory}
+use Rattle.plm86.specs.Startup.{with_vectors, after_acts}
+use Rattle.plm86.specs.Build.{MeansNames, IsSet, StartsUp}
 use Rattle.plm86.specs.Inner.Compiling.{Promises, IsLinked}
 use Rattle.plm86.specs.Inner.Assembled.{IsAssembled, image_of}
 use Rattle.plm86.specs.Inner.Images.{assembly_of, begins_at, enters_at, IsJoined, IsInWords}
@@ -39,8 +40,9 @@ use Rattle.plm86.proofs.Composition.Stacking.{in_words}
 use Rattle.plm86.proofs.Composition.Meeting.{joined}
 use Rattle.plm86.proofs.Composition.Finding.{finds}
 use Rattle.plm86.proofs.Composition.Selected.{is_selected, is_image, main_low}
-use Rattle.plm86.proofs.Composition.FirstStore.{first_store_stands}
+use Rattle.plm86.proofs.Composition.FirstStore.{first_store_stands, keeps_others}
 use Rattle.plm86.proofs.Headline.FromRom.{from_rom}
+use Rattle.plm86.proofs.Headline.Quiet.{quiet_by_memory}
 
 module _ (promises : Promises) (program : Program) (names : Names) (typed : AreTyped program names) (c : Code) (lowered : IsLowered names c) (stack : Stack) (counted : IsCounted c stack.main stack.handler) (enough : stack.main + stack.handler ≤ 4094) (runs : NoRunPasses c stack.main stack.handler) (parts : List Part) (selected : AreParts c parts) (size : RomSize) (image : Image) (linked : IsLinked names parts stack size image) where
   abbrev assembled : IsAssembled names c parts size image.rom.items stack.main stack.handler
@@ -109,3 +111,18 @@ module _ (promises : Promises) (program : Program) (names : Names) (typed : AreT
         (λ ram screen. first_store ram screen (offsets_in names) names.variables.items (map object_of names.objects.items) chips.reset)) (sym words.main_is ∙ ap (λ s. s.main) (sym linked.stack_is))
         correct)));
   }
+
+  -- the memory at main's beginning, in the words of the clause
+  alone : (ram screen : List ℕ) → length ram ≡ 0x20000 → length screen ≡ 4000 → (a : ℕ) → a < 0x20000 → ¬ IsSet names (offsets_in names) a
+      → after_acts (acts_in names parts size) (with_vectors (place_of names parts size is_unserved) 0 256 (power_on_memory image.rom.items ram screen)) a ≡ slice_index ram a
+  alone ram screen ram_long screen_long a low unset =
+      elim (cases_lt a 1024) [
+        | inl below ↦ absurd (unset (inl below))
+        | inr above ↦ keeps_others names parts size image.rom.items ram screen ram_long a above low (λ k o is i lt at. unset (inr (k, o, is, i, lt, at)))
+      ]
+
+  pub starts : StartsUp names image
+  starts =
+      subst (λ offsets. StartsQuietly board_chips image.start_turns (IsSet names offsets) image.rom.items chips.reset) (sym linked.offsets)
+      (subst (λ turns. StartsQuietly board_chips turns (IsSet names (offsets_in names)) image.rom.items chips.reset) (sym linked.turns)
+      (quiet_by_memory promises.one_form promises.short board_chips rom linked.code (place_of names parts size is_unserved) (acts_in names parts size) linked.start_up chips.reset (IsSet names (offsets_in names)) alone))

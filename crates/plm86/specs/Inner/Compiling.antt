@@ -1,5 +1,5 @@
 -- What the layers of the compiler promise together, and when a program has no image.
-use Rattle.std.specs.Prelude.{◌≡◌, ℕ, ◌<◌, ◌≤◌, ◌⊎◌, ⊤, List, length, slice_index}
+use Rattle.std.specs.Prelude.{◌≡◌, ℕ, ◌+◌, ◌<◌, ◌≤◌, ◌⊎◌, ⊤, List, length, slice_index}
 use Rattle.word86.specs.declared.fault.Fault.{Fault}
 use Rattle.word86.specs.declared.fault.Fault.TheVariants.{Memory, At}
 use Rattle.word86.specs.declared.number.Number.TheVariants.{E501, E601}
@@ -23,13 +23,14 @@ use Rattle.select.specs.Saved.{UnservedChangesNone, RegistersAreCounted}
 use Rattle.layout_link.specs.declared.image.Image.{Image}
 use Rattle.layout_link.specs.declared.image.RomSize.{RomSize}
 use Rattle.layout_link.specs.Image.{bytes_in}
-use Rattle.layout_link.specs.Initial.{HaveBytes}
+use Rattle.layout_link.specs.Initial.{HaveBytes, count_of}
 use Rattle.layout_link.specs.Linker.{offsets_in, needed, places_in, place_of, acts_in, InitialStands}
 use Rattle.layout_link.specs.Rom.{CodeInRom, WordsInRom, rom_code, rom_words}
 use Rattle.layout_link.specs.Stand.{PartsStand}
 use Rattle.layout_link.specs.Startup.{HasStartUp, start_up_turns}
 use Rattle.layout_link.specs.Tasks.{is_main, is_unserved}
-use Rattle.plm86.specs.Build.{IsTooLarge}
+use Rattle.plm_type.specs.Nodes.{initial_size}
+use Rattle.plm86.specs.Build.{MeansNames, StartsUp, IsTooLarge}
 use Rattle.plm86.specs.Depth.{IsShallow}
 
 pub record Promises : Type 0 where
@@ -64,9 +65,19 @@ pub record IsLinked (names : Names) (parts : List Part) (stack : Stack) (size : 
   pub initial : InitialStands names parts size image.rom.items
   pub bytes : HaveBytes (offsets_in names) names.variables.items names.objects.items
   pub turns : image.start_turns ≡ start_up_turns (acts_in names parts size)
+  pub few_turns : image.start_turns ≤ 4096 + count_of (offsets_in names) names.variables.items names.objects.items
   pub stand : PartsStand (rom_code image.rom.items) (rom_words image.rom.items) (offsets_in names) (places_in names parts size) parts
   pub within : (part : ℕ) → slice_index (places_in names parts size) part < 65536
   pub offsets : image.placement.offsets.items ≡ offsets_in names
   pub placement : IsPlacement image.placement.offsets.items (sizes_of names)
   pub stack_is : image.stack ≡ stack
   pub fits : needed names parts ≤ bytes_in size
+
+-- what compiling gives
+pub record IsImage (names : Names) (size : RomSize) (image : Image) : Type 0 where
+  pub means : MeansNames names image
+  pub starts : StartsUp names image
+  pub placement : IsPlacement image.placement.offsets.items (sizes_of names)
+  pub long : length image.rom.items ≡ bytes_in size
+  pub start : image.start_turns ≤ 4096 + initial_size names
+  pub stack : image.stack.main + image.stack.handler ≤ 4094
