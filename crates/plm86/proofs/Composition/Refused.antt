@@ -1,5 +1,6 @@
 -- When a program has no image: it is too deep, or too large, or memory was wanting.
 use Rattle.std.proofs.Common.{◌≡◌, ◌<◌, ◌⊎◌, inl, inr, List, refl, sym, subst}
+use Rattle.std.specs.Prelude.{Result, Ok, Err, IfErr}
 use Rattle.word86.specs.declared.fault.Fault.{Fault}
 use Rattle.word86.specs.declared.fault.Fault.TheVariants.{Memory, At}
 use Rattle.word86.specs.declared.number.Number.TheVariants.{E601}
@@ -14,6 +15,7 @@ use Rattle.lower.specs.Room.{HasRoom}
 use Rattle.select.specs.declared.part.Part.{Part}
 use Rattle.select.specs.Room.{ProgramsHaveRoom}
 use Rattle.select.specs.Selection.{AreParts}
+use Rattle.layout_link.specs.declared.image.Image.{Image}
 use Rattle.layout_link.specs.declared.image.RomSize.{RomSize}
 use Rattle.layout_link.specs.Image.{bytes_in}
 use Rattle.layout_link.specs.Linker.{needed}
@@ -40,3 +42,9 @@ module _ (names : Names) (size : RomSize) where
       | inl e ↦ of_memory f e
       | inr over ↦ subst (HasNoRoom names size) (sym over.0) (inr (refl, code_fits names c parts size lowered are room fit over.1))
     ]
+
+    -- the same of the linker's answer
+    pub of_answer : (parts : List Part) → AreParts c parts → HasRoom names → ProgramsHaveRoom → (r : Result Image Fault) → IfErr r (λ f. (f ≡ Memory) ⊎ ((f ≡ At 0 1 E601) × (bytes_in size < needed names parts)))
+        → IfErr r (HasNoRoom names size)
+    of_answer parts are room fit (Ok image) full = tt
+    of_answer parts are room fit (Err f) full = of_link parts are room fit f full
