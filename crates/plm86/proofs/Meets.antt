@@ -1,14 +1,14 @@
 -- What the matches of the whole command say of the words.
-use Rattle.std.proofs.Common.{◌≡◌, ◌⊎◌, ◌∙◌, ℕ, Bool, true, false, Option, Some, None, List, [], ◌∷◌, refl, sym, ap, inl, inr, codes, option_map, is_some, not, ◌&&◌}
-use Rattle.std.specs.Prelude.{find, option_and_then, ⊤, Box}
-use Rattle.clap.specs.Words.{App, Row, Rule, Shape, Text, rows_of, found_of, subcommand_of, subcommand_rows_of, subcommand_rows, subcommand_name_of, is_simple}
-use Rattle.clap.specs.Walk.{answers_to, walk, nothing_held, finished, Held}
+use Rattle.std.proofs.Common.{◌≡◌, ◌⊎◌, Bool, true, false, Option, Some, None, List, [], ◌∷◌, refl, sym, ap, inl, inr, codes, option_map}
+use Rattle.std.specs.Prelude.{find, Box}
+use Rattle.clap.specs.Words.{Row, Shape, Text, subcommand_of, subcommand_rows_of, subcommand_rows, subcommand_name_of, is_simple}
+use Rattle.clap.specs.Walk.{answers_to}
 use Rattle.clap.specs.Simple.{argument_words, built, entered, label_of, names_of, rows_at}
 use Rattle.clap.specs.Kinds.{Kinds, or_else, HasKind, IsAmong}
 use Rattle.clap.specs.declared.error.Error.{Error}
 use Rattle.clap.specs.Words.{kind_of}
 use Rattle.clap.specs.declared.error.kind.ErrorKind.TheVariants.{OutOfMemory}
-use Rattle.clap.specs.Faults.{fault_of, is_simple_and_free, check_fault}
+use Rattle.clap.specs.Faults.{fault_of, is_simple_and_free}
 use Rattle.clap.specs.declared.parser.matches.ArgMatches.{ArgMatches}
 use Rattle.clap.specs.declared.parser.matches.ArgMatches.TheViews.{out-ArgMatches, out-SubCommand}
 use Rattle.clap.specs.declared.parser.matches.SubCommand.{SubCommand}
@@ -17,7 +17,6 @@ use Rattle.clap.specs.Walk.{stop_after}
 use Rattle.std.specs.Box.{box_value}
 use Rattle.plm86.specs.CommandLine.{plm86_app}
 use Rattle.std.proofs.Common.{subst}
-use Rattle.clap.specs.Words.{takes}
 use Rattle.plm86.specs.Order.{HasWords, IsRefused}
 use Rattle.plm86.specs.declared.order.OrderFault.{OrderFault}
 use Rattle.plm86.specs.declared.order.OrderFault.TheVariants.{Memory}

@@ -1,8 +1,7 @@
 -- The command line as `clap` is told it, and the order that its matches spell.
-use Rattle.std.specs.Prelude.{◌≡◌, ◌==◌, ℕ, Bool, true, false, List, [], ◌∷◌, Option, Some, None, codes, map, unwrap_or, option_map, ⊤, IfSome, OnOk, IfErr}
-use Rattle.std.specs.Borrow.{Bor}
-use Rattle.clap.specs.Words.{App, Row, Rule, Shape, Text, all_of, first_of, new_app, new_rule, subcommand_of, takes, with_rule, with_subcommand}
-use Rattle.clap.specs.declared.builder.action.ArgAction.TheVariants.{Set, Append}
+use Rattle.std.specs.Prelude.{ℕ, Bool, true, List, [], Some, codes, unwrap_or}
+use Rattle.clap.specs.Words.{App, Row, Rule, Text, all_of, first_of, new_app, new_rule, with_rule, with_subcommand}
+use Rattle.clap.specs.declared.builder.action.ArgAction.TheVariants.{Append}
 
 abbrev pub needed : Text → Rule
 needed id = record (new_rule id) { required = true; value_names = 1 }

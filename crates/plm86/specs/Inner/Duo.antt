@@ -1,5 +1,5 @@
 -- Two contexts of the code with interrupts: main, and the interrupt procedure that runs.
-use Rattle.std.specs.Prelude.{ℕ, Bool, true, false, ◌&&◌, List, [], ◌∷◌, Option, Some, None}
+use Rattle.std.specs.Prelude.{ℕ, Bool, true, false, ◌&&◌, List, [], Option, Some, None}
 use Rattle.word86.specs.Action.{Shared, Over, perform, on_after, halted_after}
 use Rattle.word86.specs.Following.{Offer, Does, Arms}
 use Rattle.plm86.specs.Boots.{after_events}

@@ -1,11 +1,9 @@
-use Rattle.std.proofs.Common.{◌≡◌, ◌⊎◌, ◌∙◌, ℕ, Bool, true, false, Option, Some, None, List, [], ap, refl, sym, inl, inr, codes, map, Bor, rules, subst}
+use Rattle.std.proofs.Common.{◌≡◌, ◌∙◌, Some, [], ap, sym, inl, inr, codes, map, Bor, rules, subst}
 use Rattle.std.proofs.lemmas.Result.{IfOk-weaker, IfErr-weaker}
-use Rattle.clap.specs.Words.{App, Row, Text, app_of, subcommand_of, takes, is_simple, found_of, rows_of}
+use Rattle.clap.specs.Words.{App, Text, subcommand_of, is_simple, found_of, rows_of}
 use Rattle.clap.specs.Faults.{fault_of, is_simple_and_free}
 use Rattle.plm86.specs.CommandLine.{plm86_app}
-use Rattle.plm86.specs.Order.{HasWords, IsRefused, OrderOf, Spells}
-use Rattle.plm86.specs.declared.order.OrderFault.{OrderFault}
-use Rattle.plm86.specs.declared.order.OrderFault.TheVariants.{Memory}
+use Rattle.plm86.specs.Order.{OrderOf}
 use Rattle.plm86.proofs.Meets.{app_is_simple, app_is_free, named, met, wordless, only_memory}
 use Rattle.plm86.proofs.command_line.order.Goals as goal
 

@@ -1,8 +1,6 @@
-use Rattle.std.proofs.Common.{◌||◌, ℕ, Bool, Option, Some, rules, ap, ap₂, refl, codes, true, false, List, [], ◌∷◌, ◌≡◌, ◌∙◌, sym}
-use Rattle.std.proofs.lemmas.Result.{IfErr-weaker, IfOk-weaker}
-use Rattle.clap.specs.Words.{App, Row, Rule, Text, app_of, rule_of, with_rule, with_subcommand, new_rule}
+use Rattle.std.proofs.Common.{Some, rules, ap, ◌∙◌}
+use Rattle.clap.specs.Words.{Rule, rule_of}
 use Rattle.clap.specs.declared.builder.action.ArgAction.TheVariants.{Append}
-use Rattle.plm86.specs.CommandLine.{needed, several, lettered, build_app, run_app, outer, plm86_app}
 use Rattle.plm86.proofs.command_line.sources.Goals as goal
 
 pub returns : goal.returns

@@ -1,7 +1,7 @@
-use Rattle.std.proofs.Common.{◌||◌, rules, ap, ap₂, refl, codes, true, false, List, [], ◌∷◌, ◌≡◌, ◌∙◌}
-use Rattle.std.proofs.lemmas.Result.{IfErr-weaker, IfOk-weaker}
-use Rattle.clap.specs.Words.{App, Row, Rule, Text, app_of, rule_of, with_rule, with_subcommand}
-use Rattle.plm86.specs.CommandLine.{needed, several, lettered, build_app, run_app, outer, plm86_app}
+use Rattle.std.proofs.Common.{rules, ap, ap₂, ◌≡◌, ◌∙◌}
+use Rattle.std.proofs.lemmas.Result.{IfOk-weaker}
+use Rattle.clap.specs.Words.{App, app_of, with_subcommand}
+use Rattle.plm86.specs.CommandLine.{outer}
 use Rattle.plm86.proofs.command_line.whole_command.Goals as goal
 
 pub returns : goal.returns
