@@ -49,3 +49,12 @@ took_cut a b c m n whole text left rest e t h =
 
 pub took_breaks : (a b c : Option (List ℕ)) (m n k : ℕ) (whole text left rest : List ℕ) → left ≡ text ++ rest → Took a b m n whole left → Cut b c text × Rises n k → Cut a c whole × Rises m k
 took_breaks a b c m n k whole text left rest e t h = (took_cut a b c m n whole text left rest e t h.0, subst (λ z. Rises z k) t.same h.1)
+
+-- nothing is left
+pub took_end : (a b : Option (List ℕ)) (m n : ℕ) (whole left : List ℕ) → Took a b m n whole left → left ≡ [] → Appends a b whole × (n ≡ m)
+took_end a b m n whole left t e = (subst (Appends a b) (sym (t.parts ∙ ap (λ (l : List ℕ). t.done ++ l) e ∙ append-nil t.done)) t.taken, t.same)
+
+-- what is left comes last
+pub took_last : {T E : Type 0} (a b c : Option (List ℕ)) (m n k : ℕ) (whole left text : List ℕ) (r : Result T E) → left ≡ text → Took a b m n whole left → Writes b c n k text r → Writes a c m k whole r
+took_last a b c m n k whole left text r e t h =
+    subst (λ (l : List ℕ). Writes a c m k l r) (sym (t.parts ∙ ap (λ (l : List ℕ). t.done ++ l) e)) (writes_after a b c m n k t.done text r (t.taken, t.same) h)
