@@ -1,12 +1,12 @@
 -- The lines of a text, and the warnings at them.
-use Rattle.std.proofs.Common.{◌≡◌, ◌∙◌, ◌++◌, ◌∷◌, [], ◌+◌, ◌<◌, ◌≤◌, ℕ, Bool, true, false, suc, List, Option, ap, sym, refl, subst, arith, append-nil, append_assoc, length, take, drop, get_or, take-append-drop, ◌&&◌}
-use Rattle.std.specs.Prelude.{◌==◌, if◌then◌else◌}
+use Rattle.std.proofs.Common.{◌≡◌, ◌∙◌, ◌++◌, ◌∷◌, [], ◌+◌, ◌<◌, ◌≤◌, ℕ, Bool, true, false, List, Option, ap, sym, refl, subst, arith, append-nil, append_assoc, length, take, drop, get_or, ◌&&◌}
+use Rattle.std.specs.Prelude.{◌==◌}
 use Rattle.std.specs.List.{All, flat_map}
 use Rattle.std.proofs.lemmas.Bool.{ne_eqb}
-use Rattle.std.proofs.lemmas.List.{at_drop_more, drop_more}
+use Rattle.std.proofs.lemmas.List.{at_drop_more}
 use Rattle.std.proofs.lemmas.List.Elements.{All-nil, All-cons, All-head, All-tail, All-more, All-weaker}
 use Rattle.plm_type.specs.declared.sharing.Warning.{Warning}
-use Rattle.listing_map.specs.SourceListing.{at_line_feed, in_front, lines_of, warning_line, warning_lines, numbered_line, listing_lines, listing_text}
+use Rattle.listing_map.specs.SourceListing.{at_line_feed, lines_of, warning_lines, listing_lines, listing_text}
 use Rattle.listing_map.proofs.Writing.{Took}
 
 -- what put_lines has written, and what it knows of the warnings from its next line on

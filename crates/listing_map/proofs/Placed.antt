@@ -1,5 +1,5 @@
 -- The lines of a map: objects among screen names, and handlers.
-use Rattle.std.proofs.Common.{◌≡◌, ◌∙◌, ◌++◌, ◌∷◌, [], ◌+◌, ◌-◌, ◌<◌, ◌≤◌, inl, inr, ℕ, zero, suc, min, max, List, ap, sym, refl, subst, arith, length, take, drop, get_or}
+use Rattle.std.proofs.Common.{◌≡◌, ◌∙◌, ◌++◌, ◌∷◌, [], ◌+◌, ◌-◌, ◌<◌, ◌≤◌, inl, inr, ℕ, zero, suc, min, max, List, ap, sym, refl, arith, length, take, drop, get_or}
 use Rattle.std.specs.Prelude.{codes, slice_index, slice_range}
 use Rattle.std.specs.List.{concat}
 use Rattle.std.proofs.lemmas.Bool.{cases_lt}
@@ -36,13 +36,13 @@ part_from lines from end below inside =
 pub part_none : (lines : List (List ℕ)) (from end : ℕ) → min end (length lines) ≤ from → concat (slice_range lines from end) ≡ []
 part_none lines from end h =
     elim (cases_lt from end) [
-      inr past ↦
-        let count : end - from ≡ 0 = omega arith in
-        ap (λ n. concat (take n (drop from lines))) count
+      | inr past ↦
+          let count : end - from ≡ 0 = omega arith in
+          ap (λ n. concat (take n (drop from lines))) count
       | inl before ↦
-        let all : length lines ≤ from = omega (arith, h, before) in
-        let count : end - from ≡ suc (end - from - 1) = omega arith in
-        ap (λ (l : List (List ℕ)). concat (take (end - from) l)) (drop_all from lines all) ∙ ap (λ n. concat (take n [])) count
+          let all : length lines ≤ from = omega (arith, h, before) in
+          let count : end - from ≡ suc (end - from - 1) = omega arith in
+          ap (λ (l : List (List ℕ)). concat (take (end - from) l)) (drop_all from lines all) ∙ ap (λ n. concat (take n [])) count
     ]
 
 -- the lines of the objects from one number up to another: the first of them, and the others
@@ -54,7 +54,7 @@ objects_from offsets objects from end o lt at =
     let lines : from < length (object_lines offsets 0 objects) = omega (arith, inside, length-object_lines offsets 0 objects) in
     let same : 0 + from ≡ from = omega arith in
     ap concat (part_from (object_lines offsets 0 objects) from end below lines)
-      ∙ ap (λ (l : List ℕ). l ++ concat (slice_range (object_lines offsets 0 objects) (from + 1) end)) (object_at offsets 0 from objects o inside ∙ ap (λ n. object_line offsets n (get_or objects from o)) same ∙ ap (λ (x : Object). object_line offsets from x) (sym at))
+    ∙ ap (λ (l : List ℕ). l ++ concat (slice_range (object_lines offsets 0 objects) (from + 1) end)) (object_at offsets 0 from objects o inside ∙ ap (λ n. object_line offsets n (get_or objects from o)) same ∙ ap (λ (x : Object). object_line offsets from x) (sym at))
 
 pub objects_none : (offsets : List ℕ) (objects : List Object) (from end : ℕ) → min end (length objects) ≤ from → concat (slice_range (object_lines offsets 0 objects) from end) ≡ []
 objects_none offsets objects from end h = part_none (object_lines offsets 0 objects) from end (omega (arith, h, length-object_lines offsets 0 objects))

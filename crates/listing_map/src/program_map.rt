@@ -103,7 +103,13 @@ fn put_screen_name<S: Sink>(
     ensures { Writes (S.taken sink.old) (S.taken sink.new) (S.failures sink.old) (S.failures sink.new) (concat (slice_range (object_lines offsets.now 0 objects.now) done name.now.objects_before) ++ screen_line name.now) result }
 {
     match put_objects(sink, offsets, objects, done, name.objects_before) {
-        Ok(()) => put_place(sink, b"SCREEN ", name.offset, name.size, name.path.as_slice()),
+        Ok(()) => put_place(
+            sink,
+            b"SCREEN ",
+            name.offset,
+            name.size,
+            name.path.as_slice(),
+        ),
         Err(fault) => Err(fault),
     }
 }
@@ -130,14 +136,24 @@ fn put_objects<S: Sink>(
 fn put_object<S: Sink>(sink: &mut S, offset: u16, object: &Object) -> Result<(), SinkFault>
     ensures { Writes (S.taken sink.old) (S.taken sink.new) (S.failures sink.old) (S.failures sink.new) (place_line (codes "OBJECT ") offset object.now.size object.now.path.items) result }
 {
-    put_place(sink, b"OBJECT ", u64::from(offset), object.size, object.path.as_slice())
+    put_place(
+        sink,
+        b"OBJECT ",
+        u64::from(offset),
+        object.size,
+        object.path.as_slice(),
+    )
 }
 
 /// The offset of an object, 0 where it has none.
 fn offset_of(offsets: &[u16], number: usize) -> u16
     ensures { result ≡ slice_index offsets.now number }
 {
-    if number < offsets.len() { offsets[number] } else { 0 }
+    if number < offsets.len() {
+        offsets[number]
+    } else {
+        0
+    }
 }
 
 fn put_place<S: Sink>(
@@ -151,7 +167,13 @@ fn put_place<S: Sink>(
 {
     let [a, b, c, d] = hex_low_word(offset);
     let [e, f, g, h] = hex_low_word(size);
-    put_four(sink, word, &[a, b, c, d, b' ', e, f, g, h, b' '], name, b"\n")
+    put_four(
+        sink,
+        word,
+        &[a, b, c, d, b' ', e, f, g, h, b' '],
+        name,
+        b"\n",
+    )
 }
 
 /// Writes a line for each interrupt that a procedure handles.
@@ -166,11 +188,7 @@ fn put_handlers<S: Sink>(sink: &mut S, procedures: &[Procedure]) -> Result<(), S
     Ok(())
 }
 
-fn put_handler<S: Sink>(
-    sink: &mut S,
-    number: u16,
-    name: Option<&[u8]>,
-) -> Result<(), SinkFault>
+fn put_handler<S: Sink>(sink: &mut S, number: u16, name: Option<&[u8]>) -> Result<(), SinkFault>
     requires { number < 256 }
     ensures { Writes (S.taken sink.old) (S.taken sink.new) (S.failures sink.old) (S.failures sink.new) (handler_line number (option_copied name.entry)) result }
 {

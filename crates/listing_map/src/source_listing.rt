@@ -64,7 +64,7 @@ fn without_return(line: &[u8]) -> &[u8]
     ensures { (rest : List ℕ) → lines_of (line.now ++ 10 ∷ rest) ≡ result.now ∷ lines_of rest }
 {
     match line.split_last() {
-        Some((last, start)) => if *last == b'\r' { start } else { line },
+        Some((last, start)) => { if *last == b'\r' { start } else { line } }
         None => line,
     }
 }
@@ -105,11 +105,7 @@ fn put_numbered<S: Sink>(sink: &mut S, number: u64, line: &[u8]) -> Result<(), S
     put_five(sink, spaces, digits, b"  ", line, b"\n")
 }
 
-fn put_warnings<S: Sink>(
-    sink: &mut S,
-    number: u64,
-    warnings: &[Warning],
-) -> Result<(), SinkFault>
+fn put_warnings<S: Sink>(sink: &mut S, number: u64, warnings: &[Warning]) -> Result<(), SinkFault>
     ensures { Writes (S.taken sink.old) (S.taken sink.new) (S.failures sink.old) (S.failures sink.new) (warning_lines number warnings.now) result }
 {
     for warning in warnings {
@@ -147,5 +143,9 @@ fn nearer(first: u64, line: u64, number: u64) -> u64
     ensures first { result ≤ first }
     ensures line { number ≤ line → result ≤ line }
 {
-    if number <= line { first.min(line) } else { first }
+    if number <= line {
+        first.min(line)
+    } else {
+        first
+    }
 }

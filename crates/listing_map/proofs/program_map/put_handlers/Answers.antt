@@ -1,4 +1,3 @@
-use Rattle.std.proofs.Common.{ap}
 use Rattle.listing_map.proofs.Placed.{handlers_from, handlers_none}
 use Rattle.listing_map.proofs.Writing.{took_breaks, took_end, took_more}
 use Rattle.listing_map.proofs.program_map.put_handlers.Goals as goal

@@ -1,6 +1,4 @@
-use Rattle.std.proofs.Common.{◌≤◌, ◌+◌, length}
-use Rattle.std.specs.List.{All}
-use Rattle.listing_map.specs.SourceListing.{lines_of, listing_lines, listing_text}
+use Rattle.std.proofs.Common.{length}
 use Rattle.listing_map.proofs.Listed.{IsListed}
 use Rattle.listing_map.proofs.source_listing.put_lines.Given as goal
 

@@ -1,4 +1,3 @@
-use Rattle.listing_map.specs.SourceListing.{warning_line}
 use Rattle.listing_map.proofs.Listed.{flat_map_from}
 use Rattle.listing_map.proofs.Writing.{took_breaks, took_more}
 use Rattle.listing_map.proofs.source_listing.put_warnings.Goals as goal
