@@ -63,10 +63,10 @@ fn without_return(line: &[u8]) -> &[u8]
     requires { All (λ b. (b == 10) ≡ false) line.now }
     ensures { (rest : List ℕ) → lines_of (line.now ++ 10 ∷ rest) ≡ result.now ∷ lines_of rest }
 {
-    match line.split_last() {
-        Some((last, start)) => { if *last == b'\r' { start } else { line } }
-        None => line,
-    }
+    let Some((last, start)) = line.split_last() else {
+        return line;
+    };
+    if *last == b'\r' { start } else { line }
 }
 
 /// Writes a line and its warnings. No warning is at a line from this number on and before `warned`; the answer is the same for
