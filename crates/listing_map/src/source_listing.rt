@@ -5,7 +5,7 @@ ghost use Rattle.std.specs.List.{All};
 ghost use Rattle.word86.specs.Taking.{Writes};
 ghost use Rattle.word86.specs.declared.fault.Fault.TheVariants.{At};
 ghost use Rattle.word86.specs.declared.number.Number.TheVariants.{E704};
-ghost use Rattle.listing_map.specs.SourceListing.{lines_of, numbered_line, warning_line, warning_lines, listing_lines, listing_text};
+ghost use Rattle.listing_map.specs.SourceListing.{lines_of, numbered_line, warning_line, warning_lines, listing_text};
 
 use crate::lines::CANNOT_WRITE;
 use crate::pieces::{put_five, put_three};
