@@ -64,7 +64,6 @@ use Rattle.select.specs.Rows
 use Rattle.select.specs.Rows.{load_number, copy, clear_byte, clear_high, push, pop, alu, alu_number, core, narrow, narrow_right, then_narrow, narrow_sum, loads, loads_right, stores, spot, segment_of, row, first_of, plain, direct, by_constant, by_read, left_from_stack, fails, registers_of, given_back}
 use Rattle.icode.specs.Made.{constant_in}
 use Rattle.icode.specs.Runs.{Leads, Comes}
-use Rattle.select.proofs.Cases.{a_case}
 use Rattle.select.specs.Promise.{Allowed, Counted, Image, IsSelected, next_of, place_of}
 use Rattle.select.proofs.Rests.{Laws}
 use Rattle.select.proofs.Keeping.{OnlyChanges, Same, same_refl, changes_then, changes_wider, stays}
@@ -76,6 +75,7 @@ use Rattle.select.proofs.Arming.{is_main, with_interrupts}
 use Rattle.select.proofs.Cores
 use Rattle.select.proofs.Flags
 use Rattle.select.proofs.Stacks
+use Rattle.select.proofs.Tables
 use Rattle.select.proofs.Offers
 use Rattle.select.proofs.Offers.{right_gives}
 
@@ -833,27 +833,6 @@ module _ (laws : Laws) (x : Image) (all : IsSelected x)
 
   -- ---- a table
 
-  -- the cases behind a `Switch` stand two bytes apart
-  module _ (r : Routine) (k m : ℕ) (e : slice_get (x.icode r) k ≡ Some (op.Switch m)) where
-    case_at : (j : ℕ) → j < m → (c : ℕ) × (slice_get (x.icode r) (k + 1 + j) ≡ Some (op.Case c))
-    case_at j l = a_case (slice_get (x.icode r) (k + 1 + j)) ((all.made r).cases k j (op.Switch m) e l)
-
-    entry_at : (j : ℕ) → j ≤ m → place r (k + 1 + j) ≡ place r (k + 1) + 2 * j
-    entry_at zero l = let q : k + 1 + 0 ≡ k + 1 = omega arith in ap (place r) q ∙ by_zero (place r (k + 1))
-      where
-        by_zero : (y : ℕ) → y ≡ y + 2 * 0
-        by_zero y = omega arith
-    entry_at (suc j) l =
-        let c = case_at j (omega (arith, l)) in
-        let s = rows_stand r (k + 1 + j) (op.Case c.0) c.1 in
-        let q : k + 1 + j + 1 ≡ k + 1 + suc j = omega arith in
-        let two : place r (k + 1 + j) + 2 ≡ place r (k + 1 + suc j) = s.1.1 ∙ s.3 ∙ ap (place r) q in
-        let before = entry_at j (omega (arith, l)) in
-        omega (arith, two, before)
-
-    entry_small : (j : ℕ) → j ≤ m → place r (k + 1) + 2 * j < 65536
-    entry_small j l = let s = all.low r (first r (k + 1 + j)) in omega (arith, s, entry_at j l)
-
   abbrev compared_with : Working → ℕ → Working
   compared_with g m = set_flags g (operated Cmp widths.Word g.ax (m % 65536) g.flags).flags
 
@@ -864,7 +843,7 @@ module _ (laws : Laws) (x : Image) (all : IsSelected x)
       c = rows_stand r k (op.Switch m) e
 
       few_cases : m < 65536
-      few_cases = omega (arith, entry_small r k m e m (omega arith))
+      few_cases = omega (arith, Tables.entry_small x all rows_stand r k m e m (omega arith))
 
       limit_is : m % 65536 ≡ m
       limit_is = omega (arith, few_cases)
@@ -885,7 +864,7 @@ module _ (laws : Laws) (x : Image) (all : IsSelected x)
 
       chosen : g.ax < m → Fl n 8 (At r k g.ax ws) (Own (place r k) g (stack_of ws) false given)
       chosen l =
-          let t = case_at r k m e g.ax l in
+          let t = Tables.case_at x all rows_stand r k m e g.ax l in
           let target = k + 1 + suc g.ax + t.0 in
           let d = At r target g.ax ws in
           let u = ap (λ (b : Bool). if b then switched (slice_get (x.icode r) (k + 1 + g.ax)) r (k + 1 + suc g.ax) g.ax ws else Silent (At r (k + 1 + m) g.ax ws)) (lt-ltb g.ax m l)
@@ -895,9 +874,9 @@ module _ (laws : Laws) (x : Image) (all : IsSelected x)
           let rest = c.3.3 in
           let jump = rest.3.3 in
           let table = place r (k + 1) in
-          let small = entry_small r k m e g.ax (omega (arith, l)) in
+          let small = Tables.entry_small x all rows_stand r k m e g.ax (omega (arith, l)) in
           let doubled : h2.bx ≡ 2 * g.ax = laws.shift.shl widths.Word g.ax 1 h1.flags a ∙ twice g.ax table small in
-          let offset : (h2.bx + table) % 65536 ≡ place r (k + 1 + g.ax) = ap (λ z. (z + table) % 65536) doubled ∙ turned_sum (2 * g.ax) table small ∙ sym (entry_at r k m e g.ax (omega (arith, l))) in
+          let offset : (h2.bx + table) % 65536 ≡ place r (k + 1 + g.ax) = ap (λ z. (z + table) % 65536) doubled ∙ turned_sum (2 * g.ax) table small ∙ sym (Tables.entry_at x all rows_stand r k m e g.ax (omega (arith, l))) in
           let entry = rows_stand r (k + 1 + g.ax) (op.Case t.0) t.1 in
           let to : k + 1 + g.ax + 1 + t.0 ≡ target = index_sum g.ax t.0 in
           begins r k (op.Switch m) e g n go a inv ws p sm (alu_number Cmp Ax (m % 65536)) [] 13 c.0 d (compared_with g m) (stack_of ws) u (c.0, c.1, c.2, refl) (omega arith) ((compared_with g m), stack_of ws, λ q. refl, (refl, refl))

@@ -15,7 +15,7 @@ use Rattle.select.specs.Inner.Arriving.{ArrivesSoon, JumpsArrive}
 
 module _ (inverse_holds : InverseHolds) (code : ℕ → Option (Instr × ℕ)) (find : (offset n : ℕ) → Option (ℕ × ℕ)) (words : ℕ → Option ℕ) (entry : (vector : ℕ) → ℕ) (main handler : ℕ) (offsets places : List ℕ) where
   -- what an instruction that stands here does
-  does_here : (here there : ℕ) (n : Instr) (g : Working) (st : List ℕ) (a : Bool) (given : Option Given) → there < 65536 → StandsAt code here n there
+  pub does_here : (here there : ℕ) (n : Instr) (g : Working) (st : List ℕ) (a : Bool) (given : Option Given) → there < 65536 → StandsAt code here n there
       → (c : Context) → offered find words main handler n there g st a given ≡ Does (Silent c) → offer code find words entry main handler (Own here g st a given) ≡ Does (Silent c)
   does_here here there n g st a given low (size, is, end) c e =
       let far : further here size ≡ there = omega (arith, end, low) in
@@ -63,6 +63,17 @@ module _ (inverse_holds : InverseHolds) (code : ℕ → Option (Instr × ℕ)) (
         )
         | inr (d, middle, over, long, past, leads) ↦ long_arrives here there to d middle c low g st a given over long past leads (holds c g.flags) refl
       ]
+
+  -- a jump that is not taken is one instruction, short or long
+  pub passes : (here there to t : ℕ) (c : Condition) → there < 65536 → (g : Working) (st : List ℕ) (a : Bool) (given : Option Given) → holds c g.flags ≡ false
+      → Stands code words offsets places here there to (GotoIf c t) → offer code find words entry main handler (Own here g st a given) ≡ Does (Silent (Own there g st false given))
+  passes here there to t c low g st a given e (inl s) =
+      does_here here there (i.JumpIf c s.0) g st a given low s.1 (Own there g st false given) (ap (λ (b : Bool). Does (Silent (Own (if b then further there (sign_extended s.0) else there) g st false given))) e)
+  passes here there to t c low g st a given e (inr (d, middle, over, long, past, leads)) =
+      let taken : holds (inverse c) g.flags ≡ true = inverse_holds c g.flags ∙ ap not e in
+      let l : middle < 65536 = let z = long.2 in omega (arith, z, low) in
+      does_here here middle (i.JumpIf (inverse c) 3) g st a given l over (Own there g st false given)
+      (ap (λ (b : Bool). Does (Silent (Own (if b then further middle (sign_extended 3) else middle) g st false given))) taken ∙ ap (λ p. Does (Silent (Own p g st false given))) past)
 
   pub jumps_arrive : JumpsArrive code find words entry main handler offsets places
   jumps_arrive here there to low g st a given = (λ t. goto_arrives here there to t low g st a given, λ c t. branch_arrives here there to t c low g st a given)

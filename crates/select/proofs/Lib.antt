@@ -13,9 +13,11 @@ pub mod Engine
 pub mod Arming
 pub mod Stacks
 pub mod Offers
+pub mod Tables
 pub mod Following
 pub mod Routines
 pub mod Whole
+pub mod Choosing
 pub mod Backs
 pub mod Cases
 pub mod Steps

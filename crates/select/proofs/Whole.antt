@@ -161,7 +161,7 @@ module _ (laws : Laws) (x : Image) (all : IsSelected x) where
   abbrev next : machine.Context → Action Access machine.Context
   next = next_of x
 
-  stand : (r : Routine) (k : ℕ) (ins : Instruction) → slice_get (x.icode r) k ≡ Some ins
+  pub stand : (r : Routine) (k : ℕ) (ins : Instruction) → slice_get (x.icode r) k ≡ Some ins
       → Chains.From x.code x.words x.offsets x.places (x.at r) (place_of x r k) (row (first_of (x.saves r) (x.icode r)) x.part (x.saves r) (k + 1) ins) (place_of x r (k + 1))
   stand r k ins e = Routines.row_stands x.code x.words x.offsets x.places x.part (x.at r) (all.low r) (x.saves r) (x.icode r) (all.stand r) k ins e
 

@@ -4,6 +4,7 @@ pub mod Parts
 pub mod Linked
 pub mod Rows
 pub mod Promise
+pub mod Cases
 pub mod Room
 pub mod Saved
 pub mod Inner

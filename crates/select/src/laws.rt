@@ -1,10 +1,11 @@
 //! What the instructions promise.
 
+ghost use Rattle.select.specs.Cases.{CasesComeSoon};
 ghost use Rattle.select.specs.Promise.{InstructionsFollow};
 ghost use Rattle.select.specs.Room.{PartsHaveRoom, ProgramsHaveRoom};
 ghost use Rattle.select.specs.Saved.{UnservedChangesNone, RegistersAreCounted};
 
-use i86_table::{flag_laws, rotation_laws, shift_laws};
+use i86_table::{flag_laws, inverse_law, rotation_laws, shift_laws};
 
 /// Where the steps of each routine of the intermediate code stand at their places, main's instructions follow main's code, and
 /// each interrupt procedure's its procedure: at most 20 instructions without a step, no more words on the stack than are counted,
@@ -12,6 +13,17 @@ use i86_table::{flag_laws, rotation_laws, shift_laws};
 pub fn instructions_follow_code()
     ensures { InstructionsFollow }
 {
+    flag_laws();
+    rotation_laws();
+    shift_laws();
+}
+
+/// With a DO CASE's value in AX, whatever the number of cases: five instructions lead to the first one of the case that it chooses,
+/// and at most three behind the table where there is none. They make no access and no other action, and change BX and the flags alone.
+pub fn cases_come_soon()
+    ensures { CasesComeSoon }
+{
+    inverse_law();
     flag_laws();
     rotation_laws();
     shift_laws();

@@ -12,8 +12,8 @@ mod selection;
 mod sizes;
 
 pub use laws::{
-    instructions_follow_code, parts_have_room, programs_have_room, registers_are_counted,
-    unserved_changes_none,
+    cases_come_soon, instructions_follow_code, parts_have_room, programs_have_room,
+    registers_are_counted, unserved_changes_none,
 };
 pub use part::{Entry, Fixup, Kind, Part, Step};
 pub use selection::{select, select_section};
