@@ -15,6 +15,8 @@ mod interrupt_controller;
 #[cfg(test)]
 mod interrupt_procedures;
 #[cfg(test)]
+mod linking;
+#[cfg(test)]
 mod literals;
 #[cfg(test)]
 mod lowering;
@@ -28,6 +30,8 @@ mod ports;
 mod processor;
 #[cfg(test)]
 mod schedules;
+#[cfg(test)]
+mod selection;
 #[cfg(test)]
 mod syntax;
 #[cfg(test)]
