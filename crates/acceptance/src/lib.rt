@@ -7,6 +7,8 @@ mod board_roms;
 #[cfg(test)]
 mod board_runs;
 #[cfg(test)]
+mod building;
+#[cfg(test)]
 mod codec;
 #[cfg(test)]
 mod flags;
