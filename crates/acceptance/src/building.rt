@@ -1,11 +1,12 @@
 //! Texts are built into ROMs, which run: the traces are worked by hand from the language's rules.
 
 use crate::lowering::program_of;
+use crate::selection::section_of;
 use board::{Board, End, read_schedule};
 use frames::{Stack, count};
 use layout_link::{Image, RomSize, link};
 use lower::lower;
-use select::{Part, select, select_section};
+use select::{Part, select};
 use std::alloc::Global;
 use std::process::Abort;
 use std::test::Fail;
@@ -160,8 +161,8 @@ fn modules_in_either_order(rt: HostRuntime) -> Result<(), Fail> {
 }
 
 /// The parts of a section of the program with these modules.
-fn section_of(alloc: Global, texts: &[&[u8]], section: usize) -> Result<Vec<Part>, Fault> {
-    select_section(alloc, &lower(alloc, &program_of(alloc, texts)?)?, section)
+fn parts_of(alloc: Global, texts: &[&[u8]], section: usize) -> Result<Vec<Part>, Fault> {
+    section_of(alloc, &lower(alloc, &program_of(alloc, texts)?)?, section)
 }
 
 fn is_same(one: &Part, other: &Part) -> bool {
@@ -184,13 +185,13 @@ fn sections_stand_alone(rt: HostRuntime) -> Result<(), Fail> {
     let alloc = rt.alloc();
     let nine = [CALLS, PUTS_NINE];
     let eight = [CALLS, PUTS_EIGHT];
-    let main = section_of(alloc, &nine, 0)?;
+    let main = parts_of(alloc, &nine, 0)?;
     // The EXTERNAL procedure has a part in the module that names it.
     assert_eq!(rt; main.len(), 2);
-    assert!(rt; are_same(&main, &section_of(alloc, &eight, 0)?));
-    let puts = section_of(alloc, &nine, 1)?;
+    assert!(rt; are_same(&main, &parts_of(alloc, &eight, 0)?));
+    let puts = parts_of(alloc, &nine, 1)?;
     assert_eq!(rt; puts.len(), 1);
-    assert!(rt; !are_same(&puts, &section_of(alloc, &eight, 1)?));
+    assert!(rt; !are_same(&puts, &parts_of(alloc, &eight, 1)?));
     Ok(())
 }
 
