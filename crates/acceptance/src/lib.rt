@@ -7,6 +7,8 @@ mod board_roms;
 #[cfg(test)]
 mod board_runs;
 #[cfg(test)]
+mod building;
+#[cfg(test)]
 mod codec;
 #[cfg(test)]
 mod flags;
@@ -16,6 +18,7 @@ mod interrupt_controller;
 mod interrupt_procedures;
 #[cfg(test)]
 mod listing;
+mod linking;
 #[cfg(test)]
 mod literals;
 #[cfg(test)]
@@ -30,6 +33,8 @@ mod ports;
 mod processor;
 #[cfg(test)]
 mod schedules;
+#[cfg(test)]
+mod selection;
 #[cfg(test)]
 mod syntax;
 #[cfg(test)]

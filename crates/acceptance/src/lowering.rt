@@ -15,7 +15,8 @@ use word86::{Access, Fault, Label, Place, Width};
 /// What is stored, byte by byte, the newest last.
 type Store = Vec<(Place, u8)>;
 
-fn program_of(alloc: Global, texts: &[&[u8]]) -> Result<Program, Fault> {
+/// The program with these modules.
+pub(crate) fn program_of(alloc: Global, texts: &[&[u8]]) -> Result<Program, Fault> {
     let mut trees = Vec::new(alloc);
     for text in texts {
         trees.push(parse(alloc, scan(alloc, text)?)?)?;

@@ -1,0 +1,114 @@
+//! Parts made by hand, linked and run: the bytes of their code are from the manual's table, the trace from what they do.
+
+use board::{Board, End, read_schedule};
+use frames::Stack;
+use layout_link::{RomSize, link};
+use plm_decl::{Names, resolve};
+use plm_syntax::parse;
+use plm_token::scan;
+use select::{Entry, Fixup, Kind, Part};
+use std::alloc::Global;
+use std::test::Fail;
+use word86::{CutSink, Fault, Number, PowerOn};
+
+fn names_of(alloc: Global, text: &[u8]) -> Result<Names, Fault> {
+    resolve(alloc, &[parse(alloc, scan(alloc, text)?)?])
+}
+
+fn part(alloc: Global, entry: Entry, bytes: &[u8], fixups: &[Fixup]) -> Result<Part, Fail> {
+    Ok(Part {
+        entry,
+        bytes: Vec::from_slice(alloc, bytes)?,
+        fixups: Vec::from_slice(alloc, fixups)?,
+    })
+}
+
+fn object(place: usize, name: usize) -> Fixup {
+    Fixup {
+        place,
+        kind: Kind::Offset,
+        name,
+    }
+}
+
+/// A byte that is put, six bytes of which the last is read, a word; then a call and HLT. A vector has a part of its own.
+#[test]
+fn parts_run(rt: HostRuntime) -> Result<(), Fail> {
+    let alloc = rt.alloc();
+    let names = names_of(
+        alloc,
+        b"M: DO; DECLARE B BYTE INITIAL (5), W(6) BYTE INITIAL (1,2,3,4,5,6), C WORD INITIAL (0AABBH); ; END M;",
+    )?;
+    let mut parts = Vec::new(alloc);
+    // MOV AL,[B]; OUT 0E0H,AL; MOV AL,[W+5]; OUT 0E1H,AL; MOV AX,[C]; OUT 0E2H,AX; CALL; HLT; JMP back
+    let code = [
+        0xA0, 0, 0, 0xE6, 0xE0, 0xA0, 5, 0, 0xE6, 0xE1, 0xA1, 0, 0, 0xE7, 0xE2, 0xE8, 0, 0, 0xF4,
+        0xEB, 0xFD,
+    ];
+    let call = Fixup {
+        place: 16,
+        kind: Kind::Near,
+        name: 2,
+    };
+    parts.push(part(
+        alloc,
+        Entry::Main,
+        &code,
+        &[object(1, 0), object(6, 1), object(11, 2), call],
+    )?)?;
+    parts.push(part(alloc, Entry::Unserved, &[0xCF], &[])?)?;
+    // MOV AL,77H; OUT 0E4H,AL; RET
+    parts.push(part(alloc, Entry::Call, &[0xB0, 0x77, 0xE6, 0xE4, 0xC3], &[])?)?;
+    parts.push(part(alloc, Entry::Vector(8), &[0xCF], &[])?)?;
+    let image = link(
+        alloc,
+        parts,
+        &names,
+        Stack {
+            main: 2,
+            handler: 6,
+        },
+        RomSize::Kib8,
+    )?;
+    assert_eq!(rt; image.rom.len(), 8192);
+    assert_eq!(rt; image.placement.offsets(), [2, 3, 9].as_slice());
+    // 1,291 turns, the vector, the byte, a copy of six, and the word
+    assert_eq!(rt; image.start_turns, 1303);
+    let schedule = read_schedule(alloc, b"FILL 5A\nSTOP 3000\n")?;
+    let mut sink = CutSink::new(alloc, 100_000, 4096)?;
+    let mut board = Board::new(alloc, &image.rom, PowerOn::filled(alloc, schedule.fill())?)?;
+    assert_eq!(rt; board.run(&schedule, &mut sink), Ok(End::Stopped));
+    assert_eq!(rt;
+        sink.bytes(),
+        b"OUT 00E0 05\nOUT 00E1 06\nOUTW 00E2 AABB\nOUT 00E4 77\nEND 3000\n".as_slice()
+    );
+    Ok(())
+}
+
+/// 8 KiB hold 39 bytes of start-up, 8,136 of a part, 1 of the other and 16 from the reset on, and not one more.
+#[test]
+fn full_exactly(rt: HostRuntime) -> Result<(), Fail> {
+    let alloc = rt.alloc();
+    let names = names_of(alloc, b"M: DO; ; END M;")?;
+    for (more, fits) in [(0usize, true), (1, false)] {
+        let nops = vec![in alloc; 0x90u8; 8136 + more]?;
+        let mut parts = Vec::new(alloc);
+        parts.push(part(alloc, Entry::Main, &nops, &[])?)?;
+        parts.push(part(alloc, Entry::Unserved, &[0xCF], &[])?)?;
+        let linked = link(
+            alloc,
+            parts,
+            &names,
+            Stack {
+                main: 0,
+                handler: 6,
+            },
+            RomSize::Kib8,
+        );
+        assert_eq!(rt; linked.is_ok(), fits);
+        if let Err(fault) = linked {
+            assert_eq!(rt; fault, Fault::At(0, 1, Number::E601));
+        }
+    }
+    Ok(())
+}
