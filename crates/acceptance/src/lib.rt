@@ -17,8 +17,9 @@ mod interrupt_controller;
 #[cfg(test)]
 mod interrupt_procedures;
 #[cfg(test)]
-mod listing;
 mod linking;
+#[cfg(test)]
+mod listing;
 #[cfg(test)]
 mod literals;
 #[cfg(test)]
