@@ -15,6 +15,8 @@ mod interrupt_controller;
 #[cfg(test)]
 mod interrupt_procedures;
 #[cfg(test)]
+mod listing;
+#[cfg(test)]
 mod literals;
 #[cfg(test)]
 mod lowering;

@@ -11,7 +11,7 @@ use crate::pieces::{put_six, put_three, put_two};
 use itoa::Buffer;
 use word86::{Fault, Label, Number, Sink, SinkFault, put_all};
 
-const CANNOT_WRITE: Fault = Fault::At(0, 1, Number::E704);
+pub(crate) const CANNOT_WRITE: Fault = Fault::At(0, 1, Number::E704);
 
 /// Writes the line of a label, as `OUT 0300 FF`, with its line feed. The one refusal is E704, where the sink failed; what it
 /// took is then a beginning of the line. It takes no memory.

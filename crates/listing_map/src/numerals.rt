@@ -34,6 +34,18 @@ pub(crate) fn hex_word(value: u16) -> [u8; 4]
     ]
 }
 
+/// The low 16 bits of a number as four digits.
+pub(crate) fn hex_low_word(value: u64) -> [u8; 4]
+    ensures { result ≡ hex4 value }
+{
+    [
+        digit((value / 4096 % 16) as u16),
+        digit((value / 256 % 16) as u16),
+        digit((value / 16 % 16) as u16),
+        digit((value % 16) as u16),
+    ]
+}
+
 /// A physical address, of 20 bits, as five digits. Of a greater number the low 20 bits are written.
 pub(crate) fn hex_address(address: u32) -> [u8; 5]
     ensures { result ≡ hex5 address }

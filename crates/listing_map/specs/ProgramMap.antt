@@ -1,0 +1,59 @@
+-- The map of a program: its ROM, its names with their places, its handlers, its stack and its start.
+use Rattle.std.specs.Prelude.{ℕ, zero, suc, ◌+◌, ◌/◌, max, if◌then◌else◌, List, [], ◌∷◌, ◌++◌, length, drop, slice_index, slice_range, Option, Some, None, codes, decimal}
+use Rattle.std.specs.List.{concat}
+use Rattle.frames.specs.declared.counting.Stack.{Stack}
+use Rattle.plm_decl.specs.declared.names.Names.{Names}
+use Rattle.plm_decl.specs.declared.names.Object.{Object}
+use Rattle.plm_decl.specs.declared.names.Procedure.{Procedure}
+use Rattle.plm_decl.specs.declared.names.ScreenName.{ScreenName}
+use Rattle.plm_decl.specs.Names.{procedure_of}
+use Rattle.plm_decl.specs.Statements.{handles}
+use Rattle.layout_link.specs.declared.image.Image.{Image}
+use Rattle.listing_map.specs.Lines.{hex2, hex4, line_end}
+
+-- how large the ROM is
+abbrev pub rom_line : ℕ → List ℕ
+rom_line bytes = codes "ROM " ++ decimal (bytes / 1024) ++ codes " KIB" ++ line_end
+
+-- a name with its offset and its size, both modulo 65,536
+abbrev pub place_line : List ℕ → ℕ → ℕ → List ℕ → List ℕ
+place_line word offset size name = word ++ hex4 offset ++ codes " " ++ hex4 size ++ codes " " ++ name ++ line_end
+
+-- a line for each of these objects, of which the first has this number
+abbrev pub object_lines : List ℕ → ℕ → List Object → List (List ℕ)
+object_lines offsets number [] = []
+object_lines offsets number (o ∷ os) = place_line (codes "OBJECT ") (slice_index offsets number) o.size o.path.items ∷ object_lines offsets (number + 1) os
+
+abbrev pub screen_line : ScreenName → List ℕ
+screen_line s = place_line (codes "SCREEN ") s.offset s.size s.path.items
+
+-- the objects' lines but the first `done`; in front of a screen name's line stand those of all objects that are declared before it
+abbrev pub declared_lines : List (List ℕ) → ℕ → List ScreenName → List ℕ
+declared_lines objects done [] = concat (drop done objects)
+declared_lines objects done (s ∷ ss) = concat (slice_range objects done s.objects_before) ++ screen_line s ++ declared_lines objects (max done s.objects_before) ss
+
+-- the name of the first procedure that handles the interrupt of this number
+abbrev pub handler_of : ℕ → List Procedure → Option (List ℕ)
+handler_of number [] = None
+handler_of number (p ∷ ps) = if handles number (procedure_of p) then Some p.path.items else handler_of number ps
+
+abbrev pub handler_line : ℕ → Option (List ℕ) → List ℕ
+handler_line number None = []
+handler_line number (Some name) = codes "HANDLER " ++ hex2 number ++ codes " " ++ name ++ line_end
+
+-- a line for each interrupt that has a handler, of so many from this number on
+unfoldable pub handler_lines : ℕ → ℕ → List Procedure → List ℕ
+handler_lines zero number procedures = []
+handler_lines (suc count) number procedures = handler_line number (handler_of number procedures) ++ handler_lines count (number + 1) procedures
+
+-- the most bytes that main and an interrupt have on the stack
+abbrev pub stack_line : Stack → List ℕ
+stack_line stack = codes "STACK " ++ hex4 stack.main ++ codes " " ++ hex4 stack.handler ++ line_end
+
+-- the turns from reset to main's first instruction
+abbrev pub start_line : ℕ → List ℕ
+start_line turns = codes "START " ++ decimal turns ++ line_end
+
+abbrev pub map_text : Image → Names → List ℕ
+map_text image names = rom_line (length image.rom.items) ++ declared_lines (object_lines image.placement.offsets.items 0 names.objects.items) 0 names.screen_names.items
+    ++ handler_lines 256 0 names.procedures.items ++ (stack_line image.stack ++ start_line image.start_turns)
