@@ -73,7 +73,7 @@ fn parse_all<'a>(alloc: Global, scanned: Vec<Vec<Token<'a>>>) -> Result<Vec<Modu
 }
 
 /// A program and the image that it was built to.
-#[derive(Debug, Drop)]
+#[derive(Drop)]
 pub(crate) struct Built {
     pub program: Program,
     pub image: Image,
