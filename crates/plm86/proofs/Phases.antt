@@ -100,15 +100,13 @@ module _ (texts : List (List ℕ)) (size : RomSize) (names : Names) where
   program_typed p are said = subst (λ n. AreTyped texts n) (sym said.kept) (are_typed p are said)
 
   module _ (are : AreTyped texts names) where
-    pub compile_refused : (r : Result Image Fault) → IfErr r (HasNoRoom names size) → IfErr r (Refuses texts size)
-    compile_refused (Ok image) refused = tt
-    compile_refused (Err Memory) refused = tt
-    compile_refused (Err (At which line number)) (inl deep) = too_deep names are deep.1 deep.0
-    compile_refused (Err (At which line number)) (inr large) = too_large names are large.1 large.0
+    pub compile_refused : (f : Fault) → HasNoRoom names size f → Refuses texts size f
+    compile_refused Memory refused = tt
+    compile_refused (At which line number) (inl deep) = too_deep names are deep.1 deep.0
+    compile_refused (At which line number) (inr large) = too_large names are large.1 large.0
 
-    pub compile_built : (r : Result Image Fault) → IfOk r (IsImage names size) → IfOk r (IsBuilt texts size)
-    compile_built (Err f) is = tt
-    compile_built (Ok image) is = record {
+    pub compile_built : (image : Image) → IsImage names size image → (built : IsBuilt texts size image) × (built.names ≡ names)
+    compile_built image is = (record {
       names = names;
       typed = are;
       means = is.means;
@@ -117,4 +115,4 @@ module _ (texts : List (List ℕ)) (size : RomSize) (names : Names) where
       size_is = is.long;
       start = is.start;
       stack = is.stack;
-    }
+    }, refl)

@@ -12,9 +12,10 @@ several id = record (needed id) { action = Some Append }
 abbrev pub lettered : Text → ℕ → Bool → Rule
 lettered id letter is_required = record (new_rule id) { short = Some letter; required = is_required; value_names = 1 }
 
--- the letters are r and o
+-- the letters are r, o, l and m
 abbrev pub build_app : App
-build_app = with_rule (with_rule (with_rule (new_app (codes "build")) (lettered (codes "kib") 114 true)) (lettered (codes "rom") 111 true)) (several (codes "source"))
+build_app = with_rule (with_rule (with_rule (with_rule (with_rule (new_app (codes "build")) (lettered (codes "kib") 114 true)) (lettered (codes "rom") 111 true))
+    (lettered (codes "listing") 108 false)) (lettered (codes "map") 109 false)) (several (codes "source"))
 
 abbrev pub run_app : App
 run_app = with_rule (with_rule (new_app (codes "run")) (needed (codes "rom"))) (needed (codes "schedule"))

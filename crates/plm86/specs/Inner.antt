@@ -4,4 +4,5 @@ pub mod Duo
 pub mod Images
 pub mod Assembled
 pub mod Parsed
+pub mod Built
 pub mod Stacks

@@ -18,9 +18,11 @@ size_named t = if bytes_eq t (codes "8") then Some Kib8 else (if bytes_eq t (cod
 
 -- the order is that of the subcommand `name` with these values
 abbrev pub OrderOf : Text → List Row → Order → Type 0
-OrderOf name rows (Build size rom sources) = (name ≡ codes "build")
+OrderOf name rows (Build size rom listing map_file sources) = (name ≡ codes "build")
     × (size_named (value_of (codes "kib") rows) ≡ Some size)
     × (rom.now ≡ value_of (codes "rom") rows)
+    × (option_map (λ s. s.now) listing ≡ first_of (codes "listing") rows)
+    × (option_map (λ s. s.now) map_file ≡ first_of (codes "map") rows)
     × (map (λ s. s.now) sources.items ≡ values_of (codes "source") rows)
 OrderOf name rows (Run rom schedule) = (name ≡ codes "run")
     × (rom.now ≡ value_of (codes "rom") rows)

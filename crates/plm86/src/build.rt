@@ -7,6 +7,7 @@ ghost use Rattle.board.specs.Run.{due_of};
 ghost use Rattle.plm86.specs.BuildAndRun.{HasRun, HasNotRun};
 ghost use Rattle.plm86.specs.Build.{text_of, module_number, in_module, Says, scan_faults, tokens_of, IsBuilt, Refuses};
 ghost use Rattle.plm86.specs.Inner.Parsed.{ParsesAll};
+ghost use Rattle.plm86.specs.Inner.Built.{IsBuiltWith};
 
 use crate::compile::compile;
 use board::{Board, End, Schedule};
@@ -14,7 +15,7 @@ use layout_link::{Image, RomSize};
 use plm_decl::resolve;
 use plm_syntax::{Module, parse};
 use plm_token::{Token, scan};
-use plm_type::check;
+use plm_type::{Program, check};
 use std::alloc::Global;
 use word86::{Fault, PowerOn, Sink};
 
@@ -71,6 +72,30 @@ fn parse_all<'a>(alloc: Global, scanned: Vec<Vec<Token<'a>>>) -> Result<Vec<Modu
     Ok(modules)
 }
 
+/// A program and the image that it was built to.
+#[derive(Drop)]
+pub(crate) struct Built {
+    pub program: Program,
+    pub image: Image,
+}
+
+/// The image of sources, as `build` answers it, and with it their program, for the listing and the map.
+pub(crate) fn build_program(
+    alloc: Global,
+    sources: &[Source<'_>],
+    size: RomSize,
+) -> Result<Built, Fault>
+    ensures built { IfOk result (IsBuiltWith (map text_of sources.now) size) }
+    ensures refused { IfErr result (Refuses (map text_of sources.now) size) }
+{
+    let scanned = scan_all(alloc, sources)?;
+    let modules = parse_all(alloc, scanned)?;
+    let names = resolve(alloc, &modules)?;
+    let program = check(alloc, names)?;
+    let image = compile(alloc, &program, size)?;
+    Ok(Built { program, image })
+}
+
 /// The image of sources for a ROM of this size: a ROM that does on the board what the sources mean, interrupts included.
 ///
 /// # Errors
@@ -87,11 +112,10 @@ pub fn build(alloc: Global, sources: &[Source<'_>], size: RomSize) -> Result<Ima
     ensures built { IfOk result (IsBuilt (map text_of sources.now) size) }
     ensures refused { IfErr result (Refuses (map text_of sources.now) size) }
 {
-    let scanned = scan_all(alloc, sources)?;
-    let modules = parse_all(alloc, scanned)?;
-    let names = resolve(alloc, &modules)?;
-    let program = check(alloc, names)?;
-    compile(alloc, &program, size)
+    match build_program(alloc, sources, size) {
+        Ok(Built { image, .. }) => Ok(image),
+        Err(fault) => Err(fault),
+    }
 }
 
 /// Builds sources, and runs the ROM on the board from its reset on under a schedule, with this power-on memory: the trace goes

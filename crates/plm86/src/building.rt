@@ -1,21 +1,49 @@
 //! The command `build`.
 
-use crate::build::{Source, build};
+use crate::build::{Built, Source, build_program};
 use crate::files::{read_file, refusal, write_file};
-use layout_link::RomSize;
 use crate::stop::Stop;
+use layout_link::RomSize;
+use listing_map::{fault_line, listing, map};
 use plm_token::SOURCE_LIMIT;
+use plm_type::{Warning, warnings};
 use std::alloc::Global;
 use std::rt::Files;
+use word86::{Number, Sink, WriterSink};
 
-/// `build -r KIB -o ROM SOURCE...`: all sources are read first, and the ROM's file is opened once the ROM is built.
-pub(crate) fn build_rom<R: Files>(
+/// The files that a build writes, in this order: the ROM's, and those of the listing and the map where they are wanted.
+#[derive(Debug, Clone, Copy)]
+pub(crate) struct Outputs<'a> {
+    pub rom: &'a str,
+    pub listing: Option<&'a str>,
+    pub map: Option<&'a str>,
+}
+
+/// `build -r KIB -o ROM [-l LISTING] [-m MAP] SOURCE...`: all sources are read first. Warnings are shown once nothing more can be
+/// refused, and then the files are written.
+pub(crate) fn build_rom<R: Files, S: Sink>(
     rt: &R,
     alloc: Global,
     size: RomSize,
-    rom_name: &str,
+    outputs: Outputs<'_>,
     names: &[&str],
+    errors: &mut S,
 ) -> Result<u8, Stop> {
+    let texts = read_texts(rt, alloc, names)?;
+    let mut sources = Vec::new(alloc);
+    for (name, text) in names.iter().zip(&texts) {
+        if sources.push(Source { name, text }).is_err() {
+            return Err(Stop::Memory);
+        }
+    }
+    match build_program(alloc, &sources, size) {
+        Ok(built) => write_built(rt, alloc, outputs, &sources, &built, errors),
+        Err(fault) => Err(refusal(alloc, names, fault)?),
+    }
+}
+
+// The texts of the sources.
+fn read_texts<R: Files>(rt: &R, alloc: Global, names: &[&str]) -> Result<Vec<Vec<u8>>, Stop> {
     let mut texts: Vec<Vec<u8>> = Vec::new(alloc);
     for name in names {
         // One byte more than a source may have tells that it is longer.
@@ -24,29 +52,93 @@ pub(crate) fn build_rom<R: Files>(
             return Err(Stop::Memory);
         }
     }
-    write_rom(rt, alloc, size, rom_name, names, &texts)
+    Ok(texts)
 }
 
-// Builds the ROM of texts and writes it.
-fn write_rom<R: Files>(
+// Shows the warnings and writes the files. All texts are made before, so that want of memory leaves no file.
+fn write_built<R: Files, S: Sink>(
     rt: &R,
     alloc: Global,
-    size: RomSize,
-    rom_name: &str,
-    names: &[&str],
-    texts: &[Vec<u8>],
+    outputs: Outputs<'_>,
+    sources: &[Source<'_>],
+    built: &Built,
+    errors: &mut S,
 ) -> Result<u8, Stop> {
-    let mut sources = Vec::new(alloc);
-    for (name, text) in names.iter().zip(texts) {
-        if sources.push(Source { name, text }).is_err() {
+    let Ok(given) = warnings(alloc, &built.program) else {
+        return Err(Stop::Memory);
+    };
+    let listing_text = text_of_listing(alloc, outputs.listing, sources, &given)?;
+    let map_text = text_of_map(alloc, outputs.map, built)?;
+    show_warnings(sources, &given, errors);
+    write_file(rt, alloc, outputs.rom, &built.image.rom)?;
+    write_wanted(rt, alloc, outputs.listing, &listing_text)?;
+    write_wanted(rt, alloc, outputs.map, &map_text)?;
+    Ok(0)
+}
+
+// The listing of each source, one after the other; nothing where no file is wanted.
+fn text_of_listing(
+    alloc: Global,
+    file: Option<&str>,
+    sources: &[Source<'_>],
+    given: &[Warning],
+) -> Result<Vec<u8>, Stop> {
+    let mut text = Vec::new(alloc);
+    if file.is_none() {
+        return Ok(text);
+    }
+    for (ordinal, source) in sources.iter().enumerate() {
+        let own = warnings_of(alloc, ordinal, given)?;
+        if listing(source.text, &own, &mut WriterSink::new(&mut text)).is_err() {
             return Err(Stop::Memory);
         }
     }
-    match build(alloc, &sources, size) {
-        Ok(image) => {
-            write_file(rt, alloc, rom_name, &image.rom)?;
-            Ok(0)
+    Ok(text)
+}
+
+// The warnings of the module of this number.
+fn warnings_of(alloc: Global, ordinal: usize, given: &[Warning]) -> Result<Vec<Warning>, Stop> {
+    let mut own = Vec::new(alloc);
+    for warning in given {
+        if warning.module == ordinal && own.push(*warning).is_err() {
+            return Err(Stop::Memory);
         }
-        Err(fault) => Err(refusal(alloc, names, fault)?),
+    }
+    Ok(own)
+}
+
+// The map; nothing where no file is wanted.
+fn text_of_map(alloc: Global, file: Option<&str>, built: &Built) -> Result<Vec<u8>, Stop> {
+    let mut text = Vec::new(alloc);
+    if file.is_some() {
+        let names = built.program.names();
+        if map(&built.image, names, &mut WriterSink::new(&mut text)).is_err() {
+            return Err(Stop::Memory);
+        }
+    }
+    Ok(text)
+}
+
+// A line for each warning. Where it cannot be written, the files still tell.
+fn show_warnings<S: Sink>(sources: &[Source<'_>], given: &[Warning], errors: &mut S) {
+    for warning in given {
+        let name = match sources.get(warning.module) {
+            Some(source) => source.name,
+            None => "",
+        };
+        let _ = fault_line(name, warning.line, Number::W1, errors);
+    }
+}
+
+// Writes the file, where one is wanted.
+fn write_wanted<R: Files>(
+    rt: &R,
+    alloc: Global,
+    file: Option<&str>,
+    text: &[u8],
+) -> Result<(), Stop> {
+    match file {
+        Some(name) => write_file(rt, alloc, name, text),
+        None => Ok(()),
     }
 }

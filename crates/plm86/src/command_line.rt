@@ -60,11 +60,17 @@ fn build_command<'a>(alloc: Global) -> Result<Command<'a>, AllocError>
     let kib = option(alloc, "kib", "KIB", 'r', true, kib_help);
     let rom_help = "The file that the ROM is written to, once nothing is refused";
     let rom = option(alloc, "rom", "ROM", 'o', true, rom_help);
+    let listing_help = "The file that the listing is written to: the sources with their warnings";
+    let listing = option(alloc, "listing", "LISTING", 'l', false, listing_help);
+    let map_help = "The file that the map is written to: where names, handlers and stack lie";
+    let map = option(alloc, "map", "MAP", 'm', false, map_help);
     let source = sources(alloc);
     Command::new(alloc, "build")
         .about("Compiles PL/M-86 modules to an 8086 ROM")
         .arg(kib)?
         .arg(rom)?
+        .arg(listing)?
+        .arg(map)?
         .arg(source)
 }
 
@@ -146,6 +152,8 @@ fn build_order<'a>(alloc: Global, matches: &ArgMatches<'a>) -> Result<Order<'a>,
         Some(size) => Ok(Order::Build {
             size,
             rom: text_given(matches, "rom"),
+            listing: option_given(matches, "listing"),
+            map: option_given(matches, "map"),
             sources: texts_given(alloc, matches, "source")?,
         }),
         None => {

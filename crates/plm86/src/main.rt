@@ -13,7 +13,7 @@ mod running;
 mod status;
 mod stop;
 
-use building::build_rom;
+use building::{Outputs, build_rom};
 use command_line::order;
 use order::{Order, OrderFault};
 use running::run_rom;
@@ -37,7 +37,11 @@ fn work(rt: &HostRuntime, alloc: Global) -> Result<u8, Stop> {
         }
     }
     match order(alloc, words.as_slice()) {
-        Ok(Order::Build { size, rom, sources }) => build_rom(rt, alloc, size, rom, &sources),
+        Ok(Order::Build { size, rom, listing, map, sources }) => {
+            let outputs = Outputs { rom, listing, map };
+            let errors = &mut WriterSink::new(rt.stderr());
+            build_rom(rt, alloc, size, outputs, &sources, errors)
+        }
         Ok(Order::Run { rom, schedule }) => run_rom(rt, alloc, rom, schedule),
         Err(OrderFault::Words(text)) if asks_for_help(words.as_slice()) => {
             show(rt, alloc, text.as_str())

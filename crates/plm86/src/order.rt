@@ -9,10 +9,13 @@ use std::alloc::{AllocError, AllocFailed};
 /// What the command line asks for.
 #[derive(Debug, Drop)]
 pub enum Order<'a> {
-    /// `build -r KIB -o ROM SOURCE...`: the ROM's size, its file's name, and those of the sources.
+    /// `build -r KIB -o ROM [-l LISTING] [-m MAP] SOURCE...`: the ROM's size, its file's name, those of the listing and the map
+    /// where they are wanted, and those of the sources.
     Build {
         size: RomSize,
         rom: &'a str,
+        listing: Option<&'a str>,
+        map: Option<&'a str>,
         sources: Vec<&'a str>,
     },
     /// `run ROM SCHEDULE`, with the files' names.

@@ -14,4 +14,8 @@ returns c =
     let g0 = c.in_ok-arg.ensures.globals ∙ ap₂ ◌||◌ local c.option-kib.ensures.local in
     let a1 = c.in_ok-arg-2.ensures.shape c.option-rom.ensures.local ∙ ap₂ with_rule a0 c.option-rom.ensures.rule in
     let g1 = c.in_ok-arg-2.ensures.globals ∙ ap₂ ◌||◌ g0 c.option-rom.ensures.local in
-    IfOk-weaker c.arg-3.result _ _ (λ r h. (h.shape c.sources-source.ensures.local ∙ ap₂ with_rule a1 c.sources-source.ensures.rule, h.globals ∙ ap₂ ◌||◌ g1 c.sources-source.ensures.local)) c.arg-3.ensures
+    let a2 = c.in_ok-arg-3.ensures.shape c.option-listing.ensures.local ∙ ap₂ with_rule a1 c.option-listing.ensures.rule in
+    let g2 = c.in_ok-arg-3.ensures.globals ∙ ap₂ ◌||◌ g1 c.option-listing.ensures.local in
+    let a3 = c.in_ok-arg-4.ensures.shape c.option-map.ensures.local ∙ ap₂ with_rule a2 c.option-map.ensures.rule in
+    let g3 = c.in_ok-arg-4.ensures.globals ∙ ap₂ ◌||◌ g2 c.option-map.ensures.local in
+    IfOk-weaker c.arg-5.result _ _ (λ r h. (h.shape c.sources-source.ensures.local ∙ ap₂ with_rule a3 c.sources-source.ensures.rule, h.globals ∙ ap₂ ◌||◌ g3 c.sources-source.ensures.local)) c.arg-5.ensures
