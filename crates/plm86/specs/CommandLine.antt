@@ -1,5 +1,5 @@
 -- The command line as `clap` is told it, and the order that its matches spell.
-use Rattle.std.specs.Prelude.{ℕ, Bool, true, List, [], Some, codes, unwrap_or}
+use Rattle.std.specs.Prelude.{ℕ, Bool, true, false, List, [], Some, codes, unwrap_or}
 use Rattle.clap.specs.Words.{App, Row, Rule, Text, all_of, first_of, new_app, new_rule, with_rule, with_subcommand}
 use Rattle.clap.specs.declared.builder.action.ArgAction.TheVariants.{Append}
 

@@ -1,7 +1,7 @@
 -- The order that the matches of `clap` spell.
-use Rattle.std.specs.Prelude.{◌≡◌, ◌⊎◌, List, [], Option, Some, None, codes, map, if◌then◌else◌, ⊤}
+use Rattle.std.specs.Prelude.{◌≡◌, ◌⊎◌, List, [], Option, Some, None, codes, map, option_map, if◌then◌else◌, ⊤}
 use Rattle.std.specs.Str.{bytes_eq}
-use Rattle.clap.specs.Words.{Row, Text, subcommand_of}
+use Rattle.clap.specs.Words.{Row, Text, first_of, subcommand_of}
 use Rattle.clap.specs.Faults.{fault_of}
 use Rattle.plm86.specs.CommandLine.{plm86_app, value_of, values_of}
 use Rattle.layout_link.specs.declared.image.RomSize.{RomSize}
