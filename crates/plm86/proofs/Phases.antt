@@ -106,13 +106,16 @@ module _ (texts : List (List ℕ)) (size : RomSize) (names : Names) where
     compile_refused (At which line number) (inr large) = too_large names are large.1 large.0
 
     pub compile_built : (image : Image) → IsImage names size image → (built : IsBuilt texts size image) × (built.names ≡ names)
-    compile_built image is = (record {
-      names = names;
-      typed = are;
-      means = is.means;
-      starts = is.starts;
-      placement = is.placement;
-      size_is = is.long;
-      start = is.start;
-      stack = is.stack;
-    }, refl)
+    compile_built image is = (
+      record {
+        names = names;
+        typed = are;
+        means = is.means;
+        starts = is.starts;
+        placement = is.placement;
+        size_is = is.long;
+        start = is.start;
+        stack = is.stack;
+      },
+      refl,
+    )

@@ -8,10 +8,10 @@ ghost use Rattle.plm86.specs.Order.{HasWords, IsRefused, OrderOf, Spells, size_n
 ghost use Rattle.plm86.specs.CommandLine.{plm86_app, build_app, run_app, needed, several, lettered};
 ghost use Rattle.plm86.specs.declared.order.OrderFault.TheVariants.{Memory};
 
-use layout_link::RomSize;
 use crate::order::{Order, OrderFault};
 use clap::error::ErrorKind;
 use clap::{Arg, ArgAction, ArgMatches, Command, Error};
+use layout_link::RomSize;
 use std::alloc::{AllocError, Global};
 
 /// The version that `--version` shows.

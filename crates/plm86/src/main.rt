@@ -37,7 +37,15 @@ fn work(rt: &HostRuntime, alloc: Global) -> Result<u8, Stop> {
         }
     }
     match order(alloc, words.as_slice()) {
-        Ok(Order::Build { size, rom, listing, map, sources }) => {
+        Ok(
+            Order::Build {
+                size,
+                rom,
+                listing,
+                map,
+                sources,
+            },
+        ) => {
             let outputs = Outputs { rom, listing, map };
             let errors = &mut WriterSink::new(rt.stderr());
             build_rom(rt, alloc, size, outputs, &sources, errors)
