@@ -9,7 +9,11 @@ mod board_runs;
 #[cfg(test)]
 mod building;
 #[cfg(test)]
+mod calls;
+#[cfg(test)]
 mod codec;
+#[cfg(test)]
+mod declared_names;
 #[cfg(test)]
 mod flags;
 #[cfg(test)]

@@ -52,7 +52,7 @@ fn run_of(
 }
 
 /// The run of a text whose objects lie at these offsets.
-pub fn run(
+pub(crate) fn run(
     alloc: Global,
     text: &[u8],
     offsets: &[u16],
