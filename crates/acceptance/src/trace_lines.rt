@@ -68,3 +68,18 @@ fn stops_where_the_sink_does(rt: HostRuntime) -> Result<(), Fail> {
     }
     Ok(())
 }
+
+#[test]
+fn faults_stop_where_the_sink_does(rt: HostRuntime) -> Result<(), Fail> {
+    let text = b"m.plm(1234): E201 syntax\n";
+    for room in 0..text.len() {
+        let mut sink = CutSink::new(rt.alloc(), room, 1)?;
+        assert_eq!(rt;
+            fault_line("m.plm", 1234, Number::E201, &mut sink),
+            Err(Fault::At(0, 1, Number::E704))
+        );
+        assert_eq!(rt; sink.bytes(), &text[..room]);
+        assert_eq!(rt; sink.failures(), 1);
+    }
+    Ok(())
+}
