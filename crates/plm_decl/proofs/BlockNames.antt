@@ -80,7 +80,7 @@ enters_one f outer n i = record {
       ∙ ap (λ (b : Bool). finds name f.names || b) (sym (or_none (bytes_eq name (normal n.text))));
 }
 
-enters_then : (f : Frame) (outer : List Frame) (ms ns : List NameT) (step : List Frame → List Frame) (before : List Frame)
+pub enters_then : (f : Frame) (outer : List Frame) (ms ns : List NameT) (step : List Frame → List Frame) (before : List Frame)
     → Enters f outer ms before → ((g : Frame) → Enters g outer ns (step (g ∷ outer))) → Enters f outer (ms ++ ns) (step before)
 enters_then f outer ms ns step before a b =
     let g = a.innermost in
@@ -92,7 +92,7 @@ enters_then f outer ms ns step before a b =
           ∙ ap (λ (x : Bool). finds name f.names || x) (sym (has_both name ms ns));
     }
 
-one_variable : (f : Frame) (outer : List Frame) (v : VariableT) (t : Traits) (s : Site) (k : Known) → Enters f outer (name_of_variable v ∷ []) (declared_variable v t s (f ∷ outer) k).0
+pub one_variable : (f : Frame) (outer : List Frame) (v : VariableT) (t : Traits) (s : Site) (k : Known) → Enters f outer (name_of_variable v ∷ []) (declared_variable v t s (f ∷ outer) k).0
 one_variable f outer (VariableOf n base) t s k = enters_one f outer n _
 
 variables : (f : Frame) (outer : List Frame) (vs : List VariableT) (t : Traits) (s : Site) (k : Known) → Enters f outer (names_of_variables vs) (declared_variables vs t s (f ∷ outer) k).1
@@ -107,7 +107,7 @@ listed : (f : Frame) (outer : List Frame) (vs : List VariableT) (d : DimensionT)
 listed f outer [] d t a k = enters_none f outer
 listed f outer (v ∷ vs) d t a k = variables f outer (v ∷ vs) _ _ _
 
-one_element : (f : Frame) (outer : List Frame) (e : ElementT) (k : Known) → Enters f outer (names_of_element e) (element e (f ∷ outer) k).0
+pub one_element : (f : Frame) (outer : List Frame) (e : ElementT) (k : Known) → Enters f outer (names_of_element e) (element e (f ∷ outer) k).0
 one_element f outer (LiteralElement n s) k = enters_none f outer
 one_element f outer (VariableElement d n t a) k = listed f outer (declared_list d) n t a k
 

@@ -14,6 +14,7 @@ pub mod BlockNames
 pub mod Objects
 pub mod Places
 pub mod Once
+pub mod DeclaredAgain
 pub mod Lying
 pub mod RangesNames
 pub mod RangesExpressions

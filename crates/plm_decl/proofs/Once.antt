@@ -15,7 +15,7 @@ use Rattle.plm_decl.specs.Resolver.{Known, note_unless}
 use Rattle.plm_decl.specs.Shape.{member_names, member_count, member_scalar, number_of_elements, with_member_name, with_member_names, with_members, structure_for}
 use Rattle.plm_decl.specs.Statements.{with_parameter, parameter_is, parameter_for, parameters_from}
 use Rattle.plm_decl.specs.BlockNames.{has_name}
-use Rattle.plm_decl.specs.Laws.{names_of_members}
+use Rattle.plm_decl.specs.DeclaredAgain.{names_of_members}
 use Rattle.plm_decl.proofs.BlockNames.{finds, entered, has_both, or_none, or_together}
 
 -- ---- parameters
@@ -59,12 +59,12 @@ bytes_eq-sym a b =
     (λ h. (bytes_eq-Decides b a).1 (sym ((bytes_eq-Decides a b).0 h)))
     (λ h. (bytes_eq-Decides a b).1 (sym ((bytes_eq-Decides b a).0 h)))
 
-has_pushed : (name : List ℕ) (fs : List FieldR) (f : FieldR) → has_field name (fs ++ f ∷ []) ≡ (has_field name fs || bytes_eq name f.name)
+pub has_pushed : (name : List ℕ) (fs : List FieldR) (f : FieldR) → has_field name (fs ++ f ∷ []) ≡ (has_field name fs || bytes_eq name f.name)
 has_pushed name [] f = or_none (bytes_eq f.name name) ∙ bytes_eq-sym f.name name
 has_pushed name (g ∷ fs) f =
     ap (λ (b : Bool). bytes_eq g.name name || b) (has_pushed name fs f) ∙ sym (or_together (bytes_eq g.name name) (has_field name fs) (bytes_eq name f.name))
 
-has_names : (name : List ℕ) (ns : List NameT) (scalar : ScalarType) (d : Option ℕ) (s : StructureR) (k : Known)
+pub has_names : (name : List ℕ) (ns : List NameT) (scalar : ScalarType) (d : Option ℕ) (s : StructureR) (k : Known)
     → has_field name (with_member_names ns scalar d s k).0.fields ≡ (has_field name s.fields || has_name name ns)
 has_names name [] scalar d s k = sym (or_none (has_field name s.fields))
 has_names name (n ∷ ns) scalar d s k =

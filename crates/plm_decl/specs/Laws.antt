@@ -5,7 +5,7 @@ use Rattle.word86.specs.declared.number.Number.TheVariants.{E302}
 use Rattle.plm_token.specs.Names.{normal}
 use Rattle.plm_syntax.specs.declared.tree.Position.{Position}
 use Rattle.plm_syntax.specs.Terminal.{NameT}
-use Rattle.plm_syntax.specs.Tree.{ItemsT, ElementT, VariableT, VariableOf, MemberT, ValueT}
+use Rattle.plm_syntax.specs.Tree.{ItemsT, ElementT, VariableT, VariableOf, MemberT, ValueT, ModuleT}
 use Rattle.plm_decl.specs.declared.layout.ScalarType.{ScalarType}
 use Rattle.plm_decl.specs.declared.names.Datum.{Datum}
 use Rattle.plm_decl.specs.declared.names.Datum.TheVariants as datum
@@ -19,10 +19,12 @@ use Rattle.plm_decl.specs.Names.{ObjectR}
 use Rattle.plm_decl.specs.Scope.{Frame, frame, meant, found_here, is_external}
 use Rattle.plm_decl.specs.Resolver.{Known, note_unless}
 use Rattle.plm_decl.specs.Layout.{no_fields}
-use Rattle.plm_decl.specs.Shape.{member_names, with_member_name, with_member_names, structure_for}
+use Rattle.plm_decl.specs.Shape.{with_member_name, with_member_names, structure_for}
 use Rattle.plm_decl.specs.Expressions.{constant_bytes}
 use Rattle.plm_decl.specs.Elements.{declared, declared_variables}
 use Rattle.plm_decl.specs.Statements.{with_elements, with_items, parameter_is, parameters_from}
+use Rattle.plm_decl.specs.Modules.{faults_of, whole_faults_of}
+use Rattle.plm_decl.specs.DeclaredAgain.{names_of_members, second_declarations, declared_again}
 use Rattle.plm_decl.specs.BlockNames.{names_of_items, names_of_elements, names_of_variables, has_name}
 
 -- after some items of a block, some elements of a DECLARE and some names of an element, the next name that is declared is a
@@ -40,10 +42,6 @@ ListsOnce =
     → let r = parameters_from frames [] vs ns k in
     parameters_from frames [] vs (ns ++ n ∷ []) k ≡ parameter_is (found_here (normal n.text) frames) n.place r.0 (note_unless (not (has_name (normal n.text) ns)) E302 n.place r.1)
 
-abbrev pub names_of_members : List MemberT → List NameT
-names_of_members [] = []
-names_of_members (m ∷ ms) = member_names m ++ names_of_members ms
-
 -- after some members of a structure and some names of one, the next name is a fault exactly where one of those before it has
 -- its normal form
 abbrev pub MembersOnce : Type 0
@@ -51,6 +49,11 @@ MembersOnce =
     (place : Position) (ms : List MemberT) (ns : List NameT) (scalar : ScalarType) (d : Option ℕ) (k q known : Known) (n : NameT)
     → (with_member_name n scalar d (with_member_names ns scalar d (structure_for place ms no_fields k).0 q).0 known).1
     ≡ note_unless (not (has_name (normal n.text) (names_of_members ms ++ ns))) E302 n.place known
+
+-- a program has this fault at no other places: its E302 are those of the names that are declared again, in the order of reading,
+-- and the faults of the whole program have none
+abbrev pub NothingElseTwice : Type 0
+NothingElseTwice = (ms : List ModuleT) → (second_declarations (faults_of ms) ≡ declared_again ms) × (second_declarations (whole_faults_of ms) ≡ [])
 
 -- after some items of a block a name that one of them declares stands for what this block declares
 abbrev pub StandsInside : Type 0

@@ -22,6 +22,7 @@ pub mod Placement
 pub mod Initial
 pub mod Ranges
 pub mod BlockNames
+pub mod DeclaredAgain
 pub mod Laws
 pub mod Regions
 pub mod Inner

@@ -1,14 +1,16 @@
 //! Laws that tie what is read step by step to the tree of a block. They compute nothing.
 
-ghost use Rattle.plm_decl.specs.Laws.{ConstantsFill, DeclaredIsFound, DeclaresOnce, HaveOwnObjects, InnermostMeans, ListsOnce, MembersOnce, StandsInside, StandsOutside};
+ghost use Rattle.plm_decl.specs.Laws.{ConstantsFill, DeclaredIsFound, DeclaresOnce, HaveOwnObjects, InnermostMeans, ListsOnce, MembersOnce, NothingElseTwice, StandsInside, StandsOutside};
 
 /// The law of second declarations: after some items of a block, some elements of a DECLARE and some names of an element, the
 /// next name that is declared there is a fault (E302) exactly where one of those before it has its normal form. The same
-/// holds of a procedure's parameters and of a structure's members: these are the three places of this fault.
+/// holds of a procedure's parameters and of a structure's members. A program has this fault at no other places: its E302 are
+/// those of the names that have the normal form of an earlier one of their block, list of parameters or structure.
 pub fn declared_once()
     ensures declared { DeclaresOnce }
     ensures listed { ListsOnce }
     ensures members { MembersOnce }
+    ensures nothing_else { NothingElseTwice }
 {}
 
 /// The law of scopes: after some items of a block a name stands for what the block declares, if one of them declares it, and

@@ -6,6 +6,7 @@ use Rattle.plm_decl.specs.Resolver.{note_unless}
 use Rattle.plm_decl.specs.BlockNames.{names_of_items, names_of_elements, names_of_variables}
 use Rattle.plm_decl.proofs.BlockNames.{declaration_enters, fresh_where_undeclared}
 use Rattle.plm_decl.proofs.Once.{lists_once, members_once}
+use Rattle.plm_decl.proofs.DeclaredAgain.{nothing_else_twice}
 use Rattle.plm_decl.proofs.laws.declared_once.Goals as goal
 
 pub returns-clause-declared : goal.returns-clause-declared
@@ -19,3 +20,6 @@ returns-clause-listed c = lists_once
 
 pub returns-clause-members : goal.returns-clause-members
 returns-clause-members c = members_once
+
+pub returns-clause-nothing_else : goal.returns-clause-nothing_else
+returns-clause-nothing_else c = nothing_else_twice
