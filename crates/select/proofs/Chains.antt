@@ -1,6 +1,6 @@
 -- The steps of rows, one after another in the code.
-use Rattle.std.proofs.Common.{◌≡◌, ℕ, zero, suc, ◌+◌, ◌%◌, ◌<◌, List, [], ◌∷◌, ◌++◌, length, Option, Some, refl, sym, ap, ◌∙◌, subst, arith}
-use Rattle.std.specs.Prelude.{slice_index, map}
+use Rattle.std.proofs.Common.{◌≡◌, ℕ, suc, ◌+◌, ◌%◌, ◌<◌, List, [], ◌∷◌, ◌++◌, length, Option, refl, ap, subst, arith}
+use Rattle.std.specs.Prelude.{slice_index}
 use Rattle.word86.specs.declared.place.Place.{Place}
 use Rattle.word86.specs.declared.place.Place.TheVariants as place
 use Rattle.word86.specs.Places.{screen_begins}
@@ -14,7 +14,7 @@ use Rattle.select.specs.declared.part.Step.{Step}
 use Rattle.select.specs.declared.part.Step.TheVariants.{Plain}
 use Rattle.select.specs.Parts.{target_of}
 use Rattle.select.specs.Linked.{StandsAt, Stands, AllStand}
-use Rattle.select.specs.Rows.{on_place, segment_of, plain}
+use Rattle.select.specs.Rows.{on_place, segment_of}
 
 module _ (code : ℕ → Option (Instr × ℕ)) (words : ℕ → Option ℕ) (offsets places : List ℕ) (at : ℕ → ℕ) where
   -- these steps stand from one place to another

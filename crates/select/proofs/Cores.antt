@@ -1,10 +1,10 @@
 -- The operators on AX and CX.
-use Rattle.std.proofs.Common.{◌≡◌, ℕ, zero, suc, ◌+◌, ◌-◌, ◌*◌, ◌/◌, ◌%◌, ◌^◌, ◌<◌, ◌≤◌, ◌⊎◌, inl, inr, Bool, true, false, List, [], ◌∷◌, Option, Some, None, refl, sym, ap, ◌∙◌, subst, arith}
+use Rattle.std.proofs.Common.{◌≡◌, ℕ, zero, suc, ◌+◌, ◌-◌, ◌*◌, ◌/◌, ◌%◌, ◌^◌, ◌<◌, ◌≤◌, ◌⊎◌, inl, inr, Bool, true, false, List, [], ◌∷◌, length, Option, Some, None, refl, sym, ap, ◌∙◌, subst, arith}
 use Rattle.std.specs.Prelude.{not, ◌==◌, if◌then◌else◌, nat_eq, nat_lt, nat_le}
 use Rattle.std.specs.Int.RustNames.{bit_and, bit_or, bit_xor}
-use Rattle.std.proofs.lemmas.Bool.{cases_lt, lt-ltb, le-ltb, lt-leb, le-leb, eq-eqb, ne_eqb}
-use Rattle.std.proofs.Math.Nat.{div-le_self, mod-le, mul_assoc, pow-succ', div-one, div-div-eq-div-mul}
-use Rattle.std.proofs.lemmas.Nat.{and_le_l, or_of_16, xor_of_16, mul-mod_first}
+use Rattle.std.proofs.lemmas.Bool.{cases_lt, lt-ltb, le-ltb, lt-leb, eq-eqb, ne_eqb, eqb-true}
+use Rattle.std.proofs.Math.Nat.{div-le_self, mod-le}
+use Rattle.std.proofs.lemmas.Nat.{and_le_l, and_mask, or_of_16, xor_of_16}
 use Rattle.word86.specs.declared.width.Width.{Width}
 use Rattle.word86.specs.declared.width.Width.TheVariants as widths
 use Rattle.word86.specs.declared.operation.BinaryOperation.{BinaryOperation}
@@ -16,27 +16,29 @@ use Rattle.word86.specs.Operators.{truth, quotient, remainder, unary_value, bina
 use Rattle.word86.specs.Action.{Silent}
 use Rattle.word86.specs.Following.{Does}
 use Rattle.i86_table.specs.declared.registers.Register16.TheVariants.{Ax, Cx, Dx}
-use Rattle.i86_table.specs.declared.registers.Register8.TheVariants.{Al, Ah}
+use Rattle.i86_table.specs.declared.registers.Register8.TheVariants.{Al, Ah, Cl}
 use Rattle.i86_table.specs.declared.instruction.AluOperation.TheVariants.{Add, Sub, Sbb, And, Or, Xor, Cmp}
 use Rattle.i86_table.specs.declared.instruction.UnaryOperation.TheVariants as changes
 use Rattle.i86_table.specs.declared.instruction.ShiftOperation.{ShiftOperation}
 use Rattle.i86_table.specs.declared.instruction.ShiftOperation.TheVariants as shifts
 use Rattle.i86_table.specs.declared.instruction.Signedness.TheVariants.{Unsigned}
+use Rattle.i86_table.specs.declared.instruction.Count.{Count}
+use Rattle.i86_table.specs.declared.instruction.Count.TheVariants as counts
 use Rattle.i86_table.specs.declared.instruction.RmOperand.TheVariants as rm
 use Rattle.i86_table.specs.declared.instruction.Operands.TheVariants.{FromRegister, Immediate}
 use Rattle.i86_table.specs.declared.instruction.Instr.{Instr}
 use Rattle.i86_table.specs.declared.instruction.Instr.TheVariants as i
 use Rattle.i86_table.specs.declared.flags.Flags.{Flags}
 use Rattle.i86_table.specs.declared.outcome.Division.{Division}
-use Rattle.i86_table.specs.Arithmetic.{operated, added, subtracted, combined, changed, shifted, moved, multiplied, divided, is_carry, number_of}
-use Rattle.i86_table.specs.Contexts.{Own, Working, Given, offered, divides, word_quotient, word_product, alu_word, set_byte, set_word, set_flags, word_result, byte_result}
-use Rattle.select.specs.Rows.{core, narrow, then_narrow, from_carry, from_no_carry, clear_high, load_number, copy, alu, shift_word, shift_byte, direct, narrow_sum}
+use Rattle.i86_table.specs.Arithmetic.{operated, added, subtracted, combined, changed, shifted, multiplied, divided, is_carry, number_of}
+use Rattle.i86_table.specs.Contexts.{Own, Working, Given, offered, divides, word_quotient, word_product, alu_word, alu_byte, count_in, set_byte, set_word, set_flags, word_result, byte_result}
+use Rattle.select.specs.Rows.{core, narrow, then_narrow, from_carry, from_no_carry, clear_high, load_number, accumulator_gets, copy, alu, alu_number, shift_word, shift_byte, left_by, right_by, direct, narrow_sum, sum_number, sum_with, load_count, counted, exponent, by_number, powered, by_constant}
 use Rattle.select.specs.Rows as rows
 use Rattle.select.proofs.Straight.{with_each, Straight, also}
 use Rattle.icode.specs.declared.registers.Registers.{Registers}
-use Rattle.icode.specs.Registers.{none, just_accumulator, is_direct, joined, of_operator}
+use Rattle.icode.specs.Registers.{none, just_accumulator, is_direct, of_direct, joined, of_operator}
 use Rattle.select.proofs.Rests.{Laws}
-use Rattle.select.proofs.Keeping.{Same, OnlyChanges, changes_then, same_refl}
+use Rattle.select.proofs.Keeping.{Same, OnlyChanges, changes_then, changes_wider, same_refl}
 use Rattle.select.proofs.Flags
 use Rattle.select.proofs.Flags.{flipped_le}
 
@@ -90,6 +92,23 @@ operator_changes binary.ShiftRight = (refl, refl)
 operator_changes binary.RotateLeft = (refl, refl)
 operator_changes binary.RotateRight = (refl, refl)
 
+same_as : (b : Bool) (u v : ℕ) → v ≡ u → Same b u v
+same_as true u v q = tt
+same_as false u v q = q
+
+-- operands were put in their registers
+pub operands_put : (o : BinaryOperation) (g h : Working) → h.dx ≡ g.dx → h.bx ≡ g.bx → h.bp ≡ g.bp → h.si ≡ g.si → h.di ≡ g.di → OnlyChanges (of_operator o) g h
+operands_put o g h d b f s t =
+    let c = operator_changes o in (
+      subst (λ (z : Bool). Same z g.ax h.ax) (sym c.0) tt,
+      subst (λ (z : Bool). Same z g.cx h.cx) (sym c.1) tt,
+      same_as (of_operator o).high g.dx h.dx d,
+      same_as (of_operator o).address g.bx h.bx b,
+      same_as (of_operator o).frame g.bp h.bp f,
+      s,
+      t,
+    )
+
 -- ---- numbers
 
 pub low_low : (width : Width) (m : ℕ) → low width (m % 65536) ≡ low width m
@@ -118,6 +137,33 @@ quotients x y a =
     ap (λ z. divided Unsigned widths.Word z (suc y)) e ∙ ap (λ (b : Bool). if b then None else if nat_le 65536 (x / suc y) then None else Some (record { quotient = x / suc y; remainder = x % suc y })) none
     ∙ ap (λ (b : Bool). if b then None else Some (record { quotient = x / suc y; remainder = x % suc y })) fits
 
+-- ---- powers of two
+
+-- a power of two, whose exponent is a byte
+abbrev IsPower : (k n : ℕ) → Type 0
+IsPower k n = (m : ℕ) × (k ≡ suc m) × (2 ^ n ≡ k) × (n < 256)
+
+abbrev or_zero : Option ℕ → ℕ
+or_zero (Some n) = n
+or_zero None = 0
+
+exponent_is : (k n : ℕ) → exponent k ≡ Some n → IsPower k n
+exponent_is k n e = by (nat_eq k 2) (nat_eq k 4) (nat_eq k 8) (nat_eq k 16) refl refl refl refl e
+  where
+    power : (m c : ℕ) → nat_eq k (suc m) ≡ true → Some c ≡ Some n → 2 ^ c ≡ suc m → c < 256 → IsPower k n
+    power m c is some p l =
+        let n_is : c ≡ n = ap or_zero some in
+        let k_is : k ≡ suc m = eqb-true k (suc m) is in
+        (m, k_is, ap (λ z. 2 ^ z) (sym n_is) ∙ p ∙ sym k_is, omega (arith, n_is, l))
+
+    by : (b2 b4 b8 b16 : Bool) → nat_eq k 2 ≡ b2 → nat_eq k 4 ≡ b4 → nat_eq k 8 ≡ b8 → nat_eq k 16 ≡ b16
+        → (if b2 then Some 1 else if b4 then Some 2 else if b8 then Some 3 else if b16 then Some 4 else None) ≡ Some n → IsPower k n
+    by true b4 b8 b16 e2 e4 e8 e16 e = power 1 1 e2 e refl (omega arith)
+    by false true b8 b16 e2 e4 e8 e16 e = power 3 2 e4 e refl (omega arith)
+    by false false true b16 e2 e4 e8 e16 e = power 7 3 e8 e refl (omega arith)
+    by false false false true e2 e4 e8 e16 e = power 15 4 e16 e refl (omega arith)
+    by false false false false e2 e4 e8 e16 e = absurd (cc)
+
 -- the pace
 pub short : (o : BinaryOperation) (width : Width) → with_each (core o width) 8 ≤ 14
 short binary.Multiply widths.Byte = omega arith
@@ -145,6 +191,87 @@ short binary.RotateLeft widths.Byte = omega arith
 short binary.RotateLeft widths.Word = omega arith
 short binary.RotateRight widths.Byte = omega arith
 short binary.RotateRight widths.Word = omega arith
+
+counted_pace : (n : ℕ) (shift : Count → List Instr) → with_each (shift counts.One) 8 ≤ 19 → with_each (shift counts.Cl) 8 ≤ 19 → with_each (counted n shift) 8 ≤ 20
+counted_pace n shift one many = by (nat_eq n 1)
+  where
+    by : (b : Bool) → with_each (if b then shift counts.One else load_count n ∷ shift counts.Cl) 8 ≤ 20
+    by true = omega (arith, one)
+    by false = omega (arith, many)
+
+left_pace : (width : Width) (n : ℕ) → with_each (counted n (left_by width)) 8 ≤ 20
+left_pace widths.Byte n = counted_pace n (left_by widths.Byte) (omega arith) (omega arith)
+left_pace widths.Word n = counted_pace n (left_by widths.Word) (omega arith) (omega arith)
+
+right_pace : (width : Width) (n : ℕ) → with_each (counted n (right_by width)) 8 ≤ 20
+right_pace widths.Byte n = counted_pace n (right_by widths.Byte) (omega arith) (omega arith)
+right_pace widths.Word n = counted_pace n (right_by widths.Word) (omega arith) (omega arith)
+
+number_pace : (o : BinaryOperation) (width : Width) (k : ℕ) → with_each (by_number o width k) 8 ≤ 20
+number_pace o width k = omega (arith, short o width)
+
+product_pace : (width : Width) (k : ℕ) (e : Option ℕ) → with_each (powered binary.Multiply width k e) 8 ≤ 20
+product_pace width k None = number_pace binary.Multiply width k
+product_pace width k (Some n) = left_pace width n
+
+quotient_pace : (width : Width) (k : ℕ) (e : Option ℕ) → with_each (powered binary.Divide width k e) 8 ≤ 20
+quotient_pace width k None = number_pace binary.Divide width k
+quotient_pace width k (Some n) = right_pace widths.Word n
+
+remainder_pace : (width : Width) (k : ℕ) (e : Option ℕ) → with_each (powered binary.Modulo width k e) 8 ≤ 20
+remainder_pace width k None = number_pace binary.Modulo width k
+remainder_pace width k (Some n) = omega arith
+
+counted_some : (n : ℕ) (shift : Count → List Instr) → 0 < length (shift counts.One) → 0 < length (counted n shift)
+counted_some n shift one = by (nat_eq n 1)
+  where
+    by : (b : Bool) → 0 < length (if b then shift counts.One else load_count n ∷ shift counts.Cl)
+    by true = one
+    by false = omega arith
+
+left_some : (width : Width) (n : ℕ) → 0 < length (counted n (left_by width))
+left_some width n = counted_some n (left_by width) (omega arith)
+
+right_some : (width : Width) (n : ℕ) → 0 < length (counted n (right_by width))
+right_some widths.Byte n = counted_some n (right_by widths.Byte) (omega arith)
+right_some widths.Word n = counted_some n (right_by widths.Word) (omega arith)
+
+powered_some : (o : BinaryOperation) (width : Width) (k : ℕ) (e : Option ℕ) → 0 < length (powered o width k e)
+powered_some o width k None = omega arith
+powered_some binary.Multiply width k (Some n) = left_some width n
+powered_some binary.Divide width k (Some n) = right_some widths.Word n
+powered_some _ width k (Some n) = omega arith
+
+-- there is an instruction for each operator
+pub some_constant : (o : BinaryOperation) (width : Width) (k : ℕ) → 0 < length (by_constant o width k)
+some_constant binary.Multiply width k = powered_some binary.Multiply width k (exponent k)
+some_constant binary.Divide width k = powered_some binary.Divide width k (exponent k)
+some_constant binary.Modulo width k = powered_some binary.Modulo width k (exponent k)
+some_constant binary.ShiftLeft width k = left_some width (k % 256)
+some_constant binary.ShiftRight width k = right_some width (k % 256)
+some_constant _ width k = omega arith
+
+pub constant_pace : (o : BinaryOperation) (width : Width) (k : ℕ) → with_each (by_constant o width k) 8 ≤ 20
+constant_pace binary.Add widths.Byte k = omega arith
+constant_pace binary.Add widths.Word k = omega arith
+constant_pace binary.Subtract widths.Byte k = omega arith
+constant_pace binary.Subtract widths.Word k = omega arith
+constant_pace binary.And width k = omega arith
+constant_pace binary.Or width k = omega arith
+constant_pace binary.ExclusiveOr width k = omega arith
+constant_pace binary.Multiply width k = product_pace width k (exponent k)
+constant_pace binary.Divide width k = quotient_pace width k (exponent k)
+constant_pace binary.Modulo width k = remainder_pace width k (exponent k)
+constant_pace binary.ShiftLeft width k = left_pace width (k % 256)
+constant_pace binary.ShiftRight width k = right_pace width (k % 256)
+constant_pace binary.RotateLeft width k = number_pace binary.RotateLeft width k
+constant_pace binary.RotateRight width k = number_pace binary.RotateRight width k
+constant_pace binary.Equal width k = number_pace binary.Equal width k
+constant_pace binary.NotEqual width k = number_pace binary.NotEqual width k
+constant_pace binary.Less width k = number_pace binary.Less width k
+constant_pace binary.LessEqual width k = number_pace binary.LessEqual width k
+constant_pace binary.Greater width k = number_pace binary.Greater width k
+constant_pace binary.GreaterEqual width k = number_pace binary.GreaterEqual width k
 
 module _ (laws : Laws) (find : ℕ → ℕ → Option (ℕ × ℕ)) (words : ℕ → Option ℕ) (main handler : ℕ) (given : Option Given) where
   abbrev S : List Instr → Working → List ℕ → Working → List ℕ → Type 0
@@ -327,6 +454,31 @@ module _ (laws : Laws) (find : ℕ → ℕ → Option (ℕ × ℕ)) (words : ℕ
       first just_accumulator (shift_byte o) (clear_high ∷ []) g h st (turn widths.Byte g.ax n) (λ q. refl) (tt, refl, refl, refl, refl, refl, refl)
       (only just_accumulator clear_high h (set_byte h Ah 0) st (turn widths.Byte g.ax n) (λ q. refl) (tt, refl, refl, refl, refl, refl, refl) (omega (arith, whole, small)) (omega (arith, small)))
 
+  -- shifts, whatever their count
+
+  left_gives : (width : Width) (c : Count) (g : Working) (st : List ℕ) → g.ax < 65536 → Computes just_accumulator (left_by width c) g st (low width (g.ax * 2 ^ count_in g c))
+  left_gives width c g st a =
+      let n = count_in g c in
+      wrapped just_accumulator refl width (shift_word shifts.Shl c) g (word_result Ax g (shifted shifts.Shl widths.Word g.ax n g.flags)) st (g.ax * 2 ^ n) (low width (g.ax * 2 ^ n)) (λ q. refl) (tt, refl, refl, refl, refl, refl, refl) (laws.shift.shl widths.Word g.ax n g.flags a) refl
+
+  count_stays : (c : Count) (g : Working) → count_in (set_byte g Ah 0) c ≡ count_in g c
+  count_stays counts.One g = refl
+  count_stays counts.Cl g = refl
+
+  shifts_right : (c : Count) (g : Working) (st : List ℕ) (x n : ℕ) → g.ax ≡ x → count_in g c ≡ n → x < 65536 → Computes just_accumulator (shift_word shifts.Shr c ∷ []) g st (x / 2 ^ n)
+  shifts_right c g st x n is count l =
+      let m = count_in g c in
+      only just_accumulator (shift_word shifts.Shr c) g (word_result Ax g (shifted shifts.Shr widths.Word g.ax m g.flags)) st (x / 2 ^ n) (λ q. refl) (tt, refl, refl, refl, refl, refl, refl)
+      (laws.shift.shr widths.Word g.ax m g.flags ∙ ap (λ z. z / 2 ^ m) is ∙ ap (λ z. x / 2 ^ z) count) (omega (arith, l, div-le_self x (2 ^ n)))
+
+  right_gives : (width : Width) (c : Count) (g : Working) (st : List ℕ) → g.ax < 65536 → Computes just_accumulator (right_by width c) g st (low width g.ax / 2 ^ count_in g c)
+  right_gives widths.Byte c g st a =
+      let n = count_in g c in
+      let h = set_byte g Ah 0 in
+      let e : 0 * 256 + g.ax % 256 ≡ g.ax % 256 = omega arith in
+      first just_accumulator clear_high (shift_word shifts.Shr c ∷ []) g h st (g.ax % 256 / 2 ^ n) (λ q. refl) (tt, refl, refl, refl, refl, refl, refl) (shifts_right c h st (g.ax % 256) n e (count_stays c g) (omega arith))
+  right_gives widths.Word c g st a = let e : g.ax ≡ g.ax % 65536 = omega (arith, a) in shifts_right c g st (g.ax % 65536) (count_in g c) e refl (omega arith)
+
   pub core_gives : (o : BinaryOperation) (width : Width) (g : Working) (st : List ℕ) → g.ax < 65536 → g.cx < 65536 → Gives (core_changes o) (core o width) g st (binary_value o width g.ax g.cx)
   unfolding subtracts tests_equal compared
   core_gives binary.Multiply width g st a c =
@@ -358,27 +510,16 @@ module _ (laws : Laws) (find : ℕ → ℕ → Option (ℕ × ℕ)) (words : ℕ
   core_gives binary.And width g st a c = only just_accumulator (alu And Ax Cx) g (alu_word And Ax g.cx g) st (bit_and g.ax g.cx) (λ q. refl) (tt, refl, refl, refl, refl, refl, refl) (and_is g.ax g.cx g.flags) (omega (arith, a, and_le_l g.ax g.cx))
   core_gives binary.Or width g st a c = only just_accumulator (alu Or Ax Cx) g (alu_word Or Ax g.cx g) st (bit_or g.ax g.cx) (λ q. refl) (tt, refl, refl, refl, refl, refl, refl) (or_is g.ax g.cx g.flags) (or_of_16 g.ax g.cx a c)
   core_gives binary.ExclusiveOr width g st a c = only just_accumulator (alu Xor Ax Cx) g (alu_word Xor Ax g.cx g) st (bit_xor g.ax g.cx) (λ q. refl) (tt, refl, refl, refl, refl, refl, refl) (xor_is g.ax g.cx g.flags) (xor_of_16 g.ax g.cx a c)
-  core_gives binary.ShiftLeft width g st a c =
-      let n = g.cx % 256 in
-      wrapped just_accumulator refl width (shift_word shifts.Shl) g (word_result Ax g (shifted shifts.Shl widths.Word g.ax n g.flags)) st (g.ax * 2 ^ n) (low width (g.ax * 2 ^ n)) (λ q. refl) (tt, refl, refl, refl, refl, refl, refl) (laws.shift.shl widths.Word g.ax n g.flags a) refl
-  core_gives binary.ShiftRight widths.Byte g st a c =
-      let n = g.cx % 256 in
-      let g1 = set_byte g Ah 0 in
-      let e : 0 * 256 + g.ax % 256 ≡ g.ax % 256 = omega arith in
-      first just_accumulator clear_high (shift_word shifts.Shr ∷ []) g g1 st (g.ax % 256 / 2 ^ n) (λ q. refl) (tt, refl, refl, refl, refl, refl, refl)
-      (only just_accumulator (shift_word shifts.Shr) g1 (word_result Ax g1 (shifted shifts.Shr widths.Word g1.ax n g1.flags)) st (g.ax % 256 / 2 ^ n) (λ q. refl) (tt, refl, refl, refl, refl, refl, refl) (laws.shift.shr widths.Word g1.ax n g1.flags ∙ ap (λ z. z / 2 ^ n) e) (omega (arith, div-le_self (g.ax % 256) (2 ^ n))))
-  core_gives binary.ShiftRight widths.Word g st a c =
-      let n = g.cx % 256 in
-      let e : g.ax ≡ g.ax % 65536 = omega (arith, a) in
-      only just_accumulator (shift_word shifts.Shr) g (word_result Ax g (shifted shifts.Shr widths.Word g.ax n g.flags)) st (g.ax % 65536 / 2 ^ n) (λ q. refl) (tt, refl, refl, refl, refl, refl, refl) (laws.shift.shr widths.Word g.ax n g.flags ∙ ap (λ z. z / 2 ^ n) e) (omega (arith, div-le_self (g.ax % 65536) (2 ^ n)))
+  core_gives binary.ShiftLeft width g st a c = left_gives width counts.Cl g st a
+  core_gives binary.ShiftRight width g st a c = right_gives width counts.Cl g st a
   core_gives binary.RotateLeft widths.Byte g st a c = turned_byte_gives shifts.Rol rotated_left g st (λ x n f l. laws.rotate.rol widths.Byte x n f l) (low_again g.ax (g.cx % 256 % 8)) (omega arith)
   core_gives binary.RotateLeft widths.Word g st a c =
       let n = g.cx % 256 in
-      only just_accumulator (shift_word shifts.Rol) g (word_result Ax g (shifted shifts.Rol widths.Word g.ax n g.flags)) st (rotated_left widths.Word g.ax n) (λ q. refl) (tt, refl, refl, refl, refl, refl, refl) (laws.rotate.rol widths.Word g.ax n g.flags a) (omega arith)
+      only just_accumulator (shift_word shifts.Rol counts.Cl) g (word_result Ax g (shifted shifts.Rol widths.Word g.ax n g.flags)) st (rotated_left widths.Word g.ax n) (λ q. refl) (tt, refl, refl, refl, refl, refl, refl) (laws.rotate.rol widths.Word g.ax n g.flags a) (omega arith)
   core_gives binary.RotateRight widths.Byte g st a c = turned_byte_gives shifts.Ror rotated_right g st (λ x n f l. laws.rotate.ror widths.Byte x n f l) (low_again g.ax (8 - g.cx % 256 % 8)) (omega arith)
   core_gives binary.RotateRight widths.Word g st a c =
       let n = g.cx % 256 in
-      only just_accumulator (shift_word shifts.Ror) g (word_result Ax g (shifted shifts.Ror widths.Word g.ax n g.flags)) st (rotated_right widths.Word g.ax n) (λ q. refl) (tt, refl, refl, refl, refl, refl, refl) (laws.rotate.ror widths.Word g.ax n g.flags a) (omega arith)
+      only just_accumulator (shift_word shifts.Ror counts.Cl) g (word_result Ax g (shifted shifts.Ror widths.Word g.ax n g.flags)) st (rotated_right widths.Word g.ax n) (λ q. refl) (tt, refl, refl, refl, refl, refl, refl) (laws.rotate.ror widths.Word g.ax n g.flags a) (omega arith)
 
   -- ---- operators that take their right operand where it lies
 
@@ -418,6 +559,158 @@ module _ (laws : Laws) (find : ℕ → ℕ → Option (ℕ × ℕ)) (words : ℕ
   after_direct binary.ShiftRight width g st v d a c = absurd (cc)
   after_direct binary.RotateLeft width g st v d a c = absurd (cc)
   after_direct binary.RotateRight width g st v d a c = absurd (cc)
+
+  -- ---- operators on AX and a constant
+
+  -- AX gets a constant
+  pub accumulator_set : (k : ℕ) (g : Working) (st : List ℕ) → (h : Working) × S (accumulator_gets k ∷ []) g st h st × (h.ax ≡ k) × OnlyChanges just_accumulator g h
+  accumulator_set k g st = by (nat_eq k 0) refl
+    where
+      by : (b : Bool) → nat_eq k 0 ≡ b → (h : Working) × S ((if b then alu Sub Ax Ax else load_number Ax k) ∷ []) g st h st × (h.ax ≡ k) × OnlyChanges just_accumulator g h
+      by true is =
+          let h = alu_word Sub Ax g.ax g in
+          let none : (g.ax + 65536 - (g.ax + 0)) % 65536 ≡ k = omega (arith, eqb-true k 0 is) in
+          (h, (h, st, λ q. refl, (refl, refl)), difference_is g.ax g.ax g.flags ∙ none, (tt, refl, refl, refl, refl, refl, refl))
+      by false is = let h = set_word g Ax k in (h, (h, st, λ q. refl, (refl, refl)), refl, (tt, refl, refl, refl, refl, refl, refl))
+
+  -- with other registers that may change
+  wider : (s t : Registers) (ns : List Instr) (g : Working) (st : List ℕ) (v : ℕ) → joined s t ≡ s → Computes t ns g st v → Computes s ns g st v
+  wider s t ns g st v e c = (c.0, c.1, c.2, c.3, changes_wider s t g c.0 e c.4)
+
+  byte_sum : (a b : ℕ) (f : Flags) → (operated Add widths.Byte a b f).value ≡ (a + b + 0) % 256
+  unfolding operated added
+  byte_sum a b f = refl
+
+  byte_difference : (a b : ℕ) (f : Flags) → (operated Sub widths.Byte a b f).value ≡ (a + 256 - (b + 0)) % 256
+  unfolding operated subtracted
+  byte_difference a b f = refl
+
+  one_more : (a : ℕ) (f : Flags) → (changed changes.Inc widths.Word a f).value ≡ (a + 1 + 0) % 65536
+  unfolding changed added
+  one_more a f = refl
+
+  one_less : (a : ℕ) (f : Flags) → (changed changes.Dec widths.Word a f).value ≡ (a + 65536 - (1 + 0)) % 65536
+  unfolding changed subtracted
+  one_less a f = refl
+
+  sum_gives : (width : Width) (k : ℕ) (g : Working) (st : List ℕ) → g.ax < 65536 → Computes just_accumulator (sum_with changes.Inc Add width k ∷ narrow width) g st (low width (g.ax + k))
+  sum_gives width k g st a = by (nat_eq k 1) refl width
+    where
+      by : (b : Bool) → nat_eq k 1 ≡ b → (width : Width) → Computes just_accumulator ((if b then i.UnaryWord changes.Inc (rm.Register Ax) else sum_number Add width k) ∷ narrow width) g st (low width (g.ax + k))
+      by true is width =
+          let e : g.ax + 1 + 0 ≡ g.ax + k = omega (arith, eqb-true k 1 is) in
+          wrapped just_accumulator refl width (i.UnaryWord changes.Inc (rm.Register Ax)) g (word_result Ax g (changed changes.Inc widths.Word g.ax g.flags)) st (g.ax + 1 + 0) (low width (g.ax + k)) (λ q. refl) (tt, refl, refl, refl, refl, refl, refl) (one_more g.ax g.flags) (ap (low width) e)
+      by false is widths.Byte =
+          let h = alu_byte Add Al (k % 256) g in
+          let e : h.ax ≡ g.ax / 256 * 256 + (g.ax % 256 + k % 256 + 0) % 256 = ap (λ z. g.ax / 256 * 256 + z) (byte_sum (g.ax % 256) (k % 256) g.flags) in
+          narrowed just_accumulator refl widths.Byte (i.AluByte Add (Immediate (rm.Register Al) (k % 256))) g h st (low widths.Byte (g.ax + k)) (λ q. refl) (tt, refl, refl, refl, refl, refl, refl) (omega (arith, e, a)) (omega (arith, e))
+      by false is widths.Word =
+          let e : g.ax + k + 0 ≡ g.ax + k = omega arith in
+          wrapped just_accumulator refl widths.Word (alu_number Add Ax k) g (alu_word Add Ax k g) st (g.ax + k + 0) (low widths.Word (g.ax + k)) (λ q. refl) (tt, refl, refl, refl, refl, refl, refl) (sum_is g.ax k g.flags) (ap (low widths.Word) e)
+
+  difference_gives : (width : Width) (k : ℕ) (g : Working) (st : List ℕ) → g.ax < 65536 → k < 65536 → Computes just_accumulator (sum_with changes.Dec Sub width k ∷ narrow width) g st (low width (g.ax + 65536 - k))
+  difference_gives width k g st a c = by (nat_eq k 1) refl width
+    where
+      by : (b : Bool) → nat_eq k 1 ≡ b → (width : Width) → Computes just_accumulator ((if b then i.UnaryWord changes.Dec (rm.Register Ax) else sum_number Sub width k) ∷ narrow width) g st (low width (g.ax + 65536 - k))
+      by true is width =
+          let e : g.ax + 65536 - (1 + 0) ≡ g.ax + 65536 - k = omega (arith, eqb-true k 1 is) in
+          wrapped just_accumulator refl width (i.UnaryWord changes.Dec (rm.Register Ax)) g (word_result Ax g (changed changes.Dec widths.Word g.ax g.flags)) st (g.ax + 65536 - (1 + 0)) (low width (g.ax + 65536 - k)) (λ q. refl) (tt, refl, refl, refl, refl, refl, refl) (one_less g.ax g.flags) (ap (low width) e)
+      by false is widths.Byte =
+          let h = alu_byte Sub Al (k % 256) g in
+          let e : h.ax ≡ g.ax / 256 * 256 + (g.ax % 256 + 256 - (k % 256 + 0)) % 256 = ap (λ z. g.ax / 256 * 256 + z) (byte_difference (g.ax % 256) (k % 256) g.flags) in
+          narrowed just_accumulator refl widths.Byte (i.AluByte Sub (Immediate (rm.Register Al) (k % 256))) g h st (low widths.Byte (g.ax + 65536 - k)) (λ q. refl) (tt, refl, refl, refl, refl, refl, refl) (omega (arith, e, a)) (omega (arith, e, c))
+      by false is widths.Word =
+          let e : g.ax + 65536 - (k + 0) ≡ g.ax + 65536 - k = omega arith in
+          wrapped just_accumulator refl widths.Word (alu_number Sub Ax k) g (alu_word Sub Ax k g) st (g.ax + 65536 - (k + 0)) (low widths.Word (g.ax + 65536 - k)) (λ q. refl) (tt, refl, refl, refl, refl, refl, refl) (difference_is g.ax k g.flags) (ap (low widths.Word) e)
+
+  -- a count may be in CL
+  abbrev with_count : Registers
+  with_count = record none { accumulator = true; right = true }
+
+  count_loaded : (g : Working) (n : ℕ) → n < 256 → count_in (set_byte g Cl n) counts.Cl ≡ n
+  count_loaded g n l = omega (arith, l)
+
+  counted_gives : (shift : Count → List Instr) (value : ℕ → ℕ) (n : ℕ) (g : Working) (st : List ℕ) → n < 256
+      → ((c : Count) (h : Working) → h.ax ≡ g.ax → Computes just_accumulator (shift c) h st (value (count_in h c))) → Computes with_count (counted n shift) g st (value n)
+  counted_gives shift value n g st l gives = by (nat_eq n 1) refl
+    where
+      by : (b : Bool) → nat_eq n 1 ≡ b → Computes with_count (if b then shift counts.One else load_count n ∷ shift counts.Cl) g st (value n)
+      by true is = subst (λ z. Computes with_count (shift counts.One) g st (value z)) (sym (eqb-true n 1 is)) (wider with_count just_accumulator (shift counts.One) g st (value 1) refl (gives counts.One g refl))
+      by false is =
+          let h = set_byte g Cl n in
+          first with_count (load_count n) (shift counts.Cl) g h st (value n) (λ q. refl) (tt, tt, refl, refl, refl, refl, refl)
+          (subst (λ z. Computes with_count (shift counts.Cl) h st (value z)) (count_loaded g n l) (wider with_count just_accumulator (shift counts.Cl) h st (value (count_in h counts.Cl)) refl (gives counts.Cl h refl)))
+
+  left_counted : (width : Width) (n : ℕ) (g : Working) (st : List ℕ) → g.ax < 65536 → n < 256 → Computes with_count (counted n (left_by width)) g st (low width (g.ax * 2 ^ n))
+  left_counted width n g st a l =
+      counted_gives (left_by width) (λ m. low width (g.ax * 2 ^ m)) n g st l
+      (λ c h e. subst (λ z. Computes just_accumulator (left_by width c) h st (low width (z * 2 ^ count_in h c))) e (left_gives width c h st (omega (arith, a, e))))
+
+  right_counted : (width : Width) (n : ℕ) (g : Working) (st : List ℕ) → g.ax < 65536 → n < 256 → Computes with_count (counted n (right_by width)) g st (low width g.ax / 2 ^ n)
+  right_counted width n g st a l =
+      counted_gives (right_by width) (λ m. low width g.ax / 2 ^ m) n g st l
+      (λ c h e. subst (λ z. Computes just_accumulator (right_by width c) h st (low width z / 2 ^ count_in h c)) e (right_gives width c h st (omega (arith, a, e))))
+
+  -- the constant goes to CX
+  number_gives : (o : BinaryOperation) (width : Width) (k : ℕ) (g : Working) (st : List ℕ) → g.ax < 65536 → k < 65536 → Gives (of_operator o) (by_number o width k) g st (binary_value o width g.ax k)
+  number_gives o width k g st a c = by (binary_value o width g.ax k) (core_gives o width h st a c)
+    where
+      h : Working
+      h = set_word g Cx k
+
+      by : (v : Option ℕ) → Gives (core_changes o) (core o width) h st v → Gives (of_operator o) (by_number o width k) g st v
+      by None gives = tt
+      by (Some v) gives = first (of_operator o) (load_number Cx k) (core o width) g h st v (λ q. refl) (operands_put o g h refl refl refl refl refl) (wider (of_operator o) (core_changes o) (core o width) h st v (core_within o) gives)
+
+  product_gives : (width : Width) (k : ℕ) (g : Working) (st : List ℕ) → g.ax < 65536 → k < 65536 → (e : Option ℕ) → exponent k ≡ e → Gives (of_operator binary.Multiply) (powered binary.Multiply width k e) g st (binary_value binary.Multiply width g.ax k)
+  product_gives width k g st a c None is = number_gives binary.Multiply width k g st a c
+  product_gives width k g st a c (Some n) is =
+      let p = exponent_is k n is in
+      subst (λ z. Computes (of_operator binary.Multiply) (counted n (left_by width)) g st (low width (g.ax * z))) p.2 (wider (of_operator binary.Multiply) with_count (counted n (left_by width)) g st (low width (g.ax * 2 ^ n)) refl (left_counted width n g st a p.3))
+
+  quotient_at : (x k m : ℕ) → k ≡ suc m → Some (x / k) ≡ quotient x k
+  quotient_at x k m e = subst (λ z. Some (x / z) ≡ quotient x z) (sym e) refl
+
+  remainder_at : (x k m : ℕ) → k ≡ suc m → Some (x % k) ≡ remainder x k
+  remainder_at x k m e = subst (λ z. Some (x % z) ≡ remainder x z) (sym e) refl
+
+  divided_gives : (width : Width) (k : ℕ) (g : Working) (st : List ℕ) → g.ax < 65536 → k < 65536 → (e : Option ℕ) → exponent k ≡ e → Gives (of_operator binary.Divide) (powered binary.Divide width k e) g st (binary_value binary.Divide width g.ax k)
+  divided_gives width k g st a c None is = number_gives binary.Divide width k g st a c
+  divided_gives width k g st a c (Some n) is =
+      let p = exponent_is k n is in
+      let ns = counted n (right_by widths.Word) in
+      let whole : g.ax % 65536 ≡ g.ax = omega (arith, a) in
+      let value : g.ax % 65536 / 2 ^ n ≡ g.ax / k = ap (λ z. z / 2 ^ n) whole ∙ ap (λ z. g.ax / z) p.2 in
+      subst (λ v. Gives (of_operator binary.Divide) ns g st v) (quotient_at g.ax k p.0 p.1)
+      (subst (λ v. Computes (of_operator binary.Divide) ns g st v) value (wider (of_operator binary.Divide) with_count ns g st (g.ax % 65536 / 2 ^ n) refl (right_counted widths.Word n g st a p.3)))
+
+  masked_gives : (width : Width) (k : ℕ) (g : Working) (st : List ℕ) → g.ax < 65536 → k < 65536 → (e : Option ℕ) → exponent k ≡ e → Gives (of_operator binary.Modulo) (powered binary.Modulo width k e) g st (binary_value binary.Modulo width g.ax k)
+  masked_gives width k g st a c None is = number_gives binary.Modulo width k g st a c
+  masked_gives width k g st a c (Some n) is =
+      let p = exponent_is k n is in
+      let value : bit_and g.ax (k - 1) ≡ g.ax % k = subst (λ z. bit_and g.ax (z - 1) ≡ g.ax % z) p.2 (and_mask g.ax n) in
+      subst (λ v. Gives (of_operator binary.Modulo) (alu_number And Ax (k - 1) ∷ []) g st v) (remainder_at g.ax k p.0 p.1)
+      (only (of_operator binary.Modulo) (alu_number And Ax (k - 1)) g (alu_word And Ax (k - 1) g) st (g.ax % k) (λ q. refl) (tt, tt, tt, refl, refl, refl, refl) (and_is g.ax (k - 1) g.flags ∙ value) (omega (arith, a, value, and_le_l g.ax (k - 1))))
+
+  pub constant_gives : (o : BinaryOperation) (width : Width) (k : ℕ) (g : Working) (st : List ℕ) → g.ax < 65536 → k < 65536 → Gives (of_direct o) (by_constant o width k) g st (binary_value o width g.ax k)
+  constant_gives binary.Add width k g st a c = sum_gives width k g st a
+  constant_gives binary.Subtract width k g st a c = difference_gives width k g st a c
+  constant_gives binary.And width k g st a c = only just_accumulator (alu_number And Ax k) g (alu_word And Ax k g) st (bit_and g.ax k) (λ q. refl) (tt, refl, refl, refl, refl, refl, refl) (and_is g.ax k g.flags) (omega (arith, a, and_le_l g.ax k))
+  constant_gives binary.Or width k g st a c = only just_accumulator (alu_number Or Ax k) g (alu_word Or Ax k g) st (bit_or g.ax k) (λ q. refl) (tt, refl, refl, refl, refl, refl, refl) (or_is g.ax k g.flags) (or_of_16 g.ax k a c)
+  constant_gives binary.ExclusiveOr width k g st a c = only just_accumulator (alu_number Xor Ax k) g (alu_word Xor Ax k g) st (bit_xor g.ax k) (λ q. refl) (tt, refl, refl, refl, refl, refl, refl) (xor_is g.ax k g.flags) (xor_of_16 g.ax k a c)
+  constant_gives binary.Multiply width k g st a c = product_gives width k g st a c (exponent k) refl
+  constant_gives binary.Divide width k g st a c = divided_gives width k g st a c (exponent k) refl
+  constant_gives binary.Modulo width k g st a c = masked_gives width k g st a c (exponent k) refl
+  constant_gives binary.ShiftLeft width k g st a c = left_counted width (k % 256) g st a (omega arith)
+  constant_gives binary.ShiftRight width k g st a c = right_counted width (k % 256) g st a (omega arith)
+  constant_gives binary.RotateLeft width k g st a c = number_gives binary.RotateLeft width k g st a c
+  constant_gives binary.RotateRight width k g st a c = number_gives binary.RotateRight width k g st a c
+  constant_gives binary.Equal width k g st a c = number_gives binary.Equal width k g st a c
+  constant_gives binary.NotEqual width k g st a c = number_gives binary.NotEqual width k g st a c
+  constant_gives binary.Less width k g st a c = number_gives binary.Less width k g st a c
+  constant_gives binary.LessEqual width k g st a c = number_gives binary.LessEqual width k g st a c
+  constant_gives binary.Greater width k g st a c = number_gives binary.Greater width k g st a c
+  constant_gives binary.GreaterEqual width k g st a c = number_gives binary.GreaterEqual width k g st a c
 
   -- ---- operators on AX alone
 

@@ -16,7 +16,6 @@ use Rattle.select.specs.declared.part.Step.{Step}
 use Rattle.select.specs.declared.part.Step.TheVariants.{Plain, Goto, GotoIf}
 use Rattle.select.specs.Linked.{StandsAt, Stands}
 use Rattle.select.specs.Rows.{plain}
-use Rattle.select.proofs.Chains
 use Rattle.select.proofs.Chains.{From}
 use Rattle.select.proofs.Straight.{with_each}
 use Rattle.select.proofs.Straight as straight

@@ -1,13 +1,14 @@
 -- The flags that selection asks for: carry and zero of a comparison, and whether a test left zero.
-use Rattle.std.proofs.Common.{◌≡◌, ℕ, zero, suc, ◌+◌, ◌-◌, ◌%◌, ◌<◌, ◌≤◌, ◌⊎◌, inl, inr, Bool, true, false, refl, sym, ap, ◌∙◌, nat_eq, arith}
+use Rattle.std.proofs.Common.{◌≡◌, ℕ, ◌+◌, ◌-◌, ◌%◌, ◌<◌, ◌≤◌, ◌⊎◌, inl, inr, Bool, true, false, refl, sym, ap, ◌∙◌, nat_eq, arith}
 use Rattle.std.specs.Prelude.{nat_lt, nat_le, not, ◌||◌}
 use Rattle.std.specs.Int.RustNames.{bit_and}
+use Rattle.std.specs.Int.Bits.{and_self}
 use Rattle.std.proofs.lemmas.Bool.{cases_lt, lt-ltb, le-ltb, lt-leb, le-leb, eq-eqb, ne_eqb}
 use Rattle.word86.specs.declared.width.Width.{Width}
 use Rattle.word86.specs.declared.width.Width.TheVariants as widths
 use Rattle.i86_table.specs.declared.flags.Flags.{Flags}
 use Rattle.i86_table.specs.declared.instruction.AluOperation.TheVariants.{Cmp}
-use Rattle.i86_table.specs.Arithmetic.{has, with_result, subtracted, combined, tested, number_of, operated, size_of}
+use Rattle.i86_table.specs.Arithmetic.{has, with_result, subtracted, combined, tested, number_of, operated}
 use Rattle.i86_table.specs.Conditions.{holds}
 use Rattle.icode.specs.declared.instruction.Relation.{Relation}
 use Rattle.icode.specs.declared.instruction.Relation.TheVariants as relation
@@ -82,14 +83,28 @@ module _ (laws : Laws) where
   unfolding operated
   cmp_zero a b f l m = difference_zero a b f ∙ no_difference a b l m
 
-  cmp_either : (a b : ℕ) (f : Flags) → a < 65536 → b < 65536 → (has (operated Cmp widths.Word a b f).flags 1 || has (operated Cmp widths.Word a b f).flags 64) ≡ nat_le a b
-  cmp_either a b f l m = ap (λ (z : Bool). z || has (operated Cmp widths.Word a b f).flags 64) (cmp_carry a b f) ∙ ap (λ (z : Bool). nat_lt a b || z) (cmp_zero a b f l m) ∙ lower_or_same a b
+  either : (a b : ℕ) (f : Flags) → has f 1 ≡ nat_lt a b → has f 64 ≡ nat_eq a b → (has f 1 || has f 64) ≡ nat_le a b
+  either a b f c z = ap (λ (x : Bool). x || has f 64) c ∙ ap (λ (x : Bool). nat_lt a b || x) z ∙ lower_or_same a b
 
-  -- the condition after a comparison says that the relation does not hold
+  -- the condition says that the relation does not hold, where carry and zero tell less and equal
+  fails_by : (o : Relation) (a b : ℕ) (f : Flags) → has f 1 ≡ nat_lt a b → has f 64 ≡ nat_eq a b → holds (fails o) f ≡ not (stands o a b)
+  fails_by relation.Equal a b f c z = ap not z
+  fails_by relation.NotEqual a b f c z = z ∙ sym (not_not _)
+  fails_by relation.Less a b f c z = ap not c
+  fails_by relation.LessEqual a b f c z = ap not (either a b f c z)
+  fails_by relation.Greater a b f c z = either a b f c z ∙ sym (flipped_le a b)
+  fails_by relation.GreaterEqual a b f c z = c ∙ sym (ap not (sym (flipped_le b a)) ∙ not_not _)
+
   pub fails_where : (o : Relation) (a b : ℕ) (f : Flags) → a < 65536 → b < 65536 → holds (fails o) (operated Cmp widths.Word a b f).flags ≡ not (stands o a b)
-  fails_where relation.Equal a b f l m = ap not (cmp_zero a b f l m)
-  fails_where relation.NotEqual a b f l m = cmp_zero a b f l m ∙ sym (not_not _)
-  fails_where relation.Less a b f l m = ap not (cmp_carry a b f)
-  fails_where relation.LessEqual a b f l m = ap not (cmp_either a b f l m)
-  fails_where relation.Greater a b f l m = cmp_either a b f l m ∙ sym (flipped_le a b)
-  fails_where relation.GreaterEqual a b f l m = cmp_carry a b f ∙ sym (ap not (sym (flipped_le b a)) ∙ not_not _)
+  fails_where o a b f l m = fails_by o a b (operated Cmp widths.Word a b f).flags (cmp_carry a b f) (cmp_zero a b f l m)
+
+  no_carry : (a : ℕ) (f : Flags) → has (tested widths.Word a a f) 1 ≡ false
+  unfolding combined
+  no_carry a f = result_keeps_carry widths.Word _ _ ∙ laws.others 2048 1 _ _ refl refl ∙ laws.same 1 _ f (by_count) refl
+    where
+      by_count : 0 < 1
+      by_count = omega arith
+
+  -- a test of a number with itself is a comparison with 0
+  pub fails_at_zero : (o : Relation) (a : ℕ) (f : Flags) → holds (fails o) (tested widths.Word a a f) ≡ not (stands o a 0)
+  fails_at_zero o a f = fails_by o a 0 (tested widths.Word a a f) (no_carry a f ∙ sym (le-ltb a 0 (omega arith))) (no_bit widths.Word a a f ∙ ap (λ z. nat_eq z 0) (and_self a))

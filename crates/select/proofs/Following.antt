@@ -2,7 +2,7 @@
 use Rattle.std.proofs.Common.{◌≡◌, ℕ, zero, suc, ◌+◌, ◌-◌, ◌*◌, ◌/◌, ◌%◌, ◌^◌, ◌<◌, ◌≤◌, ◌⊎◌, inl, inr, Bool, true, false, List, [], ◌∷◌, ◌++◌, length, drop, Option, Some, None, refl, sym, ap, ◌∙◌, subst, arith, slice_get}
 use Rattle.std.specs.Prelude.{not, if◌then◌else◌, nat_le, nat_lt, nat_eq, ◌==◌, ◌&&◌, slice_index}
 use Rattle.std.specs.Int.RustNames.{bit_and}
-use Rattle.std.proofs.lemmas.Bool.{cases_lt, lt-ltb, le-ltb, le-leb, lt-leb, eq-eqb, ne_eqb}
+use Rattle.std.proofs.lemmas.Bool.{cases_lt, lt-ltb, le-ltb, le-leb, lt-leb, eq-eqb, ne_eqb, eqb-true}
 use Rattle.std.proofs.lemmas.Nat.{and_mask}
 use Rattle.word86.specs.declared.width.Width.{Width}
 use Rattle.word86.specs.declared.width.Width.TheVariants as widths
@@ -24,7 +24,7 @@ use Rattle.i86_table.specs.declared.registers.Register8.TheVariants.{Al, Ah, Cl,
 use Rattle.i86_table.specs.declared.registers.Segment.TheVariants as segments
 use Rattle.i86_table.specs.declared.instruction.Base.TheVariants as bases
 use Rattle.i86_table.specs.declared.instruction.RmOperand.TheVariants as rm
-use Rattle.i86_table.specs.declared.instruction.Operands.TheVariants.{FromRegister, FromMemory, Immediate}
+use Rattle.i86_table.specs.declared.instruction.Operands.TheVariants.{FromRegister, FromMemory}
 use Rattle.i86_table.specs.declared.instruction.TestMask.TheVariants as masks
 use Rattle.i86_table.specs.declared.instruction.Port.TheVariants as ports
 use Rattle.i86_table.specs.declared.instruction.Count.TheVariants as counts
@@ -42,7 +42,7 @@ use Rattle.i86_table.specs.Open.{closed}
 use Rattle.i86_table.specs.Conditions.{holds}
 use Rattle.i86_table.specs.Arithmetic.{has, with_flag, flag_bit, tested, operated, shifted}
 use Rattle.i86_table.specs.Arithmetic as i86_arithmetic
-use Rattle.i86_table.specs.Contexts.{Context, Own, Working, Given, further, set_word, set_byte, set_flags, word_result, alu_word, room, bytes, place_in, in_object, on_screen, reads, writes, pushes, refused, offered, offer, input_gives, output_takes, top_of, stack_pointer, stack_word, takes, silently}
+use Rattle.i86_table.specs.Contexts.{Context, Own, Working, Given, further, set_word, set_byte, set_flags, word_result, alu_word, room, bytes, place_in, in_object, reads, writes, pushes, refused, offered, input_gives, output_takes, top_of, stack_pointer, takes, silently}
 use Rattle.icode.specs.declared.instruction.Instruction.{Instruction}
 use Rattle.icode.specs.declared.instruction.Instruction.TheVariants as op
 use Rattle.icode.specs.declared.instruction.Relation.{Relation}
@@ -50,23 +50,22 @@ use Rattle.icode.specs.declared.instruction.Test.{Test}
 use Rattle.icode.specs.declared.instruction.Test.TheVariants as test
 use Rattle.icode.specs.declared.code.Routine.{Routine}
 use Rattle.icode.specs.declared.code.Routine.TheVariants.{Procedure, Nowhere}
-use Rattle.icode.specs.declared.code.Position.{Position}
 use Rattle.icode.specs.declared.code.Word.{Word}
 use Rattle.icode.specs.declared.code.Word.TheVariants.{Value, Return}
 use Rattle.icode.specs.declared.registers.Registers.{Registers}
-use Rattle.icode.specs.Registers.{none, just_accumulator, just_right, just_high, just_address, joined, of_operator, is_direct, of_direct, of_read, of_port, of_test, of_drop, changes}
+use Rattle.icode.specs.Registers.{none, just_accumulator, just_right, just_high, joined, of_operator, is_direct, of_direct, of_read, of_test, of_drop, changes}
 use Rattle.icode.specs.Machine.{At, address, found, loaded, stored, run, run_at, does, is_odd, stands, value_on_top, with_value, value_in, computed, jumped, dropped, switched}
 use Rattle.icode.specs.Machine as machine
 use Rattle.select.specs.declared.part.Step.{Step}
 use Rattle.select.specs.declared.part.Step.TheVariants.{Plain, GotoIf}
 use Rattle.select.specs.Linked.{Stands}
 use Rattle.select.specs.Rows
-use Rattle.select.specs.Rows.{load_number, copy, clear_byte, clear_high, push, pop, alu, alu_number, core, narrow, narrow_right, then_narrow, narrow_sum, loads, loads_right, stores, spot, segment_of, row, first_of, plain, direct, by_constant, by_read, left_from_stack, fails, registers_of, given_back}
+use Rattle.select.specs.Rows.{load_number, accumulator_gets, copy, clear_byte, clear_high, push, pop, alu, alu_number, core, narrow, narrow_right, then_narrow, narrow_sum, loads, loads_right, stores, spot, segment_of, row, first_of, plain, direct, by_constant, by_read, left_from_stack, fails, registers_of, given_back}
 use Rattle.icode.specs.Made.{constant_in}
 use Rattle.icode.specs.Runs.{Leads, Comes}
 use Rattle.select.specs.Promise.{Allowed, Counted, Image, IsSelected, next_of, place_of}
 use Rattle.select.proofs.Rests.{Laws}
-use Rattle.select.proofs.Keeping.{OnlyChanges, Same, same_refl, changes_then, changes_wider, stays}
+use Rattle.select.proofs.Keeping.{OnlyChanges, changes_then, changes_wider, stays}
 use Rattle.select.proofs.Straight.{with_each, also}
 use Rattle.select.proofs.Chains
 use Rattle.select.proofs.Engine
@@ -281,7 +280,8 @@ module _ (laws : Laws) (x : Image) (all : IsSelected x)
 
   load_constant_row : (c : ℕ) → RowFollows (op.Constant c)
   load_constant_row c r k e g n go a inv ws p sm =
-      silent r k (op.Constant c) e g n go a inv ws p sm (load_number Ax c) [] c ws (set_word g Ax c) refl (rows_stand r k (op.Constant c) e) (omega arith) (set_word g Ax c, stack_of ws, λ q. refl, (refl, refl)) refl ((all.made r).numbered k (op.Constant c) e) sm (tt, refl, refl, refl, refl, refl, refl)
+      let h = Cores.accumulator_set laws x.find x.words x.main x.handler given c g (stack_of ws) in
+      silent r k (op.Constant c) e g n go a inv ws p sm (accumulator_gets c) [] c ws h.0 refl (rows_stand r k (op.Constant c) e) (omega arith) h.1 h.2 ((all.made r).numbered k (op.Constant c) e) sm h.3
 
   locate_row : (y : Place) → RowFollows (op.Locate y)
   locate_row y r k e g n go a inv ws p sm =
@@ -464,23 +464,6 @@ module _ (laws : Laws) (x : Image) (all : IsSelected x)
   unary_row unary.High width = change_row unary.High width (i.MoveByte (FromRegister (rm.Register Al) Ah)) (clear_high ∷ []) refl (omega arith)
   unary_row unary.Double width = change_row unary.Double width i.Nop [] refl (omega arith)
 
-  same_as : (b : Bool) (u v : ℕ) → v ≡ u → Same b u v
-  same_as true u v q = tt
-  same_as false u v q = q
-
-  -- operands were put in their registers
-  operands_put : (o : BinaryOperation) (g h : Working) → h.dx ≡ g.dx → h.bx ≡ g.bx → h.bp ≡ g.bp → h.si ≡ g.si → h.di ≡ g.di → OnlyChanges (of_operator o) g h
-  operands_put o g h d b f s t =
-      let c = Cores.operator_changes o in (
-        subst (λ (z : Bool). Same z g.ax h.ax) (sym c.0) tt,
-        subst (λ (z : Bool). Same z g.cx h.cx) (sym c.1) tt,
-        same_as (of_operator o).high g.dx h.dx d,
-        same_as (of_operator o).address g.bx h.bx b,
-        same_as (of_operator o).frame g.bp h.bp f,
-        s,
-        t,
-      )
-
   binary_row : (o : BinaryOperation) (width : Width) → RowFollows (op.Binary o width)
   binary_row o width r k e g n go a inv [] p sm = bad r k (op.Binary o width) e g n go a inv [] p sm refl
   binary_row o width r k e g n go a inv (Return q ∷ ws) p sm = bad r k (op.Binary o width) e g n go a inv (Return q ∷ ws) p sm refl
@@ -488,7 +471,7 @@ module _ (laws : Laws) (x : Image) (all : IsSelected x)
       let g0 = set_word g Cx g.ax in
       let g1 = set_word g0 Ax v in
       computing r k (op.Binary o width) e g n go a inv (Value v ∷ ws) p sm (copy Cx Ax) (pop Ax ∷ []) (binary_value o width v g.ax) ws (Cores.core_changes o) g1 (core o width) refl (rows_stand r k (op.Binary o width) e) (let s = Cores.short o width in omega (arith, s))
-      (g0, v ∷ stack_of ws, λ q. refl, (g1, stack_of ws, λ q. refl, (refl, refl))) sm.1 (operands_put o g g1 refl refl refl refl refl) (Cores.core_within o)
+      (g0, v ∷ stack_of ws, λ q. refl, (g1, stack_of ws, λ q. refl, (refl, refl))) sm.1 (Cores.operands_put o g g1 refl refl refl refl refl) (Cores.core_within o)
       (Cores.core_gives laws x.find x.words x.main x.handler given o width g1 (stack_of ws) sm.0 a)
 
   sum_pace : (o : BinaryOperation) (width : Width) → with_each (narrow_sum o width) 8 ≤ 20
@@ -499,29 +482,17 @@ module _ (laws : Laws) (x : Image) (all : IsSelected x)
   sum_pace _ width = omega arith
 
   constant_row : (o : BinaryOperation) (width : Width) (c : ℕ) → RowFollows (op.BinaryConstant o width c)
-  constant_row o width c r k e g n go a inv ws p sm = by (is_direct o) refl
+  constant_row o width c r k e g n go a inv ws p sm =
+      by (by_constant o width c) refl (Cores.some_constant o width c) (Cores.constant_pace o width c) (binary_value o width g.ax c) refl
+      (Cores.constant_gives laws x.find x.words x.main x.handler given o width c g (stack_of ws) a ((all.made r).numbered k (op.BinaryConstant o width c) e))
     where
-      small : c < 65536
-      small = (all.made r).numbered k (op.BinaryConstant o width c) e
-
-      directly : is_direct o ≡ true → (v : Option ℕ) → binary_value o width g.ax c ≡ v → Cores.After laws x.find x.words x.main x.handler given (narrow_sum o width) g (alu_word (direct o) Ax c g) (stack_of ws) v → Fl n 8 (At r k g.ax ws) (Own (place r k) g (stack_of ws) false given)
-      directly d None is after = bad r k (op.BinaryConstant o width c) e g n go a inv ws p sm (ap (λ z. machine.operated z (λ v. At r (k + 1) v ws)) is)
-      directly d (Some v) is after =
-          silent r k (op.BinaryConstant o width c) e g n go a inv ws p sm (alu_number (direct o) Ax c) (narrow_sum o width) v ws after.0 (ap (λ z. machine.operated z (λ v. At r (k + 1) v ws)) is)
-          (subst (λ (b : Bool). Chain r (place r k) (plain (if b then alu_number (direct o) Ax c ∷ narrow_sum o width else load_number Cx c ∷ core o width)) (place r (k + 1))) d (rows_stand r k (op.BinaryConstant o width c) e))
-          (sum_pace o width) (alu_word (direct o) Ax c g, stack_of ws, λ q. refl, after.1) after.2 after.3 sm
-          (subst (λ (b : Bool). OnlyChanges (if b then just_accumulator else of_operator o) g after.0) (sym d) after.4)
-
-      by : (b : Bool) → is_direct o ≡ b → Fl n 8 (At r k g.ax ws) (Own (place r k) g (stack_of ws) false given)
-      by true d = directly d (binary_value o width g.ax c) refl (Cores.after_direct laws x.find x.words x.main x.handler given o width g (stack_of ws) c d a small)
-      by false d =
-          let g1 = set_word g Cx c in
-          let so : of_direct o ≡ of_operator o = ap (λ (b : Bool). if b then just_accumulator else of_operator o) d in
-          computing r k (op.BinaryConstant o width c) e g n go a inv ws p sm (load_number Cx c) [] (binary_value o width g.ax c) ws (Cores.core_changes o) g1 (core o width) refl
-          (subst (λ (b : Bool). Chain r (place r k) (plain (if b then alu_number (direct o) Ax c ∷ narrow_sum o width else load_number Cx c ∷ core o width)) (place r (k + 1))) d (rows_stand r k (op.BinaryConstant o width c) e))
-          (let s = Cores.short o width in omega (arith, s))
-          (g1, stack_of ws, λ q. refl, (refl, refl)) sm (subst (λ z. OnlyChanges z g g1) (sym so) (operands_put o g g1 refl refl refl refl refl)) (subst (λ z. joined z (Cores.core_changes o) ≡ z) (sym so) (Cores.core_within o))
-          (Cores.core_gives laws x.find x.words x.main x.handler given o width g1 (stack_of ws) a small)
+      by : (ns : List Instr) → by_constant o width c ≡ ns → 0 < length ns → with_each ns 8 ≤ 20 → (v : Option ℕ) → binary_value o width g.ax c ≡ v
+          → Cores.Gives laws x.find x.words x.main x.handler given (of_direct o) ns g (stack_of ws) v → Fl n 8 (At r k g.ax ws) (Own (place r k) g (stack_of ws) false given)
+      by ns are some pace None is gives = bad r k (op.BinaryConstant o width c) e g n go a inv ws p sm (ap (λ z. machine.operated z (λ v. At r (k + 1) v ws)) is)
+      by [] are some pace (Some v) is gives = absurd (omega (arith, some))
+      by (y ∷ ns) are some pace (Some v) is gives =
+          silent r k (op.BinaryConstant o width c) e g n go a inv ws p sm y ns v ws gives.0 (ap (λ z. machine.operated z (λ v. At r (k + 1) v ws)) is)
+          (subst (λ z. Chain r (place r k) (plain z) (place r (k + 1))) are (rows_stand r k (op.BinaryConstant o width c) e)) (omega (arith, pace)) gives.1 gives.2 gives.3 sm gives.4
 
   -- nothing goes on at what divides by zero
   stuck : (m f : ℕ) (ws : List Word) (c : Context) → Fl m f (At Nowhere 0 0 ws) c
@@ -572,7 +543,7 @@ module _ (laws : Laws) (x : Image) (all : IsSelected x)
       byte_gives v lt u is =
           let h = set_byte (set_byte g Cl v) Ch 0 in
           let c = read_value o width (stack_of ws) h g.ax v a refl (omega (arith, lt)) (omega (arith, lt)) (Some u) is in
-          (c.0, (h, stack_of ws, λ q. refl, c.1), c.2, c.3, changes_then (of_operator o) g h c.0 (operands_put o g h refl refl refl refl refl) (changes_wider (of_operator o) (Cores.core_changes o) h c.0 (Cores.core_within o) c.4))
+          (c.0, (h, stack_of ws, λ q. refl, c.1), c.2, c.3, changes_then (of_operator o) g h c.0 (Cores.operands_put o g h refl refl refl refl refl) (changes_wider (of_operator o) (Cores.core_changes o) h c.0 (Cores.core_within o) c.4))
   plain_row o width widths.Word y r k e g n go a inv ws p sm = by (is_direct o) refl
     where
       v0 : ℕ
@@ -599,7 +570,7 @@ module _ (laws : Laws) (x : Image) (all : IsSelected x)
             c.2,
             c.3,
             subst (λ (b : Bool). OnlyChanges (if b then just_accumulator else of_operator o) g c.0) (sym d)
-                (changes_then (of_operator o) g h c.0 (operands_put o g h refl refl refl refl refl) (changes_wider (of_operator o) (Cores.core_changes o) h c.0 (Cores.core_within o) c.4)),
+                (changes_then (of_operator o) g h c.0 (Cores.operands_put o g h refl refl refl refl refl) (changes_wider (of_operator o) (Cores.core_changes o) h c.0 (Cores.core_within o) c.4)),
           )
 
       by : (b : Bool) → is_direct o ≡ b → Fl n 8 (At r k g.ax ws) (Own (place r k) g (stack_of ws) false given)
@@ -766,11 +737,27 @@ module _ (laws : Laws) (x : Image) (all : IsSelected x)
     compared c = set_flags g (operated Cmp widths.Word g.ax c g.flags).flags
 
     constant_jumps : (o : Relation) (v t : ℕ) → v < 65536 → does_so r k ins e g n go a inv ws p sm ≡ jumped x.offsets x.sizes (test.Constant o v) r (k + 1) t g.ax ws → Chain r (place r k) (Rows.unless (test.Constant o v) (first r t)) (place r (k + 1)) → Fl n 8 (At r k g.ax ws) (Own (place r k) g (stack_of ws) false given)
-    constant_jumps o v t lv u c =
-        let h = compared v in
-        let d = At r (if stands o g.ax v then k + 1 else t) g.ax ws in
-        begins r k ins e g n go a inv ws p sm (alu_number Cmp Ax v) [] 10 c.0 d h (stack_of ws) u (c.0, c.1, c.2, refl) (omega arith) (h, stack_of ws, λ q. refl, (refl, refl))
-        (branches r k ins e g n go a inv ws p sm (fails o) (stands o g.ax v) (Silent d) u t g.ax ws h refl (Flags.fails_where laws o g.ax v g.flags a lv) refl a sm (stays (changes ins) g) c.0 c.3)
+    constant_jumps o v t lv u c = by (nat_eq v 0) refl
+      where
+        d : machine.Context
+        d = At r (if stands o g.ax v then k + 1 else t) g.ax ws
+
+        by_flags : (y : Instr) (f : flags_type.Flags) → Chain r (place r k) (Plain y ∷ GotoIf (fails o) (first r t) ∷ []) (place r (k + 1))
+            → ((q : ℕ) → offered x.find x.words x.main x.handler y q g (stack_of ws) false given ≡ Does (Silent (Own q (set_flags g f) (stack_of ws) false given)))
+            → holds (fails o) f ≡ not (stands o g.ax v) → Fl n 8 (At r k g.ax ws) (Own (place r k) g (stack_of ws) false given)
+        by_flags y f c off tells =
+            let h = set_flags g f in
+            begins r k ins e g n go a inv ws p sm y [] 10 c.0 d h (stack_of ws) u (c.0, c.1, c.2, refl) (omega arith) (h, stack_of ws, off, (refl, refl))
+            (branches r k ins e g n go a inv ws p sm (fails o) (stands o g.ax v) (Silent d) u t g.ax ws h refl tells refl a sm (stays (changes ins) g) c.0 c.3)
+
+        chain_of : (b : Bool) → nat_eq v 0 ≡ b → Chain r (place r k) (Plain (if b then i.TestWord (rm.Register Ax) (masks.Register Ax) else alu_number Cmp Ax v) ∷ GotoIf (fails o) (first r t) ∷ []) (place r (k + 1))
+        chain_of b is = subst (λ (b : Bool). Chain r (place r k) (Plain (if b then i.TestWord (rm.Register Ax) (masks.Register Ax) else alu_number Cmp Ax v) ∷ GotoIf (fails o) (first r t) ∷ []) (place r (k + 1))) is c
+
+        by : (b : Bool) → nat_eq v 0 ≡ b → Fl n 8 (At r k g.ax ws) (Own (place r k) g (stack_of ws) false given)
+        by true is =
+            by_flags (i.TestWord (rm.Register Ax) (masks.Register Ax)) (tested widths.Word g.ax g.ax g.flags) (chain_of true is) (λ q. refl)
+            (Flags.fails_at_zero laws o g.ax g.flags ∙ ap (λ z. not (stands o g.ax z)) (sym (eqb-true v 0 is)))
+        by false is = by_flags (alu_number Cmp Ax v) (operated Cmp widths.Word g.ax v g.flags).flags (chain_of false is) (λ q. refl) (Flags.fails_where laws o g.ax v g.flags a lv)
 
     word_jumps : (o : Relation) (y : Place) (t : ℕ) → does_so r k ins e g n go a inv ws p sm ≡ jumped x.offsets x.sizes (test.Plain o widths.Word y) r (k + 1) t g.ax ws → Chain r (place r k) (Rows.unless (test.Plain o widths.Word y) (first r t)) (place r (k + 1)) → Fl n 8 (At r k g.ax ws) (Own (place r k) g (stack_of ws) false given)
     word_jumps o y t u c =

@@ -1,5 +1,5 @@
 -- Which registers stay as they were.
-use Rattle.std.proofs.Common.{◌≡◌, ℕ, Bool, true, false, refl, sym, ap, ◌∙◌, subst}
+use Rattle.std.proofs.Common.{◌≡◌, ℕ, Bool, true, false, refl, ap, ◌∙◌, subst}
 use Rattle.std.specs.Prelude.{◌||◌}
 use Rattle.i86_table.specs.Contexts.{Working}
 use Rattle.icode.specs.declared.registers.Registers.{Registers}

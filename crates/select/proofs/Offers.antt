@@ -1,14 +1,13 @@
 -- What the processor offers at loads and stores.
-use Rattle.std.proofs.Common.{◌≡◌, ℕ, ◌+◌, ◌%◌, ◌<◌, false, List, Option, refl}
+use Rattle.std.proofs.Common.{◌≡◌, ℕ, false, List, Option, refl}
 use Rattle.word86.specs.declared.width.Width.{Width}
 use Rattle.word86.specs.declared.width.Width.TheVariants as widths
 use Rattle.word86.specs.declared.place.Place.{Place}
 use Rattle.word86.specs.declared.place.Place.TheVariants as place
 use Rattle.word86.specs.Access.{Where}
 use Rattle.i86_table.specs.declared.registers.Register16.TheVariants.{Ax, Cx}
-use Rattle.i86_table.specs.declared.registers.Register8.TheVariants.{Al, Cl}
+use Rattle.i86_table.specs.declared.registers.Register8.TheVariants.{Cl}
 use Rattle.i86_table.specs.declared.registers.Segment.{Segment}
-use Rattle.i86_table.specs.declared.registers.Segment.TheVariants as segments
 use Rattle.i86_table.specs.declared.instruction.Base.{Base}
 use Rattle.i86_table.specs.declared.open.Use.TheVariants.{Operate}
 use Rattle.i86_table.specs.declared.open.Open.TheVariants as opens

@@ -1,5 +1,5 @@
 -- How many bytes the rows of instructions have at most.
-use Rattle.std.proofs.Common.{◌≡◌, ℕ, ◌+◌, ◌-◌, ◌*◌, ◌%◌, ◌≤◌, ◌==◌, ◌&&◌, Bool, true, false, List, [], ◌∷◌, ◌++◌, length, map, Some, None, refl, ap, ◌∙◌, arith}
+use Rattle.std.proofs.Common.{◌≡◌, ℕ, ◌+◌, ◌-◌, ◌*◌, ◌%◌, ◌≤◌, ◌==◌, ◌&&◌, Bool, true, false, List, [], ◌∷◌, ◌++◌, length, map, Option, Some, None, refl, ap, ◌∙◌, arith}
 use Rattle.std.specs.Prelude.{sum, nat_eq, nat_le, not, if◌then◌else◌}
 use Rattle.std.specs.List.{sum_by}
 use Rattle.std.proofs.lemmas.List.Sums.{sum_by-cons}
@@ -20,8 +20,15 @@ use Rattle.i86_table.specs.declared.instruction.Base.{Base}
 use Rattle.i86_table.specs.declared.instruction.Base.TheVariants as bases
 use Rattle.i86_table.specs.declared.instruction.RmOperand.TheVariants as rm
 use Rattle.i86_table.specs.declared.instruction.AluOperation.{AluOperation}
-use Rattle.i86_table.specs.declared.instruction.AluOperation.TheVariants.{Add, Cmp}
+use Rattle.i86_table.specs.declared.instruction.AluOperation.TheVariants.{Add, Sub, Cmp}
 use Rattle.i86_table.specs.declared.instruction.Operands.TheVariants.{FromMemory}
+use Rattle.i86_table.specs.declared.instruction.UnaryOperation as change
+use Rattle.i86_table.specs.declared.instruction.UnaryOperation.TheVariants as changes
+use Rattle.i86_table.specs.declared.instruction.ShiftOperation.{ShiftOperation}
+use Rattle.i86_table.specs.declared.instruction.ShiftOperation.TheVariants as shifts
+use Rattle.i86_table.specs.declared.instruction.Count.{Count}
+use Rattle.i86_table.specs.declared.instruction.Count.TheVariants as counts
+use Rattle.i86_table.specs.declared.instruction.TestMask.TheVariants as masks
 use Rattle.i86_table.specs.declared.instruction.Port.TheVariants as ports
 use Rattle.i86_table.specs.declared.instruction.Instr.{Instr}
 use Rattle.i86_table.specs.declared.instruction.Instr.TheVariants as i
@@ -50,7 +57,7 @@ use Rattle.select.specs.declared.part.Part.{Part}
 use Rattle.select.specs.declared.part.Step.{Step}
 use Rattle.select.specs.Parts.{extent_of}
 use Rattle.select.specs.Inner.Settling.{longest}
-use Rattle.select.specs.Rows.{load_number, alu_number, pop, narrow, then_narrow, narrow_right, core, direct, narrow_sum, by_constant, changed, left_from_stack, dropped, loads, loads_right, stores, on_place, operates, own_word, sent, received, plain, by_read, unless, registers_of, saved, given_back, finished, row, rows, first_of, routine}
+use Rattle.select.specs.Rows.{load_number, accumulator_gets, compares, alu, alu_number, sum_number, sum_with, load_count, shift_word, left_by, right_by, counted, exponent, by_number, powered, pop, narrow, then_narrow, narrow_right, core, direct, narrow_sum, by_constant, changed, left_from_stack, dropped, loads, loads_right, stores, on_place, operates, own_word, sent, received, plain, by_read, unless, registers_of, saved, given_back, finished, row, rows, first_of, routine}
 use Rattle.select.specs.Selection.{IsPartOf, ArePartsOf, part_of}
 use Rattle.select.specs.Room.{room_of, room_for, PartsHaveRoom}
 use Rattle.select.proofs.Bounding.{part_bounded}
@@ -181,21 +188,88 @@ sum_room binary.Add w = narrow_room w
 sum_room binary.Subtract w = narrow_room w
 sum_room _ w = omega arith
 
--- an operation on the accumulator and a number
-on_accumulator : (f : AluOperation) (k : ℕ) → length (bytes_of (alu_number f Ax k)) ≡ 3
-unfolding form_of alu_word_of
-on_accumulator f k = refl
+-- ---- operators on AX and a constant
 
 load_room : (k : ℕ) → length (bytes_of (load_number Cx k)) ≡ 3
 unfolding form_of move_word_of
 load_room k = refl
 
-by_constant_room : (o : BinaryOperation) (w : Width) (k : ℕ) → size (by_constant o w k) ≤ room.room_of_constant o
-by_constant_room o w k = cases (is_direct o)
+accumulator_room : (k : ℕ) → length (bytes_of (accumulator_gets k)) ≤ 3
+unfolding form_of move_word_of alu_word_of
+accumulator_room k = cases (nat_eq k 0)
   where
-    cases : (b : Bool) → size (if b then alu_number (direct o) Ax k ∷ narrow_sum o w else load_number Cx k ∷ core o w) ≤ (if b then 5 else 14)
-    cases true = omega (arith, on_accumulator (direct o) k, sum_room o w)
-    cases false = omega (arith, load_room k, core_room o w)
+    cases : (b : Bool) → length (bytes_of (if b then alu Sub Ax Ax else load_number Ax k)) ≤ 3
+    cases true = omega arith
+    cases false = omega arith
+
+compares_room : (k : ℕ) → length (bytes_of (compares k)) ≤ 3
+unfolding form_of alu_word_of
+compares_room k = cases (nat_eq k 0)
+  where
+    cases : (b : Bool) → length (bytes_of (if b then i.TestWord (rm.Register Ax) (masks.Register Ax) else alu_number Cmp Ax k)) ≤ 3
+    cases true = omega arith
+    cases false = omega arith
+
+sum_with_room : (one : change.UnaryOperation) (f : AluOperation) (w : Width) (k : ℕ) → length (bytes_of (i.UnaryWord one (rm.Register Ax))) ≤ 3 → length (bytes_of (sum_with one f w k)) ≤ 3
+unfolding form_of alu_word_of alu_byte_of
+sum_with_room one f w k few = cases (nat_eq k 1) w
+  where
+    cases : (b : Bool) (w : Width) → length (bytes_of (if b then i.UnaryWord one (rm.Register Ax) else sum_number f w k)) ≤ 3
+    cases true w = few
+    cases false widths.Byte = omega arith
+    cases false widths.Word = omega arith
+
+count_room : (n : ℕ) → length (bytes_of (load_count n)) ≡ 2
+unfolding form_of move_byte_of
+count_room n = refl
+
+shift_room : (f : ShiftOperation) (c : Count) → length (bytes_of (shift_word f c)) ≡ 2
+unfolding form_of
+shift_room f c = refl
+
+left_room : (w : Width) (c : Count) → size (left_by w c) ≤ 4
+left_room w c = omega (arith, shift_room shifts.Shl c, narrow_room w)
+
+right_by_room : (w : Width) (c : Count) → size (right_by w c) ≤ 4
+right_by_room w c = omega (arith, size-append (narrow w) (shift_word shifts.Shr c ∷ []), shift_room shifts.Shr c, narrow_room w)
+
+counted_room : (n : ℕ) (shift : Count → List Instr) → ((c : Count) → size (shift c) ≤ 4) → size (counted n shift) ≤ 6
+counted_room n shift few = cases (nat_eq n 1)
+  where
+    cases : (b : Bool) → size (if b then shift counts.One else load_count n ∷ shift counts.Cl) ≤ 6
+    cases true = omega (arith, few counts.One)
+    cases false = omega (arith, count_room n, few counts.Cl)
+
+number_room_of : (o : BinaryOperation) (w : Width) (k : ℕ) → size (by_number o w k) ≤ 14
+number_room_of o w k = omega (arith, load_room k, core_room o w)
+
+powered_room : (o : BinaryOperation) (w : Width) (k : ℕ) (e : Option ℕ) → size (powered o w k e) ≤ 14
+unfolding form_of alu_word_of
+powered_room o w k None = number_room_of o w k
+powered_room binary.Multiply w k (Some n) = omega (arith, counted_room n (left_by w) (left_room w))
+powered_room binary.Divide w k (Some n) = omega (arith, counted_room n (right_by widths.Word) (right_by_room widths.Word))
+powered_room _ w k (Some n) = omega arith
+
+by_constant_room : (o : BinaryOperation) (w : Width) (k : ℕ) → size (by_constant o w k) ≤ room.room_of_constant o
+unfolding form_of alu_word_of
+by_constant_room binary.Add w k = omega (arith, sum_with_room changes.Inc Add w k (omega arith), narrow_room w)
+by_constant_room binary.Subtract w k = omega (arith, sum_with_room changes.Dec Sub w k (omega arith), narrow_room w)
+by_constant_room binary.And w k = omega arith
+by_constant_room binary.Or w k = omega arith
+by_constant_room binary.ExclusiveOr w k = omega arith
+by_constant_room binary.Multiply w k = powered_room binary.Multiply w k (exponent k)
+by_constant_room binary.Divide w k = powered_room binary.Divide w k (exponent k)
+by_constant_room binary.Modulo w k = powered_room binary.Modulo w k (exponent k)
+by_constant_room binary.ShiftLeft w k = omega (arith, counted_room (k % 256) (left_by w) (left_room w))
+by_constant_room binary.ShiftRight w k = omega (arith, counted_room (k % 256) (right_by w) (right_by_room w))
+by_constant_room binary.RotateLeft w k = number_room_of binary.RotateLeft w k
+by_constant_room binary.RotateRight w k = number_room_of binary.RotateRight w k
+by_constant_room binary.Equal w k = number_room_of binary.Equal w k
+by_constant_room binary.NotEqual w k = number_room_of binary.NotEqual w k
+by_constant_room binary.Less w k = number_room_of binary.Less w k
+by_constant_room binary.LessEqual w k = number_room_of binary.LessEqual w k
+by_constant_room binary.Greater w k = number_room_of binary.Greater w k
+by_constant_room binary.GreaterEqual w k = number_room_of binary.GreaterEqual w k
 
 from_stack_room : size left_from_stack ≡ 3
 unfolding form_of move_word_of
@@ -261,7 +335,7 @@ by_read_room o w widths.Word x = cases (is_direct o)
 unless_room : (t : Test) (target : ℕ) → most (unless t target) ≤ room.room_of_test t
 unfolding form_of alu_word_of move_byte_of
 unless_room test.Odd target = omega arith
-unless_room (test.Constant o k) target = omega arith
+unless_room (test.Constant o k) target = omega (arith, compares_room k)
 unless_room (test.Plain o widths.Byte x) target = omega (arith, on_place_room (loads_right widths.Byte) 5 x (loads_right_within widths.Byte))
 unless_room (test.Plain o widths.Word x) target = omega (arith, on_place_room (operates Cmp) 5 x (operates_within Cmp))
 unless_room (test.Top o) target = omega arith
@@ -293,7 +367,7 @@ from_own n = omega (arith, place_room 0 bases.Bp (2 * n % 65536))
 module _ (first : ℕ → ℕ) (part : ℕ → ℕ) (saves : Registers) where
   row_room : (p : ℕ) (x : Instruction) → most (row first part saves p x) ≤ room.room_of x
   unfolding form_of alu_word_of move_byte_of move_word_of based_form
-  row_room p (op.Constant k) = omega arith
+  row_room p (op.Constant k) = omega (arith, accumulator_room k)
   row_room p (op.Locate x) = omega (arith, on_place_room (λ s. opens.Number Ax) 3 x locate_within)
   row_room p (op.LocateAt x) = omega (arith, on_place_room (λ s. opens.OperateAx Add) 3 x locate_at_within)
   row_room p (op.Load width x) = omega (arith, on_place_room (loads width None) 4 x (loads_within width), plain_room (narrow width), narrow_room width)

@@ -1,20 +1,16 @@
 -- The rows of a routine stand one after another.
-use Rattle.std.proofs.Common.{◌≡◌, ℕ, zero, suc, ◌+◌, ◌<◌, List, [], ◌∷◌, ◌++◌, length, take, Option, Some, None, refl, sym, ap, ◌∙◌, subst, arith, slice_get, append_assoc, length-append}
+use Rattle.std.proofs.Common.{◌≡◌, ℕ, zero, suc, ◌+◌, ◌<◌, List, [], ◌∷◌, length, take, Option, Some, None, refl, sym, ap, ◌∙◌, subst, arith, slice_get}
 use Rattle.std.specs.Prelude.{map, Bool, true, false, nat_eq, nat_le, if◌then◌else◌}
 use Rattle.std.specs.Prelude as prelude
 use Rattle.std.proofs.lemmas.List.Sums.{sum_by-cons}
 use Rattle.std.proofs.lemmas.List.{length-map}
-use Rattle.word86.specs.declared.width.Width.{Width}
 use Rattle.word86.specs.declared.width.Width.TheVariants as widths
-use Rattle.word86.specs.declared.place.Place.{Place}
-use Rattle.word86.specs.declared.operation.BinaryOperation.{BinaryOperation}
 use Rattle.i86_table.specs.declared.instruction.Instr.{Instr}
 use Rattle.icode.specs.declared.instruction.Instruction.{Instruction}
 use Rattle.icode.specs.declared.instruction.Instruction.TheVariants as op
 use Rattle.icode.specs.declared.instruction.Test.{Test}
 use Rattle.icode.specs.declared.instruction.Test.TheVariants as test
 use Rattle.icode.specs.declared.registers.Registers.{Registers}
-use Rattle.icode.specs.Registers.{is_direct}
 use Rattle.select.specs.declared.part.Step.{Step}
 use Rattle.select.specs.Linked.{AllStand}
 use Rattle.select.specs.Rows.{row, rows, steps_in, first_of, routine, plain, unless, by_read, narrow_sum, loads_right, on_place, core, narrow_right, direct, spot, registers_of, saved}

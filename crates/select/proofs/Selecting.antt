@@ -1,6 +1,6 @@
 -- The parts of a program: their order, their numbers, and the registers that are saved.
 use Rattle.std.proofs.Common.{◌≡◌, ℕ, zero, suc, ◌+◌, ◌<◌, ◌≤◌, List, [], ◌∷◌, ◌++◌, length, drop, Bool, true, false, Option, Some, None, refl, sym, ap, ◌∙◌, subst, arith, slice_get, append_assoc}
-use Rattle.std.specs.Prelude.{nat_eq, cond, slice_index, slice_index_or}
+use Rattle.std.specs.Prelude.{nat_eq, cond, slice_index_or}
 use Rattle.std.proofs.lemmas.List.{append-nil}
 use Rattle.std.proofs.lemmas.Option.{slice_get_within, none-some}
 use Rattle.icode.specs.declared.code.Procedure as declared
@@ -18,7 +18,7 @@ use Rattle.icode.specs.Registers.{none}
 use Rattle.frames.specs.Counting.{AreSaved}
 use Rattle.select.specs.declared.part.Part.{Part}
 use Rattle.select.specs.Rows.{routine, first_of, plain, saved, registers_of}
-use Rattle.select.specs.Selection.{procedures_in, section, sections_before, routines, is_procedure, part_in, part_of, vector_in, AreSavedBy, IsPartOf, ArePartsOf}
+use Rattle.select.specs.Selection.{procedures_in, section, sections_before, routines, vector_in, AreSavedBy, IsPartOf, ArePartsOf}
 use Rattle.select.specs.Inner.Selecting.{registers_if, saves_in, Below, AllBelow}
 use Rattle.select.proofs.Steps.{rows_same}
 

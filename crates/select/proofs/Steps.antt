@@ -1,6 +1,6 @@
 -- The steps of a routine: their rows depend on where they lead alone, and no jump leads past them.
-use Rattle.std.proofs.Common.{◌≡◌, ℕ, zero, suc, ◌+◌, ◌-◌, ◌<◌, ◌≤◌, ◌%◌, List, [], ◌∷◌, ◌++◌, length, take, drop, Option, Some, None, refl, sym, ap, ◌∙◌, subst, arith, slice_get, append_assoc, length-append, inl, inr, ◌⊎◌}
-use Rattle.std.specs.Prelude.{map, Bool, true, false, nat_eq, nat_le, min, if◌then◌else◌, slice_index, slice_index_or}
+use Rattle.std.proofs.Common.{◌≡◌, ℕ, zero, suc, ◌+◌, ◌-◌, ◌<◌, ◌≤◌, ◌%◌, List, [], ◌∷◌, ◌++◌, length, take, drop, Some, refl, sym, ap, ◌∙◌, arith, slice_get, append_assoc, length-append, inl, inr, ◌⊎◌}
+use Rattle.std.specs.Prelude.{Bool, true, false, nat_le, min, if◌then◌else◌, slice_index, slice_index_or}
 use Rattle.std.proofs.lemmas.List.{length-map, append-nil}
 use Rattle.std.proofs.lemmas.Bool.{cases_lt}
 use Rattle.word86.specs.declared.width.Width.TheVariants as widths
@@ -9,7 +9,6 @@ use Rattle.word86.specs.declared.place.Place.{Place}
 use Rattle.word86.specs.declared.place.Place.TheVariants as places
 use Rattle.word86.specs.declared.operation.UnaryOperation.{UnaryOperation}
 use Rattle.word86.specs.declared.operation.UnaryOperation.TheVariants as unary
-use Rattle.word86.specs.declared.operation.BinaryOperation.{BinaryOperation}
 use Rattle.i86_table.specs.declared.instruction.Instr.{Instr}
 use Rattle.i86_table.specs.declared.instruction.Instr.TheVariants as i
 use Rattle.i86_table.specs.declared.open.Open.{Open}
@@ -19,7 +18,7 @@ use Rattle.icode.specs.declared.instruction.Test.{Test}
 use Rattle.icode.specs.declared.instruction.Test.TheVariants as test
 use Rattle.icode.specs.declared.registers.Registers.{Registers}
 use Rattle.icode.specs.Levels.{target}
-use Rattle.icode.specs.Made.{IsMade, cases_of}
+use Rattle.icode.specs.Made.{IsMade}
 use Rattle.icode.specs.Registers.{is_direct}
 use Rattle.select.specs.declared.part.Step.{Step}
 use Rattle.select.specs.declared.part.Step.TheVariants.{Plain, AtStep, Word, Goto, GotoIf}
@@ -33,9 +32,10 @@ use Rattle.i86_table.specs.declared.instruction.Condition.TheVariants as conditi
 use Rattle.i86_table.specs.declared.instruction.ShiftOperation.TheVariants as shifts
 use Rattle.i86_table.specs.declared.instruction.AluOperation.TheVariants.{Cmp}
 use Rattle.i86_table.specs.declared.open.Open.TheVariants as opens
-use Rattle.select.specs.Rows.{row, rows, steps_in, first_of, routine, plain, unless, placed, saved, registers_of, given_back, changed, push, alu_number, copy, spot, on_place, left_from_stack, core, then_narrow, narrow_right}
+use Rattle.select.specs.Rows.{row, rows, steps_in, first_of, routine, plain, unless, placed, saved, registers_of, given_back, changed, push, alu_number, copy, spot, left_from_stack, core, by_constant, then_narrow, narrow_right}
 use Rattle.select.specs.Inner.Assembly.{IsStepOf, AreSteps, nothing}
 use Rattle.select.specs.Inner.Numbering.{step_at}
+use Rattle.select.proofs.Cores.{some_constant}
 use Rattle.select.proofs.Routines.{row_size, first_more, total, total_more}
 
 -- the row of a Switch
@@ -127,7 +127,7 @@ row_some saves (op.Pick n) = omega arith
 row_some saves (op.Drop n) = omega arith
 row_some saves (op.Unary o w) = some_changed o w
 row_some saves (op.Binary o w) = omega arith
-row_some saves (op.BinaryConstant o w k) = some_of (is_direct o) _ _ _ _
+row_some saves (op.BinaryConstant o w k) = omega (arith, length-map (by_constant o w k) Plain, some_constant o w k)
 row_some saves (op.BinaryPlain o w widths.Byte x) = omega arith
 row_some saves (op.BinaryPlain o w widths.Word x) = some_step (is_direct o) _ _ _ _
 row_some saves (op.Store w x) = omega arith

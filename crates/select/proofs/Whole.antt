@@ -1,6 +1,6 @@
 -- Main and the interrupt procedures follow their code.
-use Rattle.std.proofs.Common.{◌≡◌, ℕ, zero, suc, ◌+◌, ◌-◌, ◌%◌, ◌<◌, ◌≤◌, Bool, true, false, List, [], ◌∷◌, ◌++◌, length, Option, Some, None, refl, sym, ap, ◌∙◌, subst, arith, slice_get}
-use Rattle.std.specs.Prelude.{◌==◌, ◌&&◌, if◌then◌else◌, nat_lt, map}
+use Rattle.std.proofs.Common.{◌≡◌, ℕ, suc, ◌+◌, ◌-◌, ◌%◌, ◌<◌, ◌≤◌, Bool, true, false, List, [], ◌∷◌, ◌++◌, length, Option, Some, None, refl, sym, ap, ◌∙◌, subst, arith, slice_get}
+use Rattle.std.specs.Prelude.{◌==◌, ◌&&◌, if◌then◌else◌}
 use Rattle.std.proofs.lemmas.Bool.{lt-ltb, eq-eqb}
 use Rattle.word86.specs.Access.{Access, answers}
 use Rattle.word86.specs.Action.{Action, Silent, Over}
@@ -9,15 +9,14 @@ use Rattle.i86_table.specs.declared.registers.Register16.{Register16}
 use Rattle.i86_table.specs.declared.registers.Register16.TheVariants.{Ax, Bx, Cx, Dx, Bp, Sp, Si, Di}
 use Rattle.i86_table.specs.declared.instruction.Instr.{Instr}
 use Rattle.i86_table.specs.declared.instruction.Instr.TheVariants as i
-use Rattle.i86_table.specs.Contexts.{Context, Own, Working, Given, word_in, set_word, set_flags, offer, offered, start, pushes, room, refused, gives_back, top_of, stack_pointer, without_trap_and_interrupts}
-use Rattle.i86_table.specs.Words.{AreWords, HasWords, AllWords}
+use Rattle.i86_table.specs.Contexts.{Context, Own, Working, Given, word_in, set_word, set_flags, offer, offered, start, pushes, refused, gives_back, top_of, stack_pointer, without_trap_and_interrupts}
+use Rattle.i86_table.specs.Words.{AreWords, HasWords}
 use Rattle.icode.specs.declared.instruction.Instruction.{Instruction}
-use Rattle.icode.specs.declared.instruction.Instruction.TheVariants as op
 use Rattle.icode.specs.declared.code.Routine.{Routine}
 use Rattle.icode.specs.declared.code.Routine.TheVariants.{Main}
 use Rattle.icode.specs.declared.code.Word.{Word}
 use Rattle.icode.specs.declared.registers.Registers.{Registers}
-use Rattle.icode.specs.Registers.{joined, changes}
+use Rattle.icode.specs.Registers.{changes}
 use Rattle.icode.specs.Machine.{At, does}
 use Rattle.icode.specs.Machine as machine
 use Rattle.select.specs.declared.part.Step.TheVariants.{Plain}

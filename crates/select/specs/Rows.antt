@@ -1,6 +1,6 @@
 -- The steps of each instruction of the intermediate code. AX is the accumulator, the words lie on the stack; CX has an operator's
 -- right operand, DX a port, BX an address, BP where the stack stands.
-use Rattle.std.specs.Prelude.{ℕ, zero, suc, ◌+◌, ◌-◌, ◌*◌, ◌%◌, Bool, true, false, nat_eq, nat_le, if◌then◌else◌, List, [], ◌∷◌, ◌++◌, map, length, sum, take, Option, Some, None}
+use Rattle.std.specs.Prelude.{ℕ, ◌+◌, ◌-◌, ◌*◌, ◌%◌, Bool, true, false, nat_eq, nat_le, if◌then◌else◌, List, [], ◌∷◌, ◌++◌, map, length, sum, take, Option, Some, None}
 use Rattle.word86.specs.declared.width.Width.{Width}
 use Rattle.word86.specs.declared.width.Width.TheVariants as widths
 use Rattle.word86.specs.declared.operation.UnaryOperation.{UnaryOperation}
@@ -24,12 +24,14 @@ use Rattle.i86_table.specs.declared.instruction.RmOperand.TheVariants as rm
 use Rattle.i86_table.specs.declared.instruction.Operands.TheVariants.{FromRegister, FromMemory, Immediate}
 use Rattle.i86_table.specs.declared.instruction.TestMask.TheVariants as masks
 use Rattle.i86_table.specs.declared.instruction.Port.TheVariants as ports
+use Rattle.i86_table.specs.declared.instruction.Count.{Count}
 use Rattle.i86_table.specs.declared.instruction.Count.TheVariants as counts
 use Rattle.i86_table.specs.declared.instruction.Condition.{Condition}
 use Rattle.i86_table.specs.declared.instruction.Condition.TheVariants as conditions
 use Rattle.i86_table.specs.declared.instruction.Signedness.TheVariants.{Unsigned}
 use Rattle.i86_table.specs.declared.instruction.AluOperation.{AluOperation}
 use Rattle.i86_table.specs.declared.instruction.AluOperation.TheVariants.{Add, Sub, Sbb, And, Or, Xor, Cmp}
+use Rattle.i86_table.specs.declared.instruction.UnaryOperation as change
 use Rattle.i86_table.specs.declared.instruction.UnaryOperation.TheVariants as changes
 use Rattle.i86_table.specs.declared.instruction.ShiftOperation.{ShiftOperation}
 use Rattle.i86_table.specs.declared.instruction.ShiftOperation.TheVariants as shifts
@@ -73,6 +75,14 @@ alu f to from = i.AluWord f (FromRegister (rm.Register to) from)
 abbrev pub alu_number : AluOperation → Register16 → ℕ → Instr
 alu_number f r k = i.AluWord f (Immediate (rm.Register r) k)
 
+-- SUB AX,AX is shorter than a move of 0
+abbrev pub accumulator_gets : ℕ → Instr
+accumulator_gets k = if nat_eq k 0 then alu Sub Ax Ax else load_number Ax k
+
+-- TEST AX,AX is shorter than a comparison with 0
+abbrev pub compares : ℕ → Instr
+compares k = if nat_eq k 0 then i.TestWord (rm.Register Ax) (masks.Register Ax) else alu_number Cmp Ax k
+
 abbrev pub push : Register16 → Instr
 push r = i.Push (rm.Register r)
 
@@ -100,8 +110,8 @@ spread = i.AluByte Sbb (FromRegister (rm.Register Al) Al)
 abbrev pub inverted : Instr
 inverted = i.UnaryByte changes.Not (rm.Register Al)
 
-abbrev pub shift_word : ShiftOperation → Instr
-shift_word f = i.ShiftWord f (rm.Register Ax) counts.Cl
+abbrev pub shift_word : ShiftOperation → Count → Instr
+shift_word f c = i.ShiftWord f (rm.Register Ax) c
 
 abbrev pub shift_byte : ShiftOperation → Instr
 shift_byte f = i.ShiftByte f (rm.Register Al) counts.Cl
@@ -112,6 +122,13 @@ from_carry = spread ∷ clear_high ∷ []
 
 abbrev pub from_no_carry : List Instr
 from_no_carry = spread ∷ inverted ∷ clear_high ∷ []
+
+-- AX shifted by a count
+abbrev pub left_by : Width → Count → List Instr
+left_by width c = then_narrow width (shift_word shifts.Shl c)
+
+abbrev pub right_by : Width → Count → List Instr
+right_by width c = narrow width ++ shift_word shifts.Shr c ∷ []
 
 -- an operator on AX and CX
 abbrev pub core : BinaryOperation → Width → List Instr
@@ -129,13 +146,12 @@ core binary.GreaterEqual width = alu Cmp Ax Cx ∷ from_no_carry
 core binary.And width = alu And Ax Cx ∷ []
 core binary.Or width = alu Or Ax Cx ∷ []
 core binary.ExclusiveOr width = alu Xor Ax Cx ∷ []
-core binary.ShiftLeft width = then_narrow width (shift_word shifts.Shl)
-core binary.ShiftRight widths.Byte = clear_high ∷ shift_word shifts.Shr ∷ []
-core binary.ShiftRight widths.Word = shift_word shifts.Shr ∷ []
+core binary.ShiftLeft width = left_by width counts.Cl
+core binary.ShiftRight width = right_by width counts.Cl
 core binary.RotateLeft widths.Byte = shift_byte shifts.Rol ∷ clear_high ∷ []
-core binary.RotateLeft widths.Word = shift_word shifts.Rol ∷ []
+core binary.RotateLeft widths.Word = shift_word shifts.Rol counts.Cl ∷ []
 core binary.RotateRight widths.Byte = shift_byte shifts.Ror ∷ clear_high ∷ []
-core binary.RotateRight widths.Word = shift_word shifts.Ror ∷ []
+core binary.RotateRight widths.Word = shift_word shifts.Ror counts.Cl ∷ []
 
 -- the arithmetic of an operator that takes its right operand where it lies
 abbrev pub direct : BinaryOperation → AluOperation
@@ -151,9 +167,53 @@ narrow_sum binary.Add width = narrow width
 narrow_sum binary.Subtract width = narrow width
 narrow_sum _ width = []
 
--- an operator on AX and a constant
+-- ---- an operator on AX and a constant
+
+-- where a byte is wanted, AL and a byte will do
+abbrev pub sum_number : AluOperation → Width → ℕ → Instr
+sum_number f widths.Byte k = i.AluByte f (Immediate (rm.Register Al) (k % 256))
+sum_number f widths.Word k = alu_number f Ax k
+
+-- INC and DEC have one byte
+abbrev pub sum_with : (one : change.UnaryOperation) → AluOperation → Width → ℕ → Instr
+sum_with one f width k = if nat_eq k 1 then i.UnaryWord one (rm.Register Ax) else sum_number f width k
+
+-- a shift whose count is a constant
+abbrev pub load_count : ℕ → Instr
+load_count n = i.MoveByte (Immediate (rm.Register Cl) n)
+
+abbrev pub counted : ℕ → (Count → List Instr) → List Instr
+counted n shift = if nat_eq n 1 then shift counts.One else load_count n ∷ shift counts.Cl
+
+-- the exponent of a small power of two
+abbrev pub exponent : ℕ → Option ℕ
+exponent k = if nat_eq k 2 then Some 1 else if nat_eq k 4 then Some 2 else if nat_eq k 8 then Some 3 else if nat_eq k 16 then Some 4 else None
+
+abbrev pub by_number : BinaryOperation → Width → ℕ → List Instr
+by_number o width k = load_number Cx k ∷ core o width
+
+-- a product, a quotient, a remainder: by shifts and a mask where there is an exponent
+abbrev pub powered : BinaryOperation → Width → ℕ → Option ℕ → List Instr
+powered o width k None = by_number o width k
+powered binary.Multiply width k (Some n) = counted n (left_by width)
+powered binary.Divide width k (Some n) = counted n (right_by widths.Word)
+powered _ width k (Some n) = alu_number And Ax (k - 1) ∷ []
+
+abbrev pub by_factor : BinaryOperation → Width → ℕ → List Instr
+by_factor o width k = powered o width k (exponent k)
+
 abbrev pub by_constant : BinaryOperation → Width → ℕ → List Instr
-by_constant o width k = if is_direct o then alu_number (direct o) Ax k ∷ narrow_sum o width else load_number Cx k ∷ core o width
+by_constant binary.Add width k = sum_with changes.Inc Add width k ∷ narrow width
+by_constant binary.Subtract width k = sum_with changes.Dec Sub width k ∷ narrow width
+by_constant binary.And width k = alu_number And Ax k ∷ []
+by_constant binary.Or width k = alu_number Or Ax k ∷ []
+by_constant binary.ExclusiveOr width k = alu_number Xor Ax k ∷ []
+by_constant binary.Multiply width k = by_factor binary.Multiply width k
+by_constant binary.Divide width k = by_factor binary.Divide width k
+by_constant binary.Modulo width k = by_factor binary.Modulo width k
+by_constant binary.ShiftLeft width k = counted (k % 256) (left_by width)
+by_constant binary.ShiftRight width k = counted (k % 256) (right_by width)
+by_constant o width k = by_number o width k
 
 -- an operator on AX
 abbrev pub changed : UnaryOperation → Width → List Instr
@@ -240,7 +300,7 @@ fails relation.GreaterEqual = conditions.Below
 -- a jump to a step unless a test holds
 abbrev pub unless : Test → (target : ℕ) → List Step
 unless test.Odd t = Plain (i.TestByte (rm.Register Al) (masks.Immediate 1)) ∷ GotoIf conditions.Equal t ∷ []
-unless (test.Constant o k) t = Plain (alu_number Cmp Ax k) ∷ GotoIf (fails o) t ∷ []
+unless (test.Constant o k) t = Plain (compares k) ∷ GotoIf (fails o) t ∷ []
 unless (test.Plain o widths.Byte x) t = on_place (loads_right widths.Byte) x ∷ Plain (clear_byte Ch) ∷ Plain (alu Cmp Ax Cx) ∷ GotoIf (fails o) t ∷ []
 unless (test.Plain o widths.Word x) t = on_place (operates Cmp) x ∷ GotoIf (fails o) t ∷ []
 unless (test.Top o) t = Plain (pop Cx) ∷ Plain (alu Cmp Cx Ax) ∷ GotoIf (fails o) t ∷ []
@@ -272,7 +332,7 @@ finished saves = plain (given_back (registers_of saves) ++ i.InterruptReturn ∷
 module _ (first : ℕ → ℕ) (part : ℕ → ℕ) (saves : Registers) where
   -- an instruction's row, where the index behind it is this
   abbrev pub row : (next : ℕ) → Instruction → List Step
-  row p (op.Constant k) = Plain (load_number Ax k) ∷ []
+  row p (op.Constant k) = Plain (accumulator_gets k) ∷ []
   row p (op.Locate x) = on_place (λ s. opens.Number Ax) x ∷ []
   row p (op.LocateAt x) = on_place (λ s. opens.OperateAx Add) x ∷ []
   row p (op.Load width x) = on_place (loads width None) x ∷ plain (narrow width)

@@ -1,6 +1,6 @@
 -- The parts of a program: module by module its procedures, in their order, and main behind those of its module; last the part for
 -- the vectors without a procedure.
-use Rattle.std.specs.Prelude.{◌≡◌, ℕ, zero, suc, ◌+◌, Bool, true, false, nat_eq, cond, List, [], ◌∷◌, ◌++◌, length, Option, Some, None, slice_get}
+use Rattle.std.specs.Prelude.{◌≡◌, ℕ, zero, suc, ◌+◌, Bool, false, nat_eq, cond, List, [], ◌∷◌, ◌++◌, length, Option, Some, None, slice_get}
 use Rattle.icode.specs.declared.code.Procedure as declared
 use Rattle.icode.specs.declared.code.Routine.{Routine}
 use Rattle.icode.specs.declared.code.Routine.TheVariants.{Main, Procedure, Unserved, Nowhere}

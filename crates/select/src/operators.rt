@@ -1,15 +1,14 @@
 //! The instructions of operators.
 
 ghost use Rattle.std.specs.Prelude.{◌≡◌, ◌++◌, IsOkUnless, OnOk};
-ghost use Rattle.select.specs.Rows.{plain, core, changed, narrow, narrow_right, then_narrow, spread, inverted, shift_word, shift_byte, direct, narrow_sum, by_constant};
+ghost use Rattle.select.specs.Rows.{plain, core, changed, narrow, narrow_right, then_narrow, spread, inverted, shift_word, shift_byte, left_by, right_by, direct, narrow_sum, sum_number, sum_with, load_count, counted, exponent, by_number, by_factor, by_constant};
 
 use crate::part::Step;
-use crate::put::{all, alu, alu_number, clear_byte, copy, load_number};
+use crate::put::{add, all, alu, alu_number, clear_byte, copy, load_number};
 use i86_table::{
     AluOperation, Count, Instr, Operands, Register8, Register16, RmOperand, ShiftOperation,
     Signedness, UnaryOperation,
 };
-use icode::is_direct;
 use word86::{BinaryOperation, Fault, Width};
 
 const AX: Register16 = Register16::Ax;
@@ -70,16 +69,34 @@ fn inverted() -> Instr
     Instr::UnaryByte(UnaryOperation::Not, RmOperand::Register(Register8::Al))
 }
 
-fn shift_word(operation: ShiftOperation) -> Instr
-    ensures { result ≡ shift_word operation }
+fn shift_word(operation: ShiftOperation, count: Count) -> Instr
+    ensures { result ≡ shift_word operation count }
 {
-    Instr::ShiftWord(operation, RmOperand::Register(AX), Count::Cl)
+    Instr::ShiftWord(operation, RmOperand::Register(AX), count)
 }
 
 fn shift_byte(operation: ShiftOperation) -> Instr
     ensures { result ≡ shift_byte operation }
 {
     Instr::ShiftByte(operation, RmOperand::Register(Register8::Al), Count::Cl)
+}
+
+fn left_by(steps: &mut Vec<Step>, width: Width, count: Count) -> Result<(), Fault>
+    ensures steps { OnOk result (steps.new.items ≡ steps.old.items ++ plain (left_by width count)) }
+    ensures memory { IsOkUnless result Fault.Memory }
+{
+    then_narrow(steps, width, shift_word(ShiftOperation::Shl, count))
+}
+
+fn right_by(steps: &mut Vec<Step>, width: Width, count: Count) -> Result<(), Fault>
+    ensures steps { OnOk result (steps.new.items ≡ steps.old.items ++ plain (right_by width count)) }
+    ensures memory { IsOkUnless result Fault.Memory }
+{
+    let shift = shift_word(ShiftOperation::Shr, count);
+    match width {
+        Width::Byte => all(steps, &[clear_byte(Register8::Ah), shift]),
+        Width::Word => all(steps, &[shift]),
+    }
 }
 
 /// An operator on AX and CX.
@@ -119,21 +136,15 @@ pub(crate) fn core(
         BinaryOperation::And => all(steps, &[alu(AluOperation::And, AX, CX)]),
         BinaryOperation::Or => all(steps, &[alu(AluOperation::Or, AX, CX)]),
         BinaryOperation::ExclusiveOr => all(steps, &[alu(AluOperation::Xor, AX, CX)]),
-        BinaryOperation::ShiftLeft => { then_narrow(steps, width, shift_word(ShiftOperation::Shl)) }
-        BinaryOperation::ShiftRight => {
-            let shift = shift_word(ShiftOperation::Shr);
-            match width {
-                Width::Byte => all(steps, &[clear, shift]),
-                Width::Word => all(steps, &[shift]),
-            }
-        }
+        BinaryOperation::ShiftLeft => left_by(steps, width, Count::Cl),
+        BinaryOperation::ShiftRight => right_by(steps, width, Count::Cl),
         BinaryOperation::RotateLeft => match width {
             Width::Byte => all(steps, &[shift_byte(ShiftOperation::Rol), clear]),
-            Width::Word => all(steps, &[shift_word(ShiftOperation::Rol)]),
+            Width::Word => all(steps, &[shift_word(ShiftOperation::Rol, Count::Cl)]),
         },
         BinaryOperation::RotateRight => match width {
             Width::Byte => all(steps, &[shift_byte(ShiftOperation::Ror), clear]),
-            Width::Word => all(steps, &[shift_word(ShiftOperation::Ror)]),
+            Width::Word => all(steps, &[shift_word(ShiftOperation::Ror, Count::Cl)]),
         },
     }
 }
@@ -197,6 +208,109 @@ pub(crate) fn narrow_sum(
     }
 }
 
+/// A sum or a difference of this width with a constant, but for its high byte.
+fn sum_number(operation: AluOperation, width: Width, number: u16) -> Instr
+    ensures { result ≡ sum_number operation width number }
+{
+    match width {
+        Width::Byte => {
+            let al = RmOperand::Register(Register8::Al);
+            Instr::AluByte(operation, Operands::Immediate(al, (number % 256) as u8))
+        }
+        Width::Word => alu_number(operation, AX, number),
+    }
+}
+
+/// The same; INC and DEC have one byte.
+fn sum_with(one: UnaryOperation, operation: AluOperation, width: Width, number: u16) -> Instr
+    ensures { result ≡ sum_with one operation width number }
+{
+    if number == 1 {
+        Instr::UnaryWord(one, RmOperand::Register(AX))
+    } else {
+        sum_number(operation, width, number)
+    }
+}
+
+/// CL gets a shift's count.
+fn load_count(count: u8) -> Instr
+    ensures { result ≡ load_count count }
+{
+    Instr::MoveByte(Operands::Immediate(RmOperand::Register(Register8::Cl), count))
+}
+
+fn left_by_constant(steps: &mut Vec<Step>, width: Width, count: u8) -> Result<(), Fault>
+    ensures steps { OnOk result (steps.new.items ≡ steps.old.items ++ plain (counted count (left_by width))) }
+    ensures memory { IsOkUnless result Fault.Memory }
+{
+    if count == 1 {
+        return left_by(steps, width, Count::One);
+    }
+    add(steps, load_count(count))?;
+    left_by(steps, width, Count::Cl)
+}
+
+fn right_by_constant(steps: &mut Vec<Step>, width: Width, count: u8) -> Result<(), Fault>
+    ensures steps { OnOk result (steps.new.items ≡ steps.old.items ++ plain (counted count (right_by width))) }
+    ensures memory { IsOkUnless result Fault.Memory }
+{
+    if count == 1 {
+        return right_by(steps, width, Count::One);
+    }
+    add(steps, load_count(count))?;
+    right_by(steps, width, Count::Cl)
+}
+
+/// The exponent of a small power of two.
+fn exponent(number: u16) -> Option<u8>
+    ensures { result ≡ exponent number }
+{
+    match number {
+        2 => Some(1),
+        4 => Some(2),
+        8 => Some(3),
+        16 => Some(4),
+        _ => None,
+    }
+}
+
+/// An operator on AX and a constant that goes to CX.
+fn by_number(
+    steps: &mut Vec<Step>,
+    operation: BinaryOperation,
+    width: Width,
+    number: u16,
+) -> Result<(), Fault>
+    ensures steps { OnOk result (steps.new.items ≡ steps.old.items ++ plain (by_number operation width number)) }
+    ensures memory { IsOkUnless result Fault.Memory }
+{
+    add(steps, load_number(CX, number))?;
+    core(steps, operation, width)
+}
+
+/// A product, a quotient or a remainder.
+fn by_factor(
+    steps: &mut Vec<Step>,
+    operation: BinaryOperation,
+    width: Width,
+    number: u16,
+) -> Result<(), Fault>
+    ensures steps { OnOk result (steps.new.items ≡ steps.old.items ++ plain (by_factor operation width number)) }
+    ensures memory { IsOkUnless result Fault.Memory }
+{
+    let Some(count) = exponent(number) else {
+        return by_number(steps, operation, width, number);
+    };
+    match operation {
+        BinaryOperation::Multiply => left_by_constant(steps, width, count),
+        BinaryOperation::Divide => right_by_constant(steps, Width::Word, count),
+        _ => add(
+            steps,
+            alu_number(AluOperation::And, AX, number.saturating_sub(1)),
+        ),
+    }
+}
+
 /// An operator on AX and a constant.
 pub(crate) fn by_constant(
     steps: &mut Vec<Step>,
@@ -207,10 +321,24 @@ pub(crate) fn by_constant(
     ensures steps { OnOk result (steps.new.items ≡ steps.old.items ++ plain (by_constant operation width number)) }
     ensures memory { IsOkUnless result Fault.Memory }
 {
-    if is_direct(operation) {
-        all(steps, &[alu_number(direct(operation), AX, number)])?;
-        return narrow_sum(steps, operation, width);
+    let count = (number % 256) as u8;
+    match operation {
+        BinaryOperation::Add => {
+            let sum = sum_with(UnaryOperation::Inc, AluOperation::Add, width, number);
+            then_narrow(steps, width, sum)
+        }
+        BinaryOperation::Subtract => {
+            let difference = sum_with(UnaryOperation::Dec, AluOperation::Sub, width, number);
+            then_narrow(steps, width, difference)
+        }
+        BinaryOperation::And | BinaryOperation::Or | BinaryOperation::ExclusiveOr => {
+            add(steps, alu_number(direct(operation), AX, number))
+        }
+        BinaryOperation::Multiply | BinaryOperation::Divide | BinaryOperation::Modulo => {
+            by_factor(steps, operation, width, number)
+        }
+        BinaryOperation::ShiftLeft => left_by_constant(steps, width, count),
+        BinaryOperation::ShiftRight => right_by_constant(steps, width, count),
+        _ => by_number(steps, operation, width, number),
     }
-    all(steps, &[load_number(CX, number)])?;
-    core(steps, operation, width)
 }

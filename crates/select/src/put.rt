@@ -2,12 +2,12 @@
 
 ghost use Rattle.std.specs.Prelude.{◌≡◌, ◌*◌, ◌%◌, ◌++◌, ◌∷◌, [], IsOkUnless, OnOk};
 ghost use Rattle.select.specs.declared.part.Step.TheVariants.{Plain};
-ghost use Rattle.select.specs.Rows.{plain, load_number, copy, clear_byte, alu, alu_number, push, pop, spot, access, placed, own_word};
+ghost use Rattle.select.specs.Rows.{plain, load_number, copy, clear_byte, alu, alu_number, accumulator_gets, compares, push, pop, spot, access, placed, own_word};
 
 use crate::part::{Kind, Step};
 use i86_table::{
     Address, AluOperation, Base, Instr, Memory, Open, Operands, Register8, Register16, RmOperand,
-    Segment, Spot, Use,
+    Segment, Spot, TestMask, Use,
 };
 use word86::{Fault, Place, Width};
 
@@ -78,6 +78,31 @@ pub(crate) fn alu_number(operation: AluOperation, to: Register16, number: u16) -
         operation,
         Operands::Immediate(RmOperand::Register(to), number),
     )
+}
+
+/// AX gets a number; SUB AX,AX is shorter than a move of 0.
+pub(crate) fn accumulator_gets(number: u16) -> Instr
+    ensures { result ≡ accumulator_gets number }
+{
+    if number == 0 {
+        alu(AluOperation::Sub, Register16::Ax, Register16::Ax)
+    } else {
+        load_number(Register16::Ax, number)
+    }
+}
+
+/// AX is compared with a number; TEST AX,AX is shorter than a comparison with 0.
+pub(crate) fn compares(number: u16) -> Instr
+    ensures { result ≡ compares number }
+{
+    if number == 0 {
+        Instr::TestWord(
+            RmOperand::Register(Register16::Ax),
+            TestMask::Register(Register16::Ax),
+        )
+    } else {
+        alu_number(AluOperation::Cmp, Register16::Ax, number)
+    }
 }
 
 /// PUSH of a word register.

@@ -12,8 +12,8 @@ use crate::operators::{
 };
 use crate::part::{Kind, Step};
 use crate::put::{
-    access, add, all, alu, alu_number, clear_byte, copy, load_number, own_word, placed, pop, push,
-    put, spot, twice,
+    access, accumulator_gets, add, all, alu, alu_number, clear_byte, compares, copy, load_number,
+    own_word, placed, pop, push, put, spot, twice,
 };
 use i86_table::{
     AluOperation, Base, Condition, Count, Instr, Open, Operands, Port, Register8, Register16,
@@ -159,7 +159,7 @@ fn unless(steps: &mut Vec<Step>, test: Test, target: usize) -> Result<(), Fault>
             Condition::Equal
         }
         Test::Constant(relation, number) => {
-            add(steps, alu_number(AluOperation::Cmp, AX, number))?;
+            add(steps, compares(number))?;
             fails(relation)
         }
         Test::Plain(relation, Width::Byte, place) => {
@@ -299,7 +299,7 @@ pub(crate) fn row(
     ensures memory { IsOkUnless result Fault.Memory }
 {
     match instruction {
-        Instruction::Constant(number) => add(steps, load_number(AX, number)),
+        Instruction::Constant(number) => add(steps, accumulator_gets(number)),
         Instruction::Locate(place) => {
             put(steps, placed(place, Open::Number(AX), Open::Number(AX)))
         }

@@ -1,6 +1,5 @@
 -- The registers of a routine, from a list of those of each procedure; and routines that there are.
 use Rattle.std.specs.Prelude.{ℕ, ◌<◌, List, [], ◌∷◌, Option, Some, None, slice_get, slice_index_or}
-use Rattle.icode.specs.declared.code.Procedure as declared
 use Rattle.icode.specs.declared.code.Routine.{Routine}
 use Rattle.icode.specs.declared.code.Routine.TheVariants.{Procedure}
 use Rattle.icode.specs.declared.code.Code.{Code}

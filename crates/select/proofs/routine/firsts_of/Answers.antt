@@ -1,4 +1,4 @@
-use Rattle.std.proofs.Common.{◌≡◌, rules, [], get_or}
+use Rattle.std.proofs.Common.{rules, [], get_or}
 use Rattle.std.proofs.lemmas.Option.{slice_get-get_or}
 use Rattle.std.specs.Prelude.{slice_index}
 use Rattle.icode.specs.declared.instruction.Instruction.TheVariants.{Constant}

@@ -1,4 +1,4 @@
-use Rattle.std.proofs.Common.{◌≡◌, ap, ap₂, sym, subst, ◌∙◌, List}
+use Rattle.std.proofs.Common.{◌≡◌, ap₂, sym, subst, ◌∙◌, List}
 use Rattle.std.specs.Prelude.{slice_index}
 use Rattle.icode.specs.Code.{code_of}
 use Rattle.icode.specs.Made.{IsMade}

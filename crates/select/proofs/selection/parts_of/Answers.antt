@@ -1,4 +1,4 @@
-use Rattle.std.proofs.Common.{drop, get_or}
+use Rattle.std.proofs.Common.{get_or}
 use Rattle.std.proofs.lemmas.List.{drop_all, drop_more}
 use Rattle.icode.specs.declared.code.Routine.TheVariants.{Main}
 use Rattle.select.specs.Inner.Selecting.{saves_in}

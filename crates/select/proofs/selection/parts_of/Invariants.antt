@@ -1,4 +1,4 @@
-use Rattle.std.proofs.Common.{◌≡◌, ◌+◌, ◌++◌, List, drop}
+use Rattle.std.proofs.Common.{◌+◌, ◌++◌, List, drop}
 use Rattle.select.specs.declared.part.Part.{Part}
 use Rattle.select.specs.Selection.{ArePartsOf}
 use Rattle.select.specs.Inner.Selecting.{saves_in}

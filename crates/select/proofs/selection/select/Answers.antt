@@ -1,7 +1,7 @@
-use Rattle.std.proofs.Common.{◌≡◌, List, length, ap, sym, subst, ◌∙◌}
+use Rattle.std.proofs.Common.{List, length, sym, subst, ◌∙◌}
 use Rattle.icode.specs.declared.code.Routine.{Routine}
 use Rattle.icode.specs.declared.registers.Registers.{Registers}
-use Rattle.select.specs.Selection.{ArePartsOf, routines}
+use Rattle.select.specs.Selection.{ArePartsOf}
 use Rattle.select.specs.Inner.Selecting.{saves_in, AllBelow}
 use Rattle.select.proofs.Selecting.{saved_by, routines_below}
 use Rattle.select.proofs.selection.select.Goals as goal

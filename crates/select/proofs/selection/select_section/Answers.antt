@@ -1,7 +1,7 @@
 use Rattle.std.proofs.Common.{◌≡◌, ◌++◌, ℕ, List, length, ap, sym, subst, ◌∙◌}
 use Rattle.icode.specs.declared.code.Routine.{Routine}
 use Rattle.icode.specs.declared.registers.Registers.{Registers}
-use Rattle.select.specs.Selection.{ArePartsOf, routines, section, sections_before}
+use Rattle.select.specs.Selection.{ArePartsOf, section, sections_before}
 use Rattle.select.specs.Inner.Selecting.{saves_in, AllBelow}
 use Rattle.select.proofs.Selecting.{saved_by, routines_below}
 use Rattle.select.proofs.selection.select_section.Goals as goal
