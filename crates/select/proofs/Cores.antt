@@ -143,7 +143,7 @@ quotients x y a =
 abbrev IsPower : (k n : ℕ) → Type 0
 IsPower k n = (m : ℕ) × (k ≡ suc m) × (2 ^ n ≡ k) × (n < 256)
 
-abbrev or_zero : Option ℕ → ℕ
+abbrev pub or_zero : Option ℕ → ℕ
 or_zero (Some n) = n
 or_zero None = 0
 

@@ -360,27 +360,57 @@ module _ (laws : Laws) (x : Image) (all : IsSelected x)
 
   -- ---- words of the stack
 
-  framed : Registers
-  framed = record none { accumulator = true; frame = true }
-
   pick_row : (m : ℕ) → RowFollows (op.Pick m)
   pick_row m r k e g n go a inv ws p sm = by (slice_get ws m) refl
     where
       by : (o : Option Word) → slice_get ws m ≡ o → Fl n 8 (At r k g.ax ws) (Own (place r k) g (stack_of ws) false given)
       by None is = bad r k (op.Pick m) e g n go a inv ws p sm (ap (λ z. with_value (value_in z) (λ v. Silent (At r (k + 1) v ws))) is)
       by (Some (Return q)) is = bad r k (op.Pick m) e g n go a inv ws p sm (ap (λ z. with_value (value_in z) (λ v. Silent (At r (k + 1) v ws))) is)
-      by (Some (Value v)) is =
-          let st = stack_of ws in
-          let sp = stack_pointer given st in
-          let g1 = set_word g Bp sp in
-          let h = set_word g1 Ax v in
-          let near : (sp + 2 * m % 65536) % 65536 ≡ sp + 2 * m = no_wrap (top_of given) (length st) sp (length ws) (length base) refl (Stacks.stack_length place base ws) (Stacks.within place base ws m v is) (stack_few r k (op.Pick m) e g n go a inv ws p sm) top_small in
-          silent r k (op.Pick m) e g n go a inv ws p sm (copy Bp Sp) (i.MoveWord (FromMemory Ax (Rows.own_word m)) ∷ []) v ws h (ap (λ z. with_value (value_in z) (λ v. Silent (At r (k + 1) v ws))) is) (rows_stand r k (op.Pick m) e) (omega arith)
-          (g1, st, λ q. refl, (h, st, λ q. ap (λ z. takes z (λ v. Own q (set_word g1 Ax v) st false given)) (Stacks.found_word st m ((sp + 2 * m % 65536) % 65536) sp near ∙ Stacks.value_there place base ws m v is), (refl, refl)))
-          refl (Stacks.value_small place base ws m v is sm) sm (tt, refl, refl, refl, tt, refl, refl)
+      by (Some (Value v)) is = of_count (nat_eq m 0) refl
         where
           no_wrap : (top len sp ws base : ℕ) → sp ≡ top - 2 * len → len ≡ ws + base → m < ws → len ≤ 2047 → top < 65536 → (sp + 2 * m % 65536) % 65536 ≡ sp + 2 * m
           no_wrap top len sp ws base es el lt few small = omega (arith, es, el, lt, few, small)
+
+          u : does_so r k (op.Pick m) e g n go a inv ws p sm ≡ Silent (At r (k + 1) v ws)
+          u = ap (λ z. with_value (value_in z) (λ v. Silent (At r (k + 1) v ws))) is
+
+          small : v < 65536
+          small = Stacks.value_small place base ws m v is sm
+
+          few_words : length (stack_of ws) ≤ room x.main x.handler given
+          few_words = omega (arith, Stacks.stack_length place base ws, enough, counted.few p.0 (At r k g.ax ws) p.1)
+
+          chain_of : (b : Bool) → nat_eq m 0 ≡ b → Chain r (place r k) (plain (if b then pop Ax ∷ push Ax ∷ [] else copy Bp Sp ∷ i.MoveWord (FromMemory Ax (Rows.own_word m)) ∷ [])) (place r (k + 1))
+          chain_of b e2 = subst (λ (b : Bool). Chain r (place r k) (plain (if b then pop Ax ∷ push Ax ∷ [] else copy Bp Sp ∷ i.MoveWord (FromMemory Ax (Rows.own_word m)) ∷ [])) (place r (k + 1))) e2 (rows_stand r k (op.Pick m) e)
+
+          -- the word on top comes off and goes back
+          from_top : (st : List ℕ) → slice_get st 0 ≡ Some v → length st ≤ room x.main x.handler given → (h : Working) × Str (pop Ax ∷ push Ax ∷ []) g st h st × (h.ax ≡ v) × OnlyChanges (changes (op.Pick m)) g h
+          from_top [] top few = absurd (cc)
+          from_top (w ∷ st) top few =
+              let h = set_word g Ax w in
+              let w_is : w ≡ v = ap (λ o. Cores.or_zero o) top in
+              let there_is : nat_lt (length st) (room x.main x.handler given) ≡ true = lt-ltb (length st) (room x.main x.handler given) (omega (arith, few)) in
+              let whole : w % 65536 ≡ w = omega (arith, w_is, small) in (
+                h,
+                (h, st, λ q. refl, (h, w ∷ st, λ q. pushes_is st (Own q h (w % 65536 ∷ st) false given) there_is ∙ ap (λ z. Does (Silent (Own q h (z ∷ st) false given))) whole, (refl, refl))),
+                w_is,
+                (tt, refl, refl, refl, tt, refl, refl),
+              )
+
+          of_count : (b : Bool) → nat_eq m 0 ≡ b → Fl n 8 (At r k g.ax ws) (Own (place r k) g (stack_of ws) false given)
+          of_count true e2 =
+              let top = subst (λ z. slice_get (stack_of ws) z ≡ Some v) (eqb-true m 0 e2) (Stacks.value_there place base ws m v is) in
+              let t = from_top (stack_of ws) top few_words in
+              silent r k (op.Pick m) e g n go a inv ws p sm (pop Ax) (push Ax ∷ []) v ws t.0 u (chain_of true e2) (omega arith) t.1 t.2 small sm t.3
+          of_count false e2 =
+              let st = stack_of ws in
+              let sp = stack_pointer given st in
+              let g1 = set_word g Bp sp in
+              let h = set_word g1 Ax v in
+              let near : (sp + 2 * m % 65536) % 65536 ≡ sp + 2 * m = no_wrap (top_of given) (length st) sp (length ws) (length base) refl (Stacks.stack_length place base ws) (Stacks.within place base ws m v is) (stack_few r k (op.Pick m) e g n go a inv ws p sm) top_small in
+              silent r k (op.Pick m) e g n go a inv ws p sm (copy Bp Sp) (i.MoveWord (FromMemory Ax (Rows.own_word m)) ∷ []) v ws h u (chain_of false e2) (omega arith)
+              (g1, st, λ q. refl, (h, st, λ q. ap (λ z. takes z (λ v. Own q (set_word g1 Ax v) st false given)) (Stacks.found_word st m ((sp + 2 * m % 65536) % 65536) sp near ∙ Stacks.value_there place base ws m v is), (refl, refl)))
+              refl small sm (tt, refl, refl, refl, tt, refl, refl)
 
   enough_words : (m : ℕ) (ws : List Word) → m ≤ length ws → (c : Action Access machine.Context) → (if nat_le m (length ws) then c else Bad 0 0) ≡ c
   enough_words m ws l c = ap (λ (b : Bool). if b then c else Bad 0 0) (le-leb m (length ws) l)

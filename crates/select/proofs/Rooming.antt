@@ -13,7 +13,7 @@ use Rattle.word86.specs.declared.place.Place.{Place}
 use Rattle.word86.specs.declared.place.Place.TheVariants as place
 use Rattle.word86.specs.Places.{screen_begins}
 use Rattle.i86_table.specs.declared.registers.Register16.{Register16}
-use Rattle.i86_table.specs.declared.registers.Register16.TheVariants.{Ax, Cx, Dx, Sp}
+use Rattle.i86_table.specs.declared.registers.Register16.TheVariants.{Ax, Cx, Dx, Bp, Sp}
 use Rattle.i86_table.specs.declared.registers.Segment.{Segment}
 use Rattle.i86_table.specs.declared.registers.Segment.TheVariants as segments
 use Rattle.i86_table.specs.declared.instruction.Base.{Base}
@@ -57,7 +57,7 @@ use Rattle.select.specs.declared.part.Part.{Part}
 use Rattle.select.specs.declared.part.Step.{Step}
 use Rattle.select.specs.Parts.{extent_of}
 use Rattle.select.specs.Inner.Settling.{longest}
-use Rattle.select.specs.Rows.{load_number, accumulator_gets, compares, alu, alu_number, sum_number, sum_with, load_count, shift_word, left_by, right_by, counted, exponent, by_number, powered, pop, narrow, then_narrow, narrow_right, core, direct, narrow_sum, by_constant, changed, left_from_stack, dropped, loads, loads_right, stores, on_place, operates, own_word, sent, received, plain, by_read, unless, registers_of, saved, given_back, finished, row, rows, first_of, routine}
+use Rattle.select.specs.Rows.{load_number, accumulator_gets, compares, alu, alu_number, sum_number, sum_with, load_count, shift_word, left_by, right_by, counted, exponent, by_number, powered, pop, narrow, then_narrow, narrow_right, core, direct, narrow_sum, by_constant, changed, left_from_stack, dropped, loads, loads_right, stores, on_place, operates, own_word, sent, received, plain, by_read, unless, registers_of, saved, given_back, finished, row, rows, first_of, routine, picked, push, copy}
 use Rattle.select.specs.Selection.{IsPartOf, ArePartsOf, part_of}
 use Rattle.select.specs.Room.{room_of, room_for, PartsHaveRoom}
 use Rattle.select.proofs.Bounding.{part_bounded}
@@ -364,6 +364,14 @@ from_own : (n : ℕ) → length (bytes_of (i.MoveWord (FromMemory Ax (own_word n
 unfolding form_of move_word_of
 from_own n = omega (arith, place_room 0 bases.Bp (2 * n % 65536))
 
+picked_room : (n : ℕ) → size (picked n) ≤ 6
+unfolding form_of move_word_of
+picked_room n = cases (nat_eq n 0)
+  where
+    cases : (b : Bool) → size (if b then pop Ax ∷ push Ax ∷ [] else copy Bp Sp ∷ i.MoveWord (FromMemory Ax (own_word n)) ∷ []) ≤ 6
+    cases true = omega arith
+    cases false = omega (arith, from_own n)
+
 module _ (first : ℕ → ℕ) (part : ℕ → ℕ) (saves : Registers) where
   row_room : (p : ℕ) (x : Instruction) → most (row first part saves p x) ≤ room.room_of x
   unfolding form_of alu_word_of move_byte_of move_word_of based_form
@@ -375,7 +383,7 @@ module _ (first : ℕ → ℕ) (part : ℕ → ℕ) (saves : Registers) where
   row_room p (op.LoadThere widths.Byte) = omega arith
   row_room p (op.LoadThere widths.Word) = omega arith
   row_room p op.Push = omega arith
-  row_room p (op.Pick n) = omega (arith, from_own n)
+  row_room p (op.Pick n) = omega (arith, plain_room (picked n), picked_room n)
   row_room p (op.Drop n) = omega (arith, dropped_room n)
   row_room p (op.Unary o width) = omega (arith, plain_room (changed o width), changed_room o width)
   row_room p (op.Binary o width) = omega (arith, plain_room (left_from_stack ++ core o width), size-append left_from_stack (core o width), from_stack_room, core_room o width)

@@ -1,6 +1,6 @@
 -- The steps of a routine: their rows depend on where they lead alone, and no jump leads past them.
 use Rattle.std.proofs.Common.{◌≡◌, ℕ, zero, suc, ◌+◌, ◌-◌, ◌<◌, ◌≤◌, ◌%◌, List, [], ◌∷◌, ◌++◌, length, take, drop, Some, refl, sym, ap, ◌∙◌, arith, slice_get, append_assoc, length-append, inl, inr, ◌⊎◌}
-use Rattle.std.specs.Prelude.{Bool, true, false, nat_le, min, if◌then◌else◌, slice_index, slice_index_or}
+use Rattle.std.specs.Prelude.{Bool, true, false, nat_eq, nat_le, min, if◌then◌else◌, slice_index, slice_index_or}
 use Rattle.std.proofs.lemmas.List.{length-map, append-nil}
 use Rattle.std.proofs.lemmas.Bool.{cases_lt}
 use Rattle.word86.specs.declared.width.Width.TheVariants as widths
@@ -123,7 +123,7 @@ row_some saves (op.Load w x) = omega arith
 row_some saves (op.LoadAt w x) = omega arith
 row_some saves (op.LoadThere w) = omega arith
 row_some saves op.Push = omega arith
-row_some saves (op.Pick n) = omega arith
+row_some saves (op.Pick n) = some_of (nat_eq n 0) _ _ _ _
 row_some saves (op.Drop n) = omega arith
 row_some saves (op.Unary o w) = some_changed o w
 row_some saves (op.Binary o w) = omega arith
@@ -217,7 +217,7 @@ module _ (many : ℕ) (f h : ℕ → ℕ) (saves : Registers) where
   row_inside p (op.LoadAt w x) to table = (tt, (place_inside many x _ _, plain_inside many _))
   row_inside p (op.LoadThere w) to table = (tt, (tt, plain_inside many _))
   row_inside p op.Push to table = (tt, tt)
-  row_inside p (op.Pick n) to table = (tt, (tt, tt))
+  row_inside p (op.Pick n) to table = plain_inside many _
   row_inside p (op.Drop n) to table = (tt, tt)
   row_inside p (op.Unary o w) to table = plain_inside many _
   row_inside p (op.Binary o w) to table = plain_inside many (left_from_stack ++ core o w)

@@ -228,6 +228,14 @@ changed unary.Double width = i.Nop ∷ []
 abbrev pub left_from_stack : List Instr
 left_from_stack = copy Cx Ax ∷ pop Ax ∷ []
 
+-- a word of the context's own, so many under the top
+abbrev pub own_word : ℕ → Memory
+own_word n = record { segment = segments.Ss; address = Based bases.Bp (2 * n % 65536) }
+
+-- AX gets the word so many under the top; the one on top is popped and pushed again
+abbrev pub picked : ℕ → List Instr
+picked n = if nat_eq n 0 then pop Ax ∷ push Ax ∷ [] else copy Bp Sp ∷ i.MoveWord (FromMemory Ax (own_word n)) ∷ []
+
 -- so many words go
 abbrev pub dropped : ℕ → Instr
 dropped n = if nat_eq n 0 then i.Nop else if nat_eq n 1 then pop Cx else alu_number Add Sp (2 * n % 65536)
@@ -266,10 +274,6 @@ on_place x at = placed at (x segments.Ds) (x segments.Es)
 -- an operation on AX and the word at a place
 abbrev pub operates : AluOperation → Segment → Open
 operates f segment = opens.Word (Operate f) Ax (spot None segment)
-
--- a word of the context's own, so many under the top
-abbrev pub own_word : ℕ → Memory
-own_word n = record { segment = segments.Ss; address = Based bases.Bp (2 * n % 65536) }
 
 abbrev pub sent : Width → (port : ℕ) → List Instr
 sent width port = if nat_le 256 port then load_number Dx port ∷ i.Out width ports.Dx ∷ [] else i.Out width (ports.Fixed port) ∷ []
@@ -339,7 +343,7 @@ module _ (first : ℕ → ℕ) (part : ℕ → ℕ) (saves : Registers) where
   row p (op.LoadAt width x) = Plain (copy Bx Ax) ∷ on_place (loads width (Some bases.Bx)) x ∷ plain (narrow width)
   row p (op.LoadThere width) = Plain (copy Bx Ax) ∷ Plain (closed (loads width (Some bases.Bx) segments.Ds) 0) ∷ plain (narrow width)
   row p op.Push = Plain (push Ax) ∷ []
-  row p (op.Pick n) = Plain (copy Bp Sp) ∷ Plain (i.MoveWord (FromMemory Ax (own_word n))) ∷ []
+  row p (op.Pick n) = plain (picked n)
   row p (op.Drop n) = Plain (dropped n) ∷ []
   row p (op.Unary o width) = plain (changed o width)
   row p (op.Binary o width) = plain (left_from_stack ++ core o width)

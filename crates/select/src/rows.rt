@@ -5,7 +5,7 @@ ghost use Rattle.icode.specs.Registers.{none};
 ghost use Rattle.icode.specs.declared.instruction.Instruction.TheVariants.{Switch};
 ghost use Rattle.select.specs.declared.part.Step.TheVariants.{Goto};
 ghost use Rattle.select.specs.Inner.Numbering.{step_at};
-ghost use Rattle.select.specs.Rows.{plain, finished, narrow, operates, row, dropped, sent, received, by_read, fails, unless, with_register, given_back, registers_of, on_place, loads, loads_right, stores};
+ghost use Rattle.select.specs.Rows.{plain, finished, narrow, operates, row, picked, dropped, sent, received, by_read, fails, unless, with_register, given_back, registers_of, on_place, loads, loads_right, stores};
 
 use crate::operators::{
     by_constant, changed, core, direct, narrow, narrow_right, narrow_sum, then_narrow,
@@ -80,6 +80,18 @@ fn operate(operation: AluOperation, place: Place) -> Step
     let ram = Open::Word(Use::Operate(operation), AX, spot(None, Segment::Ds));
     let screen = Open::Word(Use::Operate(operation), AX, spot(None, Segment::Es));
     placed(place, ram, screen)
+}
+
+/// AX gets the word so many under the top; the one on top is popped and pushed again.
+fn picked(steps: &mut Vec<Step>, above: usize) -> Result<(), Fault>
+    ensures steps { OnOk result (steps.new.items ≡ steps.old.items ++ plain (picked above)) }
+    ensures memory { IsOkUnless result Fault.Memory }
+{
+    if above == 0 {
+        return all(steps, &[pop(AX), push(AX)]);
+    }
+    let fetch = Instr::MoveWord(Operands::FromMemory(AX, own_word(above)));
+    all(steps, &[copy(BP, SP), fetch])
 }
 
 fn dropped(count: usize) -> Instr
@@ -319,10 +331,7 @@ pub(crate) fn row(
             narrow(steps, width)
         }
         Instruction::Push => add(steps, push(AX)),
-        Instruction::Pick(above) => {
-            let fetch = Instr::MoveWord(Operands::FromMemory(AX, own_word(above)));
-            all(steps, &[copy(BP, SP), fetch])
-        }
+        Instruction::Pick(above) => picked(steps, above),
         Instruction::Drop(count) => add(steps, dropped(count)),
         Instruction::Unary(operation, width) => changed(steps, operation, width),
         Instruction::Binary(operation, width) => {
