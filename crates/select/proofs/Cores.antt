@@ -1,6 +1,6 @@
 -- The operators on AX and CX.
 use Rattle.std.proofs.Common.{◌≡◌, ℕ, zero, suc, ◌+◌, ◌-◌, ◌*◌, ◌/◌, ◌%◌, ◌^◌, ◌<◌, ◌≤◌, ◌⊎◌, inl, inr, Bool, true, false, List, [], ◌∷◌, length, Option, Some, None, refl, sym, ap, ◌∙◌, subst, arith}
-use Rattle.std.specs.Prelude.{not, ◌==◌, if◌then◌else◌, nat_eq, nat_lt, nat_le}
+use Rattle.std.specs.Prelude.{cond, not, ◌==◌, if◌then◌else◌, nat_eq, nat_lt, nat_le}
 use Rattle.std.specs.Int.RustNames.{bit_and, bit_or, bit_xor}
 use Rattle.std.proofs.lemmas.Bool.{cases_lt, lt-ltb, le-ltb, lt-leb, eq-eqb, ne_eqb, eqb-true}
 use Rattle.std.proofs.Math.Nat.{div-le_self, mod-le}
@@ -15,6 +15,7 @@ use Rattle.word86.specs.Arithmetic.{low, rotated, rotated_left, rotated_right}
 use Rattle.word86.specs.Operators.{truth, quotient, remainder, unary_value, binary_value}
 use Rattle.word86.specs.Action.{Silent}
 use Rattle.word86.specs.Following.{Does}
+use Rattle.i86_table.specs.declared.registers.Register16.{Register16}
 use Rattle.i86_table.specs.declared.registers.Register16.TheVariants.{Ax, Cx, Dx}
 use Rattle.i86_table.specs.declared.registers.Register8.TheVariants.{Al, Ah, Cl}
 use Rattle.i86_table.specs.declared.instruction.AluOperation.TheVariants.{Add, Sub, Sbb, And, Or, Xor, Cmp}
@@ -31,8 +32,10 @@ use Rattle.i86_table.specs.declared.instruction.Instr.TheVariants as i
 use Rattle.i86_table.specs.declared.flags.Flags.{Flags}
 use Rattle.i86_table.specs.declared.outcome.Division.{Division}
 use Rattle.i86_table.specs.Arithmetic.{operated, added, subtracted, combined, changed, shifted, multiplied, divided, is_carry, number_of}
-use Rattle.i86_table.specs.Contexts.{Own, Working, Given, offered, divides, word_quotient, word_product, alu_word, alu_byte, count_in, set_byte, set_word, set_flags, word_result, byte_result}
-use Rattle.select.specs.Rows.{core, narrow, then_narrow, from_carry, from_no_carry, clear_high, load_number, accumulator_gets, copy, alu, alu_number, shift_word, shift_byte, left_by, right_by, direct, narrow_sum, sum_number, sum_with, load_count, counted, exponent, by_number, powered, by_constant}
+use Rattle.i86_table.specs.Contexts.{Own, Working, Given, offered, divides, word_quotient, word_product, alu_word, alu_byte, count_in, is_sp, word_in, exchanged, unless, silently, set_byte, set_word, set_flags, word_result, byte_result}
+use Rattle.select.specs.Rows.{core, narrow, then_narrow, from_carry, from_no_carry, clear_high, load_number, accumulator_gets, exchange, alu, alu_number, shift_word, shift_byte, left_by, right_by, direct, narrow_sum, sum_number, sum_with, load_count, counted, exponent, by_number, powered, by_constant}
+use Rattle.i86_table.specs.Numbers.{word_register_code}
+use Rattle.i86_table.specs.Pairs.{word_pair}
 use Rattle.select.specs.Rows as rows
 use Rattle.select.proofs.Straight.{with_each, Straight, also}
 use Rattle.icode.specs.declared.registers.Registers.{Registers}
@@ -295,6 +298,20 @@ module _ (laws : Laws) (find : ℕ → ℕ → Option (ℕ × ℕ)) (words : ℕ
   only : (s : Registers) (n : Instr) (g h : Working) (st : List ℕ) (v : ℕ) → On n g st h st → OnlyChanges s g h → h.ax ≡ v → v < 65536 → Computes s (n ∷ []) g st v
   only s n g h st v e keep is lt = (h, (h, st, e, (refl, refl)), is, lt, keep)
 
+  -- ---- AX and another register change places
+
+  abbrev pub swapped : Register16 → Working → Working
+  swapped r g = set_word (set_word g Ax (word_in g r)) r g.ax
+
+  pub exchanges : (r : Register16) → nat_le 0 (word_register_code r) ≡ true → is_sp r ≡ false → (g : Working) (st : List ℕ) → On (exchange r) g st (swapped r g) st
+  exchanges r low other g st q =
+      let p = word_pair Ax r in
+      let first_is : p.first ≡ Ax = laws.pairs.first Ax r ∙ ap (λ (b : Bool). cond b Ax r) low in
+      let second_is : p.second ≡ r = laws.pairs.second Ax r ∙ ap (λ (b : Bool). cond b r Ax) low in
+      ap (λ z. unless (is_sp z) (unless (is_sp p.second) (silently (Own q (exchanged z p.second g) st false given)))) first_is
+      ∙ ap (λ z. unless (is_sp z) (silently (Own q (exchanged Ax z g) st false given))) second_is
+      ∙ ap (λ (b : Bool). unless b (silently (Own q (swapped r g) st false given))) other
+
   byte_keeps : (s : Registers) → s.accumulator ≡ true → (h : Working) → OnlyChanges s h (set_byte h Ah 0)
   byte_keeps s acc h = (
     subst (λ (b : Bool). Same b h.ax (set_byte h Ah 0).ax) (sym acc) tt,
@@ -431,8 +448,8 @@ module _ (laws : Laws) (find : ℕ → ℕ → Option (ℕ × ℕ)) (words : ℕ
   remainder_gives g st width zero a e c = tt
   remainder_gives g st width (suc y) a e c =
       let d = divides_by g st y a e in
-      let h = set_word d.0 Ax d.0.dx in
-      (h, also find words main handler given (load_number Dx 0 ∷ i.DivideWord Unsigned (rm.Register Cx) ∷ []) (copy Ax Dx ∷ []) g st d.0 st h st d.1 (h, st, λ q. refl, (refl, refl)), d.3, omega (arith, a, mod-le g.ax (suc y)), changes_then with_high g d.0 h d.4 (tt, refl, tt, refl, refl, refl, refl))
+      let h = swapped Dx d.0 in
+      (h, also find words main handler given (load_number Dx 0 ∷ i.DivideWord Unsigned (rm.Register Cx) ∷ []) (exchange Dx ∷ []) g st d.0 st h st d.1 (h, st, exchanges Dx refl refl d.0 st, (refl, refl)), d.3, omega (arith, a, mod-le g.ax (suc y)), changes_then with_high g d.0 h d.4 (tt, refl, tt, refl, refl, refl, refl))
 
   low_again : (x n : ℕ) → (rotated widths.Byte (x % 256) n) ≡ rotated widths.Byte x n
   low_again x n = ap (λ z. let turned = z * 2 ^ n in (turned % 256 + turned / 256) % 256) again

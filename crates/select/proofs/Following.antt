@@ -60,7 +60,7 @@ use Rattle.select.specs.declared.part.Step.{Step}
 use Rattle.select.specs.declared.part.Step.TheVariants.{Plain, GotoIf}
 use Rattle.select.specs.Linked.{Stands}
 use Rattle.select.specs.Rows
-use Rattle.select.specs.Rows.{load_number, accumulator_gets, copy, clear_byte, clear_high, push, pop, alu, alu_number, core, narrow, narrow_right, then_narrow, narrow_sum, loads, loads_right, stores, spot, segment_of, row, first_of, plain, direct, by_constant, by_read, left_from_stack, fails, registers_of, given_back}
+use Rattle.select.specs.Rows.{load_number, accumulator_gets, exchange, copy, clear_byte, clear_high, push, pop, alu, alu_number, core, narrow, narrow_right, then_narrow, narrow_sum, loads, loads_right, stores, spot, segment_of, row, first_of, plain, direct, by_constant, by_read, left_from_stack, fails, registers_of, given_back}
 use Rattle.icode.specs.Made.{constant_in}
 use Rattle.icode.specs.Runs.{Leads, Comes}
 use Rattle.select.specs.Promise.{Allowed, Counted, Image, IsSelected, next_of, place_of}
@@ -327,11 +327,11 @@ module _ (laws : Laws) (x : Image) (all : IsSelected x)
   load_at_row : (width : Width) (y : Place) → RowFollows (op.LoadAt width y)
   load_at_row width y r k e g n go a inv ws p sm =
       let v0 = address x.offsets x.sizes y 0 in
-      let g1 = set_word g Bx g.ax in
+      let g1 = Cores.swapped laws x.find x.words x.main x.handler given Bx g in
       let c = rows_stand r k (op.LoadAt width y) e in
-      read_on r k (op.LoadAt width y) e g n go a inv ws p sm width (copy Bx Ax ∷ []) (closed (loads width (Some bases.Bx) (segment_of y)) v0) (narrow width) (found x.offsets x.sizes width y (address x.offsets x.sizes y g.ax)) (λ v. v) g1 (λ v. input_gives width g1 v) refl
+      read_on r k (op.LoadAt width y) e g n go a inv ws p sm width (exchange Bx ∷ []) (closed (loads width (Some bases.Bx) (segment_of y)) v0) (narrow width) (found x.offsets x.sizes width y (address x.offsets x.sizes y g.ax)) (λ v. v) g1 (λ v. input_gives width g1 v) refl
       (c.0, c.1, c.2, Chains.settled x.code x.words x.offsets x.places (x.at r) x.sizes (loads width (Some bases.Bx)) y (plain (narrow width)) c.0 (place r (k + 1)) c.3)
-      (omega arith) (narrow_pace width) (g1, stack_of ws, λ q. refl, (refl, refl))
+      (omega arith) (narrow_pace width) (g1, stack_of ws, Cores.exchanges laws x.find x.words x.main x.handler given Bx refl refl g (stack_of ws), (refl, refl))
       (λ z. Offers.load_offered x.find x.words x.main x.handler given width y (Some bases.Bx) v0 z g1 (stack_of ws) ∙ ap (λ o. reads o width (λ v. Own z (input_gives width g1 v) (stack_of ws) false given)) (behind_found width y g.ax))
       (λ v lt. let w = narrowed width g1 (stack_of ws) v lt in (w.0, w.1, w.2, w.3, changes_then addressed g g1 w.0 (tt, refl, refl, tt, refl, refl, refl) (changes_wider addressed just_accumulator g1 w.0 refl w.4)))
 
@@ -341,10 +341,10 @@ module _ (laws : Laws) (x : Image) (all : IsSelected x)
   load_there_row : (width : Width) → RowFollows (op.LoadThere width)
   unfolding there
   load_there_row width r k e g n go a inv ws p sm =
-      let g1 = set_word g Bx g.ax in
-      read_on r k (op.LoadThere width) e g n go a inv ws p sm width (copy Bx Ax ∷ []) (closed (loads width (Some bases.Bx) segments.Ds) 0) (narrow width) (held 0 x.offsets x.sizes g.ax (word_places.bytes width)) (λ v. v) g1 (λ v. input_gives width g1 v) refl
+      let g1 = Cores.swapped laws x.find x.words x.main x.handler given Bx g in
+      read_on r k (op.LoadThere width) e g n go a inv ws p sm width (exchange Bx ∷ []) (closed (loads width (Some bases.Bx) segments.Ds) 0) (narrow width) (held 0 x.offsets x.sizes g.ax (word_places.bytes width)) (λ v. v) g1 (λ v. input_gives width g1 v) refl
       (rows_stand r k (op.LoadThere width) e)
-      (omega arith) (narrow_pace width) (g1, stack_of ws, λ q. refl, (refl, refl))
+      (omega arith) (narrow_pace width) (g1, stack_of ws, Cores.exchanges laws x.find x.words x.main x.handler given Bx refl refl g (stack_of ws), (refl, refl))
       (λ z. Offers.load_offered x.find x.words x.main x.handler given width there (Some bases.Bx) 0 z g1 (stack_of ws) ∙ ap (λ o. reads o width (λ v. Own z (input_gives width g1 v) (stack_of ws) false given)) (there_found width g.ax a))
       (λ v lt. let w = narrowed width g1 (stack_of ws) v lt in (w.0, w.1, w.2, w.3, changes_then addressed g g1 w.0 (tt, refl, refl, tt, refl, refl, refl) (changes_wider addressed just_accumulator g1 w.0 refl w.4)))
 
@@ -498,10 +498,10 @@ module _ (laws : Laws) (x : Image) (all : IsSelected x)
   binary_row o width r k e g n go a inv [] p sm = bad r k (op.Binary o width) e g n go a inv [] p sm refl
   binary_row o width r k e g n go a inv (Return q ∷ ws) p sm = bad r k (op.Binary o width) e g n go a inv (Return q ∷ ws) p sm refl
   binary_row o width r k e g n go a inv (Value v ∷ ws) p sm =
-      let g0 = set_word g Cx g.ax in
+      let g0 = Cores.swapped laws x.find x.words x.main x.handler given Cx g in
       let g1 = set_word g0 Ax v in
-      computing r k (op.Binary o width) e g n go a inv (Value v ∷ ws) p sm (copy Cx Ax) (pop Ax ∷ []) (binary_value o width v g.ax) ws (Cores.core_changes o) g1 (core o width) refl (rows_stand r k (op.Binary o width) e) (let s = Cores.short o width in omega (arith, s))
-      (g0, v ∷ stack_of ws, λ q. refl, (g1, stack_of ws, λ q. refl, (refl, refl))) sm.1 (Cores.operands_put o g g1 refl refl refl refl refl) (Cores.core_within o)
+      computing r k (op.Binary o width) e g n go a inv (Value v ∷ ws) p sm (exchange Cx) (pop Ax ∷ []) (binary_value o width v g.ax) ws (Cores.core_changes o) g1 (core o width) refl (rows_stand r k (op.Binary o width) e) (let s = Cores.short o width in omega (arith, s))
+      (g0, v ∷ stack_of ws, Cores.exchanges laws x.find x.words x.main x.handler given Cx refl refl g (v ∷ stack_of ws), (g1, stack_of ws, λ q. refl, (refl, refl))) sm.1 (Cores.operands_put o g g1 refl refl refl refl refl) (Cores.core_within o)
       (Cores.core_gives laws x.find x.words x.main x.handler given o width g1 (stack_of ws) sm.0 a)
 
   sum_pace : (o : BinaryOperation) (width : Width) → with_each (narrow_sum o width) 8 ≤ 20
@@ -650,12 +650,12 @@ module _ (laws : Laws) (x : Image) (all : IsSelected x)
   store_at_row width y r k e g n go a inv (Return q ∷ ws) p sm = bad r k (op.StoreAt width y) e g n go a inv (Return q ∷ ws) p sm refl
   store_at_row width y r k e g n go a inv (Value v ∷ ws) p sm =
       let v0 = address x.offsets x.sizes y 0 in
-      let g0 = set_word g Bx g.ax in
+      let g0 = Cores.swapped laws x.find x.words x.main x.handler given Bx g in
       let g1 = set_word g0 Ax v in
       let c = rows_stand r k (op.StoreAt width y) e in
-      storing r k (op.StoreAt width y) e g n go a inv (Value v ∷ ws) p sm width (copy Bx Ax ∷ pop Ax ∷ []) (closed (stores width (Some bases.Bx) (segment_of y)) v0) (found x.offsets x.sizes width y (address x.offsets x.sizes y g.ax)) v ws g1 refl
+      storing r k (op.StoreAt width y) e g n go a inv (Value v ∷ ws) p sm width (exchange Bx ∷ pop Ax ∷ []) (closed (stores width (Some bases.Bx) (segment_of y)) v0) (found x.offsets x.sizes width y (address x.offsets x.sizes y g.ax)) v ws g1 refl
       (c.0, c.1, c.2, (c.3.0, c.3.1, c.3.2, Chains.settled x.code x.words x.offsets x.places (x.at r) x.sizes (stores width (Some bases.Bx)) y [] c.3.0 (place r (k + 1)) c.3.3))
-      (omega arith) (g0, v ∷ stack_of ws, λ q. refl, (g1, stack_of ws, λ q. refl, (refl, refl))) refl sm.0 sm.1 (tt, refl, refl, tt, refl, refl, refl)
+      (omega arith) (g0, v ∷ stack_of ws, Cores.exchanges laws x.find x.words x.main x.handler given Bx refl refl g (v ∷ stack_of ws), (g1, stack_of ws, λ q. refl, (refl, refl))) refl sm.0 sm.1 (tt, refl, refl, tt, refl, refl, refl)
       (λ z. Offers.store_offered x.find x.words x.main x.handler given width y (Some bases.Bx) v0 z g1 (stack_of ws) ∙ ap (λ q. writes q width (output_takes width g1) (Own z g1 (stack_of ws) false given)) (behind_found width y g.ax))
 
   store_there_row : (width : Width) → RowFollows (op.StoreThere width)
@@ -663,11 +663,11 @@ module _ (laws : Laws) (x : Image) (all : IsSelected x)
   store_there_row width r k e g n go a inv [] p sm = bad r k (op.StoreThere width) e g n go a inv [] p sm refl
   store_there_row width r k e g n go a inv (Return q ∷ ws) p sm = bad r k (op.StoreThere width) e g n go a inv (Return q ∷ ws) p sm refl
   store_there_row width r k e g n go a inv (Value v ∷ ws) p sm =
-      let g0 = set_word g Bx g.ax in
+      let g0 = Cores.swapped laws x.find x.words x.main x.handler given Bx g in
       let g1 = set_word g0 Ax v in
-      storing r k (op.StoreThere width) e g n go a inv (Value v ∷ ws) p sm width (copy Bx Ax ∷ pop Ax ∷ []) (closed (stores width (Some bases.Bx) segments.Ds) 0) (held 0 x.offsets x.sizes g.ax (word_places.bytes width)) v ws g1 refl
+      storing r k (op.StoreThere width) e g n go a inv (Value v ∷ ws) p sm width (exchange Bx ∷ pop Ax ∷ []) (closed (stores width (Some bases.Bx) segments.Ds) 0) (held 0 x.offsets x.sizes g.ax (word_places.bytes width)) v ws g1 refl
       (rows_stand r k (op.StoreThere width) e)
-      (omega arith) (g0, v ∷ stack_of ws, λ q. refl, (g1, stack_of ws, λ q. refl, (refl, refl))) refl sm.0 sm.1 (tt, refl, refl, tt, refl, refl, refl)
+      (omega arith) (g0, v ∷ stack_of ws, Cores.exchanges laws x.find x.words x.main x.handler given Bx refl refl g (v ∷ stack_of ws), (g1, stack_of ws, λ q. refl, (refl, refl))) refl sm.0 sm.1 (tt, refl, refl, tt, refl, refl, refl)
       (λ z. Offers.store_offered x.find x.words x.main x.handler given width there (Some bases.Bx) 0 z g1 (stack_of ws) ∙ ap (λ q. writes q width (output_takes width g1) (Own z g1 (stack_of ws) false given)) (there_found width g.ax a))
 
   abbrev ported : Registers
@@ -677,10 +677,10 @@ module _ (laws : Laws) (x : Image) (all : IsSelected x)
   send_row width r k e g n go a inv [] p sm = bad r k (op.Send width) e g n go a inv [] p sm refl
   send_row width r k e g n go a inv (Return q ∷ ws) p sm = bad r k (op.Send width) e g n go a inv (Return q ∷ ws) p sm refl
   send_row width r k e g n go a inv (Value v ∷ ws) p sm =
-      let g0 = set_word g Dx g.ax in
+      let g0 = Cores.swapped laws x.find x.words x.main x.handler given Dx g in
       let g1 = set_word g0 Ax v in
-      accessing r k (op.Send width) e g n go a inv (Value v ∷ ws) p sm (copy Dx Ax ∷ pop Ax ∷ []) (i.Out width ports.Dx) [] (Output width g.ax (low width v)) (λ _. v) ws g1 (stack_of ws) (λ _. g1) refl (rows_stand r k (op.Send width) e) (omega arith) (omega arith)
-      (g0, v ∷ stack_of ws, λ q. refl, (g1, stack_of ws, λ q. refl, (refl, refl)))
+      accessing r k (op.Send width) e g n go a inv (Value v ∷ ws) p sm (exchange Dx ∷ pop Ax ∷ []) (i.Out width ports.Dx) [] (Output width g.ax (low width v)) (λ _. v) ws g1 (stack_of ws) (λ _. g1) refl (rows_stand r k (op.Send width) e) (omega arith) (omega arith)
+      (g0, v ∷ stack_of ws, Cores.exchanges laws x.find x.words x.main x.handler given Dx refl refl g (v ∷ stack_of ws), (g1, stack_of ws, λ q. refl, (refl, refl)))
       (λ z. ap (λ q. Does (Touch (Output width g.ax q) (λ _. Own z g1 (stack_of ws) false given))) (takes_low width g1 sm.0)) sm.1
       (λ u lt. (g1, (refl, refl), refl, sm.0, (tt, refl, tt, refl, refl, refl, refl)))
 
@@ -703,9 +703,9 @@ module _ (laws : Laws) (x : Image) (all : IsSelected x)
 
   receive_row : (width : Width) → RowFollows (op.Receive width)
   receive_row width r k e g n go a inv ws p sm =
-      let g1 = set_word g Dx g.ax in
-      accessing r k (op.Receive width) e g n go a inv ws p sm (copy Dx Ax ∷ []) (i.In width ports.Dx) (narrow width) (Input width g.ax) (λ v. v) ws g1 (stack_of ws) (λ v. input_gives width g1 v) refl (rows_stand r k (op.Receive width) e) (omega arith) (narrow_pace width)
-      (g1, stack_of ws, λ q. refl, (refl, refl)) (λ z. refl) sm
+      let g1 = Cores.swapped laws x.find x.words x.main x.handler given Dx g in
+      accessing r k (op.Receive width) e g n go a inv ws p sm (exchange Dx ∷ []) (i.In width ports.Dx) (narrow width) (Input width g.ax) (λ v. v) ws g1 (stack_of ws) (λ v. input_gives width g1 v) refl (rows_stand r k (op.Receive width) e) (omega arith) (narrow_pace width)
+      (g1, stack_of ws, Cores.exchanges laws x.find x.words x.main x.handler given Dx refl refl g (stack_of ws), (refl, refl)) (λ z. refl) sm
       (λ v lt. let w = narrowed width g1 (stack_of ws) v lt in (w.0, w.1, w.2, w.3, changes_then ported g g1 w.0 (tt, refl, tt, refl, refl, refl, refl) (changes_wider ported just_accumulator g1 w.0 refl w.4)))
 
   receive_from_row : (width : Width) (port : ℕ) → RowFollows (op.ReceiveFrom width port)

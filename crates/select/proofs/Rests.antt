@@ -1,9 +1,11 @@
--- The laws of the arithmetic that selection rests on.
+-- The laws of arithmetic and of pairs that selection rests on.
 use Rattle.i86_table.specs.FlagLaws.{SetFlagHolds, OtherFlagsStay}
 use Rattle.i86_table.specs.ArithmeticLaws.{ShiftLaws, RotationLaws}
+use Rattle.i86_table.specs.PairLaws.{WordPairLaws}
 
 pub record Laws : Type 0 where
   pub same : SetFlagHolds
   pub others : OtherFlagsStay
   pub shift : ShiftLaws
   pub rotate : RotationLaws
+  pub pairs : WordPairLaws

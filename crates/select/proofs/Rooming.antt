@@ -13,7 +13,7 @@ use Rattle.word86.specs.declared.place.Place.{Place}
 use Rattle.word86.specs.declared.place.Place.TheVariants as place
 use Rattle.word86.specs.Places.{screen_begins}
 use Rattle.i86_table.specs.declared.registers.Register16.{Register16}
-use Rattle.i86_table.specs.declared.registers.Register16.TheVariants.{Ax, Cx, Dx, Bp, Sp}
+use Rattle.i86_table.specs.declared.registers.Register16.TheVariants.{Ax, Bx, Cx, Dx, Bp, Sp}
 use Rattle.i86_table.specs.declared.registers.Segment.{Segment}
 use Rattle.i86_table.specs.declared.registers.Segment.TheVariants as segments
 use Rattle.i86_table.specs.declared.instruction.Base.{Base}
@@ -35,14 +35,18 @@ use Rattle.i86_table.specs.declared.instruction.Instr.TheVariants as i
 use Rattle.i86_table.specs.declared.open.Open.{Open}
 use Rattle.i86_table.specs.declared.open.Open.TheVariants as opens
 use Rattle.i86_table.specs.Open.{closed}
-use Rattle.i86_code.specs.declared.form.RegisterOrMemory.TheVariants.{Indirect, Near, Far}
+use Rattle.i86_code.specs.declared.form.Fields.TheVariants as fields
+use Rattle.i86_code.specs.declared.form.RegisterOrMemory.TheVariants.{Register, Indirect, Near, Far}
 use Rattle.i86_table.specs.Numbers.{word_register_code}
+use Rattle.i86_table.specs.Pairs.{word_pair}
+use Rattle.i86_table.specs.declared.pairs.WordPair.{WordPair}
 use Rattle.i86_code.specs.declared.form.Opcode.TheVariants as opcode
 use Rattle.i86_code.specs.Opcodes.{operation_code}
 use Rattle.i86_code.specs.Forms.{place_bytes, form_bytes}
 use Rattle.i86_code.specs.Instructions.{is_short}
 use Rattle.i86_code.specs.Open.{front_of}
-use Rattle.i86_code.specs.Writing.{is_near, is_bp, based_form, with_byte, with_word, alu_byte_of, alu_word_of, move_byte_of, move_word_of, form_of, bytes_of}
+use Rattle.i86_code.specs.Writing as writing
+use Rattle.i86_code.specs.Writing.{is_ax, is_near, is_bp, based_form, with_byte, with_word, alu_byte_of, alu_word_of, move_byte_of, move_word_of, form_of, bytes_of}
 use Rattle.icode.specs.declared.instruction.Instruction.{Instruction}
 use Rattle.icode.specs.declared.instruction.Instruction.TheVariants as op
 use Rattle.icode.specs.declared.instruction.Test.{Test}
@@ -57,7 +61,7 @@ use Rattle.select.specs.declared.part.Part.{Part}
 use Rattle.select.specs.declared.part.Step.{Step}
 use Rattle.select.specs.Parts.{extent_of}
 use Rattle.select.specs.Inner.Settling.{longest}
-use Rattle.select.specs.Rows.{load_number, accumulator_gets, compares, alu, alu_number, sum_number, sum_with, load_count, shift_word, left_by, right_by, counted, exponent, by_number, powered, pop, narrow, then_narrow, narrow_right, core, direct, narrow_sum, by_constant, changed, left_from_stack, dropped, loads, loads_right, stores, on_place, operates, own_word, sent, received, plain, by_read, unless, registers_of, saved, given_back, finished, row, rows, first_of, routine, picked, push, copy}
+use Rattle.select.specs.Rows.{exchange, load_number, accumulator_gets, compares, alu, alu_number, sum_number, sum_with, load_count, shift_word, left_by, right_by, counted, exponent, by_number, powered, pop, narrow, then_narrow, narrow_right, core, direct, narrow_sum, by_constant, changed, left_from_stack, dropped, loads, loads_right, stores, on_place, operates, own_word, sent, received, plain, by_read, unless, registers_of, saved, given_back, finished, row, rows, first_of, routine, picked, push, copy}
 use Rattle.select.specs.Selection.{IsPartOf, ArePartsOf, part_of}
 use Rattle.select.specs.Room.{room_of, room_for, PartsHaveRoom}
 use Rattle.select.proofs.Bounding.{part_bounded}
@@ -159,11 +163,21 @@ narrow_room widths.Word = omega arith
 then_narrow_room : (w : Width) (n : Instr) → size (then_narrow w n) ≤ length (bytes_of n) + 2
 then_narrow_room w n = omega (arith, narrow_room w)
 
+exchange_room : (r : Register16) → length (bytes_of (exchange r)) ≤ 2
+unfolding form_of
+exchange_room r = cases (word_pair Ax r) (is_ax (word_pair Ax r).first) (is_ax (word_pair Ax r).second)
+  where
+    cases : (p : WordPair) (x y : Bool)
+        → length (form_bytes (if x && not y then writing.plain (opcode.ExchangeAccumulator p.second) fields.Nothing else writing.plain (opcode.Exchange widths.Word) (fields.Address (word_register_code p.first) (Register (word_register_code p.second))))) ≤ 2
+    cases p true true = omega arith
+    cases p true false = omega arith
+    cases p false y = omega arith
+
 core_room : (o : BinaryOperation) (w : Width) → size (core o w) ≤ 11
 unfolding form_of alu_byte_of alu_word_of move_byte_of move_word_of
 core_room binary.Multiply w = omega (arith, narrow_room w)
 core_room binary.Divide w = omega arith
-core_room binary.Modulo w = omega arith
+core_room binary.Modulo w = omega (arith, exchange_room Dx)
 core_room binary.Add w = omega (arith, narrow_room w)
 core_room binary.Subtract w = omega (arith, narrow_room w)
 core_room binary.Equal w = omega arith
@@ -271,9 +285,9 @@ by_constant_room binary.LessEqual w k = number_room_of binary.LessEqual w k
 by_constant_room binary.Greater w k = number_room_of binary.Greater w k
 by_constant_room binary.GreaterEqual w k = number_room_of binary.GreaterEqual w k
 
-from_stack_room : size left_from_stack ≡ 3
-unfolding form_of move_word_of
-from_stack_room = refl
+from_stack_room : size left_from_stack ≤ 3
+unfolding form_of
+from_stack_room = omega (arith, exchange_room Cx)
 
 changed_room : (o : UnaryOperation) (w : Width) → size (changed o w) ≤ 4
 unfolding form_of move_byte_of
@@ -379,9 +393,9 @@ module _ (first : ℕ → ℕ) (part : ℕ → ℕ) (saves : Registers) where
   row_room p (op.Locate x) = omega (arith, on_place_room (λ s. opens.Number Ax) 3 x locate_within)
   row_room p (op.LocateAt x) = omega (arith, on_place_room (λ s. opens.OperateAx Add) 3 x locate_at_within)
   row_room p (op.Load width x) = omega (arith, on_place_room (loads width None) 4 x (loads_within width), plain_room (narrow width), narrow_room width)
-  row_room p (op.LoadAt width x) = omega (arith, on_place_room (loads width (Some bases.Bx)) 5 x (loads_at_within width), plain_room (narrow width), narrow_room width)
-  row_room p (op.LoadThere widths.Byte) = omega arith
-  row_room p (op.LoadThere widths.Word) = omega arith
+  row_room p (op.LoadAt width x) = omega (arith, exchange_room Bx, on_place_room (loads width (Some bases.Bx)) 5 x (loads_at_within width), plain_room (narrow width), narrow_room width)
+  row_room p (op.LoadThere widths.Byte) = omega (arith, exchange_room Bx)
+  row_room p (op.LoadThere widths.Word) = omega (arith, exchange_room Bx)
   row_room p op.Push = omega arith
   row_room p (op.Pick n) = omega (arith, plain_room (picked n), picked_room n)
   row_room p (op.Drop n) = omega (arith, dropped_room n)
@@ -390,12 +404,12 @@ module _ (first : ℕ → ℕ) (part : ℕ → ℕ) (saves : Registers) where
   row_room p (op.BinaryConstant o width k) = omega (arith, plain_room (by_constant o width k), by_constant_room o width k)
   row_room p (op.BinaryPlain o width read x) = by_read_room o width read x
   row_room p (op.Store width x) = omega (arith, on_place_room (stores width None) 4 x (stores_within width))
-  row_room p (op.StoreAt width x) = omega (arith, on_place_room (stores width (Some bases.Bx)) 5 x (stores_at_within width))
-  row_room p (op.StoreThere widths.Byte) = omega arith
-  row_room p (op.StoreThere widths.Word) = omega arith
-  row_room p (op.Send width) = omega arith
+  row_room p (op.StoreAt width x) = omega (arith, exchange_room Bx, on_place_room (stores width (Some bases.Bx)) 5 x (stores_at_within width))
+  row_room p (op.StoreThere widths.Byte) = omega (arith, exchange_room Bx)
+  row_room p (op.StoreThere widths.Word) = omega (arith, exchange_room Bx)
+  row_room p (op.Send width) = omega (arith, exchange_room Dx)
   row_room p (op.SendTo width port) = omega (arith, plain_room (sent width port), sent_room width port)
-  row_room p (op.Receive width) = omega (arith, plain_room (narrow width), narrow_room width)
+  row_room p (op.Receive width) = omega (arith, exchange_room Dx, plain_room (narrow width), narrow_room width)
   row_room p (op.ReceiveFrom width port) = omega (arith, plain_room (received width port), received_room width port)
   row_room p (op.Ahead n) = omega arith
   row_room p (op.AheadUnless t n) = unless_room t (first (p + n))

@@ -43,6 +43,7 @@ use Rattle.i86_table.specs.declared.open.Spot.{Spot}
 use Rattle.i86_table.specs.declared.open.Open.{Open}
 use Rattle.i86_table.specs.declared.open.Open.TheVariants as opens
 use Rattle.i86_table.specs.Open.{closed}
+use Rattle.i86_table.specs.Pairs.{word_pair}
 use Rattle.icode.specs.declared.instruction.Instruction.{Instruction}
 use Rattle.icode.specs.declared.instruction.Instruction.TheVariants as op
 use Rattle.icode.specs.declared.instruction.Relation.{Relation}
@@ -62,6 +63,10 @@ load_number r k = i.MoveWord (Immediate (rm.Register r) k)
 
 abbrev pub copy : (to from : Register16) → Instr
 copy to from = i.MoveWord (FromRegister (rm.Register to) from)
+
+-- AX and another register change places: a byte shorter than a copy, where the old value is wanted no more
+abbrev pub exchange : Register16 → Instr
+exchange r = i.ExchangeWords (word_pair Ax r)
 
 abbrev pub clear_byte : Register8 → Instr
 clear_byte r = i.MoveByte (Immediate (rm.Register r) 0)
@@ -134,7 +139,7 @@ right_by width c = narrow width ++ shift_word shifts.Shr c ∷ []
 abbrev pub core : BinaryOperation → Width → List Instr
 core binary.Multiply width = then_narrow width (i.MultiplyWord Unsigned (rm.Register Cx))
 core binary.Divide width = load_number Dx 0 ∷ i.DivideWord Unsigned (rm.Register Cx) ∷ []
-core binary.Modulo width = load_number Dx 0 ∷ i.DivideWord Unsigned (rm.Register Cx) ∷ copy Ax Dx ∷ []
+core binary.Modulo width = load_number Dx 0 ∷ i.DivideWord Unsigned (rm.Register Cx) ∷ exchange Dx ∷ []
 core binary.Add width = then_narrow width (alu Add Ax Cx)
 core binary.Subtract width = then_narrow width (alu Sub Ax Cx)
 core binary.Equal width = alu Sub Ax Cx ∷ alu_number Cmp Ax 1 ∷ from_carry
@@ -226,7 +231,7 @@ changed unary.Double width = i.Nop ∷ []
 
 -- the left operand comes from the stack
 abbrev pub left_from_stack : List Instr
-left_from_stack = copy Cx Ax ∷ pop Ax ∷ []
+left_from_stack = exchange Cx ∷ pop Ax ∷ []
 
 -- a word of the context's own, so many under the top
 abbrev pub own_word : ℕ → Memory
@@ -340,8 +345,8 @@ module _ (first : ℕ → ℕ) (part : ℕ → ℕ) (saves : Registers) where
   row p (op.Locate x) = on_place (λ s. opens.Number Ax) x ∷ []
   row p (op.LocateAt x) = on_place (λ s. opens.OperateAx Add) x ∷ []
   row p (op.Load width x) = on_place (loads width None) x ∷ plain (narrow width)
-  row p (op.LoadAt width x) = Plain (copy Bx Ax) ∷ on_place (loads width (Some bases.Bx)) x ∷ plain (narrow width)
-  row p (op.LoadThere width) = Plain (copy Bx Ax) ∷ Plain (closed (loads width (Some bases.Bx) segments.Ds) 0) ∷ plain (narrow width)
+  row p (op.LoadAt width x) = Plain (exchange Bx) ∷ on_place (loads width (Some bases.Bx)) x ∷ plain (narrow width)
+  row p (op.LoadThere width) = Plain (exchange Bx) ∷ Plain (closed (loads width (Some bases.Bx) segments.Ds) 0) ∷ plain (narrow width)
   row p op.Push = Plain (push Ax) ∷ []
   row p (op.Pick n) = plain (picked n)
   row p (op.Drop n) = Plain (dropped n) ∷ []
@@ -350,11 +355,11 @@ module _ (first : ℕ → ℕ) (part : ℕ → ℕ) (saves : Registers) where
   row p (op.BinaryConstant o width k) = plain (by_constant o width k)
   row p (op.BinaryPlain o width read x) = by_read o width read x
   row p (op.Store width x) = on_place (stores width None) x ∷ []
-  row p (op.StoreAt width x) = Plain (copy Bx Ax) ∷ Plain (pop Ax) ∷ on_place (stores width (Some bases.Bx)) x ∷ []
-  row p (op.StoreThere width) = Plain (copy Bx Ax) ∷ Plain (pop Ax) ∷ Plain (closed (stores width (Some bases.Bx) segments.Ds) 0) ∷ []
-  row p (op.Send width) = plain (copy Dx Ax ∷ pop Ax ∷ i.Out width ports.Dx ∷ [])
+  row p (op.StoreAt width x) = Plain (exchange Bx) ∷ Plain (pop Ax) ∷ on_place (stores width (Some bases.Bx)) x ∷ []
+  row p (op.StoreThere width) = Plain (exchange Bx) ∷ Plain (pop Ax) ∷ Plain (closed (stores width (Some bases.Bx) segments.Ds) 0) ∷ []
+  row p (op.Send width) = plain (exchange Dx ∷ pop Ax ∷ i.Out width ports.Dx ∷ [])
   row p (op.SendTo width port) = plain (sent width port)
-  row p (op.Receive width) = plain (copy Dx Ax ∷ then_narrow width (i.In width ports.Dx))
+  row p (op.Receive width) = plain (exchange Dx ∷ then_narrow width (i.In width ports.Dx))
   row p (op.ReceiveFrom width port) = plain (received width port)
   row p (op.Ahead n) = Goto (first (p + n)) ∷ []
   row p (op.AheadUnless t n) = unless t (first (p + n))

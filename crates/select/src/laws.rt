@@ -5,7 +5,7 @@ ghost use Rattle.select.specs.Promise.{InstructionsFollow};
 ghost use Rattle.select.specs.Room.{PartsHaveRoom, ProgramsHaveRoom};
 ghost use Rattle.select.specs.Saved.{UnservedChangesNone, RegistersAreCounted};
 
-use i86_table::{flag_laws, inverse_law, rotation_laws, shift_laws};
+use i86_table::{flag_laws, inverse_law, pair_laws, rotation_laws, shift_laws};
 
 /// Where the steps of each routine of the intermediate code stand at their places, main's instructions follow main's code, and
 /// each interrupt procedure's its procedure: at most 20 instructions without a step, no more words on the stack than are counted,
@@ -14,6 +14,7 @@ pub fn instructions_follow_code()
     ensures { InstructionsFollow }
 {
     flag_laws();
+    pair_laws();
     rotation_laws();
     shift_laws();
 }
@@ -25,6 +26,7 @@ pub fn cases_come_soon()
 {
     inverse_law();
     flag_laws();
+    pair_laws();
     rotation_laws();
     shift_laws();
 }

@@ -4,7 +4,7 @@ ghost use Rattle.std.specs.Prelude.{◌≡◌, ◌++◌, IsOkUnless, OnOk};
 ghost use Rattle.select.specs.Rows.{plain, core, changed, narrow, narrow_right, then_narrow, spread, inverted, shift_word, shift_byte, left_by, right_by, direct, narrow_sum, sum_number, sum_with, load_count, counted, exponent, by_number, by_factor, by_constant};
 
 use crate::part::Step;
-use crate::put::{add, all, alu, alu_number, clear_byte, copy, load_number};
+use crate::put::{add, all, alu, alu_number, clear_byte, exchange, load_number};
 use i86_table::{
     AluOperation, Count, Instr, Operands, Register8, Register16, RmOperand, ShiftOperation,
     Signedness, UnaryOperation,
@@ -124,7 +124,7 @@ pub(crate) fn core(
             then_narrow(steps, width, multiply)
         }
         BinaryOperation::Divide => all(steps, &[zero_dx, divide]),
-        BinaryOperation::Modulo => all(steps, &[zero_dx, divide, copy(AX, Register16::Dx)]),
+        BinaryOperation::Modulo => all(steps, &[zero_dx, divide, exchange(Register16::Dx)]),
         BinaryOperation::Add => then_narrow(steps, width, alu(AluOperation::Add, AX, CX)),
         BinaryOperation::Subtract => then_narrow(steps, width, subtract),
         BinaryOperation::Equal => all(steps, &[subtract, one, spread(), clear]),

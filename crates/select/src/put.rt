@@ -2,12 +2,12 @@
 
 ghost use Rattle.std.specs.Prelude.{◌≡◌, ◌*◌, ◌%◌, ◌++◌, ◌∷◌, [], IsOkUnless, OnOk};
 ghost use Rattle.select.specs.declared.part.Step.TheVariants.{Plain};
-ghost use Rattle.select.specs.Rows.{plain, load_number, copy, clear_byte, alu, alu_number, accumulator_gets, compares, push, pop, spot, access, placed, own_word};
+ghost use Rattle.select.specs.Rows.{plain, load_number, copy, exchange, clear_byte, alu, alu_number, accumulator_gets, compares, push, pop, spot, access, placed, own_word};
 
 use crate::part::{Kind, Step};
 use i86_table::{
     Address, AluOperation, Base, Instr, Memory, Open, Operands, Register8, Register16, RmOperand,
-    Segment, Spot, TestMask, Use,
+    Segment, Spot, TestMask, Use, WordPair,
 };
 use word86::{Fault, Place, Width};
 
@@ -51,6 +51,13 @@ pub(crate) fn copy(to: Register16, from: Register16) -> Instr
     ensures { result ≡ copy to from }
 {
     Instr::MoveWord(Operands::FromRegister(RmOperand::Register(to), from))
+}
+
+/// AX and another word register change places: a byte shorter than a copy, where the old value is wanted no more.
+pub(crate) fn exchange(register: Register16) -> Instr
+    ensures { result ≡ exchange register }
+{
+    Instr::ExchangeWords(WordPair::of(Register16::Ax, register))
 }
 
 /// A byte register gets 0.

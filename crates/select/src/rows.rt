@@ -12,8 +12,8 @@ use crate::operators::{
 };
 use crate::part::{Kind, Step};
 use crate::put::{
-    access, accumulator_gets, add, all, alu, alu_number, clear_byte, compares, copy, load_number,
-    own_word, placed, pop, push, put, spot, twice,
+    access, accumulator_gets, add, all, alu, alu_number, clear_byte, compares, copy, exchange,
+    load_number, own_word, placed, pop, push, put, spot, twice,
 };
 use i86_table::{
     AluOperation, Base, Condition, Count, Instr, Open, Operands, Port, Register8, Register16,
@@ -321,13 +321,13 @@ pub(crate) fn row(
         }
         Instruction::Load(width, place) => loaded(steps, width, None, place),
         Instruction::LoadAt(width, place) => {
-            add(steps, copy(BX, AX))?;
+            add(steps, exchange(BX))?;
             loaded(steps, width, Some(Base::Bx), place)
         }
         Instruction::LoadThere(width) => {
             let there = spot(Some(Base::Bx), Segment::Ds);
             let load = access(Use::Load, Register8::Al, AX, width, there);
-            all(steps, &[copy(BX, AX), load.closed(0)])?;
+            all(steps, &[exchange(BX), load.closed(0)])?;
             narrow(steps, width)
         }
         Instruction::Push => add(steps, push(AX)),
@@ -335,7 +335,7 @@ pub(crate) fn row(
         Instruction::Drop(count) => add(steps, dropped(count)),
         Instruction::Unary(operation, width) => changed(steps, operation, width),
         Instruction::Binary(operation, width) => {
-            all(steps, &[copy(CX, AX), pop(AX)])?;
+            all(steps, &[exchange(CX), pop(AX)])?;
             core(steps, operation, width)
         }
         Instruction::BinaryConstant(operation, width, number) => {
@@ -346,20 +346,20 @@ pub(crate) fn row(
         }
         Instruction::Store(width, place) => put(steps, store(width, None, place)),
         Instruction::StoreAt(width, place) => {
-            all(steps, &[copy(BX, AX), pop(AX)])?;
+            all(steps, &[exchange(BX), pop(AX)])?;
             put(steps, store(width, Some(Base::Bx), place))
         }
         Instruction::StoreThere(width) => {
             let there = spot(Some(Base::Bx), Segment::Ds);
             let store = access(Use::Store, Register8::Al, AX, width, there);
-            all(steps, &[copy(BX, AX), pop(AX), store.closed(0)])
+            all(steps, &[exchange(BX), pop(AX), store.closed(0)])
         }
         Instruction::Send(width) => {
-            all(steps, &[copy(DX, AX), pop(AX), Instr::Out(width, Port::Dx)])
+            all(steps, &[exchange(DX), pop(AX), Instr::Out(width, Port::Dx)])
         }
         Instruction::SendTo(width, port) => sent(steps, width, port),
         Instruction::Receive(width) => {
-            add(steps, copy(DX, AX))?;
+            add(steps, exchange(DX))?;
             then_narrow(steps, width, Instr::In(width, Port::Dx))
         }
         Instruction::ReceiveFrom(width, port) => received(steps, width, port),

@@ -8,4 +8,5 @@ returns c =
       others = c.flag_laws.ensures.others;
       shift = c.shift_laws.ensures;
       rotate = c.rotation_laws.ensures;
+      pairs = c.pair_laws.ensures.words;
     })
