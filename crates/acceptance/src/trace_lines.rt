@@ -1,6 +1,6 @@
 //! The printed texts, whose forms users rely on.
 
-use listing_map::{fault_line, put_end_line, put_opcode_line, trace_line};
+use listing_map::{fault_line, put_bad_line, put_end_line, put_opcode_line, trace_line};
 use std::test::Fail;
 use word86::{CutSink, Fault, Label, Number};
 
@@ -32,9 +32,10 @@ fn writes_the_last_line(rt: HostRuntime) -> Result<(), Fail> {
     assert!(rt; put_end_line(4294967295, &mut sink).is_ok());
     assert!(rt; put_opcode_line(0xFE00A, &mut sink).is_ok());
     assert!(rt; put_opcode_line(0x400, &mut sink).is_ok());
+    assert!(rt; put_bad_line("m.plm", 3, &mut sink).is_ok());
     assert_eq!(rt;
         sink.bytes(),
-        b"END 0\nEND 4294967295\nOPCODE FE00A\nOPCODE 00400\n".as_slice()
+        b"END 0\nEND 4294967295\nOPCODE FE00A\nOPCODE 00400\nBAD m.plm(3)\n".as_slice()
     );
     Ok(())
 }

@@ -52,6 +52,10 @@ end_line turns = decimal_line (codes "END ") turns
 abbrev pub opcode_line : ℕ → List ℕ
 opcode_line address = codes "OPCODE " ++ hex5 address ++ line_end
 
+-- the last line of a run of the meaning that came to a Bad step: its source, and its line there
+abbrev pub bad_line : List ℕ → ℕ → List ℕ
+bad_line name line = codes "BAD " ++ name ++ codes "(" ++ decimal line ++ codes ")" ++ line_end
+
 -- a fault or a warning at a line of a source
 abbrev pub located_line : List ℕ → ℕ → Number → List ℕ
 located_line name line n = name ++ codes "(" ++ decimal line ++ codes "): " ++ number_text n ++ line_end

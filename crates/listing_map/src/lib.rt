@@ -7,6 +7,6 @@ mod pieces;
 mod program_map;
 mod source_listing;
 
-pub use lines::{fault_line, put_end_line, put_label, put_opcode_line, trace_line};
+pub use lines::{fault_line, put_bad_line, put_end_line, put_label, put_opcode_line, trace_line};
 pub use program_map::map;
 pub use source_listing::listing;

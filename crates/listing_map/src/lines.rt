@@ -4,10 +4,10 @@ ghost use Rattle.std.specs.Prelude.{◌≡◌, ◌∷◌, [], IfErr};
 ghost use Rattle.word86.specs.Taking.{Writes};
 ghost use Rattle.word86.specs.declared.fault.Fault.TheVariants.{At};
 ghost use Rattle.word86.specs.declared.number.Number.TheVariants.{E704};
-ghost use Rattle.listing_map.specs.Lines.{byte_line, word_line, short_line, decimal_line, label_line, end_line, opcode_line, located_line};
+ghost use Rattle.listing_map.specs.Lines.{byte_line, word_line, short_line, decimal_line, label_line, end_line, opcode_line, bad_line, located_line};
 
 use crate::numerals::{hex_address, hex_byte, hex_word};
-use crate::pieces::{put_six, put_three, put_two};
+use crate::pieces::{put_five, put_six, put_three, put_two};
 use itoa::Buffer;
 use word86::{Fault, Label, Number, Sink, SinkFault, put_all};
 
@@ -69,6 +69,16 @@ pub fn put_opcode_line<S: Sink>(address: u32, sink: &mut S) -> Result<(), SinkFa
 {
     let [a, b, c, d, e] = hex_address(address);
     put_two(sink, b"OPCODE ", &[a, b, c, d, e, b'\n'])
+}
+
+/// Writes the last line of a run of the meaning that came to a Bad step, as `BAD m.plm(3)`: the step's source, and its line there
+/// in decimal. The one refusal is that the sink failed, in the sink's own words.
+pub fn put_bad_line<S: Sink>(name: &str, line: u32, sink: &mut S) -> Result<(), SinkFault>
+    ensures { Writes (S.taken sink.old) (S.taken sink.new) (S.failures sink.old) (S.failures sink.new) (bad_line name.now line) result }
+{
+    let mut buffer = Buffer::new();
+    let digits = buffer.format(line).as_bytes();
+    put_five(sink, b"BAD ", name.as_bytes(), b"(", digits, b")\n")
 }
 
 fn put_located_line<S: Sink>(

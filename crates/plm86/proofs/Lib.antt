@@ -4,3 +4,5 @@ pub mod Composition
 pub mod Meets
 mod Phases
 mod BuiltRuns
+mod Going
+mod Allowed

@@ -44,21 +44,22 @@ found_named f (x ∷ xs) words p e = go (f x) refl (found_named f xs words p)
         let e3 : rows_at x words ≡ p = cc in inl (ap (λ (q : Text × List Row). q.0) (sym e3))
     go false t next = let e2 : option_map (λ s. rows_at s words) (find f xs) ≡ Some p = rw t at e in inr (next e2)
 
--- the subcommand that the words name is one of the two
+-- the subcommand that the words name is one of the three
 pub named : (words : List Text) (name : Text) (rows : List Row) → subcommand_of plm86_app words ≡ Some (name, rows)
-    → (name ≡ codes "build") ⊎ (name ≡ codes "run")
+    → (name ≡ codes "build") ⊎ ((name ≡ codes "run") ⊎ (name ≡ codes "mean"))
 named words name rows e = go (stop_after (built plm86_app).top.rules (names_of (built plm86_app)) (argument_words plm86_app words)) refl e
   where
     go : (o : Option (Text × List Text)) → stop_after (built plm86_app).top.rules (names_of (built plm86_app)) (argument_words plm86_app words) ≡ o
         → entered (built plm86_app) o ≡ Some (name, rows)
-        → (name ≡ codes "build") ⊎ (name ≡ codes "run")
+        → (name ≡ codes "build") ⊎ ((name ≡ codes "run") ⊎ (name ≡ codes "mean"))
     go None o h = cc
     go (Some p) o h = pick (found_named (λ s. answers_to p.0 (label_of s)) (built plm86_app).subs p.1 (name, rows) h)
       where
-        pick : IsOneOf name (built plm86_app).subs → (name ≡ codes "build") ⊎ (name ≡ codes "run")
+        pick : IsOneOf name (built plm86_app).subs → (name ≡ codes "build") ⊎ ((name ≡ codes "run") ⊎ (name ≡ codes "mean"))
         pick (inl x) = inl x
-        pick (inr (inl x)) = inr x
-        pick (inr (inr x)) = absurd x
+        pick (inr (inl x)) = inr (inl x)
+        pick (inr (inr (inl x))) = inr (inr x)
+        pick (inr (inr (inr x))) = absurd x
 
 pub or_else_nil : (a b : Kinds) → or_else a b ≡ [] → (a ≡ []) × (b ≡ [])
 or_else_nil [] b e = (refl, e)

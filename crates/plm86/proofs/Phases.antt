@@ -20,7 +20,7 @@ use Rattle.plm_type.specs.Checked as types
 use Rattle.plm86.specs.declared.build.Source.{Source}
 use Rattle.layout_link.specs.declared.image.Image.{Image}
 use Rattle.layout_link.specs.declared.image.RomSize.{RomSize}
-use Rattle.plm86.specs.Build.{text_of, IsFirst, module_number, in_module, fault_in, scan_faults, tokens_of, IsTree, AreTrees, IsFirstUnparsed, AreModules, AreDeclared, AreTyped, IsBuilt, unresolved, untyped, too_deep, too_large, Refuses}
+use Rattle.plm86.specs.Build.{text_of, IsFirst, module_number, in_module, fault_in, scan_faults, tokens_of, IsTree, AreTrees, IsFirstUnparsed, AreModules, AreDeclared, AreTyped, IsBuilt, unresolved, untyped, faulty, too_deep, too_large, RefusesTexts, Refuses}
 use Rattle.plm86.specs.Inner.Compiling.{IsImage, HasNoRoom}
 use Rattle.plm86.specs.Inner.Parsed.{ParsesAll}
 
@@ -84,12 +84,17 @@ modules_are texts scanned mods lent none tokens parsed same = record {
 }
 
 -- what one phase refuses
-pub unresolved_refused : (texts : List (List ℕ)) (size : RomSize) (trees : List ModuleT) → AreModules texts trees → (f : Fault) → IsLeastOf f (faults_of trees) (whole_faults_of trees) → Refuses texts size f
-unresolved_refused texts size trees are Memory said = tt
-unresolved_refused texts size trees are (At which line number) said = unresolved trees are said
+pub unresolved_refused : (texts : List (List ℕ)) (trees : List ModuleT) → AreModules texts trees → (f : Fault) → IsLeastOf f (faults_of trees) (whole_faults_of trees) → RefusesTexts texts f
+unresolved_refused texts trees are Memory said = tt
+unresolved_refused texts trees are (At which line number) said = unresolved trees are said
 
-module _ (texts : List (List ℕ)) (size : RomSize) (names : Names) where
-  pub untyped_refused : AreDeclared texts names → (f : Fault) → types.IsRefusal f names → Refuses texts size f
+-- what is refused in the texts is refused for every ROM
+pub faulty_refused : (texts : List (List ℕ)) (size : RomSize) (f : Fault) → RefusesTexts texts f → Refuses texts size f
+faulty_refused texts size Memory said = tt
+faulty_refused texts size (At which line number) said = faulty said
+
+module _ (texts : List (List ℕ)) (names : Names) where
+  pub untyped_refused : AreDeclared texts names → (f : Fault) → types.IsRefusal f names → RefusesTexts texts f
   untyped_refused are Memory said = tt
   untyped_refused are (At which line number) said = untyped names are said
 
@@ -99,6 +104,7 @@ module _ (texts : List (List ℕ)) (size : RomSize) (names : Names) where
   pub program_typed : (p : typed.Program) → AreDeclared texts names → types.AreTyped p names → AreTyped texts p.names
   program_typed p are said = subst (λ n. AreTyped texts n) (sym said.kept) (are_typed p are said)
 
+module _ (texts : List (List ℕ)) (size : RomSize) (names : Names) where
   module _ (are : AreTyped texts names) where
     pub compile_refused : (f : Fault) → HasNoRoom names size f → Refuses texts size f
     compile_refused Memory refused = tt

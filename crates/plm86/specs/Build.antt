@@ -162,17 +162,25 @@ pub record IsBuilt (texts : List (List ℕ)) (size : RomSize) (image : Image) : 
 abbrev pub IsTooLarge : Names → RomSize → Type 0
 IsTooLarge names size = (16 * kib_of size < nodes_of names) ⊎ (bytes_in size < 4 * initial_size names)
 
--- The first fault of the phases, each over all texts: scanning; parsing; names, where the least is answered, and those of the whole
--- program come last; types, likewise; the stack's room; and the ROM's.
+-- The first fault of the phases that ask for no ROM, each over all texts: scanning; parsing; names, where the least is answered, and
+-- those of the whole program come last; types, likewise.
+pub data IsFaulty (texts : List (List ℕ)) (f : Fault) : Type 0 where
+  unscanned : IsFirst (scan_faults 0 texts) f → IsFaulty texts f
+  unparsed : scan_faults 0 texts ≡ [] → IsFirstUnparsed 0 (map tokens_of texts) f → IsFaulty texts f
+  unresolved : (trees : List ModuleT) → AreModules texts trees → IsLeastOf f (faults_of trees) (whole_faults_of trees) → IsFaulty texts f
+  untyped : (names : Names) → AreDeclared texts names → IsRefusedFor f names → IsFaulty texts f
+
+-- want of memory may come at any point
+abbrev pub RefusesTexts : List (List ℕ) → Fault → Type 0
+RefusesTexts texts Memory = ⊤
+RefusesTexts texts (At which line number) = IsFaulty texts (At which line number)
+
+-- The first fault of all phases: those, the stack's room, and the ROM's.
 pub data IsRefusal (texts : List (List ℕ)) (size : RomSize) (f : Fault) : Type 0 where
-  unscanned : IsFirst (scan_faults 0 texts) f → IsRefusal texts size f
-  unparsed : scan_faults 0 texts ≡ [] → IsFirstUnparsed 0 (map tokens_of texts) f → IsRefusal texts size f
-  unresolved : (trees : List ModuleT) → AreModules texts trees → IsLeastOf f (faults_of trees) (whole_faults_of trees) → IsRefusal texts size f
-  untyped : (names : Names) → AreDeclared texts names → IsRefusedFor f names → IsRefusal texts size f
+  faulty : IsFaulty texts f → IsRefusal texts size f
   too_deep : (names : Names) → AreTyped texts names → ¬ IsShallow names → f ≡ At 0 1 E501 → IsRefusal texts size f
   too_large : (names : Names) → AreTyped texts names → IsTooLarge names size → f ≡ At 0 1 E601 → IsRefusal texts size f
 
--- want of memory may come at any point
 abbrev pub Refuses : List (List ℕ) → RomSize → Fault → Type 0
 Refuses texts size Memory = ⊤
 Refuses texts size (At which line number) = IsRefusal texts size (At which line number)

@@ -20,6 +20,9 @@ build_app = with_rule (with_rule (with_rule (with_rule (with_rule (new_app (code
 abbrev pub run_app : App
 run_app = with_rule (with_rule (new_app (codes "run")) (needed (codes "rom"))) (needed (codes "schedule"))
 
+abbrev pub mean_app : App
+mean_app = with_rule (with_rule (new_app (codes "mean")) (needed (codes "schedule"))) (several (codes "source"))
+
 abbrev pub outer : App
 outer = record {
   top = record (new_app (codes "plm86")).top {
@@ -32,7 +35,7 @@ outer = record {
 }
 
 abbrev pub plm86_app : App
-plm86_app = with_subcommand (with_subcommand outer build_app.top) run_app.top
+plm86_app = with_subcommand (with_subcommand (with_subcommand outer build_app.top) run_app.top) mean_app.top
 
 -- the first value of an argument, and all of them
 abbrev pub value_of : Text → List Row → Text

@@ -5,4 +5,5 @@ pub mod Images
 pub mod Assembled
 pub mod Parsed
 pub mod Built
+pub mod Meaning
 pub mod Stacks

@@ -6,6 +6,7 @@ pub mod Laws
 pub mod Depth
 pub mod Build
 pub mod BuildAndRun
+pub mod Mean
 pub mod CommandLine
 pub mod Order
 pub mod Input

@@ -7,7 +7,7 @@ use Rattle.plm86.specs.CommandLine.{plm86_app, value_of, values_of}
 use Rattle.layout_link.specs.declared.image.RomSize.{RomSize}
 use Rattle.layout_link.specs.declared.image.RomSize.TheVariants.{Kib8, Kib16, Kib32, Kib64}
 use Rattle.plm86.specs.declared.order.Order.{Order}
-use Rattle.plm86.specs.declared.order.Order.TheVariants.{Build, Run}
+use Rattle.plm86.specs.declared.order.Order.TheVariants.{Build, Run, Mean}
 use Rattle.plm86.specs.declared.order.OrderFault.{OrderFault}
 use Rattle.plm86.specs.declared.order.OrderFault.TheVariants.{Words, Memory}
 pub use Rattle.plm86.specs.CommandLine.{value_of, values_of}
@@ -27,6 +27,9 @@ OrderOf name rows (Build size rom listing map_file sources) = (name ≡ codes "b
 OrderOf name rows (Run rom schedule) = (name ≡ codes "run")
     × (rom.now ≡ value_of (codes "rom") rows)
     × (schedule.now ≡ value_of (codes "schedule") rows)
+OrderOf name rows (Mean schedule sources) = (name ≡ codes "mean")
+    × (schedule.now ≡ value_of (codes "schedule") rows)
+    × (map (λ s. s.now) sources.items ≡ values_of (codes "source") rows)
 
 -- `clap` takes the words, and the order is that of the subcommand and values of its matches
 abbrev pub Spells : List Text → Order → Type 0

@@ -5,10 +5,11 @@ ghost use Rattle.plm_token.specs.Scanner.{lexemes};
 ghost use Rattle.plm_syntax.specs.View.{module_of};
 ghost use Rattle.board.specs.Run.{due_of};
 ghost use Rattle.plm86.specs.BuildAndRun.{HasRun, HasNotRun};
-ghost use Rattle.plm86.specs.Build.{text_of, module_number, in_module, Says, scan_faults, tokens_of, IsBuilt, Refuses};
+ghost use Rattle.plm86.specs.Build.{text_of, module_number, in_module, Says, scan_faults, tokens_of, AreTyped, IsBuilt, RefusesTexts, Refuses};
 ghost use Rattle.plm86.specs.Inner.Parsed.{ParsesAll};
 ghost use Rattle.plm86.specs.Inner.Built.{IsBuiltWith};
 
+use crate::built::Built;
 use crate::compile::compile;
 use board::{Board, End, Schedule};
 use layout_link::{Image, RomSize};
@@ -72,11 +73,21 @@ fn parse_all<'a>(alloc: Global, scanned: Vec<Vec<Token<'a>>>) -> Result<Vec<Modu
     Ok(modules)
 }
 
-/// A program and the image that it was built to.
-#[derive(Drop)]
-pub(crate) struct Built {
-    pub program: Program,
-    pub image: Image,
+/// The typed program of sources.
+///
+/// # Errors
+///
+/// The first fault of the phases, each over all sources: scanning (E101 to E107), parsing with literals replaced (E101, E103
+/// to E105 of a literal's text, E201 to E205), names (E301 to E305, the least of them; else E306 to E310, of the whole program),
+/// types (E401 to E403, E405 and E406, the least; else E404). Modules count from 0. The one other refusal is want of memory.
+pub fn analyse(alloc: Global, sources: &[Source<'_>]) -> Result<Program, Fault>
+    ensures typed { IfOk result (λ p. AreTyped (map text_of sources.now) p.names) }
+    ensures refused { IfErr result (RefusesTexts (map text_of sources.now)) }
+{
+    let scanned = scan_all(alloc, sources)?;
+    let modules = parse_all(alloc, scanned)?;
+    let names = resolve(alloc, &modules)?;
+    check(alloc, names)
 }
 
 /// The image of sources, as `build` answers it, and with it their program, for the listing and the map.
@@ -88,10 +99,7 @@ pub(crate) fn build_program(
     ensures built { IfOk result (IsBuiltWith (map text_of sources.now) size) }
     ensures refused { IfErr result (Refuses (map text_of sources.now) size) }
 {
-    let scanned = scan_all(alloc, sources)?;
-    let modules = parse_all(alloc, scanned)?;
-    let names = resolve(alloc, &modules)?;
-    let program = check(alloc, names)?;
+    let program = analyse(alloc, sources)?;
     let image = compile(alloc, &program, size)?;
     Ok(Built { program, image })
 }
@@ -100,14 +108,10 @@ pub(crate) fn build_program(
 ///
 /// # Errors
 ///
-/// The first fault of the phases, each over all sources: scanning (E101 to E107), parsing with literals replaced (E101, E103
-/// to E105 of a literal's text, E201 to E205), names (E301 to E305, the least of them; else E306 to E310, of the whole program),
-/// types (E401 to E403, E405 and E406, the least; else E404), the stack's room (E501, where main and an interrupt procedure take more
-/// than 4,094 bytes; never where the longest paths of calls of both have together at most 8 procedures and no statement has more than
-/// 32 constants and references), the ROM's room (E601, never where the program has at most 16 nodes for each KiB and its initial bytes
-/// fill at most a quarter of the ROM; a node is a statement, procedure, operator, reference or constant, each value of INITIAL, DATA
-/// and location lists among them).
-/// Modules count from 0. The one other refusal is want of memory.
+/// Those of `analyse`; then the stack's room (E501, where main and an interrupt procedure take more than 4,094 bytes; never where the
+/// longest paths of calls of both have together at most 8 procedures and no statement has more than 32 constants and references); then
+/// the ROM's room (E601, never where the program has at most 16 nodes for each KiB and its initial bytes fill at most a quarter of the
+/// ROM; a node is a statement, procedure, operator, reference or constant, each value of INITIAL, DATA and location lists among them).
 pub fn build(alloc: Global, sources: &[Source<'_>], size: RomSize) -> Result<Image, Fault>
     ensures built { IfOk result (IsBuilt (map text_of sources.now) size) }
     ensures refused { IfErr result (Refuses (map text_of sources.now) size) }

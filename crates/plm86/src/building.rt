@@ -1,15 +1,16 @@
 //! The command `build`.
 
-use crate::build::{Built, Source, build_program};
-use crate::files::{read_file, refusal, write_file};
+use crate::build::Source;
+use crate::built::Built;
+use crate::files::write_file;
+use crate::sources::{build_sources, read_texts, show_warnings, sources_of};
 use crate::stop::Stop;
 use layout_link::RomSize;
-use listing_map::{fault_line, listing, map};
-use plm_token::SOURCE_LIMIT;
+use listing_map::{listing, map};
 use plm_type::{Warning, warnings};
 use std::alloc::Global;
 use std::rt::Files;
-use word86::{Number, Sink, WriterSink};
+use word86::{Sink, WriterSink};
 
 /// The files that a build writes, in this order: the ROM's, and those of the listing and the map where they are wanted.
 #[derive(Debug, Clone, Copy)]
@@ -30,29 +31,9 @@ pub(crate) fn build_rom<R: Files, S: Sink>(
     errors: &mut S,
 ) -> Result<u8, Stop> {
     let texts = read_texts(rt, alloc, names)?;
-    let mut sources = Vec::new(alloc);
-    for (name, text) in names.iter().zip(&texts) {
-        if sources.push(Source { name, text }).is_err() {
-            return Err(Stop::Memory);
-        }
-    }
-    match build_program(alloc, &sources, size) {
-        Ok(built) => write_built(rt, alloc, outputs, &sources, &built, errors),
-        Err(fault) => Err(refusal(alloc, names, fault)?),
-    }
-}
-
-// The texts of the sources.
-fn read_texts<R: Files>(rt: &R, alloc: Global, names: &[&str]) -> Result<Vec<Vec<u8>>, Stop> {
-    let mut texts: Vec<Vec<u8>> = Vec::new(alloc);
-    for name in names {
-        // One byte more than a source may have tells that it is longer.
-        let text = read_file(rt, alloc, name, Some(SOURCE_LIMIT + 1))?;
-        if texts.push(text).is_err() {
-            return Err(Stop::Memory);
-        }
-    }
-    Ok(texts)
+    let sources = sources_of(alloc, names, &texts)?;
+    let built = build_sources(alloc, names, &sources, size)?;
+    write_built(rt, alloc, outputs, &sources, &built, errors)
 }
 
 // Shows the warnings and writes the files. All texts are made before, so that want of memory leaves no file.
@@ -117,17 +98,6 @@ fn text_of_map(alloc: Global, file: Option<&str>, built: &Built) -> Result<Vec<u
         }
     }
     Ok(text)
-}
-
-// A line for each warning. Where it cannot be written, the files still tell.
-fn show_warnings<S: Sink>(sources: &[Source<'_>], given: &[Warning], errors: &mut S) {
-    for warning in given {
-        let name = match sources.get(warning.module) {
-            Some(source) => source.name,
-            None => "",
-        };
-        let _ = fault_line(name, warning.line, Number::W1, errors);
-    }
 }
 
 // Writes the file, where one is wanted.

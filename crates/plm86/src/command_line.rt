@@ -5,7 +5,7 @@ ghost use Rattle.clap.specs.Words.{app_of, rule_of, found_of, first_of, kind_of,
 ghost use Rattle.clap.specs.declared.error.kind.ErrorKind.TheVariants.{OutOfMemory};
 ghost use Rattle.clap.specs.declared.builder.command.Command.TheViews.{out-Command};
 ghost use Rattle.plm86.specs.Order.{HasWords, IsRefused, OrderOf, Spells, size_named, value_of, values_of};
-ghost use Rattle.plm86.specs.CommandLine.{plm86_app, build_app, run_app, needed, several, lettered};
+ghost use Rattle.plm86.specs.CommandLine.{plm86_app, build_app, run_app, mean_app, needed, several, lettered};
 ghost use Rattle.plm86.specs.declared.order.OrderFault.TheVariants.{Memory};
 
 use crate::order::{Order, OrderFault};
@@ -33,6 +33,14 @@ fn sources<'a>(alloc: Global) -> Arg<'a>
 {
     let help = "The sources, one module each; one of them is the main module";
     positional(alloc, "source", "SOURCE", help).action(ArgAction::Append)
+}
+
+fn schedule_argument<'a>(alloc: Global) -> Arg<'a>
+    ensures rule { rule_of result ≡ needed (codes "schedule") }
+    ensures local { result.global ≡ false }
+{
+    let help = "The file that says what comes from outside, and when the run stops";
+    positional(alloc, "schedule", "SCHEDULE", help)
 }
 
 fn option<'a>(
@@ -79,12 +87,22 @@ fn run_command<'a>(alloc: Global) -> Result<Command<'a>, AllocError>
 {
     let rom_help = "The file of the ROM: 8, 16, 32 or 64 KiB that end at address 0FFFFFH";
     let rom = positional(alloc, "rom", "ROM", rom_help);
-    let schedule_help = "The file that says what comes from outside, and when the run stops";
-    let schedule = positional(alloc, "schedule", "SCHEDULE", schedule_help);
+    let schedule = schedule_argument(alloc);
     Command::new(alloc, "run")
         .about("Runs a ROM on the board and writes its trace to standard output")
         .arg(rom)?
         .arg(schedule)
+}
+
+fn mean_command<'a>(alloc: Global) -> Result<Command<'a>, AllocError>
+    ensures { IfOk result (λ c. (app_of c ≡ mean_app) × ((out-Command c).has_globals ≡ false)) }
+{
+    let schedule = schedule_argument(alloc);
+    let source = sources(alloc);
+    Command::new(alloc, "mean")
+        .about("Runs what PL/M-86 modules mean and writes the trace to standard output")
+        .arg(schedule)?
+        .arg(source)
 }
 
 fn whole_command<'a>(alloc: Global) -> Result<Command<'a>, AllocError>
@@ -98,7 +116,8 @@ fn whole_command<'a>(alloc: Global) -> Result<Command<'a>, AllocError>
         .disable_help_subcommand(true)
         .subcommand_required(true)
         .subcommand(build_command(alloc)?)?
-        .subcommand(run_command(alloc)?)
+        .subcommand(run_command(alloc)?)?
+        .subcommand(mean_command(alloc)?)
 }
 
 // The size that a text names.
@@ -172,6 +191,17 @@ fn run_order<'a>(matches: &ArgMatches<'a>) -> Order<'a>
     }
 }
 
+fn mean_order<'a>(alloc: Global, matches: &ArgMatches<'a>) -> Result<Order<'a>, OrderFault>
+    ensures ok { IfOk result (OrderOf (codes "mean") (rows_of (found_of matches.now))) }
+    ensures err { IfErr result (λ e. e ≡ Memory) }
+{
+    let schedule = text_given(matches, "schedule");
+    Ok(Order::Mean {
+        schedule,
+        sources: texts_given(alloc, matches, "source")?,
+    })
+}
+
 // The fault for an error of `clap`.
 fn refusal(alloc: Global, error: &Error) -> OrderFault
     ensures { kind_of error.now ≡ OutOfMemory → result ≡ Memory }
@@ -204,7 +234,9 @@ pub fn order<'a>(alloc: Global, words: &'a [&str]) -> Result<Order<'a>, OrderFau
     };
     if name == "build" {
         build_order(alloc, inner)
-    } else {
+    } else if name == "run" {
         Ok(run_order(inner))
+    } else {
+        mean_order(alloc, inner)
     }
 }

@@ -50,3 +50,11 @@ pub(crate) fn refusal(alloc: Global, names: &[&str], fault: Fault) -> Result<Sto
         }
     }
 }
+
+/// The stop for a run that was cut short: by want of memory, or since standard output cannot be written.
+pub(crate) fn cut_short(alloc: Global, fault: Fault) -> Result<Stop, Stop> {
+    match fault {
+        Fault::Memory => Ok(Stop::Memory),
+        Fault::At(_, _, _) => Ok(Stop::CannotWrite(String::from_str(alloc, "stdout")?)),
+    }
+}

@@ -1,6 +1,7 @@
-//! What stands between the layers of the compiler and the board.
+//! What stands between the layers of the compiler and the board; and which run of the language the meaning's is.
 
 ghost use Rattle.plm86.specs.Laws.{FromLayers, FromRom, QuietFromRom};
+ghost use Rattle.plm86.specs.Mean.{MeanLaw};
 
 use i86_code::{decoded_widths, one_form};
 use i86_table::instructions_keep_words;
@@ -45,3 +46,9 @@ pub fn rom_starts_quietly<L: Layers>()
 {
     one_form();
 }
+
+/// The labels of a meaning's run are those of a run that the language allows, choice by choice, and where it ends by a Bad step, that
+/// step is next.
+pub fn mean_is_allowed()
+    ensures { MeanLaw }
+{}

@@ -1,20 +1,26 @@
-//! The program: `plm86 build` compiles PL/M-86 modules to a ROM, and `plm86 run` runs a ROM on the board and writes its trace.
+//! The program: `plm86 build` compiles PL/M-86 modules to a ROM, `plm86 run` runs a ROM on the board and writes its trace, and
+//! `plm86 mean` runs what modules mean.
 #![tactic(auto)]
 
 mod build;
 mod building;
+mod built;
 mod command_line;
 mod compile;
 mod files;
 mod input;
 mod laws;
+mod mean;
+mod meaning;
 mod order;
 mod running;
+mod sources;
 mod status;
 mod stop;
 
 use building::{Outputs, build_rom};
 use command_line::order;
+use meaning::run_meaning;
 use order::{Order, OrderFault};
 use running::run_rom;
 use std::alloc::Global;
@@ -51,6 +57,10 @@ fn work(rt: &HostRuntime, alloc: Global) -> Result<u8, Stop> {
             build_rom(rt, alloc, size, outputs, &sources, errors)
         }
         Ok(Order::Run { rom, schedule }) => run_rom(rt, alloc, rom, schedule),
+        Ok(Order::Mean { schedule, sources }) => {
+            let errors = &mut WriterSink::new(rt.stderr());
+            run_meaning(rt, alloc, schedule, &sources, errors)
+        }
         Err(OrderFault::Words(text)) if asks_for_help(words.as_slice()) => {
             show(rt, alloc, text.as_str())
         }

@@ -23,6 +23,11 @@ pub enum Order<'a> {
         rom: &'a str,
         schedule: &'a str,
     },
+    /// `mean SCHEDULE SOURCE...`, with the files' names.
+    Mean {
+        schedule: &'a str,
+        sources: Vec<&'a str>,
+    },
 }
 
 /// Why there is no order: words to print, or want of memory.

@@ -3,7 +3,7 @@ use Rattle.std.proofs.lemmas.Result.{IfOk-weaker, IfErr-weaker}
 use Rattle.clap.specs.Words.{App, Text, subcommand_of, is_simple, found_of, rows_of}
 use Rattle.clap.specs.Faults.{fault_of, is_simple_and_free}
 use Rattle.plm86.specs.CommandLine.{plm86_app}
-use Rattle.plm86.specs.Order.{OrderOf}
+use Rattle.plm86.specs.Order.{OrderOf, HasWords}
 use Rattle.plm86.proofs.Meets.{app_is_simple, app_is_free, named, met, wordless, only_memory}
 use Rattle.plm86.proofs.command_line.order.Goals as goal
 
@@ -36,6 +36,18 @@ returns-then-eq-clause-words c =
     ap (λ (a : App). subcommand_of a words) (sym app_is) ∙ sym (c.in-Ok.ensures.matches (ap is_simple app_is ∙ app_is_simple)).1 ∙ given in
     IfErr-weaker c.build_order.result _ _ (λ e h has. inr (rows, at_words, h has)) c.build_order.ensures.err
 
+pub returns-then-eq-2-clause-ok : goal.returns-then-eq-2-clause-ok
+returns-then-eq-2-clause-ok c =
+    let words = map (λ (w : Bor Text). w.now) c.args.words.now in
+    let app_is = c.in_ok-command.ensures in
+    let accepted : fault_of plm86_app words ≡ [] = ap (λ (a : App). fault_of a words) (sym app_is) ∙ c.in-Ok.ensures.kinds (ap is_simple_and_free app_is ∙ app_is_free) in
+    let rows = rows_of (found_of c.in-Some.inner.now) in
+    let name : c.in-Some.name.now ≡ codes "run" = search rules in
+    let given = met c.in-Ok.matches (codes "run") rows (ap Some (sym name) ∙ c.in-Some.ensures.name) c.in-Some.ensures.rows in
+    let at_words : subcommand_of plm86_app words ≡ Some (codes "run", rows) =
+    ap (λ (a : App). subcommand_of a words) (sym app_is) ∙ sym (c.in-Ok.ensures.matches (ap is_simple app_is ∙ app_is_simple)).1 ∙ given in
+    (accepted, codes "run", rows, at_words, c.run_order.ensures)
+
 pub returns-clause-ok : goal.returns-clause-ok
 returns-clause-ok c =
     let words = map (λ (w : Bor Text). w.now) c.args.words.now in
@@ -45,8 +57,12 @@ returns-clause-ok c =
     let given = met c.in-Ok.matches c.in-Some.name.now rows c.in-Some.ensures.name c.in-Some.ensures.rows in
     let at_words : subcommand_of plm86_app words ≡ Some (c.in-Some.name.now, rows) =
     ap (λ (a : App). subcommand_of a words) (sym app_is) ∙ sym (c.in-Ok.ensures.matches (ap is_simple app_is ∙ app_is_simple)).1 ∙ given in
-    let name : c.in-Some.name.now ≡ codes "run" = elim (named words c.in-Some.name.now rows at_words) [
+    let name : c.in-Some.name.now ≡ codes "mean" = elim (named words c.in-Some.name.now rows at_words) [
       | inl x ↦ absurd (search rules)
-      | inr x ↦ x
+      | inr (inl x) ↦ absurd (search rules)
+      | inr (inr x) ↦ x
     ] in
-    (accepted, c.in-Some.name.now, rows, at_words, subst (λ (n : Text). OrderOf n rows c.run_order.result) (sym name) c.run_order.ensures)
+    IfOk-weaker c.mean_order.result _ _ (λ o h. (accepted, c.in-Some.name.now, rows, at_words, subst (λ (n : Text). OrderOf n rows o) (sym name) h)) c.mean_order.ensures.ok
+
+pub returns-clause-words : goal.returns-clause-words
+returns-clause-words c = IfErr-weaker c.mean_order.result _ _ (λ e memory has. absurd (subst HasWords memory has)) c.mean_order.ensures.err

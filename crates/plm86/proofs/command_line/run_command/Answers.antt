@@ -12,4 +12,4 @@ returns c =
     let local = ap (λ (f : Command-F Command). f.has_globals) c.about.ensures ∙ c.new.ensures.local in
     let a0 = c.in_ok-arg.ensures.shape c.positional-rom.ensures.local ∙ ap₂ with_rule app c.positional-rom.ensures.rule in
     let g0 = c.in_ok-arg.ensures.globals ∙ ap₂ ◌||◌ local c.positional-rom.ensures.local in
-    IfOk-weaker c.arg-2.result _ _ (λ r h. (h.shape c.positional-schedule.ensures.local ∙ ap₂ with_rule a0 c.positional-schedule.ensures.rule, h.globals ∙ ap₂ ◌||◌ g0 c.positional-schedule.ensures.local)) c.arg-2.ensures
+    IfOk-weaker c.arg-2.result _ _ (λ r h. (h.shape c.schedule_argument-schedule.ensures.local ∙ ap₂ with_rule a0 c.schedule_argument-schedule.ensures.rule, h.globals ∙ ap₂ ◌||◌ g0 c.schedule_argument-schedule.ensures.local)) c.arg-2.ensures

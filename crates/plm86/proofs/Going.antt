@@ -1,0 +1,221 @@
+-- A run of the meaning, one choice after another.
+use Rattle.std.proofs.Common.{◌≡◌, ℕ, zero, suc, ◌+◌, ◌-◌, ◌<◌, ◌≤◌, ◌++◌, List, [], ◌∷◌, Option, refl, sym, ap, ap₂, ◌∙◌, subst, append_assoc, append-nil, drop, drop-cons, get_or, length, arith}
+use Rattle.std.proofs.lemmas.List.{drop_all}
+use Rattle.std.specs.Prelude.{map}
+use Rattle.std.proofs.lemmas.Grind.{flat_map-append}
+use Rattle.std.proofs.KnownBytes.{Appends-trans, Appends-nil}
+use Rattle.word86.specs.declared.event.Event.{Event}
+use Rattle.word86.specs.declared.label.Label.{Label}
+use Rattle.word86.specs.Taking.{Appends, Cut, Rises}
+use Rattle.listing_map.specs.Lines.{label_line, end_line}
+use Rattle.word86.specs.declared.power_on.PowerOn.{PowerOn}
+use Rattle.ppi_kbd.specs.Chips.{ChipState, reset}
+use Rattle.ppi_kbd.specs.Ports.{Shows}
+use Rattle.plm_decl.specs.declared.names.Names.{Names}
+use Rattle.plm_decl.specs.declared.placement.Placement.{Placement}
+use Rattle.plm_type.specs.Rest.{Rest}
+use Rattle.plm_meaning.specs.declared.meaning.Meaning.{Meaning}
+use Rattle.plm_meaning.specs.declared.meaning.Choice as declared_choice
+use Rattle.plm_meaning.specs.declared.meaning.Stop.TheVariants as stops
+use Rattle.plm_type.specs.declared.program.Line.{Line}
+use Rattle.plm_meaning.specs.Around.{names_of}
+use Rattle.plm_meaning.specs.Meaning.{choice_of, state_of, leads, leads_in, IsRunOf, Opens, Made, Stopped}
+use Rattle.plm_meaning.specs.Shown.{labels_of}
+use Rattle.plm_meaning.specs.Store.{Store}
+use Rattle.plm_meaning.specs.System.{Choice, Occurs, Taken, Makes, BadAt, Refused}
+use Rattle.board.specs.Trace.{lines}
+use Rattle.plm86.specs.Mean.{Mid, one_step, turn_choices, choices_from, unless_refused, behind, goes_on, first_allowed, run_of, meant, last_line, run_text}
+use Rattle.plm86.specs.Inner.Meaning.{Far, Ended, Stops}
+use Rattle.plm86.specs.declared.mean.MeanEnd.{MeanEnd}
+use Rattle.plm86.specs.declared.mean.MeanEnd.TheVariants as ends
+use Rattle.plm86.specs.declared.mean.Ending.{Ending}
+use Rattle.plm86.specs.declared.mean.Ending.TheVariants as endings
+
+-- ---- texts
+
+lines-append : (xs ys : List Label) → lines (xs ++ ys) ≡ lines xs ++ lines ys
+lines-append xs ys = flat_map-append label_line xs ys
+
+-- a beginning of the first text is one of both
+pub cut_longer : (a b : Option (List ℕ)) (s t : List ℕ) → Cut a b s → Cut a b (s ++ t)
+cut_longer a b s t h = (h.0, h.1 ++ t, ap (λ (l : List ℕ). l ++ t) h.2 ∙ append_assoc h.0 h.1 t, h.3)
+
+-- the second text's beginning, after the first
+pub cut_after : (a b c : Option (List ℕ)) (s t : List ℕ) → Appends a b s → Cut b c t → Cut a c (s ++ t)
+cut_after a b c s t first h = (s ++ h.0, h.1, ap (λ (l : List ℕ). s ++ l) h.2 ∙ sym (append_assoc s h.0 h.1), Appends-trans a b c s h.0 first h.3)
+
+-- ---- the first choice that is allowed
+
+module _ (names : Names) (placement : Placement) where
+  pub kept : (m n : Meaning) → n.around ≡ m.around → IsRunOf m names placement → IsRunOf n names placement
+  kept m n e r = record { declares = ap names_of e ∙ r.declares; places = ap (λ a. a.placement.now) e ∙ r.places }
+
+  leads_are : (m : Meaning) (c : Choice Event) (s : Mid) → IsRunOf m names placement → leads names placement c s ≡ leads_in m c s
+  leads_are m c s r = ap₂ (λ (n : Names) (l : Placement). leads n l c s) (sym r.declares) (sym r.places)
+
+  -- what comes by these choices leads from one run to the other, with this label
+  abbrev pub GoesTo : (m n : Meaning) → List (Choice Event) → Option Label → ChipState → Type 0
+  GoesTo m n cs l p = (q : ChipState) × Shows n.store.ports q × (first_allowed names placement cs (state_of m p) ≡ Makes (state_of n q) (labels_of l))
+
+  pub makes_first : (m n : Meaning) (c : Choice Event) (cs : List (Choice Event)) (l : Option Label) → Made m n c l → IsRunOf m names placement → (p : ChipState) → Shows m.store.ports p → GoesTo m n (c ∷ cs) l p
+  makes_first m n c cs l made r p shows =
+      let x = made p shows in
+      (x.0, x.1, ap (λ (t : Taken (Store ChipState) Rest Label). unless_refused t (first_allowed names placement cs (state_of m p))) (leads_are m c (state_of m p) r ∙ x.2))
+
+  pub gives_way : (m n : Meaning) (c : Choice Event) (cs : List (Choice Event)) → Stopped m n c stops.NotAllowed → IsRunOf m names placement → (p : ChipState) → Shows m.store.ports p
+      → first_allowed names placement (c ∷ cs) (state_of m p) ≡ first_allowed names placement cs (state_of n p)
+  gives_way m n c cs stopped r p shows =
+      let x = stopped p shows in
+      ap (λ (t : Taken (Store ChipState) Rest Label). unless_refused t (first_allowed names placement cs (state_of m p))) (leads_are m c (state_of m p) r ∙ x.0)
+      ∙ ap (first_allowed names placement cs) (sym x.1)
+
+  pub goes_behind : (m n k : Meaning) (c : Choice Event) (cs : List (Choice Event)) (l : Option Label) → Stopped m n c stops.NotAllowed → IsRunOf m names placement → (p : ChipState) → Shows m.store.ports p → GoesTo n k cs l p → GoesTo m k (c ∷ cs) l p
+  goes_behind m n k c cs l stopped r p shows x = (x.0, x.1, gives_way m n c cs stopped r p shows ∙ x.2)
+
+  pub stops_behind : (m n : Meaning) (c : Choice Event) (cs : List (Choice Event)) (e : Ending) → Stopped m n c stops.NotAllowed → IsRunOf m names placement → (p : ChipState) → Shows m.store.ports p
+      → Stops e (first_allowed names placement cs (state_of n p)) → Stops e (first_allowed names placement (c ∷ cs) (state_of m p))
+  stops_behind m n c cs e stopped r p shows x = subst (Stops e) (sym (gives_way m n c cs stopped r p shows)) x
+
+  pub is_bad : (m n : Meaning) (c : Choice Event) (cs : List (Choice Event)) (at : Line) → Stopped m n c (stops.Bad at) → IsRunOf m names placement → (p : ChipState) → Shows m.store.ports p
+      → first_allowed names placement (c ∷ cs) (state_of m p) ≡ BadAt at.«module» at.line
+  is_bad m n c cs at stopped r p shows =
+      ap (λ (t : Taken (Store ChipState) Rest Label). unless_refused t (first_allowed names placement cs (state_of m p))) (leads_are m c (state_of m p) r ∙ (stopped p shows).0)
+
+  -- ---- what is left of a run
+
+  module _ (whole : List Label × MeanEnd) (left : List (List (Choice Event))) (cs : List (Choice Event)) (m : Meaning) (old a : Option (List ℕ)) (before f : ℕ) (x : Far names placement whole (cs ∷ left) m old a before f) where
+    pub far_goes : (n : Meaning) (b : Option (List ℕ)) (g : ℕ) (l : Option Label) → n.around ≡ m.around → GoesTo m n cs l x.chips → Appends a b (lines (labels_of l)) × (g ≡ f) → Far names placement whole left n old b before g
+    far_goes n b g l same y wrote =
+        let ls = labels_of l in
+        let rest = run_of names placement left in
+        let went : run_of names placement (cs ∷ left) (state_of m x.chips) ≡ behind ls (rest (state_of n y.0)) = ap (λ (t : Taken (Store ChipState) Rest Label). goes_on t rest) y.2 in
+        record {
+          run = kept m n same x.run;
+          chips = y.0;
+          shows = y.1;
+          done = x.done ++ ls;
+          labels = append_assoc x.done ls (rest (state_of n y.0)).0 ∙ sym (ap (λ (r : List Label × MeanEnd). x.done ++ r.0) went) ∙ x.labels;
+          ends = sym (ap (λ (r : List Label × MeanEnd). r.1) went) ∙ x.ends;
+          taken = subst (Appends old b) (sym (lines-append x.done ls)) (Appends-trans old a b (lines x.done) (lines ls) x.taken wrote.0);
+          same = wrote.1 ∙ x.same;
+        }
+
+    pub far_breaks : (n : Meaning) (b : Option (List ℕ)) (g : ℕ) (l : Option Label) → GoesTo m n cs l x.chips → Cut a b (lines (labels_of l)) × Rises f g → Cut old b (lines whole.0) × Rises before g
+    far_breaks n b g l y wrote =
+        let ls = labels_of l in
+        let rest = run_of names placement left in
+        let went : run_of names placement (cs ∷ left) (state_of m x.chips) ≡ behind ls (rest (state_of n y.0)) = ap (λ (t : Taken (Store ChipState) Rest Label). goes_on t rest) y.2 in
+        let more = (rest (state_of n y.0)).0 in
+        let all : lines x.done ++ (lines ls ++ lines more) ≡ lines whole.0 =
+        sym (lines-append x.done (ls ++ more) ∙ ap (λ (t : List ℕ). lines x.done ++ t) (lines-append ls more))
+        ∙ ap lines (sym (ap (λ (r : List Label × MeanEnd). x.done ++ r.0) went) ∙ x.labels) in
+        (subst (Cut old b) all (cut_after old a b (lines x.done) (lines ls ++ lines more) x.taken (cut_longer a b (lines ls) (lines more) wrote.0)), subst (λ (z : ℕ). Rises z g) x.same wrote.1)
+
+    pub far_ends : (e : Ending) → Stops e (first_allowed names placement cs (state_of m x.chips)) → Ended whole old a before f e
+    far_ends (endings.Bad at) s =
+        let rest = run_of names placement left in
+        let went : run_of names placement (cs ∷ left) (state_of m x.chips) ≡ ([], ends.Bad at.«module» at.line) = ap (λ (t : Taken (Store ChipState) Rest Label). goes_on t rest) s in
+        let all : x.done ≡ whole.0 = sym (append-nil x.done) ∙ sym (ap (λ (r : List Label × MeanEnd). x.done ++ r.0) went) ∙ x.labels in
+        (sym x.ends ∙ ap (λ (r : List Label × MeanEnd). r.1) went, subst (λ (ls : List Label). Appends old a (lines ls)) all x.taken, x.same)
+    far_ends endings.Memory s =
+        let more = (run_of names placement (cs ∷ left) (state_of m x.chips)).0 in
+        ((lines x.done, lines more, sym (ap lines x.labels) ∙ lines-append x.done more, x.taken), x.same)
+    far_ends endings.Broken s = absurd s
+
+-- ---- turns
+
+abbrev alone : Event → List (Choice Event)
+alone e = Occurs e ∷ []
+
+pub turn_left : (es : List Event) (left : List (List (Choice Event))) → turn_choices es ++ left ≡ map (λ e. Occurs e ∷ []) es ++ (one_step ∷ left)
+turn_left es left = append_assoc (map alone es) (one_step ∷ []) left
+
+pub event_left : (es : List Event) (k : ℕ) (d : Event) (left : List (List (Choice Event))) → k < length es
+    → map (λ e. Occurs e ∷ []) (drop k es) ++ left ≡ (Occurs (get_or es k d) ∷ []) ∷ (map (λ e. Occurs e ∷ []) (drop (k + 1) es) ++ left)
+event_left es k d left lt =
+    let next : suc k ≡ k + 1 = omega arith in
+    ap (λ (xs : List Event). map alone xs ++ left) (drop-cons es k d lt) ∙ ap (λ (n : ℕ). alone (get_or es k d) ∷ (map alone (drop n es) ++ left)) next
+
+pub turns_left : (due : ℕ → List Event) (stop turn : ℕ) → turn < stop → choices_from due (stop - turn) turn ≡ turn_choices (due turn) ++ choices_from due (stop - (turn + 1)) (turn + 1)
+turns_left due stop turn lt =
+    let count : stop - turn ≡ suc (stop - (turn + 1)) = omega (arith, lt) in
+    let next : suc turn ≡ turn + 1 = omega arith in
+    ap (λ (n : ℕ). choices_from due n turn) count ∙ ap (λ (t : ℕ). turn_choices (due turn) ++ choices_from due (stop - (turn + 1)) t) next
+
+pub none_left : (due : ℕ → List Event) (stop turn : ℕ) → stop ≤ turn → choices_from due (stop - turn) turn ≡ []
+none_left due stop turn le = let count : stop - turn ≡ 0 = omega (arith, le) in ap (λ (n : ℕ). choices_from due n turn) count
+
+module _ (names : Names) (placement : Placement) (whole : List Label × MeanEnd) (m : Meaning) (old a : Option (List ℕ)) (before f : ℕ) where
+  -- an event of a turn is what comes next
+  pub far_event : (es : List Event) (k : ℕ) (d : Event) (left : List (List (Choice Event))) → k < length es
+      → Far names placement whole (map (λ e. Occurs e ∷ []) (drop k es) ++ left) m old a before f
+      → Far names placement whole ((Occurs (get_or es k d) ∷ []) ∷ (map (λ e. Occurs e ∷ []) (drop (k + 1) es) ++ left)) m old a before f
+  far_event es k d left lt x = subst (λ ls. Far names placement whole ls m old a before f) (event_left es k d left lt) x
+
+  -- behind the events of a turn its step is left
+  pub far_step : (es : List Event) (k : ℕ) (left : List (List (Choice Event))) → length es ≤ k
+      → Far names placement whole (map (λ e. Occurs e ∷ []) (drop k es) ++ left) m old a before f → Far names placement whole left m old a before f
+  far_step es k left le x = subst (λ (xs : List Event). Far names placement whole (map alone xs ++ left) m old a before f) (drop_all k es le) x
+
+  pub far_turn : (due : ℕ → List Event) (stop turn : ℕ) → turn < stop
+      → Far names placement whole (choices_from due (stop - turn) turn) m old a before f
+      → Far names placement whole (turn_choices (due turn) ++ choices_from due (stop - (turn + 1)) (turn + 1)) m old a before f
+  far_turn due stop turn lt x = subst (λ ls. Far names placement whole ls m old a before f) (turns_left due stop turn lt) x
+
+  pub far_last : (due : ℕ → List Event) (stop turn : ℕ) → stop ≤ turn
+      → Far names placement whole (choices_from due (stop - turn) turn) m old a before f → Far names placement whole [] m old a before f
+  far_last due stop turn le x = subst (λ ls. Far names placement whole ls m old a before f) (none_left due stop turn le) x
+
+  pub far_first : (due : ℕ → List Event) (stop : ℕ)
+      → Far names placement whole (choices_from due stop 0) m old a before f → Far names placement whole (choices_from due (stop - 0) 0) m old a before f
+  far_first due stop x = let all : stop ≡ stop - 0 = omega arith in subst (λ (n : ℕ). Far names placement whole (choices_from due n 0) m old a before f) all x
+
+-- ---- a whole run
+
+-- where the power comes on, all is left
+pub far_starts : (names : Names) (placement : Placement) (power : PowerOn) (due : ℕ → List Event) (stop : ℕ) (m : Meaning) → Opens m names placement power → (a : Option (List ℕ)) (f : ℕ)
+    → Far names placement (meant names placement power due stop) (choices_from due stop 0) m a a f f
+far_starts names placement power due stop m opens a f =
+    let rest = run_of names placement (choices_from due stop 0) in
+    record {
+      run = opens.run;
+      chips = reset;
+      shows = opens.chips;
+      done = [];
+      labels = ap (λ (s : Mid). (rest s).0) opens.state;
+      ends = ap (λ (s : Mid). (rest s).1) opens.state;
+      taken = Appends-nil a;
+      same = refl;
+    }
+
+module _ (names : Names) (placement : Placement) (whole : List Label × MeanEnd) (m : Meaning) (old a : Option (List ℕ)) (before f : ℕ) (x : Far names placement whole [] m old a before f) where
+  lines_done : lines x.done ≡ lines whole.0
+  lines_done = ap lines (sym (append-nil x.done) ∙ x.labels)
+
+  text_is : (stop : ℕ) → lines x.done ++ end_line stop ≡ run_text stop whole
+  text_is stop = ap₂ (λ (ls : List ℕ) (e : MeanEnd). ls ++ last_line stop e) lines_done x.ends
+
+  -- the stop was reached, and its line written
+  pub far_closes : (stop : ℕ) (b : Option (List ℕ)) (g : ℕ) → Appends a b (end_line stop) × (g ≡ f) → (ends.Stopped ≡ whole.1) × Appends old b (run_text stop whole) × (g ≡ before)
+  far_closes stop b g wrote =
+      (x.ends, subst (Appends old b) (text_is stop) (Appends-trans old a b (lines x.done) (end_line stop) x.taken wrote.0), wrote.1 ∙ x.same)
+
+  -- the sink failed in the last line
+  pub far_breaks_last : (stop : ℕ) (b : Option (List ℕ)) (g : ℕ) → Cut a b (end_line stop) × Rises f g → Cut old b (run_text stop whole) × Rises before g
+  far_breaks_last stop b g wrote =
+      (subst (Cut old b) (text_is stop) (cut_after old a b (lines x.done) (end_line stop) x.taken wrote.0), subst (λ (z : ℕ). Rises z g) x.same wrote.1)
+
+module _ (stop : ℕ) (whole : List Label × MeanEnd) (old new : Option (List ℕ)) (before after : ℕ) where
+  -- a run that a Bad step ended has no last line
+  pub bad_closes : (at : Line) → Ended whole old new before after (endings.Bad at) → (ends.Bad at.«module» at.line ≡ whole.1) × Appends old new (run_text stop whole) × (after ≡ before)
+  bad_closes at x =
+      let none : lines whole.0 ≡ run_text stop whole = sym (append-nil (lines whole.0)) ∙ ap (λ (e : MeanEnd). lines whole.0 ++ last_line stop e) (sym x.0) in
+      (sym x.0, subst (Appends old new) none x.1, x.2)
+
+  -- what was taken of the labels' lines is a beginning of the run's text
+  pub cut_of_run : Cut old new (lines whole.0) → Cut old new (run_text stop whole)
+  cut_of_run x = cut_longer old new (lines whole.0) (last_line stop whole.1) x
+
+-- nothing was taken
+pub nothing_taken : (text : List ℕ) (a : Option (List ℕ)) → Cut a a text
+nothing_taken text a = ([], text, refl, Appends-nil a)

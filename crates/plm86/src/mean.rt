@@ -1,0 +1,179 @@
+//! The meaning of a program as a program: a turn is one step.
+
+ghost use Rattle.std.specs.Prelude.{◌≡◌, ◌∷◌, ◌++◌, ◌≤◌, ◌-◌, ℕ, List, [], Option, map, IfOk, IfErr, MatchResult};
+ghost use Rattle.word86.specs.declared.event.Event.{Event};
+ghost use Rattle.word86.specs.declared.label.Label.{Label};
+ghost use Rattle.word86.specs.declared.fault.Fault.TheVariants as fault;
+ghost use Rattle.word86.specs.declared.number.Number.TheVariants.{E704};
+ghost use Rattle.word86.specs.Taking.{Appends, Cut, Rises, Writes};
+ghost use Rattle.ppi_kbd.specs.Chips.{ChipState};
+ghost use Rattle.ppi_kbd.specs.Ports.{Shows};
+ghost use Rattle.plm_decl.specs.declared.names.Names.{Names};
+ghost use Rattle.plm_decl.specs.declared.placement.Placement.{Placement};
+ghost use Rattle.plm_decl.specs.Placement as placed;
+ghost use Rattle.plm_decl.specs.Placement.{IsPlacement};
+ghost use Rattle.plm_meaning.specs.Meaning.{choice_of, state_of, IsRunOf};
+ghost use Rattle.plm_meaning.specs.Shown.{labels_of};
+ghost use Rattle.plm_meaning.specs.System.{Makes};
+ghost use Rattle.board.specs.Run.{due_of};
+ghost use Rattle.board.specs.Trace.{lines};
+ghost use Rattle.plm86.specs.Mean.{Alternatives, one_step, turn_choices, choices_from, first_allowed, meant, run_text, mean_status_of, IsCutShort};
+ghost use Rattle.plm86.specs.Inner.Meaning.{Far, Ended, Stops};
+
+use board::Schedule;
+use listing_map::{put_end_line, put_label};
+use plm_decl::Placement;
+use plm_meaning::{Choice, Meaning, Stop};
+use plm_type::{Line, Program};
+use std::alloc::Global;
+use word86::{Event, Fault, Label, Number, PowerOn, Sink, SinkFault};
+
+/// How a run of the meaning ended.
+#[derive(Debug, Clone, Copy, PartialEq, Eq)]
+pub enum MeanEnd {
+    /// At the schedule's stop.
+    Stopped,
+    /// Before the first Bad step: its module, from 0, and its line.
+    Bad(usize, u32),
+}
+
+// What ends a run before its stop.
+#[derive(Clone, Copy)]
+enum Ending {
+    Bad(Line),
+    Memory,
+    Broken,
+}
+
+pub(crate) const CANNOT_WRITE: Fault = Fault::At(0, 1, Number::E704);
+
+const ONE_STEP: [Choice; 4] = [Choice::Enter, Choice::Program, Choice::Leave, Choice::Idle];
+
+// The first of these choices that is allowed: its label, if it has one. Where none is allowed, nothing comes.
+fn take_first(meaning: &mut Meaning<'_>, choices: &[Choice]) -> Result<Option<Label>, Ending>
+    ensures run { meaning.new.around ≡ meaning.old.around }
+    ensures made { IfOk result (λ l. (names : Names) (placement : Placement) → IsRunOf meaning.old names placement → (p : ChipState) → Shows meaning.old.store.ports p
+        → (q : ChipState) × Shows meaning.new.store.ports q × (first_allowed names placement (map choice_of choices.now) (state_of meaning.old p) ≡ Makes (state_of meaning.new q) (labels_of l))) }
+    ensures stopped { IfErr result (λ e. (names : Names) (placement : Placement) → IsRunOf meaning.old names placement → (p : ChipState) → Shows meaning.old.store.ports p
+        → Stops e (first_allowed names placement (map choice_of choices.now) (state_of meaning.old p))) }
+{
+    match choices.split_first() {
+        None => Ok(None),
+        Some((choice, others)) => match meaning.step(*choice) {
+            Ok(step) => Ok(step.label),
+            Err(Stop::NotAllowed) => take_first(meaning, others),
+            Err(Stop::Bad(at)) => Err(Ending::Bad(at)),
+            Err(Stop::Memory) => Err(Ending::Memory),
+        },
+    }
+}
+
+// Writes the line of a label, if there is one.
+fn put_line<S: Sink>(label: Option<Label>, sink: &mut S) -> Result<(), SinkFault>
+    ensures { Writes (S.taken sink.old) (S.taken sink.new) (S.failures sink.old) (S.failures sink.new) (lines (labels_of label)) result }
+{
+    match label {
+        Some(label) => put_label(&label, sink),
+        None => Ok(()),
+    }
+}
+
+// What comes by these choices, with its line.
+fn advance<S: Sink>(
+    meaning: &mut Meaning<'_>,
+    choices: &[Choice],
+    sink: &mut S,
+) -> Result<(), Ending>
+    ensures { (names : Names) (placement : Placement) (whole : List Label × MeanEnd) (left : Alternatives) (old : Option (List ℕ)) (before : ℕ)
+        → Far names placement whole (map choice_of choices.now ∷ left) meaning.old old (S.taken sink.old) before (S.failures sink.old)
+        → MatchResult result
+        (λ _. Far names placement whole left meaning.new old (S.taken sink.new) before (S.failures sink.new))
+        (Ended whole old (S.taken sink.new) before (S.failures sink.new)) }
+{
+    let label = take_first(meaning, choices)?;
+    match put_line(label, sink) {
+        Ok(()) => Ok(()),
+        Err(_) => Err(Ending::Broken),
+    }
+}
+
+// A turn: its events, and then one step.
+fn take_turn<S: Sink>(
+    meaning: &mut Meaning<'_>,
+    events: &[Event],
+    sink: &mut S,
+) -> Result<(), Ending>
+    ensures { (names : Names) (placement : Placement) (whole : List Label × MeanEnd) (left : Alternatives) (old : Option (List ℕ)) (before : ℕ)
+        → Far names placement whole (turn_choices events.now ++ left) meaning.old old (S.taken sink.old) before (S.failures sink.old)
+        → MatchResult result
+        (λ _. Far names placement whole left meaning.new old (S.taken sink.new) before (S.failures sink.new))
+        (Ended whole old (S.taken sink.new) before (S.failures sink.new)) }
+{
+    for event in events {
+        advance(meaning, &[Choice::Event(*event)], sink)?;
+    }
+    advance(meaning, &ONE_STEP, sink)
+}
+
+// The turns up to the schedule's stop.
+fn take_turns<S: Sink>(
+    meaning: &mut Meaning<'_>,
+    schedule: &Schedule,
+    sink: &mut S,
+) -> Result<(), Ending>
+    ensures { (names : Names) (placement : Placement) (whole : List Label × MeanEnd) (old : Option (List ℕ)) (before : ℕ)
+        → Far names placement whole (choices_from (due_of schedule.now) schedule.now.stop 0) meaning.old old (S.taken sink.old) before (S.failures sink.old)
+        → MatchResult result
+        (λ _. Far names placement whole [] meaning.new old (S.taken sink.new) before (S.failures sink.new))
+        (Ended whole old (S.taken sink.new) before (S.failures sink.new)) }
+{
+    for turn in 0..schedule.stop() {
+        take_turn(meaning, schedule.due(turn), sink)?;
+    }
+    Ok(())
+}
+
+/// Runs the meaning of a program from power-on under a schedule: a turn is one step. The events due come first; then an interrupt
+/// is entered if it can, else the program makes a step or leaves its interrupt procedure, else main waits. It writes the labels'
+/// lines, and `END n` at the schedule's stop. Asks that the placement fits the program's objects.
+///
+/// # Errors
+///
+/// E704 where the sink failed in this call, and `Fault::Memory` where a growth of memory was refused: what the sink took is then
+/// a beginning of the run's text.
+pub fn mean_run<S: Sink>(
+    alloc: Global,
+    program: &Program,
+    placement: &Placement,
+    power_on: PowerOn,
+    schedule: &Schedule,
+    sink: &mut S,
+) -> Result<MeanEnd, Fault>
+    requires { IsPlacement placement.now.offsets.items (placed.sizes_of program.now.names) }
+    ensures ran { IfOk result (λ e. (e ≡ (meant program.now.names placement.now power_on (due_of schedule.now) schedule.now.stop).1)
+        × Appends (S.taken sink.old) (S.taken sink.new) (run_text schedule.now.stop (meant program.now.names placement.now power_on (due_of schedule.now) schedule.now.stop))
+        × (S.failures sink.new ≡ S.failures sink.old)) }
+    ensures refused { IfErr result (λ f. IsCutShort f (S.taken sink.old) (S.taken sink.new) (S.failures sink.old) (S.failures sink.new) (run_text schedule.now.stop (meant program.now.names placement.now power_on (due_of schedule.now) schedule.now.stop))) }
+{
+    let mut meaning = Meaning::new(alloc, program, placement, power_on)?;
+    match take_turns(&mut meaning, schedule, sink) {
+        Ok(()) => match put_end_line(schedule.stop(), sink) {
+            Ok(()) => Ok(MeanEnd::Stopped),
+            Err(_) => Err(CANNOT_WRITE),
+        },
+        Err(Ending::Bad(at)) => Ok(MeanEnd::Bad(at.module, at.line)),
+        Err(Ending::Memory) => Err(Fault::Memory),
+        Err(Ending::Broken) => Err(CANNOT_WRITE),
+    }
+}
+
+/// The program's status for a run's end: 0 at the schedule's stop, 3 where the sink failed (E704), else 1.
+pub fn mean_status(end: &Result<MeanEnd, Fault>) -> u8
+    ensures { result ≡ mean_status_of end.now }
+{
+    match end {
+        Ok(MeanEnd::Stopped) => 0,
+        Err(Fault::At(_, _, Number::E704)) => 3,
+        Ok(MeanEnd::Bad(_, _)) | Err(Fault::Memory | Fault::At(_, _, _)) => 1,
+    }
+}
