@@ -27,3 +27,11 @@ pub mod Bounded
 pub mod Answered
 pub mod Quiet
 pub mod Known
+pub mod Words
+pub mod CalmExpression
+pub mod CalmParts
+pub mod LeadBlock
+pub mod InForce
+pub mod PlainText
+pub mod Apart
+pub mod PutOut

@@ -6,4 +6,5 @@ pub mod WellFormed
 pub mod Sentence
 pub mod Literals
 pub mod Answer
+pub mod InForce
 pub mod Inner

@@ -2,7 +2,8 @@
 //!
 //! `parse` replaces literals (`literals`), reads the tree by recursive descent (`statement`, `declaration`, `expression` over the
 //! `cursor`), and answers the tree or the least fault. Its contract speaks of trees, of the tokens that spell them, and of literals
-//! replaced; that no two trees are spelled alike is the law `spell_once`.
+//! replaced; that no two trees are spelled alike is the law `spell_once`, and that the literals replaced at a token are those that are
+//! declared before it in the blocks around it is `literals_in_force`.
 #![tactic(auto)]
 
 mod answer;
@@ -20,7 +21,7 @@ mod statement;
 mod tree;
 
 pub use answer::parse;
-pub use laws::spell_once;
+pub use laws::{literals_in_force, spell_once};
 pub use literals::{Expansion, expand};
 pub use tree::{
     At, Attributes, Basic, BinaryOperator, Block, Declared, Dimension, Element, Expression,
