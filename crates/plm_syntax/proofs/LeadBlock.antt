@@ -97,5 +97,5 @@ mutual
 pub module_trail : (m : ModuleT) → trail (blocks [] []) Other Other (module_leaves put_leaf 0 m []) ≡ tables_of m
 module_trail (ModuleOf n b e) =
     let whole : Leads (λ r. module_leaves put_leaf 0 (ModuleOf n b e) r) (λ r. at [] (leaf (Name n)) 0 (at [] (leaf (Sign mark.Colon)) 0 (at [] (leaf (Key key.Do)) 0 (at [] (leaf (Sign mark.Semicolon)) 0 (in_block [] b e (at [] (leaf Finish) 0 r)))))) [] [] [] []
-        = join (one (leaf (Name n)) 0 refl) (join (one (leaf (Sign mark.Colon)) 0 refl) (join (one_opens (leaf (Key key.Do)) 1 refl) (join (one (leaf (Sign mark.Semicolon)) 0 refl) (join (leads_block 1 b e) (one (leaf Finish) 0 refl))))) in
+    = join (one (leaf (Name n)) 0 refl) (join (one (leaf (Sign mark.Colon)) 0 refl) (join (one_opens (leaf (Key key.Do)) 1 refl) (join (one (leaf (Sign mark.Semicolon)) 0 refl) (join (leads_block 1 b e) (one (leaf Finish) 0 refl))))) in
     (whole Other Other refl).goes []
