@@ -1,8 +1,8 @@
 -- What comes out of a source is put out token by token, and a name comes out only where no literal has it.
-use Rattle.std.proofs.Common.{◌≡◌, ℕ, zero, suc, List, [], ◌∷◌, ◌++◌, length, take, drop, fold, Bool, true, false, cond, find, Option, Some, None, is_some, Result, Ok, Err, refl, sym, ap, ◌∙◌, subst, append_assoc, arith}
+use Rattle.std.proofs.Common.{◌≡◌, ℕ, zero, suc, List, [], ◌∷◌, ◌++◌, length, take, fold, Bool, true, false, cond, find, Option, Some, None, is_some, Result, Ok, Err, refl, sym, ap, ◌∙◌, subst, append_assoc, arith}
 use Rattle.std.specs.List.{Contains}
 use Rattle.std.proofs.Math.Seq.{take-append_seam}
-use Rattle.std.proofs.lemmas.List.{append-nil, length-append, take-append-drop}
+use Rattle.std.proofs.lemmas.List.{append-nil, length-append}
 use Rattle.std.proofs.lemmas.List.Sums.{fold-append}
 use Rattle.word86.specs.declared.number.Number.{Number}
 use Rattle.word86.specs.declared.number.Number.TheVariants.{E202}
@@ -20,8 +20,8 @@ use Rattle.plm_syntax.specs.Tree.{ModuleT}
 use Rattle.plm_syntax.specs.Sentence.{Spells}
 use Rattle.plm_syntax.specs.Literals.{LiteralText, Blocks, Out, is_identifier, is_string, declared_name, between, declare, put, put_source, literal_for, by_literal, stop_at, or_else, symbol_out, text_out, source_out, nothing_out, expanded}
 use Rattle.plm_syntax.specs.Answer.{tokens_from, text_end}
-use Rattle.plm_syntax.specs.InForce.{in_force, put_all, LiteralsInForce}
-use Rattle.plm_syntax.proofs.Replaced.{symbol_stopped}
+use Rattle.plm_syntax.specs.InForce.{in_force, put_all, IsRead, of_source, of_text, LiteralsInForce}
+use Rattle.plm_syntax.proofs.Replaced.{symbol_stopped, symbol_text}
 use Rattle.plm_syntax.proofs.Words.{key_word, sign_word}
 use Rattle.plm_syntax.proofs.InForce.{word_for, word_last, no_name, put_does, declare_last, declare_before, puts, at_token}
 use Rattle.plm_syntax.proofs.PlainText.{IsPlain}
@@ -192,29 +192,98 @@ pub goes_sources : (ts : List Lexeme) (o : Out) → Goes o (sources_out ts o)
 goes_sources [] o = goes_same o
 goes_sources (t ∷ ts) o = goes_on o (source_out t o) (sources_out ts (source_out t o)) (goes_source t o) (λ stop e. sources_stay ts (source_out t o) stop e) (goes_sources ts (source_out t o))
 
--- ---- the law
+-- ---- where a token is read
 
--- what came out of the first tokens of a source of which nothing stopped
+-- The whole is ahead of a state: what is good there stays good, and what has stopped is the whole.
+pub record Ahead (o whole : Out) : Type 0 where
+  pub goes : Goes o whole
+  pub stays : (stop : Number × ℕ) → o.stop ≡ Some stop → whole ≡ o
+
+pub ahead_text : (levels line : ℕ) (text : List Symbol) (o whole : Out) → IsPlain text → Ahead (text_out levels line text o) whole → Ahead o whole
+ahead_text levels line text o whole h a = record {
+  goes = goes_on o (text_out levels line text o) whole (goes_text levels line (λ x p. goes_symbol levels line x p) text h o) a.stays a.goes;
+  stays = λ stop e. let same = text_stays levels line text o stop e in a.stays stop (ap (λ (x : Out). x.stop) same ∙ e) ∙ same;
+}
+
+pub ahead_sources : (ts : List Lexeme) (o : Out) → Ahead o (sources_out ts o)
+ahead_sources ts o = record { goes = goes_sources ts o; stays = λ stop e. sources_stay ts o stop e }
+
+-- what is behind the whole, of which nothing stopped, has not stopped
+pub runs_before : (o whole : Out) → Ahead o whole → whole.stop ≡ None → o.stop ≡ None
+runs_before o whole a h = by_stop o.stop refl
+  where
+    by_stop : (stop : Option (Number × ℕ)) → o.stop ≡ stop → o.stop ≡ None
+    by_stop None e = e
+    by_stop (Some x) e = let wrong : None ≡ Some x = sym h ∙ ap (λ (y : Out). y.stop) (a.stays x e) ∙ e in absurd cc
+
 pub record Front (o whole : Out) : Type 0 where
   pub good : Good o
   pub more : List Lexeme
   pub tokens : whole.tokens ≡ o.tokens ++ more
 
-pub front_of : (ts us : List Lexeme) → (sources_out us (sources_out ts nothing_out)).stop ≡ None → Front (sources_out ts nothing_out) (sources_out us (sources_out ts nothing_out))
-front_of ts us s = by_stop (sources_out ts nothing_out).stop refl
-  where
-    o : Out
-    o = sources_out ts nothing_out
+pub front_of : (o whole : Out) → Good o → Ahead o whole → whole.stop ≡ None → Front o whole
+front_of o whole g a h = let b = a.goes g h in record { good = g; more = b.more; tokens = b.tokens }
 
-    by_stop : (stop : Option (Number × ℕ)) → (sources_out ts nothing_out).stop ≡ stop → Front (sources_out ts nothing_out) (sources_out us (sources_out ts nothing_out))
-    by_stop None e =
-        let a = goes_sources ts nothing_out nothing_good e in
-        let b = goes_sources us (sources_out ts nothing_out) a.good s in
-        record { good = a.good; more = b.more; tokens = b.tokens }
-    by_stop (Some x) e = let wrong : None ≡ Some x = sym s ∙ ap (λ (y : Out). y.stop) (sources_stay us (sources_out ts nothing_out) x e) ∙ e in absurd cc
+pub record Reading (whole : Out) (levels line : ℕ) (s : Symbol) (o : Out) : Type 0 where
+  pub good : Good o
+  pub ahead : Ahead o whole
+  pub within : (lower : ℕ) (l : LiteralText) → levels ≡ suc lower → literal_for o.blocks.literals s.kind s.text ≡ Some l → Ahead (text_out lower line l.text o) whole
 
-pub whole_is : (k : ℕ) (source : List Lexeme) → sources_out source nothing_out ≡ sources_out (drop k source) (sources_out (take k source) nothing_out)
-whole_is k source = ap (λ (x : List Lexeme). sources_out x nothing_out) (sym (take-append-drop k source)) ∙ fold-append (λ p t. source_out t p) nothing_out (take k source) (drop k source)
+pub source_replaced : (t : Lexeme) (o : Out) (l : LiteralText) → o.stop ≡ None → literal_for o.blocks.literals t.kind t.text ≡ Some l → source_out t o ≡ text_out 7 t.line l.text o
+source_replaced t o l e f =
+    ap (λ (x : Option (Number × ℕ)). or_else x o (by_literal (λ y. text_out 7 t.line y.text o) (literal_for o.blocks.literals t.kind t.text) (put_source t o))) e
+    ∙ ap (λ (x : Option LiteralText). by_literal (λ y. text_out 7 t.line y.text o) x (put_source t o)) f
+
+pub reading_source : (front back : List Lexeme) (t : Lexeme) → (sources_out (t ∷ back) (sources_out front nothing_out)).stop ≡ None
+    → Reading (sources_out (t ∷ back) (sources_out front nothing_out)) 8 t.line (record { kind = t.kind; text = t.text }) (sources_out front nothing_out)
+reading_source front back t h =
+    let ahead = ahead_sources (t ∷ back) (sources_out front nothing_out) in
+    let runs = runs_before (sources_out front nothing_out) (sources_out (t ∷ back) (sources_out front nothing_out)) ahead h in
+    record {
+      good = (goes_sources front nothing_out nothing_good runs).good;
+      ahead = ahead;
+      within = λ lower l e f.
+          let seventh : 7 ≡ lower = omega (arith, e) in
+          subst (λ (n : ℕ). Ahead (text_out n t.line l.text (sources_out front nothing_out)) (sources_out (t ∷ back) (sources_out front nothing_out))) seventh
+          (subst (λ (x : Out). Ahead x (sources_out (t ∷ back) (sources_out front nothing_out))) (source_replaced t (sources_out front nothing_out) l runs f) (ahead_sources back (source_out t (sources_out front nothing_out))));
+    }
+
+pub plain_front : (front back : List Symbol) → IsPlain (front ++ back) → IsPlain front
+plain_front [] back h = tt
+plain_front (s ∷ front) back h = (h.0, plain_front front back h.1)
+
+pub plain_back : (front back : List Symbol) → IsPlain (front ++ back) → IsPlain back
+plain_back [] back h = h
+plain_back (s ∷ front) back h = plain_back front back h.1
+
+pub reading_text : (levels line : ℕ) (front back : List Symbol) (x : Symbol) (o whole : Out) → Good o → whole.stop ≡ None → IsPlain (front ++ x ∷ back) → Ahead (text_out levels line (front ++ x ∷ back) o) whole
+    → Reading whole levels line x (text_out levels line front o)
+reading_text levels line front back x o whole g h plain a =
+    let rest = plain_back front (x ∷ back) plain in
+    let behind : Ahead (text_out levels line (x ∷ back) (text_out levels line front o)) whole
+    = subst (λ (y : Out). Ahead y whole) (fold-append (λ q y. symbol_out levels line y q) o front (x ∷ back)) a in
+    let ahead = ahead_text levels line (x ∷ back) (text_out levels line front o) whole rest behind in
+    let runs = runs_before (text_out levels line front o) whole ahead h in
+    record {
+      good = (goes_text levels line (λ y q. goes_symbol levels line y q) front (plain_front front (x ∷ back) plain) o g runs).good;
+      ahead = ahead;
+      within = λ lower l e f.
+          subst (λ (y : Out). Ahead y whole) (ap (λ (n : ℕ). symbol_out n line x (text_out levels line front o)) e ∙ sym (symbol_text lower line x (text_out levels line front o) l (ap is_some runs) f))
+          (ahead_text levels line back (symbol_out levels line x (text_out levels line front o)) whole rest.1 behind);
+    }
+
+pub reading : (source : List Lexeme) → (sources_out source nothing_out).stop ≡ None → (levels line : ℕ) (s : Symbol) (o : Out) → IsRead source levels line s o → Reading (sources_out source nothing_out) levels line s o
+unfolding expanded
+reading source h _ _ _ _ (of_source front back t e) =
+    let is = ap (λ (x : List Lexeme). sources_out x nothing_out) e ∙ fold-append (λ p x. source_out x p) nothing_out front (t ∷ back) in
+    subst (λ (w : Out). Reading w 8 t.line (record { kind = t.kind; text = t.text }) (sources_out front nothing_out)) (sym is) (reading_source front back t (sym (ap (λ (x : Out). x.stop) is) ∙ h))
+reading source h _ _ _ _ (of_text levels line s o l front back x r f e) =
+    let a = reading source h (suc levels) line s o r in
+    reading_text levels line front back x o (sources_out source nothing_out) a.good h
+    (subst IsPlain e (plain_for s.kind s.text o.blocks.literals l f a.good.sound.plain))
+    (subst (λ (y : List Symbol). Ahead (text_out levels line y o) (sources_out source nothing_out)) e (a.within levels l refl f))
+
+-- ---- the law
 
 pub at_front : (o whole : Out) (m : ModuleT) → Front o whole → Spells m (tokens_from 0 whole.tokens ++ leaf Finish ∷ []) → o.blocks.literals ≡ in_force m (length o.tokens)
 at_front o whole m f w =
@@ -230,9 +299,9 @@ are_in_force source m h w =
     let whole = goes_sources source nothing_out nothing_good h in
     let spelled : Spells m (tokens_from 0 (sources_out source nothing_out).tokens ++ leaf Finish ∷ []) = subst (λ (x : Option (Number × ℕ)). Spells m (tokens_from 0 (sources_out source nothing_out).tokens ++ text_end x)) h w in
     record {
-      at_source = λ k. at_front (sources_out (take k source) nothing_out) (sources_out source nothing_out) m
-          (subst (Front (sources_out (take k source) nothing_out)) (sym (whole_is k source)) (front_of (take k source) (drop k source) (sym (ap (λ (x : Out). x.stop) (whole_is k source)) ∙ h)))
-          spelled;
+      where_read = λ levels line s o r.
+          let a = reading source h levels line s o r in
+          at_front o (sources_out source nothing_out) m (front_of o (sources_out source nothing_out) a.good a.ahead h) spelled;
       one_by_one = sym whole.good.told;
       at_token = λ n le. at_token (sources_out source nothing_out).tokens m spelled n le;
       found = λ n le l c text e. found_at (in_force m n) l text
