@@ -1,10 +1,10 @@
 //! Runs of the code that programs are lowered to, step by step over a store, with labels worked by hand from the language's rules. The
 //! meaning of the same text makes the same ones.
 
-use crate::meaning::run;
+use crate::meaning::{run, run_of};
 use icode::{Code, Instruction, Layout, Machine, Routine, Step, Stop};
 use lower::lower;
-use plm_decl::{Datum, Names, resolve};
+use plm_decl::{Datum, Names, Placement, resolve};
 use plm_syntax::parse;
 use plm_token::scan;
 use plm_type::{Line, Program, check};
@@ -408,6 +408,10 @@ fn main_goes_on_behind_halts(rt: HostRuntime) -> Result<(), Fail> {
     ];
     assert_eq!(rt; labels.as_slice(), three.as_slice());
     assert_eq!(rt; end, End::Halted);
+    assert_eq!(rt;
+        run(alloc, forever, &[])?.0.as_slice(),
+        [Label::Out(0x300, 1)].as_slice()
+    );
     // Behind its last statement main halts again and again.
     let waiting =
         b"M: DO; OUTPUT(20H) = 13H; OUTPUT(21H) = 8; OUTPUT(21H) = 1; OUTPUT(21H) = 0FEH; OUTPUT(43H) = 14H; OUTPUT(40H) = 4; HALT; OUTPUT(300H) = 1; END M;";
@@ -439,6 +443,12 @@ fn main_goes_on_where_interrupts_come(rt: HostRuntime) -> Result<(), Fail> {
     }
     assert_eq!(rt; labels.as_slice(), wanted.as_slice());
     assert_eq!(rt; end, End::Halted);
+    // The meaning is looked at up to the first HALT.
+    let meant = run(alloc, based, &[2, 4, 5, 6])?.0;
+    assert_eq!(rt;
+        meant.as_slice(),
+        [Label::Out(0x43, 0x14), Label::Out(0x40, 2)].as_slice()
+    );
     let waiting =
         b"M: DO; K: PROCEDURE INTERRUPT 9; OUTPUT(300H) = INPUT(60H); OUTPUT(61H) = 80H; OUTPUT(61H) = 0; END K; OUTPUT(63H) = 99H; OUTPUT(20H) = 13H; OUTPUT(21H) = 8; OUTPUT(21H) = 3; OUTPUT(21H) = 0FDH; ENABLE; DO WHILE 1; END; END M;";
     let (labels, end) = labels_of(alloc, &[waiting], &[], 1)?;
@@ -451,6 +461,7 @@ fn main_goes_on_where_interrupts_come(rt: HostRuntime) -> Result<(), Fail> {
     ];
     assert_eq!(rt; labels.as_slice(), shown.as_slice());
     assert_eq!(rt; end, End::GoesOn);
+    assert_eq!(rt; run(alloc, waiting, &[])?.0.as_slice(), shown.as_slice());
     Ok(())
 }
 
@@ -472,6 +483,140 @@ fn accesses_are_in_order(rt: HostRuntime) -> Result<(), Fail> {
     Ok(())
 }
 
+/// The accesses of the code of these modules up to main's HALT of this number.
+fn accesses_in(
+    alloc: Global,
+    texts: &[&[u8]],
+    offsets: &[u16],
+    halts: u32,
+) -> Result<Vec<Access>, Fault> {
+    let program = program_of(alloc, texts)?;
+    let code = lower(alloc, &program)?;
+    let (accesses, _) = accesses_of(alloc, &code, program.names(), offsets, halts)?;
+    Ok(accesses)
+}
+
+/// The first byte of an object is read, or gets a value.
+fn reads(object: usize) -> Access {
+    Access::Read(Width::Byte, Place::Ram(object, 0))
+}
+
+fn writes(object: usize, value: u16) -> Access {
+    Access::Write(Width::Byte, Place::Ram(object, 0), value)
+}
+
+fn sends(port: u16, value: u16) -> Access {
+    Access::Output(Width::Byte, port, value)
+}
+
+#[test]
+fn rows_access_in_order(rt: HostRuntime) -> Result<(), Fail> {
+    let alloc = rt.alloc();
+    // The index is compared, sent, and read for the sum; the sum is stored, and wraps at last.
+    let wrapping =
+        b"M: DO; DECLARE I BYTE; DO I = 250 TO 255; OUTPUT(300H) = I; END; OUTPUT(301H) = I; END M;";
+    let mut wanted = [writes(0, 250)].to_vec(alloc)?;
+    for value in 250..256u16 {
+        let round = [
+            reads(0),
+            reads(0),
+            sends(0x300, value),
+            reads(0),
+            writes(0, (value + 1) % 256),
+        ];
+        wanted.extend_from_slice(&round)?;
+    }
+    wanted.extend_from_slice(&[reads(0), sends(0x301, 0)])?;
+    assert_eq!(rt;
+        accesses_in(alloc, &[wrapping], &[2], 1)?.as_slice(),
+        wanted.as_slice()
+    );
+    // Targets from left to right; what an embedded assignment stores is read behind it.
+    let several =
+        b"M: DO; DECLARE A BYTE, B WORD; A, B = 300; OUTPUT(300H) = A; OUTWORD(302H) = B; OUTPUT(304H) = (A := 5) + A; END M;";
+    let wanted = [
+        writes(0, 44),
+        Access::Write(Width::Word, Place::Ram(1, 0), 300),
+        reads(0),
+        sends(0x300, 44),
+        Access::Read(Width::Word, Place::Ram(1, 0)),
+        Access::Output(Width::Word, 0x302, 300),
+        writes(0, 5),
+        reads(0),
+        sends(0x304, 10),
+    ];
+    assert_eq!(rt;
+        accesses_in(alloc, &[several], &[2, 3], 1)?.as_slice(),
+        wanted.as_slice()
+    );
+    // A member, a screen word, an element.
+    let member =
+        b"M: DO; DECLARE S(2) STRUCTURE (X BYTE, Y WORD) INITIAL (1, 2, 3, 0405H); OUTWORD(300H) = S(1).Y; OUTPUT(302H) = SIZE(S); OUTPUT(303H) = LAST(S); END M;";
+    let wanted = [
+        Access::Read(Width::Word, Place::Ram(0, 4)),
+        Access::Output(Width::Word, 0x300, 0x405),
+        sends(0x302, 6),
+        sends(0x303, 1),
+    ];
+    assert_eq!(rt;
+        accesses_in(alloc, &[member], &[2], 1)?.as_slice(),
+        wanted.as_slice()
+    );
+    let screen = b"M: DO; DECLARE S WORD AT (0B8F9EH); S = 0741H; END M;";
+    let wanted = [Access::Write(Width::Word, Place::Screen(0xF9E), 0x741)];
+    assert_eq!(rt;
+        accesses_in(alloc, &[screen], &[], 1)?.as_slice(),
+        wanted.as_slice()
+    );
+    let element = b"M: DO; DECLARE A(3) BYTE; A(2) = 1; END M;";
+    let wanted = [Access::Write(Width::Byte, Place::Ram(0, 2), 1)];
+    assert_eq!(rt;
+        accesses_in(alloc, &[element], &[2], 1)?.as_slice(),
+        wanted.as_slice()
+    );
+    Ok(())
+}
+
+#[test]
+fn rows_of_calls_and_bases_access_in_order(rt: HostRuntime) -> Result<(), Fail> {
+    let alloc = rt.alloc();
+    let caller =
+        b"A: DO; DECLARE X BYTE EXTERNAL; P: PROCEDURE EXTERNAL; END P; CALL P; OUTPUT(300H) = X; END A;";
+    let called = b"B: DO; DECLARE X BYTE PUBLIC; P: PROCEDURE PUBLIC; X = 9; END P; END B;";
+    let wanted = [writes(0, 9), reads(0), sends(0x300, 9)];
+    assert_eq!(rt;
+        accesses_in(alloc, &[caller, called], &[2], 1)?.as_slice(),
+        wanted.as_slice()
+    );
+    // In each round the base is read, and then what it leads to.
+    let based =
+        b"M: DO; DECLARE P WORD, A BYTE INITIAL (1), C BYTE INITIAL (2), B BASED P BYTE, I BYTE; H: PROCEDURE INTERRUPT 8; P = .C; END H; OUTPUT(43H) = 14H; OUTPUT(40H) = 2; HALT; P = .A; DO I = 1 TO 200; OUTPUT(300H) = B; END; END M;";
+    let first = [
+        sends(0x43, 0x14),
+        sends(0x40, 2),
+        Access::Write(Width::Word, Place::Ram(0, 0), 4),
+        writes(3, 1),
+    ];
+    let mut wanted = first.to_vec(alloc)?;
+    for round in 1..201u16 {
+        let accesses = [
+            reads(3),
+            Access::Read(Width::Word, Place::Ram(0, 0)),
+            reads(1),
+            sends(0x300, 1),
+            reads(3),
+            writes(3, round + 1),
+        ];
+        wanted.extend_from_slice(&accesses)?;
+    }
+    wanted.push(reads(3))?;
+    assert_eq!(rt;
+        accesses_in(alloc, &[based], &[2, 4, 5, 6], 2)?.as_slice(),
+        wanted.as_slice()
+    );
+    Ok(())
+}
+
 #[test]
 fn modules_have_sections(rt: HostRuntime) -> Result<(), Fail> {
     let alloc = rt.alloc();
@@ -482,6 +627,9 @@ fn modules_have_sections(rt: HostRuntime) -> Result<(), Fail> {
     assert_eq!(rt; labels.as_slice(), [Label::Out(0x300, 9)].as_slice());
     assert_eq!(rt; end, End::Halted);
     let program = program_of(alloc, &[first, second])?;
+    let placement = Placement::of([2].to_vec(alloc)?);
+    let meant = run_of(alloc, &program, &placement)?.0;
+    assert_eq!(rt; meant.as_slice(), labels.as_slice());
     let code = lower(alloc, &program)?;
     assert_eq!(rt; code.sections, 2);
     assert_eq!(rt; code.main_module, 0);
@@ -507,11 +655,10 @@ fn interrupts_are_served(rt: HostRuntime) -> Result<(), Fail> {
     let code = lower(alloc, &program)?;
     assert_eq!(rt; code.serving(9), Routine::Procedure(1));
     assert_eq!(rt; code.serving(8), Routine::Unserved);
-    // A procedure that is called ends by Leave with 0, one that serves a vector by Finish.
+    // A procedure that gives no value ends by Leave alone, one that serves a vector by Finish.
     let called = [
         Instruction::Constant(0),
         Instruction::SendTo(Width::Byte, 0x61),
-        Instruction::Constant(0),
         Instruction::Leave,
     ];
     assert_eq!(rt; code.instructions(Routine::Procedure(0)), called.as_slice());

@@ -13,9 +13,9 @@ use Rattle.icode.specs.declared.instruction.Instruction.TheVariants as op
 use Rattle.icode.specs.declared.instruction.Relation.{Relation}
 use Rattle.icode.specs.Levels.{popped, behind}
 use Rattle.icode.specs.Made.{asked_constant}
-use Rattle.lower.specs.Code.{Operand, Number, Name, Computed, operand_of, anchor_place, beside, operation, scaled, moved, based, reading, locating, writing, receiving, sending, passing, alone, count_of, relation_of, stands_to, asked, test_of, asking, expression_code, pushed_code, subscripts_code, further_code, target_code, targets_code, condition_code}
+use Rattle.lower.specs.Code.{Operand, Number, Name, Computed, operand_of, anchor_place, beside, operation, scaled, moved, based, reading, locating, writing, receiving, sending, passing, alone, count_of, relation_of, stands_to, asked, test_of, asking, gives, used, expression_code, first_code, pushed_code, subscripts_code, further_code, target_code, calling, dropped_code, targets_code, condition_code}
 use Rattle.lower.specs.Well.{IsExpression, AreExpressions, AreSubscripts, IsTarget, AreTargets}
-use Rattle.lower.proofs.Heights.{Keeps, keeps_then, scaled_keeps, based_keeps, alone_keeps, passing_keeps, expression_keeps, subscripts_keep, target_keeps, pushed_up}
+use Rattle.lower.proofs.Heights.{Keeps, keeps_then, scaled_keeps, based_keeps, alone_keeps, passing_keeps, call_keeps, first_keeps, expression_keeps, subscripts_keep, target_keeps, pushed_up}
 use Rattle.lower.proofs.Fits.{IsWord, Calm, calm_then}
 
 module _ (MayCall : ℕ → Type 0) (Enables Finishes : Type 0) (Spot : ℕ → Type 0) where
@@ -105,6 +105,10 @@ module _ (MayCall : ℕ → Type 0) (Enables Finishes : Type 0) (Spot : ℕ → 
   alone_calm [] h = λ p. tt
   alone_calm (x ∷ xs) h = λ p. (tt, tt)
 
+  used_calm : (g : Bool) (h : ℕ) → C h (used g)
+  used_calm true h = λ p. tt
+  used_calm false h = λ p. (omega arith, tt)
+
   module _ (sizes : List ℕ) (procedures : List Procedure) where
     pub operand_word : (e : Expression) → IsExpression sizes procedures MayCall e → IsWord (operand_of e)
     operand_word (Constant k) good = good
@@ -120,6 +124,19 @@ module _ (MayCall : ℕ → Type 0) (Enables Finishes : Type 0) (Spot : ℕ → 
     operand_word (Passing p xs vs) good = tt
     operand_word (Running ss) good = tt
 
+    pub call_calm : (es : Expressions) (p : ℕ) → IsExpression sizes procedures MayCall (Call p es) → ((h : ℕ) → C h (first_code procedures es)) → ((h : ℕ) → C h (pushed_code procedures es)) → (h : ℕ) → C h (calling procedures p es)
+    call_calm NoMore p good first pushed h = λ i. (good.0.4, tt)
+    call_calm (More e NoMore) p good first pushed h =
+        let xs = parameters_of (slice_get procedures p) in
+        both h (expression_code procedures e) (alone xs ++ op.Invoke p ∷ []) (first h) (expression_keeps procedures e) (both h (alone xs) (op.Invoke p ∷ []) (alone_calm xs h) (alone_keeps xs) (λ i. (good.0.4, tt)))
+    call_calm (More e (More f es)) p good first pushed h =
+        let xs = parameters_of (slice_get procedures p) in
+        let all = More e (More f es) in
+        let dropped = op.Drop (2 + count_of es) ∷ op.Invoke p ∷ [] in
+        let top = count_of all + h in
+        calm_then MayCall Enables Finishes Spot h top (pushed_code procedures all) (passing xs ++ dropped) (pushed h) (pushed_up procedures all h)
+        (both top (passing xs) dropped (passing_calm xs top) (passing_keeps xs) (λ i. (omega arith, (good.0.4, tt))))
+
     mutual
       pub expression_calm : (e : Expression) → IsExpression sizes procedures MayCall e → (h : ℕ) → C h (expression_code procedures e)
       expression_calm (Constant k) good h = λ p. (good, tt)
@@ -134,20 +151,14 @@ module _ (MayCall : ℕ → Type 0) (Enables Finishes : Type 0) (Spot : ℕ → 
           (operated_calm o w (operand_of b) (expression_code procedures b) (operand_word b good.1) (expression_keeps procedures b) (expression_calm b good.1) h)
       expression_calm (Embedded t e) good h = both h (expression_code procedures e) (target_code procedures t) (expression_calm e good.1 h) (expression_keeps procedures e) (target_calm t good.0 h)
       expression_calm (Input w e) good h = receiving_calm w (operand_of e) (expression_code procedures e) (expression_keeps procedures e) (expression_calm e good) h
-      expression_calm (Call p NoMore) good h = λ i. (good.0.4, tt)
-      expression_calm (Call p (More e NoMore)) good h =
-          let xs = parameters_of (slice_get procedures p) in
-          both h (expression_code procedures e) (alone xs ++ op.Invoke p ∷ []) (expression_calm e good.1.0 h) (expression_keeps procedures e) (both h (alone xs) (op.Invoke p ∷ []) (alone_calm xs h) (alone_keeps xs) (λ i. (good.0.4, tt)))
-      expression_calm (Call p (More e (More f es))) good h =
-          let xs = parameters_of (slice_get procedures p) in
-          let all = More e (More f es) in
-          let dropped = op.Drop (2 + count_of es) ∷ op.Invoke p ∷ [] in
-          let top = count_of all + h in
-          calm_then MayCall Enables Finishes Spot h top (pushed_code procedures all) (passing xs ++ dropped) (pushed_calm (More e (More f es)) good.1 h) (pushed_up procedures all h)
-          (both top (passing xs) dropped (passing_calm xs top) (passing_keeps xs) (λ i. (omega arith, (good.0.4, tt))))
+      expression_calm (Call p es) good h = both h (calling procedures p es) (used (gives (slice_get procedures p))) (call_calm es p good (first_calm es good.1) (pushed_calm es good.1) h) (call_keeps procedures es p (first_keeps procedures es) (pushed_up procedures es)) (used_calm (gives (slice_get procedures p)) h)
       expression_calm (Value v) good h = absurd good
       expression_calm (Passing p xs vs) good h = absurd good
       expression_calm (Running ss) good h = absurd good
+
+      first_calm : (es : Expressions) → AreExpressions sizes procedures MayCall es → (h : ℕ) → C h (first_code procedures es)
+      first_calm NoMore good h = λ p. tt
+      first_calm (More e es) good h = expression_calm e good.0 h
 
       pushed_calm : (es : Expressions) → AreExpressions sizes procedures MayCall es → (h : ℕ) → C h (pushed_code procedures es)
       pushed_calm NoMore good h = λ p. tt
@@ -174,6 +185,20 @@ module _ (MayCall : ℕ → Type 0) (Enables Finishes : Type 0) (Spot : ℕ → 
       target_calm (ToPlain w x) good h = λ p. (tt, tt)
       target_calm (ToVariable w (Refer m l anchor offset ss)) good h = writing_calm w anchor offset ss (subscripts_code procedures ss) (subscripts_keep procedures ss) (subscripts_calm ss 2 good.1) h
       target_calm (ToPort w e) good h = sending_calm w (operand_of e) (expression_code procedures e) (expression_keeps procedures e) (expression_calm e good) h
+
+    pub dropped_calm : (e : Expression) → IsExpression sizes procedures MayCall e → (h : ℕ) → C h (dropped_code procedures e)
+    dropped_calm (Constant k) good h = expression_calm (Constant k) good h
+    dropped_calm (Plain w x) good h = expression_calm (Plain w x) good h
+    dropped_calm (Variable w r) good h = expression_calm (Variable w r) good h
+    dropped_calm (Location r) good h = expression_calm (Location r) good h
+    dropped_calm (Unary o w e) good h = expression_calm (Unary o w e) good h
+    dropped_calm (Binary m l o w a b) good h = expression_calm (Binary m l o w a b) good h
+    dropped_calm (Embedded t e) good h = expression_calm (Embedded t e) good h
+    dropped_calm (Input w e) good h = expression_calm (Input w e) good h
+    dropped_calm (Call p es) good h = call_calm es p good (first_calm es good.1) (pushed_calm es good.1) h
+    dropped_calm (Value v) good h = absurd good
+    dropped_calm (Passing p xs vs) good h = absurd good
+    dropped_calm (Running ss) good h = absurd good
 
     pub targets_calm : (ts : Targets) → AreTargets sizes procedures MayCall ts → (h : ℕ) → C h (targets_code procedures ts)
     targets_calm (Only t) good h = target_calm t good h

@@ -26,7 +26,7 @@ use Rattle.icode.specs.declared.code.Word.TheVariants.{Return}
 use Rattle.icode.specs.declared.code.Word.TheVariants as words
 use Rattle.icode.specs.Machine.{Context, At, run, loaded, stored, found, address, computed, with_value, value_in, dropped}
 use Rattle.icode.specs.Machine as machine
-use Rattle.lower.specs.Code.{Operand, Number, Name, Computed, operand_of, place_of, beside, operation, anchor_place, moved, from_base, based, reading, locating}
+use Rattle.lower.specs.Code.{are_giving, used, Operand, Number, Name, Computed, operand_of, place_of, beside, operation, anchor_place, moved, from_base, based, reading, locating}
 use Rattle.lower.specs.Well.{Lies, AnchorLies, IsExpression}
 use Rattle.lower.proofs.Setting.{Setting}
 use Rattle.lower.proofs.Sim.{N, X, T, S, eased, then_, up, down, both, bad, touches}
@@ -129,16 +129,25 @@ module _ (x : Setting) where
   abbrev pub After : ℕ → (Expression → Rest) → Routine → ℕ → List Word → Type 0
   After n C r p ws = (v : ℕ) → v < 65536 → S x x.room n 2 (C (Value v)) (At r p v ws)
 
+  -- What may follow a call, by whether what is called gives a value. If not, anything is in the accumulator, and what was called has
+  -- come to its end, but not back.
+  abbrev pub Left : (gives : Bool) → ℕ → (Expression → Rest) → Routine → ℕ → List Word → Type 0
+  Left true n C r p ws = After n C r p ws
+  Left false n C r p ws = (R : Rest) (i : Context) (a : ℕ) → N x R ≡ Silent (C (Value 0)) → X x i ≡ Silent (At r p a ws) → S x 1 n 1 R i
+
   -- a running body whose value goes where this call returns to
   abbrev pub ProcedureRuns : ℕ → Type 0
   ProcedureRuns q = (procedure : Procedure) → slice_get x.procedures q ≡ Some procedure → (n : ℕ) (C : Expression → Rest) → IsHole x C → (r : Routine) (p : ℕ) (ws : List Word)
-      → After n C r p ws → (a : ℕ) → S x x.room n 2 (C (Running procedure.body)) (At (routine.Procedure q) 0 a (Return (record { routine = r; index = p }) ∷ ws))
+      → Left (are_giving procedure.body) n C r p ws → (a : ℕ) → S x x.room n 2 (C (Running procedure.body)) (At (routine.Procedure q) 0 a (Return (record { routine = r; index = p }) ∷ ws))
 
   pub moved_to : (m n f : ℕ) (R : Rest) (r : Routine) (p q a : ℕ) (ws : List Word) → p ≡ q → S x m n f R (At r p a ws) → S x m n f R (At r q a ws)
   moved_to m n f R r p q a ws e h = subst (λ y. S x m n f R (At r y a ws)) e h
 
   pub after_at : (n : ℕ) (C : Expression → Rest) (r : Routine) (p q : ℕ) (ws : List Word) → p ≡ q → After n C r p ws → After n C r q ws
   after_at n C r p q ws e k v lt = moved_to x.room n 2 (C (Value v)) r p q v ws e (k v lt)
+
+  pub left_at : (g : Bool) (n : ℕ) (C : Expression → Rest) (r : Routine) (p q : ℕ) (ws : List Word) → p ≡ q → Left g n C r p ws → Left g n C r q ws
+  left_at g n C r p q ws e h = subst (λ y. Left g n C r y ws) e h
 
   pub has_at : (r : Routine) (p q : ℕ) (os : List Instruction) → p ≡ q → HasAt (x.code r) p os → HasAt (x.code r) q os
   has_at r p q os e h = subst (λ y. HasAt (x.code r) y os) e h
@@ -151,6 +160,13 @@ module _ (x : Setting) where
 
   pub soon : (n f g : ℕ) (R : Rest) (i : Context) → f ≤ g → S x 2 n f R i → T x n g R i
   soon n f g R i le h = then_ x 2 n f g R i (omega arith) le h
+
+  -- a value that is used, behind a call
+  pub used_then : (g : Bool) (n : ℕ) (C : Expression → Rest) (r : Routine) (p : ℕ) (ws : List Word) → HasAt (x.code r) p (used g) → After n C r (p + length (used g)) ws → Left g n C r p ws
+  used_then true n C r p ws has after = after_at n C r (p + 0) p ws (omega arith) after
+  used_then false n C r p ws has after = λ R i a u e.
+      down x 1 n 0 R i (At r p a ws) e
+      (soon n 0 0 R (At r p a ws) (omega arith) (both x 1 n 0 R (C (Value 0)) (At r p a ws) (At r (p + 1) 0 ws) u (acts x r p a ws (op.Constant 0) has.0) (ended n C r (p + 1) ws after 0 (omega arith))))
 
   -- the accumulator is pushed
   pub push_then : (m n f : ℕ) (R : Rest) (r : Routine) (p a : ℕ) (ws : List Word) → slice_get (x.code r) p ≡ Some op.Push → T x n f R (At r (p + 1) a (words.Value a ∷ ws)) → S x m n (suc f) R (At r p a ws)

@@ -7,11 +7,11 @@ use Rattle.icode.specs.declared.instruction.Instruction.{Instruction}
 use Rattle.icode.specs.declared.instruction.Instruction.TheVariants as op
 use Rattle.icode.specs.declared.instruction.Relation.TheVariants as relation
 use Rattle.icode.specs.Levels.{behind}
-use Rattle.lower.specs.Code.{Kind, OfMain, Called, Serving, operand_of, place_of, beside, stands_to, test_of, expression_code, targets_code, condition_code, returning, narrowed, next_round, are_silent, over, all_of, switching, exit_before, statement_code, statements_code, cases_code}
+use Rattle.lower.specs.Code.{Kind, OfMain, Called, Giving, Serving, operand_of, place_of, beside, stands_to, test_of, expression_code, targets_code, condition_code, returning, narrowed, next_round, are_silent, over, all_of, switching, exit_before, statement_code, statements_code, cases_code}
 use Rattle.lower.specs.Well.{MayReturn, IsStatement, AreStatements}
-use Rattle.lower.proofs.Heights.{Keeps, expression_keeps, targets_keep}
+use Rattle.lower.proofs.Heights.{Keeps, expression_keeps, dropped_keeps, targets_keep}
 use Rattle.lower.proofs.Fits.{Fits, Calm, Fitting, AreLevel, level_then, tested_level, choosing_level, switching_level, next_level, fits_then, choosing_fits, one_then_more, repeated_fits, switching_fits, case_fits, counted_fits}
-use Rattle.lower.proofs.Calm.{expression_calm, targets_calm, beside_calm, operand_word, condition_calm, bound_word, test_word, beside_up, condition_up}
+use Rattle.lower.proofs.Calm.{expression_calm, dropped_calm, targets_calm, beside_calm, operand_word, condition_calm, bound_word, test_word, beside_up, condition_up}
 use Rattle.lower.proofs.Stmts.{silents_code}
 
 -- ENABLE or HALT stands in it
@@ -38,6 +38,7 @@ abbrev mutual
 abbrev pub IsServing : Kind → Type 0
 IsServing OfMain = ⊥
 IsServing Called = ⊥
+IsServing Giving = ⊥
 IsServing Serving = Unit {0}
 
 narrowed_keeps : (w : Width) → Keeps (narrowed w ++ op.Leave ∷ [])
@@ -48,13 +49,14 @@ module _ (procedures : List Procedure) (around : Kind) where
   returning_level : (around : Kind) → behind 0 (returning around) ≡ 0
   returning_level OfMain = refl
   returning_level Called = refl
+  returning_level Giving = refl
   returning_level Serving = refl
 
   mutual
     pub statement_level : (s : Statement) (exit : ℕ) → behind 0 (statement_code procedures around exit s) ≡ 0
     statement_level Empty exit = refl
     statement_level (Assign ts e) exit = level_then (expression_code procedures e) (targets_code procedures ts) (expression_keeps procedures e 0) (targets_keep procedures ts 0)
-    statement_level (Evaluate e) exit = expression_keeps procedures e 0
+    statement_level (Evaluate e) exit = dropped_keeps procedures e 0
     statement_level Return exit = returning_level around
     statement_level (ReturnValue w e) exit = level_then (expression_code procedures e) (narrowed w ++ op.Leave ∷ []) (expression_keeps procedures e 0) (narrowed_keeps w 0)
     statement_level Enabling exit = refl
@@ -114,7 +116,8 @@ module _ (MayCall : ℕ → Type 0) (Enables : Type 0) (Spot : ℕ → Type 0) (
 
   returning_fits : (around : Kind) → MayReturn sizes procedures MayCall around → (p : ℕ) → Fits MayCall Enables (IsServing around) Spot p 0 (returning around)
   returning_fits OfMain may p = tt
-  returning_fits Called may p = (omega arith, (tt, tt))
+  returning_fits Called may p = (tt, tt)
+  returning_fits Giving may p = (omega arith, (tt, tt))
   returning_fits Serving may p = (tt, tt)
 
   narrowed_calm : (w : Width) → C 0 (narrowed w ++ op.Leave ∷ [])
@@ -127,7 +130,7 @@ module _ (MayCall : ℕ → Type 0) (Enables : Type 0) (Spot : ℕ → Type 0) (
     statement_fits (Assign ts e) good lets exit = λ p s end.
         fits_then MayCall Enables (IsServing around) Spot p 0 0 (expression_code procedures e) (targets_code procedures ts) (expression_calm MayCall Enables (IsServing around) Spot sizes procedures e good.1 0 p) (expression_keeps procedures e 0)
         (targets_calm MayCall Enables (IsServing around) Spot sizes procedures ts good.0 0 (p + length (expression_code procedures e)))
-    statement_fits (Evaluate e) good lets exit = λ p s end. expression_calm MayCall Enables (IsServing around) Spot sizes procedures e good 0 p
+    statement_fits (Evaluate e) good lets exit = λ p s end. dropped_calm MayCall Enables (IsServing around) Spot sizes procedures e good 0 p
     statement_fits Return good lets exit = λ p s end. returning_fits around good p
     statement_fits (ReturnValue w e) good lets exit = λ p s end.
         fits_then MayCall Enables (IsServing around) Spot p 0 0 (expression_code procedures e) (narrowed w ++ op.Leave ∷ []) (expression_calm MayCall Enables (IsServing around) Spot sizes procedures e good.1 0 p) (expression_keeps procedures e 0)

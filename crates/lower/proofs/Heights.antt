@@ -11,7 +11,7 @@ use Rattle.plm_type.specs.Next.{parameters_of}
 use Rattle.icode.specs.declared.instruction.Instruction.{Instruction}
 use Rattle.icode.specs.declared.instruction.Instruction.TheVariants as op
 use Rattle.icode.specs.Levels.{after, behind}
-use Rattle.lower.specs.Code.{Operand, anchor_place, Number, Name, Computed, operand_of, beside, operation, scaled, moved, based, reading, locating, writing, receiving, sending, passing, alone, count_of, expression_code, pushed_code, subscripts_code, further_code, target_code, targets_code}
+use Rattle.lower.specs.Code.{Operand, anchor_place, Number, Name, Computed, operand_of, beside, operation, scaled, moved, based, reading, locating, writing, receiving, sending, passing, alone, count_of, gives, used, expression_code, first_code, pushed_code, subscripts_code, further_code, target_code, calling, dropped_code, targets_code}
 
 pub behind_append : (h : ℕ) (xs ys : List Instruction) → behind h (xs ++ ys) ≡ behind (behind h xs) ys
 behind_append h [] ys = refl
@@ -95,7 +95,25 @@ pub alone_keeps : (xs : List Scalar) → Keeps (alone xs)
 alone_keeps [] h = refl
 alone_keeps (x ∷ xs) h = refl
 
+pub used_keeps : (g : Bool) → Keeps (used g)
+used_keeps true h = refl
+used_keeps false h = refl
+
 module _ (procedures : List Procedure) where
+  pub call_keeps : (es : Expressions) (p : ℕ) → Keeps (first_code procedures es) → ((h : ℕ) → behind h (pushed_code procedures es) ≡ count_of es + h) → Keeps (calling procedures p es)
+  call_keeps NoMore p first pushed h = refl
+  call_keeps (More e NoMore) p first pushed h =
+      let xs = parameters_of (slice_get procedures p) in
+      keeps_then (expression_code procedures e) (alone xs ++ op.Invoke p ∷ []) first h h (keeps_then (alone xs) (op.Invoke p ∷ []) (alone_keeps xs) h h refl)
+  call_keeps (More e (More f es)) p first pushed h =
+      let xs = parameters_of (slice_get procedures p) in
+      let n = 2 + count_of es in
+      let dropped = op.Drop n ∷ op.Invoke p ∷ [] in
+      let arguments = pushed_code procedures (More e (More f es)) in
+      behind_append h arguments (passing xs ++ dropped)
+      ∙ (ap (λ i. behind i (passing xs ++ dropped)) (pushed h)
+      ∙ keeps_then (passing xs) dropped (passing_keeps xs) (count_of (More e (More f es)) + h) h (omega arith))
+
   mutual
     pub expression_keeps : (e : Expression) → Keeps (expression_code procedures e)
     expression_keeps (Constant k) h = refl
@@ -108,21 +126,14 @@ module _ (procedures : List Procedure) where
         (operated_keeps o w (operand_of b) (expression_code procedures b) (expression_keeps b)) h
     expression_keeps (Embedded t e) h = keeps_both (expression_code procedures e) (target_code procedures t) (expression_keeps e) (target_keeps t) h
     expression_keeps (Input w e) h = receiving_keeps w (operand_of e) (expression_code procedures e) (expression_keeps e) h
-    expression_keeps (Call p NoMore) h = refl
-    expression_keeps (Call p (More e NoMore)) h =
-        let xs = parameters_of (slice_get procedures p) in
-        keeps_then (expression_code procedures e) (alone xs ++ op.Invoke p ∷ []) (expression_keeps e) h h (keeps_then (alone xs) (op.Invoke p ∷ []) (alone_keeps xs) h h refl)
-    expression_keeps (Call p (More e (More f es))) h =
-        let xs = parameters_of (slice_get procedures p) in
-        let n = 2 + count_of es in
-        let dropped = op.Drop n ∷ op.Invoke p ∷ [] in
-        let arguments = pushed_code procedures (More e (More f es)) in
-        behind_append h arguments (passing xs ++ dropped)
-        ∙ (ap (λ i. behind i (passing xs ++ dropped)) (pushed_up (More e (More f es)) h)
-        ∙ keeps_then (passing xs) dropped (passing_keeps xs) (count_of (More e (More f es)) + h) h (omega arith))
+    expression_keeps (Call p es) h = keeps_both (calling procedures p es) (used (gives (slice_get procedures p))) (call_keeps es p (first_keeps es) (pushed_up es)) (used_keeps (gives (slice_get procedures p))) h
     expression_keeps (Value v) h = refl
     expression_keeps (Passing p xs vs) h = refl
     expression_keeps (Running ss) h = refl
+
+    pub first_keeps : (es : Expressions) → Keeps (first_code procedures es)
+    first_keeps NoMore h = refl
+    first_keeps (More e es) h = expression_keeps e h
 
     -- each argument is pushed
     pub pushed_up : (es : Expressions) (h : ℕ) → behind h (pushed_code procedures es) ≡ count_of es + h
@@ -145,6 +156,20 @@ module _ (procedures : List Procedure) where
     target_keeps (ToPlain w x) h = refl
     target_keeps (ToVariable w (Refer m l anchor offset ss)) h = writing_keeps w anchor offset ss (subscripts_code procedures ss) (subscripts_keep ss) h
     target_keeps (ToPort w e) h = sending_keeps w (operand_of e) (expression_code procedures e) (expression_keeps e) h
+
+  pub dropped_keeps : (e : Expression) → Keeps (dropped_code procedures e)
+  dropped_keeps (Constant k) h = refl
+  dropped_keeps (Plain w x) h = refl
+  dropped_keeps (Variable w r) h = expression_keeps (Variable w r) h
+  dropped_keeps (Location r) h = expression_keeps (Location r) h
+  dropped_keeps (Unary o w e) h = expression_keeps (Unary o w e) h
+  dropped_keeps (Binary m l o w a b) h = expression_keeps (Binary m l o w a b) h
+  dropped_keeps (Embedded t e) h = expression_keeps (Embedded t e) h
+  dropped_keeps (Input w e) h = expression_keeps (Input w e) h
+  dropped_keeps (Call p es) h = call_keeps es p (first_keeps es) (pushed_up es) h
+  dropped_keeps (Value v) h = refl
+  dropped_keeps (Passing p xs vs) h = refl
+  dropped_keeps (Running ss) h = refl
 
   pub targets_keep : (ts : Targets) → Keeps (targets_code procedures ts)
   targets_keep (Only t) h = target_keeps t h

@@ -39,4 +39,5 @@ pub mod Numbers
 pub mod TypedPlaces
 pub mod TypedTrees
 pub mod TypedStatements
+pub mod Unvalued
 pub mod TypedProgram

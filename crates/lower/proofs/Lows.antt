@@ -36,7 +36,7 @@ use Rattle.icode.specs.declared.code.Routine.{Routine}
 use Rattle.icode.specs.declared.code.Routine.TheVariants as routine
 use Rattle.icode.specs.declared.instruction.Instruction.TheVariants.{Finish}
 use Rattle.icode.specs.Levels.{height}
-use Rattle.lower.specs.Code.{OfMain, kind_of, serves, procedure_code}
+use Rattle.lower.specs.Code.{OfMain, kind_of, are_giving, serves, procedure_code}
 use Rattle.lower.specs.Lowered.{vectors_of, program_code}
 use Rattle.lower.proofs.Peaks.{peak, pushed_peak, reference_peak, subscripts_peak, port_peak, target_peak, targets_peak, statement_peak, statements_peak, low, routine_low}
 
@@ -331,7 +331,7 @@ module _ (names : Names) where
   procedure_code_low q None got s k = low (most_leaves names) 0 0 [] (omega arith, refl) k
   procedure_code_low q (Some x) got s k =
       let h = procedure_low names.variables.items (declared_procedures names) (sizes_of names) (declared_procedures names) q x got in
-      routine_low (procedures_of names) (kind_of s) x.body (most_leaves names) (omega (arith, h)) k
+      routine_low (procedures_of names) (kind_of s (are_giving x.body)) x.body (most_leaves names) (omega (arith, h)) k
 
   pub code_low : (r : Routine) (k : ℕ) → height (program_code names r) k ≤ most_leaves names
   code_low routine.Main k =

@@ -8,7 +8,7 @@ use Rattle.plm_type.specs.Rest.{Expression, Constant, Plain, Variable, Location,
 use Rattle.plm_type.specs.Reach.{row_of}
 use Rattle.plm_type.specs.Calls.{calls_in, argument_calls, subscript_calls, target_calls, targets_calls, statement_calls, loop_calls, statements_calls, graph_of}
 use Rattle.plm_type.specs.Order.{place_in, IsOrder}
-use Rattle.lower.specs.Code.{Kind, OfMain, Called, Serving}
+use Rattle.lower.specs.Code.{Kind, OfMain, Called, Giving, Serving}
 use Rattle.lower.specs.Well.{IsExpression, AreExpressions, AreSubscripts, IsTarget, AreTargets, MayReturn, MayReturnValue, IsStatement, IsLoop, AreStatements}
 
 abbrev NoProcedure : Option Procedure → Type 0
@@ -70,11 +70,13 @@ module _ (sizes : List ℕ) (procedures : List Procedure) (A B : ℕ → Type 0)
   returns_all : (kind : Kind) → MayReturn sizes procedures A kind → MayReturn sizes procedures (λ q. A q × B q) kind
   returns_all OfMain h = h
   returns_all Called h = h
+  returns_all Giving h = h
   returns_all Serving h = h
 
   values_all : (kind : Kind) → MayReturnValue sizes procedures A kind → MayReturnValue sizes procedures (λ q. A q × B q) kind
   values_all OfMain h = h
   values_all Called h = h
+  values_all Giving h = h
   values_all Serving h = h
 
   module _ (around : Kind) where

@@ -14,7 +14,7 @@ use Rattle.icode.specs.declared.instruction.Relation.{Relation}
 use Rattle.icode.specs.declared.instruction.Relation.TheVariants as relation
 use Rattle.icode.specs.declared.instruction.Test.{Test}
 use Rattle.icode.specs.Levels.{popped, after, behind, height}
-use Rattle.lower.specs.Code.{Operand, Number, Name, Computed, operand_of, place_of, beside, operation, anchor_place, scaled, moved, based, reading, locating, writing, receiving, sending, passing, alone, count_of, relation_of, stands_to, asked, test_of, asking, expression_code, pushed_code, subscripts_code, further_code, target_code, targets_code, condition_code, Kind, OfMain, Called, Serving, returning, narrowed, add_pushed, next_round, are_silent, over, failing, choosing, all_of, entries, switching, exit_before, statement_code, statements_code, cases_code, ending, routine_code}
+use Rattle.lower.specs.Code.{Operand, Number, Name, Computed, operand_of, place_of, beside, operation, anchor_place, scaled, moved, based, reading, locating, writing, receiving, sending, passing, alone, count_of, relation_of, stands_to, asked, test_of, asking, gives, used, expression_code, first_code, pushed_code, subscripts_code, further_code, target_code, calling, dropped_code, targets_code, condition_code, Kind, OfMain, Called, Giving, Serving, returning, narrowed, add_pushed, next_round, are_silent, over, failing, choosing, all_of, entries, switching, exit_before, statement_code, statements_code, cases_code, ending, routine_code}
 
 -- ---- peaks of typed trees
 
@@ -197,6 +197,10 @@ alone_stays : (m h : ℕ) (xs : List Scalar) → h ≤ m → Stays m h h (alone 
 alone_stays m h [] le = (le, refl)
 alone_stays m h (x ∷ xs) le = last_stays m h h (op.Store x.width (place_of x.place)) le refl le
 
+used_stays : (m h : ℕ) (g : Bool) → h ≤ m → Stays m h h (used g)
+used_stays m h true le = (le, refl)
+used_stays m h false le = last_stays m h h (op.Constant 0) le refl le
+
 -- ---- expressions
 
 module _ (procedures : List Procedure) where
@@ -218,6 +222,22 @@ module _ (procedures : List Procedure) where
   port_stays (Passing p xs vs) m h width computing le s = sent_stays m h width computing (s (omega (arith, le)))
   port_stays (Running ss) m h width computing le s = sent_stays m h width computing (s (omega (arith, le)))
 
+  call_stays : (es : Expressions) (p m h : ℕ) → h + pushed_peak es ≤ m → Stays m h h (first_code procedures es) → Stays m h (h + count_of es) (pushed_code procedures es) → Stays m h h (calling procedures p es)
+  call_stays NoMore p m h le first s = last_stays m h h (op.Invoke p) (omega (arith, le)) refl (omega (arith, le))
+  call_stays (More e NoMore) p m h le first s =
+      let xs = parameters_of (slice_get procedures p) in
+      let low : h ≤ m = omega (arith, le) in
+      then_stays m h h h (code e) (alone xs ++ op.Invoke p ∷ []) first (then_stays m h h h (alone xs) (op.Invoke p ∷ []) (alone_stays m h xs low) (last_stays m h h (op.Invoke p) low refl low))
+  call_stays (More e (More f es)) p m h le first s =
+      let xs = parameters_of (slice_get procedures p) in
+      let n = 2 + count_of es in
+      let dropped = op.Drop n ∷ op.Invoke p ∷ [] in
+      let up = ends m h (h + count_of (More e (More f es))) (pushed_code procedures (More e (More f es))) s in
+      let low : h ≤ m = omega (arith, le) in
+      let high : h + n ≤ m = omega (arith, up) in
+      then_stays m h (h + n) h (pushed_code procedures (More e (More f es))) (passing xs ++ dropped) (subst (λ j. Stays m h j (pushed_code procedures (More e (More f es)))) (omega arith) s)
+      (then_stays m (h + n) (h + n) h (passing xs) dropped (passing_stays m (h + n) xs high) (step_stays m (h + n) h h (op.Drop n) (op.Invoke p ∷ []) high (omega arith) (last_stays m h h (op.Invoke p) low refl low)))
+
   mutual
     pub expression_stays : (e : Expression) (m h : ℕ) → h + peak e ≤ m → Stays m h h (code e)
     expression_stays (Constant k) m h le = last_stays m h h (op.Constant k) (omega (arith, le)) refl (omega (arith, le))
@@ -232,24 +252,14 @@ module _ (procedures : List Procedure) where
         (operated_stays m h o width (operand_of b) (code b) (expression_stays b m (suc h) (omega (arith, le))))
     expression_stays (Embedded t e) m h le = then_stays m h h h (code e) (target_code procedures t) (expression_stays e m h (omega (arith, le))) (target_stays t m h (omega (arith, le)))
     expression_stays (Input width e) m h le = receiving_stays m h width (operand_of e) (code e) (expression_stays e m h le)
-    expression_stays (Call p NoMore) m h le = last_stays m h h (op.Invoke p) (omega (arith, le)) refl (omega (arith, le))
-    expression_stays (Call p (More e NoMore)) m h le =
-        let xs = parameters_of (slice_get procedures p) in
-        let low : h ≤ m = omega (arith, le) in
-        then_stays m h h h (code e) (alone xs ++ op.Invoke p ∷ []) (expression_stays e m h (omega (arith, le))) (then_stays m h h h (alone xs) (op.Invoke p ∷ []) (alone_stays m h xs low) (last_stays m h h (op.Invoke p) low refl low))
-    expression_stays (Call p (More e (More f es))) m h le =
-        let xs = parameters_of (slice_get procedures p) in
-        let n = 2 + count_of es in
-        let dropped = op.Drop n ∷ op.Invoke p ∷ [] in
-        let s = pushed_stay (More e (More f es)) m h le in
-        let up = ends m h (h + count_of (More e (More f es))) (pushed_code procedures (More e (More f es))) s in
-        let low : h ≤ m = omega (arith, le) in
-        let high : h + n ≤ m = omega (arith, up) in
-        then_stays m h (h + n) h (pushed_code procedures (More e (More f es))) (passing xs ++ dropped) (subst (λ j. Stays m h j (pushed_code procedures (More e (More f es)))) (omega arith) s)
-        (then_stays m (h + n) (h + n) h (passing xs) dropped (passing_stays m (h + n) xs high) (step_stays m (h + n) h h (op.Drop n) (op.Invoke p ∷ []) high (omega arith) (last_stays m h h (op.Invoke p) low refl low)))
+    expression_stays (Call p es) m h le = then_stays m h h h (calling procedures p es) (used (gives (slice_get procedures p))) (call_stays es p m h le (first_stay es m h le) (pushed_stay es m h le)) (used_stays m h (gives (slice_get procedures p)) (omega (arith, le)))
     expression_stays (Value v) m h le = (omega (arith, le), refl)
     expression_stays (Passing p xs vs) m h le = (omega (arith, le), refl)
     expression_stays (Running ss) m h le = (omega (arith, le), refl)
+
+    first_stay : (es : Expressions) (m h : ℕ) → h + pushed_peak es ≤ m → Stays m h h (first_code procedures es)
+    first_stay NoMore m h le = (omega (arith, le), refl)
+    first_stay (More e es) m h le = expression_stays e m h (omega (arith, le))
 
     -- each argument is pushed
     pushed_stay : (es : Expressions) (m h : ℕ) → h + pushed_peak es ≤ m → Stays m h (h + count_of es) (pushed_code procedures es)
@@ -278,6 +288,20 @@ module _ (procedures : List Procedure) where
     target_stays (ToPlain width x) m h le = last_stays m h h (op.Store width (place_of x)) (omega (arith, le)) refl (omega (arith, le))
     target_stays (ToVariable width (Refer i l anchor offset ss)) m h le = writing_stays m h width anchor offset ss (subscripts_code procedures ss) (subscripts_stay ss m (suc h) (omega (arith, le)))
     target_stays (ToPort width e) m h le = port_stays e m h width (code e) le (λ up. expression_stays e m (suc h) up)
+
+  dropped_stays : (e : Expression) (m h : ℕ) → h + peak e ≤ m → Stays m h h (dropped_code procedures e)
+  dropped_stays (Constant k) m h le = expression_stays (Constant k) m h le
+  dropped_stays (Plain width x) m h le = expression_stays (Plain width x) m h le
+  dropped_stays (Variable width r) m h le = expression_stays (Variable width r) m h le
+  dropped_stays (Location r) m h le = expression_stays (Location r) m h le
+  dropped_stays (Unary o width e) m h le = expression_stays (Unary o width e) m h le
+  dropped_stays (Binary i l o width a b) m h le = expression_stays (Binary i l o width a b) m h le
+  dropped_stays (Embedded t e) m h le = expression_stays (Embedded t e) m h le
+  dropped_stays (Input width e) m h le = expression_stays (Input width e) m h le
+  dropped_stays (Call p es) m h le = call_stays es p m h le (first_stay es m h le) (pushed_stay es m h le)
+  dropped_stays (Value v) m h le = expression_stays (Value v) m h le
+  dropped_stays (Passing p xs vs) m h le = expression_stays (Passing p xs vs) m h le
+  dropped_stays (Running ss) m h le = expression_stays (Running ss) m h le
 
   targets_stay : (ts : Targets) (m h : ℕ) → h + targets_peak ts ≤ m → Stays m h h (targets_code procedures ts)
   targets_stay (Only t) m h le = target_stays t m h le
@@ -358,7 +382,8 @@ switching_stays m cs exit s =
 
 returning_stays : (m : ℕ) (around : Kind) → Stays m 0 0 (returning around)
 returning_stays m OfMain = (omega arith, refl)
-returning_stays m Called = (omega arith, (omega arith, (omega arith, refl)))
+returning_stays m Called = (omega arith, (omega arith, refl))
+returning_stays m Giving = (omega arith, (omega arith, (omega arith, refl)))
 returning_stays m Serving = (omega arith, (omega arith, refl))
 
 narrowed_stays : (m : ℕ) (width : Width) → Stays m 0 0 (narrowed width ++ op.Leave ∷ [])
@@ -367,7 +392,8 @@ narrowed_stays m widths.Word = (omega arith, (omega arith, refl))
 
 ending_stays : (m : ℕ) (around : Kind) → Stays m 0 0 (ending around)
 ending_stays m OfMain = (omega arith, (omega arith, (omega arith, refl)))
-ending_stays m Called = (omega arith, (omega arith, (omega arith, refl)))
+ending_stays m Called = (omega arith, (omega arith, refl))
+ending_stays m Giving = (omega arith, (omega arith, (omega arith, refl)))
 ending_stays m Serving = (omega arith, (omega arith, refl))
 
 -- ---- statements
@@ -393,7 +419,7 @@ module _ (procedures : List Procedure) (around : Kind) where
     statement_stays Empty exit m le = (le, refl)
     statement_stays (Assign ts e) exit m le =
         then_stays m 0 0 0 (expression_code procedures e) (targets_code procedures ts) (expression_stays procedures e m 0 (omega (arith, le))) (targets_stay procedures ts m 0 (omega (arith, le)))
-    statement_stays (Evaluate e) exit m le = expression_stays procedures e m 0 (omega (arith, le))
+    statement_stays (Evaluate e) exit m le = dropped_stays procedures e m 0 (omega (arith, le))
     statement_stays Return exit m le = returning_stays m around
     statement_stays (ReturnValue width e) exit m le =
         then_stays m 0 0 0 (expression_code procedures e) (narrowed width ++ op.Leave ∷ []) (expression_stays procedures e m 0 (omega (arith, le))) (narrowed_stays m width)

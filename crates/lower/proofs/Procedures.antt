@@ -27,7 +27,7 @@ use Rattle.icode.specs.declared.code.Routine.{Routine}
 use Rattle.icode.specs.declared.code.Routine.TheVariants as routine
 use Rattle.icode.specs.Code.{code_of}
 use Rattle.icode.specs.Levels.{AreOrdered, instructions_of, place_in}
-use Rattle.lower.specs.Code.{Kind, OfMain, routine_code, kind_of, has_vector, serves, procedure_code}
+use Rattle.lower.specs.Code.{Kind, OfMain, routine_code, kind_of, are_giving, has_vector, serves, procedure_code}
 use Rattle.lower.specs.Lowered.{IsLowered, vector_of, vectors_of, last_module, program_code}
 use Rattle.lower.specs.Checked.{IsSound}
 use Rattle.lower.specs.Inner.Lowering.{ProcedureC, plain, one_lowered, all_lowered}
@@ -76,12 +76,12 @@ module _ (ps : List Procedure) (f : ProcedureR → Procedure) where
 
 -- a procedure is lowered by its parts
 pub lowered_by : (ps : List Procedure) (d : ProcedureR) (body : Statements) (vector : Option ℕ) (kind : Kind) (instructions : List Instruction)
-    → vector ≡ vector_of d → kind ≡ kind_of (has_vector (Some vector)) → instructions ≡ routine_code ps kind body
+    → vector ≡ vector_of d → kind ≡ kind_of (has_vector (Some vector)) (are_giving body) → instructions ≡ routine_code ps kind body
     → record { «module» = d.module; vector = vector; instructions = instructions } ≡ one_lowered ps d body
 lowered_by ps d body v k is served ends made =
-    let kind : k ≡ kind_of (has_vector (Some (vector_of d))) = ends ∙ ap (λ w. kind_of (has_vector (Some w))) served in
+    let kind : k ≡ kind_of (has_vector (Some (vector_of d))) (are_giving body) = ends ∙ ap (λ w. kind_of (has_vector (Some w)) (are_giving body)) served in
     ap (λ (xs : List Instruction). record { «module» = d.module; vector = v; instructions = xs }) (made ∙ ap (λ l. routine_code ps l body) kind)
-    ∙ ap (λ (w : Option ℕ). record { «module» = d.module; vector = w; instructions = routine_code ps (kind_of (has_vector (Some (vector_of d)))) body }) served
+    ∙ ap (λ (w : Option ℕ). record { «module» = d.module; vector = w; instructions = routine_code ps (kind_of (has_vector (Some (vector_of d))) (are_giving body)) body }) served
 
 -- one more of them, where declared and typed procedures are gone through side by side
 pub one_more : (ps : List Procedure) (ds : List declared.Procedure) (ts : List typed_procedure.Procedure) (n m : ℕ) (d : declared.Procedure) (t : typed_procedure.Procedure) (before : List code.Procedure) (q : code.Procedure)

@@ -17,7 +17,7 @@ use Rattle.icode.specs.declared.code.Word.{Word}
 use Rattle.icode.specs.Code.{is_number, procedure_or_none}
 use Rattle.icode.specs.Machine.{Context, At, does}
 use Rattle.icode.specs.Runs.{Comes}
-use Rattle.lower.specs.Code.{kind_of, has_vector, serves, number_for, code}
+use Rattle.lower.specs.Code.{kind_of, gives, has_vector, serves, number_for, code}
 use Rattle.lower.specs.Tracking.{IsProgram}
 use Rattle.lower.proofs.Bools.{true_false}
 use Rattle.lower.proofs.Fitting.{Let, IsServing}
@@ -80,13 +80,14 @@ module _ (sizes : List ℕ) (procedures : List Procedure) (vectors : List (Optio
   GoesOn routine.Unserved = ⊥
   GoesOn routine.Nowhere = Unit {0}
 
-  serving_ends : (b : Bool) → b ≡ false → IsServing (kind_of b) → ⊥
-  serving_ends true e f = true_false e
-  serving_ends false e f = f
+  serving_ends : (b g : Bool) → b ≡ false → IsServing (kind_of b g) → ⊥
+  serving_ends true g e f = true_false e
+  serving_ends false true e f = f
+  serving_ends false false e f = f
 
   goes_on : (r : Routine) (k : ℕ) → GoesOn r → slice_get (code procedures vectors main r) k ≡ Some op.Finish → ⊥
   goes_on routine.Main k g e = ends_at routine.Main k e
-  goes_on (routine.Procedure q) k g e = serving_ends (serves vectors q) g (ends_at (routine.Procedure q) k e)
+  goes_on (routine.Procedure q) k g e = serving_ends (serves vectors q) (gives (slice_get procedures q)) g (ends_at (routine.Procedure q) k e)
   goes_on routine.Unserved k g e = g
   goes_on routine.Nowhere k g e = ends_at routine.Nowhere k e
 

@@ -13,7 +13,7 @@ use Rattle.plm_type.specs.Nodes.{statements_nodes, procedures_nodes}
 use Rattle.word86.specs.declared.number.Number.TheVariants.{E401}
 use Rattle.icode.specs.declared.code.Routine.TheVariants as routine
 use Rattle.icode.specs.Room.{room_in}
-use Rattle.lower.specs.Code.{OfMain, kind_of, serves, routine_code, procedure_code, code}
+use Rattle.lower.specs.Code.{OfMain, kind_of, are_giving, serves, routine_code, procedure_code, code}
 use Rattle.lower.specs.Well.{AreStatements}
 use Rattle.plm_decl.specs.declared.names.Names.{Names}
 use Rattle.plm_decl.specs.Names.{declared_location_of, main_of}
@@ -81,14 +81,14 @@ module _ (variables : List Variable) (declared : List ProcedureR) (sizes : List 
   procs = map (procedure_for variables declared sizes) declared
 
   module _ (MayCall : ℕ → Type 0) (vectors : List (Option ℕ)) (main : Statements)
-      (bodies : (q : ℕ) (procedure : Procedure) → slice_get procs q ≡ Some procedure → AreStatements sizes procs MayCall (kind_of (serves vectors q)) procedure.body)
+      (bodies : (q : ℕ) (procedure : Procedure) → slice_get procs q ≡ Some procedure → AreStatements sizes procs MayCall (kind_of (serves vectors q) (are_giving procedure.body)) procedure.body)
       (none : of_procedures variables declared declared ≡ []) where
     procedure_fits : (q : ℕ) (p : ProcedureR) → slice_get declared q ≡ Some p → room_in (code procs vectors main (routine.Procedure q)) + 12 ≤ 46 * (1 + statements_nodes p.body)
     procedure_fits q p got =
         let body = body_for variables declared sizes p in
         let there : slice_get procs q ≡ Some (procedure_for variables declared sizes p) = slice_get-map (procedure_for variables declared sizes) declared q ∙ ap (option_map (procedure_for variables declared sizes)) got in
-        let same : room_in (code procs vectors main (routine.Procedure q)) ≡ room_in (routine_code procs (kind_of (serves vectors q)) body) = ap (λ o. room_in (procedure_code procs (serves vectors q) o)) there in
-        let h = typed.body_room sizes procs MayCall (kind_of (serves vectors q)) body (bodies q (procedure_for variables declared sizes p) there) in
+        let same : room_in (code procs vectors main (routine.Procedure q)) ≡ room_in (routine_code procs (kind_of (serves vectors q) (are_giving body)) body) = ap (λ o. room_in (procedure_code procs (serves vectors q) o)) there in
+        let h = typed.body_room sizes procs MayCall (kind_of (serves vectors q) (are_giving body)) body (bodies q (procedure_for variables declared sizes p) there) in
         let i = body_count p (no_fault_in declared q p none got) in
         omega (arith, same, h, i)
 

@@ -15,7 +15,7 @@ use Rattle.icode.specs.declared.instruction.Relation.TheVariants as relation
 use Rattle.icode.specs.declared.instruction.Test.{Test}
 use Rattle.icode.specs.Registers.{is_direct}
 use Rattle.icode.specs.Room.{room_of, room_of_constant, room_of_read, room_of_test, room_in}
-use Rattle.lower.specs.Code.{Operand, Number, Name, Computed, operand_of, place_of, beside, operation, anchor_place, scaled, moved, based, reading, locating, writing, receiving, sending, passing, alone, count_of, relation_of, stands_to, asked, test_of, asking, expression_code, pushed_code, subscripts_code, further_code, target_code, targets_code, condition_code, Kind, OfMain, Called, Serving, returning, narrowed, add_pushed, next_round, are_silent, over, failing, choosing, all_of, entries, switching, exit_before, statement_code, statements_code, cases_code, ending, routine_code}
+use Rattle.lower.specs.Code.{Operand, Number, Name, Computed, operand_of, place_of, beside, operation, anchor_place, scaled, moved, based, reading, locating, writing, receiving, sending, passing, alone, count_of, relation_of, stands_to, asked, test_of, asking, gives, used, expression_code, pushed_code, subscripts_code, further_code, target_code, calling, dropped_code, targets_code, condition_code, Kind, OfMain, Called, Giving, Serving, returning, narrowed, add_pushed, next_round, are_silent, over, failing, choosing, all_of, entries, switching, exit_before, statement_code, statements_code, cases_code, ending, routine_code}
 use Rattle.lower.specs.Well.{IsExpression, AreExpressions, AreSubscripts, IsTarget, AreTargets, IsStatement, AreStatements}
 
 -- ---- the nodes of typed trees
@@ -177,6 +177,10 @@ alone_room : (xs : List Scalar) → room_in (alone xs) ≤ 4
 alone_room [] = omega arith
 alone_room (x ∷ xs) = omega arith
 
+used_room : (g : Bool) → room_in (used g) ≤ 3
+used_room true = omega arith
+used_room false = omega arith
+
 -- ---- expressions
 
 module _ (sizes : List ℕ) (procedures : List Procedure) (MayCall : ℕ → Type 0) where
@@ -189,6 +193,22 @@ module _ (sizes : List ℕ) (procedures : List Procedure) (MayCall : ℕ → Typ
       let i = room_append (passing xs) (op.Drop (2 + n) ∷ op.Invoke p ∷ []) in
       let j = passing_room xs in
       omega (arith, h, i, j, same)
+
+  -- with room for a constant
+  call_room : (es : Expressions) (p : ℕ) → IsExpression sizes procedures MayCall (Call p es) → room_in (pushed_code procedures es) + 19 * count_of es ≤ 46 * all_nodes es → room_in (calling procedures p es) + 23 ≤ 46 * (1 + all_nodes es)
+  call_room NoMore p is i = omega arith
+  call_room (More e NoMore) p is i =
+      let xs = parameters_of (slice_get procedures p) in
+      let h = room_append (code e) (alone xs ++ op.Invoke p ∷ []) in
+      let l = room_append (alone xs) (op.Invoke p ∷ []) in
+      let j = alone_room xs in
+      let k = room_append (code e) (op.Push ∷ []) in
+      omega (arith, h, i, j, k, l)
+  call_room (More e (More f es)) p is i =
+      let xs = parameters_of (slice_get procedures p) in
+      let same : length xs ≡ suc (suc (count_of es)) = ap (λ o. length (parameters_of o)) is.0.1 ∙ is.0.2 in
+      let h = several_room p xs (count_of es) (pushed_code procedures (More e (More f es))) same in
+      omega (arith, h, i)
 
   mutual
     pub expression_room : (e : Expression) → IsExpression sizes procedures MayCall e → room_in (code e) + 20 ≤ 46 * nodes e
@@ -217,20 +237,11 @@ module _ (sizes : List ℕ) (procedures : List Procedure) (MayCall : ℕ → Typ
         let j = target_room t is.0 in
         omega (arith, h, i, j)
     expression_room (Input width e) is = let h = receiving_room width (operand_of e) (code e) in let i = expression_room e is in omega (arith, h, i)
-    expression_room (Call p NoMore) is = omega arith
-    expression_room (Call p (More e NoMore)) is =
-        let xs = parameters_of (slice_get procedures p) in
-        let h = room_append (code e) (alone xs ++ op.Invoke p ∷ []) in
-        let i = room_append (alone xs) (op.Invoke p ∷ []) in
-        let j = alone_room xs in
-        let k = expression_room e is.1.0 in
-        omega (arith, h, i, j, k)
-    expression_room (Call p (More e (More f es))) is =
-        let xs = parameters_of (slice_get procedures p) in
-        let same : length xs ≡ suc (suc (count_of es)) = ap (λ o. length (parameters_of o)) is.0.1 ∙ is.0.2 in
-        let h = several_room p xs (count_of es) (pushed_code procedures (More e (More f es))) same in
-        let i = pushed_room (More e (More f es)) is.1 in
-        omega (arith, h, i)
+    expression_room (Call p es) is =
+        let h = room_append (calling procedures p es) (used (gives (slice_get procedures p))) in
+        let i = call_room es p is (pushed_room es is.1) in
+        let j = used_room (gives (slice_get procedures p)) in
+        omega (arith, h, i, j)
     expression_room (Value v) is = absurd is
     expression_room (Passing p xs vs) is = absurd is
     expression_room (Running ss) is = absurd is
@@ -272,6 +283,20 @@ module _ (sizes : List ℕ) (procedures : List Procedure) (MayCall : ℕ → Typ
         omega (arith, h, i)
     target_room (ToPort width e) is = let h = sending_room width (operand_of e) (code e) in let i = expression_room e is in omega (arith, h, i)
 
+  dropped_room : (e : Expression) → IsExpression sizes procedures MayCall e → room_in (dropped_code procedures e) ≤ 46 * nodes e
+  dropped_room (Constant k) is = omega arith
+  dropped_room (Plain width x) is = omega arith
+  dropped_room (Variable width r) is = let h = expression_room (Variable width r) is in omega (arith, h)
+  dropped_room (Location r) is = let h = expression_room (Location r) is in omega (arith, h)
+  dropped_room (Unary o width e) is = let h = expression_room (Unary o width e) is in omega (arith, h)
+  dropped_room (Binary m l o width a b) is = let h = expression_room (Binary m l o width a b) is in omega (arith, h)
+  dropped_room (Embedded t e) is = let h = expression_room (Embedded t e) is in omega (arith, h)
+  dropped_room (Input width e) is = let h = expression_room (Input width e) is in omega (arith, h)
+  dropped_room (Call p es) is = let h = call_room es p is (pushed_room es is.1) in omega (arith, h)
+  dropped_room (Value v) is = absurd is
+  dropped_room (Passing p xs vs) is = absurd is
+  dropped_room (Running ss) is = absurd is
+
   targets_room : (ts : Targets) → AreTargets sizes procedures MayCall ts → room_in (targets_code procedures ts) ≤ 46 * targets_nodes ts
   targets_room (Only t) is = target_room t is
   targets_room (Also t ts) is =
@@ -309,6 +334,7 @@ module _ (sizes : List ℕ) (procedures : List Procedure) (MayCall : ℕ → Typ
 returning_room : (around : Kind) → room_in (returning around) ≤ 6
 returning_room OfMain = omega arith
 returning_room Called = omega arith
+returning_room Giving = omega arith
 returning_room Serving = omega arith
 
 narrowed_room : (width : Width) → room_in (narrowed width) ≤ 4
@@ -390,7 +416,7 @@ module _ (sizes : List ℕ) (procedures : List Procedure) (MayCall : ℕ → Typ
         let i = expression_room sizes procedures MayCall e is.1 in
         let j = targets_room sizes procedures MayCall ts is.0 in
         omega (arith, h, i, j)
-    statement_room (Evaluate e) exit is = let i = expression_room sizes procedures MayCall e is in omega (arith, i)
+    statement_room (Evaluate e) exit is = let i = dropped_room sizes procedures MayCall e is in omega (arith, i)
     statement_room Return exit is = let h = returning_room around in omega (arith, h)
     statement_room (ReturnValue width e) exit is =
         let h = room_append (value_code e) (narrowed width ++ op.Leave ∷ []) in
@@ -476,6 +502,7 @@ module _ (sizes : List ℕ) (procedures : List Procedure) (MayCall : ℕ → Typ
   ending_room : (around : Kind) → room_in (ending around) ≤ 6
   ending_room OfMain = omega arith
   ending_room Called = omega arith
+  ending_room Giving = omega arith
   ending_room Serving = omega arith
 
   pub body_room : (around : Kind) (ss : Statements) → AreStatements sizes procedures MayCall around ss → room_in (routine_code procedures around ss) + 12 ≤ 46 * (1 + statements_nodes ss)

@@ -14,7 +14,7 @@ use Rattle.icode.specs.declared.code.Routine.{Routine}
 use Rattle.icode.specs.declared.code.Routine.TheVariants as routine
 use Rattle.icode.specs.Levels.{after, behind, height, target, IsLevelled}
 use Rattle.icode.specs.Made.{constant_in, cases_of, is_case, IsMade}
-use Rattle.lower.specs.Code.{Kind, OfMain, Called, Serving, kind_of, serves, ending, statements_code, routine_code, procedure_code, code}
+use Rattle.lower.specs.Code.{Kind, OfMain, Called, Giving, Serving, kind_of, gives, are_giving, serves, ending, statements_code, routine_code, procedure_code, code}
 use Rattle.lower.specs.Well.{AreStatements}
 use Rattle.lower.specs.Tracking.{IsProgram}
 use Rattle.lower.proofs.Bools.{none_some}
@@ -115,17 +115,20 @@ module _ (MayCall : ℕ → Type 0) (Enables Finishes : Type 0) where
 abbrev IsMain : Kind → Type 0
 IsMain OfMain = Unit {0}
 IsMain Called = ⊥
+IsMain Giving = ⊥
 IsMain Serving = ⊥
 
 some_ending : (around : Kind) → 1 ≤ length (ending around)
 some_ending OfMain = omega arith
 some_ending Called = omega arith
+some_ending Giving = omega arith
 some_ending Serving = omega arith
 
 module _ (MayCall : ℕ → Type 0) (Enables : Type 0) (sizes : List ℕ) (procedures : List Procedure) where
   ending_fits : (around : Kind) → (IsMain around → Enables) → (all : List Instruction) (p : ℕ) → Lands all p → Fits MayCall Enables (IsServing around) (Lands all) p 0 (ending around)
   ending_fits OfMain halts all p spot = (halts tt, ((refl, subst (Lands all) (omega arith) spot), tt))
-  ending_fits Called halts all p spot = (omega arith, (tt, tt))
+  ending_fits Called halts all p spot = (tt, tt)
+  ending_fits Giving halts all p spot = (omega arith, (tt, tt))
   ending_fits Serving halts all p spot = (tt, tt)
 
   whole_spots : (around : Kind) (xs ys : List Instruction) → 1 ≤ length ys → Spots MayCall Enables (IsServing around) (Lands (xs ++ ys)) 0 xs
@@ -158,7 +161,7 @@ module _ (sizes : List ℕ) (procedures : List Procedure) (vectors : List (Optio
 
   abbrev pub Ends : Routine → Type 0
   Ends routine.Main = ⊥
-  Ends (routine.Procedure p) = IsServing (kind_of (serves vectors p))
+  Ends (routine.Procedure p) = IsServing (kind_of (serves vectors p) (gives (slice_get procedures p)))
   Ends routine.Unserved = Unit {0}
   Ends routine.Nowhere = ⊥
 
@@ -166,16 +169,17 @@ module _ (sizes : List ℕ) (procedures : List Procedure) (vectors : List (Optio
   row_is p procedure got = sym (ap row_of (slice_get-map (λ (y : Procedure). statements_calls y.body) procedures p ∙ ap (option_map (λ (y : Procedure). statements_calls y.body)) got))
 
   procedure_fits : (p : ℕ) (o : Option Procedure) → slice_get procedures p ≡ o
-      → Fits (Calls (routine.Procedure p)) (Let (body_of o)) (IsServing (kind_of (serves vectors p))) (Lands (procedure_code procedures (serves vectors p) o)) 0 0 (procedure_code procedures (serves vectors p) o)
+      → Fits (Calls (routine.Procedure p)) (Let (body_of o)) (IsServing (kind_of (serves vectors p) (gives o))) (Lands (procedure_code procedures (serves vectors p) o)) 0 0 (procedure_code procedures (serves vectors p) o)
   procedure_fits p None got = tt
   procedure_fits p (Some procedure) got =
-      routine_fits (Calls (routine.Procedure p)) (Let procedure.body) sizes procedures (kind_of (serves vectors p)) procedure.body
-      (statements_all sizes procedures (λ q. serves vectors q ≡ false) (λ q. Contains (row_of (slice_get (graph_of procedures) p)) q) (kind_of (serves vectors p)) procedure.body (good.bodies p procedure got) (λ q lt c. subst (λ l. Contains l q) (row_is p procedure got) c))
-      (λ l. l) (not_main (serves vectors p))
+      routine_fits (Calls (routine.Procedure p)) (Let procedure.body) sizes procedures (kind_of (serves vectors p) (are_giving procedure.body)) procedure.body
+      (statements_all sizes procedures (λ q. serves vectors q ≡ false) (λ q. Contains (row_of (slice_get (graph_of procedures) p)) q) (kind_of (serves vectors p) (are_giving procedure.body)) procedure.body (good.bodies p procedure got) (λ q lt c. subst (λ l. Contains l q) (row_is p procedure got) c))
+      (λ l. l) (not_main (serves vectors p) (are_giving procedure.body))
     where
-      not_main : (b : Bool) → IsMain (kind_of b) → Let procedure.body
-      not_main true m = absurd m
-      not_main false m = absurd m
+      not_main : (b g : Bool) → IsMain (kind_of b g) → Let procedure.body
+      not_main true g m = absurd m
+      not_main false true m = absurd m
+      not_main false false m = absurd m
 
   pub program_fits : (r : Routine) → Fits (Calls r) (LetsIn r) (Ends r) (Lands (code procedures vectors main r)) 0 0 (code procedures vectors main r)
   program_fits routine.Main =

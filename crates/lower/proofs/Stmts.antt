@@ -9,7 +9,7 @@ use Rattle.word86.specs.declared.operation.BinaryOperation.TheVariants as binary
 use Rattle.word86.specs.Access.{Read, Write, values}
 use Rattle.word86.specs.Action.{Silent, Touch}
 use Rattle.word86.specs.Arithmetic.{low}
-use Rattle.plm_type.specs.Rest.{Scalar, Expression, Constant, Value, Target, Targets, Only, Also, Loop, Count, Statement, Empty, Assign, Evaluate, Return, ReturnValue, Enabling, Disabling, Halting, If, Block, While, Case, Iterate, Leaving, Round, Comparing, Stepping, Adding, Storing, Ending, Statements, End, Then, Returned, Rest}
+use Rattle.plm_type.specs.Rest.{Scalar, Expression, Constant, Plain, Variable, Location, Unary, Binary, Embedded, Input, Call, Value, Passing, Running, Target, Targets, Only, Also, Loop, Count, Statement, Empty, Assign, Evaluate, Return, ReturnValue, Enabling, Disabling, Halting, If, Block, While, Case, Iterate, Leaving, Round, Comparing, Stepping, Adding, Storing, Ending, Statements, End, Then, Returned, Rest}
 use Rattle.plm_type.specs.Next.{value_of, is_odd, behind, evaluated}
 use Rattle.icode.specs.declared.instruction.Instruction.{Instruction}
 use Rattle.icode.specs.declared.instruction.Instruction.TheVariants as op
@@ -19,7 +19,7 @@ use Rattle.icode.specs.declared.code.Routine.{Routine}
 use Rattle.icode.specs.declared.code.Word.{Word}
 use Rattle.icode.specs.declared.code.Word.TheVariants as words
 use Rattle.icode.specs.Machine.{Context, At, stored, loaded, switched}
-use Rattle.lower.specs.Code.{Operand, Number, Name, Computed, operand_of, place_of, beside, stands_to, test_of, expression_code, target_code, targets_code, condition_code, Kind, OfMain, Called, Serving, returning, narrowed, next_by_number, add_pushed, next_round, is_silent, are_silent, over, choosing, all_of, entries, switching, exit_before, statement_code, statements_code, cases_code}
+use Rattle.lower.specs.Code.{Operand, Number, Name, Computed, operand_of, place_of, beside, stands_to, test_of, expression_code, target_code, targets_code, calling, dropped_code, condition_code, are_giving, Kind, OfMain, Called, Giving, Serving, returning, narrowed, next_by_number, add_pushed, next_round, is_silent, are_silent, over, choosing, all_of, entries, switching, exit_before, statement_code, statements_code, cases_code}
 use Rattle.lower.specs.Well.{Lies, IsExpression, AreTargets, MayReturn, MayReturnValue, IsStatement, IsLoop, AreStatements}
 use Rattle.lower.proofs.Setting.{Setting}
 use Rattle.lower.proofs.Sim.{N, X, S, fewer, eased, then_, up, down, down_more, both, both_more, touches, enables, disables, halts}
@@ -27,8 +27,8 @@ use Rattle.lower.proofs.Holes.{IsBody, in_assign, in_evaluate, in_return, in_if,
 use Rattle.lower.proofs.Bools.{both_true, true_false}
 use Rattle.lower.proofs.Memory.{found_plain}
 use Rattle.lower.proofs.Values.{low_word}
-use Rattle.lower.proofs.Exprs.{IsOperand, operand_is, ProcedureRuns, moved_to, has_at, rise, soon, push_then}
-use Rattle.lower.proofs.Terms.{not_value, expression_sim, target_sim}
+use Rattle.lower.proofs.Exprs.{IsOperand, operand_is, Left, ProcedureRuns, moved_to, has_at, rise, soon, push_then}
+use Rattle.lower.proofs.Terms.{not_value, expression_sim, call_sim, target_sim}
 use Rattle.lower.proofs.Tests.{condition_sim, bound_sim}
 use Rattle.lower.proofs.Leads.{lead, leads}
 
@@ -115,12 +115,14 @@ module _ (x : Setting) (MayCall : ℕ → Type 0) (calls : (q : ℕ) → MayCall
   -- what a RETURN leaves is taken
   abbrev pub Returns : Kind → ℕ → Type 0
   Returns OfMain n = Unit {0}
-  Returns Called n = (v p : ℕ) → v < 65536 → slice_get (x.code r) p ≡ Some op.Leave → S x 1 n 0 (D (Returned v)) (At r p v ws)
+  Returns Called n = (p a : ℕ) → slice_get (x.code r) p ≡ Some op.Leave → S x 1 n 1 (D (Returned 0)) (At r p a ws)
+  Returns Giving n = (v p : ℕ) → v < 65536 → slice_get (x.code r) p ≡ Some op.Leave → S x 1 n 0 (D (Returned v)) (At r p v ws)
   Returns Serving n = (v p a : ℕ) → slice_get (x.code r) p ≡ Some op.Finish → S x 0 n 0 (D (Returned v)) (At r p a ws)
 
   fewer_returns : (kind : Kind) (n : ℕ) → Returns kind (suc n) → Returns kind n
   fewer_returns OfMain n h = tt
-  fewer_returns Called n h = λ v p lt e. fewer x 1 n 0 (D (Returned v)) (At r p v ws) (h v p lt e)
+  fewer_returns Called n h = λ p a e. fewer x 1 n 1 (D (Returned 0)) (At r p a ws) (h p a e)
+  fewer_returns Giving n h = λ v p lt e. fewer x 1 n 0 (D (Returned v)) (At r p v ws) (h v p lt e)
   fewer_returns Serving n h = λ v p a e. fewer x 0 n 0 (D (Returned v)) (At r p a ws) (h v p a e)
 
   k_at : (k f n : ℕ) (later : Statements) (p q : ℕ) → p ≡ q → K k f n later p → K k f n later q
@@ -256,18 +258,42 @@ module _ (x : Setting) (MayCall : ℕ → Type 0) (calls : (q : ℕ) → MayCall
       (λ v lt. rise x n 2 (D (Then (Assign ts (Value v)) later)) (At r pe v ws) (omega arith)
       (targets_sim ts gt n v later pe (has_back (x.code r) p ce ct has) (moved_to x x.room n 2 (D later) r (p + length (ce ++ ct)) (pe + length ct) v ws (omega (arith, length-append ce ct)) (to_room k n later (p + length (ce ++ ct)) v (omega (arith, small)) to)))) a)
 
-  evaluate_runs : (e : Expression) → IsExpression x.sizes x.procedures MayCall e → StatementRuns (Evaluate e)
-  evaluate_runs e ge not n ret exit later p k small has to out a =
+  evaluated_sim : (e : Expression) → IsExpression x.sizes x.procedures MayCall e → (n : ℕ) (later : Statements) (p k : ℕ) → k + 5 ≤ x.room → HasAt (x.code r) p (expression_code x.procedures e)
+      → K k 2 n later (p + length (expression_code x.procedures e)) → K (k + 5) 1 n (Then (Evaluate e) later) p
+  evaluated_sim e ge n later p k small has to a =
       eased x 2 (k + 5) n 0 1 (D (Then (Evaluate e) later)) (At r p a ws) (omega arith) (omega arith)
       (subst (λ y. S x 2 n 0 (D (evaluated y e later)) (At r p a ws)) (not_value x MayCall calls e ge)
       (expression_sim x MayCall calls e ge n (λ y. D (evaluated (value_of y) y later)) (in_evaluate x D dx later) r p ws has
       (λ v lt. to_room k n later (p + length (expression_code x.procedures e)) v (omega (arith, small)) to) a))
 
+  -- behind a call whose value is dropped the accumulator is not asked for
+  left_out : (g : Bool) (n : ℕ) (later : Statements) (p k : ℕ) → k ≤ x.room → K k 2 n later p → Left x g n (λ y. D (evaluated (value_of y) y later)) r p ws
+  left_out true n later p k small to = λ v lt. to_room k n later p v small to
+  left_out false n later p k small to = λ R i a u e. both x 0 n 1 R (D later) i (At r p a ws) u e (then_ x x.room n 2 2 (D later) (At r p a ws) (omega arith) (omega arith) (to_room k n later p a small to))
+
+  evaluate_runs : (e : Expression) → IsExpression x.sizes x.procedures MayCall e → StatementRuns (Evaluate e)
+  evaluate_runs (Call q es) ge not n ret exit later p k small has to out a =
+      eased x 2 (k + 5) n 0 1 (D (Then (Evaluate (Call q es)) later)) (At r p a ws) (omega arith) (omega arith)
+      (call_sim x MayCall calls es q ge n (λ y. D (evaluated (value_of y) y later)) (in_evaluate x D dx later) r p ws has
+      (left_out (are_giving ge.0.0.body) n later (p + length (calling x.procedures q es)) k (omega (arith, small)) to) a)
+  evaluate_runs (Constant c) ge not n ret exit later p k small has to out a = evaluated_sim (Constant c) ge n later p k small has to a
+  evaluate_runs (Plain w y) ge not n ret exit later p k small has to out a = evaluated_sim (Plain w y) ge n later p k small has to a
+  evaluate_runs (Variable w y) ge not n ret exit later p k small has to out a = evaluated_sim (Variable w y) ge n later p k small has to a
+  evaluate_runs (Location y) ge not n ret exit later p k small has to out a = evaluated_sim (Location y) ge n later p k small has to a
+  evaluate_runs (Unary o w e) ge not n ret exit later p k small has to out a = evaluated_sim (Unary o w e) ge n later p k small has to a
+  evaluate_runs (Binary m l o w e f) ge not n ret exit later p k small has to out a = evaluated_sim (Binary m l o w e f) ge n later p k small has to a
+  evaluate_runs (Embedded t e) ge not n ret exit later p k small has to out a = evaluated_sim (Embedded t e) ge n later p k small has to a
+  evaluate_runs (Input w e) ge not n ret exit later p k small has to out a = evaluated_sim (Input w e) ge n later p k small has to a
+  evaluate_runs (Value v) ge not n ret exit later p k small has to out a = absurd ge
+  evaluate_runs (Passing q xs vs) ge not n ret exit later p k small has to out a = absurd ge
+  evaluate_runs (Running ss) ge not n ret exit later p k small has to out a = absurd ge
+
   -- ---- RETURN
 
   return_then : (kind : Kind) → MayReturn x.sizes x.procedures MayCall kind → (n : ℕ) → Returns kind n → (later : Statements) (p a : ℕ) → HasAt (x.code r) p (returning kind) → S x 2 n 1 (D (Then Return later)) (At r p a ws)
   return_then OfMain may n ret later p a has = absurd may
-  return_then Called may n ret later p a has =
+  return_then Called may n ret later p a has = up x 1 n 1 (omega arith) (D (Then Return later)) (D (Returned 0)) (At r p a ws) (dx (Then Return later) refl) (ret p a has.0)
+  return_then Giving may n ret later p a has =
       down x 2 n 0 (D (Then Return later)) (At r p a ws) (At r (p + 1) 0 ws) (acts x r p a ws (op.Constant 0) has.0)
       (soon x n 0 0 (D (Then Return later)) (At r (p + 1) 0 ws) (omega arith)
       (up x 1 n 0 (omega arith) (D (Then Return later)) (D (Returned 0)) (At r (p + 1) 0 ws) (dx (Then Return later) refl) (ret 0 (p + 1) (omega arith) has.1.0)))
@@ -275,7 +301,7 @@ module _ (x : Setting) (MayCall : ℕ → Type 0) (calls : (q : ℕ) → MayCall
       eased x 1 2 n 0 1 (D (Then Return later)) (At r p a ws) (omega arith) (omega arith)
       (up x 0 n 0 (omega arith) (D (Then Return later)) (D (Returned 0)) (At r p a ws) (dx (Then Return later) refl) (ret 0 p a has.0))
 
-  narrowed_then : (w : Width) (n : ℕ) → Returns Called n → (v : ℕ) → v < 65536 → (R : Rest) → N x R ≡ Silent (D (Returned (low w v))) → (p : ℕ) → HasAt (x.code r) p (narrowed w ++ op.Leave ∷ []) → S x 2 n 1 R (At r p v ws)
+  narrowed_then : (w : Width) (n : ℕ) → Returns Giving n → (v : ℕ) → v < 65536 → (R : Rest) → N x R ≡ Silent (D (Returned (low w v))) → (p : ℕ) → HasAt (x.code r) p (narrowed w ++ op.Leave ∷ []) → S x 2 n 1 R (At r p v ws)
   narrowed_then widths.Byte n ret v lt R u p has =
       down x 2 n 0 R (At r p v ws) (At r (p + 1) (v % 256) ws) (acts x r p v ws (op.Unary unary.Low widths.Word) has.0)
       (soon x n 0 0 R (At r (p + 1) (v % 256) ws) (omega arith)
@@ -288,7 +314,8 @@ module _ (x : Setting) (MayCall : ℕ → Type 0) (calls : (q : ℕ) → MayCall
       → S x 2 n 0 (D (Then (ReturnValue w e) later)) (At r p a ws)
   value_then OfMain may w e ge n ret later p a has = absurd may
   value_then Serving may w e ge n ret later p a has = absurd may
-  value_then Called may w e ge n ret later p a has =
+  value_then Called may w e ge n ret later p a has = absurd may
+  value_then Giving may w e ge n ret later p a has =
       let ce = expression_code x.procedures e in
       let cn = narrowed w ++ op.Leave ∷ [] in
       let pe = p + length ce in

@@ -17,7 +17,7 @@ use Rattle.icode.specs.declared.code.Word.{Word}
 use Rattle.icode.specs.declared.code.Word.TheVariants.{Return}
 use Rattle.icode.specs.declared.code.Word.TheVariants as words
 use Rattle.icode.specs.Machine.{At, stored, with_value, value_in}
-use Rattle.lower.specs.Code.{Operand, Number, Name, Computed, operand_of, place_of, beside, operation, anchor_place, scaled, reading, locating, based, receiving, sending, passing, alone, count_of, expression_code, pushed_code, subscripts_code, target_code}
+use Rattle.lower.specs.Code.{Operand, Number, Name, Computed, operand_of, place_of, beside, operation, anchor_place, scaled, reading, locating, based, receiving, sending, passing, alone, count_of, are_giving, gives, used, expression_code, pushed_code, subscripts_code, target_code, calling}
 use Rattle.lower.specs.Well.{AllLie, IsExpression, AreExpressions, AreSubscripts, IsTarget}
 use Rattle.lower.proofs.Setting.{Setting}
 use Rattle.lower.proofs.Sim.{N, S, eased, then_, up, down, both, touches}
@@ -25,7 +25,7 @@ use Rattle.lower.proofs.Holes.{IsHole, AreHoles, IsReferenceHole, IsTargetHole, 
 use Rattle.lower.proofs.Bools.{to_le}
 use Rattle.lower.proofs.Memory.{found_plain}
 use Rattle.lower.proofs.Values.{values_small}
-use Rattle.lower.proofs.Exprs.{IsOperand, operand_is, of_values, pushed, values_back, get_pushed, drop_pushed, length_pushed, Reached, one_sum, two_sums, After, ProcedureRuns, moved_to, after_at, rise, ended, soon, push_then, constant_then, plain_then, unary_then, right_then, scaled_then, read_final, locate_final, fixed_written, behind_written}
+use Rattle.lower.proofs.Exprs.{IsOperand, operand_is, of_values, pushed, values_back, get_pushed, drop_pushed, length_pushed, Reached, one_sum, two_sums, After, Left, ProcedureRuns, moved_to, after_at, left_at, used_then, rise, ended, soon, push_then, constant_then, plain_then, unary_then, right_then, scaled_then, read_final, locate_final, fixed_written, behind_written}
 
 module _ (x : Setting) (MayCall : ℕ → Type 0) (calls : (q : ℕ) → MayCall q → ProcedureRuns x q) where
   abbrev Good : Expression → Type 0
@@ -98,7 +98,7 @@ module _ (x : Setting) (MayCall : ℕ → Type 0) (calls : (q : ℕ) → MayCall
 
   -- a call whose parameters have their values
   invoked : (q : ℕ) (procedure : Procedure) → slice_get x.procedures q ≡ Some procedure → MayCall q → (n : ℕ) (C : Expression → Rest) → IsHole x C → (R : Rest) → N x R ≡ Silent (C (Running procedure.body))
-      → (r : Routine) (p a : ℕ) (ws : List Word) → slice_get (x.code r) p ≡ Some (op.Invoke q) → After x n C r (p + 1) ws → S x 2 n 0 R (At r p a ws)
+      → (r : Routine) (p a : ℕ) (ws : List Word) → slice_get (x.code r) p ≡ Some (op.Invoke q) → Left x (are_giving procedure.body) n C r (p + 1) ws → S x 2 n 0 R (At r p a ws)
   invoked q procedure got may n C cx R u r p a ws h after =
       let st = Return (record { routine = r; index = p + 1 }) ∷ ws in
       both x 1 n 0 R (C (Running procedure.body)) (At r p a ws) (At (routine.Procedure q) 0 a st) u (acts x r p a ws (op.Invoke q) h)
@@ -118,23 +118,23 @@ module _ (x : Setting) (MayCall : ℕ → Type 0) (calls : (q : ℕ) → MayCall
 
   -- one argument alone is in the accumulator
   alone_then : (q : ℕ) (procedure : Procedure) → slice_get x.procedures q ≡ Some procedure → MayCall q → (n : ℕ) (C : Expression → Rest) → IsHole x C → (v : ℕ) (R : Rest) (xs : List Scalar) → length xs ≡ 1 → AllLie x.sizes xs → N x R ≡ map_action C (next_passing q xs (v ∷ []) procedure.body)
-      → (r : Routine) (p : ℕ) (ws : List Word) → HasAt (x.code r) p (alone xs ++ op.Invoke q ∷ []) → After x n C r (p + length (alone xs ++ op.Invoke q ∷ [])) ws → S x 2 n 0 R (At r p v ws)
+      → (r : Routine) (p : ℕ) (ws : List Word) → HasAt (x.code r) p (alone xs ++ op.Invoke q ∷ []) → Left x (are_giving procedure.body) n C r (p + length (alone xs ++ op.Invoke q ∷ [])) ws → S x 2 n 0 R (At r p v ws)
   alone_then q procedure got may n C cx v R [] len lie u r p ws has after = absurd (omega (arith, len))
   alone_then q procedure got may n C cx v R (y ∷ z ∷ xs) len lie u r p ws has after = absurd (omega (arith, len))
   alone_then q procedure got may n C cx v R (y ∷ []) len lie u r p ws has after =
       touches x 2 n 0 (Write y.width y.place (low y.width v)) R (λ z. C (Passing q [] [])) (At r p v ws) (λ z. At r (p + 1) v ws) u
       (acts x r p v ws (op.Store y.width (place_of y.place)) has.0 ∙ ap (λ o. stored y.width o v (At r (p + 1) v ws)) (found_plain x y.width y.place lie.0))
       (λ z lt. soon x n 0 2 (C (Passing q [] [])) (At r (p + 1) v ws) (omega arith)
-      (invoked q procedure got may n C cx (C (Passing q [] [])) (passing_is q procedure got C cx [] []) r (p + 1) v ws has.1.0 (after_at x n C r (p + 2) (p + 1 + 1) ws (omega arith) after)))
+      (invoked q procedure got may n C cx (C (Passing q [] [])) (passing_is q procedure got C cx [] []) r (p + 1) v ws has.1.0 (left_at x (are_giving procedure.body) n C r (p + 2) (p + 1 + 1) ws (omega arith) after)))
 
   -- the values of several arguments are pushed
-  passed : (q : ℕ) (procedure : Procedure) → slice_get x.procedures q ≡ Some procedure → MayCall q → (n : ℕ) (C : Expression → Rest) → IsHole x C → (r : Routine) (ws : List Word) (total back : ℕ) → After x n C r back ws
+  passed : (q : ℕ) (procedure : Procedure) → slice_get x.procedures q ≡ Some procedure → MayCall q → (n : ℕ) (C : Expression → Rest) → IsHole x C → (r : Routine) (ws : List Word) (total back : ℕ) → Left x (are_giving procedure.body) n C r back ws
       → (xs : List Scalar) (vs : List ℕ) (us : List Word) → length xs ≡ length vs → AllLie x.sizes xs → drop total (pushed vs us) ≡ ws → total ≤ length (pushed vs us) → (R : Rest) → N x R ≡ map_action C (next_passing q xs vs procedure.body)
       → (p a : ℕ) → HasAt (x.code r) p (passing xs ++ op.Drop total ∷ op.Invoke q ∷ []) → back ≡ p + length (passing xs) + 2 → S x 2 n 1 R (At r p a (pushed vs us))
   passed q procedure got may n C cx r ws total back after [] [] us len lie dr le R u p a has at =
       down x 2 n 0 R (At r p a us) (At r (p + 1) a ws)
       (acts x r p a us (op.Drop total) has.0 ∙ ap (λ b. if b then Silent (At r (p + 1) a (drop total us)) else Bad 0 0) (to_le total (length us) le) ∙ ap (λ w. Silent (At r (p + 1) a w)) dr)
-      (soon x n 0 0 R (At r (p + 1) a ws) (omega arith) (invoked q procedure got may n C cx R u r (p + 1) a ws has.1.0 (after_at x n C r back (p + 1 + 1) ws (omega (arith, at)) after)))
+      (soon x n 0 0 R (At r (p + 1) a ws) (omega arith) (invoked q procedure got may n C cx R u r (p + 1) a ws has.1.0 (left_at x (are_giving procedure.body) n C r back (p + 1 + 1) ws (omega (arith, at)) after)))
   passed q procedure got may n C cx r ws total back after (y ∷ xs) (v ∷ vs) us len lie dr le R u p a has at =
       let st = pushed vs (words.Value v ∷ us) in
       let len' : length xs ≡ length vs = omega (arith, len) in
@@ -189,22 +189,36 @@ module _ (x : Setting) (MayCall : ℕ → Type 0) (calls : (q : ℕ) → MayCall
         (moved_to x x.room n 2 (C (Value v)) r (p + length (ce ++ ct)) (pe + length ct) v ws (omega (arith, length-append ce ct)) (after v lt)))) a
     expression_sim (Input w e) good n C cx r p ws has after a =
         received e (operand_of e) (operand_is e) n C cx w r p ws has after (λ q h k b. expression_sim e good n (λ y. C (Input w y)) (in_input x C cx w) r q ws h k b) a
-    expression_sim (Call q NoMore) good n C cx r p ws has after a =
+    expression_sim (Call q es) good n C cx r p ws has after a =
+        let cc = calling x.procedures q es in
+        let g = gives (slice_get x.procedures q) in
+        let cu = used g in
+        let named : g ≡ are_giving good.0.0.body = ap gives good.0.1 in
+        let after' = after_at x n C r (p + length (cc ++ cu)) (p + length cc + length cu) ws (omega (arith, length-append cc cu)) after in
+        call_sim es q good n C cx r p ws (has_front (x.code r) p cc cu has) (subst (λ b. Left x b n C r (p + length cc) ws) named (used_then x g n C r (p + length cc) ws (has_back (x.code r) p cc cu has) after')) a
+    expression_sim (Value v) good n C cx r p ws has after a = absurd good
+    expression_sim (Passing q xs vs) good n C cx r p ws has after a = absurd good
+    expression_sim (Running ss) good n C cx r p ws has after a = absurd good
+
+    -- a call, behind which its value may be left out
+    pub call_sim : (es : Expressions) (q : ℕ) (good : IsExpression x.sizes x.procedures MayCall (Call q es)) (n : ℕ) (C : Expression → Rest) → IsHole x C → (r : Routine) (p : ℕ) (ws : List Word) → HasAt (x.code r) p (calling x.procedures q es)
+        → Left x (are_giving good.0.0.body) n C r (p + length (calling x.procedures q es)) ws → (a : ℕ) → S x 2 n 0 (C (Call q es)) (At r p a ws)
+    call_sim NoMore q good n C cx r p ws has after a =
         invoked q good.0.0 good.0.1 good.0.4 n C cx (C (Call q NoMore)) (called_is q good.0.0 good.0.1 C cx [] ∙ ap (map_action C) (none_left q good.0.0.parameters good.0.0.body)) r p a ws has.0 after
-    expression_sim (Call q (More e NoMore)) good n C cx r p ws has after a =
+    call_sim (More e NoMore) q good n C cx r p ws has after a =
         let procedure = good.0.0 in
         let got = good.0.1 in
         let named : parameters_of (slice_get x.procedures q) ≡ procedure.parameters = ap parameters_of got in
         let ce = expression_code x.procedures e in
         let cr = alone procedure.parameters ++ op.Invoke q ∷ [] in
         let has' : HasAt (x.code r) p (ce ++ cr) = subst (λ xs. HasAt (x.code r) p (ce ++ (alone xs ++ op.Invoke q ∷ []))) named has in
-        let after' : After x n C r (p + length (ce ++ cr)) ws = subst (λ xs. After x n C r (p + length (ce ++ (alone xs ++ op.Invoke q ∷ []))) ws) named after in
+        let after' : Left x (are_giving good.0.0.body) n C r (p + length (ce ++ cr)) ws = subst (λ xs. Left x (are_giving good.0.0.body) n C r (p + length (ce ++ (alone xs ++ op.Invoke q ∷ []))) ws) named after in
         let pe = p + length ce in
         expression_sim e good.1.0 n (λ y. C (Call q (More y NoMore))) (in_first x (λ es. C (Call q es)) (in_arguments x C cx q) NoMore) r p ws (has_front (x.code r) p ce cr has')
         (λ v lt. rise x n 0 (C (Call q (More (Value v) NoMore))) (At r pe v ws) (omega arith)
         (alone_then q procedure got good.0.4 n C cx v (C (Call q (More (Value v) NoMore))) procedure.parameters good.0.2 good.0.3 (called_is q procedure got C cx (v ∷ [])) r pe ws (has_back (x.code r) p ce cr has')
-        (after_at x n C r (p + length (ce ++ cr)) (pe + length cr) ws (omega (arith, length-append ce cr)) after'))) a
-    expression_sim (Call q (More e (More f es))) good n C cx r p ws has after a =
+        (left_at x (are_giving good.0.0.body) n C r (p + length (ce ++ cr)) (pe + length cr) ws (omega (arith, length-append ce cr)) after'))) a
+    call_sim (More e (More f es)) q good n C cx r p ws has after a =
         let procedure = good.0.0 in
         let got = good.0.1 in
         let total = 2 + count_of es in
@@ -215,7 +229,7 @@ module _ (x : Setting) (MayCall : ℕ → Type 0) (calls : (q : ℕ) → MayCall
         let cp = ce ++ (op.Push ∷ cf) in
         let cr = passing procedure.parameters ++ tail in
         let has' : HasAt (x.code r) p (cp ++ cr) = subst (λ xs. HasAt (x.code r) p (cp ++ (passing xs ++ tail))) named has in
-        let after' : After x n C r (p + length (cp ++ cr)) ws = subst (λ xs. After x n C r (p + length (cp ++ (passing xs ++ tail))) ws) named after in
+        let after' : Left x (are_giving good.0.0.body) n C r (p + length (cp ++ cr)) ws = subst (λ xs. Left x (are_giving good.0.0.body) n C r (p + length (cp ++ (passing xs ++ tail))) ws) named after in
         let hp = has_front (x.code r) p cp cr has' in
         let hr = has_back (x.code r) p cp cr has' in
         let pe = p + length ce in
@@ -233,9 +247,6 @@ module _ (x : Setting) (MayCall : ℕ → Type 0) (calls : (q : ℕ) → MayCall
         (passed q procedure got good.0.4 n C cx r ws total (p + length (cp ++ cr)) after' procedure.parameters (v ∷ vs) ws (omega (arith, good.0.2, len)) good.0.3
         (ap (λ k. drop k (pushed (v ∷ vs) ws)) (omega (arith, total_is)) ∙ drop_pushed (v ∷ vs) 0 ws) (omega (arith, total_is, length_pushed (v ∷ vs) ws)) R (called_is q procedure got C cx (v ∷ vs)) (p + length cp) b hr
         (omega (arith, length-append cp cr, length-append (passing procedure.parameters) tail)))) v)))) a
-    expression_sim (Value v) good n C cx r p ws has after a = absurd good
-    expression_sim (Passing q xs vs) good n C cx r p ws has after a = absurd good
-    expression_sim (Running ss) good n C cx r p ws has after a = absurd good
 
     arguments_sim : (es : Expressions) → AreExpressions x.sizes x.procedures MayCall es → (n : ℕ) (C : Expressions → Rest) → AreHoles x C → (r : Routine) (p : ℕ) (ws : List Word) → HasAt (x.code r) p (pushed_code x.procedures es)
         → ((vs : List ℕ) → length vs ≡ count_of es → (a : ℕ) → S x 2 n 1 (C (of_values vs)) (At r (p + length (pushed_code x.procedures es)) a (pushed vs ws))) → (a : ℕ) → S x 2 n 1 (C es) (At r p a ws)

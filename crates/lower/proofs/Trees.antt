@@ -16,7 +16,7 @@ use Rattle.plm_type.specs.Rest.{Expression, Scalar, Procedure, Target}
 use Rattle.plm_type.specs.View.{expressions_of, subscripts_of, chained, anchor_of, target_of, targets_of}
 use Rattle.icode.specs.declared.instruction.Instruction.{Instruction}
 use Rattle.icode.specs.declared.instruction.Instruction.TheVariants as op
-use Rattle.lower.specs.Code.{place_of, expression_code, operand_of, Computed, passing, call_code, count_of, anchor_place, moved, based, reading, locating, writing, target_code, targets_code}
+use Rattle.lower.specs.Code.{place_of, expression_code, dropped_code, operand_of, Computed, passing, call_code, count_of, anchor_place, moved, based, reading, locating, writing, target_code, targets_code}
 use Rattle.lower.specs.Inner.Chains.{operation_code, chain_code, others_code}
 
 pub same_place : (p : Place) → place_of (where_of p) ≡ p
@@ -41,6 +41,15 @@ chain_is e (o ∷ os) h = chain_computed _ os refl
 pub chain_none : (e : Expression) (os : List Operation) → length os ≡ 0 → chained e os ≡ e
 chain_none e [] h = refl
 chain_none e (o ∷ os) h = absurd (omega (arith, h))
+
+-- a value of operators is dropped as it is computed
+chain_kept : (ps : List Procedure) (e : Expression) (os : List Operation) → dropped_code ps e ≡ expression_code ps e → dropped_code ps (chained e os) ≡ expression_code ps (chained e os)
+chain_kept ps e [] h = h
+chain_kept ps e (o ∷ os) h = chain_kept ps _ os refl
+
+pub chain_dropped : (ps : List Procedure) (e : Expression) (os : List Operation) → 1 ≤ length os → dropped_code ps (chained e os) ≡ expression_code ps (chained e os)
+chain_dropped ps e [] h = absurd (omega (arith, h))
+chain_dropped ps e (o ∷ os) h = chain_kept ps _ os refl
 
 -- a call of several arguments
 pub call_of_many : (p : ℕ) (xs : List Scalar) (es : List declared_expression.Expression) (first pushed : List Instruction) → 2 ≤ length es

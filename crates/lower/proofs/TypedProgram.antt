@@ -31,7 +31,7 @@ use Rattle.plm_type.specs.Reach.{row_of}
 use Rattle.plm_type.specs.Rest.{Statements, End, Procedure}
 use Rattle.plm_type.specs.Statements.{may_return_value, is_external, is_placed_scalar, index_for, of_parameter, of_parameters, of_entry, is_entry, of_body, of_procedure, of_procedures, of_locations, of_main, of_statements, parameters_for, body_for, procedure_for, statements_for}
 use Rattle.plm_type.specs.Trees.{entry_of}
-use Rattle.lower.specs.Code.{Kind, OfMain, has_vector, serves, kind_of}
+use Rattle.lower.specs.Code.{Kind, OfMain, are_giving, has_vector, serves, kind_of}
 use Rattle.lower.specs.Lowered.{vector_of, vectors_of}
 use Rattle.lower.specs.Checked.{IsWellFormed, CheckedLaw}
 use Rattle.lower.specs.Well.{AllLie, ScalarLies, IsCall, MayReturn, MayReturnValue, AreStatements}
@@ -39,6 +39,7 @@ use Rattle.lower.proofs.Bools.{true_false, both_true, none_some, le_of}
 use Rattle.lower.proofs.TypedPlaces.{none_both, holds_there, LiesAt, IsLying, AreLying, placed_lies}
 use Rattle.lower.proofs.TypedTrees.{nat_same, Callable, AllCallable}
 use Rattle.lower.proofs.TypedStatements.{statements_well}
+use Rattle.lower.proofs.Unvalued.{settled}
 
 -- ---- lists
 
@@ -187,12 +188,12 @@ module _ (program : Program) (names : Names) (typed : AreTyped program names) wh
 
   -- ---- bodies
 
-  value_if : (c : Bool) (t : Option ScalarType) → (c ≡ true → is_some t ≡ false) → (v : Option ScalarType) → may_return_value (stands.Procedure t) v ≡ true → MayReturnValue (sizes_of names) (procedures_of names) MayCall (kind_of c)
+  value_if : (c : Bool) (t : Option ScalarType) → (c ≡ true → is_some t ≡ false) → (v : Option ScalarType) → may_return_value (stands.Procedure t) v ≡ true → MayReturnValue (sizes_of names) (procedures_of names) MayCall (kind_of c true)
   value_if true None h v e = absurd (true_false (sym e))
   value_if true (Some t) h v e = absurd (true_false (h refl))
   value_if false t h v e = tt
 
-  return_if : (c : Bool) → MayReturn (sizes_of names) (procedures_of names) MayCall (kind_of c)
+  return_if : (c : Bool) → MayReturn (sizes_of names) (procedures_of names) MayCall (kind_of c true)
   return_if true = tt
   return_if false = tt
 
@@ -208,20 +209,21 @@ module _ (program : Program) (names : Names) (typed : AreTyped program names) wh
   body_if true k fs es tree h f g = tt
   body_if false k fs es tree h f g = h f g
 
-  own_body : (q : ℕ) (p : ProcedureR) → slice_get ps q ≡ Some p → AreStatements (sizes_of names) (procedures_of names) MayCall (kind_of (serves (vectors_of names) q)) (body_for vs ps (sizes_of names) p)
+  own_body : (q : ℕ) (p : ProcedureR) → slice_get ps q ≡ Some p → AreStatements (sizes_of names) (procedures_of names) MayCall (kind_of (serves (vectors_of names) q) true) (body_for vs ps (sizes_of names) p)
   own_body q p e =
       let behind = (none_both (of_parameters vs (is_external p.linkage) p.module p.parameters) _ (sound q p e)).1 in
       let faultless = (none_both _ (of_body vs ps p) (none_both (of_entry ps p) _ (none_both _ _ behind).1).1).1 in
       let row : row_of (slice_get (text_graph ps) q) ≡ called ps (body_effects p) = ap row_of (slice_get-map (λ (z : ProcedureR). called ps (body_effects z)) ps q ∙ ap (option_map (λ (z : ProcedureR). called ps (body_effects z))) e) in
       let calls = texts_callable (body_effects p) (λ k c. uncalled k (inr (q, subst (λ (l : List ℕ). Contains l k) (sym row) c))) in
-      body_if (is_external p.linkage) (kind_of (serves (vectors_of names) q)) (of_statements vs ps p.module (stands.Procedure p.returned) p.body) (effects.of_statements p.body) (statements_for vs ps (sizes_of names) p.module (stands.Procedure p.returned) p.body)
-      (λ f g. statements_well ps (sizes_of names) (procedures_of names) MayCall vs (are_lying names) p.module (stands.Procedure p.returned) (kind_of (serves (vectors_of names) q))
+      body_if (is_external p.linkage) (kind_of (serves (vectors_of names) q) true) (of_statements vs ps p.module (stands.Procedure p.returned) p.body) (effects.of_statements p.body) (statements_for vs ps (sizes_of names) p.module (stands.Procedure p.returned) p.body)
+      (λ f g. statements_well ps (sizes_of names) (procedures_of names) MayCall vs (are_lying names) p.module (stands.Procedure p.returned) (kind_of (serves (vectors_of names) q) true)
       (λ h. return_if (serves (vectors_of names) q)) (value_if (serves (vectors_of names) q) p.returned (serving_untyped q p e)) p.body f g)
       faultless calls
 
-  body_at : (q : ℕ) (y : Procedure) (o : Option ProcedureR) → slice_get ps q ≡ o → option_map (procedure_for vs ps (sizes_of names)) o ≡ Some y → AreStatements (sizes_of names) (procedures_of names) MayCall (kind_of (serves (vectors_of names) q)) y.body
+  body_at : (q : ℕ) (y : Procedure) (o : Option ProcedureR) → slice_get ps q ≡ o → option_map (procedure_for vs ps (sizes_of names)) o ≡ Some y → AreStatements (sizes_of names) (procedures_of names) MayCall (kind_of (serves (vectors_of names) q) (are_giving y.body)) y.body
   body_at q y None e h = absurd (none_some y h)
-  body_at q y (Some p) e h = subst (λ (z : Procedure). AreStatements (sizes_of names) (procedures_of names) MayCall (kind_of (serves (vectors_of names) q)) z.body) (same_Some _ y h) (own_body q p e)
+  body_at q y (Some p) e h = subst (λ (z : Procedure). AreStatements (sizes_of names) (procedures_of names) MayCall (kind_of (serves (vectors_of names) q) (are_giving z.body)) z.body) (same_Some _ y h)
+      (settled (sizes_of names) (procedures_of names) MayCall (serves (vectors_of names) q) (body_for vs ps (sizes_of names) p) (own_body q p e))
 
   main_calls_nothing_else : AllCallable ps (sizes_of names) (procedures_of names) MayCall (effects.of_statements (main_of names.main).statements)
   main_calls_nothing_else = texts_callable (effects.of_statements (main_of names.main).statements) (λ k c. uncalled k (inl c))

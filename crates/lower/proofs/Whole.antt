@@ -1,18 +1,20 @@
 -- Procedures, main and the interrupt procedures.
 use Rattle.std.proofs.Common.{◌≡◌, ℕ, zero, suc, ◌+◌, ◌<◌, ◌≤◌, Bool, true, false, List, [], ◌∷◌, ◌++◌, length, Option, Some, None, refl, sym, ap, ◌∙◌, subst, arith, slice_get, length-append, append_assoc}
 use Rattle.word86.specs.Action.{Silent}
-use Rattle.plm_type.specs.Rest.{Running, Value, Statements, End, Then, Returned, Procedure, Main, Handler}
+use Rattle.plm_type.specs.Rest.{Rest, Expression, Running, Value, Statements, End, Then, Returned, Procedure, Main, Handler}
 use Rattle.plm_type.specs.Next.{behind, body_of}
 use Rattle.plm_type.specs.Calls.{graph_of}
 use Rattle.plm_type.specs.Order.{place_in, IsOrder}
 use Rattle.plm_decl.specs.Placement.{IsPlacement}
 use Rattle.icode.specs.declared.instruction.Instruction.{Instruction}
 use Rattle.icode.specs.declared.instruction.Instruction.TheVariants as op
+use Rattle.icode.specs.declared.code.Routine.{Routine}
 use Rattle.icode.specs.declared.code.Routine.TheVariants as routine
+use Rattle.icode.specs.declared.code.Word.{Word}
 use Rattle.icode.specs.declared.code.Word.TheVariants.{Return}
 use Rattle.icode.specs.Machine.{At}
 use Rattle.icode.specs.Code.{is_number, procedure_or_none}
-use Rattle.lower.specs.Code.{OfMain, Called, Serving, kind_of, are_silent, statements_code, routine_code, serves, number_for, body_for, procedure_code, code}
+use Rattle.lower.specs.Code.{OfMain, Called, Giving, Serving, kind_of, are_giving, are_silent, statements_code, routine_code, serves, number_for, body_for, procedure_code, code}
 use Rattle.lower.specs.Well.{AreStatements}
 use Rattle.lower.specs.Tracking.{IsProgram, CodeTracks, LoweringTracks}
 use Rattle.std.specs.Prelude.{get_or}
@@ -20,8 +22,8 @@ use Rattle.std.proofs.lemmas.Option.{slice_get-get_or}
 use Rattle.std.proofs.lemmas.List.Quantifiers.{position-Some}
 use Rattle.lower.proofs.Setting.{Setting}
 use Rattle.lower.proofs.Sim.{N, T, S, eased, then_, down, both, halts_more, ends}
-use Rattle.lower.proofs.Holes.{in_running, in_main, in_handler, acts, HasAt, has_front, has_back}
-use Rattle.lower.proofs.Exprs.{ProcedureRuns}
+use Rattle.lower.proofs.Holes.{IsHole, in_running, in_main, in_handler, acts, HasAt, has_front, has_back}
+use Rattle.lower.proofs.Exprs.{Left, ProcedureRuns}
 use Rattle.lower.proofs.Leads.{leads}
 use Rattle.lower.proofs.Stmts.{arm_runs, statements_sim}
 use Rattle.lower.proofs.Placed.{finds_in, low_in}
@@ -48,19 +50,21 @@ has_all : (c : List Instruction) → HasAt c 0 c
 has_all c = has_end [] c
 
 module _ (x : Setting) (serves : ℕ → Bool) (rank : ℕ → ℕ)
-    (bodies : (q : ℕ) (procedure : Procedure) → slice_get x.procedures q ≡ Some procedure → AreStatements x.sizes x.procedures (λ p. (serves p ≡ false) × (rank p < rank q)) (kind_of (serves q)) procedure.body)
-    (coded : (q : ℕ) (procedure : Procedure) → slice_get x.procedures q ≡ Some procedure → HasAt (x.code (routine.Procedure q)) 0 (routine_code x.procedures (kind_of (serves q)) procedure.body))
+    (bodies : (q : ℕ) (procedure : Procedure) → slice_get x.procedures q ≡ Some procedure → AreStatements x.sizes x.procedures (λ p. (serves p ≡ false) × (rank p < rank q)) (kind_of (serves q) (are_giving procedure.body)) procedure.body)
+    (coded : (q : ℕ) (procedure : Procedure) → slice_get x.procedures q ≡ Some procedure → HasAt (x.code (routine.Procedure q)) 0 (routine_code x.procedures (kind_of (serves q) (are_giving procedure.body)) procedure.body))
     (roomy : (q : ℕ) (procedure : Procedure) → slice_get x.procedures q ≡ Some procedure → leads procedure.body + 5 ≤ x.room) where
-  called_sim : (q : ℕ) → serves q ≡ false → ((p : ℕ) → (serves p ≡ false) × (rank p < rank q) → ProcedureRuns x p) → ProcedureRuns x q
-  called_sim q unserving calls procedure got n C cx r p ws after a =
+  -- by whether a RETURN in its body has a value
+  body_sim : (q : ℕ) (procedure : Procedure) → slice_get x.procedures q ≡ Some procedure → serves q ≡ false → ((p : ℕ) → (serves p ≡ false) × (rank p < rank q) → ProcedureRuns x p) → (g : Bool) → are_giving procedure.body ≡ g
+      → (n : ℕ) (C : Expression → Rest) → IsHole x C → (r : Routine) (p : ℕ) (ws : List Word) → Left x g n C r p ws → (a : ℕ) → S x x.room n 2 (C (Running procedure.body)) (At (routine.Procedure q) 0 a (Return (record { routine = r; index = p }) ∷ ws))
+  body_sim q procedure got unserving calls true g n C cx r p ws after a =
       let D = λ (ss : Statements). C (Running ss) in
       let st = Return (record { routine = r; index = p }) ∷ ws in
       let me = routine.Procedure q in
       let body = procedure.body in
       let MayCall = λ (p : ℕ). (serves p ≡ false) × (rank p < rank q) in
-      let kind : kind_of (serves q) ≡ Called = ap kind_of unserving in
-      let good : AreStatements x.sizes x.procedures MayCall Called body = subst (λ k. AreStatements x.sizes x.procedures MayCall k body) kind (bodies q procedure got) in
-      let cb = statements_code x.procedures Called 0 body in
+      let kind : kind_of (serves q) (are_giving body) ≡ Giving = ap (λ b. kind_of b (are_giving body)) unserving ∙ ap (kind_of false) g in
+      let good : AreStatements x.sizes x.procedures MayCall Giving body = subst (λ k. AreStatements x.sizes x.procedures MayCall k body) kind (bodies q procedure got) in
+      let cb = statements_code x.procedures Giving 0 body in
       let has : HasAt (x.code me) 0 (cb ++ op.Constant 0 ∷ op.Leave ∷ []) = subst (λ k. HasAt (x.code me) 0 (routine_code x.procedures k body)) kind (coded q procedure got) in
       let hb = has_back (x.code me) 0 cb (op.Constant 0 ∷ op.Leave ∷ []) has in
       let pe = 0 + length cb in
@@ -70,11 +74,33 @@ module _ (x : Setting) (serves : ℕ → Bool) (rank : ℕ → ℕ)
       eased x 1 1 n 1 f (D End) (At me pe b st) (omega arith) le
       (down x 1 n 0 (D End) (At me pe b st) (At me (pe + 1) 0 st) (acts x me pe b st (op.Constant 0) hb.0)
       (then_ x 1 n 0 0 (D End) (At me (pe + 1) 0 st) (omega arith) (omega arith) (taken End 0 (pe + 1) (omega arith) (cx (Running End) refl) hb.1.0))) in
-      let sim = arm_runs x MayCall calls Called me D (in_running x C cx) st body (statements_sim x MayCall calls Called me D (in_running x C cx) st body good) (are_silent body) refl
+      let sim = arm_runs x MayCall calls Giving me D (in_running x C cx) st body (statements_sim x MayCall calls Giving me D (in_running x C cx) st body good) (are_silent body) refl
       n (λ v q lt h. taken (Returned v) v q lt (cx (Running (Returned v)) refl) h) 0 End 0 1 (omega (arith, roomy q procedure got)) (has_front (x.code me) 0 cb (op.Constant 0 ∷ op.Leave ∷ []) has)
       (end 2 (omega arith) (omega arith)) (λ b. subst (λ q. S x 1 n 1 (D End) (At me q b st)) (omega arith) (end 1 (omega arith) (omega arith) b)) in
       eased x (1 + leads body) x.room n 2 2 (C (Running body)) (At me 0 a st) (omega (arith, roomy q procedure got)) (omega arith)
       (subst (λ ss. S x (1 + leads body) n 2 (C (Running ss)) (At me 0 a st)) (behind_end body) (sim a))
+  body_sim q procedure got unserving calls false g n C cx r p ws after a =
+      let D = λ (ss : Statements). C (Running ss) in
+      let st = Return (record { routine = r; index = p }) ∷ ws in
+      let me = routine.Procedure q in
+      let body = procedure.body in
+      let MayCall = λ (p : ℕ). (serves p ≡ false) × (rank p < rank q) in
+      let kind : kind_of (serves q) (are_giving body) ≡ Called = ap (λ b. kind_of b (are_giving body)) unserving ∙ ap (kind_of false) g in
+      let good : AreStatements x.sizes x.procedures MayCall Called body = subst (λ k. AreStatements x.sizes x.procedures MayCall k body) kind (bodies q procedure got) in
+      let cb = statements_code x.procedures Called 0 body in
+      let has : HasAt (x.code me) 0 (cb ++ op.Leave ∷ []) = subst (λ k. HasAt (x.code me) 0 (routine_code x.procedures k body)) kind (coded q procedure got) in
+      let hb = has_back (x.code me) 0 cb (op.Leave ∷ []) has in
+      let pe = 0 + length cb in
+      let back : (ss : Statements) (q b : ℕ) → N x (D ss) ≡ Silent (C (Value 0)) → slice_get (x.code me) q ≡ Some op.Leave → S x 1 n 1 (D ss) (At me q b st) = λ ss q b u h. after (D ss) (At me q b st) b u (acts x me q b st op.Leave h) in
+      let end : (f : ℕ) → 1 ≤ f → (b : ℕ) → S x 1 n f (D End) (At me pe b st) = λ f le b. eased x 1 1 n 1 f (D End) (At me pe b st) (omega arith) le (back End pe b (cx (Running End) refl) hb.0) in
+      let sim = arm_runs x MayCall calls Called me D (in_running x C cx) st body (statements_sim x MayCall calls Called me D (in_running x C cx) st body good) (are_silent body) refl
+      n (λ q b h. back (Returned 0) q b (cx (Running (Returned 0)) refl) h) 0 End 0 1 (omega (arith, roomy q procedure got)) (has_front (x.code me) 0 cb (op.Leave ∷ []) has)
+      (end 2 (omega arith)) (λ b. subst (λ q. S x 1 n 1 (D End) (At me q b st)) (omega arith) (end 1 (omega arith) b)) in
+      eased x (1 + leads body) x.room n 2 2 (C (Running body)) (At me 0 a st) (omega (arith, roomy q procedure got)) (omega arith)
+      (subst (λ ss. S x (1 + leads body) n 2 (C (Running ss)) (At me 0 a st)) (behind_end body) (sim a))
+
+  called_sim : (q : ℕ) → serves q ≡ false → ((p : ℕ) → (serves p ≡ false) × (rank p < rank q) → ProcedureRuns x p) → ProcedureRuns x q
+  called_sim q unserving calls procedure got n C cx r p ws after a = body_sim q procedure got unserving calls (are_giving procedure.body) refl n C cx r p ws after a
 
   procedures_sim : (top q : ℕ) → rank q < top → serves q ≡ false → ProcedureRuns x q
   procedures_sim zero q lt unserving = absurd (omega (arith, lt))
@@ -108,7 +134,7 @@ module _ (x : Setting) (serves : ℕ → Bool) (rank : ℕ → ℕ)
       let me = routine.Procedure q in
       let body = procedure.body in
       let MayCall = λ (p : ℕ). (serves p ≡ false) × (rank p < rank q) in
-      let kind : kind_of (serves q) ≡ Serving = ap kind_of ours in
+      let kind : kind_of (serves q) (are_giving body) ≡ Serving = ap (λ b. kind_of b (are_giving body)) ours in
       let good : AreStatements x.sizes x.procedures MayCall Serving body = subst (λ k. AreStatements x.sizes x.procedures MayCall k body) kind (bodies q procedure got) in
       let cb = statements_code x.procedures Serving 0 body in
       let has : HasAt (x.code me) 0 (cb ++ op.Finish ∷ []) = subst (λ k. HasAt (x.code me) 0 (routine_code x.procedures k body)) kind (coded q procedure got) in
@@ -159,10 +185,10 @@ program_tracks sizes procedures vectors order main good sorted = (leads main + a
           finds = finds_in offsets sizes placed;
           low_enough = low_in offsets sizes placed;
         } in
-        let bodies : (q : ℕ) (procedure : Procedure) → slice_get procedures q ≡ Some procedure → AreStatements sizes procedures (λ p. (serves vectors p ≡ false) × (place_in order p < place_in order q)) (kind_of (serves vectors q)) procedure.body = λ q procedure got.
-        statements_all sizes procedures (λ p. serves vectors p ≡ false) (λ p. place_in order p < place_in order q) (kind_of (serves vectors q)) procedure.body (good.bodies q procedure got) (called_before procedures order sorted q procedure got) in
-        let coded : (q : ℕ) (procedure : Procedure) → slice_get procedures q ≡ Some procedure → HasAt (code procedures vectors main (routine.Procedure q)) 0 (routine_code procedures (kind_of (serves vectors q)) procedure.body) = λ q procedure got.
-        subst (λ o. HasAt (procedure_code procedures (serves vectors q) o) 0 (routine_code procedures (kind_of (serves vectors q)) procedure.body)) (sym got) (has_all (routine_code procedures (kind_of (serves vectors q)) procedure.body)) in
+        let bodies : (q : ℕ) (procedure : Procedure) → slice_get procedures q ≡ Some procedure → AreStatements sizes procedures (λ p. (serves vectors p ≡ false) × (place_in order p < place_in order q)) (kind_of (serves vectors q) (are_giving procedure.body)) procedure.body = λ q procedure got.
+        statements_all sizes procedures (λ p. serves vectors p ≡ false) (λ p. place_in order p < place_in order q) (kind_of (serves vectors q) (are_giving procedure.body)) procedure.body (good.bodies q procedure got) (called_before procedures order sorted q procedure got) in
+        let coded : (q : ℕ) (procedure : Procedure) → slice_get procedures q ≡ Some procedure → HasAt (code procedures vectors main (routine.Procedure q)) 0 (routine_code procedures (kind_of (serves vectors q) (are_giving procedure.body)) procedure.body) = λ q procedure got.
+        subst (λ o. HasAt (procedure_code procedures (serves vectors q) o) 0 (routine_code procedures (kind_of (serves vectors q) (are_giving procedure.body)) procedure.body)) (sym got) (has_all (routine_code procedures (kind_of (serves vectors q) (are_giving procedure.body)) procedure.body)) in
         let roomy : (q : ℕ) (procedure : Procedure) → slice_get procedures q ≡ Some procedure → leads procedure.body + 5 ≤ leads main + all_leads procedures + 5 = λ q procedure got. omega (arith, among procedures q procedure got) in
         let handled : (q : ℕ) (procedure : Procedure) → slice_get procedures q ≡ Some procedure → serves vectors q ≡ true → T x n 2 (Handler procedure.body) (At (routine.Procedure q) 0 a []) = λ q procedure got is.
         handler_tracks x (serves vectors) (place_in order) bodies coded roomy q procedure got is n a in (

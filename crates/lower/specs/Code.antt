@@ -1,5 +1,5 @@
 -- The code of trees. An expression leaves its value in the accumulator, and the stack as it was.
-use Rattle.std.specs.Prelude.{ℕ, suc, ◌+◌, ◌%◌, Bool, true, false, ◌&&◌, nat_eq, cond, List, [], ◌∷◌, ◌++◌, length, Option, Some, None, slice_get, position}
+use Rattle.std.specs.Prelude.{ℕ, suc, ◌+◌, ◌%◌, Bool, true, false, ◌&&◌, ◌||◌, nat_eq, cond, List, [], ◌∷◌, ◌++◌, length, Option, Some, None, slice_get, position}
 use Rattle.word86.specs.declared.width.Width.{Width}
 use Rattle.word86.specs.declared.width.Width.TheVariants as widths
 use Rattle.word86.specs.declared.operation.UnaryOperation.TheVariants as unary
@@ -21,7 +21,7 @@ use Rattle.icode.specs.declared.code.Routine.{Routine}
 use Rattle.icode.specs.declared.code.Routine.TheVariants as routine
 use Rattle.icode.specs.Code.{is_number}
 pub use Rattle.lower.specs.declared.kind.Kind.{Kind}
-pub use Rattle.lower.specs.declared.kind.Kind.TheVariants.{OfMain, Called, Serving}
+pub use Rattle.lower.specs.declared.kind.Kind.TheVariants.{OfMain, Called, Giving, Serving}
 
 -- ---- operands
 
@@ -137,6 +137,31 @@ call_code p xs NoMore first pushed = op.Invoke p ∷ []
 call_code p xs (More e NoMore) first pushed = first ++ (alone xs ++ op.Invoke p ∷ [])
 call_code p xs (More e (More f es)) first pushed = pushed ++ (passing xs ++ op.Drop (2 + count_of es) ∷ op.Invoke p ∷ [])
 
+-- whether a RETURN in a statement has a value
+abbrev mutual
+  pub is_giving : Statement → Bool
+  is_giving (ReturnValue width e) = true
+  is_giving (If c arm other) = are_giving arm || are_giving other
+  is_giving (Block ss) = are_giving ss
+  is_giving (While c d ss) = are_giving ss
+  is_giving (Case e ss) = are_giving ss
+  is_giving (Iterate a (Count x bound step ss)) = are_giving ss
+  is_giving _ = false
+
+  pub are_giving : Statements → Bool
+  are_giving End = false
+  are_giving (Then s later) = is_giving s || are_giving later
+  are_giving (Returned v) = false
+
+abbrev pub gives : Option Procedure → Bool
+gives None = true
+gives (Some p) = are_giving p.body
+
+-- behind a call whose value is used: of a procedure that gives none it is 0
+abbrev pub used : (gives : Bool) → List Instruction
+used true = []
+used false = op.Constant 0 ∷ []
+
 -- ---- tests
 
 -- what relation an operator asks for
@@ -180,7 +205,7 @@ module _ (procedures : List Procedure) where
         expression_code a ++ (beside (operand_of b) (expression_code b) ++ operation o width (operand_of b) ∷ [])
     expression_code (Embedded t e) = expression_code e ++ target_code t
     expression_code (Input width port) = receiving width (operand_of port) (expression_code port)
-    expression_code (Call p es) = call_code p (parameters_of (slice_get procedures p)) es (first_code es) (pushed_code es)
+    expression_code (Call p es) = call_code p (parameters_of (slice_get procedures p)) es (first_code es) (pushed_code es) ++ used (gives (slice_get procedures p))
     expression_code (Value v) = []
     expression_code (Passing p xs vs) = []
     expression_code (Running ss) = []
@@ -208,6 +233,14 @@ module _ (procedures : List Procedure) where
     target_code (ToVariable width (Refer module_index line anchor offset ss)) = writing width anchor offset ss (subscripts_code ss)
     target_code (ToPort width port) = sending width (operand_of port) (expression_code port)
 
+  abbrev pub calling : ℕ → Expressions → List Instruction
+  calling p es = call_code p (parameters_of (slice_get procedures p)) es (first_code es) (pushed_code es)
+
+  -- of a value that is dropped
+  abbrev pub dropped_code : Expression → List Instruction
+  dropped_code (Call p es) = calling p es
+  dropped_code e = expression_code e
+
   abbrev pub targets_code : Targets → List Instruction
   targets_code (Only t) = target_code t
   targets_code (Also t ts) = target_code t ++ targets_code ts
@@ -220,10 +253,11 @@ module _ (procedures : List Procedure) where
 
 -- ---- statements
 
--- what RETURN is in a routine; a procedure without a value gives 0 too
+-- what RETURN is in a routine: one that gives a value elsewhere gives 0
 abbrev pub returning : Kind → List Instruction
 returning OfMain = []
-returning Called = op.Constant 0 ∷ op.Leave ∷ []
+returning Called = op.Leave ∷ []
+returning Giving = op.Constant 0 ∷ op.Leave ∷ []
 returning Serving = op.Finish ∷ []
 
 abbrev pub narrowed : Width → List Instruction
@@ -298,7 +332,7 @@ module _ (procedures : List Procedure) (around : Kind) where
     pub statement_code : (exit : ℕ) → Statement → List Instruction
     statement_code exit Empty = []
     statement_code exit (Assign ts e) = expression_code procedures e ++ targets_code procedures ts
-    statement_code exit (Evaluate e) = expression_code procedures e
+    statement_code exit (Evaluate e) = dropped_code procedures e
     statement_code exit Return = returning around
     statement_code exit (ReturnValue width e) = expression_code procedures e ++ (narrowed width ++ op.Leave ∷ [])
     statement_code exit Enabling = op.Enable ∷ []
@@ -348,6 +382,7 @@ module _ (procedures : List Procedure) (around : Kind) where
 abbrev pub ending : Kind → List Instruction
 ending OfMain = op.Halt ∷ op.Back 2 ∷ []
 ending Called = returning Called
+ending Giving = returning Giving
 ending Serving = returning Serving
 
 abbrev pub routine_code : List Procedure → Kind → Statements → List Instruction
@@ -371,12 +406,12 @@ abbrev pub body_for : List Procedure → Option ℕ → Statements
 body_for procedures (Some q) = body_of (slice_get procedures q)
 body_for procedures None = End
 
-abbrev pub kind_of : (serves : Bool) → Kind
-kind_of serves = cond serves Serving Called
+abbrev pub kind_of : (serves gives : Bool) → Kind
+kind_of serves gives = cond serves Serving (cond gives Giving Called)
 
 -- a procedure that there is not has no instructions
 abbrev pub procedure_code : List Procedure → (serves : Bool) → Option Procedure → List Instruction
-procedure_code procedures serves (Some p) = routine_code procedures (kind_of serves) p.body
+procedure_code procedures serves (Some p) = routine_code procedures (kind_of serves (are_giving p.body)) p.body
 procedure_code procedures serves None = []
 
 abbrev pub code : List Procedure → (vectors : List (Option ℕ)) → (main : Statements) → Routine → List Instruction

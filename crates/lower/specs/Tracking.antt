@@ -10,13 +10,13 @@ use Rattle.plm_type.specs.Order.{IsOrder}
 use Rattle.icode.specs.declared.code.Routine.TheVariants as routine
 use Rattle.icode.specs.Machine.{Context, At, does}
 use Rattle.icode.specs.Code.{procedure_or_none}
-use Rattle.lower.specs.Code.{OfMain, kind_of, serves, number_for, body_for, code}
+use Rattle.lower.specs.Code.{OfMain, kind_of, are_giving, serves, number_for, body_for, code}
 use Rattle.lower.specs.Well.{AreStatements}
 
 -- a program whose trees are well formed, and in which no procedure that serves a vector is called
 pub record IsProgram (sizes : List ℕ) (procedures : List Procedure) (vectors : List (Option ℕ)) (main : Statements) : Type 0 where
   pub each : length vectors ≡ length procedures
-  pub bodies : (q : ℕ) (procedure : Procedure) → slice_get procedures q ≡ Some procedure → AreStatements sizes procedures (λ p. serves vectors p ≡ false) (kind_of (serves vectors q)) procedure.body
+  pub bodies : (q : ℕ) (procedure : Procedure) → slice_get procedures q ≡ Some procedure → AreStatements sizes procedures (λ p. serves vectors p ≡ false) (kind_of (serves vectors q) (are_giving procedure.body)) procedure.body
   pub main_body : AreStatements sizes procedures (λ p. serves vectors p ≡ false) OfMain main
 
 -- for n steps of the code, from a context on, with at most two instructions without a step of the rest

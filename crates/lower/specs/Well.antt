@@ -5,7 +5,7 @@ use Rattle.word86.specs.declared.width.Width.TheVariants as widths
 use Rattle.word86.specs.Access.{Where, In, Screen}
 use Rattle.word86.specs.Places.{bytes, screen_size}
 use Rattle.plm_type.specs.Rest.{Anchor, InObject, OnScreen, Behind, There, Scalar, Expression, Constant, Plain, Variable, Location, Unary, Binary, Embedded, Input, Call, Value, Passing, Running, Expressions, NoMore, More, Reference, Refer, Subscripts, NoSubscripts, Subscript, Target, ToPlain, ToVariable, ToPort, Targets, Only, Also, Loop, Count, Statement, Empty, Assign, Evaluate, Return, ReturnValue, Enabling, Disabling, Halting, If, Block, While, Case, Iterate, Leaving, Round, Comparing, Stepping, Adding, Storing, Ending, Statements, End, Then, Returned, Procedure}
-use Rattle.lower.specs.Code.{Kind, OfMain, Called, Serving, count_of}
+use Rattle.lower.specs.Code.{Kind, OfMain, Called, Giving, Serving, count_of}
 
 -- the objects' sizes
 module _ (sizes : List ℕ) where
@@ -70,15 +70,17 @@ module _ (sizes : List ℕ) where
     AreTargets (Only t) = IsTarget t
     AreTargets (Also t ts) = IsTarget t × AreTargets ts
 
-    -- RETURN stands in procedures alone, with a value in those that are called
+    -- RETURN stands in procedures alone, with a value in those that give one
     abbrev pub MayReturn : Kind → Type 0
     MayReturn OfMain = ⊥
     MayReturn Called = Unit {0}
+    MayReturn Giving = Unit {0}
     MayReturn Serving = Unit {0}
 
     abbrev pub MayReturnValue : Kind → Type 0
     MayReturnValue OfMain = ⊥
-    MayReturnValue Called = Unit {0}
+    MayReturnValue Called = ⊥
+    MayReturnValue Giving = Unit {0}
     MayReturnValue Serving = ⊥
 
     module _ (around : Kind) where

@@ -6,10 +6,11 @@ ghost use Rattle.lower.specs.Code.{operand_of, relation_of, stands_to, test_of, 
 ghost use Rattle.lower.specs.Inner.Shown.{operand_shown};
 ghost use Rattle.lower.specs.Inner.Chains.{chain_code};
 
+use crate::callees::Callees;
 use crate::expressions::{chain, expression, right};
 use crate::put::{Operand, as_operand};
 use icode::{Instruction, Relation, Test};
-use plm_type::{Expression, Operation, Procedure};
+use plm_type::{Expression, Operation};
 use word86::{BinaryOperation, Fault};
 
 /// The relation that an operator asks for.
@@ -41,46 +42,46 @@ pub fn stands_to(relation: Relation, right: Operand) -> Test
 // The left operand of a relation, and what of its right one is computed.
 fn compare(
     code: &mut Vec<Instruction>,
-    procedures: &[Procedure],
+    callees: Callees<'_>,
     first: &Expression,
     others: &[Operation],
     last: &Expression,
 ) -> Result<(), Fault>
-    ensures code { OnOk result (code.new.items ≡ code.old.items ++ ((expression_code (procedures_of procedures.now) (expression_of first.now) ++ chain_code (procedures_of procedures.now) others.now) ++ beside (operand_of (expression_of last.now)) (expression_code (procedures_of procedures.now) (expression_of last.now)))) }
+    ensures code { OnOk result (code.new.items ≡ code.old.items ++ ((expression_code (procedures_of callees.entry.procedures.now) (expression_of first.now) ++ chain_code (procedures_of callees.entry.procedures.now) others.now) ++ beside (operand_of (expression_of last.now)) (expression_code (procedures_of callees.entry.procedures.now) (expression_of last.now)))) }
     ensures memory { IsOkUnless result Fault.Memory }
 {
-    expression(code, procedures, first)?;
-    chain(code, procedures, others)?;
-    right(code, procedures, last)
+    expression(code, callees, first)?;
+    chain(code, callees, others)?;
+    right(code, callees, last)
 }
 
 /// What is computed before the test of a condition, and the test. A relation is the jump's own test: the last operator of a chain
 /// decides, and its left operand is what the others give.
 pub fn condition(
     code: &mut Vec<Instruction>,
-    procedures: &[Procedure],
+    callees: Callees<'_>,
     tree: &Expression,
 ) -> Result<Test, Fault>
-    ensures code { OnOk result (code.new.items ≡ code.old.items ++ condition_code (procedures_of procedures.now) (expression_of tree.now)) }
+    ensures code { OnOk result (code.new.items ≡ code.old.items ++ condition_code (procedures_of callees.entry.procedures.now) (expression_of tree.now)) }
     ensures memory { IsOkUnless result Fault.Memory }
     ensures test { IfOk result (λ t. t ≡ test_of (expression_of tree.now)) }
 {
     match tree {
         Expression::Chain(first, operations) => match operations.as_slice() {
-            [] => condition(code, procedures, first),
+            [] => condition(code, callees, first),
             [others @ .., last] => match relation(last.operation) {
                 Some(relation) => {
-                    compare(code, procedures, first, others, &last.operand)?;
+                    compare(code, callees, first, others, &last.operand)?;
                     Ok(stands_to(relation, as_operand(&last.operand)))
                 }
                 None => {
-                    expression(code, procedures, tree)?;
+                    expression(code, callees, tree)?;
                     Ok(Test::Odd)
                 }
             },
         },
         _ => {
-            expression(code, procedures, tree)?;
+            expression(code, callees, tree)?;
             Ok(Test::Odd)
         }
     }

@@ -5,9 +5,10 @@ ghost use Rattle.plm_type.specs.View.{scalar_of, anchor_of, expression_of, expre
 ghost use Rattle.word86.specs.Places.{where_of};
 ghost use Rattle.plm_type.specs.Rest.{Call};
 ghost use Rattle.plm_type.specs.Next.{parameters_of};
-ghost use Rattle.lower.specs.Code.{anchor_place, scaled, moved, based, reading, locating, writing, receiving, sending, passing, expression_code, subscripts_code, pushed_code, target_code, targets_code, operand_of, alone, beside};
+ghost use Rattle.lower.specs.Code.{anchor_place, scaled, moved, based, reading, locating, writing, receiving, sending, passing, expression_code, subscripts_code, pushed_code, target_code, targets_code, operand_of, alone, beside, calling, dropped_code};
 ghost use Rattle.lower.specs.Inner.Chains.{operation_code, chain_code};
 
+use crate::callees::Callees;
 use crate::put::{Operand, add, as_operand, put};
 use icode::Instruction;
 use plm_type::{
@@ -122,10 +123,10 @@ fn pass(code: &mut Instructions, parameters: &[Scalar]) -> Result<(), Fault>
 #[tactic(auto, using(crate::proofs::Trees::same_place))]
 pub fn expression(
     code: &mut Instructions,
-    procedures: &[Procedure],
+    callees: Callees<'_>,
     tree: &Expression,
 ) -> Result<(), Fault>
-    ensures code { OnOk result (code.new.items ≡ code.old.items ++ expression_code (procedures_of procedures.now) (expression_of tree.now)) }
+    ensures code { OnOk result (code.new.items ≡ code.old.items ++ expression_code (procedures_of callees.entry.procedures.now) (expression_of tree.now)) }
     ensures memory { IsOkUnless result Fault.Memory }
 {
     match tree {
@@ -133,28 +134,28 @@ pub fn expression(
         Expression::Plain(width, at) => put(code, Instruction::Load(*width, *at)),
         Expression::Variable(width, reference) => {
             let Reference { anchor, offset, .. } = reference;
-            subscripts(code, procedures, &reference.subscripts)?;
+            subscripts(code, callees, &reference.subscripts)?;
             read(code, *width, *anchor, *offset, &reference.subscripts)
         }
         Expression::Location(reference) => {
             let Reference { anchor, offset, .. } = reference;
-            subscripts(code, procedures, &reference.subscripts)?;
+            subscripts(code, callees, &reference.subscripts)?;
             locate(code, *anchor, *offset, &reference.subscripts)
         }
         Expression::Unary(operation, width, operand) => {
-            expression(code, procedures, operand)?;
+            expression(code, callees, operand)?;
             put(code, Instruction::Unary(*operation, *width))
         }
         Expression::Chain(first, operations) => {
-            expression(code, procedures, first)?;
-            chain(code, procedures, operations)
+            expression(code, callees, first)?;
+            chain(code, callees, operations)
         }
         Expression::Embedded(to, value) => {
-            expression(code, procedures, value)?;
-            target(code, procedures, to)
+            expression(code, callees, value)?;
+            target(code, callees, to)
         }
-        Expression::Input(width, port) => receive(code, procedures, *width, port),
-        Expression::Call(number, arguments) => call(code, procedures, *number, arguments),
+        Expression::Input(width, port) => receive(code, callees, *width, port),
+        Expression::Call(number, arguments) => value_of_call(code, callees, *number, arguments),
     }
 }
 
@@ -202,14 +203,14 @@ fn locate(
 #[cycle(expressions)]
 pub fn chain(
     code: &mut Instructions,
-    procedures: &[Procedure],
+    callees: Callees<'_>,
     operations: &[Operation],
 ) -> Result<(), Fault>
-    ensures code { OnOk result (code.new.items ≡ code.old.items ++ chain_code (procedures_of procedures.now) operations.now) }
+    ensures code { OnOk result (code.new.items ≡ code.old.items ++ chain_code (procedures_of callees.entry.procedures.now) operations.now) }
     ensures memory { IsOkUnless result Fault.Memory }
 {
     for operation in operations {
-        operate(code, procedures, operation)?;
+        operate(code, callees, operation)?;
     }
     Ok(())
 }
@@ -218,10 +219,10 @@ pub fn chain(
 #[cycle(expressions)]
 fn operate(
     code: &mut Instructions,
-    procedures: &[Procedure],
+    callees: Callees<'_>,
     operation: &Operation,
 ) -> Result<(), Fault>
-    ensures code { OnOk result (code.new.items ≡ code.old.items ++ operation_code (procedures_of procedures.now) operation.now) }
+    ensures code { OnOk result (code.new.items ≡ code.old.items ++ operation_code (procedures_of callees.entry.procedures.now) operation.now) }
     ensures memory { IsOkUnless result Fault.Memory }
 {
     let Operation {
@@ -229,7 +230,7 @@ fn operate(
         width,
         ..
     } = operation;
-    right(code, procedures, &operation.operand)?;
+    right(code, callees, &operation.operand)?;
     let instruction = match as_operand(&operation.operand) {
         Operand::Number(value) => Instruction::BinaryConstant(*operator, *width, value),
         Operand::Name(read, at) => Instruction::BinaryPlain(*operator, *width, read, at),
@@ -240,12 +241,8 @@ fn operate(
 
 /// What is computed of a right operand, while the left one is pushed: nothing of a constant and of a plain variable.
 #[cycle(expressions)]
-pub fn right(
-    code: &mut Instructions,
-    procedures: &[Procedure],
-    tree: &Expression,
-) -> Result<(), Fault>
-    ensures code { OnOk result (code.new.items ≡ code.old.items ++ beside (operand_of (expression_of tree.now)) (expression_code (procedures_of procedures.now) (expression_of tree.now))) }
+pub fn right(code: &mut Instructions, callees: Callees<'_>, tree: &Expression) -> Result<(), Fault>
+    ensures code { OnOk result (code.new.items ≡ code.old.items ++ beside (operand_of (expression_of tree.now)) (expression_code (procedures_of callees.entry.procedures.now) (expression_of tree.now))) }
     ensures memory { IsOkUnless result Fault.Memory }
 {
     match as_operand(tree) {
@@ -253,7 +250,7 @@ pub fn right(
         Operand::Name(_, _) => Ok(()),
         Operand::Computed => {
             put(code, Instruction::Push)?;
-            expression(code, procedures, tree)
+            expression(code, callees, tree)
         }
     }
 }
@@ -262,47 +259,65 @@ pub fn right(
 #[cycle(expressions)]
 fn receive(
     code: &mut Instructions,
-    procedures: &[Procedure],
+    callees: Callees<'_>,
     width: Width,
     port: &Expression,
 ) -> Result<(), Fault>
-    ensures code { OnOk result (code.new.items ≡ code.old.items ++ receiving width (operand_of (expression_of port.now)) (expression_code (procedures_of procedures.now) (expression_of port.now))) }
+    ensures code { OnOk result (code.new.items ≡ code.old.items ++ receiving width (operand_of (expression_of port.now)) (expression_code (procedures_of callees.entry.procedures.now) (expression_of port.now))) }
     ensures memory { IsOkUnless result Fault.Memory }
 {
     match as_operand(port) {
         Operand::Number(number) => put(code, Instruction::ReceiveFrom(width, number)),
         Operand::Name(_, _) => {
-            expression(code, procedures, port)?;
+            expression(code, callees, port)?;
             put(code, Instruction::Receive(width))
         }
         Operand::Computed => {
-            expression(code, procedures, port)?;
+            expression(code, callees, port)?;
             put(code, Instruction::Receive(width))
         }
     }
+}
+
+// A call whose value is used.
+#[cycle(expressions)]
+fn value_of_call(
+    code: &mut Instructions,
+    callees: Callees<'_>,
+    number: usize,
+    arguments: &[Expression],
+) -> Result<(), Fault>
+    ensures code { OnOk result (code.new.items ≡ code.old.items ++ expression_code (procedures_of callees.entry.procedures.now) (Call number (expressions_of arguments.now))) }
+    ensures memory { IsOkUnless result Fault.Memory }
+{
+    call(code, callees, number, arguments)?;
+    if callees.gives(number) {
+        return Ok(());
+    }
+    put(code, Instruction::Constant(0))
 }
 
 // A call: one argument alone is not pushed.
 #[cycle(expressions)]
 fn call(
     code: &mut Instructions,
-    procedures: &[Procedure],
+    callees: Callees<'_>,
     number: usize,
     arguments: &[Expression],
 ) -> Result<(), Fault>
-    ensures code { OnOk result (code.new.items ≡ code.old.items ++ expression_code (procedures_of procedures.now) (Call number (expressions_of arguments.now))) }
+    ensures code { OnOk result (code.new.items ≡ code.old.items ++ calling (procedures_of callees.entry.procedures.now) number (expressions_of arguments.now)) }
     ensures memory { IsOkUnless result Fault.Memory }
 {
-    let parameters = parameters_of(procedures, number);
+    let parameters = parameters_of(callees.procedures, number);
     match arguments {
         [] => put(code, Instruction::Invoke(number)),
         [argument] => {
-            expression(code, procedures, argument)?;
+            expression(code, callees, argument)?;
             store_alone(code, parameters)?;
             put(code, Instruction::Invoke(number))
         }
         [_, _, ..] => {
-            push_all(code, procedures, arguments)?;
+            push_all(code, callees, arguments)?;
             pass(code, parameters)?;
             let drop = Instruction::Drop(arguments.len());
             add(code, &[drop, Instruction::Invoke(number)])
@@ -314,14 +329,14 @@ fn call(
 #[cycle(expressions)]
 fn push_all(
     code: &mut Instructions,
-    procedures: &[Procedure],
+    callees: Callees<'_>,
     arguments: &[Expression],
 ) -> Result<(), Fault>
-    ensures code { OnOk result (code.new.items ≡ code.old.items ++ pushed_code (procedures_of procedures.now) (expressions_of arguments.now)) }
+    ensures code { OnOk result (code.new.items ≡ code.old.items ++ pushed_code (procedures_of callees.entry.procedures.now) (expressions_of arguments.now)) }
     ensures memory { IsOkUnless result Fault.Memory }
 {
     for argument in arguments {
-        expression(code, procedures, argument)?;
+        expression(code, callees, argument)?;
         put(code, Instruction::Push)?;
     }
     Ok(())
@@ -343,20 +358,20 @@ fn store_alone(code: &mut Instructions, parameters: &[Scalar]) -> Result<(), Fau
 #[cycle(expressions)]
 fn subscripts(
     code: &mut Instructions,
-    procedures: &[Procedure],
+    callees: Callees<'_>,
     subscripts: &[Subscript],
 ) -> Result<(), Fault>
-    ensures code { OnOk result (code.new.items ≡ code.old.items ++ subscripts_code (procedures_of procedures.now) (subscripts_of subscripts.now)) }
+    ensures code { OnOk result (code.new.items ≡ code.old.items ++ subscripts_code (procedures_of callees.entry.procedures.now) (subscripts_of subscripts.now)) }
     ensures memory { IsOkUnless result Fault.Memory }
 {
     match subscripts {
         [] => Ok(()),
         [first, more @ ..] => {
-            expression(code, procedures, &first.index)?;
+            expression(code, callees, &first.index)?;
             scale(code, first.stride)?;
             for subscript in more {
                 put(code, Instruction::Push)?;
-                expression(code, procedures, &subscript.index)?;
+                expression(code, callees, &subscript.index)?;
                 scale(code, subscript.stride)?;
                 put(code, Instruction::Binary(BinaryOperation::Add, Width::Word))?;
             }
@@ -368,8 +383,8 @@ fn subscripts(
 /// A target gets the value in the accumulator, which is there afterwards.
 #[cycle(expressions)]
 #[tactic(auto, using(crate::proofs::Trees::same_place))]
-pub fn target(code: &mut Instructions, procedures: &[Procedure], to: &Target) -> Result<(), Fault>
-    ensures code { OnOk result (code.new.items ≡ code.old.items ++ target_code (procedures_of procedures.now) (target_of to.now)) }
+pub fn target(code: &mut Instructions, callees: Callees<'_>, to: &Target) -> Result<(), Fault>
+    ensures code { OnOk result (code.new.items ≡ code.old.items ++ target_code (procedures_of callees.entry.procedures.now) (target_of to.now)) }
     ensures memory { IsOkUnless result Fault.Memory }
 {
     match to {
@@ -378,14 +393,14 @@ pub fn target(code: &mut Instructions, procedures: &[Procedure], to: &Target) ->
             let Reference { anchor, offset, .. } = reference;
             write(
                 code,
-                procedures,
+                callees,
                 *width,
                 *anchor,
                 *offset,
                 &reference.subscripts,
             )
         }
-        Target::Port(width, port) => send(code, procedures, *width, port),
+        Target::Port(width, port) => send(code, callees, *width, port),
     }
 }
 
@@ -393,27 +408,27 @@ pub fn target(code: &mut Instructions, procedures: &[Procedure], to: &Target) ->
 #[cycle(expressions)]
 fn write(
     code: &mut Instructions,
-    procedures: &[Procedure],
+    callees: Callees<'_>,
     width: Width,
     anchor: Anchor,
     offset: u64,
     list: &[Subscript],
 ) -> Result<(), Fault>
-    ensures code { OnOk result (code.new.items ≡ code.old.items ++ writing width (anchor_of anchor) offset (subscripts_of list.now) (subscripts_code (procedures_of procedures.now) (subscripts_of list.now))) }
+    ensures code { OnOk result (code.new.items ≡ code.old.items ++ writing width (anchor_of anchor) offset (subscripts_of list.now) (subscripts_code (procedures_of callees.entry.procedures.now) (subscripts_of list.now))) }
     ensures memory { IsOkUnless result Fault.Memory }
 {
     let at = anchor_place(anchor, offset);
     match (anchor, list) {
         (Anchor::Based(base), _) => {
             put(code, Instruction::Push)?;
-            subscripts(code, procedures, list)?;
+            subscripts(code, callees, list)?;
             follow(code, base, offset, list)?;
             put(code, Instruction::StoreThere(width))
         }
         (_, []) => put(code, Instruction::Store(width, at)),
         (_, [_, ..]) => {
             put(code, Instruction::Push)?;
-            subscripts(code, procedures, list)?;
+            subscripts(code, callees, list)?;
             put(code, Instruction::StoreAt(width, at))
         }
     }
@@ -423,18 +438,18 @@ fn write(
 #[cycle(expressions)]
 fn send(
     code: &mut Instructions,
-    procedures: &[Procedure],
+    callees: Callees<'_>,
     width: Width,
     port: &Expression,
 ) -> Result<(), Fault>
-    ensures code { OnOk result (code.new.items ≡ code.old.items ++ sending width (operand_of (expression_of port.now)) (expression_code (procedures_of procedures.now) (expression_of port.now))) }
+    ensures code { OnOk result (code.new.items ≡ code.old.items ++ sending width (operand_of (expression_of port.now)) (expression_code (procedures_of callees.entry.procedures.now) (expression_of port.now))) }
     ensures memory { IsOkUnless result Fault.Memory }
 {
     match as_operand(port) {
         Operand::Number(number) => put(code, Instruction::SendTo(width, number)),
         _ => {
             put(code, Instruction::Push)?;
-            expression(code, procedures, port)?;
+            expression(code, callees, port)?;
             put(code, Instruction::Send(width))
         }
     }
@@ -443,16 +458,35 @@ fn send(
 /// The targets of an assignment get the value in the accumulator, from left to right.
 pub fn assign(
     code: &mut Instructions,
-    procedures: &[Procedure],
+    callees: Callees<'_>,
     first: &Target,
     others: &[Target],
 ) -> Result<(), Fault>
-    ensures code { OnOk result (code.new.items ≡ code.old.items ++ targets_code (procedures_of procedures.now) (targets_of (target_of first.now) others.now)) }
+    ensures code { OnOk result (code.new.items ≡ code.old.items ++ targets_code (procedures_of callees.entry.procedures.now) (targets_of (target_of first.now) others.now)) }
     ensures memory { IsOkUnless result Fault.Memory }
 {
-    target(code, procedures, first)?;
+    target(code, callees, first)?;
     for other in others {
-        target(code, procedures, other)?;
+        target(code, callees, other)?;
     }
     Ok(())
+}
+
+/// The code of an expression whose value is dropped.
+pub fn dropped(
+    code: &mut Instructions,
+    callees: Callees<'_>,
+    tree: &Expression,
+) -> Result<(), Fault>
+    ensures code { OnOk result (code.new.items ≡ code.old.items ++ dropped_code (procedures_of callees.entry.procedures.now) (expression_of tree.now)) }
+    ensures memory { IsOkUnless result Fault.Memory }
+{
+    match tree {
+        Expression::Call(number, arguments) => call(code, callees, *number, arguments),
+        Expression::Chain(first, operations) => match operations.as_slice() {
+            [] => dropped(code, callees, first),
+            [_, ..] => expression(code, callees, tree),
+        },
+        _ => expression(code, callees, tree),
+    }
 }

@@ -1,6 +1,7 @@
 //! From the trees of a checked program to its intermediate code.
 #![tactic(auto)]
 
+mod callees;
 mod cases;
 mod conditions;
 mod expressions;

@@ -5,11 +5,12 @@ ghost use Rattle.plm_type.specs.View.{expression_of, procedures_of, scalar_of};
 ghost use Rattle.lower.specs.Code.{operand_of, beside, next_by_number, add_pushed, next_round, expression_code, condition_code, test_of};
 ghost use Rattle.lower.specs.Inner.Parts.{repeating, counting, iterating};
 
+use crate::callees::Callees;
 use crate::conditions::{condition, stands_to};
 use crate::expressions::{expression, right};
 use crate::put::{Operand, add, as_operand, distance, put};
 use icode::{Instruction, Relation, Test};
-use plm_type::{Expression, Loop, Procedure, Scalar};
+use plm_type::{Expression, Loop, Scalar};
 use std::alloc::Global;
 use word86::{BinaryOperation, Fault};
 
@@ -18,16 +19,16 @@ type Instructions = Vec<Instruction>;
 /// DO WHILE.
 pub fn repeat(
     alloc: Global,
-    procedures: &[Procedure],
+    callees: Callees<'_>,
     tree: &Expression,
     body: &[Instruction],
     exit: usize,
 ) -> Result<Instructions, Fault>
-    ensures code { IfOk result (λ r. r.items ≡ repeating (condition_code (procedures_of procedures.now) (expression_of tree.now)) (test_of (expression_of tree.now)) body.now exit) }
+    ensures code { IfOk result (λ r. r.items ≡ repeating (condition_code (procedures_of callees.entry.procedures.now) (expression_of tree.now)) (test_of (expression_of tree.now)) body.now exit) }
     ensures memory { IsOkUnless result Fault.Memory }
 {
     let mut code = Vec::new(alloc);
-    let test = condition(&mut code, procedures, tree)?;
+    let test = condition(&mut code, callees, tree)?;
     let over = distance(distance(body.len(), 1)?, exit)?;
     let back = distance(distance(code.len(), body.len())?, 2)?;
     put(&mut code, Instruction::AheadUnless(test, over))?;
@@ -59,19 +60,19 @@ fn count(
 pub fn iterate(
     code: &mut Instructions,
     alloc: Global,
-    procedures: &[Procedure],
+    callees: Callees<'_>,
     iteration: &Loop,
     body: &[Instruction],
     exit: usize,
 ) -> Result<(), Fault>
-    ensures code { OnOk result (code.new.items ≡ code.old.items ++ iterating (scalar_of iteration.now.index) (operand_of (expression_of iteration.now.bound)) (beside (operand_of (expression_of iteration.now.bound)) (expression_code (procedures_of procedures.now) (expression_of iteration.now.bound))) (operand_of (expression_of iteration.now.step)) (expression_code (procedures_of procedures.now) (expression_of iteration.now.step)) body.now exit) }
+    ensures code { OnOk result (code.new.items ≡ code.old.items ++ iterating (scalar_of iteration.now.index) (operand_of (expression_of iteration.now.bound)) (beside (operand_of (expression_of iteration.now.bound)) (expression_code (procedures_of callees.entry.procedures.now) (expression_of iteration.now.bound))) (operand_of (expression_of iteration.now.step)) (expression_code (procedures_of callees.entry.procedures.now) (expression_of iteration.now.step)) body.now exit) }
     ensures memory { IsOkUnless result Fault.Memory }
 {
     let Scalar { width, place } = iteration.index;
     let mut compared = Vec::new(alloc);
-    right(&mut compared, procedures, &iteration.bound)?;
+    right(&mut compared, callees, &iteration.bound)?;
     let before = distance(distance(compared.len(), body.len())?, 2)?;
-    let again = next_round(alloc, procedures, iteration.index, &iteration.step, before)?;
+    let again = next_round(alloc, callees, iteration.index, &iteration.step, before)?;
     put(code, Instruction::Store(width, place))?;
     put(code, Instruction::Load(width, place))?;
     let test = stands_to(Relation::LessEqual, as_operand(&iteration.bound));
@@ -81,18 +82,18 @@ pub fn iterate(
 // The end of a round: the step is added, and a next round begins so many instructions before, unless the sum wrapped.
 fn next_round(
     alloc: Global,
-    procedures: &[Procedure],
+    callees: Callees<'_>,
     index: Scalar,
     step: &Expression,
     before: usize,
 ) -> Result<Instructions, Fault>
-    ensures code { IfOk result (λ r. r.items ≡ next_round (scalar_of index) (operand_of (expression_of step.now)) (expression_code (procedures_of procedures.now) (expression_of step.now)) before) }
+    ensures code { IfOk result (λ r. r.items ≡ next_round (scalar_of index) (operand_of (expression_of step.now)) (expression_code (procedures_of callees.entry.procedures.now) (expression_of step.now)) before) }
     ensures memory { IsOkUnless result Fault.Memory }
 {
     match as_operand(step) {
         Operand::Number(value) => next_by_number(alloc, index, value, before),
-        Operand::Name(_, _) => next_by_stack(alloc, procedures, index, step, before),
-        Operand::Computed => next_by_stack(alloc, procedures, index, step, before),
+        Operand::Name(_, _) => next_by_stack(alloc, callees, index, step, before),
+        Operand::Computed => next_by_stack(alloc, callees, index, step, before),
     }
 }
 
@@ -123,16 +124,16 @@ fn next_by_number(
 // The same by way of the stack.
 fn next_by_stack(
     alloc: Global,
-    procedures: &[Procedure],
+    callees: Callees<'_>,
     index: Scalar,
     step: &Expression,
     before: usize,
 ) -> Result<Instructions, Fault>
-    ensures code { IfOk result (λ r. r.items ≡ expression_code (procedures_of procedures.now) (expression_of step.now) ++ add_pushed (scalar_of index) (before + length (expression_code (procedures_of procedures.now) (expression_of step.now)))) }
+    ensures code { IfOk result (λ r. r.items ≡ expression_code (procedures_of callees.entry.procedures.now) (expression_of step.now) ++ add_pushed (scalar_of index) (before + length (expression_code (procedures_of callees.entry.procedures.now) (expression_of step.now)))) }
     ensures memory { IsOkUnless result Fault.Memory }
 {
     let mut code = Vec::new(alloc);
-    expression(&mut code, procedures, step)?;
+    expression(&mut code, callees, step)?;
     let before = distance(before, code.len())?;
     add_pushed(&mut code, index, before)?;
     Ok(code)

@@ -8,6 +8,7 @@ ghost use Rattle.lower.specs.Code.{kind_of, has_vector};
 ghost use Rattle.lower.specs.Lowered.{IsLowered, vector_of, last_module};
 ghost use Rattle.lower.specs.Inner.Lowering.{plain, one_lowered, all_lowered};
 
+use crate::callees::{Callees, are_giving, giving};
 use crate::kind::Kind;
 use crate::laws::{checked_code_is_sound, checked_trees_are_well_formed};
 use crate::statements::Around;
@@ -29,12 +30,13 @@ fn vector_of(procedure: &plm_decl::Procedure) -> Option<u8>
     }
 }
 
-// What a procedure is that serves this vector, if any.
-fn kind_of(vector: Option<u8>) -> Kind
-    ensures { result ≡ kind_of (has_vector (Some vector)) }
+// What a procedure is that serves this vector, if any, and may give a value.
+fn kind_of(vector: Option<u8>, gives: bool) -> Kind
+    ensures { result ≡ kind_of (has_vector (Some vector)) gives }
 {
     match vector {
         Some(_) => Kind::Serving,
+        None if gives => Kind::Giving,
         None => Kind::Called,
     }
 }
@@ -59,11 +61,11 @@ impl Around<'_> {
         body: &[Box<Statement>],
     ) -> Result<Procedure, Fault>
         requires { interrupt_fits declared.now.interrupt ≡ true }
-        ensures code { IfOk result (λ p. plain p ≡ one_lowered (procedures_of self.entry.procedures.now) (procedure_of declared.now) (statements_of body.now)) }
+        ensures code { IfOk result (λ p. plain p ≡ one_lowered (procedures_of self.entry.callees.procedures.now) (procedure_of declared.now) (statements_of body.now)) }
         ensures memory { IsOkUnless result Fault.Memory }
     {
         let vector = vector_of(declared);
-        let kind = kind_of(vector);
+        let kind = kind_of(vector, are_giving(body));
         let instructions = Around { kind, ..self }.routine(body)?;
         Ok(Procedure {
             module: declared.module,
@@ -75,11 +77,11 @@ impl Around<'_> {
     // The procedures' code, in order of declaration.
     fn all(self, names: &Names) -> Result<Vec<Procedure>, Fault>
         requires { All (λ p. interrupt_fits p.interrupt ≡ true) names.now.procedures.items }
-        ensures code { IfOk result (λ r. map plain r.items ≡ all_lowered (procedures_of self.entry.procedures.now) (map procedure_of names.now.procedures.items) (procedures_of self.entry.procedures.now)) }
+        ensures code { IfOk result (λ r. map plain r.items ≡ all_lowered (procedures_of self.entry.callees.procedures.now) (map procedure_of names.now.procedures.items) (procedures_of self.entry.callees.procedures.now)) }
         ensures memory { IsOkUnless result Fault.Memory }
     {
         let mut procedures = Vec::new(self.alloc);
-        for (declared, procedure) in names.procedures.iter().zip(self.procedures) {
+        for (declared, procedure) in names.procedures.iter().zip(self.callees.procedures) {
             procedures.push(self.procedure(declared, &procedure.body)?)?;
         }
         Ok(procedures)
@@ -99,9 +101,14 @@ pub fn lower(alloc: Global, program: &Program) -> Result<Code, Fault>
     checked_trees_are_well_formed();
     checked_code_is_sound();
     let names = program.names();
+    let procedures = program.procedures();
+    let giving = giving(alloc, procedures)?;
     let around = Around {
         alloc,
-        procedures: program.procedures(),
+        callees: Callees {
+            procedures,
+            giving: &giving,
+        },
         kind: Kind::OfMain,
     };
     let mut order = Vec::new(alloc);

@@ -4,28 +4,29 @@ ghost use Rattle.std.specs.Prelude.{◌≡◌, ◌++◌, ◌+◌, ◌∷◌, [],
 ghost use Rattle.icode.specs.declared.instruction.Instruction.TheVariants as op;
 ghost use Rattle.plm_type.specs.View.{statement_of, statements_of, expression_of, target_of, targets_of, loop_of, procedures_of};
 ghost use Rattle.plm_type.specs.Rest.{While, Case, Iterate};
-ghost use Rattle.lower.specs.Code.{returning, narrowed, statement_code, statements_code, cases_code, targets_code, over, failing, choosing, ending, routine_code, expression_code, condition_code, test_of};
+ghost use Rattle.lower.specs.Code.{returning, narrowed, statement_code, statements_code, cases_code, targets_code, over, failing, choosing, ending, routine_code, expression_code, dropped_code, condition_code, test_of};
 ghost use Rattle.lower.specs.Inner.Parts.{branching};
 
+use crate::callees::Callees;
 use crate::cases::switch;
 use crate::conditions::condition;
-use crate::expressions::{assign, expression};
+use crate::expressions::{assign, dropped, expression};
 use crate::kind::Kind;
 use crate::loops::{iterate, repeat};
 use crate::put::{add, distance, put};
 use crate::silence::{are_silent, exit_before, with_code};
 use icode::Instruction;
-use plm_type::{Expression, Loop, Procedure, Statement, Target};
+use plm_type::{Expression, Loop, Statement, Target};
 use std::alloc::Global;
 use word86::{Fault, UnaryOperation, Width};
 
 type Instructions = Vec<Instruction>;
 
-/// What lowering statements needs: room, the procedures, and what the routine is.
+/// What lowering statements needs: room, what can be called, and what the routine is.
 #[derive(Clone, Copy)]
 pub struct Around<'p> {
     pub alloc: Global,
-    pub procedures: &'p [Procedure],
+    pub callees: Callees<'p>,
     pub kind: Kind,
 }
 
@@ -36,7 +37,8 @@ fn leave(code: &mut Instructions, kind: Kind) -> Result<(), Fault>
 {
     match kind {
         Kind::OfMain => Ok(()),
-        Kind::Called => add(code, &[Instruction::Constant(0), Instruction::Leave]),
+        Kind::Called => put(code, Instruction::Leave),
+        Kind::Giving => add(code, &[Instruction::Constant(0), Instruction::Leave]),
         Kind::Serving => put(code, Instruction::Finish),
     }
 }
@@ -49,6 +51,7 @@ fn end(code: &mut Instructions, kind: Kind) -> Result<(), Fault>
     match kind {
         Kind::OfMain => add(code, &[Instruction::Halt, Instruction::Back(2)]),
         Kind::Called => leave(code, kind),
+        Kind::Giving => leave(code, kind),
         Kind::Serving => leave(code, kind),
     }
 }
@@ -100,11 +103,21 @@ fn failing(silent: bool, arm: &[Instruction], exit: usize) -> Result<usize, Faul
 impl Around<'_> {
     // The code of an expression.
     fn value(self, tree: &Expression) -> Result<Instructions, Fault>
-        ensures code { IfOk result (λ r. r.items ≡ expression_code (procedures_of self.entry.procedures.now) (expression_of tree.now)) }
+        ensures code { IfOk result (λ r. r.items ≡ expression_code (procedures_of self.entry.callees.procedures.now) (expression_of tree.now)) }
         ensures memory { IsOkUnless result Fault.Memory }
     {
         let mut code = Vec::new(self.alloc);
-        expression(&mut code, self.procedures, tree)?;
+        expression(&mut code, self.callees, tree)?;
+        Ok(code)
+    }
+
+    // The code of an expression whose value is dropped.
+    fn dropped(self, tree: &Expression) -> Result<Instructions, Fault>
+        ensures code { IfOk result (λ r. r.items ≡ dropped_code (procedures_of self.entry.callees.procedures.now) (expression_of tree.now)) }
+        ensures memory { IsOkUnless result Fault.Memory }
+    {
+        let mut code = Vec::new(self.alloc);
+        dropped(&mut code, self.callees, tree)?;
         Ok(code)
     }
 
@@ -125,11 +138,11 @@ impl Around<'_> {
         others: &[Target],
         value: &Expression,
     ) -> Result<Instructions, Fault>
-        ensures code { IfOk result (λ r. r.items ≡ expression_code (procedures_of self.entry.procedures.now) (expression_of value.now) ++ targets_code (procedures_of self.entry.procedures.now) (targets_of (target_of first.now) others.now)) }
+        ensures code { IfOk result (λ r. r.items ≡ expression_code (procedures_of self.entry.callees.procedures.now) (expression_of value.now) ++ targets_code (procedures_of self.entry.callees.procedures.now) (targets_of (target_of first.now) others.now)) }
         ensures memory { IsOkUnless result Fault.Memory }
     {
         let mut code = self.value(value)?;
-        assign(&mut code, self.procedures, first, others)?;
+        assign(&mut code, self.callees, first, others)?;
         Ok(code)
     }
 
@@ -145,7 +158,7 @@ impl Around<'_> {
 
     // The code of RETURN with a value.
     fn value_return(self, width: Width, value: &Expression) -> Result<Instructions, Fault>
-        ensures code { IfOk result (λ r. r.items ≡ expression_code (procedures_of self.entry.procedures.now) (expression_of value.now) ++ (narrowed width ++ op.Leave ∷ [])) }
+        ensures code { IfOk result (λ r. r.items ≡ expression_code (procedures_of self.entry.callees.procedures.now) (expression_of value.now) ++ (narrowed width ++ op.Leave ∷ [])) }
         ensures memory { IsOkUnless result Fault.Memory }
     {
         let mut code = self.value(value)?;
@@ -163,11 +176,11 @@ impl Around<'_> {
         otherwise: &[Instruction],
         exit: usize,
     ) -> Result<Instructions, Fault>
-        ensures code { IfOk result (λ r. r.items ≡ choosing (condition_code (procedures_of self.entry.procedures.now) (expression_of tree.now)) (test_of (expression_of tree.now)) arm.now silent otherwise.now exit) }
+        ensures code { IfOk result (λ r. r.items ≡ choosing (condition_code (procedures_of self.entry.callees.procedures.now) (expression_of tree.now)) (test_of (expression_of tree.now)) arm.now silent otherwise.now exit) }
         ensures memory { IsOkUnless result Fault.Memory }
     {
         let mut code = Vec::new(self.alloc);
-        let test = condition(&mut code, self.procedures, tree)?;
+        let test = condition(&mut code, self.callees, tree)?;
         let fails = failing(silent, arm, exit)?;
         put(&mut code, Instruction::AheadUnless(test, fails))?;
         add(&mut code, arm)?;
@@ -179,13 +192,13 @@ impl Around<'_> {
     // The code of a statement behind which control goes on so many instructions behind its end.
     #[cycle(statements)]
     fn statement(self, statement: &Statement, exit: usize) -> Result<Instructions, Fault>
-        ensures code { IfOk result (λ r. r.items ≡ statement_code (procedures_of self.entry.procedures.now) self.entry.kind exit (statement_of statement.now)) }
+        ensures code { IfOk result (λ r. r.items ≡ statement_code (procedures_of self.entry.callees.procedures.now) self.entry.kind exit (statement_of statement.now)) }
         ensures memory { IsOkUnless result Fault.Memory }
     {
         match statement {
             Statement::Empty => Ok(Vec::new(self.alloc)),
             Statement::Assign(first, others, value) => self.assignment(first, others, value),
-            Statement::Evaluate(value) => self.value(value),
+            Statement::Evaluate(value) => self.dropped(value),
             Statement::Return => self.bare_return(),
             Statement::ReturnValue(width, value) => self.value_return(*width, value),
             Statement::Enable => self.alone(Instruction::Enable),
@@ -205,7 +218,7 @@ impl Around<'_> {
     // The code of statements in sequence; the last one has the exit of all.
     #[cycle(statements)]
     fn statements(self, body: &[Box<Statement>], exit: usize) -> Result<Instructions, Fault>
-        ensures code { IfOk result (λ r. r.items ≡ statements_code (procedures_of self.entry.procedures.now) self.entry.kind exit (statements_of body.now)) }
+        ensures code { IfOk result (λ r. r.items ≡ statements_code (procedures_of self.entry.callees.procedures.now) self.entry.kind exit (statements_of body.now)) }
         ensures memory { IsOkUnless result Fault.Memory }
     {
         let mut code = Vec::new(self.alloc);
@@ -228,7 +241,7 @@ impl Around<'_> {
         otherwise: &[Instruction],
         exit: usize,
     ) -> Result<Instructions, Fault>
-        ensures code { IfOk result (λ r. r.items ≡ branching (procedures_of self.entry.procedures.now) self.entry.kind (expression_of tree.now) (statements_of arm.now) silent otherwise.now exit) }
+        ensures code { IfOk result (λ r. r.items ≡ branching (procedures_of self.entry.callees.procedures.now) self.entry.kind (expression_of tree.now) (statements_of arm.now) silent otherwise.now exit) }
         ensures memory { IsOkUnless result Fault.Memory }
     {
         let own = arm_exit(silent, otherwise, exit)?;
@@ -244,11 +257,11 @@ impl Around<'_> {
         tree: &Expression,
         exit: usize,
     ) -> Result<Instructions, Fault>
-        ensures code { IfOk result (λ r. r.items ≡ statement_code (procedures_of self.entry.procedures.now) self.entry.kind exit (While (expression_of tree.now) (expression_of tree.now) (statements_of body.now))) }
+        ensures code { IfOk result (λ r. r.items ≡ statement_code (procedures_of self.entry.callees.procedures.now) self.entry.kind exit (While (expression_of tree.now) (expression_of tree.now) (statements_of body.now))) }
         ensures memory { IsOkUnless result Fault.Memory }
     {
         let rounds = self.statements(body, 0)?;
-        repeat(self.alloc, self.procedures, tree, &rounds, exit)
+        repeat(self.alloc, self.callees, tree, &rounds, exit)
     }
 
     // DO with an index.
@@ -259,7 +272,7 @@ impl Around<'_> {
         first: &Expression,
         exit: usize,
     ) -> Result<Instructions, Fault>
-        ensures code { IfOk result (λ r. r.items ≡ statement_code (procedures_of self.entry.procedures.now) self.entry.kind exit (Iterate (expression_of first.now) (loop_of iteration.now))) }
+        ensures code { IfOk result (λ r. r.items ≡ statement_code (procedures_of self.entry.callees.procedures.now) self.entry.kind exit (Iterate (expression_of first.now) (loop_of iteration.now))) }
         ensures memory { IsOkUnless result Fault.Memory }
     {
         let rounds = self.statements(&iteration.body, 0)?;
@@ -267,7 +280,7 @@ impl Around<'_> {
         iterate(
             &mut code,
             self.alloc,
-            self.procedures,
+            self.callees,
             iteration,
             &rounds,
             exit,
@@ -283,7 +296,7 @@ impl Around<'_> {
         value: &Expression,
         exit: usize,
     ) -> Result<Instructions, Fault>
-        ensures code { IfOk result (λ r. r.items ≡ statement_code (procedures_of self.entry.procedures.now) self.entry.kind exit (Case (expression_of value.now) (statements_of cases.now))) }
+        ensures code { IfOk result (λ r. r.items ≡ statement_code (procedures_of self.entry.callees.procedures.now) self.entry.kind exit (Case (expression_of value.now) (statements_of cases.now))) }
         ensures memory { IsOkUnless result Fault.Memory }
     {
         let codes = self.each_case(cases, exit)?;
@@ -295,7 +308,7 @@ impl Around<'_> {
     // The code of each case. The last one is made first, since each jumps over those behind it.
     #[cycle(statements)]
     fn each_case(self, cases: &[Box<Statement>], exit: usize) -> Result<Vec<Instructions>, Fault>
-        ensures code { IfOk result (λ r. map vec_items r.items ≡ cases_code (procedures_of self.entry.procedures.now) self.entry.kind exit (statements_of cases.now)) }
+        ensures code { IfOk result (λ r. map vec_items r.items ≡ cases_code (procedures_of self.entry.callees.procedures.now) self.entry.kind exit (statements_of cases.now)) }
         ensures memory { IsOkUnless result Fault.Memory }
     {
         let mut behind = exit;
@@ -312,7 +325,7 @@ impl Around<'_> {
 
     /// The code of a routine that does this.
     pub fn routine(self, body: &[Box<Statement>]) -> Result<Instructions, Fault>
-        ensures code { IfOk result (λ r. r.items ≡ routine_code (procedures_of self.entry.procedures.now) self.entry.kind (statements_of body.now)) }
+        ensures code { IfOk result (λ r. r.items ≡ routine_code (procedures_of self.entry.callees.procedures.now) self.entry.kind (statements_of body.now)) }
         ensures memory { IsOkUnless result Fault.Memory }
     {
         let mut code = self.statements(body, 0)?;

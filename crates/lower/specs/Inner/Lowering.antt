@@ -4,7 +4,7 @@ use Rattle.plm_decl.specs.Names.{ProcedureR}
 use Rattle.plm_type.specs.Rest.{Statements, Procedure}
 use Rattle.icode.specs.declared.instruction.Instruction.{Instruction}
 use Rattle.icode.specs.declared.code.Procedure as code
-use Rattle.lower.specs.Code.{routine_code, kind_of, has_vector}
+use Rattle.lower.specs.Code.{routine_code, kind_of, are_giving, has_vector}
 use Rattle.lower.specs.Lowered.{vector_of}
 
 pub record ProcedureC : Type 0 where
@@ -20,7 +20,7 @@ module _ (procedures : List Procedure) where
   one_lowered p body = record {
     «module» = p.module;
     vector = vector_of p;
-    instructions = routine_code procedures (kind_of (has_vector (Some (vector_of p)))) body;
+    instructions = routine_code procedures (kind_of (has_vector (Some (vector_of p))) (are_giving body)) body;
   }
 
   abbrev pub all_lowered : List ProcedureR → List Procedure → List ProcedureC

@@ -13,7 +13,7 @@ returns-in-empty-clause-code t c =
     let left = expression_of c.in-Chain.first.value in
     let none : length c.in-Chain.operations.items ≡ 0 = omega (arith, ap length c.as_slice.ensures.value, c.in-empty.len_below) in
     let is : expression_of c.args.tree.now ≡ left = ap expression_of c.in-Chain.is ∙ chain_tree c.in-Chain.first c.in-Chain.operations ∙ chain_none left c.in-Chain.operations.items none in
-    subst (λ e. OnOk after.result (after.new.code.items ≡ c.args.code.now.items ++ condition_code (procedures_of c.args.procedures.now) e))
+    subst (λ e. OnOk after.result (after.new.code.items ≡ c.args.code.now.items ++ condition_code (procedures_of c.args.callees.procedures.now) e))
     (ap expression_of c.deref.ensures ∙ sym is) after.ensures.code
 
 pub returns-in-empty-clause-test : goal.returns-in-empty-clause-test
@@ -25,7 +25,7 @@ returns-in-empty-clause-test t c =
 
 pub returns-in_ok-compare-in-Some-clause-code : goal.returns-in_ok-compare-in-Some-clause-code
 returns-in_ok-compare-in-Some-clause-code t c =
-    let ps = procedures_of c.args.procedures.now in
+    let ps = procedures_of c.args.callees.procedures.now in
     let os = c.as_slice.result.now in
     let o = c.last-item.result in
     let others = take (length os - 1) os in
@@ -49,7 +49,7 @@ returns-in_ok-compare-in-Some-clause-test t c =
 
 pub returns-in_ok-expression-in-None-clause-code : goal.returns-in_ok-expression-in-None-clause-code
 returns-in_ok-expression-in-None-clause-code t c =
-    let ps = procedures_of c.args.procedures.now in
+    let ps = procedures_of c.args.callees.procedures.now in
     let os = c.as_slice.result.now in
     let o = c.last-item.result in
     let others = take (length os - 1) os in

@@ -10,14 +10,14 @@ use Rattle.lower.proofs.expressions.+expressions.Goals as goal
 
 pub expression-returns-in-Call-clause-code : goal.expression-returns-in-Call-clause-code
 expression-returns-in-Call-clause-code t c =
-    let after = c.call in
-    subst (λ e. OnOk after.result (after.new.code.items ≡ c.args.code.now.items ++ expression_code (procedures_of c.args.procedures.now) e))
+    let after = c.value_of_call in
+    subst (λ e. OnOk after.result (after.new.code.items ≡ c.args.code.now.items ++ expression_code (procedures_of c.args.callees.procedures.now) e))
     (sym (ap expression_of c.in-Call.is ∙ call_tree c.in-Call.number c.in-Call.arguments)) (grind (arith, common_steps))
 
 pub expression-returns-in_ok-expression-in-Chain-clause-code : goal.expression-returns-in_ok-expression-in-Chain-clause-code
 expression-returns-in_ok-expression-in-Chain-clause-code t c =
     let after = c.chain in
-    let ps = procedures_of c.args.procedures.now in
+    let ps = procedures_of c.args.callees.procedures.now in
     let left = expression_of c.in-Chain.first.value in
     let is = ap (expression_code ps) (ap expression_of c.in-Chain.is ∙ chain_tree c.in-Chain.first c.in-Chain.operations) ∙ chain_coded ps left c.in-Chain.operations.items in
     subst (λ e. OnOk after.result (after.new.code.items ≡ c.args.code.now.items ++ e)) (sym is) (grind (arith, common_steps))
@@ -25,28 +25,28 @@ expression-returns-in_ok-expression-in-Chain-clause-code t c =
 pub expression-returns-in_ok-subscripts-in-Variable-clause-code : goal.expression-returns-in_ok-subscripts-in-Variable-clause-code
 expression-returns-in_ok-subscripts-in-Variable-clause-code t c =
     let after = c.read in
-    let ps = procedures_of c.args.procedures.now in
+    let ps = procedures_of c.args.callees.procedures.now in
     let is = ap expression_of c.in-Variable.is ∙ ap (Variable c.in-Variable.width) (reference_tree c.in-Variable.reference) in
     subst (λ e. OnOk after.result (after.new.code.items ≡ c.args.code.now.items ++ expression_code ps e)) (sym is) (grind (arith, common_steps))
 
 pub expression-returns-in_ok-subscripts-in-Location-clause-code : goal.expression-returns-in_ok-subscripts-in-Location-clause-code
 expression-returns-in_ok-subscripts-in-Location-clause-code t c =
     let after = c.locate in
-    let ps = procedures_of c.args.procedures.now in
+    let ps = procedures_of c.args.callees.procedures.now in
     let is = ap expression_of c.in-Location.is ∙ ap Location (reference_tree c.in-Location.reference) in
     subst (λ e. OnOk after.result (after.new.code.items ≡ c.args.code.now.items ++ expression_code ps e)) (sym is) (grind (arith, common_steps))
 
 pub target-returns-in-Variable-clause-code : goal.target-returns-in-Variable-clause-code
 target-returns-in-Variable-clause-code t c =
     let after = c.write in
-    let ps = procedures_of c.args.procedures.now in
+    let ps = procedures_of c.args.callees.procedures.now in
     let is = ap target_of c.in-Variable.is ∙ ap (ToVariable c.in-Variable.width) (reference_tree c.in-Variable.reference) in
     subst (λ e. OnOk after.result (after.new.code.items ≡ c.args.code.now.items ++ target_code ps e)) (sym is) (grind (arith, common_steps))
 
 pub call-returns-in_ok-pass-in-len2-up-clause-code : goal.call-returns-in_ok-pass-in-len2-up-clause-code
 call-returns-in_ok-pass-in-len2-up-clause-code t c =
     let after = c.add in
-    let ps = procedures_of c.args.procedures.now in
+    let ps = procedures_of c.args.callees.procedures.now in
     let xs = parameters_of (slice_get ps c.args.number) in
     let es = c.args.arguments.now in
     let is = call_of_many c.args.number xs es (first_code ps (expressions_of es)) (pushed_code ps (expressions_of es)) c.in-len2-up.len_at_least in
@@ -56,6 +56,6 @@ pub write-returns-in_ok-subscripts-in_default-len1-up-clause-code : goal.write-r
 write-returns-in_ok-subscripts-in_default-len1-up-clause-code t c =
     let after = c.put-in_default-len1-up-2 in
     let ss = c.args.list.now in
-    let behind = subscripts_code (procedures_of c.args.procedures.now) (subscripts_of ss) in
+    let behind = subscripts_code (procedures_of c.args.callees.procedures.now) (subscripts_of ss) in
     let is = writing_behind c.args.width c.args.anchor c.args.offset ss behind c.in_default-len1-up.not-Based-0 c.in_default-len1-up.len_at_least in
     subst (λ e. OnOk after.result (after.new.code.items ≡ c.args.code.now.items ++ e)) (sym is) (grind (arith, common_steps))

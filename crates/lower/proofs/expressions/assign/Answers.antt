@@ -6,5 +6,5 @@ use Rattle.lower.proofs.expressions.assign.Goals as goal
 
 pub returns-clause-code : goal.returns-clause-code
 returns-clause-code c =
-    let is = targets_coded (procedures_of c.args.procedures.now) (target_of c.args.first.now) c.args.others.now in
+    let is = targets_coded (procedures_of c.args.callees.procedures.now) (target_of c.args.first.now) c.args.others.now in
     subst (λ e. c.loop-other.code.items ≡ c.args.code.now.items ++ e) (sym is) (grind (arith, common_steps))

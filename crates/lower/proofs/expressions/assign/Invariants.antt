@@ -5,5 +5,5 @@ use Rattle.lower.proofs.expressions.assign.Given as goal
 
 abbrev pub invariant-loop-other : goal.invariant-loop-other
 invariant-loop-other l =
-    let ps = procedures_of l.procedures in
+    let ps = procedures_of l.callees.procedures.now in
     l.code.items ++ others_code ps (drop l.other-index l.others) ≡ l.initial.code.items ++ others_code ps l.others

@@ -18,7 +18,7 @@ invariant_of-result-clause-main_levelled c =
     let names = c.names-names.result.now in
     let typed = c.names-names.ensures.typed in
     let sound = c.checked_code_is_sound.ensures names (c.checked_trees_are_well_formed.ensures program names typed) in
-    let is = main_lowered program names typed c.procedures.result.now c.procedures.ensures c.main.result.now c.main.ensures c.in_ok-main.main.items c.in_ok-main.ensures.code in
+    let is = main_lowered program names typed c.procedures-procedures.result.now c.procedures-procedures.ensures c.main.result.now c.main.ensures c.in_ok-main.main.items c.in_ok-main.ensures.code in
     subst IsLevelled (sym is) (sound.levelled routine.Main)
 
 pub invariant_of-result-clause-levelled : goal.invariant_of-result-clause-levelled
@@ -28,7 +28,7 @@ invariant_of-result-clause-levelled c p =
     let typed = c.names-names.ensures.typed in
     let sound = c.checked_code_is_sound.ensures names (c.checked_trees_are_well_formed.ensures program names typed) in
     let qs = c.in_ok-procedures.procedures.items in
-    let are = names_lowered program names typed c.procedures.result.now c.procedures.ensures qs c.in_ok-procedures.ensures.code in
+    let are = names_lowered program names typed c.procedures-procedures.result.now c.procedures-procedures.ensures qs c.in_ok-procedures.ensures.code in
     subst IsLevelled (sym (procedure_codes names qs are p)) (sound.levelled (routine.Procedure p))
 
 pub invariant_of-result-clause-main_made : goal.invariant_of-result-clause-main_made
@@ -37,7 +37,7 @@ invariant_of-result-clause-main_made c =
     let names = c.names-names.result.now in
     let typed = c.names-names.ensures.typed in
     let sound = c.checked_code_is_sound.ensures names (c.checked_trees_are_well_formed.ensures program names typed) in
-    let is = main_lowered program names typed c.procedures.result.now c.procedures.ensures c.main.result.now c.main.ensures c.in_ok-main.main.items c.in_ok-main.ensures.code in
+    let is = main_lowered program names typed c.procedures-procedures.result.now c.procedures-procedures.ensures c.main.result.now c.main.ensures c.in_ok-main.main.items c.in_ok-main.ensures.code in
     subst IsMade (sym is) (sound.made routine.Main)
 
 pub invariant_of-result-clause-made : goal.invariant_of-result-clause-made
@@ -47,7 +47,7 @@ invariant_of-result-clause-made c p =
     let typed = c.names-names.ensures.typed in
     let sound = c.checked_code_is_sound.ensures names (c.checked_trees_are_well_formed.ensures program names typed) in
     let qs = c.in_ok-procedures.procedures.items in
-    let are = names_lowered program names typed c.procedures.result.now c.procedures.ensures qs c.in_ok-procedures.ensures.code in
+    let are = names_lowered program names typed c.procedures-procedures.result.now c.procedures-procedures.ensures qs c.in_ok-procedures.ensures.code in
     subst IsMade (sym (procedure_codes names qs are p)) (sound.made (routine.Procedure p))
 
 pub invariant_of-result-clause-ordered : goal.invariant_of-result-clause-ordered
@@ -57,7 +57,7 @@ invariant_of-result-clause-ordered c =
     let typed = c.names-names.ensures.typed in
     let sound = c.checked_code_is_sound.ensures names (c.checked_trees_are_well_formed.ensures program names typed) in
     let qs = c.in_ok-procedures.procedures.items in
-    let are = names_lowered program names typed c.procedures.result.now c.procedures.ensures qs c.in_ok-procedures.ensures.code in
+    let are = names_lowered program names typed c.procedures-procedures.result.now c.procedures-procedures.ensures qs c.in_ok-procedures.ensures.code in
     let order = c.in_ok-extend_from_slice.ensures.items ∙ ap (λ os. os ++ c.order.result.now) c.new-order.ensures.items ∙ c.order.ensures in
     procedures_ordered names qs are c.extend_from_slice.new.self.items (subst (λ os. IsOrder os (graph_of (procedures_of names))) (sym order) typed.order) sound
 
@@ -67,6 +67,6 @@ returns-clause-lowered c =
     let names = c.names-names.result.now in
     let typed = c.names-names.ensures.typed in
     let qs = c.in_ok-procedures.procedures.items in
-    let are = names_lowered program names typed c.procedures.result.now c.procedures.ensures qs c.in_ok-procedures.ensures.code in
-    let is = main_lowered program names typed c.procedures.result.now c.procedures.ensures c.main.result.now c.main.ensures c.in_ok-main.main.items c.in_ok-main.ensures.code in
+    let are = names_lowered program names typed c.procedures-procedures.result.now c.procedures-procedures.ensures qs c.in_ok-procedures.ensures.code in
+    let is = main_lowered program names typed c.procedures-procedures.result.now c.procedures-procedures.ensures c.main.result.now c.main.ensures c.in_ok-main.main.items c.in_ok-main.ensures.code in
     program_lowered names qs are _ _ c.names-names.ensures.names refl is refl c.in_ok-sections.ensures.sections

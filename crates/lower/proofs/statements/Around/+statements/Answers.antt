@@ -9,33 +9,33 @@ use Rattle.lower.proofs.statements.Around.+statements.Goals as goal
 
 pub statement-returns-in-Block-clause-code : goal.statement-returns-in-Block-clause-code
 statement-returns-in-Block-clause-code t c =
-    let ps = procedures_of c.args.self.procedures.now in
+    let ps = procedures_of c.args.self.callees.procedures.now in
     let is = ap (λ ss. Block (statements_of ss)) c.deref-in-Block.ensures.value ∙ sym (ap statement_of c.in-Block.is ∙ block_tree c.in-Block.body) in
     subst (λ s. IfOk c.statements-in-Block.result (λ r. r.items ≡ statement_code ps c.args.self.kind c.args.exit s)) is c.statements-in-Block.ensures.code
 
 pub statement-returns-in-While-clause-code : goal.statement-returns-in-While-clause-code
 statement-returns-in-While-clause-code t c =
-    let ps = procedures_of c.args.self.procedures.now in
+    let ps = procedures_of c.args.self.callees.procedures.now in
     let e = expression_of c.in-While.condition in
     let is = ap (λ ss. While e e (statements_of ss)) c.deref-in-While.ensures.value ∙ sym (ap statement_of c.in-While.is ∙ while_tree c.in-While.condition c.in-While.body) in
     subst (λ s. IfOk c.repetition.result (λ r. r.items ≡ statement_code ps c.args.self.kind c.args.exit s)) is c.repetition.ensures.code
 
 pub statement-returns-in-Case-clause-code : goal.statement-returns-in-Case-clause-code
 statement-returns-in-Case-clause-code t c =
-    let ps = procedures_of c.args.self.procedures.now in
+    let ps = procedures_of c.args.self.callees.procedures.now in
     let e = expression_of c.in-Case.value in
     let is = ap (λ ss. Case e (statements_of ss)) c.deref-in-Case.ensures.value ∙ sym (ap statement_of c.in-Case.is ∙ case_tree c.in-Case.value c.in-Case.cases) in
     subst (λ s. IfOk c.cases.result (λ r. r.items ≡ statement_code ps c.args.self.kind c.args.exit s)) is c.cases.ensures.code
 
 pub statement-returns-in-Iterate-clause-code : goal.statement-returns-in-Iterate-clause-code
 statement-returns-in-Iterate-clause-code t c =
-    let ps = procedures_of c.args.self.procedures.now in
+    let ps = procedures_of c.args.self.callees.procedures.now in
     let is = sym (ap statement_of c.in-Iterate.is ∙ iterate_tree c.in-Iterate.first c.in-Iterate.iteration) in
     subst (λ s. IfOk c.iteration.result (λ r. r.items ≡ statement_code ps c.args.self.kind c.args.exit s)) is c.iteration.ensures.code
 
 pub statement-returns-in_ok-otherwise-in-If-clause-code : goal.statement-returns-in_ok-otherwise-in-If-clause-code
 statement-returns-in_ok-otherwise-in-If-clause-code t c =
-    let ps = procedures_of c.args.self.procedures.now in
+    let ps = procedures_of c.args.self.callees.procedures.now in
     let kind = c.args.self.kind in
     let exit = c.args.exit in
     let e = expression_of c.in-If.condition in
@@ -52,5 +52,5 @@ statement-returns-in_ok-otherwise-in-If-clause-code t c =
 pub each_case-returns-clause-code : goal.each_case-returns-clause-code
 each_case-returns-clause-code t c =
     let at : c.loop-k.k ≡ 0 = omega (arith, c.loop-k-test.false) in
-    let codes = λ (n : ℕ). cases_code (procedures_of c.args.self.procedures.now) c.args.self.kind c.args.exit (statements_of (drop n c.args.cases.now)) in
+    let codes = λ (n : ℕ). cases_code (procedures_of c.args.self.callees.procedures.now) c.args.self.kind c.args.exit (statements_of (drop n c.args.cases.now)) in
     ap (map vec_items) c.reverse.ensures.items ∙ turned vec_items c.loop-k.codes.items (codes c.loop-k.k) c.loop-k.invariant.coded ∙ ap codes at

@@ -12,7 +12,7 @@ use Rattle.lower.proofs.statements.Around.all.Goals as goal
 
 pub loop-declared-preserved : goal.loop-declared-preserved
 loop-declared-preserved c =
-    let ts = c.args.self.procedures.now in
+    let ts = c.args.self.callees.procedures.now in
     let ds = c.args.names.now.procedures.items in
     let ps = procedures_of ts in
     let pair : Bor Procedure × Bor typed.Procedure = (c.in-Some.declared, c.in-Some.procedure) in
@@ -29,7 +29,7 @@ loop-declared-preserved c =
 
 pub returns-clause-code : goal.returns-clause-code
 returns-clause-code c =
-    let ts = c.args.self.procedures.now in
+    let ts = c.args.self.callees.procedures.now in
     let ds = c.args.names.now.procedures.items in
     let ps = procedures_of ts in
     let n = length c.loop-declared.yielded in

@@ -6,7 +6,7 @@ use Rattle.lower.proofs.statements.Around.all.Given as goal
 
 abbrev pub invariant-loop-declared : goal.invariant-loop-declared
 invariant-loop-declared l =
-    let all = l.self.procedures.now in
+    let all = l.self.callees.procedures.now in
     let n = length l.yielded in
     map plain l.procedures.items ++ all_lowered (procedures_of all) (map procedure_of (drop n l.names.procedures.items)) (procedures_of (drop n all))
     ≡ all_lowered (procedures_of all) (map procedure_of l.names.procedures.items) (procedures_of all)
