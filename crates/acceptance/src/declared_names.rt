@@ -1,7 +1,9 @@
 //! Small texts: what they declare.
 
 use crate::names::{names_of, names_of_two};
-use plm_decl::{Datum, Form, Names, Object, Placement, Region, ScalarType, Variable};
+use plm_decl::{Datum, Form, Names, Object, Placement, Region, ScalarType, Variable, resolve};
+use plm_syntax::parse;
+use plm_token::scan;
 use std::process::Abort;
 use std::test::Fail;
 
