@@ -41,6 +41,16 @@ const RIGHT: Registers = Registers {
 
 const HIGH: Registers = Registers { high: true, ..NONE };
 
+const ADDRESS: Registers = Registers {
+    address: true,
+    ..NONE
+};
+
+const FRAME: Registers = Registers {
+    frame: true,
+    ..NONE
+};
+
 impl Registers {
     /// None of them.
     pub fn none() -> Registers
@@ -138,11 +148,6 @@ impl Instruction {
     pub fn changes(self) -> Registers
         ensures { result ≡ changes self }
     {
-        let addressed = Registers {
-            accumulator: true,
-            address: true,
-            ..NONE
-        };
         match self {
             Instruction::Constant(_)
             | Instruction::Locate(_)
@@ -152,12 +157,8 @@ impl Instruction {
             Instruction::LoadAt(_, _)
             | Instruction::LoadThere(_)
             | Instruction::StoreAt(_, _)
-            | Instruction::StoreThere(_) => addressed,
-            Instruction::Pick(_) => Registers {
-                accumulator: true,
-                frame: true,
-                ..NONE
-            },
+            | Instruction::StoreThere(_) => ACCUMULATOR.joined(ADDRESS),
+            Instruction::Pick(_) => ACCUMULATOR.joined(FRAME),
             Instruction::Drop(count) => of_drop(count),
             Instruction::Binary(operation, _) => of_operator(operation),
             Instruction::BinaryConstant(operation, _, _) => of_direct(operation),
@@ -166,10 +167,7 @@ impl Instruction {
             Instruction::SendTo(_, port) => of_port(port),
             Instruction::ReceiveFrom(_, port) => ACCUMULATOR.joined(of_port(port)),
             Instruction::AheadUnless(test, _) | Instruction::BackUnless(test, _) => of_test(test),
-            Instruction::Switch(_) => Registers {
-                address: true,
-                ..NONE
-            },
+            Instruction::Switch(_) => ADDRESS,
             Instruction::Push
             | Instruction::Store(_, _)
             | Instruction::Ahead(_)
