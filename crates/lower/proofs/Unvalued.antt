@@ -1,9 +1,8 @@
 -- Statements in which no RETURN has a value are those of a procedure that gives none.
 use Rattle.std.proofs.Common.{◌≡◌, ℕ, Bool, true, false, List, refl}
-use Rattle.std.specs.Prelude.{◌||◌}
-use Rattle.plm_type.specs.Rest.{Loop, Count, Statement, Empty, Assign, Evaluate, Return, ReturnValue, Enabling, Disabling, Halting, If, Block, While, Case, Iterate, Leaving, Round, Comparing, Stepping, Adding, Storing, Ending, Statements, End, Then, Returned, Procedure}
+use Rattle.plm_type.specs.Rest.{Count, Statement, Empty, Assign, Evaluate, Return, ReturnValue, Enabling, Disabling, Halting, If, Block, While, Case, Iterate, Leaving, Round, Comparing, Stepping, Adding, Storing, Ending, Statements, End, Then, Returned, Procedure}
 use Rattle.lower.specs.Code.{Called, Giving, kind_of, is_giving, are_giving}
-use Rattle.lower.specs.Well.{IsStatement, IsLoop, AreStatements}
+use Rattle.lower.specs.Well.{IsStatement, AreStatements}
 use Rattle.lower.proofs.Bools.{true_false, neither_true}
 
 module _ (sizes : List ℕ) (procedures : List Procedure) (MayCall : ℕ → Type 0) where

@@ -1,4 +1,4 @@
-use Rattle.std.proofs.Common.{◌≡◌, ap, sym, ◌∙◌}
+use Rattle.std.proofs.Common.{ap, sym, ◌∙◌}
 use Rattle.plm_type.specs.View.{statement_of, statements_of}
 use Rattle.lower.specs.Code.{is_giving, are_giving}
 use Rattle.lower.proofs.Bools.{first_or, second_or}
