@@ -25,3 +25,7 @@ pub mod RangesStatements
 pub mod RangesJoins
 pub mod Chains
 pub mod InRange
+pub mod FitsShapes
+pub mod FitsFills
+pub mod FitsElements
+pub mod FitsStatements

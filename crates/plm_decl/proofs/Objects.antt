@@ -1,5 +1,5 @@
 -- Constant bytes fill their object, and names that lie nowhere else have objects of their own.
-use Rattle.std.proofs.Common.{◌≡◌, ℕ, suc, ◌+◌, List, [], ◌∷◌, ◌++◌, map, length, Bool, true, false, cond, ◌&&◌, Option, Some, None, arith, refl, sym, ap, subst, ◌∙◌, append_assoc, true≢false}
+use Rattle.std.proofs.Common.{◌≡◌, ℕ, suc, ◌+◌, List, [], ◌∷◌, ◌++◌, map, length, Bool, true, false, cond, Option, Some, None, arith, refl, sym, ap, subst, ◌∙◌, append_assoc, true≢false}
 use Rattle.std.specs.Prelude.{slice_get, sum_by}
 use Rattle.std.specs.List.{list_all}
 use Rattle.std.proofs.lemmas.List.{length-append, append-nil, map-append}
@@ -50,14 +50,14 @@ bytes_of_value (NumeralV n) = bytes_of_number _ _
 bytes_of_value (NegativeV n) = bytes_of_number _ _
 bytes_of_value (LocationV l) = refl
 
-bytes_of_values : (vs : List ValueT) → sum_by bytes_of_datum (all_constant_data vs) ≡ length (all_constant_data vs)
+pub bytes_of_values : (vs : List ValueT) → sum_by bytes_of_datum (all_constant_data vs) ≡ length (all_constant_data vs)
 bytes_of_values [] = refl
 bytes_of_values (v ∷ vs) =
     sum_by-append bytes_of_datum (constant_data v) (all_constant_data vs)
     ∙ (λ j. bytes_of_value v j + bytes_of_values vs j)
     ∙ sym (length-append (constant_data v) (all_constant_data vs))
 
-last_got : {X : Type 0} (xs : List X) (x : X) → slice_get (xs ++ x ∷ []) (length xs) ≡ Some x
+pub last_got : {X : Type 0} (xs : List X) (x : X) → slice_get (xs ++ x ∷ []) (length xs) ≡ Some x
 last_got [] x = refl
 last_got (y ∷ xs) x = last_got xs x
 

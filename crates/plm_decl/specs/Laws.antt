@@ -1,21 +1,23 @@
 -- What is read step by step, said of the tree of a block.
-use Rattle.std.specs.Prelude.{◌≡◌, ℕ, suc, List, [], ◌∷◌, ◌++◌, map, length, sum_by, slice_get, Bool, true, false, cond, not, Option, Some, None, is_some}
-use Rattle.std.specs.List.{list_all}
+use Rattle.std.specs.Prelude.{◌≡◌, ℕ, suc, ◌^◌, ◌<◌, List, [], ◌∷◌, ◌++◌, map, length, sum_by, slice_get, Bool, true, false, cond, not, nat_le, Option, Some, None, is_some}
+use Rattle.std.specs.List.{list_all, All}
 use Rattle.word86.specs.declared.number.Number.TheVariants.{E302}
 use Rattle.plm_token.specs.Names.{normal}
 use Rattle.plm_syntax.specs.declared.tree.Position.{Position}
 use Rattle.plm_syntax.specs.Terminal.{NameT}
-use Rattle.plm_syntax.specs.Tree.{ItemsT, ElementT, VariableT, VariableOf, MemberT, ValueT, ModuleT}
+use Rattle.plm_syntax.specs.Tree.{ModuleT, ItemsT, ElementT, VariableT, VariableOf, MemberT, ValueT}
+use Rattle.plm_syntax.specs.WellFormed.{WellModule}
 use Rattle.plm_decl.specs.declared.layout.ScalarType.{ScalarType}
 use Rattle.plm_decl.specs.declared.names.Datum.{Datum}
 use Rattle.plm_decl.specs.declared.names.Datum.TheVariants as datum
 use Rattle.plm_decl.specs.declared.names.Region.{Region}
 use Rattle.plm_decl.specs.declared.names.Region.TheVariants as region
 use Rattle.plm_decl.specs.declared.names.Item.{Item}
+use Rattle.plm_decl.specs.declared.names.Names.{Names}
 use Rattle.plm_decl.specs.declared.elements.Site.{Site}
 use Rattle.plm_decl.specs.declared.elements.Site.TheVariants as site
 use Rattle.plm_decl.specs.declared.elements.Traits.{Traits}
-use Rattle.plm_decl.specs.Names.{ObjectR}
+use Rattle.plm_decl.specs.Names.{ObjectR, object_of}
 use Rattle.plm_decl.specs.Scope.{Frame, frame, meant, found_here, is_external}
 use Rattle.plm_decl.specs.Resolver.{Known, note_unless}
 use Rattle.plm_decl.specs.Layout.{no_fields}
@@ -25,6 +27,9 @@ use Rattle.plm_decl.specs.Elements.{declared, declared_variables}
 use Rattle.plm_decl.specs.Statements.{with_elements, with_items, parameter_is, parameters_from}
 use Rattle.plm_decl.specs.Modules.{faults_of, whole_faults_of}
 use Rattle.plm_decl.specs.DeclaredAgain.{names_of_members, second_declarations, declared_again}
+use Rattle.plm_decl.specs.Joins.{have_room, known_from, modules_joined}
+use Rattle.plm_decl.specs.Modules.{AreNames}
+use Rattle.plm_decl.specs.Initial.{initial_bytes, first_bytes}
 use Rattle.plm_decl.specs.BlockNames.{names_of_items, names_of_elements, names_of_variables, has_name}
 
 -- after some items of a block, some elements of a DECLARE and some names of an element, the next name that is declared is a
@@ -143,3 +148,20 @@ HaveOwnObjects =
     → is_external frames ≡ false → list_all has_no_base vs ≡ true
     → (map (λ v. v.region) (declared_variables vs t site.Own frames k).2.variables ≡ map (λ v. v.region) k.variables ++ own_regions (length k.objects) vs)
     × ((os : List ObjectR) × ((declared_variables vs t site.Own frames k).2.objects ≡ k.objects ++ os) × (length os ≡ length vs))
+
+-- an object's initial values have room in it
+abbrev pub values_fit : ObjectR → Bool
+values_fit o = nat_le (sum_by bytes_of_datum o.initial) o.size
+
+-- where RAM has room for the objects of well-formed modules, the initial values of each have room in it; modules in a computer's memory have
+-- fewer than 2^64 variables
+abbrev pub InitialValuesFit : Type 0
+InitialValuesFit =
+    (ms : List ModuleT) → All WellModule ms → let k = modules_joined (known_from ms) in
+    length k.variables < 2 ^ 64 → have_room k.objects ≡ true → list_all values_fit k.objects ≡ true
+
+-- so no initial byte of a program's objects is cut off
+abbrev pub NothingIsCut : Type 0
+NothingIsCut =
+    (names : Names) (ms : List ModuleT) (offsets : List ℕ) → All WellModule ms → AreNames names ms → length names.variables.items < 2 ^ 64
+    → All (λ o. first_bytes offsets names.variables.items o ≡ initial_bytes offsets names.variables.items o.initial) (map object_of names.objects.items)

@@ -1,6 +1,6 @@
 //! Laws that tie what is read step by step to the tree of a block. They compute nothing.
 
-ghost use Rattle.plm_decl.specs.Laws.{ConstantsFill, DeclaredIsFound, DeclaresOnce, HaveOwnObjects, InnermostMeans, ListsOnce, MembersOnce, NothingElseTwice, StandsInside, StandsOutside};
+ghost use Rattle.plm_decl.specs.Laws.{ConstantsFill, DeclaredIsFound, DeclaresOnce, HaveOwnObjects, InitialValuesFit, InnermostMeans, ListsOnce, MembersOnce, NothingElseTwice, NothingIsCut, StandsInside, StandsOutside};
 
 /// The law of second declarations: after some items of a block, some elements of a DECLARE and some names of an element, the
 /// next name that is declared there is a fault (E302) exactly where one of those before it has its normal form. The same
@@ -32,4 +32,11 @@ pub fn constants_fill_their_object()
 /// object each, in their order. These are new ones, behind all that there were, so no two such names have one object.
 pub fn names_have_own_objects()
     ensures { HaveOwnObjects }
+{}
+
+/// The law of initial values: in well-formed modules whose objects have room in RAM, the initial values of each object have
+/// room in it. So where there are names, each object has all its initial bytes at start, and none is cut off.
+pub fn initial_values_fit()
+    ensures fit { InitialValuesFit }
+    ensures uncut { NothingIsCut }
 {}

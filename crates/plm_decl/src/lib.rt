@@ -26,7 +26,8 @@ mod table;
 
 pub use builtin::Builtin;
 pub use laws::{
-    constants_fill_their_object, declared_once, innermost_counts, names_have_own_objects,
+    constants_fill_their_object, declared_once, initial_values_fit, innermost_counts,
+    names_have_own_objects,
 };
 pub use layout::{Field, Form, Member, ScalarType, Structure};
 pub use modules::resolve;
