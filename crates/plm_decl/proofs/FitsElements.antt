@@ -168,10 +168,10 @@ own_object false path size k =
       made = o ∷ [];
       objects = refl;
       first = λ all more e vs p. (
-          omega arith,
-          subst (λ (xs : List ObjectR). Holds xs size 0 (length k.objects)) (sym e) (holds_pushed os more size 0 (length k.objects) here),
-          subst (λ (m : ℕ). Pending all size m vs) length_of p,
-        );
+        omega arith,
+        subst (λ (xs : List ObjectR). Holds xs size 0 (length k.objects)) (sym e) (holds_pushed os more size 0 (length k.objects) here),
+        subst (λ (m : ℕ). Pending all size m vs) length_of p,
+      );
     }
 
 based_first : (all : List ObjectR) (size low : ℕ) (m : Binding) (P : ℕ → Type 0) → P low → PendingAt all size 0 low (based_region m) P

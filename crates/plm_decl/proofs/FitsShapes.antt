@@ -89,7 +89,7 @@ bytes_of_row (f ∷ fs) =
     let n = elements f.member.dimension in
     split_bytes (scalar_in (f ∷ fs)) n (scalars_of_fields fs)
     ∙ (λ j. (same_bytes (scalar_in (f ∷ fs)) (λ i. f.member.scalar) n (scalar_first f fs) ∙ bytes_alike f.member.scalar n) j
-        + (same_bytes (λ i. scalar_in (f ∷ fs) (n + i)) (scalar_in fs) (scalars_of_fields fs) (λ i p. scalar_rest f fs i) ∙ bytes_of_row fs) j)
+    + (same_bytes (λ i. scalar_in (f ∷ fs) (n + i)) (scalar_in fs) (scalars_of_fields fs) (λ i p. scalar_rest f fs i) ∙ bytes_of_row fs) j)
 
 -- ---- structures
 
