@@ -1,5 +1,5 @@
-/* Preloaded into a program, makes one of its calls on files fail: the one whose number, from 1, FAIL_READ or FAIL_WRITE holds. With ONE_BYTE
-   each call takes one byte. At the program's end it writes how many calls of both kinds there were to the file that CALLS names. */
+/* Preloaded into a program, makes one of its calls on files fail: the one whose number, from 1, FAIL_READ or FAIL_WRITE holds. Standard output
+   takes as many bytes as ROOM says, and fails then. With ONE_BYTE each call takes one byte. At the program's end it writes how many calls of both kinds there were to the file that CALLS names. */
 #define _GNU_SOURCE
 #include <dlfcn.h>
 #include <errno.h>
@@ -12,8 +12,8 @@ typedef ssize_t write_call(int file, const void *bytes, size_t size);
 
 static read_call *next_read;
 static write_call *next_write;
-static unsigned long failing_read, failing_write, reads, writes;
-static int one_byte;
+static unsigned long failing_read, failing_write, reads, writes, room;
+static int one_byte, has_room;
 
 static unsigned long number_in(const char *name)
 {
@@ -27,6 +27,8 @@ __attribute__((constructor)) static void begin(void)
     next_write = (write_call *)dlsym(RTLD_NEXT, "write");
     failing_read = number_in("FAIL_READ");
     failing_write = number_in("FAIL_WRITE");
+    room = number_in("ROOM");
+    has_room = getenv("ROOM") != NULL;
     one_byte = getenv("ONE_BYTE") != NULL;
 }
 
@@ -53,9 +55,16 @@ ssize_t read(int file, void *bytes, size_t size)
 
 ssize_t write(int file, const void *bytes, size_t size)
 {
-    if (++writes == failing_write) {
+    int is_limited = has_room && file == STDOUT_FILENO;
+    size_t most = is_limited && room < size ? room : size;
+    ssize_t wrote;
+
+    if (++writes == failing_write || (most == 0 && size > 0)) {
         errno = EIO;
         return -1;
     }
-    return next_write(file, bytes, taken(size));
+    wrote = next_write(file, bytes, taken(most));
+    if (is_limited && wrote > 0)
+        room -= (unsigned long)wrote;
+    return wrote;
 }
