@@ -31,7 +31,7 @@ fn opened<'a>(
 }
 
 /// The labels of the program's steps, as far as they can be made, and why they end; RAM holds 5AH everywhere.
-pub fn run_of(
+pub(crate) fn run_of(
     alloc: Global,
     program: &Program,
     placement: &Placement,
