@@ -54,7 +54,7 @@ fn stack_of(alloc: Global, text: &[u8]) -> Result<Stack, Fault> {
 
 #[test]
 fn values_of_either_width(rt: HostRuntime) -> Result<(), Fail> {
-    let rows: [(&[u8], &[u8]); 5] = [
+    const ROWS: &[(&[u8], &[u8])] = &[
         (
             b"M: DO; DECLARE B BYTE; B = 255; OUTPUT(300H) = B + 1; END M;",
             b"OUT 0300 00\nEND 2000\n",
@@ -76,12 +76,12 @@ fn values_of_either_width(rt: HostRuntime) -> Result<(), Fail> {
             b"OUT 0300 2C\nOUTW 0302 012C\nOUT 0304 0A\nEND 2000\n",
         ),
     ];
-    all_write(&rt, rt.alloc(), &rows)
+    all_write(&rt, rt.alloc(), ROWS)
 }
 
 #[test]
 fn loops_and_cases(rt: HostRuntime) -> Result<(), Fail> {
-    let rows: [(&[u8], &[u8]); 3] = [
+    const ROWS: &[(&[u8], &[u8])] = &[
         (
             b"M: DO; DECLARE I BYTE; DO I = 250 TO 255; OUTPUT(300H) = I; END; OUTPUT(301H) = I; END M;",
             b"OUT 0300 FA\nOUT 0300 FB\nOUT 0300 FC\nOUT 0300 FD\nOUT 0300 FE\nOUT 0300 FF\nOUT 0301 00\nEND 2000\n",
@@ -95,12 +95,12 @@ fn loops_and_cases(rt: HostRuntime) -> Result<(), Fail> {
             b"OUT 0300 0A\nOUT 0300 0B\nOUT 0300 0D\nEND 2000\n",
         ),
     ];
-    all_write(&rt, rt.alloc(), &rows)
+    all_write(&rt, rt.alloc(), ROWS)
 }
 
 #[test]
 fn structures_and_calls(rt: HostRuntime) -> Result<(), Fail> {
-    let rows: [(&[u8], &[u8]); 2] = [
+    const ROWS: &[(&[u8], &[u8])] = &[
         (
             b"M: DO; DECLARE S(2) STRUCTURE (X BYTE, Y WORD) INITIAL (1, 2, 3, 0405H); OUTWORD(300H) = S(1).Y; OUTPUT(302H) = SIZE(S); OUTPUT(303H) = LAST(S); END M;",
             b"OUTW 0300 0405\nOUT 0302 06\nOUT 0303 01\nEND 2000\n",
@@ -110,7 +110,7 @@ fn structures_and_calls(rt: HostRuntime) -> Result<(), Fail> {
             b"OUT 0300 FD\nOUT 0300 01\nOUT 0300 05\nOUT 0301 03\nOUT 0302 12\nEND 2000\n",
         ),
     ];
-    all_write(&rt, rt.alloc(), &rows)
+    all_write(&rt, rt.alloc(), ROWS)
 }
 
 /// The pulses of 13 rounds: OUT rises at 5, 9 and 13, the first two are one request, and no end of interrupt comes.

@@ -327,7 +327,7 @@ fn objects_in_order_of_declaration(rt: HostRuntime) -> Result<(), Fail> {
 fn placements(rt: HostRuntime) -> Result<(), Fail> {
     let alloc = rt.alloc();
     let names = names_of(alloc, b"M: DO; DECLARE (A, B) WORD; ; END M;")?;
-    let rows: [([u16; 2], bool); 6] = [
+    const ROWS: &[([u16; 2], bool)] = &[
         ([2, 4], true),
         ([0xEFFE, 2], true),
         ([2, 3], false),
@@ -335,7 +335,7 @@ fn placements(rt: HostRuntime) -> Result<(), Fail> {
         ([1, 4], false),
         ([2, 0xEFFF], false),
     ];
-    for (row, (offsets, wanted)) in rows.iter().enumerate() {
+    for (row, (offsets, wanted)) in ROWS.iter().enumerate() {
         let placement = Placement::of(Vec::from_slice(alloc, offsets)?);
         assert!(rt; placement.fits(&names) == *wanted, "row {row}");
         assert!(rt; placement.offsets() == offsets.as_slice(), "row {row}");

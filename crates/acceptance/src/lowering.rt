@@ -194,7 +194,7 @@ fn are_shown(alloc: Global, rows: &[Row<'_>]) -> Result<bool, Fault> {
 
 #[test]
 fn values_and_widths(rt: HostRuntime) -> Result<(), Fail> {
-    let rows: [Row<'static>; 8] = [
+    const ROWS: &[Row<'static>] = &[
         (
             b"M: DO; DECLARE B BYTE; B = 255; OUTPUT(300H) = B + 1; END M;",
             &[2],
@@ -256,13 +256,13 @@ fn values_and_widths(rt: HostRuntime) -> Result<(), Fail> {
             false,
         ),
     ];
-    assert_eq!(rt; are_shown(rt.alloc(), &rows)?, true);
+    assert_eq!(rt; are_shown(rt.alloc(), ROWS)?, true);
     Ok(())
 }
 
 #[test]
 fn loops_and_cases(rt: HostRuntime) -> Result<(), Fail> {
-    let rows: [Row<'static>; 6] = [
+    const ROWS: &[Row<'static>] = &[
         (
             b"M: DO; DECLARE I BYTE; DO I = 250 TO 255; OUTPUT(300H) = I; END; OUTPUT(301H) = I; END M;",
             &[2],
@@ -313,13 +313,13 @@ fn loops_and_cases(rt: HostRuntime) -> Result<(), Fail> {
             false,
         ),
     ];
-    assert_eq!(rt; are_shown(rt.alloc(), &rows)?, true);
+    assert_eq!(rt; are_shown(rt.alloc(), ROWS)?, true);
     Ok(())
 }
 
 #[test]
 fn calls(rt: HostRuntime) -> Result<(), Fail> {
-    let rows: [Row<'static>; 4] = [
+    const ROWS: &[Row<'static>] = &[
         (
             b"M: DO; DECLARE W WORD; F: PROCEDURE (A, B) BYTE; DECLARE (A, B) BYTE; RETURN A - B; END F; DO W = 1 TO 10 BY 4; OUTPUT(300H) = F(W, 4); END; OUTPUT(301H) = ROL(81H, 1); OUTPUT(302H) = HIGH(1234H); END M;",
             &[2, 4, 5],
@@ -359,13 +359,13 @@ fn calls(rt: HostRuntime) -> Result<(), Fail> {
             false,
         ),
     ];
-    assert_eq!(rt; are_shown(rt.alloc(), &rows)?, true);
+    assert_eq!(rt; are_shown(rt.alloc(), ROWS)?, true);
     Ok(())
 }
 
 #[test]
 fn bad_steps(rt: HostRuntime) -> Result<(), Fail> {
-    let rows: [Row<'static>; 4] = [
+    const ROWS: &[Row<'static>] = &[
         (
             b"M: DO; DECLARE A(3) BYTE; A(3) = 1; END M;",
             &[2],
@@ -391,7 +391,7 @@ fn bad_steps(rt: HostRuntime) -> Result<(), Fail> {
             true,
         ),
     ];
-    assert_eq!(rt; are_shown(rt.alloc(), &rows)?, true);
+    assert_eq!(rt; are_shown(rt.alloc(), ROWS)?, true);
     Ok(())
 }
 

@@ -82,7 +82,7 @@ fn are_shown(alloc: Global, rows: &[Row<'_>]) -> Result<bool, Fault> {
 
 #[test]
 fn values_and_widths(rt: HostRuntime) -> Result<(), Fail> {
-    let rows: [Row<'static>; 5] = [
+    const ROWS: &[Row<'static>] = &[
         (
             b"M: DO; DECLARE B BYTE; B = 255; OUTPUT(300H) = B + 1; END M;",
             &[2],
@@ -118,13 +118,13 @@ fn values_and_widths(rt: HostRuntime) -> Result<(), Fail> {
             None,
         ),
     ];
-    assert_eq!(rt; are_shown(rt.alloc(), &rows)?, true);
+    assert_eq!(rt; are_shown(rt.alloc(), ROWS)?, true);
     Ok(())
 }
 
 #[test]
 fn loops_and_cases(rt: HostRuntime) -> Result<(), Fail> {
-    let rows: [Row<'static>; 3] = [
+    const ROWS: &[Row<'static>] = &[
         (
             b"M: DO; DECLARE I BYTE; DO I = 250 TO 255; OUTPUT(300H) = I; END; OUTPUT(301H) = I; END M;",
             &[2],
@@ -152,13 +152,13 @@ fn loops_and_cases(rt: HostRuntime) -> Result<(), Fail> {
             None,
         ),
     ];
-    assert_eq!(rt; are_shown(rt.alloc(), &rows)?, true);
+    assert_eq!(rt; are_shown(rt.alloc(), ROWS)?, true);
     Ok(())
 }
 
 #[test]
 fn accesses_lie_in_what_is_declared(rt: HostRuntime) -> Result<(), Fail> {
-    let rows: [Row<'static>; 12] = [
+    const ROWS: &[Row<'static>] = &[
         // One past what is declared, within the object that holds it.
         (
             b"M: DO; DECLARE A(4) BYTE, B(2) BYTE AT (@A(1));\nB(2) = 1; END M;",
@@ -236,13 +236,13 @@ fn accesses_lie_in_what_is_declared(rt: HostRuntime) -> Result<(), Fail> {
             None,
         ),
     ];
-    assert_eq!(rt; are_shown(rt.alloc(), &rows)?, true);
+    assert_eq!(rt; are_shown(rt.alloc(), ROWS)?, true);
     Ok(())
 }
 
 #[test]
 fn objects_have_their_first_bytes(rt: HostRuntime) -> Result<(), Fail> {
-    let rows: [Row<'static>; 5] = [
+    const ROWS: &[Row<'static>] = &[
         // A string's first character is the high byte of its value, in an expression and in a WORD.
         (
             b"M: DO; DECLARE W WORD INITIAL ('AB'), B BYTE AT (@W); OUTWORD(300H) = W; OUTWORD(302H) = 'AB'; OUTPUT(304H) = B; END M;",
@@ -284,13 +284,13 @@ fn objects_have_their_first_bytes(rt: HostRuntime) -> Result<(), Fail> {
             None,
         ),
     ];
-    assert_eq!(rt; are_shown(rt.alloc(), &rows)?, true);
+    assert_eq!(rt; are_shown(rt.alloc(), ROWS)?, true);
     Ok(())
 }
 
 #[test]
 fn parts_are_evaluated_in_order(rt: HostRuntime) -> Result<(), Fail> {
-    let rows: [Row<'static>; 7] = [
+    const ROWS: &[Row<'static>] = &[
         // The subscript before the base, the base before the access.
         (
             b"M: DO; DECLARE A(4) BYTE INITIAL (1, 2, 3, 4), P WORD, X BASED P (2) BYTE; F: PROCEDURE BYTE; P = .A(2); RETURN 1; END F; P = .A; OUTPUT(300H) = X(F); END M;",
@@ -351,7 +351,7 @@ fn parts_are_evaluated_in_order(rt: HostRuntime) -> Result<(), Fail> {
             None,
         ),
     ];
-    assert_eq!(rt; are_shown(rt.alloc(), &rows)?, true);
+    assert_eq!(rt; are_shown(rt.alloc(), ROWS)?, true);
     Ok(())
 }
 

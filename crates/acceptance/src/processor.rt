@@ -149,7 +149,7 @@ fn seen(cpu: &Cpu) -> [u16; 14] {
 /// 8 KiB ROMs, 0 but for the bytes from 0FFFF0H: what memory holds, these bytes, the turns, and where the processor stops.
 #[test]
 fn six_roms(rt: HostRuntime) -> Result<(), Fail> {
-    let rows: [(u8, &[u8], u32, Option<u32>); 6] = [
+    const ROWS: &[(u8, &[u8], u32, Option<u32>)] = &[
         (0x00, &[], 100, None),
         (0xFF, &[], 100, Some(0x00000)),
         (0x00, &[0xEB, 0xFE], 100, None),
@@ -157,18 +157,18 @@ fn six_roms(rt: HostRuntime) -> Result<(), Fail> {
         (0x00, &[0xF7, 0xF1], 100, None),
         (0x00, &[0xF7, 0xF1], 40_000, Some(0x0FFFC)),
     ];
-    for (fill, code, turns, end) in rows {
-        let mut bus = TestBus::filled(rt.alloc(), fill)?;
+    for (fill, code, turns, end) in ROWS {
+        let mut bus = TestBus::filled(rt.alloc(), *fill)?;
         bus.write(0xFFFF0, code);
         let mut cpu = Cpu::reset();
         assert_eq!(rt;
-            run(&mut cpu, &mut bus, turns),
-            end,
+            run(&mut cpu, &mut bus, *turns),
+            *end,
             "{code:?} for {turns} turns"
         );
         let before = seen(&cpu);
         if end.is_some() {
-            assert_eq!(rt; run(&mut cpu, &mut bus, 3), end, "it stays stopped");
+            assert_eq!(rt; run(&mut cpu, &mut bus, 3), *end, "it stays stopped");
             assert_eq!(rt; seen(&cpu), before);
         }
     }
@@ -194,7 +194,7 @@ fn halted(rt: &impl Abort, bus: &mut TestBus, code: &[u8]) -> Cpu {
 /// Assembled by nasm 2.16 (bits 16): what AX, CX, DX and SP hold at the end.
 #[test]
 fn short_programs(rt: HostRuntime) -> Result<(), Fail> {
-    let rows: [(&[u8], [u16; 4]); 9] = [
+    const ROWS: &[(&[u8], [u16; 4])] = &[
         // mov ax,-7; cwd; mov bx,2; idiv bx; hlt: -3, remainder -1
         (
             &[0xB8, 0xF9, 0xFF, 0x99, 0xBB, 0x02, 0x00, 0xF7, 0xFB, 0xF4],
@@ -254,7 +254,7 @@ fn short_programs(rt: HostRuntime) -> Result<(), Fail> {
             [0xFFF1, 0x0764, 5, 0],
         ),
     ];
-    for (code, end) in rows {
+    for (code, end) in ROWS {
         let mut bus = TestBus::filled(rt.alloc(), 0)?;
         let registers = halted(&rt, &mut bus, code).registers;
         assert_eq!(rt;
@@ -264,7 +264,7 @@ fn short_programs(rt: HostRuntime) -> Result<(), Fail> {
                 registers.word(Register16::Dx),
                 registers.word(Register16::Sp)
             ],
-            end,
+            *end,
             "{code:?}"
         );
     }

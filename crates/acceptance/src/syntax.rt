@@ -11,25 +11,21 @@ use word86::{Fault, Number};
 enum Outcome {
     Fine,
     /// A fault and its line.
-    Fault(Number, u32),
+    Refused(Number, u32),
     Memory,
 }
 
-use Outcome::Fine;
-
-fn refused(number: Number, line: u32) -> Outcome {
-    Outcome::Fault(number, line)
-}
+use Outcome::{Fine, Refused};
 
 fn parsed(alloc: Global, text: &[u8]) -> Outcome {
     let tokens = match scan(alloc, text) {
         Ok(tokens) => tokens,
-        Err(Fault::At(_, line, number)) => return refused(number, line),
+        Err(Fault::At(_, line, number)) => return Refused(number, line),
         Err(Fault::Memory) => return Outcome::Memory,
     };
     match parse(alloc, tokens) {
         Ok(_) => Fine,
-        Err(Fault::At(_, line, number)) => refused(number, line),
+        Err(Fault::At(_, line, number)) => Refused(number, line),
         Err(Fault::Memory) => Outcome::Memory,
     }
 }
@@ -42,23 +38,23 @@ fn check(rt: &impl Abort, alloc: Global, rows: &[(&[u8], Outcome)]) {
 
 #[test]
 fn modules_and_blocks(rt: HostRuntime) {
-    let rows: [(&[u8], Outcome); 23] = [
+    const ROWS: &[(&[u8], Outcome)] = &[
         (b"M: DO; ; END M;", Fine),
-        (b"M: DO; /* x", refused(Number::E103, 1)),
+        (b"M: DO; /* x", Refused(Number::E103, 1)),
         (b"M: DO; END;", Fine),
         (b"M: DO; END m;", Fine),
         (b"A$B: DO; END AB;", Fine),
-        (b"M: DO; END\nN;", refused(Number::E201, 2)),
-        (b"M: DO; END M;\nX", refused(Number::E201, 2)),
-        (b"M: DO;\nEND M", refused(Number::E201, 2)),
-        (b"", refused(Number::E201, 1)),
-        (b"M: DO; EN", refused(Number::E201, 1)),
-        (b"M DO; END M;", refused(Number::E201, 1)),
+        (b"M: DO; END\nN;", Refused(Number::E201, 2)),
+        (b"M: DO; END M;\nX", Refused(Number::E201, 2)),
+        (b"M: DO;\nEND M", Refused(Number::E201, 2)),
+        (b"", Refused(Number::E201, 1)),
+        (b"M: DO; EN", Refused(Number::E201, 1)),
+        (b"M DO; END M;", Refused(Number::E201, 1)),
         (b"M: DO;\n\nDO; END; DO; END; END M;", Fine),
         (b"M: DO; L1: L2: DO; END L2; END;", Fine),
         (
             b"M: DO; L1: L2: DO; END\nL1; END;",
-            refused(Number::E201, 2),
+            Refused(Number::E201, 2),
         ),
         (
             b"M: DO; P: PROCEDURE (A, B) BYTE PUBLIC; DECLARE (A, B) BYTE; RETURN A; END P; CALL P(1, 2); END M;",
@@ -70,96 +66,96 @@ fn modules_and_blocks(rt: HostRuntime) {
         ),
         (
             b"M: DO; ; P:\nPROCEDURE; END P; END;",
-            refused(Number::E201, 2),
+            Refused(Number::E201, 2),
         ),
         (
             b"M: DO; L: P:\nPROCEDURE; END P; END;",
-            refused(Number::E201, 2),
+            Refused(Number::E201, 2),
         ),
-        (b"M: DO; ;\nDECLARE A BYTE; END;", refused(Number::E201, 2)),
+        (b"M: DO; ;\nDECLARE A BYTE; END;", Refused(Number::E201, 2)),
         (b"M: DO; DO; DECLARE A BYTE; A = 1; END; END;", Fine),
         (
             b"M: DO; P: PROCEDURE ()\n; END P; END;",
-            refused(Number::E201, 1),
+            Refused(Number::E201, 1),
         ),
         (
             b"M: DO; P: PROCEDURE PUBLIC\nEXTERNAL; END P; END;",
-            refused(Number::E201, 2),
+            Refused(Number::E201, 2),
         ),
         (
             b"M: DO; P: PROCEDURE; END\nM; END;",
-            refused(Number::E201, 2),
+            Refused(Number::E201, 2),
         ),
     ];
-    check(&rt, rt.alloc(), &rows);
+    check(&rt, rt.alloc(), ROWS);
 }
 
 #[test]
 fn expressions(rt: HostRuntime) {
-    let rows: [(&[u8], Outcome); 20] = [
+    const ROWS: &[(&[u8], Outcome)] = &[
         (b"M: DO; A = 1 + 2 * 3; END;", Fine),
         (
             b"M: DO; A, B(1, 2), C.D(3) = (X := 4) + (Y) AND NOT Z; END;",
             Fine,
         ),
-        (b"M: DO; A = 1 < 2\n< 3; END;", refused(Number::E201, 2)),
+        (b"M: DO; A = 1 < 2\n< 3; END;", Refused(Number::E201, 2)),
         (b"M: DO; A = (1 < 2) < 3; END;", Fine),
-        (b"M: DO; A = (B + C\n:= 3); END;", refused(Number::E201, 2)),
+        (b"M: DO; A = (B + C\n:= 3); END;", Refused(Number::E201, 2)),
         (b"M: DO; A = (B(1).C := 3); END;", Fine),
-        (b"M: DO; A = (B := C := 3); END;", refused(Number::E201, 1)),
-        (b"M: DO; A = -\n- 1; END;", refused(Number::E201, 2)),
+        (b"M: DO; A = (B := C := 3); END;", Refused(Number::E201, 1)),
+        (b"M: DO; A = -\n- 1; END;", Refused(Number::E201, 2)),
         (b"M: DO; A = NOT NOT B; END;", Fine),
-        (b"M: DO; A = 1 +\nNOT B; END;", refused(Number::E201, 2)),
+        (b"M: DO; A = 1 +\nNOT B; END;", Refused(Number::E201, 2)),
         (b"M: DO; A = 'X' MOD +2 / -B XOR C OR D; END;", Fine),
         (b"M: DO; A = @B(1).C + .('X', 1); END;", Fine),
         (b"M: DO; A = @(1, -2, @(.B)); END;", Fine),
-        (b"M: DO; A = @3; END;", refused(Number::E201, 1)),
-        (b"M: DO; A.B\n.C = 1; END;", refused(Number::E201, 2)),
-        (b"M: DO; A() = 1; END;", refused(Number::E201, 1)),
-        (b"M: DO; A.B(1, 2) = 1; END;", refused(Number::E201, 1)),
-        (b"M: DO; A =\n; END;", refused(Number::E201, 2)),
-        (b"M: DO; A = 1 PLUS 2; END;", refused(Number::E201, 1)),
-        (b"M: DO; A = (1; END;", refused(Number::E201, 1)),
+        (b"M: DO; A = @3; END;", Refused(Number::E201, 1)),
+        (b"M: DO; A.B\n.C = 1; END;", Refused(Number::E201, 2)),
+        (b"M: DO; A() = 1; END;", Refused(Number::E201, 1)),
+        (b"M: DO; A.B(1, 2) = 1; END;", Refused(Number::E201, 1)),
+        (b"M: DO; A =\n; END;", Refused(Number::E201, 2)),
+        (b"M: DO; A = 1 PLUS 2; END;", Refused(Number::E201, 1)),
+        (b"M: DO; A = (1; END;", Refused(Number::E201, 1)),
     ];
-    check(&rt, rt.alloc(), &rows);
+    check(&rt, rt.alloc(), ROWS);
 }
 
 #[test]
 fn statements(rt: HostRuntime) {
-    let rows: [(&[u8], Outcome); 14] = [
+    const ROWS: &[(&[u8], Outcome)] = &[
         (b"M: DO; IF A THEN IF B THEN C = 1; ELSE C = 2; END;", Fine),
         (
             b"M: DO; IF A THEN C = 1; ELSE IF B THEN ; ELSE ;\nELSE ; END;",
-            refused(Number::E201, 2),
+            Refused(Number::E201, 2),
         ),
-        (b"M: DO; IF A THEN\nEND; END;", refused(Number::E201, 2)),
+        (b"M: DO; IF A THEN\nEND; END;", Refused(Number::E201, 2)),
         (b"M: DO; IF A THEN L: ; ELSE DO; END; END;", Fine),
-        (b"M: DO; IF A C = 1; END;", refused(Number::E201, 1)),
+        (b"M: DO; IF A C = 1; END;", Refused(Number::E201, 1)),
         (
             b"M: DO; DO WHILE 1; END; DO CASE X; ; ; END; DO I = 1 TO 2 BY 3; END; DO I = 1 TO 2; END; END;",
             Fine,
         ),
-        (b"M: DO; DO\nFOREVER; END; END;", refused(Number::E201, 2)),
-        (b"M: DO; DO I = 1 BY 2; END; END;", refused(Number::E201, 1)),
+        (b"M: DO; DO\nFOREVER; END; END;", Refused(Number::E201, 2)),
+        (b"M: DO; DO I = 1 BY 2; END; END;", Refused(Number::E201, 1)),
         (
             b"M: DO; CALL P(1).Q; RETURN; RETURN 1; ENABLE; DISABLE; HALT; END;",
             Fine,
         ),
-        (b"M: DO; GOTO L; END;", refused(Number::E201, 1)),
+        (b"M: DO; GOTO L; END;", Refused(Number::E201, 1)),
         (
             b"M: DO; DO; ; DECLARE A BYTE; END; END;",
-            refused(Number::E201, 1),
+            Refused(Number::E201, 1),
         ),
-        (b"M: DO; CALL 3; END;", refused(Number::E201, 1)),
-        (b"M: DO; A B; END;", refused(Number::E201, 1)),
-        (b"M: DO; HALT END;", refused(Number::E201, 1)),
+        (b"M: DO; CALL 3; END;", Refused(Number::E201, 1)),
+        (b"M: DO; A B; END;", Refused(Number::E201, 1)),
+        (b"M: DO; HALT END;", Refused(Number::E201, 1)),
     ];
-    check(&rt, rt.alloc(), &rows);
+    check(&rt, rt.alloc(), ROWS);
 }
 
 #[test]
 fn declarations(rt: HostRuntime) {
-    let rows: [(&[u8], Outcome); 14] = [
+    const ROWS: &[(&[u8], Outcome)] = &[
         (
             b"M: DO; DECLARE A BYTE, (B, C BASED P) (10) WORD PUBLIC AT (0B8000H) INITIAL (1, -2, 'AB', .A); END;",
             Fine,
@@ -178,46 +174,46 @@ fn declarations(rt: HostRuntime) {
         ),
         (
             b"M: DO; DECLARE\nBYTE LITERALLY 'X'; END;",
-            refused(Number::E201, 2),
+            Refused(Number::E201, 2),
         ),
         (
             b"M: DO; DECLARE A BYTE EXTERNAL\nAT (1); END;",
-            refused(Number::E201, 2),
+            Refused(Number::E201, 2),
         ),
         (
             b"M: DO; DECLARE A BYTE INITIAL (1)\nPUBLIC; END;",
-            refused(Number::E201, 2),
+            Refused(Number::E201, 2),
         ),
-        (b"M: DO; DECLARE A (3\nBYTE; END;", refused(Number::E201, 2)),
-        (b"M: DO; DECLARE A INTEGER; END;", refused(Number::E201, 1)),
+        (b"M: DO; DECLARE A (3\nBYTE; END;", Refused(Number::E201, 2)),
+        (b"M: DO; DECLARE A INTEGER; END;", Refused(Number::E201, 1)),
         (b"M: DO; DECLARE (A) BYTE; END;", Fine),
-        (b"M: DO; DECLARE () BYTE; END;", refused(Number::E201, 1)),
+        (b"M: DO; DECLARE () BYTE; END;", Refused(Number::E201, 1)),
         (
             b"M: DO; DECLARE S STRUCTURE (X); END;",
-            refused(Number::E201, 1),
+            Refused(Number::E201, 1),
         ),
         (
             b"M: DO; DECLARE A BYTE INITIAL (); END;",
-            refused(Number::E201, 1),
+            Refused(Number::E201, 1),
         ),
         (
             b"M: DO; DECLARE A BYTE B BYTE; END;",
-            refused(Number::E201, 1),
+            Refused(Number::E201, 1),
         ),
     ];
-    check(&rt, rt.alloc(), &rows);
+    check(&rt, rt.alloc(), ROWS);
 }
 
 #[test]
 fn literals(rt: HostRuntime) {
-    let rows: [(&[u8], Outcome); 16] = [
+    const ROWS: &[(&[u8], Outcome)] = &[
         (
             b"M: DO; DECLARE A LITERALLY '; ; ; ; ; ; ; ; ; ; ; ; ; ; ; ;', B LITERALLY 'A A A A A A A A A A A A A A A A', C LITERALLY 'B B B B B B B B B B B B B B B B', D LITERALLY 'C C C C C C C C C C C C C C C C'; D END M;",
-            refused(Number::E205, 1),
+            Refused(Number::E205, 1),
         ),
         (
             b"M: DO; DECLARE A LITERALLY '7', B LITERALLY 'A', C LITERALLY 'B', D LITERALLY 'C', E LITERALLY 'D', F LITERALLY 'E', G LITERALLY 'F', H LITERALLY 'G', I LITERALLY 'H'; X = H;\nX = I; END;",
-            refused(Number::E202, 2),
+            Refused(Number::E202, 2),
         ),
         (
             b"M: DO; DECLARE FOREVER LITERALLY 'WHILE 1'; DO FOREVER; OUTPUT(300H) = 1; HALT; END; END M;",
@@ -225,35 +221,35 @@ fn literals(rt: HostRuntime) {
         ),
         (
             b"M: DO; DECLARE X LITERALLY 'X'; X = 1; END M;",
-            refused(Number::E202, 1),
+            Refused(Number::E202, 1),
         ),
         (
             b"M: DO; DECLARE X LITERALLY '#';\nEND M;",
-            refused(Number::E101, 1),
+            Refused(Number::E101, 1),
         ),
         (
             b"M: DO; DECLARE X LITERALLY\n'/* x'; END M;",
-            refused(Number::E103, 2),
+            Refused(Number::E103, 2),
         ),
         (
             b"M: DO; DECLARE X LITERALLY '12X'; END M;",
-            refused(Number::E104, 1),
+            Refused(Number::E104, 1),
         ),
         (
             b"M: DO; DECLARE X LITERALLY 'A2345678901234567890123456789012'; END M;",
-            refused(Number::E105, 1),
+            Refused(Number::E105, 1),
         ),
         (
             b"M: DO; DECLARE X LITERALLY 'it''s'; END M;",
-            refused(Number::E204, 1),
+            Refused(Number::E204, 1),
         ),
         (
             b"M: DO; DECLARE X LITERALLY 'a''#'''; END M;",
-            refused(Number::E101, 1),
+            Refused(Number::E101, 1),
         ),
         (
             b"M: DO; DECLARE M LITERALLY 'N'; END\nM;",
-            refused(Number::E201, 2),
+            Refused(Number::E201, 2),
         ),
         (
             b"M: DO; DO; DECLARE X LITERALLY 'Y = 1;'; X END; X: ; END;",
@@ -265,18 +261,18 @@ fn literals(rt: HostRuntime) {
         ),
         (
             b"M: DO; DECLARE X LITERALLY '7';\nX = 1; END;",
-            refused(Number::E201, 2),
+            Refused(Number::E201, 2),
         ),
         (
             b"M: DO; DECLARE T LITERALLY 'A =\n1'; END;",
-            refused(Number::E102, 1),
+            Refused(Number::E102, 1),
         ),
         (
             b"M: DO; DECLARE L LITERALLY 'LITERALLY', X L '; ;';\nX END;",
             Fine,
         ),
     ];
-    check(&rt, rt.alloc(), &rows);
+    check(&rt, rt.alloc(), ROWS);
 }
 
 /// A text with a part so many times.
@@ -333,7 +329,7 @@ fn levels(rt: HostRuntime) -> Result<(), Fault> {
                 alloc,
                 &repeated(alloc, before, part, 64, middle, closing, after)?
             ),
-            refused(Number::E203, 2),
+            Refused(Number::E203, 2),
             "in {part:?}"
         );
     }
@@ -347,8 +343,8 @@ fn levels_of_all_kinds(rt: HostRuntime) -> Result<(), Fault> {
     let opening: &[u8] =
         b"DO; DO WHILE 1; DO CASE 1; DO I = 1 TO 2; IF 1 THEN ; ELSE IF 1 THEN DO; ";
     let closing: &[u8] = b"END; END; END; END; END; ";
-    let rows: [(&[u8], Outcome); 2] = [(b"1", Fine), (b"-1", refused(Number::E203, 2))];
-    for (innermost, wanted) in rows {
+    const ROWS: &[(&[u8], Outcome)] = &[(b"1", Fine), (b"-1", Refused(Number::E203, 2))];
+    for (innermost, wanted) in ROWS {
         let statement = repeated(
             alloc,
             b"A = ",
@@ -367,7 +363,7 @@ fn levels_of_all_kinds(rt: HostRuntime) -> Result<(), Fault> {
             closing,
             b"END;",
         )?;
-        assert_eq!(&rt; parsed(alloc, &text), wanted, "in {innermost:?}");
+        assert_eq!(&rt; parsed(alloc, &text), *wanted, "in {innermost:?}");
     }
     Ok(())
 }
@@ -401,7 +397,7 @@ fn many_tokens(rt: HostRuntime) -> Result<(), Fault> {
     let full = repeated(alloc, b"M: DO;", b";", 65_535 - 6, b"", b"", b"\nEND;")?;
     assert_eq!(&rt; parsed(alloc, &full), Fine);
     let over = repeated(alloc, b"M: DO;", b";", 65_535 - 5, b"", b"", b"\nEND;")?;
-    assert_eq!(&rt; parsed(alloc, &over), refused(Number::E205, 2));
+    assert_eq!(&rt; parsed(alloc, &over), Refused(Number::E205, 2));
     Ok(())
 }
 
@@ -425,7 +421,7 @@ fn beginnings(rt: HostRuntime) {
     for length in 0..text.len() {
         assert_eq!(&rt;
             parsed(alloc, &text[..length]),
-            refused(Number::E201, 1),
+            Refused(Number::E201, 1),
             "at {length}"
         );
     }

@@ -47,7 +47,7 @@ fn trees_show_types(rt: HostRuntime) {
 #[test]
 fn trees_show_widths(rt: HostRuntime) {
     let alloc = rt.alloc();
-    let rows: [(&[u8], Option<Width>); 9] = [
+    const ROWS: &[(&[u8], Option<Width>)] = &[
         (
             b"M: DO; DECLARE (A, B) BYTE; A = A + B; END M;",
             Some(Width::Byte),
@@ -85,7 +85,7 @@ fn trees_show_widths(rt: HostRuntime) {
             Some(Width::Byte),
         ),
     ];
-    for (text, wanted) in rows {
+    for (text, wanted) in ROWS {
         let Ok(program) = program_of(alloc, text) else {
             panic!(rt; "it is typed");
         };
@@ -95,7 +95,7 @@ fn trees_show_widths(rt: HostRuntime) {
             }
             _ => None,
         };
-        assert_eq!(rt; width, wanted, "in {text:?}");
+        assert_eq!(rt; width, *wanted, "in {text:?}");
     }
 }
 

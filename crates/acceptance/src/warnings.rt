@@ -24,7 +24,7 @@ fn warned_of_two(alloc: Global, first: &[u8], second: &[u8]) -> Result<Vec<Warni
 #[test]
 fn shared_procedures(rt: HostRuntime) {
     let alloc = rt.alloc();
-    let rows: [(&[u8], &[u32]); 14] = [
+    const ROWS: &[(&[u8], &[u32])] = &[
         (b"M: DO; ; END M;", &[]),
         // main alone, however often
         (
@@ -92,7 +92,7 @@ fn shared_procedures(rt: HostRuntime) {
             &[],
         ),
     ];
-    for (text, wanted) in rows {
+    for (text, wanted) in ROWS {
         let Ok(shared) = warned(alloc, text) else {
             panic!(rt; "it is typed: {text:?}");
         };
