@@ -11,8 +11,9 @@ use Rattle.plm_type.specs.Calls.{graph_of, statements_calls}
 use Rattle.plm_type.specs.Effects.{of_statements}
 use Rattle.plm_type.specs.Interrupts.{called, lets_in, body_effects, text_graph, procedure_lets_in, serves_interrupt}
 use Rattle.plm_type.specs.Reach.{row_of, Leads}
-use Rattle.plm_type.specs.Statements.{is_external, of_body, of_procedure, of_procedures, of_locations, of_main, of_parameters, of_stray, body_for, procedure_for, statements_for, of_entry}
-use Rattle.plm_type.specs.Statements as typed
+use Rattle.plm_type.specs.Statements.{is_external, of_body, of_procedure, of_procedures, of_locations, of_main, of_parameters, of_stray, body_for, procedure_for, of_entry}
+use Rattle.lower.proofs.Typed.{statements_for}
+use Rattle.lower.proofs.Typed as typed
 use Rattle.plm_type.specs.Programs.{declared_procedures, main_tree, procedures_of}
 use Rattle.lower.specs.Code.{has_vector, serves, number_for}
 use Rattle.lower.specs.Lowered.{vector_of, vectors_of}
@@ -25,7 +26,7 @@ use Rattle.icode.specs.Code.{procedure_or_none}
 -- ---- a procedure
 
 module _ (variables : List Variable) (ps : List ProcedureR) (sizes : List ℕ) where
-  external_within : (external : Bool) (p : ProcedureR) → cond external [] (typed.of_statements variables ps p.module (stands.Procedure p.returned) p.body) ≡ []
+  external_within : (external : Bool) (p : ProcedureR) → cond external [] (typed.of_statements variables ps sizes p.module (stands.Procedure p.returned) p.body) ≡ []
       → Within ps (statements_calls (cond external End (statements_for variables ps sizes p.module (stands.Procedure p.returned) p.body))) (cond external [] (of_statements p.body))
   external_within true p h = λ q c. c
   external_within false p h = statements_within ps variables sizes p.module (stands.Procedure p.returned) p.body h
@@ -34,19 +35,19 @@ module _ (variables : List Variable) (ps : List ProcedureR) (sizes : List ℕ) w
   external_lets true p l = absurd l
   external_lets false p l = statements_let variables ps sizes p.module (stands.Procedure p.returned) p.body l
 
-  body_faultless : (p : ProcedureR) → of_procedure variables ps p ≡ [] → of_body variables ps p ≡ []
+  body_faultless : (p : ProcedureR) → of_procedure variables ps sizes p ≡ [] → of_body variables ps sizes p ≡ []
   body_faultless p h =
-      let behind = of_stray p.module p.stray ++ of_body variables ps p in
-      (none_of_both (of_stray p.module p.stray) (of_body variables ps p)
+      let behind = of_stray p.module p.stray ++ of_body variables ps sizes p in
+      (none_of_both (of_stray p.module p.stray) (of_body variables ps sizes p)
       (none_of_both (of_entry ps p) behind
       (none_of_both _ (of_entry ps p ++ behind) (none_of_both (of_parameters variables (is_external p.linkage) p.module p.parameters) _ h).1).1).1).1
 
   -- the rows of the typed trees are among those of the texts
-  row_within : (qs : List ProcedureR) → of_procedures variables ps qs ≡ [] → (p q : ℕ) → Contains (row_of (slice_get (map (λ (y : Procedure). statements_calls y.body) (map (procedure_for variables ps sizes) qs)) p)) q
+  row_within : (qs : List ProcedureR) → of_procedures variables ps sizes qs ≡ [] → (p q : ℕ) → Contains (row_of (slice_get (map (λ (y : Procedure). statements_calls y.body) (map (procedure_for variables ps sizes) qs)) p)) q
       → Contains (row_of (slice_get (map (λ (y : ProcedureR). called ps (body_effects y)) qs) p)) q
   row_within [] h p q c = c
-  row_within (y ∷ qs) h zero q c = external_within (is_external y.linkage) y (body_faultless y (none_of_both (of_procedure variables ps y) (of_procedures variables ps qs) h).0) q c
-  row_within (y ∷ qs) h (suc p) q c = row_within qs (none_of_both (of_procedure variables ps y) (of_procedures variables ps qs) h).1 p q c
+  row_within (y ∷ qs) h zero q c = external_within (is_external y.linkage) y (body_faultless y (none_of_both (of_procedure variables ps sizes y) (of_procedures variables ps sizes qs) h).0) q c
+  row_within (y ∷ qs) h (suc p) q c = row_within qs (none_of_both (of_procedure variables ps sizes y) (of_procedures variables ps sizes qs) h).1 p q c
 
   body_lets : (qs : List ProcedureR) (q : ℕ) → Let (body_of (slice_get (map (procedure_for variables ps sizes) qs) q)) → procedure_lets_in (slice_get qs q) ≡ true
   body_lets [] q l = absurd l
@@ -72,7 +73,7 @@ runs_allowed program names checked good =
     let procedures = procedures_of names in
     let vectors = vectors_of names in
     let main = main_tree names in
-    let faultless = (none_of_both (of_procedures variables ps ps) _ (none_of_both (of_locations variables ps (map declared_location_of names.locations.items)) _ checked.no_fault).1).0 in
+    let faultless = (none_of_both (of_procedures variables ps sizes ps) _ (none_of_both (of_locations variables ps sizes (map declared_location_of names.locations.items)) _ checked.no_fault).1).0 in
     let has : (p q : ℕ) → Contains (row_of (slice_get (graph_of procedures) p)) q → Contains (row_of (slice_get (text_graph ps) p)) q = λ p q c. row_within variables ps sizes ps faultless p q c in
     let quiet : (p q : ℕ) → serves vectors p ≡ true → Leads (text_graph ps) (p ∷ []) q → Let (body_of (slice_get procedures q)) → ⊥ = λ p q s l b. checked.lets_nothing_in p (serves_one ps p s, (q, l, body_lets variables ps sizes ps q b)) in
     record {

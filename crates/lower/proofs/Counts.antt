@@ -24,12 +24,13 @@ use Rattle.plm_type.specs.Rest as rest
 use Rattle.plm_type.specs.Rest.{Expression, Expressions, NoMore, More, Reference, Refer, Subscripts, NoSubscripts, Target}
 use Rattle.plm_type.specs.Shapes.{designated, fixed_place, read_of, store_to, member_stride}
 use Rattle.word86.specs.declared.number.Number.TheVariants.{E401, E402}
-use Rattle.plm_type.specs.Faults.{fault_unless, port_faults, target_faults}
-use Rattle.plm_type.specs.Statements.{of_targets, of_statement, of_statements, of_number, of_index, of_step, statement_for, statements_for, target_trees, assignment, targets, called, step_for}
-use Rattle.plm_type.specs.Trees.{tree_of, trees_of, selector_trees, value_of, location_of, target_of, use_read, use_stored, refer, strided, to_port, operated, read_port, shifted, builtin_value, reference_value, argument_value, measured_value}
+use Rattle.plm_type.specs.Faults.{fault_unless, port_faults}
+use Rattle.plm_type.specs.Statements.{assignment, targets}
+use Rattle.plm_type.specs.Trees.{use_read, use_stored, refer, strided, to_port, operated, read_port, shifted, builtin_value}
 use Rattle.plm_type.specs.Types.{width_of, may_be_numbers}
-use Rattle.plm_type.specs.Typing.{is_plain, is_measure, is_target, first_type, types_of}
+use Rattle.plm_type.specs.Typing.{is_plain, is_measure, is_target, first_type}
 use Rattle.plm_type.specs.Nodes.{is_constant, expression_nodes, expressions_nodes, selector_nodes, reference_nodes, location_nodes, target_nodes, targets_nodes, step_nodes, statement_nodes, statements_nodes}
+use Rattle.lower.proofs.Typed.{tree_of, trees_of, selector_trees, value_of, location_of, target_of, types_of, target_faults, measured_value, argument_value, reference_value, of_number, target_trees, of_targets, called, of_index, step_for, of_step, statement_for, statements_for, of_statement, of_statements}
 use Rattle.lower.proofs.Rooms as typed
 
 -- ---- lists without items
@@ -131,26 +132,26 @@ builtin_count module_index line builtin.Size w es = omega arith
 builtin_count module_index line builtin.Output w es = omega arith
 builtin_count module_index line builtin.OutputWord w es = omega arith
 
-reference_count : (variables : List Variable) (procedures : List ProcedureR) (b : Builtin) (x : ReferenceR') → typed.nodes (reference_value variables procedures b x) ≤ 1
-reference_count variables procedures b (Use p (binding.Variable v) es s) = omega arith
-reference_count variables procedures b (Use p (binding.Procedure q) es s) = omega arith
-reference_count variables procedures b (Use p (binding.Builtin c) es s) = omega arith
-reference_count variables procedures b (Use p binding.Nothing es s) = omega arith
+reference_count : (variables : List Variable) (procedures : List ProcedureR) (objects : List ℕ) (module_index : ℕ) (at : Position) (b : Builtin) (x : ReferenceR') → typed.nodes (reference_value variables procedures objects module_index at b x) ≤ 1
+reference_count variables procedures objects module_index at b (Use p (binding.Variable v) es s) = omega arith
+reference_count variables procedures objects module_index at b (Use p (binding.Procedure q) es s) = omega arith
+reference_count variables procedures objects module_index at b (Use p (binding.Builtin c) es s) = omega arith
+reference_count variables procedures objects module_index at b (Use p binding.Nothing es s) = omega arith
 
-argument_count : (variables : List Variable) (procedures : List ProcedureR) (b : Builtin) (e : ExpressionR) → typed.nodes (argument_value variables procedures b e) ≤ 1
-argument_count variables procedures b (ReferenceR x) = reference_count variables procedures b x
-argument_count variables procedures b (NumberR n) = omega arith
-argument_count variables procedures b (TextR p cs) = omega arith
-argument_count variables procedures b (LocationR l) = omega arith
-argument_count variables procedures b (ParenthesisedR p e) = omega arith
-argument_count variables procedures b (EmbeddedR p x e) = omega arith
-argument_count variables procedures b (UnaryR p o e) = omega arith
-argument_count variables procedures b (BinaryR p o d e) = omega arith
+argument_count : (variables : List Variable) (procedures : List ProcedureR) (objects : List ℕ) (module_index : ℕ) (at : Position) (b : Builtin) (e : ExpressionR) → typed.nodes (argument_value variables procedures objects module_index at b e) ≤ 1
+argument_count variables procedures objects module_index at b (ReferenceR x) = reference_count variables procedures objects module_index at b x
+argument_count variables procedures objects module_index at b (NumberR n) = omega arith
+argument_count variables procedures objects module_index at b (TextR p cs) = omega arith
+argument_count variables procedures objects module_index at b (LocationR l) = omega arith
+argument_count variables procedures objects module_index at b (ParenthesisedR p e) = omega arith
+argument_count variables procedures objects module_index at b (EmbeddedR p x e) = omega arith
+argument_count variables procedures objects module_index at b (UnaryR p o e) = omega arith
+argument_count variables procedures objects module_index at b (BinaryR p o d e) = omega arith
 
-measured_count : (variables : List Variable) (procedures : List ProcedureR) (b : Builtin) (es : ExpressionsR) → typed.nodes (measured_value variables procedures b es) ≤ 1
-measured_count variables procedures b no_expressions = omega arith
-measured_count variables procedures b (expressions e no_expressions) = argument_count variables procedures b e
-measured_count variables procedures b (expressions e (expressions d es)) = omega arith
+measured_count : (variables : List Variable) (procedures : List ProcedureR) (objects : List ℕ) (module_index : ℕ) (at : Position) (b : Builtin) (es : ExpressionsR) → typed.nodes (measured_value variables procedures objects module_index at b es) ≤ 1
+measured_count variables procedures objects module_index at b no_expressions = omega arith
+measured_count variables procedures objects module_index at b (expressions e no_expressions) = argument_count variables procedures objects module_index at b e
+measured_count variables procedures objects module_index at b (expressions e (expressions d es)) = omega arith
 
 -- ---- each expression has a node
 
@@ -182,9 +183,9 @@ module _ (variables : List Variable) (procedures : List ProcedureR) (objects : L
   trees es = trees_of variables procedures objects module_index es
 
   built_in : (p : Position) (b : Builtin) (es : ExpressionsR) (s : SelectorR) (m : Bool) → typed.all_nodes (trees es) ≤ expressions_nodes es
-      → typed.nodes (cond m (measured_value variables procedures b es) (builtin_value module_index p.line b (width_of (first_type (types_of variables procedures es))) (trees es))) ≤ cond m 1 (1 + expressions_nodes es + selector_nodes s)
-  built_in p b es s true h = measured_count variables procedures b es
-  built_in p b es s false h = let k = builtin_count module_index p.line b (width_of (first_type (types_of variables procedures es))) (trees es) in omega (arith, h, k)
+      → typed.nodes (cond m (measured_value variables procedures objects module_index p b es) (builtin_value module_index p.line b (width_of (first_type (types_of variables procedures objects module_index es))) (trees es))) ≤ cond m 1 (1 + expressions_nodes es + selector_nodes s)
+  built_in p b es s true h = measured_count variables procedures objects module_index p b es
+  built_in p b es s false h = let k = builtin_count module_index p.line b (width_of (first_type (types_of variables procedures objects module_index es))) (trees es) in omega (arith, h, k)
 
   -- OUTPUT without a port is a fault of types
   loose_port : (b : Builtin) (es : ExpressionsR) (s : SelectorR) (m : Bool) → typed.all_nodes (trees es) ≤ expressions_nodes es
@@ -270,7 +271,7 @@ module _ (variables : List Variable) (procedures : List ProcedureR) (objects : L
   no_port p builtin.Input s e = omega arith
   no_port p builtin.InputWord s e = omega arith
 
-  tight_port : (p : Position) (b : Builtin) (es : ExpressionsR) (s : SelectorR) → target_faults variables procedures module_index (Use p (binding.Builtin b) es s) ≡ []
+  tight_port : (p : Position) (b : Builtin) (es : ExpressionsR) (s : SelectorR) → target_faults variables procedures objects module_index (Use p (binding.Builtin b) es s) ≡ []
       → typed.target_nodes (to_port b (trees es)) ≤ cond (is_target b) (expressions_nodes es) (1 + expressions_nodes es + selector_nodes s)
   tight_port p b no_expressions s e = no_port p b s e
   tight_port p b (expressions d no_expressions) s e =
@@ -279,7 +280,7 @@ module _ (variables : List Variable) (procedures : List ProcedureR) (objects : L
       let h = positive c in
       either (is_target b) 1 (expression_nodes c + (expression_nodes d + expressions_nodes es)) (1 + (expression_nodes c + (expression_nodes d + expressions_nodes es)) + selector_nodes s) (omega (arith, h)) (omega (arith, h))
 
-  checked_target : (x : ReferenceR') → target_faults variables procedures module_index x ≡ [] → typed.target_nodes (target_of variables procedures objects module_index x) ≤ target_nodes x
+  checked_target : (x : ReferenceR') → target_faults variables procedures objects module_index x ≡ [] → typed.target_nodes (target_of variables procedures objects module_index x) ≤ target_nodes x
   checked_target (Use p (binding.Variable v) es s) e =
       let fs = selector_trees variables procedures objects module_index s in
       let h = stored_count (slice_get variables v) s (refer variables module_index p.line (slice_get variables v) s (trees es) fs) in
@@ -299,14 +300,14 @@ module _ (variables : List Variable) (procedures : List ProcedureR) (objects : L
   targets_sum t [] = omega arith
   targets_sum t (u ∷ us) = let h = targets_sum u us in omega (arith, h)
 
-  targets_count : (xs : ReferencesR) → of_targets variables procedures module_index xs ≡ [] → sum_of (target_trees variables procedures objects module_index xs) ≤ targets_nodes xs
+  targets_count : (xs : ReferencesR) → of_targets variables procedures objects module_index xs ≡ [] → sum_of (target_trees variables procedures objects module_index xs) ≤ targets_nodes xs
   targets_count no_references e = omega arith
   targets_count (references x xs) e =
-      let h = checked_target x (none_left (target_faults variables procedures module_index x) (of_targets variables procedures module_index xs) e) in
-      let i = targets_count xs (none_right (target_faults variables procedures module_index x) (of_targets variables procedures module_index xs) e) in
+      let h = checked_target x (none_left (target_faults variables procedures objects module_index x) (of_targets variables procedures objects module_index xs) e) in
+      let i = targets_count xs (none_right (target_faults variables procedures objects module_index x) (of_targets variables procedures objects module_index xs) e) in
       omega (arith, h, i)
 
-  assignment_count : (xs : ReferencesR) (d : ExpressionR) → of_targets variables procedures module_index xs ≡ []
+  assignment_count : (xs : ReferencesR) (d : ExpressionR) → of_targets variables procedures objects module_index xs ≡ []
       → typed.statement_nodes (assignment (target_trees variables procedures objects module_index xs) (tree d)) ≤ 1 + targets_nodes xs + expression_nodes d
   assignment_count no_references d e = let h = tree_count d in omega (arith, h)
   assignment_count (references x xs) d e =
@@ -315,11 +316,11 @@ module _ (variables : List Variable) (procedures : List ProcedureR) (objects : L
       let j = tree_count d in
       omega (arith, h, i, j)
 
-  called_count : (x : ReferenceR') → typed.nodes (called variables procedures objects module_index x) ≤ reference_nodes x
-  called_count (Use q (binding.Procedure n) es s) = let h = trees_count es in omega (arith, h)
-  called_count (Use q (binding.Variable v) es s) = omega arith
-  called_count (Use q (binding.Builtin b) es s) = use_positive (Use q (binding.Builtin b) es s)
-  called_count (Use q binding.Nothing es s) = omega arith
+  called_count : (p : Position) (x : ReferenceR') → typed.nodes (called variables procedures objects module_index p x) ≤ reference_nodes x
+  called_count p (Use q (binding.Procedure n) es s) = let h = trees_count es in omega (arith, h)
+  called_count p (Use q (binding.Variable v) es s) = omega arith
+  called_count p (Use q (binding.Builtin b) es s) = use_positive (Use q (binding.Builtin b) es s)
+  called_count p (Use q binding.Nothing es s) = omega arith
 
   step_at_most : (e : Expression) → typed.step_nodes e ≤ typed.nodes e
   step_at_most (rest.Constant k) = omega arith
@@ -335,26 +336,26 @@ module _ (variables : List Variable) (procedures : List ProcedureR) (objects : L
   step_at_most (rest.Passing p xs vs) = omega arith
   step_at_most (rest.Running ss) = omega arith
 
-  step_count : (s : Option ExpressionR) → typed.step_nodes (step_for variables procedures objects module_index s) ≤ step_nodes s
-  step_count None = omega arith
-  step_count (Some e) = let h = step_at_most (tree e) in let i = tree_count e in omega (arith, h, i)
+  step_count : (p : Position) (s : Option ExpressionR) → typed.step_nodes (step_for variables procedures objects module_index p s) ≤ step_nodes s
+  step_count p None = omega arith
+  step_count p (Some e) = let h = step_at_most (tree e) in let i = tree_count e in omega (arith, h, i)
 
   -- ---- statements
 
   abbrev faults_for : Around → StatementR → List Found
-  faults_for around s = of_statement variables procedures module_index around s
+  faults_for around s = of_statement variables procedures objects module_index around s
 
   abbrev faults_among : Around → StatementsR → List Found
-  faults_among around ss = of_statements variables procedures module_index around ss
+  faults_among around ss = of_statements variables procedures objects module_index around ss
 
   abbrev number_faults : Position → ExpressionR → List Found
-  number_faults p e = of_number variables procedures module_index p e
+  number_faults p e = of_number variables procedures objects module_index p e
 
   mutual
     statement_count : (around : Around) (s : StatementR) → faults_for around s ≡ [] → typed.statement_nodes (statement_for variables procedures objects module_index around s) ≤ statement_nodes s
     statement_count around (EmptyR p) n = omega arith
-    statement_count around (AssignR xs e) n = assignment_count xs e (none_left (of_targets variables procedures module_index xs) _ n)
-    statement_count around (CallR p x) n = let h = called_count x in omega (arith, h)
+    statement_count around (AssignR xs e) n = assignment_count xs e (none_left (of_targets variables procedures objects module_index xs) _ n)
+    statement_count around (CallR p x) n = let h = called_count p x in omega (arith, h)
     statement_count around (ReturnR p) n = omega arith
     statement_count around (ReturnValueR p e) n = let h = tree_count e in omega (arith, h)
     statement_count around (EnableR p) n = omega arith
@@ -380,12 +381,12 @@ module _ (variables : List Variable) (procedures : List ProcedureR) (objects : L
         let i = statements_count around ss (none_right (number_faults p e) (faults_among around ss) n) in
         omega (arith, h, i)
     statement_count around (IterateR p q m a b s ss) n =
-        let last = of_step variables procedures module_index p s in
+        let last = of_step variables procedures objects module_index p s in
         let h = tree_count a in
         let i = tree_count b in
-        let j = step_count s in
+        let j = step_count p s in
         let k = statements_count around ss (none_right last (faults_among around ss) (none_right (number_faults p b) (last ++ faults_among around ss) (none_right (number_faults p a) (number_faults p b ++ (last ++ faults_among around ss))
-        (none_right (of_index variables procedures module_index p q m) (number_faults p a ++ (number_faults p b ++ (last ++ faults_among around ss))) n)))) in
+        (none_right (of_index variables procedures objects module_index p q m) (number_faults p a ++ (number_faults p b ++ (last ++ faults_among around ss))) n)))) in
         omega (arith, h, i, j, k)
 
     pub statements_count : (around : Around) (ss : StatementsR) → faults_among around ss ≡ [] → typed.statements_nodes (statements_for variables procedures objects module_index around ss) ≤ statements_nodes ss

@@ -19,6 +19,7 @@ pub mod Routines
 pub mod Sound
 pub mod Visits
 pub mod Reached
+pub mod Typed
 pub mod Texts
 pub mod Allowed
 pub mod Whole

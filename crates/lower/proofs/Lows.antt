@@ -23,10 +23,10 @@ use Rattle.plm_type.specs.declared.statements.Around.TheVariants as stands
 use Rattle.plm_type.specs.Rest as rest
 use Rattle.plm_type.specs.Rest.{Expression, Expressions, NoMore, More, Reference, Refer, Subscripts, NoSubscripts, Target, Statements, End, Procedure}
 use Rattle.plm_type.specs.Shapes.{designated, fixed_place, read_of, store_to, member_stride}
-use Rattle.plm_type.specs.Statements.{statement_for, statements_for, target_trees, assignment, targets, called, step_for, is_external, body_for, procedure_for}
-use Rattle.plm_type.specs.Trees.{tree_of, trees_of, selector_trees, value_of, location_of, target_of, use_read, use_stored, refer, strided, operated, read_port, shifted, builtin_value, reference_value, argument_value, measured_value}
+use Rattle.plm_type.specs.Statements.{assignment, targets, is_external, body_for, procedure_for}
+use Rattle.plm_type.specs.Trees.{use_read, use_stored, refer, strided, operated, read_port, shifted, builtin_value}
 use Rattle.plm_type.specs.Types.{width_of}
-use Rattle.plm_type.specs.Typing.{is_measure, is_target, first_type, types_of}
+use Rattle.plm_type.specs.Typing.{is_measure, is_target, first_type}
 use Rattle.plm_type.specs.Nodes.{is_constant}
 use Rattle.plm_type.specs.Leaves.{expression_leaves, expressions_leaves, selector_leaves, reference_leaves, target_leaves, location_leaves, targets_leaves, step_leaves, most_in, most_of, procedures_most, most_leaves}
 use Rattle.plm_decl.specs.declared.names.Names.{Names}
@@ -36,6 +36,7 @@ use Rattle.icode.specs.declared.code.Routine.{Routine}
 use Rattle.icode.specs.declared.code.Routine.TheVariants as routine
 use Rattle.icode.specs.declared.instruction.Instruction.TheVariants.{Finish}
 use Rattle.icode.specs.Levels.{height}
+use Rattle.lower.proofs.Typed.{tree_of, trees_of, selector_trees, value_of, location_of, target_of, types_of, measured_value, argument_value, reference_value, target_trees, called, step_for, statement_for, statements_for}
 use Rattle.lower.specs.Code.{OfMain, kind_of, are_giving, serves, procedure_code}
 use Rattle.lower.specs.Lowered.{vectors_of, program_code}
 use Rattle.lower.proofs.Peaks.{peak, pushed_peak, reference_peak, subscripts_peak, port_peak, target_peak, targets_peak, statement_peak, statements_peak, low, routine_low}
@@ -136,26 +137,26 @@ builtin_peak module_index line builtin.Size w es = omega arith
 builtin_peak module_index line builtin.Output w es = omega arith
 builtin_peak module_index line builtin.OutputWord w es = omega arith
 
-reference_value_peak : (variables : List Variable) (procedures : List ProcedureR) (b : Builtin) (x : ReferenceR') → peak (reference_value variables procedures b x) ≤ 0
-reference_value_peak variables procedures b (Use p (binding.Variable v) es s) = omega arith
-reference_value_peak variables procedures b (Use p (binding.Procedure q) es s) = omega arith
-reference_value_peak variables procedures b (Use p (binding.Builtin c) es s) = omega arith
-reference_value_peak variables procedures b (Use p binding.Nothing es s) = omega arith
+reference_value_peak : (variables : List Variable) (procedures : List ProcedureR) (objects : List ℕ) (module_index : ℕ) (at : Position) (b : Builtin) (x : ReferenceR') → peak (reference_value variables procedures objects module_index at b x) ≤ 0
+reference_value_peak variables procedures objects module_index at b (Use p (binding.Variable v) es s) = omega arith
+reference_value_peak variables procedures objects module_index at b (Use p (binding.Procedure q) es s) = omega arith
+reference_value_peak variables procedures objects module_index at b (Use p (binding.Builtin c) es s) = omega arith
+reference_value_peak variables procedures objects module_index at b (Use p binding.Nothing es s) = omega arith
 
-argument_peak : (variables : List Variable) (procedures : List ProcedureR) (b : Builtin) (e : ExpressionR) → peak (argument_value variables procedures b e) ≤ 0
-argument_peak variables procedures b (ReferenceR x) = reference_value_peak variables procedures b x
-argument_peak variables procedures b (NumberR n) = omega arith
-argument_peak variables procedures b (TextR p cs) = omega arith
-argument_peak variables procedures b (LocationR l) = omega arith
-argument_peak variables procedures b (ParenthesisedR p e) = omega arith
-argument_peak variables procedures b (EmbeddedR p x e) = omega arith
-argument_peak variables procedures b (UnaryR p o e) = omega arith
-argument_peak variables procedures b (BinaryR p o d e) = omega arith
+argument_peak : (variables : List Variable) (procedures : List ProcedureR) (objects : List ℕ) (module_index : ℕ) (at : Position) (b : Builtin) (e : ExpressionR) → peak (argument_value variables procedures objects module_index at b e) ≤ 0
+argument_peak variables procedures objects module_index at b (ReferenceR x) = reference_value_peak variables procedures objects module_index at b x
+argument_peak variables procedures objects module_index at b (NumberR n) = omega arith
+argument_peak variables procedures objects module_index at b (TextR p cs) = omega arith
+argument_peak variables procedures objects module_index at b (LocationR l) = omega arith
+argument_peak variables procedures objects module_index at b (ParenthesisedR p e) = omega arith
+argument_peak variables procedures objects module_index at b (EmbeddedR p x e) = omega arith
+argument_peak variables procedures objects module_index at b (UnaryR p o e) = omega arith
+argument_peak variables procedures objects module_index at b (BinaryR p o d e) = omega arith
 
-measured_peak : (variables : List Variable) (procedures : List ProcedureR) (b : Builtin) (es : ExpressionsR) → peak (measured_value variables procedures b es) ≤ 0
-measured_peak variables procedures b no_expressions = omega arith
-measured_peak variables procedures b (expressions e no_expressions) = argument_peak variables procedures b e
-measured_peak variables procedures b (expressions e (expressions d es)) = omega arith
+measured_peak : (variables : List Variable) (procedures : List ProcedureR) (objects : List ℕ) (module_index : ℕ) (at : Position) (b : Builtin) (es : ExpressionsR) → peak (measured_value variables procedures objects module_index at b es) ≤ 0
+measured_peak variables procedures objects module_index at b no_expressions = omega arith
+measured_peak variables procedures objects module_index at b (expressions e no_expressions) = argument_peak variables procedures objects module_index at b e
+measured_peak variables procedures objects module_index at b (expressions e (expressions d es)) = omega arith
 
 one_leaf : (x : ReferenceR') → 1 ≤ reference_leaves x
 one_leaf (Use p m es s) = cases (is_constant m)
@@ -181,9 +182,9 @@ module _ (variables : List Variable) (procedures : List ProcedureR) (objects : L
   member_trees s = selector_trees variables procedures objects module_index s
 
   built_in : (p : Position) (b : Builtin) (es : ExpressionsR) (s : SelectorR) (m : Bool) → pushed_peak (trees es) ≤ expressions_leaves es
-      → suc (peak (cond m (measured_value variables procedures b es) (builtin_value module_index p.line b (width_of (first_type (types_of variables procedures es))) (trees es)))) ≤ cond m 1 (1 + expressions_leaves es + selector_leaves s)
-  built_in p b es s true h = let k = measured_peak variables procedures b es in omega (arith, k)
-  built_in p b es s false h = let k = builtin_peak module_index p.line b (width_of (first_type (types_of variables procedures es))) (trees es) in omega (arith, h, k)
+      → suc (peak (cond m (measured_value variables procedures objects module_index p b es) (builtin_value module_index p.line b (width_of (first_type (types_of variables procedures objects module_index es))) (trees es)))) ≤ cond m 1 (1 + expressions_leaves es + selector_leaves s)
+  built_in p b es s true h = let k = measured_peak variables procedures objects module_index p b es in omega (arith, k)
+  built_in p b es s false h = let k = builtin_peak module_index p.line b (width_of (first_type (types_of variables procedures objects module_index es))) (trees es) in omega (arith, h, k)
 
   mutual
     pub tree_peak : (e : ExpressionR) → suc (peak (tree e)) ≤ expression_leaves e
@@ -267,21 +268,21 @@ module _ (variables : List Variable) (procedures : List ProcedureR) (objects : L
       let j = tree_peak d in
       omega (arith, h, i, j)
 
-  called_peak : (x : ReferenceR') → peak (called variables procedures objects module_index x) ≤ reference_leaves x
-  called_peak (Use q (binding.Procedure n) es s) = let h = trees_peak es in omega (arith, h)
-  called_peak (Use q (binding.Variable v) es s) = omega arith
-  called_peak (Use q (binding.Builtin b) es s) = omega arith
-  called_peak (Use q binding.Nothing es s) = omega arith
+  called_peak : (p : Position) (x : ReferenceR') → peak (called variables procedures objects module_index p x) ≤ reference_leaves x
+  called_peak p (Use q (binding.Procedure n) es s) = let h = trees_peak es in omega (arith, h)
+  called_peak p (Use q (binding.Variable v) es s) = omega arith
+  called_peak p (Use q (binding.Builtin b) es s) = omega arith
+  called_peak p (Use q binding.Nothing es s) = omega arith
 
-  step_peak : (s : Option ExpressionR) → peak (step_for variables procedures objects module_index s) ≤ step_leaves s
-  step_peak None = omega arith
-  step_peak (Some e) = let h = tree_peak e in omega (arith, h)
+  step_peak : (p : Position) (s : Option ExpressionR) → peak (step_for variables procedures objects module_index p s) ≤ step_leaves s
+  step_peak p None = omega arith
+  step_peak p (Some e) = let h = tree_peak e in omega (arith, h)
 
   mutual
     statement_low : (around : Around) (s : StatementR) → statement_peak (statement_for variables procedures objects module_index around s) ≤ most_in s
     statement_low around (EmptyR p) = omega arith
     statement_low around (AssignR xs e) = assignment_peak xs e
-    statement_low around (CallR p x) = called_peak x
+    statement_low around (CallR p x) = called_peak p x
     statement_low around (ReturnR p) = omega arith
     statement_low around (ReturnValueR p e) = let h = tree_peak e in omega (arith, h)
     statement_low around (EnableR p) = omega arith
@@ -295,7 +296,7 @@ module _ (variables : List Variable) (procedures : List ProcedureR) (objects : L
     statement_low around (IterateR p q m a b s ss) =
         let h = tree_peak a in
         let i = tree_peak b in
-        let j = step_peak s in
+        let j = step_peak p s in
         let k = statements_low around ss in
         omega (arith, h, i, j, k)
 

@@ -8,11 +8,12 @@ use Rattle.plm_decl.specs.Names.{ProcedureR, MainR}
 use Rattle.plm_type.specs.declared.statements.Around.TheVariants as stands
 use Rattle.plm_type.specs.Rest.{Statements, End, Procedure}
 use Rattle.plm_type.specs.Faults.{fault_unless}
-use Rattle.plm_type.specs.Statements.{of_statements, statements_for, is_external, of_parameters, of_stray, interrupt_fits, of_body, of_procedure, of_procedures, of_locations, of_main, body_for, procedure_for, main_for, of_entry}
+use Rattle.plm_type.specs.Statements.{is_external, of_parameters, of_stray, interrupt_fits, of_body, of_procedure, of_procedures, of_locations, of_main, body_for, procedure_for, main_for, of_entry}
 use Rattle.plm_type.specs.Nodes.{statements_nodes, procedures_nodes}
 use Rattle.word86.specs.declared.number.Number.TheVariants.{E401}
 use Rattle.icode.specs.declared.code.Routine.TheVariants as routine
 use Rattle.icode.specs.Room.{room_in}
+use Rattle.lower.proofs.Typed.{statements_for, of_statements}
 use Rattle.lower.specs.Code.{OfMain, kind_of, are_giving, serves, routine_code, procedure_code, code}
 use Rattle.lower.specs.Well.{AreStatements}
 use Rattle.plm_decl.specs.declared.names.Names.{Names}
@@ -51,9 +52,9 @@ sum_fits f (p ∷ ps) each =
 
 module _ (variables : List Variable) (declared : List ProcedureR) (sizes : List ℕ) where
   abbrev body_faults : ProcedureR → List Found
-  body_faults p = of_body variables declared p
+  body_faults p = of_body variables declared sizes p
 
-  no_fault_in : (ps : List ProcedureR) (q : ℕ) (p : ProcedureR) → of_procedures variables declared ps ≡ [] → slice_get ps q ≡ Some p → body_faults p ≡ []
+  no_fault_in : (ps : List ProcedureR) (q : ℕ) (p : ProcedureR) → of_procedures variables declared sizes ps ≡ [] → slice_get ps q ≡ Some p → body_faults p ≡ []
   no_fault_in [] q p none got = absurd (nothing_there got)
     where
       nothing_there : None ≡ Some p → ⊥
@@ -65,14 +66,14 @@ module _ (variables : List Variable) (declared : List ProcedureR) (sizes : List 
       (none_right (of_entry declared r) behind
       (none_right fits (of_entry declared r ++ behind)
       (none_right (of_parameters variables (is_external r.linkage) r.module r.parameters) (fits ++ (of_entry declared r ++ behind))
-      (none_left (of_procedure variables declared r) (of_procedures variables declared ps) none)))) in
+      (none_left (of_procedure variables declared sizes r) (of_procedures variables declared sizes ps) none)))) in
       subst (λ x. body_faults x ≡ []) (ap (λ (o : Option ProcedureR). elim o [ None ↦ r | Some x ↦ x ]) got) here
-  no_fault_in (r ∷ ps) (suc q) p none got = no_fault_in ps q p (none_right (of_procedure variables declared r) (of_procedures variables declared ps) none) got
+  no_fault_in (r ∷ ps) (suc q) p none got = no_fault_in ps q p (none_right (of_procedure variables declared sizes r) (of_procedures variables declared sizes ps) none) got
 
   body_count : (p : ProcedureR) → body_faults p ≡ [] → typed.statements_nodes (body_for variables declared sizes p) ≤ statements_nodes p.body
   body_count p = cases (is_external p.linkage)
     where
-      cases : (b : Bool) → cond b [] (of_statements variables declared p.module (stands.Procedure p.returned) p.body) ≡ []
+      cases : (b : Bool) → cond b [] (of_statements variables declared sizes p.module (stands.Procedure p.returned) p.body) ≡ []
           → typed.statements_nodes (cond b End (statements_for variables declared sizes p.module (stands.Procedure p.returned) p.body)) ≤ statements_nodes p.body
       cases true none = omega arith
       cases false none = statements_count variables declared sizes p.module (stands.Procedure p.returned) p.body none
@@ -82,7 +83,7 @@ module _ (variables : List Variable) (declared : List ProcedureR) (sizes : List 
 
   module _ (MayCall : ℕ → Type 0) (vectors : List (Option ℕ)) (main : Statements)
       (bodies : (q : ℕ) (procedure : Procedure) → slice_get procs q ≡ Some procedure → AreStatements sizes procs MayCall (kind_of (serves vectors q) (are_giving procedure.body)) procedure.body)
-      (none : of_procedures variables declared declared ≡ []) where
+      (none : of_procedures variables declared sizes declared ≡ []) where
     procedure_fits : (q : ℕ) (p : ProcedureR) → slice_get declared q ≡ Some p → room_in (code procs vectors main (routine.Procedure q)) + 12 ≤ 46 * (1 + statements_nodes p.body)
     procedure_fits q p got =
         let body = body_for variables declared sizes p in
@@ -95,7 +96,7 @@ module _ (variables : List Variable) (declared : List ProcedureR) (sizes : List 
     pub procedures_fit : sum_below (λ q. room_in (code procs vectors main (routine.Procedure q))) (length declared) + 12 * length declared ≤ 46 * procedures_nodes declared
     procedures_fit = sum_fits (λ q. room_in (code procs vectors main (routine.Procedure q))) declared procedure_fits
 
-  pub main_fits : (MayCall : ℕ → Type 0) (vectors : List (Option ℕ)) (m : MainR) → of_main variables declared m ≡ []
+  pub main_fits : (MayCall : ℕ → Type 0) (vectors : List (Option ℕ)) (m : MainR) → of_main variables declared sizes m ≡ []
       → AreStatements sizes procs MayCall OfMain (main_for variables declared sizes m) → room_in (code procs vectors (main_for variables declared sizes m) routine.Main) ≤ 46 * statements_nodes m.statements + 5
   main_fits MayCall vectors m none is =
       let h = typed.main_room sizes procs MayCall (main_for variables declared sizes m) is in
@@ -115,9 +116,9 @@ programs_fit program names checked well =
     let sizes = sizes_of names in
     let vectors = vectors_of names in
     let MayCall : ℕ → Type 0 = λ p. serves vectors p ≡ false in
-    let both = none_right (of_locations variables declared (map declared_location_of names.locations.items)) (of_procedures variables declared declared ++ of_main variables declared (main_of names.main)) checked.no_fault in
-    let of_each = none_left (of_procedures variables declared declared) (of_main variables declared (main_of names.main)) both in
-    let of_last = none_right (of_procedures variables declared declared) (of_main variables declared (main_of names.main)) both in
+    let both = none_right (of_locations variables declared sizes (map declared_location_of names.locations.items)) (of_procedures variables declared sizes declared ++ of_main variables declared sizes (main_of names.main)) checked.no_fault in
+    let of_each = none_left (of_procedures variables declared sizes declared) (of_main variables declared sizes (main_of names.main)) both in
+    let of_last = none_right (of_procedures variables declared sizes declared) (of_main variables declared sizes (main_of names.main)) both in
     let sum = room_is_sum names (length declared) in
     let h = procedures_fit variables declared sizes MayCall vectors (main_tree names) well.bodies of_each in
     record { main = main_fits variables declared sizes MayCall vectors (main_of names.main) of_last well.main_body; procedures = omega (arith, sum, h) }

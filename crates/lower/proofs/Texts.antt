@@ -26,10 +26,11 @@ use Rattle.plm_type.specs.Rest as rest
 use Rattle.plm_type.specs.Typing.{is_measure, is_target}
 use Rattle.plm_type.specs.Types.{width_of}
 use Rattle.plm_type.specs.Shapes.{fixed_place, designated, read_of, store_to}
-use Rattle.plm_type.specs.Trees.{entry_of, strided, use_read, use_stored, refer, builtin_value, measured_value, argument_value, reference_value, operated, shifted, read_port, to_port, tree_of, trees_of, selector_trees, value_of, location_of, target_of}
-use Rattle.plm_type.specs.Statements.{targets, assignment, target_trees, called, step_for, statement_for, statements_for}
-use Rattle.plm_type.specs.Statements as typed
-use Rattle.plm_type.specs.Faults.{fault_unless, faults_of, faults_in, selector_faults, value_faults, location_faults, target_faults}
+use Rattle.plm_type.specs.Trees.{entry_of, strided, use_read, use_stored, refer, builtin_value, operated, shifted, read_port, to_port}
+use Rattle.plm_type.specs.Statements.{targets, assignment}
+use Rattle.lower.proofs.Typed.{tree_of, trees_of, selector_trees, value_of, location_of, target_of, faults_of, faults_in, selector_faults, value_faults, location_faults, target_faults, measured_value, argument_value, reference_value, target_trees, called, step_for, statement_for, statements_for}
+use Rattle.lower.proofs.Typed as typed
+use Rattle.plm_type.specs.Faults.{fault_unless}
 use Rattle.plm_type.specs.Calls.{calls_in, argument_calls, reference_calls, subscript_calls, target_calls, targets_calls, statement_calls, statements_calls}
 use Rattle.plm_type.specs.Effects.{of_expression, of_list, of_selector, of_parts, of_value, of_location, of_targets, of_step, of_statement, of_statements}
 use Rattle.plm_type.specs.Interrupts as interrupts
@@ -150,27 +151,27 @@ module _ (ps : List ProcedureR) where
     builtin_within _ line w es fs f = none fs
 
     -- what LENGTH, LAST and SIZE give is a constant
-    reference_within : (b : Builtin) (x : ReferenceR') (fs : List Effect) → Within (calls_in (reference_value variables ps b x)) fs
-    reference_within b (Use p (binding.Variable v) es s) fs = none fs
-    reference_within b (Use p _ es s) fs = none fs
+    reference_within : (at : Position) (b : Builtin) (x : ReferenceR') (fs : List Effect) → Within (calls_in (reference_value variables ps sizes m at b x)) fs
+    reference_within at b (Use p (binding.Variable v) es s) fs = none fs
+    reference_within at b (Use p _ es s) fs = none fs
 
-    argument_within : (b : Builtin) (e : ExpressionR) (fs : List Effect) → Within (calls_in (argument_value variables ps b e)) fs
-    argument_within b (ReferenceR x) fs = reference_within b x fs
-    argument_within b _ fs = none fs
+    argument_within : (at : Position) (b : Builtin) (e : ExpressionR) (fs : List Effect) → Within (calls_in (argument_value variables ps sizes m at b e)) fs
+    argument_within at b (ReferenceR x) fs = reference_within at b x fs
+    argument_within at b _ fs = none fs
 
-    measured_within : (b : Builtin) (es : ExpressionsR) (fs : List Effect) → Within (calls_in (measured_value variables ps b es)) fs
-    measured_within b no_expressions fs = none fs
-    measured_within b (expressions e no_expressions) fs = argument_within b e fs
-    measured_within b (expressions e (expressions d es)) fs = none fs
+    measured_within : (at : Position) (b : Builtin) (es : ExpressionsR) (fs : List Effect) → Within (calls_in (measured_value variables ps sizes m at b es)) fs
+    measured_within at b no_expressions fs = none fs
+    measured_within at b (expressions e no_expressions) fs = argument_within at b e fs
+    measured_within at b (expressions e (expressions d es)) fs = none fs
 
     -- what a measure holds is not evaluated
-    either_within : (b : Builtin) (es : ExpressionsR) (s : SelectorR) (measures : Bool) (fs gs : List Found) → cond measures fs (faults_in variables ps m es ++ gs) ≡ []
-        → (faults_in variables ps m es ≡ [] → Within (argument_calls (trees_of variables ps sizes m es)) (of_list es)) → (line : ℕ) (w : Width)
-        → Within (calls_in (cond measures (measured_value variables ps b es) (builtin_value m line b w (trees_of variables ps sizes m es)))) (cond measures [] (of_list es ++ of_selector s))
-    either_within b es s true fs gs h f line w = measured_within b es []
-    either_within b es s false fs gs h f line w =
+    either_within : (p : Position) (b : Builtin) (es : ExpressionsR) (s : SelectorR) (measures : Bool) (fs gs : List Found) → cond measures fs (faults_in variables ps sizes m es ++ gs) ≡ []
+        → (faults_in variables ps sizes m es ≡ [] → Within (argument_calls (trees_of variables ps sizes m es)) (of_list es)) → (w : Width)
+        → Within (calls_in (cond measures (measured_value variables ps sizes m p b es) (builtin_value m p.line b w (trees_of variables ps sizes m es)))) (cond measures [] (of_list es ++ of_selector s))
+    either_within p b es s true fs gs h f w = measured_within p b es []
+    either_within p b es s false fs gs h f w =
         let all = trees_of variables ps sizes m es in
-        builtin_within b line w all (of_list es ++ of_selector s) (left (argument_calls all) (of_list es) (of_selector s) (f (none_of_both (faults_in variables ps m es) gs h).0))
+        builtin_within b p.line w all (of_list es ++ of_selector s) (left (argument_calls all) (of_list es) (of_selector s) (f (none_of_both (faults_in variables ps sizes m es) gs h).0))
 
     called_within : (n : ℕ) (xs : List ℕ) (fs : List Effect) → Within xs fs → Within (entry_of (slice_get ps n) ∷ xs) (Calls n ∷ fs)
     called_within n xs fs f q c =
@@ -179,48 +180,48 @@ module _ (ps : List ProcedureR) where
         (⊎_elim (λ l. Contains-append_left (entry ∷ []) (interrupts.called ps fs) q l) (λ r. Contains-append_right (entry ∷ []) (interrupts.called ps fs) q (f q r)) (Contains-append_cases (entry ∷ []) xs q c))
 
     mutual
-      pub expression_within : (e : ExpressionR) → faults_of variables ps m e ≡ [] → Within (calls_in (tree_of variables ps sizes m e)) (of_expression e)
+      pub expression_within : (e : ExpressionR) → faults_of variables ps sizes m e ≡ [] → Within (calls_in (tree_of variables ps sizes m e)) (of_expression e)
       expression_within (NumberR n) h = none []
       expression_within (TextR p cs) h = none []
       expression_within (ReferenceR x) h = value_within x h
       expression_within (LocationR l) h = location_within l h
       expression_within (ParenthesisedR p e) h = expression_within e h
       expression_within (EmbeddedR p x e) h =
-          let a = none_of_both (target_faults variables ps m x) _ h in
+          let a = none_of_both (target_faults variables ps sizes m x) _ h in
           all (calls_in (tree_of variables ps sizes m e)) (target_calls (target_of variables ps sizes m x)) (of_parts x ++ of_expression e)
-          (right (calls_in (tree_of variables ps sizes m e)) (of_parts x) (of_expression e) (expression_within e (none_of_both (faults_of variables ps m e) _ a.1).0))
+          (right (calls_in (tree_of variables ps sizes m e)) (of_parts x) (of_expression e) (expression_within e (none_of_both (faults_of variables ps sizes m e) _ a.1).0))
           (left (target_calls (target_of variables ps sizes m x)) (of_parts x) (of_expression e) (target_within x a.0))
-      expression_within (UnaryR p o e) h = expression_within e (none_of_both (faults_of variables ps m e) _ h).0
+      expression_within (UnaryR p o e) h = expression_within e (none_of_both (faults_of variables ps sizes m e) _ h).0
       expression_within (BinaryR p o a b) h =
-          let f = none_of_both (faults_of variables ps m a) _ h in
-          both (calls_in (tree_of variables ps sizes m a)) (calls_in (tree_of variables ps sizes m b)) (of_expression a) (of_expression b) (expression_within a f.0) (expression_within b (none_of_both (faults_of variables ps m b) _ f.1).0)
+          let f = none_of_both (faults_of variables ps sizes m a) _ h in
+          both (calls_in (tree_of variables ps sizes m a)) (calls_in (tree_of variables ps sizes m b)) (of_expression a) (of_expression b) (expression_within a f.0) (expression_within b (none_of_both (faults_of variables ps sizes m b) _ f.1).0)
 
-      expressions_within : (es : ExpressionsR) → faults_in variables ps m es ≡ [] → Within (argument_calls (trees_of variables ps sizes m es)) (of_list es)
+      expressions_within : (es : ExpressionsR) → faults_in variables ps sizes m es ≡ [] → Within (argument_calls (trees_of variables ps sizes m es)) (of_list es)
       expressions_within no_expressions h = none []
       expressions_within (expressions e es) h =
-          let f = none_of_both (faults_of variables ps m e) _ h in
+          let f = none_of_both (faults_of variables ps sizes m e) _ h in
           both (calls_in (tree_of variables ps sizes m e)) (argument_calls (trees_of variables ps sizes m es)) (of_expression e) (of_list es) (expression_within e f.0) (expressions_within es f.1)
 
-      selector_within : (s : SelectorR) → selector_faults variables ps m s ≡ [] → Within (argument_calls (selector_trees variables ps sizes m s)) (of_selector s)
+      selector_within : (s : SelectorR) → selector_faults variables ps sizes m s ≡ [] → Within (argument_calls (selector_trees variables ps sizes m s)) (of_selector s)
       selector_within no_member h = none []
       selector_within (member p n) h = none []
       selector_within (member_at p n e) h = all (calls_in (tree_of variables ps sizes m e)) [] (of_expression e) (expression_within e h) (none (of_expression e))
 
-      value_within : (x : ReferenceR') → value_faults variables ps m x ≡ [] → Within (calls_in (value_of variables ps sizes m x)) (of_value x)
+      value_within : (x : ReferenceR') → value_faults variables ps sizes m x ≡ [] → Within (calls_in (value_of variables ps sizes m x)) (of_value x)
       value_within (Use p (binding.Variable v) es s) h =
-          let f = none_of_both (faults_in variables ps m es) (selector_faults variables ps m s) (none_of_both (faults_in variables ps m es ++ selector_faults variables ps m s) _ h).0 in
+          let f = none_of_both (faults_in variables ps sizes m es) (selector_faults variables ps sizes m s) (none_of_both (faults_in variables ps sizes m es ++ selector_faults variables ps sizes m s) _ h).0 in
           use_read_within (slice_get variables v) s (refer variables m p.line (slice_get variables v) s (trees_of variables ps sizes m es) (selector_trees variables ps sizes m s)) (of_list es ++ of_selector s)
           (refer_within p.line (slice_get variables v) s (trees_of variables ps sizes m es) (selector_trees variables ps sizes m s) (of_list es ++ of_selector s)
           (left (argument_calls (trees_of variables ps sizes m es)) (of_list es) (of_selector s) (expressions_within es f.0)) (right (argument_calls (selector_trees variables ps sizes m s)) (of_list es) (of_selector s) (selector_within s f.1)))
       value_within (Use p (binding.Procedure n) es s) h =
           called_within n (argument_calls (trees_of variables ps sizes m es)) (of_list es ++ of_selector s)
-          (left (argument_calls (trees_of variables ps sizes m es)) (of_list es) (of_selector s) (expressions_within es (none_of_both (faults_in variables ps m es) _ h).0))
-      value_within (Use p (binding.Builtin b) es s) h = either_within b es s (is_measure b) _ _ (none_of_both (fault_unless m _ _ p) _ h).1 (λ k. expressions_within es k) p.line _
+          (left (argument_calls (trees_of variables ps sizes m es)) (of_list es) (of_selector s) (expressions_within es (none_of_both (faults_in variables ps sizes m es) _ h).0))
+      value_within (Use p (binding.Builtin b) es s) h = either_within p b es s (is_measure b) _ _ (none_of_both (fault_unless m _ _ p) _ h).1 (λ k. expressions_within es k) _
       value_within (Use p binding.Nothing es s) h = none (of_list es ++ of_selector s)
 
-      location_within : (l : LocationR') → location_faults variables ps m l ≡ [] → Within (calls_in (location_of variables ps sizes m l)) (of_location l)
+      location_within : (l : LocationR') → location_faults variables ps sizes m l ≡ [] → Within (calls_in (location_of variables ps sizes m l)) (of_location l)
       location_within (LocationOf p f (Use q (binding.Variable v) es s)) h =
-          let g = none_of_both (faults_in variables ps m es) (selector_faults variables ps m s) (none_of_both (faults_in variables ps m es ++ selector_faults variables ps m s) _ h).0 in
+          let g = none_of_both (faults_in variables ps sizes m es) (selector_faults variables ps sizes m s) (none_of_both (faults_in variables ps sizes m es ++ selector_faults variables ps sizes m s) _ h).0 in
           refer_within q.line (slice_get variables v) s (trees_of variables ps sizes m es) (selector_trees variables ps sizes m s) (of_list es ++ of_selector s)
           (left (argument_calls (trees_of variables ps sizes m es)) (of_list es) (of_selector s) (expressions_within es g.0)) (right (argument_calls (selector_trees variables ps sizes m s)) (of_list es) (of_selector s) (selector_within s g.1))
       location_within (LocationOf p f (Use q (binding.Procedure n) es s)) h = none (of_parts (Use q (binding.Procedure n) es s))
@@ -228,14 +229,14 @@ module _ (ps : List ProcedureR) where
       location_within (LocationOf p f (Use q binding.Nothing es s)) h = none (of_parts (Use q binding.Nothing es s))
       location_within (ConstantsOf p f k) h = none []
 
-      target_within : (x : ReferenceR') → target_faults variables ps m x ≡ [] → Within (target_calls (target_of variables ps sizes m x)) (of_parts x)
+      target_within : (x : ReferenceR') → target_faults variables ps sizes m x ≡ [] → Within (target_calls (target_of variables ps sizes m x)) (of_parts x)
       target_within (Use p (binding.Variable v) es s) h =
-          let f = none_of_both (faults_in variables ps m es) (selector_faults variables ps m s) (none_of_both (faults_in variables ps m es ++ selector_faults variables ps m s) _ h).0 in
+          let f = none_of_both (faults_in variables ps sizes m es) (selector_faults variables ps sizes m s) (none_of_both (faults_in variables ps sizes m es ++ selector_faults variables ps sizes m s) _ h).0 in
           use_stored_within (slice_get variables v) s (refer variables m p.line (slice_get variables v) s (trees_of variables ps sizes m es) (selector_trees variables ps sizes m s)) (of_list es ++ of_selector s)
           (refer_within p.line (slice_get variables v) s (trees_of variables ps sizes m es) (selector_trees variables ps sizes m s) (of_list es ++ of_selector s)
           (left (argument_calls (trees_of variables ps sizes m es)) (of_list es) (of_selector s) (expressions_within es f.0)) (right (argument_calls (selector_trees variables ps sizes m s)) (of_list es) (of_selector s) (selector_within s f.1)))
       target_within (Use p (binding.Builtin b) es s) h =
-          let f = none_of_both (faults_in variables ps m es) _ h in
+          let f = none_of_both (faults_in variables ps sizes m es) _ h in
           let port = unless (is_target b) m _ p (none_of_both (fault_unless m (is_target b) _ p) _ f.1).0 in
           subst (λ c. Within (target_calls (to_port b (trees_of variables ps sizes m es))) (cond c [] (of_list es ++ of_selector s))) (sym (target_measures b port))
           (left (target_calls (to_port b (trees_of variables ps sizes m es))) (of_list es) (of_selector s) (to_port_within (trees_of variables ps sizes m es) (of_list es) (expressions_within es f.0) b))
@@ -257,73 +258,73 @@ module _ (ps : List ProcedureR) where
     assignment_within [] e es fs f g = right (calls_in e) es fs g
     assignment_within (t ∷ ts) e es fs f g = all (calls_in e) (targets_calls (targets t ts)) (es ++ fs) (right (calls_in e) es fs g) (left (targets_calls (targets t ts)) es fs (λ q c. f q (targets_within t ts q c)))
 
-    target_trees_within : (xs : ReferencesR) → typed.of_targets variables ps m xs ≡ [] → Within (list_calls (target_trees variables ps sizes m xs)) (of_targets xs)
+    target_trees_within : (xs : ReferencesR) → typed.of_targets variables ps sizes m xs ≡ [] → Within (list_calls (target_trees variables ps sizes m xs)) (of_targets xs)
     target_trees_within no_references h = none []
     target_trees_within (references x xs) h =
-        let f = none_of_both (target_faults variables ps m x) (typed.of_targets variables ps m xs) h in
+        let f = none_of_both (target_faults variables ps sizes m x) (typed.of_targets variables ps sizes m xs) h in
         both (target_calls (target_of variables ps sizes m x)) (list_calls (target_trees variables ps sizes m xs)) (of_parts x) (of_targets xs) (target_within x f.0) (target_trees_within xs f.1)
 
-    call_within : (p : Position) (x : ReferenceR') → typed.of_call variables ps m p x ≡ [] → Within (calls_in (called variables ps sizes m x)) (of_value x)
+    call_within : (p : Position) (x : ReferenceR') → typed.of_call variables ps sizes m p x ≡ [] → Within (calls_in (called variables ps sizes m p x)) (of_value x)
     call_within p (Use r (binding.Procedure n) es s) h =
         called_within n (argument_calls (trees_of variables ps sizes m es)) (of_list es ++ of_selector s)
-        (left (argument_calls (trees_of variables ps sizes m es)) (of_list es) (of_selector s) (expressions_within es (none_of_both (faults_in variables ps m es) _ h).0))
+        (left (argument_calls (trees_of variables ps sizes m es)) (of_list es) (of_selector s) (expressions_within es (none_of_both (faults_in variables ps sizes m es) _ h).0))
     call_within p (Use r (binding.Variable v) es s) h = none (of_value (Use r (binding.Variable v) es s))
     call_within p (Use r (binding.Builtin b) es s) h = none (of_value (Use r (binding.Builtin b) es s))
     call_within p (Use r binding.Nothing es s) h = none (of_value (Use r binding.Nothing es s))
 
-    step_within : (p : Position) (o : Option ExpressionR) → typed.of_step variables ps m p o ≡ [] → Within (calls_in (step_for variables ps sizes m o)) (of_step o)
+    step_within : (p : Position) (o : Option ExpressionR) → typed.of_step variables ps sizes m p o ≡ [] → Within (calls_in (step_for variables ps sizes m p o)) (of_step o)
     step_within p None h = none []
-    step_within p (Some e) h = expression_within e (none_of_both (faults_of variables ps m e) _ h).0
+    step_within p (Some e) h = expression_within e (none_of_both (faults_of variables ps sizes m e) _ h).0
 
     abbrev tree : ExpressionR → List ℕ
     tree e = calls_in (tree_of variables ps sizes m e)
 
     mutual
-      pub statement_within : (around : Around) (s : StatementR) → typed.of_statement variables ps m around s ≡ [] → Within (statement_calls (statement_for variables ps sizes m around s)) (of_statement s)
+      pub statement_within : (around : Around) (s : StatementR) → typed.of_statement variables ps sizes m around s ≡ [] → Within (statement_calls (statement_for variables ps sizes m around s)) (of_statement s)
       statement_within around (EmptyR p) h = none []
       statement_within around (AssignR xs e) h =
-          let f = none_of_both (typed.of_targets variables ps m xs) _ h in
-          assignment_within (target_trees variables ps sizes m xs) (tree_of variables ps sizes m e) (of_targets xs) (of_expression e) (target_trees_within xs f.0) (expression_within e (none_of_both (faults_of variables ps m e) _ f.1).0)
+          let f = none_of_both (typed.of_targets variables ps sizes m xs) _ h in
+          assignment_within (target_trees variables ps sizes m xs) (tree_of variables ps sizes m e) (of_targets xs) (of_expression e) (target_trees_within xs f.0) (expression_within e (none_of_both (faults_of variables ps sizes m e) _ f.1).0)
       statement_within around (CallR p x) h = call_within p x h
       statement_within around (ReturnR p) h = none []
-      statement_within around (ReturnValueR p e) h = expression_within e (none_of_both (faults_of variables ps m e) _ h).0
+      statement_within around (ReturnValueR p e) h = expression_within e (none_of_both (faults_of variables ps sizes m e) _ h).0
       statement_within around (EnableR p) h = none (Enables ∷ [])
       statement_within around (DisableR p) h = none []
       statement_within around (HaltR p) h = none (Enables ∷ [])
       statement_within around (IfR p e s) h =
-          let f = none_of_both (typed.of_number variables ps m p e) (typed.of_statement variables ps m around s) h in
+          let f = none_of_both (typed.of_number variables ps sizes m p e) (typed.of_statement variables ps sizes m around s) h in
           let arm = statement_calls (statement_for variables ps sizes m around s) in
-          both (tree e) ((arm ++ []) ++ []) (of_expression e) (of_statement s) (expression_within e (none_of_both (faults_of variables ps m e) _ f.0).0)
+          both (tree e) ((arm ++ []) ++ []) (of_expression e) (of_statement s) (expression_within e (none_of_both (faults_of variables ps sizes m e) _ f.0).0)
           (all (arm ++ []) [] (of_statement s) (all arm [] (of_statement s) (statement_within around s f.1) (none (of_statement s))) (none (of_statement s)))
       statement_within around (IfElseR p e s t) h =
-          let f = none_of_both (typed.of_number variables ps m p e) (typed.of_statement variables ps m around s ++ typed.of_statement variables ps m around t) h in
-          let g = none_of_both (typed.of_statement variables ps m around s) (typed.of_statement variables ps m around t) f.1 in
+          let f = none_of_both (typed.of_number variables ps sizes m p e) (typed.of_statement variables ps sizes m around s ++ typed.of_statement variables ps sizes m around t) h in
+          let g = none_of_both (typed.of_statement variables ps sizes m around s) (typed.of_statement variables ps sizes m around t) f.1 in
           let arm = statement_calls (statement_for variables ps sizes m around s) in
           let other = statement_calls (statement_for variables ps sizes m around t) in
-          both (tree e) ((arm ++ []) ++ (other ++ [])) (of_expression e) (of_statement s ++ of_statement t) (expression_within e (none_of_both (faults_of variables ps m e) _ f.0).0)
+          both (tree e) ((arm ++ []) ++ (other ++ [])) (of_expression e) (of_statement s ++ of_statement t) (expression_within e (none_of_both (faults_of variables ps sizes m e) _ f.0).0)
           (both (arm ++ []) (other ++ []) (of_statement s) (of_statement t) (all arm [] (of_statement s) (statement_within around s g.0) (none (of_statement s))) (all other [] (of_statement t) (statement_within around t g.1) (none (of_statement t))))
       statement_within around (DoR p ss) h = statements_within around ss h
       statement_within around (WhileR p e ss) h =
-          let f = none_of_both (typed.of_number variables ps m p e) (typed.of_statements variables ps m around ss) h in
-          both (tree e) (statements_calls (statements_for variables ps sizes m around ss)) (of_expression e) (of_statements ss) (expression_within e (none_of_both (faults_of variables ps m e) _ f.0).0) (statements_within around ss f.1)
+          let f = none_of_both (typed.of_number variables ps sizes m p e) (typed.of_statements variables ps sizes m around ss) h in
+          both (tree e) (statements_calls (statements_for variables ps sizes m around ss)) (of_expression e) (of_statements ss) (expression_within e (none_of_both (faults_of variables ps sizes m e) _ f.0).0) (statements_within around ss f.1)
       statement_within around (CaseR p e ss) h =
-          let f = none_of_both (typed.of_number variables ps m p e) (typed.of_statements variables ps m around ss) h in
-          both (tree e) (statements_calls (statements_for variables ps sizes m around ss)) (of_expression e) (of_statements ss) (expression_within e (none_of_both (faults_of variables ps m e) _ f.0).0) (statements_within around ss f.1)
+          let f = none_of_both (typed.of_number variables ps sizes m p e) (typed.of_statements variables ps sizes m around ss) h in
+          both (tree e) (statements_calls (statements_for variables ps sizes m around ss)) (of_expression e) (of_statements ss) (expression_within e (none_of_both (faults_of variables ps sizes m e) _ f.0).0) (statements_within around ss f.1)
       statement_within around (IterateR p q i a b s ss) h =
-          let f = none_of_both (typed.of_index variables ps m p q i) _ h in
-          let g = none_of_both (typed.of_number variables ps m p a) _ f.1 in
-          let k = none_of_both (typed.of_number variables ps m p b) _ g.1 in
-          let l = none_of_both (typed.of_step variables ps m p s) (typed.of_statements variables ps m around ss) k.1 in
-          let step = calls_in (step_for variables ps sizes m s) in
+          let f = none_of_both (typed.of_index variables ps sizes m p q i) _ h in
+          let g = none_of_both (typed.of_number variables ps sizes m p a) _ f.1 in
+          let k = none_of_both (typed.of_number variables ps sizes m p b) _ g.1 in
+          let l = none_of_both (typed.of_step variables ps sizes m p s) (typed.of_statements variables ps sizes m around ss) k.1 in
+          let step = calls_in (step_for variables ps sizes m p s) in
           let body = statements_calls (statements_for variables ps sizes m around ss) in
-          both (tree a) (tree b ++ (step ++ body)) (of_expression a) (of_expression b ++ (of_step s ++ of_statements ss)) (expression_within a (none_of_both (faults_of variables ps m a) _ g.0).0)
-          (both (tree b) (step ++ body) (of_expression b) (of_step s ++ of_statements ss) (expression_within b (none_of_both (faults_of variables ps m b) _ k.0).0)
+          both (tree a) (tree b ++ (step ++ body)) (of_expression a) (of_expression b ++ (of_step s ++ of_statements ss)) (expression_within a (none_of_both (faults_of variables ps sizes m a) _ g.0).0)
+          (both (tree b) (step ++ body) (of_expression b) (of_step s ++ of_statements ss) (expression_within b (none_of_both (faults_of variables ps sizes m b) _ k.0).0)
           (both step body (of_step s) (of_statements ss) (step_within p s l.0) (statements_within around ss l.1)))
 
-      pub statements_within : (around : Around) (ss : StatementsR) → typed.of_statements variables ps m around ss ≡ [] → Within (statements_calls (statements_for variables ps sizes m around ss)) (of_statements ss)
+      pub statements_within : (around : Around) (ss : StatementsR) → typed.of_statements variables ps sizes m around ss ≡ [] → Within (statements_calls (statements_for variables ps sizes m around ss)) (of_statements ss)
       statements_within around no_statements h = none []
       statements_within around (statements s ss) h =
-          let f = none_of_both (typed.of_statement variables ps m around s) (typed.of_statements variables ps m around ss) h in
+          let f = none_of_both (typed.of_statement variables ps sizes m around s) (typed.of_statements variables ps sizes m around ss) h in
           both (statement_calls (statement_for variables ps sizes m around s)) (statements_calls (statements_for variables ps sizes m around ss)) (of_statement s) (of_statements ss) (statement_within around s f.0) (statements_within around ss f.1)
 
 -- ---- ENABLE and HALT

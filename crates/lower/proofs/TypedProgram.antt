@@ -29,8 +29,9 @@ use Rattle.plm_type.specs.Interrupts.{called, body_effects, text_graph, IsCalled
 use Rattle.plm_type.specs.Programs.{declared_procedures, main_tree, procedures_of}
 use Rattle.plm_type.specs.Reach.{row_of}
 use Rattle.plm_type.specs.Rest.{Statements, End, Procedure}
-use Rattle.plm_type.specs.Statements.{may_return_value, is_external, is_placed_scalar, index_for, of_parameter, of_parameters, of_entry, is_entry, of_body, of_procedure, of_procedures, of_locations, of_main, of_statements, parameters_for, body_for, procedure_for, statements_for}
+use Rattle.plm_type.specs.Statements.{may_return_value, is_external, is_placed_scalar, index_for, of_parameter, of_parameters, of_entry, is_entry, of_body, of_procedure, of_procedures, of_locations, of_main, parameters_for, body_for, procedure_for}
 use Rattle.plm_type.specs.Trees.{entry_of}
+use Rattle.lower.proofs.Typed.{statements_for, of_statements}
 use Rattle.lower.specs.Code.{Kind, OfMain, are_giving, has_vector, serves, kind_of}
 use Rattle.lower.specs.Lowered.{vector_of, vectors_of}
 use Rattle.lower.specs.Checked.{IsWellFormed, CheckedLaw}
@@ -125,15 +126,15 @@ module _ (program : Program) (names : Names) (typed : AreTyped program names) wh
 
   -- ---- procedures without a fault
 
-  sound_parts : (of_procedures vs ps ps ≡ []) × (of_main vs ps (main_of names.main) ≡ [])
-  sound_parts = none_both _ _ (none_both (of_locations vs ps (map declared_location_of names.locations.items)) _ typed.no_fault).1
+  sound_parts : (of_procedures vs ps (sizes_of names) ps ≡ []) × (of_main vs ps (sizes_of names) (main_of names.main) ≡ [])
+  sound_parts = none_both _ _ (none_both (of_locations vs ps (sizes_of names) (map declared_location_of names.locations.items)) _ typed.no_fault).1
 
-  each_sound : (qs : List ProcedureR) → of_procedures vs ps qs ≡ [] → (k : ℕ) (p : ProcedureR) → slice_get qs k ≡ Some p → of_procedure vs ps p ≡ []
+  each_sound : (qs : List ProcedureR) → of_procedures vs ps (sizes_of names) qs ≡ [] → (k : ℕ) (p : ProcedureR) → slice_get qs k ≡ Some p → of_procedure vs ps (sizes_of names) p ≡ []
   each_sound [] f k p e = absurd (none_some p e)
-  each_sound (q ∷ qs) f zero p e = subst (λ (z : ProcedureR). of_procedure vs ps z ≡ []) (same_Some q p e) (none_both (of_procedure vs ps q) (of_procedures vs ps qs) f).0
-  each_sound (q ∷ qs) f (suc k) p e = each_sound qs (none_both (of_procedure vs ps q) (of_procedures vs ps qs) f).1 k p e
+  each_sound (q ∷ qs) f zero p e = subst (λ (z : ProcedureR). of_procedure vs ps (sizes_of names) z ≡ []) (same_Some q p e) (none_both (of_procedure vs ps (sizes_of names) q) (of_procedures vs ps (sizes_of names) qs) f).0
+  each_sound (q ∷ qs) f (suc k) p e = each_sound qs (none_both (of_procedure vs ps (sizes_of names) q) (of_procedures vs ps (sizes_of names) qs) f).1 k p e
 
-  sound : (k : ℕ) (p : ProcedureR) → slice_get ps k ≡ Some p → of_procedure vs ps p ≡ []
+  sound : (k : ℕ) (p : ProcedureR) → slice_get ps k ≡ Some p → of_procedure vs ps (sizes_of names) p ≡ []
   sound k p e = each_sound ps sound_parts.0 k p e
 
   within : (k : ℕ) (p : ProcedureR) → slice_get ps k ≡ Some p → list_all (λ x. nat_lt x (length vs)) p.parameters ≡ true
@@ -212,10 +213,10 @@ module _ (program : Program) (names : Names) (typed : AreTyped program names) wh
   own_body : (q : ℕ) (p : ProcedureR) → slice_get ps q ≡ Some p → AreStatements (sizes_of names) (procedures_of names) MayCall (kind_of (serves (vectors_of names) q) true) (body_for vs ps (sizes_of names) p)
   own_body q p e =
       let behind = (none_both (of_parameters vs (is_external p.linkage) p.module p.parameters) _ (sound q p e)).1 in
-      let faultless = (none_both _ (of_body vs ps p) (none_both (of_entry ps p) _ (none_both _ _ behind).1).1).1 in
+      let faultless = (none_both _ (of_body vs ps (sizes_of names) p) (none_both (of_entry ps p) _ (none_both _ _ behind).1).1).1 in
       let row : row_of (slice_get (text_graph ps) q) ≡ called ps (body_effects p) = ap row_of (slice_get-map (λ (z : ProcedureR). called ps (body_effects z)) ps q ∙ ap (option_map (λ (z : ProcedureR). called ps (body_effects z))) e) in
       let calls = texts_callable (body_effects p) (λ k c. uncalled k (inr (q, subst (λ (l : List ℕ). Contains l k) (sym row) c))) in
-      body_if (is_external p.linkage) (kind_of (serves (vectors_of names) q) true) (of_statements vs ps p.module (stands.Procedure p.returned) p.body) (effects.of_statements p.body) (statements_for vs ps (sizes_of names) p.module (stands.Procedure p.returned) p.body)
+      body_if (is_external p.linkage) (kind_of (serves (vectors_of names) q) true) (of_statements vs ps (sizes_of names) p.module (stands.Procedure p.returned) p.body) (effects.of_statements p.body) (statements_for vs ps (sizes_of names) p.module (stands.Procedure p.returned) p.body)
       (λ f g. statements_well ps (sizes_of names) (procedures_of names) MayCall vs (are_lying names) p.module (stands.Procedure p.returned) (kind_of (serves (vectors_of names) q) true)
       (λ h. return_if (serves (vectors_of names) q)) (value_if (serves (vectors_of names) q) p.returned (serving_untyped q p e)) p.body f g)
       faultless calls

@@ -27,10 +27,11 @@ use Rattle.word86.specs.Access.{Where, In, Screen}
 use Rattle.plm_type.specs.Rest as rest
 use Rattle.plm_type.specs.Rest.{Anchor, InObject, OnScreen, Behind, There, Expression, Constant, Expressions, NoMore, More, Reference, Refer, Subscripts, NoSubscripts, Subscript, Target, Scalar, Procedure}
 use Rattle.plm_type.specs.Types.{width_of}
-use Rattle.plm_type.specs.Typing.{is_measure, is_target, first_type, types_of, selector_types, measure, may_be_located}
+use Rattle.plm_type.specs.Typing.{is_measure, is_target, first_type, measure, may_be_located}
 use Rattle.plm_type.specs.Shapes.{subscripts_fit, selector_fits, shape_fits, designated, member_stride, capped, read_of, store_to}
-use Rattle.plm_type.specs.Faults.{fault_unless, may_be_used, use_faults, builtin_faults, call_faults, faults_of, faults_in, selector_faults, value_faults, location_faults, target_faults}
-use Rattle.plm_type.specs.Trees.{constant, text_value, operated, read_port, to_port, shifted, builtin_value, strided, entry_of, object_size, use_read, use_stored, constants_at, refer, reference_value, argument_value, measured_value, tree_of, trees_of, selector_trees, value_of, location_of, target_of}
+use Rattle.plm_type.specs.Faults.{fault_unless, may_be_used, use_faults, builtin_faults, call_faults}
+use Rattle.plm_type.specs.Trees.{constant, text_value, operated, read_port, to_port, shifted, builtin_value, strided, entry_of, object_size, use_read, use_stored, constants_at, refer}
+use Rattle.lower.proofs.Typed.{tree_of, trees_of, selector_trees, value_of, location_of, target_of, types_of, selector_types, faults_of, faults_in, selector_faults, value_faults, location_faults, target_faults, measured_value, argument_value, reference_value}
 use Rattle.lower.specs.Code.{count_of}
 use Rattle.lower.specs.Well.{Lies, IsCall, IsExpression, AreExpressions, IsReference, AreSubscripts, IsTarget}
 use Rattle.lower.proofs.Bools.{true_false, both_true, le_of}
@@ -169,17 +170,17 @@ module _ (sizes : List ℕ) (trees : List Procedure) (MayCall : ℕ → Type 0) 
   builtin_well m line builtin.Output w es h = zero_well
   builtin_well m line builtin.OutputWord w es h = zero_well
 
-  measured_well : (vs : List Variable) (ps : List ProcedureR) (b : Builtin) (es : ExpressionsR) → IsExpression sizes trees MayCall (measured_value vs ps b es)
-  measured_well vs ps b no_expressions = zero_well
-  measured_well vs ps b (expressions e no_expressions) = argument_well e
+  measured_well : (vs : List Variable) (ps : List ProcedureR) (m : ℕ) (at : Position) (b : Builtin) (es : ExpressionsR) → IsExpression sizes trees MayCall (measured_value vs ps sizes m at b es)
+  measured_well vs ps m at b no_expressions = zero_well
+  measured_well vs ps m at b (expressions e no_expressions) = argument_well e
     where
-      meant_well : (x : ReferenceR') → IsExpression sizes trees MayCall (reference_value vs ps b x)
-      meant_well (Use p (binding.Variable v) es s) = constant_well (measure b (slice_get vs v) (length (types_of vs ps es)) s)
+      meant_well : (x : ReferenceR') → IsExpression sizes trees MayCall (reference_value vs ps sizes m at b x)
+      meant_well (Use p (binding.Variable v) es s) = constant_well (measure b (slice_get vs v) (length (types_of vs ps sizes m es)) s)
       meant_well (Use p (binding.Procedure q) es s) = zero_well
       meant_well (Use p (binding.Builtin d) es s) = zero_well
       meant_well (Use p binding.Nothing es s) = zero_well
 
-      argument_well : (e : ExpressionR) → IsExpression sizes trees MayCall (argument_value vs ps b e)
+      argument_well : (e : ExpressionR) → IsExpression sizes trees MayCall (argument_value vs ps sizes m at b e)
       argument_well (NumberR n) = zero_well
       argument_well (TextR p cs) = zero_well
       argument_well (ReferenceR x) = meant_well x
@@ -188,7 +189,7 @@ module _ (sizes : List ℕ) (trees : List Procedure) (MayCall : ℕ → Type 0) 
       argument_well (EmbeddedR p x e) = zero_well
       argument_well (UnaryR p o e) = zero_well
       argument_well (BinaryR p o a d) = zero_well
-  measured_well vs ps b (expressions e (expressions d es)) = zero_well
+  measured_well vs ps m at b (expressions e (expressions d es)) = zero_well
 
 targets_evaluate : (b : Builtin) → is_target b ≡ true → is_measure b ≡ false
 targets_evaluate builtin.Output h = refl
@@ -243,7 +244,7 @@ module _ (ps : List ProcedureR) (sizes : List ℕ) (trees : List Procedure) (May
 
   -- ---- expressions
   module _ (vs : List Variable) (all : AreLying sizes vs) (m : ℕ) where
-    pub as_many : (es : ExpressionsR) → length (types_of vs ps es) ≡ count_of (trees_of vs ps sizes m es)
+    pub as_many : (es : ExpressionsR) → length (types_of vs ps sizes m es) ≡ count_of (trees_of vs ps sizes m es)
     as_many no_expressions = refl
     as_many (expressions e es) = ap suc (as_many es)
 
@@ -253,67 +254,67 @@ module _ (ps : List ProcedureR) (sizes : List ℕ) (trees : List Procedure) (May
     few_members (member_at p o e) = omega arith
 
     used_well : (part : Bool) (line : ℕ) (p : Position) (v : ℕ) (es : ExpressionsR) (s : SelectorR)
-        → use_faults m part p (slice_get vs v) s (types_of vs ps es) (selector_types vs ps s) ≡ []
+        → use_faults m part p (slice_get vs v) s (types_of vs ps sizes m es) (selector_types vs ps sizes m s) ≡ []
         → AreExpressions sizes trees MayCall (trees_of vs ps sizes m es) → AreExpressions sizes trees MayCall (selector_trees vs ps sizes m s)
         → IsReference sizes trees MayCall (refer vs m line (slice_get vs v) s (trees_of vs ps sizes m es) (selector_trees vs ps sizes m s))
     used_well part line p v es s f h g =
-        refer_well sizes trees MayCall vs all m line part (slice_get vs v) (all v) s _ _ (types_of vs ps es) (selector_types vs ps s) (as_many es) (few_members s)
-        (holds_there m (may_be_used part (slice_get vs v) s (types_of vs ps es) (selector_types vs ps s)) E401 p f) h g
+        refer_well sizes trees MayCall vs all m line part (slice_get vs v) (all v) s _ _ (types_of vs ps sizes m es) (selector_types vs ps sizes m s) (as_many es) (few_members s)
+        (holds_there m (may_be_used part (slice_get vs v) s (types_of vs ps sizes m es) (selector_types vs ps sizes m s)) E401 p f) h g
 
     mutual
-      pub tree_well : (e : ExpressionR) → faults_of vs ps m e ≡ [] → AllCallable (effects.of_expression e) → IsExpression sizes trees MayCall (tree_of vs ps sizes m e)
+      pub tree_well : (e : ExpressionR) → faults_of vs ps sizes m e ≡ [] → AllCallable (effects.of_expression e) → IsExpression sizes trees MayCall (tree_of vs ps sizes m e)
       tree_well (NumberR n) f g = constant_well sizes trees MayCall n.value
       tree_well (TextR p cs) f g = constant_well sizes trees MayCall (text_value cs)
       tree_well (ReferenceR x) f g = value_well x f g
       tree_well (LocationR l) f g = location_well l f g
       tree_well (ParenthesisedR p e) f g = tree_well e f g
       tree_well (EmbeddedR p x e) f g =
-          let first = none_both (target_faults vs ps m x) _ f in
-          let second = none_both (faults_of vs ps m e) _ first.1 in
+          let first = none_both (target_faults vs ps sizes m x) _ f in
+          let second = none_both (faults_of vs ps sizes m e) _ first.1 in
           let calls = parted (effects.of_parts x) (effects.of_expression e) g in
           (target_well x first.0 calls.0, tree_well e second.0 calls.1)
-      tree_well (UnaryR p o e) f g = tree_well e (none_both (faults_of vs ps m e) _ f).0 g
+      tree_well (UnaryR p o e) f g = tree_well e (none_both (faults_of vs ps sizes m e) _ f).0 g
       tree_well (BinaryR p o a b) f g =
-          let first = none_both (faults_of vs ps m a) _ f in
-          let second = none_both (faults_of vs ps m b) _ first.1 in
+          let first = none_both (faults_of vs ps sizes m a) _ f in
+          let second = none_both (faults_of vs ps sizes m b) _ first.1 in
           let calls = parted (effects.of_expression a) (effects.of_expression b) g in
           (tree_well a first.0 calls.0, tree_well b second.0 calls.1)
 
-      pub trees_well : (es : ExpressionsR) → faults_in vs ps m es ≡ [] → AllCallable (effects.of_list es) → AreExpressions sizes trees MayCall (trees_of vs ps sizes m es)
+      pub trees_well : (es : ExpressionsR) → faults_in vs ps sizes m es ≡ [] → AllCallable (effects.of_list es) → AreExpressions sizes trees MayCall (trees_of vs ps sizes m es)
       trees_well no_expressions f g = tt
       trees_well (expressions e es) f g =
-          let both = none_both (faults_of vs ps m e) (faults_in vs ps m es) f in
+          let both = none_both (faults_of vs ps sizes m e) (faults_in vs ps sizes m es) f in
           let calls = parted (effects.of_expression e) (effects.of_list es) g in
           (tree_well e both.0 calls.0, trees_well es both.1 calls.1)
 
-      pub selector_well : (s : SelectorR) → selector_faults vs ps m s ≡ [] → AllCallable (effects.of_selector s) → AreExpressions sizes trees MayCall (selector_trees vs ps sizes m s)
+      pub selector_well : (s : SelectorR) → selector_faults vs ps sizes m s ≡ [] → AllCallable (effects.of_selector s) → AreExpressions sizes trees MayCall (selector_trees vs ps sizes m s)
       selector_well no_member f g = tt
       selector_well (member p o) f g = tt
       selector_well (member_at p o e) f g = (tree_well e f g, tt)
 
-      pub value_well : (x : ReferenceR') → value_faults vs ps m x ≡ [] → AllCallable (effects.of_value x) → IsExpression sizes trees MayCall (value_of vs ps sizes m x)
+      pub value_well : (x : ReferenceR') → value_faults vs ps sizes m x ≡ [] → AllCallable (effects.of_value x) → IsExpression sizes trees MayCall (value_of vs ps sizes m x)
       value_well (Use p (binding.Variable v) es s) f g =
-          let both = none_both (faults_in vs ps m es ++ selector_faults vs ps m s) _ f in
-          let parts = none_both (faults_in vs ps m es) (selector_faults vs ps m s) both.0 in
+          let both = none_both (faults_in vs ps sizes m es ++ selector_faults vs ps sizes m s) _ f in
+          let parts = none_both (faults_in vs ps sizes m es) (selector_faults vs ps sizes m s) both.0 in
           let calls = parted (effects.of_list es) (effects.of_selector s) g in
           use_read_well sizes trees MayCall (slice_get vs v) s _ (used_well false p.line p v es s both.1 (trees_well es parts.0 calls.0) (selector_well s parts.1 calls.1))
       value_well (Use p (binding.Procedure q) es s) f g =
-          let both = none_both (faults_in vs ps m es) _ f in
-          let call = none_both (call_faults vs m p (slice_get ps q) s (types_of vs ps es)) _ both.1 in
+          let both = none_both (faults_in vs ps sizes m es) _ f in
+          let call = none_both (call_faults vs m p (slice_get ps q) s (types_of vs ps sizes m es)) _ both.1 in
           let calls = parted (effects.of_list es) (effects.of_selector s) g.1 in
-          (call_well vs m p (slice_get ps q) s (types_of vs ps es) _ (as_many es) g.0 call.0, trees_well es both.0 calls.0)
+          (call_well vs m p (slice_get ps q) s (types_of vs ps sizes m es) _ (as_many es) g.0 call.0, trees_well es both.0 calls.0)
       value_well (Use p (binding.Builtin b) es s) f g =
           let both = none_both (fault_unless m (not (is_target b)) E401 p) _ f in
-          builtin_if (is_measure b) _ _ _ _ (effects.of_list es ++ effects.of_selector s) (measured_well sizes trees MayCall vs ps b es)
-          (λ own calls. builtin_well sizes trees MayCall m p.line b (width_of (first_type (types_of vs ps es))) (trees_of vs ps sizes m es)
-          (trees_well es (none_both (faults_in vs ps m es) (builtin_faults m p b s (types_of vs ps es)) own).0 (parted (effects.of_list es) (effects.of_selector s) calls).0))
+          builtin_if (is_measure b) _ _ _ _ (effects.of_list es ++ effects.of_selector s) (measured_well sizes trees MayCall vs ps m p b es)
+          (λ own calls. builtin_well sizes trees MayCall m p.line b (width_of (first_type (types_of vs ps sizes m es))) (trees_of vs ps sizes m es)
+          (trees_well es (none_both (faults_in vs ps sizes m es) (builtin_faults m p b s (types_of vs ps sizes m es)) own).0 (parted (effects.of_list es) (effects.of_selector s) calls).0))
           both.1 g
       value_well (Use p binding.Nothing es s) f g = zero_well sizes trees MayCall
 
-      pub location_well : (l : LocationR') → location_faults vs ps m l ≡ [] → AllCallable (effects.of_location l) → IsExpression sizes trees MayCall (location_of vs ps sizes m l)
+      pub location_well : (l : LocationR') → location_faults vs ps sizes m l ≡ [] → AllCallable (effects.of_location l) → IsExpression sizes trees MayCall (location_of vs ps sizes m l)
       location_well (LocationOf p k (Use q (binding.Variable v) es s)) f g =
-          let both = none_both (faults_in vs ps m es ++ selector_faults vs ps m s) _ f in
-          let parts = none_both (faults_in vs ps m es) (selector_faults vs ps m s) both.0 in
+          let both = none_both (faults_in vs ps sizes m es ++ selector_faults vs ps sizes m s) _ f in
+          let parts = none_both (faults_in vs ps sizes m es) (selector_faults vs ps sizes m s) both.0 in
           let used = none_both (fault_unless m (may_be_located (slice_get vs v)) E401 p) _ both.1 in
           let calls = parted (effects.of_list es) (effects.of_selector s) g in
           used_well true q.line q v es s used.1 (trees_well es parts.0 calls.0) (selector_well s parts.1 calls.1)
@@ -322,16 +323,16 @@ module _ (ps : List ProcedureR) (sizes : List ℕ) (trees : List Procedure) (May
       location_well (LocationOf p k (Use q binding.Nothing es s)) f g = zero_well sizes trees MayCall
       location_well (ConstantsOf p k o) f g = constants_well sizes trees MayCall m p.line o
 
-      pub target_well : (x : ReferenceR') → target_faults vs ps m x ≡ [] → AllCallable (effects.of_parts x) → IsTarget sizes trees MayCall (target_of vs ps sizes m x)
+      pub target_well : (x : ReferenceR') → target_faults vs ps sizes m x ≡ [] → AllCallable (effects.of_parts x) → IsTarget sizes trees MayCall (target_of vs ps sizes m x)
       target_well (Use p (binding.Variable v) es s) f g =
-          let both = none_both (faults_in vs ps m es ++ selector_faults vs ps m s) _ f in
-          let parts = none_both (faults_in vs ps m es) (selector_faults vs ps m s) both.0 in
-          let used = none_both (use_faults m false p (slice_get vs v) s (types_of vs ps es) (selector_types vs ps s)) _ both.1 in
+          let both = none_both (faults_in vs ps sizes m es ++ selector_faults vs ps sizes m s) _ f in
+          let parts = none_both (faults_in vs ps sizes m es) (selector_faults vs ps sizes m s) both.0 in
+          let used = none_both (use_faults m false p (slice_get vs v) s (types_of vs ps sizes m es) (selector_types vs ps sizes m s)) _ both.1 in
           let calls = parted (effects.of_list es) (effects.of_selector s) g in
           use_stored_well sizes trees MayCall (slice_get vs v) s _ (used_well false p.line p v es s used.0 (trees_well es parts.0 calls.0) (selector_well s parts.1 calls.1))
       target_well (Use p (binding.Builtin b) es s) f g =
-          let both = none_both (faults_in vs ps m es) _ f in
-          let is_port = holds_there m (is_target b) E401 p (none_both (fault_unless m (is_target b) E401 p) (builtin_faults m p b s (types_of vs ps es)) both.1).0 in
+          let both = none_both (faults_in vs ps sizes m es) _ f in
+          let is_port = holds_there m (is_target b) E401 p (none_both (fault_unless m (is_target b) E401 p) (builtin_faults m p b s (types_of vs ps sizes m es)) both.1).0 in
           let evaluated = subst (λ (c : Bool). AllCallable (cond c [] (effects.of_list es ++ effects.of_selector s))) (targets_evaluate b is_port) g in
           to_port_well sizes trees MayCall b (trees_of vs ps sizes m es) (trees_well es both.0 (parted (effects.of_list es) (effects.of_selector s) evaluated).0)
       target_well (Use p (binding.Procedure q) es s) f g = zero_well sizes trees MayCall

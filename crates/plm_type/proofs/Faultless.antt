@@ -1,5 +1,5 @@
 -- Where there is no fault of an interrupt procedure, none of them lets interrupts in or is misused.
-use Rattle.std.proofs.Common.{◌≡◌, ℕ, zero, suc, ◌+◌, ◌<◌, ◌++◌, arith, append_assoc, Bool, true, false, List, [], ◌∷◌, length, slice_get, Option, Some, None, IsTrue, ◌⊎◌, inl, inr, cond, refl, sym, ap, ◌∙◌, subst, true≢false}
+use Rattle.std.proofs.Common.{◌≡◌, ℕ, zero, suc, ◌+◌, ◌<◌, ◌++◌, arith, append_assoc, Bool, true, false, List, [], ◌∷◌, length, slice_get, Option, None, inl, inr, refl, sym, ap, ◌∙◌, subst, true≢false}
 use Rattle.word86.specs.declared.number.Number.{Number}
 use Rattle.word86.specs.declared.number.Number.TheVariants.{E405, E406}
 use Rattle.plm_decl.specs.declared.names.Names.{Names}

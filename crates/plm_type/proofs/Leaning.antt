@@ -1,6 +1,5 @@
 -- Operators of one level, one after the other, are the tree that leans left.
-use Rattle.std.proofs.Common.{◌≡◌, ℕ, List, [], ◌∷◌, ◌++◌, length, arith, append_assoc, refl, sym, ◌∙◌}
-use Rattle.std.proofs.lemmas.List.{append-nil}
+use Rattle.std.proofs.Common.{◌≡◌, ℕ, List, [], ◌∷◌, length, arith, refl, ap, ◌∙◌}
 use Rattle.plm_syntax.specs.declared.tree.Position.{Position}
 use Rattle.plm_syntax.specs.declared.tree.BinaryOperator.{BinaryOperator}
 use Rattle.plm_decl.specs.declared.names.Variable.{Variable}
@@ -8,10 +7,13 @@ use Rattle.plm_decl.specs.declared.resolved.Operation.{Operation}
 use Rattle.plm_decl.specs.Names.{ProcedureR}
 use Rattle.plm_decl.specs.Resolved.{ExpressionR, BinaryR}
 use Rattle.plm_decl.specs.ResolvedView.{expression_of, leaned}
-use Rattle.plm_type.specs.Typing.{type_of}
-use Rattle.plm_type.specs.Faults.{first_place, faults_of}
-use Rattle.plm_type.specs.Trees.{tree_of}
-use Rattle.plm_type.specs.Inner.Chains.{joined_type, joined_faults, chain_type, chain_faults, chain_tree}
+use Rattle.plm_decl.specs.declared.found.Found.{Found}
+use Rattle.plm_type.specs.Faults.{first_place}
+use Rattle.plm_type.specs.Typer.{Typed}
+use Rattle.plm_type.specs.Expressions.{typed}
+use Rattle.plm_type.specs.Inner.Typer.{after}
+use Rattle.plm_type.specs.Inner.Chains.{chain}
+use Rattle.plm_type.proofs.Said.{joined_after}
 
 abbrev with_right : ExpressionR → Operation → ExpressionR
 with_right e o = BinaryR o.place o.operator e (expression_of o.operand)
@@ -20,22 +22,13 @@ pub leaned_first : (e : ExpressionR) (os : List Operation) → first_place (lean
 leaned_first e [] = refl
 leaned_first e (o ∷ os) = leaned_first (with_right e o) os
 
-pub leaned_type : (vs : List Variable) (ps : List ProcedureR) (e : ExpressionR) (os : List Operation)
-    → chain_type vs ps (type_of vs ps e) os ≡ type_of vs ps (leaned e os)
-leaned_type vs ps e [] = refl
-leaned_type vs ps e (o ∷ os) = leaned_type vs ps (with_right e o) os
-
-pub leaned_tree : (vs : List Variable) (ps : List ProcedureR) (sizes : List ℕ) (module_index : ℕ) (e : ExpressionR) (os : List Operation)
-    → chain_tree vs ps sizes module_index (tree_of vs ps sizes module_index e) (type_of vs ps e) os ≡ tree_of vs ps sizes module_index (leaned e os)
-leaned_tree vs ps sizes module_index e [] = refl
-leaned_tree vs ps sizes module_index e (o ∷ os) = leaned_tree vs ps sizes module_index (with_right e o) os
-
-pub leaned_faults : (vs : List Variable) (ps : List ProcedureR) (module_index : ℕ) (e : ExpressionR) (os : List Operation)
-    → faults_of vs ps module_index e ++ chain_faults vs ps module_index (first_place e) (type_of vs ps e) os ≡ faults_of vs ps module_index (leaned e os)
-leaned_faults vs ps module_index e [] = append-nil (faults_of vs ps module_index e)
-leaned_faults vs ps module_index e (o ∷ os) =
-    sym (append_assoc (faults_of vs ps module_index e) (joined_faults vs ps module_index (first_place e) (type_of vs ps e) o) (chain_faults vs ps module_index (first_place e) (joined_type vs ps (type_of vs ps e) o) os))
-    ∙ leaned_faults vs ps module_index (with_right e o) os
+pub leaned_after : (vs : List Variable) (ps : List ProcedureR) (sizes : List ℕ) (module_index : ℕ) (old : List Found) (e : ExpressionR) (os : List Operation)
+    → chain vs ps sizes module_index (first_place e) (after old (typed vs ps sizes module_index e)) os ≡ after old (typed vs ps sizes module_index (leaned e os))
+leaned_after vs ps sizes module_index old e [] = refl
+leaned_after vs ps sizes module_index old e (o ∷ os) =
+    ap (λ (x : Typed). chain vs ps sizes module_index (first_place e) x os)
+    (joined_after module_index o.place o.operator (first_place e) old (typed vs ps sizes module_index e) (typed vs ps sizes module_index (expression_of o.operand)))
+    ∙ leaned_after vs ps sizes module_index old (with_right e o) os
 
 -- ---- one with operators is no reference
 

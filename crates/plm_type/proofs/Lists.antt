@@ -1,5 +1,5 @@
 -- Lists as the code goes over them, and as it builds them.
-use Rattle.std.proofs.Common.{◌≡◌, ℕ, ◌+◌, ◌<◌, ◌≤◌, arith, List, [], ◌∷◌, ◌++◌, length, get_or, take, drop, None, drop-cons, add-one, map, Bool, true, false, ◌&&◌, Option, refl, sym, ap, ◌∙◌}
+use Rattle.std.proofs.Common.{◌≡◌, ℕ, ◌+◌, ◌<◌, ◌≤◌, arith, List, [], ◌∷◌, ◌++◌, length, get_or, take, drop, drop-cons, add-one, map, Bool, true, false, ◌&&◌, Option, refl, sym, ap, ◌∙◌}
 use Rattle.std.specs.Global.{Box}
 use Rattle.plm_decl.specs.declared.resolved.Expression as declared_resolved
 use Rattle.plm_decl.specs.declared.resolved.Reference as resolved_reference
@@ -12,17 +12,19 @@ use Rattle.plm_type.specs.declared.program.Statement.{Statement}
 use Rattle.plm_type.specs.Rest as rest
 use Rattle.plm_type.specs.View as view
 use Rattle.plm_decl.specs.declared.layout.ScalarType.{ScalarType}
+use Rattle.plm_decl.specs.declared.found.Found.{Found}
+use Rattle.plm_type.specs.declared.typer.TypedList as declared_list
+use Rattle.plm_type.specs.declared.statements.TypedTargets as declared_targets
+use Rattle.plm_type.specs.Typer.{TypedList, TypedTargets, Noted}
 use Rattle.plm_type.specs.Types.{may_be_number, may_be_numbers, is_known_number, are_known_numbers}
-use Rattle.plm_type.specs.Trees.{strided, measured_value}
+use Rattle.plm_type.specs.Trees.{strided}
 use Rattle.plm_type.specs.Inner.Typer.{with_stride}
 use Rattle.plm_type.specs.Statements.{targets, assignment}
-use Rattle.word86.specs.declared.number.Number.TheVariants.{E402}
 use Rattle.plm_syntax.specs.declared.tree.Position.{Position}
 use Rattle.plm_decl.specs.declared.builtin.Builtin.{Builtin}
 use Rattle.plm_decl.specs.declared.names.Variable.{Variable}
 use Rattle.plm_decl.specs.Names.{ProcedureR}
-use Rattle.plm_type.specs.Typing.{measured_type}
-use Rattle.plm_type.specs.Faults.{fault_unless, argument_faults, measured_faults}
+use Rattle.plm_type.specs.Expressions.{miscounted, argument, arguments}
 
 pub drop_at : {X : Type 0} → (xs : List X) (i : ℕ) (x : X) → i < length xs → x ≡ get_or xs i x → drop i xs ≡ x ∷ drop (i + 1) xs
 drop_at xs i x h e = drop-cons xs i x h ∙ (λ j. sym e j ∷ drop (sym (add-one i) j) xs)
@@ -53,9 +55,22 @@ pub trees_all : (es : List Expression) → trees_before es rest.NoMore ≡ view.
 trees_all [] = refl
 trees_all (d ∷ es) = ap (rest.More (view.expression_of d)) (trees_all es)
 
+-- all that is said so far, before what is said of others
+abbrev pub list_before : declared_list.TypedList → List Found → TypedList → TypedList
+list_before es noted others =
+    record { trees = trees_before es.trees.items others.trees; types = es.types.items ++ others.types; faults = noted ++ others.faults }
+
 abbrev pub statements_before : List (Box Statement) → rest.Statements → rest.Statements
 statements_before [] others = others
 statements_before (s ∷ ss) others = rest.Then (view.statement_of s.value) (statements_before ss others)
+
+-- all that is said so far, before what is said of others
+abbrev pub noted_before : List (Box Statement) → List Found → Noted rest.Statements → Noted rest.Statements
+noted_before ss noted others = record { tree = statements_before ss others.tree; faults = noted ++ others.faults }
+
+abbrev pub targets_before : declared_targets.TypedTargets → List Found → TypedTargets → TypedTargets
+targets_before xs noted others =
+    record { trees = map view.target_of xs.trees.items ++ others.trees; types = xs.types.items ++ others.types; faults = noted ++ others.faults }
 
 pub statements_pushed : (ss : List (Box Statement)) (s : Box Statement) (others : rest.Statements) → statements_before (ss ++ s ∷ []) others ≡ statements_before ss (rest.Then (view.statement_of s.value) others)
 statements_pushed [] s others = refl
@@ -106,25 +121,13 @@ one_is (y ∷ z ∷ zs) x h l e = absurd (omega arith)
 
 -- ---- LENGTH, LAST and SIZE of several arguments
 
-pub many_values : (vs : List Variable) (ps : List ProcedureR) (b : Builtin) (es : List declared_resolved.Expression) → 2 ≤ length es
-    → rest.Constant 0 ≡ measured_value vs ps b (resolved.expressions_of es)
-many_values vs ps b [] h = absurd (omega arith)
-many_values vs ps b (e ∷ []) h = absurd (omega arith)
-many_values vs ps b (e ∷ d ∷ es) h = refl
-
-pub many_types : (vs : List Variable) (ps : List ProcedureR) (b : Builtin) (es : List declared_resolved.Expression) → 2 ≤ length es
-    → None ≡ measured_type vs ps b (resolved.expressions_of es)
-many_types vs ps b [] h = absurd (omega arith)
-many_types vs ps b (e ∷ []) h = absurd (omega arith)
-many_types vs ps b (e ∷ d ∷ es) h = refl
-
-pub many_faults : (vs : List Variable) (ps : List ProcedureR) (module_index : ℕ) (p : Position) (b : Builtin) (es : List declared_resolved.Expression) (x : declared_resolved.Expression) → 2 ≤ length es
+pub many_are : (vs : List Variable) (ps : List ProcedureR) (sizes : List ℕ) (module_index : ℕ) (p : Position) (b : Builtin) (es : List declared_resolved.Expression) (x : declared_resolved.Expression) → 2 ≤ length es
     → x ≡ get_or es 0 x
-    → argument_faults vs ps module_index p b (resolved.expression_of x) ++ fault_unless module_index false E402 p ≡ measured_faults vs ps module_index p b (resolved.expressions_of es)
-many_faults vs ps module_index p b [] x h is = absurd (omega (arith, h))
-many_faults vs ps module_index p b (e ∷ []) x h is = absurd (omega (arith, h))
-many_faults vs ps module_index p b (e ∷ d ∷ es) x h is =
-    ap (λ (y : declared_resolved.Expression). argument_faults vs ps module_index p b (resolved.expression_of y) ++ fault_unless module_index false E402 p) is
+    → miscounted module_index p (argument vs ps sizes module_index p b (resolved.expression_of x)) ≡ arguments vs ps sizes module_index p b (resolved.expressions_of es)
+many_are vs ps sizes module_index p b [] x h is = absurd (omega (arith, h))
+many_are vs ps sizes module_index p b (e ∷ []) x h is = absurd (omega (arith, h))
+many_are vs ps sizes module_index p b (e ∷ d ∷ es) x h is =
+    ap (λ (y : declared_resolved.Expression). miscounted module_index p (argument vs ps sizes module_index p b (resolved.expression_of y))) is
 
 -- ---- targets
 

@@ -1,5 +1,5 @@
 -- A list of marks, made one after the other.
-use Rattle.std.proofs.Common.{◌≡◌, ℕ, zero, suc, ◌+◌, ◌<◌, ◌≤◌, ◌⊎◌, inl, inr, List, [], ◌∷◌, ◌++◌, Bool, true, false, true≢false, length, map, slice_get, slice_index_or, Option, Some, None, get_or, IsTrue, arith, refl, sym, ap, subst, ◌∙◌, ◌↔◌}
+use Rattle.std.proofs.Common.{◌≡◌, ℕ, zero, suc, ◌+◌, ◌<◌, inl, inr, List, [], ◌∷◌, ◌++◌, Bool, true, false, length, map, slice_get, slice_index_or, Some, get_or, IsTrue, arith, refl, sym, ap, subst, ◌∙◌, ◌↔◌}
 use Rattle.std.proofs.lemmas.Bool.{cases_lt}
 use Rattle.plm_type.specs.Inner.Reach.{IsMarked}
 use Rattle.plm_type.proofs.Ordering.{marked_within}

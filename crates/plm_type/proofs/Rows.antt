@@ -1,18 +1,17 @@
 -- The lists of a program's trees, joined from their rows.
-use Rattle.std.proofs.Common.{◌≡◌, ℕ, refl, ap, sym, ◌∙◌}
+use Rattle.std.proofs.Common.{◌≡◌, refl, ap, ◌∙◌}
 use Rattle.std.specs.Global.{Vec, Box}
 use Rattle.plm_type.specs.declared.program.Expression.{Expression, Row_of-Expression, end_of-Expression, more_of-Expression, items-the_row-Expression, items_hidden-the_row-Expression-1, Row_of-Operation, end_of-Operation, more_of-Operation, items-the_row-Operation, items_hidden-the_row-Operation-0}
 use Rattle.plm_type.specs.declared.program.Expression.TheVariants as expression
 use Rattle.plm_type.specs.declared.program.Expression.TheBlock.{hidden-the_row-Expression-1, hidden-the_row-Operation-0, hidden-the_row-Subscript-2}
 use Rattle.plm_type.specs.declared.program.Operation.{Operation}
 use Rattle.plm_type.specs.declared.program.Subscript.{Subscript}
-use Rattle.plm_type.specs.declared.program.Reference.{Reference, Row_of-Subscript, end_of-Subscript, more_of-Subscript, items-the_row-Subscript, items_hidden-the_row-Subscript-2, items_shown-the_row-Subscript-2, Reference', out-Reference}
+use Rattle.plm_type.specs.declared.program.Reference.{Row_of-Subscript, end_of-Subscript, more_of-Subscript, items-the_row-Subscript, items_hidden-the_row-Subscript-2}
 use Rattle.plm_type.specs.declared.program.Statement.{Statement, Row_of-Statement-If-1-1, end_of-Statement-If-1-1, more_of-Statement-If-1-1, items-the_row-Statement-If-1-1, items_hidden-the_row-Statement-If-1-1-0}
 use Rattle.plm_type.specs.declared.program.Statement.TheVariants as statement
 use Rattle.plm_type.specs.declared.program.Statement.TheBlock.{hidden-the_row-Statement-If-1-1-0}
-use Rattle.plm_type.specs.declared.program.Loop.{Loop}
 use Rattle.plm_type.specs.Rest as rest
-use Rattle.plm_type.specs.View.{expression_of, expressions_in, expressions_of, chained_in, chained, subscripts_in, subscripts_of, statement_of, statements_in, statements_of, scalar_of, loop_of, reference_of, anchor_of}
+use Rattle.plm_type.specs.View.{expression_of, expressions_in, expressions_of, chained_in, chained, subscripts_in, subscripts_of, statement_of, statements_in, statements_of}
 
 expression_rows : {m : _} (row : Row_of-Expression m) → expressions_in row ≡ expressions_of (items-the_row-Expression m row)
 expression_rows end_of-Expression = refl

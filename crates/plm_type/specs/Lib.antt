@@ -7,6 +7,8 @@ pub mod Shapes
 pub mod Typing
 pub mod Faults
 pub mod Trees
+pub mod Typer
+pub mod Expressions
 pub mod Statements
 pub mod Nodes
 pub mod Leaves

@@ -20,9 +20,9 @@ handler_among variables procedures sizes vector (p ∷ ps) = cond (handles vecto
 module _ (names : Names) where
   abbrev pub faults : List Found
   faults =
-      of_locations names.variables.items (declared_procedures names) (map declared_location_of names.locations.items)
-      ++ (of_procedures names.variables.items (declared_procedures names) (declared_procedures names)
-      ++ of_main names.variables.items (declared_procedures names) (main_of names.main))
+      of_locations names.variables.items (declared_procedures names) (sizes_of names) (map declared_location_of names.locations.items)
+      ++ (of_procedures names.variables.items (declared_procedures names) (sizes_of names) (declared_procedures names)
+      ++ of_main names.variables.items (declared_procedures names) (sizes_of names) (main_of names.main))
 
   abbrev pub main_tree : Statements
   main_tree = main_for names.variables.items (declared_procedures names) (sizes_of names) (main_of names.main)

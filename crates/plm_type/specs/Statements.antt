@@ -1,4 +1,4 @@
--- Statements, procedures and main: their faults, and what they do with types known and names as places.
+-- Statements, procedures and main: what is said of each, with names as places.
 use Rattle.std.specs.Prelude.{ℕ, Bool, true, false, not, ◌&&◌, ◌||◌, nat_eq, nat_le, cond, List, [], ◌∷◌, ◌++◌, length, slice_get, Option, Some, None, is_some}
 use Rattle.word86.specs.declared.number.Number.TheVariants.{E401, E403}
 use Rattle.word86.specs.declared.width.Width.{Width}
@@ -19,9 +19,11 @@ use Rattle.plm_type.specs.declared.statements.Around.TheVariants as stands
 use Rattle.plm_type.specs.Rest.{Expression, Constant, Call, Target, Targets, Only, Also, Scalar, Count, Statement, Empty, Assign, Evaluate, Return, ReturnValue, Enabling, Disabling, Halting, If, Block, While, Case, Iterate, Statements, End, Then, Procedure}
 use Rattle.plm_type.specs.Types.{width_of, may_be_number, may_be_pointer, takes, may_be_numbers, may_be_pointers}
 use Rattle.plm_type.specs.Shapes.{form_type, has_room, is_based, scalar_for, scalar_size}
-use Rattle.plm_type.specs.Typing.{type_of, types_of, target_type, may_be_assigned}
-use Rattle.plm_type.specs.Faults.{first_place, fault_unless, faults_of, faults_in, call_faults, target_faults, location_faults}
-use Rattle.plm_type.specs.Trees.{tree_of, trees_of, target_of, entry_of}
+use Rattle.plm_type.specs.Typing.{may_be_assigned}
+use Rattle.plm_type.specs.Faults.{first_place, fault_unless, call_faults}
+use Rattle.plm_type.specs.Trees.{entry_of}
+use Rattle.plm_type.specs.Typer.{Typed, TypedTargets, Noted}
+use Rattle.plm_type.specs.Expressions.{typed, list, location, target}
 
 -- RETURN stands in procedures alone, with a value exactly in a typed one
 abbrev pub may_return : Around → Bool
@@ -75,108 +77,120 @@ module _ (variables : List Variable) where
   variable_meant (binding.Variable v) = slice_get variables v
   variable_meant _ = None
 
-module _ (variables : List Variable) (procedures : List ProcedureR) where
-  abbrev pub target_types : ReferencesR → List (Option ScalarType)
-  target_types no_references = []
-  target_types (references x xs) = target_type variables procedures x ∷ target_types xs
+-- ---- statements whose parts are typed
 
--- ---- faults
-module _ (variables : List Variable) (procedures : List ProcedureR) (module_index : ℕ) where
-  abbrev pub of_expression : ExpressionR → List Found
-  of_expression e = faults_of variables procedures module_index e
+abbrev pub silent : Statement → Noted Statement
+silent s = record { tree = s; faults = [] }
+
+abbrev pub one : Noted Statement → Noted Statements
+one s = record { tree = Then s.tree End; faults = s.faults }
+
+abbrev pub before : Noted Statement → Noted Statements → Noted Statements
+before s ss = record { tree = Then s.tree ss.tree; faults = s.faults ++ ss.faults }
+
+abbrev pub evaluated : Noted Expression → Noted Statement
+evaluated e = record { tree = Evaluate e.tree; faults = e.faults }
+
+abbrev pub return_alone : (module_index : ℕ) → Around → Position → Noted Statement
+return_alone module_index around p = record { tree = Return; faults = fault_unless module_index (may_return around) E401 p }
+
+abbrev pub with_value : Around → Noted Expression → Noted Statement
+with_value around e = record { tree = ReturnValue (returned_width around) e.tree; faults = e.faults }
+
+abbrev pub conditional : Noted Expression → Noted Statement → Noted Statement
+conditional e s = record { tree = If e.tree (Then s.tree End) End; faults = e.faults ++ s.faults }
+
+abbrev pub alternative : Noted Expression → Noted Statement → Noted Statement → Noted Statement
+alternative e s t = record { tree = If e.tree (Then s.tree End) (Then t.tree End); faults = e.faults ++ (s.faults ++ t.faults) }
+
+abbrev pub block : Noted Statements → Noted Statement
+block ss = record { tree = Block ss.tree; faults = ss.faults }
+
+abbrev pub while_loop : Noted Expression → Noted Statements → Noted Statement
+while_loop e ss = record { tree = While e.tree e.tree ss.tree; faults = e.faults ++ ss.faults }
+
+abbrev pub cases : Noted Expression → Noted Statements → Noted Statement
+cases e ss = record { tree = Case e.tree ss.tree; faults = e.faults ++ ss.faults }
+
+abbrev pub iteration : Noted Scalar → (from bound step : Noted Expression) → Noted Statements → Noted Statement
+iteration i a b s ss = record {
+  tree = Iterate a.tree (Count i.tree b.tree s.tree ss.tree);
+  faults = i.faults ++ (a.faults ++ (b.faults ++ (s.faults ++ ss.faults)));
+}
+
+-- ---- in a program that declares these
+module _ (variables : List Variable) (procedures : List ProcedureR) (sizes : List ℕ) (module_index : ℕ) where
+  abbrev expression : ExpressionR → Typed
+  expression e = typed variables procedures sizes module_index e
 
   -- a condition, a bound, the value of DO CASE
-  abbrev pub of_number : Position → ExpressionR → List Found
-  of_number p e = of_expression e ++ fault_unless module_index (may_be_number (type_of variables procedures e)) E401 p
+  abbrev pub number_in : Position → ExpressionR → Noted Expression
+  number_in p e = record {
+    tree = (expression e).tree;
+    faults = (expression e).faults ++ fault_unless module_index (may_be_number (expression e).scalar) E401 p;
+  }
 
-  abbrev pub of_targets : ReferencesR → List Found
-  of_targets no_references = []
-  of_targets (references x xs) = target_faults variables procedures module_index x ++ of_targets xs
+  abbrev pub typed_targets : ReferencesR → TypedTargets
+  typed_targets no_references = record { trees = []; types = []; faults = [] }
+  typed_targets (references x xs) =
+      let first = target variables procedures sizes module_index x in
+      let others = typed_targets xs in
+      record { trees = first.tree ∷ others.trees; types = first.scalar ∷ others.types; faults = first.faults ++ others.faults }
 
   -- CALL names a procedure
-  abbrev pub of_call : Position → ReferenceR' → List Found
-  of_call p (Use q (binding.Procedure n) es s) =
-      faults_in variables procedures module_index es ++ call_faults variables module_index q (slice_get procedures n) s (types_of variables procedures es)
-  of_call p (Use q _ es s) = fault_unless module_index false E401 p
+  abbrev pub typed_call : Position → ReferenceR' → Noted Expression
+  typed_call p (Use q (binding.Procedure n) es s) =
+      let procedure = slice_get procedures n in
+      let arguments = list variables procedures sizes module_index es in
+      record { tree = Call (entry_of procedure) arguments.trees; faults = arguments.faults ++ call_faults variables module_index q procedure s arguments.types }
+  typed_call p (Use q _ es s) = record { tree = Constant 0; faults = fault_unless module_index false E401 p }
 
-  abbrev pub of_index : Position → Position → Binding → List Found
-  of_index p q m =
-      fault_unless module_index (is_index (variable_meant variables m)) E401 p
-      ++ fault_unless module_index (may_be_assigned (variable_meant variables m)) E403 q
-
-  abbrev pub of_step : Position → Option ExpressionR → List Found
-  of_step p None = []
-  of_step p (Some e) = of_number p e
-
-  abbrev pub of_assignment : ReferencesR → ExpressionR → List Found
-  of_assignment xs e =
-      of_targets xs ++ (of_expression e
-      ++ fault_unless module_index (all_take (target_types variables procedures xs) (type_of variables procedures e)) E401 (first_target xs e))
-
-  abbrev pub of_returned : Around → Position → ExpressionR → List Found
-  of_returned around p e = of_expression e ++ fault_unless module_index (may_return_value around (type_of variables procedures e)) E401 p
-
-  abbrev mutual
-    pub of_statement : Around → StatementR → List Found
-    of_statement around (EmptyR p) = []
-    of_statement around (AssignR xs e) = of_assignment xs e
-    of_statement around (CallR p x) = of_call p x
-    of_statement around (ReturnR p) = fault_unless module_index (may_return around) E401 p
-    of_statement around (ReturnValueR p e) = of_returned around p e
-    of_statement around (EnableR p) = []
-    of_statement around (DisableR p) = []
-    of_statement around (HaltR p) = []
-    of_statement around (IfR p e s) = of_number p e ++ of_statement around s
-    of_statement around (IfElseR p e s t) = of_number p e ++ (of_statement around s ++ of_statement around t)
-    of_statement around (DoR p ss) = of_statements around ss
-    of_statement around (WhileR p e ss) = of_number p e ++ of_statements around ss
-    of_statement around (CaseR p e ss) = of_number p e ++ of_statements around ss
-    of_statement around (IterateR p q m a b s ss) =
-        of_index p q m ++ (of_number p a ++ (of_number p b ++ (of_step p s ++ of_statements around ss)))
-
-    pub of_statements : Around → StatementsR → List Found
-    of_statements around no_statements = []
-    of_statements around (statements s ss) = of_statement around s ++ of_statements around ss
-
--- ---- trees
-module _ (variables : List Variable) (procedures : List ProcedureR) (sizes : List ℕ) (module_index : ℕ) where
-  abbrev pub tree_for : ExpressionR → Expression
-  tree_for e = tree_of variables procedures sizes module_index e
-
-  abbrev pub target_trees : ReferencesR → List Target
-  target_trees no_references = []
-  target_trees (references x xs) = target_of variables procedures sizes module_index x ∷ target_trees xs
-
-  abbrev pub called : ReferenceR' → Expression
-  called (Use q (binding.Procedure n) es s) = Call (entry_of (slice_get procedures n)) (trees_of variables procedures sizes module_index es)
-  called (Use q _ es s) = Constant 0
+  abbrev pub typed_index : Position → Position → Binding → Noted Scalar
+  typed_index p q m =
+      let variable = variable_meant variables m in
+      record { tree = index_for variable; faults = fault_unless module_index (is_index variable) E401 p ++ fault_unless module_index (may_be_assigned variable) E403 q }
 
   -- the step is 1 if it is missing
-  abbrev pub step_for : Option ExpressionR → Expression
-  step_for None = Constant 1
-  step_for (Some e) = tree_for e
+  abbrev pub typed_step : Position → Option ExpressionR → Noted Expression
+  typed_step p None = record { tree = Constant 1; faults = [] }
+  typed_step p (Some e) = number_in p e
+
+  abbrev pub typed_assignment : ReferencesR → ExpressionR → Noted Statement
+  typed_assignment xs e =
+      let stored = typed_targets xs in
+      let value = expression e in
+      record {
+        tree = assignment stored.trees value.tree;
+        faults = stored.faults ++ (value.faults ++ fault_unless module_index (all_take stored.types value.scalar) E401 (first_target xs e));
+      }
+
+  abbrev pub typed_return : Around → Position → ExpressionR → Noted Expression
+  typed_return around p e = record {
+    tree = (expression e).tree;
+    faults = (expression e).faults ++ fault_unless module_index (may_return_value around (expression e).scalar) E401 p;
+  }
 
   abbrev mutual
-    pub statement_for : Around → StatementR → Statement
-    statement_for around (EmptyR p) = Empty
-    statement_for around (AssignR xs e) = assignment (target_trees xs) (tree_for e)
-    statement_for around (CallR p x) = Evaluate (called x)
-    statement_for around (ReturnR p) = Return
-    statement_for around (ReturnValueR p e) = ReturnValue (returned_width around) (tree_for e)
-    statement_for around (EnableR p) = Enabling
-    statement_for around (DisableR p) = Disabling
-    statement_for around (HaltR p) = Halting
-    statement_for around (IfR p e s) = If (tree_for e) (Then (statement_for around s) End) End
-    statement_for around (IfElseR p e s t) = If (tree_for e) (Then (statement_for around s) End) (Then (statement_for around t) End)
-    statement_for around (DoR p ss) = Block (statements_for around ss)
-    statement_for around (WhileR p e ss) = While (tree_for e) (tree_for e) (statements_for around ss)
-    statement_for around (CaseR p e ss) = Case (tree_for e) (statements_for around ss)
-    statement_for around (IterateR p q m a b s ss) =
-        Iterate (tree_for a) (Count (index_for (variable_meant variables m)) (tree_for b) (step_for s) (statements_for around ss))
+    pub typed_statement : Around → StatementR → Noted Statement
+    typed_statement around (EmptyR p) = silent Empty
+    typed_statement around (AssignR xs e) = typed_assignment xs e
+    typed_statement around (CallR p x) = evaluated (typed_call p x)
+    typed_statement around (ReturnR p) = return_alone module_index around p
+    typed_statement around (ReturnValueR p e) = with_value around (typed_return around p e)
+    typed_statement around (EnableR p) = silent Enabling
+    typed_statement around (DisableR p) = silent Disabling
+    typed_statement around (HaltR p) = silent Halting
+    typed_statement around (IfR p e s) = conditional (number_in p e) (typed_statement around s)
+    typed_statement around (IfElseR p e s t) = alternative (number_in p e) (typed_statement around s) (typed_statement around t)
+    typed_statement around (DoR p ss) = block (typed_statements around ss)
+    typed_statement around (WhileR p e ss) = while_loop (number_in p e) (typed_statements around ss)
+    typed_statement around (CaseR p e ss) = cases (number_in p e) (typed_statements around ss)
+    typed_statement around (IterateR p q m a b s ss) =
+        iteration (typed_index p q m) (number_in p a) (number_in p b) (typed_step p s) (typed_statements around ss)
 
-    pub statements_for : Around → StatementsR → Statements
-    statements_for around no_statements = End
-    statements_for around (statements s ss) = Then (statement_for around s) (statements_for around ss)
+    pub typed_statements : Around → StatementsR → Noted Statements
+    typed_statements around no_statements = record { tree = End; faults = [] }
+    typed_statements around (statements s ss) = before (typed_statement around s) (typed_statements around ss)
 
 -- ---- procedures and main
 
@@ -216,9 +230,23 @@ abbrev pub interrupt_fits : Option ℕ → Bool
 interrupt_fits None = true
 interrupt_fits (Some n) = nat_le n 255
 
-module _ (variables : List Variable) (procedures : List ProcedureR) where
+module _ (variables : List Variable) where
+  abbrev pub parameters_for : List ℕ → List Scalar
+  parameters_for [] = []
+  parameters_for (x ∷ xs) = index_for (slice_get variables x) ∷ parameters_for xs
+
+module _ (variables : List Variable) (procedures : List ProcedureR) (sizes : List ℕ) where
+  -- an EXTERNAL one has none
+  abbrev pub body_of : ProcedureR → Noted Statements
+  body_of p =
+      let body = typed_statements variables procedures sizes p.module (stands.Procedure p.returned) p.body in
+      record { tree = cond (is_external p.linkage) End body.tree; faults = cond (is_external p.linkage) [] body.faults }
+
   abbrev pub of_body : ProcedureR → List Found
-  of_body p = cond (is_external p.linkage) [] (of_statements variables procedures p.module (stands.Procedure p.returned) p.body)
+  of_body p = (body_of p).faults
+
+  abbrev pub body_for : ProcedureR → Statements
+  body_for p = (body_of p).tree
 
   abbrev pub of_procedure : ProcedureR → List Found
   of_procedure p =
@@ -229,27 +257,21 @@ module _ (variables : List Variable) (procedures : List ProcedureR) where
   of_procedures [] = []
   of_procedures (p ∷ ps) = of_procedure p ++ of_procedures ps
 
+  abbrev pub procedure_for : ProcedureR → Procedure
+  procedure_for p = record { parameters = parameters_for variables p.parameters; body = body_for p }
+
   abbrev pub of_location : DeclaredLocationR → List Found
-  of_location l = location_faults variables procedures l.module l.location
+  of_location l = (location variables procedures sizes l.module l.location).faults
 
   abbrev pub of_locations : List DeclaredLocationR → List Found
   of_locations [] = []
   of_locations (l ∷ ls) = of_location l ++ of_locations ls
 
+  abbrev pub typed_main : MainR → Noted Statements
+  typed_main m = typed_statements variables procedures sizes m.module stands.Main m.statements
+
   abbrev pub of_main : MainR → List Found
-  of_main m = of_statements variables procedures m.module stands.Main m.statements
-
-module _ (variables : List Variable) where
-  abbrev pub parameters_for : List ℕ → List Scalar
-  parameters_for [] = []
-  parameters_for (x ∷ xs) = index_for (slice_get variables x) ∷ parameters_for xs
-
-module _ (variables : List Variable) (procedures : List ProcedureR) (sizes : List ℕ) where
-  abbrev pub body_for : ProcedureR → Statements
-  body_for p = cond (is_external p.linkage) End (statements_for variables procedures sizes p.module (stands.Procedure p.returned) p.body)
-
-  abbrev pub procedure_for : ProcedureR → Procedure
-  procedure_for p = record { parameters = parameters_for variables p.parameters; body = body_for p }
+  of_main m = (typed_main m).faults
 
   abbrev pub main_for : MainR → Statements
-  main_for m = statements_for variables procedures sizes m.module stands.Main m.statements
+  main_for m = (typed_main m).tree

@@ -1,5 +1,5 @@
--- Expressions: their types.
-use Rattle.std.specs.Prelude.{ℕ, ◌-◌, ◌*◌, Bool, true, false, not, ◌&&◌, nat_eq, cond, List, [], ◌∷◌, ◌++◌, length, slice_get, Option, Some, None, is_some}
+-- Types of constructs whose parts have their types; what has a fault has none.
+use Rattle.std.specs.Prelude.{ℕ, ◌-◌, ◌*◌, Bool, true, false, not, ◌&&◌, nat_eq, cond, List, [], ◌∷◌, ◌++◌, length, slice_get, Option, Some, None}
 use Rattle.plm_syntax.specs.declared.tree.LocationForm.{LocationForm}
 use Rattle.plm_syntax.specs.declared.tree.LocationForm.TheVariants as locating
 use Rattle.plm_decl.specs.declared.builtin.Builtin.{Builtin}
@@ -7,14 +7,11 @@ use Rattle.plm_decl.specs.declared.builtin.Builtin.TheVariants as builtin
 use Rattle.plm_decl.specs.declared.layout.ScalarType.{ScalarType}
 use Rattle.plm_decl.specs.declared.layout.ScalarType.TheVariants.{Byte, Word, Pointer}
 use Rattle.plm_decl.specs.declared.names.Variable.{Variable}
-use Rattle.plm_decl.specs.declared.resolved.Binding.TheVariants as binding
 use Rattle.plm_decl.specs.Names.{ProcedureR}
 use Rattle.plm_decl.specs.Layout.{counted}
-use Rattle.plm_decl.specs.Resolved.{ExpressionR, NumberR, TextR, ReferenceR, LocationR, ParenthesisedR, EmbeddedR, UnaryR, BinaryR, ReferenceR', Use, ExpressionsR, no_expressions, expressions, SelectorR, no_member, member, member_at, LocationR', LocationOf, ConstantsOf}
-use Rattle.plm_type.specs.Types.{are_known_numbers, are_known, takes, number_type, text_type, binary_type, unary_type}
+use Rattle.plm_decl.specs.Resolved.{SelectorR, no_member}
+use Rattle.plm_type.specs.Types.{are_known_numbers, are_known, takes, number_type}
 use Rattle.plm_type.specs.Shapes.{shape_fits, designated, form_type, element_count, element_size, is_on_screen}
-
--- ---- types
 
 -- each argument that has a parameter is taken by it
 abbrev pub take_all : List (Option ScalarType) → List (Option ScalarType) → Bool
@@ -124,7 +121,7 @@ may_be_assigned (Some v) = not v.is_data
 abbrev pub located_type : LocationForm → Option Variable → SelectorR → List (Option ScalarType) → List (Option ScalarType) → Option ScalarType
 located_type f v s ts us = given_if (may_be_located v && use_fits true v s ts us) (Some (location_type f))
 
--- ---- the types of expressions, in a program that declares these
+-- ---- calls, in a program that declares these
 module _ (variables : List Variable) where
   abbrev pub parameter_types : List ℕ → List (Option ScalarType)
   parameter_types [] = []
@@ -137,55 +134,3 @@ module _ (variables : List Variable) where
 
   abbrev pub called_type : Option ProcedureR → SelectorR → List (Option ScalarType) → Option ScalarType
   called_type q s ts = given_if (is_plain s && (call_fits q ts && are_known ts)) (returned_type q)
-
-module _ (variables : List Variable) (procedures : List ProcedureR) where
-  abbrev mutual
-    pub type_of : ExpressionR → Option ScalarType
-    type_of (NumberR n) = number_type n.value
-    type_of (TextR p cs) = text_type cs
-    type_of (ReferenceR x) = value_type x
-    type_of (LocationR l) = address_type l
-    type_of (ParenthesisedR p e) = type_of e
-    type_of (EmbeddedR p x e) = given_if (is_some (target_type x) && takes (target_type x) (type_of e)) (type_of e)
-    type_of (UnaryR p o e) = unary_type (type_of e)
-    type_of (BinaryR p o a b) = binary_type o (type_of a) (type_of b)
-
-    pub types_of : ExpressionsR → List (Option ScalarType)
-    types_of no_expressions = []
-    types_of (expressions e es) = type_of e ∷ types_of es
-
-    -- of a member's subscript
-    pub selector_types : SelectorR → List (Option ScalarType)
-    selector_types no_member = []
-    selector_types (member p m) = []
-    selector_types (member_at p m e) = type_of e ∷ []
-
-    pub value_type : ReferenceR' → Option ScalarType
-    value_type (Use p (binding.Variable v) es s) = use_type (slice_get variables v) s (types_of es) (selector_types s)
-    value_type (Use p (binding.Procedure q) es s) = called_type variables (slice_get procedures q) s (types_of es)
-    value_type (Use p (binding.Builtin b) es s) = cond (is_measure b) (given_if (is_plain s) (measured_type b es)) (given_if (builtin_fits b s (types_of es)) (builtin_type b (types_of es)))
-    value_type (Use p binding.Nothing es s) = None
-
-    pub measured_type : Builtin → ExpressionsR → Option ScalarType
-    measured_type b no_expressions = None
-    measured_type b (expressions e no_expressions) = argument_type b e
-    measured_type b (expressions e (expressions d es)) = None
-
-    -- of what LENGTH, LAST and SIZE take: a plain reference to a variable
-    pub argument_type : Builtin → ExpressionR → Option ScalarType
-    argument_type b (ReferenceR x) = reference_type b x
-    argument_type b _ = None
-
-    pub reference_type : Builtin → ReferenceR' → Option ScalarType
-    reference_type b (Use p (binding.Variable v) es s) = measure_type b (slice_get variables v) s (types_of es) (selector_types s)
-    reference_type b (Use p _ es s) = None
-
-    pub address_type : LocationR' → Option ScalarType
-    address_type (LocationOf p f (Use q (binding.Variable v) es s)) = located_type f (slice_get variables v) s (types_of es) (selector_types s)
-    address_type (LocationOf p f (Use q _ es s)) = None
-    address_type (ConstantsOf p f k) = Some (location_type f)
-
-    pub target_type : ReferenceR' → Option ScalarType
-    target_type (Use p (binding.Variable v) es s) = use_type (slice_get variables v) s (types_of es) (selector_types s)
-    target_type (Use p (binding.Builtin b) es s) = given_if (builtin_fits b s (types_of es)) (port_type b)
-    target_type (Use p _ es s) = None

@@ -3,13 +3,11 @@
 ghost use Rattle.std.specs.Prelude.{◌≡◌, ◌++◌, IfOk, OnOk, option_map, take};
 ghost use Rattle.plm_decl.specs.Names.{procedure_of};
 ghost use Rattle.plm_decl.specs.ResolvedView as resolved;
-ghost use Rattle.plm_type.specs.Rest.{Call};
-ghost use Rattle.plm_type.specs.Inner.Typer.{variables};
-ghost use Rattle.plm_type.specs.Types as scalars;
+ghost use Rattle.plm_type.specs.Inner.Typer.{variables, said, target_said, list_said};
 ghost use Rattle.plm_type.specs.Typing as typing;
 ghost use Rattle.plm_type.specs.Faults as found;
 ghost use Rattle.plm_type.specs.Trees as spec;
-ghost use Rattle.plm_type.specs.View as view;
+ghost use Rattle.plm_type.specs.Expressions as typed;
 
 use crate::builtins::{
     arity, builtin_fits, builtin_type, builtin_value, first_width, is_plain, is_target, port_type,
@@ -129,9 +127,7 @@ impl Typer<'_> {
         arguments: TypedList,
         faults: &mut Vec<Found>,
     ) -> Result<Typed, AllocError>
-        ensures tree { IfOk result (λ r. view.expression_of r.tree ≡ Call (spec.entry_of (option_map (λ p. procedure_of p.now) procedure.entry)) (view.expressions_of arguments.trees.items)) }
-        ensures scalar { IfOk result (λ r. r.scalar ≡ typing.called_type (variables self.now) (option_map (λ p. procedure_of p.now) procedure.entry) (resolved.selector_of reference.now.selector) arguments.types.items) }
-        ensures faults { OnOk result (faults.new.items ≡ faults.old.items ++ found.called_faults (variables self.now) self.now.module reference.now.place (option_map (λ p. procedure_of p.now) procedure.entry) (resolved.selector_of reference.now.selector) arguments.types.items) }
+        ensures { IfOk result (λ r. said r faults.new.items ≡ typed.called (variables self.now) self.now.module reference.now.place (option_map (λ p. procedure_of p.now) procedure.entry) (resolved.selector_of reference.now.selector) (list_said arguments faults.old.items)) }
     {
         let selector = &reference.selector;
         self.note_call(
@@ -175,9 +171,7 @@ impl Typer<'_> {
         arguments: TypedList,
         faults: &mut Vec<Found>,
     ) -> Result<Typed, AllocError>
-        ensures tree { IfOk result (λ r. view.expression_of r.tree ≡ spec.builtin_value self.now.module reference.now.place.line builtin (scalars.width_of (typing.first_type arguments.types.items)) (view.expressions_of arguments.trees.items)) }
-        ensures scalar { IfOk result (λ r. r.scalar ≡ typing.given_if (typing.builtin_fits builtin (resolved.selector_of reference.now.selector) arguments.types.items) (typing.builtin_type builtin arguments.types.items)) }
-        ensures faults { OnOk result (faults.new.items ≡ faults.old.items ++ found.builtin_faults self.now.module reference.now.place builtin (resolved.selector_of reference.now.selector) arguments.types.items) }
+        ensures { IfOk result (λ r. said r faults.new.items ≡ typed.operated self.now.module reference.now.place builtin (resolved.selector_of reference.now.selector) (list_said arguments faults.old.items)) }
     {
         let selector = &reference.selector;
         self.note_builtin(reference.place, builtin, selector, &arguments.types, faults)?;
@@ -200,9 +194,7 @@ impl Typer<'_> {
         arguments: TypedList,
         faults: &mut Vec<Found>,
     ) -> Result<TypedTarget, AllocError>
-        ensures tree { IfOk result (λ r. view.target_of r.tree ≡ spec.to_port builtin (view.expressions_of arguments.trees.items)) }
-        ensures scalar { IfOk result (λ r. r.scalar ≡ typing.given_if (typing.builtin_fits builtin (resolved.selector_of reference.now.selector) arguments.types.items) (typing.port_type builtin)) }
-        ensures faults { OnOk result (faults.new.items ≡ faults.old.items ++ found.port_faults self.now.module reference.now.place builtin (resolved.selector_of reference.now.selector) arguments.types.items) }
+        ensures { IfOk result (λ r. target_said r faults.new.items ≡ typed.port self.now.module reference.now.place builtin (resolved.selector_of reference.now.selector) (list_said arguments faults.old.items)) }
     {
         let selector = &reference.selector;
         self.note_unless(is_target(builtin), Number::E401, reference.place, faults)?;

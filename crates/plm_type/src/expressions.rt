@@ -1,16 +1,14 @@
 //! Expressions: their types, their faults, and their trees with names as places.
 
-ghost use Rattle.std.specs.Prelude.{◌≡◌, ◌++◌, ◌&&◌, false, nat_le, is_some, slice_get, IfOk, OnOk, Some, None};
+ghost use Rattle.std.specs.Prelude.{◌≡◌, [], slice_get, IfOk, None};
 ghost use Rattle.word86.specs.declared.number.Number.TheVariants.{E401, E402};
 ghost use Rattle.plm_decl.specs.ResolvedView as resolved;
-ghost use Rattle.plm_type.specs.Rest.{Constant, Unary, Binary, Embedded};
-ghost use Rattle.plm_type.specs.Rest as rest;
-ghost use Rattle.plm_type.specs.Inner.Typer.{variables, procedures, sizes};
-ghost use Rattle.plm_type.specs.Types as scalars;
-ghost use Rattle.plm_type.specs.Typing as typing;
+ghost use Rattle.plm_type.specs.Rest.{Constant, Embedded};
 ghost use Rattle.plm_type.specs.Faults as found;
-ghost use Rattle.plm_type.specs.Trees as spec;
-ghost use Rattle.plm_type.specs.Inner.Chains as chains;
+ghost use Rattle.plm_type.specs.Trees as trees;
+ghost use Rattle.plm_type.specs.Expressions as spec;
+ghost use Rattle.plm_type.specs.Inner.Typer.{variables, procedures, sizes, said, target_said, list_said, parts_said, after, target_after, list_after, parts_after, typed_by, list_by, selector_by, parts_by, value_by, arguments_by, argument_by, location_by, target_by};
+ghost use Rattle.plm_type.specs.Inner.Chains.{chain};
 ghost use Rattle.plm_type.specs.View as view;
 
 use crate::builtins::{applied, constant, is_measure, is_plain, is_target, operation, text_value};
@@ -72,9 +70,7 @@ impl Typer<'_> {
         number: plm_syntax::Numeral,
         faults: &mut Vec<Found>,
     ) -> Result<Typed, AllocError>
-        ensures tree { IfOk result (λ r. view.expression_of r.tree ≡ spec.constant number.value) }
-        ensures scalar { IfOk result (λ r. r.scalar ≡ scalars.number_type number.value) }
-        ensures faults { OnOk result (faults.new.items ≡ faults.old.items ++ found.fault_unless self.now.module (nat_le number.value 65535) E401 number.place) }
+        ensures { IfOk result (λ r. said r faults.new.items ≡ after faults.old.items (spec.number self.now.module number.value number.place)) }
     {
         self.note_unless(number.value <= 0xFFFF, Number::E401, number.place, faults)?;
         let value = u64::from(number.value);
@@ -90,9 +86,7 @@ impl Typer<'_> {
         characters: &[u8],
         faults: &mut Vec<Found>,
     ) -> Result<Typed, AllocError>
-        ensures tree { IfOk result (λ r. view.expression_of r.tree ≡ spec.constant (spec.text_value characters.now)) }
-        ensures scalar { IfOk result (λ r. r.scalar ≡ scalars.text_type characters.now) }
-        ensures faults { OnOk result (faults.new.items ≡ faults.old.items ++ found.fault_unless self.now.module (is_some (scalars.text_type characters.now)) E401 place) }
+        ensures { IfOk result (λ r. said r faults.new.items ≡ after faults.old.items (spec.text self.now.module place characters.now)) }
     {
         let scalar = text_type(characters);
         self.note_unless(scalar.is_some(), Number::E401, place, faults)?;
@@ -109,9 +103,7 @@ impl Typer<'_> {
         value: Typed,
         faults: &mut Vec<Found>,
     ) -> Result<Typed, AllocError>
-        ensures tree { IfOk result (λ r. view.expression_of r.tree ≡ Embedded (view.target_of target.tree) (view.expression_of value.tree)) }
-        ensures scalar { IfOk result (λ r. r.scalar ≡ typing.given_if (is_some target.scalar && scalars.takes target.scalar value.scalar) value.scalar) }
-        ensures faults { OnOk result (faults.new.items ≡ faults.old.items ++ found.fault_unless self.now.module (scalars.takes target.scalar value.scalar) E401 place) }
+        ensures { IfOk result (λ r. said r faults.new.items ≡ spec.embedded self.now.module place (target_said target faults.old.items) (said value [])) }
     {
         let is_taken = takes(target.scalar, value.scalar);
         self.note_unless(is_taken, Number::E401, place, faults)?;
@@ -131,9 +123,7 @@ impl Typer<'_> {
         operand: Typed,
         faults: &mut Vec<Found>,
     ) -> Result<Typed, AllocError>
-        ensures tree { IfOk result (λ r. view.expression_of r.tree ≡ Unary (scalars.unary_operation operator) (scalars.width_of operand.scalar) (view.expression_of operand.tree)) }
-        ensures scalar { IfOk result (λ r. r.scalar ≡ scalars.unary_type operand.scalar) }
-        ensures faults { OnOk result (faults.new.items ≡ faults.old.items ++ found.fault_unless self.now.module (scalars.may_be_number operand.scalar) E401 place) }
+        ensures { IfOk result (λ r. said r faults.new.items ≡ spec.unary self.now.module place operator (said operand faults.old.items)) }
     {
         self.note_unless(may_be_number(operand.scalar), Number::E401, place, faults)?;
         let operation = unary_operation(operator);
@@ -154,9 +144,7 @@ impl Typer<'_> {
         right: Typed,
         faults: &mut Vec<Found>,
     ) -> Result<Typed, AllocError>
-        ensures tree { IfOk result (λ r. view.expression_of r.tree ≡ Binary self.now.module place.line (scalars.binary_operation operator) (scalars.width_of (scalars.binary_type operator left.scalar right.scalar)) (view.expression_of left.tree) (view.expression_of right.tree)) }
-        ensures scalar { IfOk result (λ r. r.scalar ≡ scalars.binary_type operator left.scalar right.scalar) }
-        ensures faults { OnOk result (faults.new.items ≡ faults.old.items ++ found.fault_unless self.now.module (scalars.operands_fit operator left.scalar right.scalar) E401 first) }
+        ensures { IfOk result (λ r. said r faults.new.items ≡ spec.binary self.now.module place operator first (said left faults.old.items) (said right [])) }
     {
         let fit = operands_fit(operator, left.scalar, right.scalar);
         self.note_unless(fit, Number::E401, first, faults)?;
@@ -176,9 +164,7 @@ impl Typer<'_> {
 
     /// What is faulty, and has no value.
     fn refused(&self, place: Position, faults: &mut Vec<Found>) -> Result<Typed, AllocError>
-        ensures tree { IfOk result (λ r. view.expression_of r.tree ≡ Constant 0) }
-        ensures scalar { IfOk result (λ r. r.scalar ≡ None) }
-        ensures faults { OnOk result (faults.new.items ≡ faults.old.items ++ found.fault_unless self.now.module false E401 place) }
+        ensures { IfOk result (λ r. said r faults.new.items ≡ after faults.old.items (spec.refused self.now.module E401 place)) }
     {
         self.note_unless(false, Number::E401, place, faults)?;
         Ok(nothing())
@@ -186,9 +172,7 @@ impl Typer<'_> {
 
     /// A call with the wrong number of arguments, which has no value.
     fn miscounted(&self, place: Position, faults: &mut Vec<Found>) -> Result<Typed, AllocError>
-        ensures tree { IfOk result (λ r. view.expression_of r.tree ≡ Constant 0) }
-        ensures scalar { IfOk result (λ r. r.scalar ≡ None) }
-        ensures faults { OnOk result (faults.new.items ≡ faults.old.items ++ found.fault_unless self.now.module false E402 place) }
+        ensures { IfOk result (λ r. said r faults.new.items ≡ after faults.old.items (spec.refused self.now.module E402 place)) }
     {
         self.note_unless(false, Number::E402, place, faults)?;
         Ok(nothing())
@@ -196,7 +180,7 @@ impl Typer<'_> {
 
     /// How many bytes an object has.
     fn object_size(&self, object: usize) -> u64
-        ensures { result ≡ spec.object_size (slice_get (sizes self.now) object) }
+        ensures { result ≡ trees.object_size (slice_get (sizes self.now) object) }
     {
         match self.names.objects.get(object) {
             Some(object) => object.size,
@@ -206,8 +190,7 @@ impl Typer<'_> {
 
     /// The location of constant bytes.
     fn constants(&self, place: Position, form: LocationForm, object: usize) -> Typed
-        ensures tree { view.expression_of result.tree ≡ rest.Location (spec.constants_at self.now.module place.line object (spec.object_size (slice_get (sizes self.now) object))) }
-        ensures scalar { result.scalar ≡ Some (typing.location_type form) }
+        ensures { said result [] ≡ spec.constants self.now.module place form object (sizes self.now) }
     {
         let size = self.object_size(object);
         Typed {
@@ -227,9 +210,7 @@ impl Typer<'_> {
         e: &plm_decl::Expression,
         faults: &mut Vec<Found>,
     ) -> Result<Typed, AllocError>
-        ensures tree { IfOk result (λ r. view.expression_of r.tree ≡ spec.tree_of (variables self.now) (procedures self.now) (sizes self.now) self.now.module (resolved.expression_of e.now)) }
-        ensures scalar { IfOk result (λ r. r.scalar ≡ typing.type_of (variables self.now) (procedures self.now) (resolved.expression_of e.now)) }
-        ensures faults { OnOk result (faults.new.items ≡ faults.old.items ++ found.faults_of (variables self.now) (procedures self.now) self.now.module (resolved.expression_of e.now)) }
+        ensures { IfOk result (λ r. said r faults.new.items ≡ after faults.old.items (typed_by self.now (resolved.expression_of e.now))) }
     {
         match e {
             plm_decl::Expression::Number(number) => self.number(*number, faults),
@@ -262,9 +243,7 @@ impl Typer<'_> {
         left: Typed,
         faults: &mut Vec<Found>,
     ) -> Result<Typed, AllocError>
-        ensures tree { IfOk result (λ r. view.expression_of r.tree ≡ chains.chain_tree (variables self.now) (procedures self.now) (sizes self.now) self.now.module (view.expression_of left.tree) left.scalar operations.now) }
-        ensures scalar { IfOk result (λ r. r.scalar ≡ chains.chain_type (variables self.now) (procedures self.now) left.scalar operations.now) }
-        ensures faults { OnOk result (faults.new.items ≡ faults.old.items ++ chains.chain_faults (variables self.now) (procedures self.now) self.now.module first left.scalar operations.now) }
+        ensures { IfOk result (λ r. said r faults.new.items ≡ chain (variables self.now) (procedures self.now) (sizes self.now) self.now.module first (said left faults.old.items) operations.now) }
     {
         let mut typed = left;
         for operation in operations {
@@ -287,9 +266,7 @@ impl Typer<'_> {
         es: &[plm_decl::Expression],
         faults: &mut Vec<Found>,
     ) -> Result<TypedList, AllocError>
-        ensures trees { IfOk result (λ r. view.expressions_of r.trees.items ≡ spec.trees_of (variables self.now) (procedures self.now) (sizes self.now) self.now.module (resolved.expressions_of es.now)) }
-        ensures types { IfOk result (λ r. r.types.items ≡ typing.types_of (variables self.now) (procedures self.now) (resolved.expressions_of es.now)) }
-        ensures faults { OnOk result (faults.new.items ≡ faults.old.items ++ found.faults_in (variables self.now) (procedures self.now) self.now.module (resolved.expressions_of es.now)) }
+        ensures { IfOk result (λ r. list_said r faults.new.items ≡ list_after faults.old.items (list_by self.now (resolved.expressions_of es.now))) }
     {
         let mut all = TypedList::new(self.alloc);
         for e in es {
@@ -306,9 +283,7 @@ impl Typer<'_> {
         selector: &Selector,
         faults: &mut Vec<Found>,
     ) -> Result<TypedList, AllocError>
-        ensures trees { IfOk result (λ r. view.expressions_of r.trees.items ≡ spec.selector_trees (variables self.now) (procedures self.now) (sizes self.now) self.now.module (resolved.selector_of selector.now)) }
-        ensures types { IfOk result (λ r. r.types.items ≡ typing.selector_types (variables self.now) (procedures self.now) (resolved.selector_of selector.now)) }
-        ensures faults { OnOk result (faults.new.items ≡ faults.old.items ++ found.selector_faults (variables self.now) (procedures self.now) self.now.module (resolved.selector_of selector.now)) }
+        ensures { IfOk result (λ r. list_said r faults.new.items ≡ list_after faults.old.items (selector_by self.now (resolved.selector_of selector.now))) }
     {
         let mut all = TypedList::new(self.alloc);
         match selector {
@@ -328,11 +303,7 @@ impl Typer<'_> {
         reference: &plm_decl::Reference,
         faults: &mut Vec<Found>,
     ) -> Result<Parts, AllocError>
-        ensures subscripts { IfOk result (λ r. view.expressions_of r.subscripts.trees.items ≡ spec.trees_of (variables self.now) (procedures self.now) (sizes self.now) self.now.module (resolved.expressions_of reference.now.subscripts.items)) }
-        ensures member { IfOk result (λ r. view.expressions_of r.member.trees.items ≡ spec.selector_trees (variables self.now) (procedures self.now) (sizes self.now) self.now.module (resolved.selector_of reference.now.selector)) }
-        ensures subscript_types { IfOk result (λ r. r.subscripts.types.items ≡ typing.types_of (variables self.now) (procedures self.now) (resolved.expressions_of reference.now.subscripts.items)) }
-        ensures member_types { IfOk result (λ r. r.member.types.items ≡ typing.selector_types (variables self.now) (procedures self.now) (resolved.selector_of reference.now.selector)) }
-        ensures faults { OnOk result (faults.new.items ≡ faults.old.items ++ (found.faults_in (variables self.now) (procedures self.now) self.now.module (resolved.expressions_of reference.now.subscripts.items) ++ found.selector_faults (variables self.now) (procedures self.now) self.now.module (resolved.selector_of reference.now.selector))) }
+        ensures { IfOk result (λ r. parts_said r faults.new.items ≡ parts_after faults.old.items (parts_by self.now (resolved.reference_of reference.now))) }
     {
         let subscripts = self.list(&reference.subscripts, faults)?;
         let member = self.selector(&reference.selector, faults)?;
@@ -345,9 +316,7 @@ impl Typer<'_> {
         reference: &plm_decl::Reference,
         faults: &mut Vec<Found>,
     ) -> Result<Typed, AllocError>
-        ensures tree { IfOk result (λ r. view.expression_of r.tree ≡ spec.value_of (variables self.now) (procedures self.now) (sizes self.now) self.now.module (resolved.reference_of reference.now)) }
-        ensures scalar { IfOk result (λ r. r.scalar ≡ typing.value_type (variables self.now) (procedures self.now) (resolved.reference_of reference.now)) }
-        ensures faults { OnOk result (faults.new.items ≡ faults.old.items ++ found.value_faults (variables self.now) (procedures self.now) self.now.module (resolved.reference_of reference.now)) }
+        ensures { IfOk result (λ r. said r faults.new.items ≡ after faults.old.items (value_by self.now (resolved.reference_of reference.now))) }
     {
         match reference.binding {
             Binding::Variable(variable) => {
@@ -378,9 +347,7 @@ impl Typer<'_> {
         builtin: Builtin,
         faults: &mut Vec<Found>,
     ) -> Result<Typed, AllocError>
-        ensures tree { IfOk result (λ r. view.expression_of r.tree ≡ spec.measured_value (variables self.now) (procedures self.now) builtin (resolved.expressions_of reference.now.subscripts.items)) }
-        ensures scalar { IfOk result (λ r. r.scalar ≡ typing.given_if (typing.is_plain (resolved.selector_of reference.now.selector)) (typing.measured_type (variables self.now) (procedures self.now) builtin (resolved.expressions_of reference.now.subscripts.items))) }
-        ensures faults { OnOk result (faults.new.items ≡ faults.old.items ++ (found.fault_unless self.now.module (typing.is_plain (resolved.selector_of reference.now.selector)) E401 reference.now.place ++ found.measured_faults (variables self.now) (procedures self.now) self.now.module reference.now.place builtin (resolved.expressions_of reference.now.subscripts.items))) }
+        ensures { IfOk result (λ r. said r faults.new.items ≡ after faults.old.items (spec.plainly self.now.module reference.now.place (resolved.selector_of reference.now.selector) (arguments_by self.now reference.now.place builtin (resolved.expressions_of reference.now.subscripts.items)))) }
     {
         let plain = is_plain(&reference.selector);
         self.note_unless(plain, Number::E401, reference.place, faults)?;
@@ -397,9 +364,7 @@ impl Typer<'_> {
         es: &[plm_decl::Expression],
         faults: &mut Vec<Found>,
     ) -> Result<Typed, AllocError>
-        ensures tree { IfOk result (λ r. view.expression_of r.tree ≡ spec.measured_value (variables self.now) (procedures self.now) builtin (resolved.expressions_of es.now)) }
-        ensures scalar { IfOk result (λ r. r.scalar ≡ typing.measured_type (variables self.now) (procedures self.now) builtin (resolved.expressions_of es.now)) }
-        ensures faults { OnOk result (faults.new.items ≡ faults.old.items ++ found.measured_faults (variables self.now) (procedures self.now) self.now.module place builtin (resolved.expressions_of es.now)) }
+        ensures { IfOk result (λ r. said r faults.new.items ≡ after faults.old.items (arguments_by self.now place builtin (resolved.expressions_of es.now))) }
     {
         match es {
             [] => self.miscounted(place, faults),
@@ -420,9 +385,7 @@ impl Typer<'_> {
         argument: &plm_decl::Expression,
         faults: &mut Vec<Found>,
     ) -> Result<Typed, AllocError>
-        ensures tree { IfOk result (λ r. view.expression_of r.tree ≡ spec.argument_value (variables self.now) (procedures self.now) builtin (resolved.expression_of argument.now)) }
-        ensures scalar { IfOk result (λ r. r.scalar ≡ typing.argument_type (variables self.now) (procedures self.now) builtin (resolved.expression_of argument.now)) }
-        ensures faults { OnOk result (faults.new.items ≡ faults.old.items ++ found.argument_faults (variables self.now) (procedures self.now) self.now.module place builtin (resolved.expression_of argument.now)) }
+        ensures { IfOk result (λ r. said r faults.new.items ≡ after faults.old.items (argument_by self.now place builtin (resolved.expression_of argument.now))) }
     {
         match argument {
             plm_decl::Expression::Reference(reference) => {
@@ -455,9 +418,7 @@ impl Typer<'_> {
         location: &Location,
         faults: &mut Vec<Found>,
     ) -> Result<Typed, AllocError>
-        ensures tree { IfOk result (λ r. view.expression_of r.tree ≡ spec.location_of (variables self.now) (procedures self.now) (sizes self.now) self.now.module (resolved.location_of location.now)) }
-        ensures scalar { IfOk result (λ r. r.scalar ≡ typing.address_type (variables self.now) (procedures self.now) (resolved.location_of location.now)) }
-        ensures faults { OnOk result (faults.new.items ≡ faults.old.items ++ found.location_faults (variables self.now) (procedures self.now) self.now.module (resolved.location_of location.now)) }
+        ensures { IfOk result (λ r. said r faults.new.items ≡ after faults.old.items (location_by self.now (resolved.location_of location.now))) }
     {
         match location {
             Location::Reference(place, form, reference) => {
@@ -486,9 +447,7 @@ impl Typer<'_> {
         reference: &plm_decl::Reference,
         faults: &mut Vec<Found>,
     ) -> Result<TypedTarget, AllocError>
-        ensures tree { IfOk result (λ r. view.target_of r.tree ≡ spec.target_of (variables self.now) (procedures self.now) (sizes self.now) self.now.module (resolved.reference_of reference.now)) }
-        ensures scalar { IfOk result (λ r. r.scalar ≡ typing.target_type (variables self.now) (procedures self.now) (resolved.reference_of reference.now)) }
-        ensures faults { OnOk result (faults.new.items ≡ faults.old.items ++ found.target_faults (variables self.now) (procedures self.now) self.now.module (resolved.reference_of reference.now)) }
+        ensures { IfOk result (λ r. target_said r faults.new.items ≡ target_after faults.old.items (target_by self.now (resolved.reference_of reference.now))) }
     {
         match reference.binding {
             Binding::Variable(variable) => {

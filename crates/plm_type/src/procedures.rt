@@ -3,7 +3,7 @@
 
 ghost use Rattle.std.specs.Prelude.{◌≡◌, ◌++◌, IfOk, OnOk, map, option_map, slice_get};
 ghost use Rattle.plm_decl.specs.Names.{procedure_of, declared_location_of, main_of};
-ghost use Rattle.plm_type.specs.Inner.Typer.{variables, procedures, sizes};
+ghost use Rattle.plm_type.specs.Inner.Typer.{variables, procedures, sizes, noted, noted_after};
 ghost use Rattle.plm_type.specs.Statements as spec;
 ghost use Rattle.plm_type.specs.View as view;
 
@@ -127,8 +127,7 @@ impl Typer<'_> {
         faults: &mut Vec<Found>,
     ) -> Result<Vec<Box<Statement>>, AllocError>
         requires { procedure.now.module ≡ self.now.module }
-        ensures tree { IfOk result (λ r. view.statements_of r.items ≡ spec.body_for (variables self.now) (procedures self.now) (sizes self.now) (procedure_of procedure.now)) }
-        ensures faults { OnOk result (faults.new.items ≡ faults.old.items ++ spec.of_body (variables self.now) (procedures self.now) (procedure_of procedure.now)) }
+        ensures { IfOk result (λ r. noted (view.statements_of r.items) faults.new.items ≡ noted_after faults.old.items (spec.body_of (variables self.now) (procedures self.now) (sizes self.now) (procedure_of procedure.now))) }
     {
         if is_external(procedure.linkage) {
             return Ok(Vec::new(self.alloc));
@@ -148,7 +147,7 @@ impl Typer<'_> {
     ) -> Result<Procedure, AllocError>
         requires { procedure.now.module ≡ self.now.module }
         ensures tree { IfOk result (λ r. view.procedure_of r ≡ spec.procedure_for (variables self.now) (procedures self.now) (sizes self.now) (procedure_of procedure.now)) }
-        ensures faults { OnOk result (faults.new.items ≡ faults.old.items ++ spec.of_procedure (variables self.now) (procedures self.now) (procedure_of procedure.now)) }
+        ensures faults { OnOk result (faults.new.items ≡ faults.old.items ++ spec.of_procedure (variables self.now) (procedures self.now) (sizes self.now) (procedure_of procedure.now)) }
     {
         let external = is_external(procedure.linkage);
         let parameters = self.parameters(external, &procedure.parameters, faults)?;
@@ -175,7 +174,7 @@ impl Typer<'_> {
     /// All procedures, in order of declaration.
     pub fn procedures(&self, faults: &mut Vec<Found>) -> Result<Vec<Procedure>, AllocError>
         ensures tree { IfOk result (λ r. map view.procedure_of r.items ≡ map (spec.procedure_for (variables self.now) (procedures self.now) (sizes self.now)) (procedures self.now)) }
-        ensures faults { OnOk result (faults.new.items ≡ faults.old.items ++ spec.of_procedures (variables self.now) (procedures self.now) (procedures self.now)) }
+        ensures faults { OnOk result (faults.new.items ≡ faults.old.items ++ spec.of_procedures (variables self.now) (procedures self.now) (sizes self.now) (procedures self.now)) }
     {
         let mut typed = Vec::new(self.alloc);
         for procedure in &self.names.procedures {
@@ -187,7 +186,7 @@ impl Typer<'_> {
 
     /// Notes the faults of the locations of AT, INITIAL and DATA.
     pub fn locations(&self, faults: &mut Vec<Found>) -> Result<(), AllocError>
-        ensures { OnOk result (faults.new.items ≡ faults.old.items ++ spec.of_locations (variables self.now) (procedures self.now) (map declared_location_of self.now.names.now.locations.items)) }
+        ensures { OnOk result (faults.new.items ≡ faults.old.items ++ spec.of_locations (variables self.now) (procedures self.now) (sizes self.now) (map declared_location_of self.now.names.now.locations.items)) }
     {
         for declared in &self.names.locations {
             self.declared_location(declared, faults)?;
@@ -200,7 +199,7 @@ impl Typer<'_> {
         declared: &DeclaredLocation,
         faults: &mut Vec<Found>,
     ) -> Result<(), AllocError>
-        ensures { OnOk result (faults.new.items ≡ faults.old.items ++ spec.of_location (variables self.now) (procedures self.now) (declared_location_of declared.now)) }
+        ensures { OnOk result (faults.new.items ≡ faults.old.items ++ spec.of_location (variables self.now) (procedures self.now) (sizes self.now) (declared_location_of declared.now)) }
     {
         self.of_module(declared.module)
             .location(&declared.location, faults)?;
@@ -209,8 +208,7 @@ impl Typer<'_> {
 
     /// Main's statements.
     pub fn main(&self, faults: &mut Vec<Found>) -> Result<Vec<Box<Statement>>, AllocError>
-        ensures tree { IfOk result (λ r. view.statements_of r.items ≡ spec.main_for (variables self.now) (procedures self.now) (sizes self.now) (main_of self.now.names.now.main)) }
-        ensures faults { OnOk result (faults.new.items ≡ faults.old.items ++ spec.of_main (variables self.now) (procedures self.now) (main_of self.now.names.now.main)) }
+        ensures { IfOk result (λ r. noted (view.statements_of r.items) faults.new.items ≡ noted_after faults.old.items (spec.typed_main (variables self.now) (procedures self.now) (sizes self.now) (main_of self.now.names.now.main))) }
     {
         let main = &self.names.main;
         self.of_module(main.module)

@@ -1,15 +1,14 @@
 //! References to variables, whose subscripts are typed already: as values, as targets, as locations, and what LENGTH, LAST and
 //! SIZE say of them.
 
-ghost use Rattle.std.specs.Prelude.{◌≡◌, ◌++◌, true, false, IfOk, OnOk, length, map, option_map};
+ghost use Rattle.std.specs.Prelude.{◌≡◌, ◌++◌, IfOk, OnOk, map, option_map};
 ghost use Rattle.plm_decl.specs.ResolvedView as resolved;
-ghost use Rattle.word86.specs.declared.number.Number.TheVariants.{E401, E403};
-ghost use Rattle.plm_type.specs.Rest.{Location};
-ghost use Rattle.plm_type.specs.Inner.Typer.{variables, with_stride};
+ghost use Rattle.plm_type.specs.Inner.Typer.{variables, with_stride, said, target_said, parts_said};
 ghost use Rattle.plm_type.specs.Types as scalars;
 ghost use Rattle.plm_type.specs.Typing as typing;
 ghost use Rattle.plm_type.specs.Faults as found;
 ghost use Rattle.plm_type.specs.Trees as spec;
+ghost use Rattle.plm_type.specs.Expressions as typed;
 ghost use Rattle.plm_type.specs.View as view;
 
 use crate::builtins::{constant, measured};
@@ -261,9 +260,7 @@ impl Typer<'_> {
         parts: Parts,
         faults: &mut Vec<Found>,
     ) -> Result<Typed, AllocError>
-        ensures tree { IfOk result (λ r. view.expression_of r.tree ≡ spec.use_read variable (resolved.selector_of reference.now.selector) (spec.refer (variables self.now) self.now.module reference.now.place.line variable (resolved.selector_of reference.now.selector) (view.expressions_of parts.subscripts.trees.items) (view.expressions_of parts.member.trees.items))) }
-        ensures scalar { IfOk result (λ r. r.scalar ≡ typing.use_type variable (resolved.selector_of reference.now.selector) parts.subscripts.types.items parts.member.types.items) }
-        ensures faults { OnOk result (faults.new.items ≡ faults.old.items ++ found.use_faults self.now.module false reference.now.place variable (resolved.selector_of reference.now.selector) parts.subscripts.types.items parts.member.types.items) }
+        ensures { IfOk result (λ r. said r faults.new.items ≡ typed.read (variables self.now) self.now.module reference.now.place variable (resolved.selector_of reference.now.selector) (parts_said parts faults.old.items)) }
     {
         let selector = &reference.selector;
         self.note_unless(
@@ -288,9 +285,7 @@ impl Typer<'_> {
         parts: Parts,
         faults: &mut Vec<Found>,
     ) -> Result<TypedTarget, AllocError>
-        ensures tree { IfOk result (λ r. view.target_of r.tree ≡ spec.use_stored variable (resolved.selector_of reference.now.selector) (spec.refer (variables self.now) self.now.module reference.now.place.line variable (resolved.selector_of reference.now.selector) (view.expressions_of parts.subscripts.trees.items) (view.expressions_of parts.member.trees.items))) }
-        ensures scalar { IfOk result (λ r. r.scalar ≡ typing.use_type variable (resolved.selector_of reference.now.selector) parts.subscripts.types.items parts.member.types.items) }
-        ensures faults { OnOk result (faults.new.items ≡ faults.old.items ++ (found.use_faults self.now.module false reference.now.place variable (resolved.selector_of reference.now.selector) parts.subscripts.types.items parts.member.types.items ++ found.fault_unless self.now.module (typing.may_be_assigned variable) E403 reference.now.place)) }
+        ensures { IfOk result (λ r. target_said r faults.new.items ≡ typed.stored (variables self.now) self.now.module reference.now.place variable (resolved.selector_of reference.now.selector) (parts_said parts faults.old.items)) }
     {
         let selector = &reference.selector;
         self.note_unless(
@@ -323,9 +318,7 @@ impl Typer<'_> {
         parts: Parts,
         faults: &mut Vec<Found>,
     ) -> Result<Typed, AllocError>
-        ensures tree { IfOk result (λ r. view.expression_of r.tree ≡ Location (spec.refer (variables self.now) self.now.module reference.now.place.line variable (resolved.selector_of reference.now.selector) (view.expressions_of parts.subscripts.trees.items) (view.expressions_of parts.member.trees.items))) }
-        ensures scalar { IfOk result (λ r. r.scalar ≡ typing.located_type form variable (resolved.selector_of reference.now.selector) parts.subscripts.types.items parts.member.types.items) }
-        ensures faults { OnOk result (faults.new.items ≡ faults.old.items ++ (found.fault_unless self.now.module (typing.may_be_located variable) E401 place ++ found.use_faults self.now.module true reference.now.place variable (resolved.selector_of reference.now.selector) parts.subscripts.types.items parts.member.types.items)) }
+        ensures { IfOk result (λ r. said r faults.new.items ≡ typed.located (variables self.now) self.now.module place form reference.now.place variable (resolved.selector_of reference.now.selector) (parts_said parts faults.old.items)) }
     {
         let selector = &reference.selector;
         self.note_unless(may_be_located(variable), Number::E401, place, faults)?;
@@ -353,9 +346,7 @@ impl Typer<'_> {
         parts: &Parts,
         faults: &mut Vec<Found>,
     ) -> Result<Typed, AllocError>
-        ensures tree { IfOk result (λ r. view.expression_of r.tree ≡ spec.constant (typing.measure builtin variable (length parts.now.subscripts.types.items) (resolved.selector_of reference.now.selector))) }
-        ensures scalar { IfOk result (λ r. r.scalar ≡ typing.measure_type builtin variable (resolved.selector_of reference.now.selector) parts.now.subscripts.types.items parts.now.member.types.items) }
-        ensures faults { OnOk result (faults.new.items ≡ faults.old.items ++ (found.use_faults self.now.module true reference.now.place variable (resolved.selector_of reference.now.selector) parts.now.subscripts.types.items parts.now.member.types.items ++ found.fault_unless self.now.module (found.measure_fits builtin variable (length parts.now.subscripts.types.items) (resolved.selector_of reference.now.selector)) E401 place)) }
+        ensures { IfOk result (λ r. said r faults.new.items ≡ typed.measured self.now.module place builtin reference.now.place variable (resolved.selector_of reference.now.selector) (parts_said parts.now faults.old.items)) }
     {
         let selector = &reference.selector;
         let count = parts.subscripts.types.len();

@@ -1,12 +1,9 @@
 //! Statements: the faults of their types, and what they do with names as places.
 
-ghost use Rattle.std.specs.Prelude.{◌≡◌, ◌∷◌, [], ◌++◌, IfOk, OnOk, map, option_map};
-ghost use Rattle.word86.specs.declared.number.Number.TheVariants.{E401};
+ghost use Rattle.std.specs.Prelude.{◌≡◌, ◌∷◌, [], ◌++◌, IfOk, OnOk, map};
 ghost use Rattle.plm_decl.specs.ResolvedView as resolved;
-ghost use Rattle.plm_type.specs.Inner.Typer.{variables, procedures, sizes};
+ghost use Rattle.plm_type.specs.Inner.Typer.{variables, noted, noted_after, targets_said, targets_after, number_by, targets_by, call_by, index_by, step_by, assignment_by, return_by, statement_by, statements_by};
 ghost use Rattle.plm_type.specs.Rest as rest;
-ghost use Rattle.plm_type.specs.Faults.{fault_unless};
-ghost use Rattle.plm_type.specs.Trees as trees;
 ghost use Rattle.plm_type.specs.Statements as spec;
 ghost use Rattle.plm_type.specs.View as view;
 
@@ -191,8 +188,7 @@ impl Typer<'_> {
         e: &plm_decl::Expression,
         faults: &mut Vec<Found>,
     ) -> Result<Expression, AllocError>
-        ensures tree { IfOk result (λ r. view.expression_of r ≡ trees.tree_of (variables self.now) (procedures self.now) (sizes self.now) self.now.module (resolved.expression_of e.now)) }
-        ensures faults { OnOk result (faults.new.items ≡ faults.old.items ++ spec.of_number (variables self.now) (procedures self.now) self.now.module place (resolved.expression_of e.now)) }
+        ensures { IfOk result (λ r. noted (view.expression_of r) faults.new.items ≡ noted_after faults.old.items (number_by self.now place (resolved.expression_of e.now))) }
     {
         let typed = self.expression(e, faults)?;
         self.note_unless(may_be_number(typed.scalar), Number::E401, place, faults)?;
@@ -204,9 +200,7 @@ impl Typer<'_> {
         references: &[plm_decl::Reference],
         faults: &mut Vec<Found>,
     ) -> Result<TypedTargets, AllocError>
-        ensures trees { IfOk result (λ r. map view.target_of r.trees.items ≡ spec.target_trees (variables self.now) (procedures self.now) (sizes self.now) self.now.module (resolved.references_of references.now)) }
-        ensures types { IfOk result (λ r. r.types.items ≡ spec.target_types (variables self.now) (procedures self.now) (resolved.references_of references.now)) }
-        ensures faults { OnOk result (faults.new.items ≡ faults.old.items ++ spec.of_targets (variables self.now) (procedures self.now) self.now.module (resolved.references_of references.now)) }
+        ensures { IfOk result (λ r. targets_said r faults.new.items ≡ targets_after faults.old.items (targets_by self.now (resolved.references_of references.now))) }
     {
         let mut all = TypedTargets {
             trees: Vec::new(self.alloc),
@@ -225,8 +219,7 @@ impl Typer<'_> {
         e: &plm_decl::Expression,
         faults: &mut Vec<Found>,
     ) -> Result<Statement, AllocError>
-        ensures tree { IfOk result (λ r. view.statement_of r ≡ spec.assignment (spec.target_trees (variables self.now) (procedures self.now) (sizes self.now) self.now.module (resolved.references_of references.now)) (trees.tree_of (variables self.now) (procedures self.now) (sizes self.now) self.now.module (resolved.expression_of e.now))) }
-        ensures faults { OnOk result (faults.new.items ≡ faults.old.items ++ spec.of_assignment (variables self.now) (procedures self.now) self.now.module (resolved.references_of references.now) (resolved.expression_of e.now)) }
+        ensures { IfOk result (λ r. noted (view.statement_of r) faults.new.items ≡ noted_after faults.old.items (assignment_by self.now (resolved.references_of references.now) (resolved.expression_of e.now))) }
     {
         let targets = self.targets(references, faults)?;
         let value = self.expression(e, faults)?;
@@ -242,8 +235,7 @@ impl Typer<'_> {
         reference: &plm_decl::Reference,
         faults: &mut Vec<Found>,
     ) -> Result<Expression, AllocError>
-        ensures tree { IfOk result (λ r. view.expression_of r ≡ spec.called (variables self.now) (procedures self.now) (sizes self.now) self.now.module (resolved.reference_of reference.now)) }
-        ensures faults { OnOk result (faults.new.items ≡ faults.old.items ++ spec.of_call (variables self.now) (procedures self.now) self.now.module place (resolved.reference_of reference.now)) }
+        ensures { IfOk result (λ r. noted (view.expression_of r) faults.new.items ≡ noted_after faults.old.items (call_by self.now place (resolved.reference_of reference.now))) }
     {
         let Binding::Procedure(number) = reference.binding else {
             self.note_unless(false, Number::E401, place, faults)?;
@@ -269,8 +261,7 @@ impl Typer<'_> {
         e: &plm_decl::Expression,
         faults: &mut Vec<Found>,
     ) -> Result<Expression, AllocError>
-        ensures tree { IfOk result (λ r. view.expression_of r ≡ trees.tree_of (variables self.now) (procedures self.now) (sizes self.now) self.now.module (resolved.expression_of e.now)) }
-        ensures faults { OnOk result (faults.new.items ≡ faults.old.items ++ spec.of_returned (variables self.now) (procedures self.now) self.now.module around place (resolved.expression_of e.now)) }
+        ensures { IfOk result (λ r. noted (view.expression_of r) faults.new.items ≡ noted_after faults.old.items (return_by self.now around place (resolved.expression_of e.now))) }
     {
         let typed = self.expression(e, faults)?;
         let is_taken = around.may_return_value(typed.scalar);
@@ -286,8 +277,7 @@ impl Typer<'_> {
         meaning: Binding,
         faults: &mut Vec<Found>,
     ) -> Result<Scalar, AllocError>
-        ensures tree { IfOk result (λ r. view.scalar_of r ≡ spec.index_for (spec.variable_meant (variables self.now) meaning)) }
-        ensures faults { OnOk result (faults.new.items ≡ faults.old.items ++ spec.of_index (variables self.now) (procedures self.now) self.now.module place name meaning) }
+        ensures { IfOk result (λ r. noted (view.scalar_of r) faults.new.items ≡ noted_after faults.old.items (index_by self.now place name meaning)) }
     {
         let variable = self.variable_meant(meaning);
         self.note_unless(is_index(variable), Number::E401, place, faults)?;
@@ -302,8 +292,7 @@ impl Typer<'_> {
         step: &Option<plm_decl::Expression>,
         faults: &mut Vec<Found>,
     ) -> Result<Expression, AllocError>
-        ensures tree { IfOk result (λ r. view.expression_of r ≡ spec.step_for (variables self.now) (procedures self.now) (sizes self.now) self.now.module (resolved.step_of step.now)) }
-        ensures faults { OnOk result (faults.new.items ≡ faults.old.items ++ spec.of_step (variables self.now) (procedures self.now) self.now.module place (resolved.step_of step.now)) }
+        ensures { IfOk result (λ r. noted (view.expression_of r) faults.new.items ≡ noted_after faults.old.items (step_by self.now place (resolved.step_of step.now))) }
     {
         match step {
             Some(step) => self.number_in(place, step, faults),
@@ -320,10 +309,10 @@ impl Typer<'_> {
         by: &Option<plm_decl::Expression>,
         faults: &mut Vec<Found>,
     ) -> Result<Range, AllocError>
-        ensures from { IfOk result (λ r. view.expression_of r.from ≡ trees.tree_of (variables self.now) (procedures self.now) (sizes self.now) self.now.module (resolved.expression_of from.now)) }
-        ensures bound { IfOk result (λ r. view.expression_of r.bound ≡ trees.tree_of (variables self.now) (procedures self.now) (sizes self.now) self.now.module (resolved.expression_of to.now)) }
-        ensures step { IfOk result (λ r. view.expression_of r.step ≡ spec.step_for (variables self.now) (procedures self.now) (sizes self.now) self.now.module (resolved.step_of by.now)) }
-        ensures faults { OnOk result (faults.new.items ≡ faults.old.items ++ (spec.of_number (variables self.now) (procedures self.now) self.now.module place (resolved.expression_of from.now) ++ (spec.of_number (variables self.now) (procedures self.now) self.now.module place (resolved.expression_of to.now) ++ spec.of_step (variables self.now) (procedures self.now) self.now.module place (resolved.step_of by.now)))) }
+        ensures from { IfOk result (λ r. view.expression_of r.from ≡ (number_by self.now place (resolved.expression_of from.now)).tree) }
+        ensures bound { IfOk result (λ r. view.expression_of r.bound ≡ (number_by self.now place (resolved.expression_of to.now)).tree) }
+        ensures step { IfOk result (λ r. view.expression_of r.step ≡ (step_by self.now place (resolved.step_of by.now)).tree) }
+        ensures faults { OnOk result (faults.new.items ≡ faults.old.items ++ ((number_by self.now place (resolved.expression_of from.now)).faults ++ ((number_by self.now place (resolved.expression_of to.now)).faults ++ (step_by self.now place (resolved.step_of by.now)).faults))) }
     {
         let from = self.number_in(place, from, faults)?;
         let bound = self.number_in(place, to, faults)?;
@@ -338,8 +327,7 @@ impl Typer<'_> {
         reference: &plm_decl::Reference,
         faults: &mut Vec<Found>,
     ) -> Result<Statement, AllocError>
-        ensures tree { IfOk result (λ r. view.statement_of r ≡ rest.Evaluate (spec.called (variables self.now) (procedures self.now) (sizes self.now) self.now.module (resolved.reference_of reference.now))) }
-        ensures faults { OnOk result (faults.new.items ≡ faults.old.items ++ spec.of_call (variables self.now) (procedures self.now) self.now.module place (resolved.reference_of reference.now)) }
+        ensures { IfOk result (λ r. noted (view.statement_of r) faults.new.items ≡ noted_after faults.old.items (spec.evaluated (call_by self.now place (resolved.reference_of reference.now)))) }
     {
         let value = self.call(place, reference, faults)?;
         Ok(Statement::Evaluate(value))
@@ -352,8 +340,7 @@ impl Typer<'_> {
         place: Position,
         faults: &mut Vec<Found>,
     ) -> Result<Statement, AllocError>
-        ensures tree { IfOk result (λ r. view.statement_of r ≡ rest.Return) }
-        ensures faults { OnOk result (faults.new.items ≡ faults.old.items ++ fault_unless self.now.module (spec.may_return around) E401 place) }
+        ensures { IfOk result (λ r. noted (view.statement_of r) faults.new.items ≡ noted_after faults.old.items (spec.return_alone self.now.module around place)) }
     {
         self.note_unless(around.may_return(), Number::E401, place, faults)?;
         Ok(Statement::Return)
@@ -367,8 +354,7 @@ impl Typer<'_> {
         value: &plm_decl::Expression,
         faults: &mut Vec<Found>,
     ) -> Result<Statement, AllocError>
-        ensures tree { IfOk result (λ r. view.statement_of r ≡ rest.ReturnValue (spec.returned_width around) (trees.tree_of (variables self.now) (procedures self.now) (sizes self.now) self.now.module (resolved.expression_of value.now))) }
-        ensures faults { OnOk result (faults.new.items ≡ faults.old.items ++ spec.of_returned (variables self.now) (procedures self.now) self.now.module around place (resolved.expression_of value.now)) }
+        ensures { IfOk result (λ r. noted (view.statement_of r) faults.new.items ≡ noted_after faults.old.items (spec.with_value around (return_by self.now around place (resolved.expression_of value.now)))) }
     {
         let value = self.returned(around, place, value, faults)?;
         Ok(Statement::ReturnValue(around.returned_width(), value))
@@ -381,8 +367,7 @@ impl Typer<'_> {
         statement: &Resolved,
         faults: &mut Vec<Found>,
     ) -> Result<Statement, AllocError>
-        ensures tree { IfOk result (λ r. view.statement_of r ≡ spec.statement_for (variables self.now) (procedures self.now) (sizes self.now) self.now.module around (resolved.statement_of statement.now)) }
-        ensures faults { OnOk result (faults.new.items ≡ faults.old.items ++ spec.of_statement (variables self.now) (procedures self.now) self.now.module around (resolved.statement_of statement.now)) }
+        ensures { IfOk result (λ r. noted (view.statement_of r) faults.new.items ≡ noted_after faults.old.items (statement_by self.now around (resolved.statement_of statement.now))) }
     {
         match statement {
             Resolved::Empty(_) => Ok(Statement::Empty),
@@ -426,9 +411,9 @@ impl Typer<'_> {
         test: &plm_decl::Expression,
         faults: &mut Vec<Found>,
     ) -> Result<Condition, AllocError>
-        ensures test { IfOk result (λ r. view.expression_of r.test ≡ trees.tree_of (variables self.now) (procedures self.now) (sizes self.now) self.now.module (resolved.expression_of test.now)) }
-        ensures then { IfOk result (λ r. view.statements_of r.then.items ≡ rest.Then (spec.statement_for (variables self.now) (procedures self.now) (sizes self.now) self.now.module around (resolved.statement_of then.now)) rest.End) }
-        ensures faults { OnOk result (faults.new.items ≡ faults.old.items ++ (spec.of_number (variables self.now) (procedures self.now) self.now.module place (resolved.expression_of test.now) ++ spec.of_statement (variables self.now) (procedures self.now) self.now.module around (resolved.statement_of then.now))) }
+        ensures test { IfOk result (λ r. view.expression_of r.test ≡ (number_by self.now place (resolved.expression_of test.now)).tree) }
+        ensures then { IfOk result (λ r. view.statements_of r.then.items ≡ (spec.one (statement_by self.now around (resolved.statement_of then.now))).tree) }
+        ensures faults { OnOk result (faults.new.items ≡ faults.old.items ++ ((number_by self.now place (resolved.expression_of test.now)).faults ++ (statement_by self.now around (resolved.statement_of then.now)).faults)) }
     {
         let test = self.number_in(place, test, faults)?;
         let then = self.arm(around, then, faults)?;
@@ -444,8 +429,7 @@ impl Typer<'_> {
         condition: Condition,
         faults: &mut Vec<Found>,
     ) -> Result<Statement, AllocError>
-        ensures tree { IfOk result (λ r. view.statement_of r ≡ rest.If (view.expression_of condition.test) (view.statements_of condition.then.items) (rest.Then (spec.statement_for (variables self.now) (procedures self.now) (sizes self.now) self.now.module around (resolved.statement_of other.now)) rest.End)) }
-        ensures faults { OnOk result (faults.new.items ≡ faults.old.items ++ spec.of_statement (variables self.now) (procedures self.now) self.now.module around (resolved.statement_of other.now)) }
+        ensures { IfOk result (λ r. noted (view.statement_of r) faults.new.items ≡ noted_after faults.old.items (noted (rest.If (view.expression_of condition.test) (view.statements_of condition.then.items) (spec.one (statement_by self.now around (resolved.statement_of other.now))).tree) (statement_by self.now around (resolved.statement_of other.now)).faults)) }
     {
         let other = self.arm(around, other, faults)?;
         Ok(condition.with_else(other))
@@ -458,8 +442,7 @@ impl Typer<'_> {
         body: &[Resolved],
         faults: &mut Vec<Found>,
     ) -> Result<Statement, AllocError>
-        ensures tree { IfOk result (λ r. view.statement_of r ≡ rest.Block (spec.statements_for (variables self.now) (procedures self.now) (sizes self.now) self.now.module around (resolved.statements_of body.now))) }
-        ensures faults { OnOk result (faults.new.items ≡ faults.old.items ++ spec.of_statements (variables self.now) (procedures self.now) self.now.module around (resolved.statements_of body.now)) }
+        ensures { IfOk result (λ r. noted (view.statement_of r) faults.new.items ≡ noted_after faults.old.items (spec.block (statements_by self.now around (resolved.statements_of body.now)))) }
     {
         let body = self.statements(around, body, faults)?;
         Ok(Statement::Block(body))
@@ -475,8 +458,7 @@ impl Typer<'_> {
         test: &plm_decl::Expression,
         faults: &mut Vec<Found>,
     ) -> Result<Statement, AllocError>
-        ensures tree { IfOk result (λ r. view.statement_of r ≡ rest.While (trees.tree_of (variables self.now) (procedures self.now) (sizes self.now) self.now.module (resolved.expression_of test.now)) (trees.tree_of (variables self.now) (procedures self.now) (sizes self.now) self.now.module (resolved.expression_of test.now)) (spec.statements_for (variables self.now) (procedures self.now) (sizes self.now) self.now.module around (resolved.statements_of body.now))) }
-        ensures faults { OnOk result (faults.new.items ≡ faults.old.items ++ (spec.of_number (variables self.now) (procedures self.now) self.now.module place (resolved.expression_of test.now) ++ spec.of_statements (variables self.now) (procedures self.now) self.now.module around (resolved.statements_of body.now))) }
+        ensures { IfOk result (λ r. noted (view.statement_of r) faults.new.items ≡ noted_after faults.old.items (spec.while_loop (number_by self.now place (resolved.expression_of test.now)) (statements_by self.now around (resolved.statements_of body.now)))) }
     {
         let test = self.number_in(place, test, faults)?;
         let body = self.statements(around, body, faults)?;
@@ -493,8 +475,7 @@ impl Typer<'_> {
         value: &plm_decl::Expression,
         faults: &mut Vec<Found>,
     ) -> Result<Statement, AllocError>
-        ensures tree { IfOk result (λ r. view.statement_of r ≡ rest.Case (trees.tree_of (variables self.now) (procedures self.now) (sizes self.now) self.now.module (resolved.expression_of value.now)) (spec.statements_for (variables self.now) (procedures self.now) (sizes self.now) self.now.module around (resolved.statements_of cases.now))) }
-        ensures faults { OnOk result (faults.new.items ≡ faults.old.items ++ (spec.of_number (variables self.now) (procedures self.now) self.now.module place (resolved.expression_of value.now) ++ spec.of_statements (variables self.now) (procedures self.now) self.now.module around (resolved.statements_of cases.now))) }
+        ensures { IfOk result (λ r. noted (view.statement_of r) faults.new.items ≡ noted_after faults.old.items (spec.cases (number_by self.now place (resolved.expression_of value.now)) (statements_by self.now around (resolved.statements_of cases.now)))) }
     {
         let value = self.number_in(place, value, faults)?;
         let cases = self.statements(around, cases, faults)?;
@@ -511,8 +492,7 @@ impl Typer<'_> {
         body: &[Resolved],
         faults: &mut Vec<Found>,
     ) -> Result<Statement, AllocError>
-        ensures tree { IfOk result (λ r. view.statement_of r ≡ rest.Iterate (view.expression_of range.from) (rest.Count (view.scalar_of index) (view.expression_of range.bound) (view.expression_of range.step) (spec.statements_for (variables self.now) (procedures self.now) (sizes self.now) self.now.module around (resolved.statements_of body.now)))) }
-        ensures faults { OnOk result (faults.new.items ≡ faults.old.items ++ spec.of_statements (variables self.now) (procedures self.now) self.now.module around (resolved.statements_of body.now)) }
+        ensures { IfOk result (λ r. noted (view.statement_of r) faults.new.items ≡ noted_after faults.old.items (spec.iteration (noted (view.scalar_of index) []) (noted (view.expression_of range.from) []) (noted (view.expression_of range.bound) []) (noted (view.expression_of range.step) []) (statements_by self.now around (resolved.statements_of body.now)))) }
     {
         let Range { from, bound, step } = range;
         let body = self.statements(around, body, faults)?;
@@ -535,8 +515,7 @@ impl Typer<'_> {
         statement: &Resolved,
         faults: &mut Vec<Found>,
     ) -> Result<Vec<Box<Statement>>, AllocError>
-        ensures tree { IfOk result (λ r. view.statements_of r.items ≡ rest.Then (spec.statement_for (variables self.now) (procedures self.now) (sizes self.now) self.now.module around (resolved.statement_of statement.now)) rest.End) }
-        ensures faults { OnOk result (faults.new.items ≡ faults.old.items ++ spec.of_statement (variables self.now) (procedures self.now) self.now.module around (resolved.statement_of statement.now)) }
+        ensures { IfOk result (λ r. noted (view.statements_of r.items) faults.new.items ≡ noted_after faults.old.items (spec.one (statement_by self.now around (resolved.statement_of statement.now)))) }
     {
         let statement = self.statement(around, statement, faults)?;
         let mut arm = Vec::new(self.alloc);
@@ -551,8 +530,7 @@ impl Typer<'_> {
         statements: &[Resolved],
         faults: &mut Vec<Found>,
     ) -> Result<Vec<Box<Statement>>, AllocError>
-        ensures tree { IfOk result (λ r. view.statements_of r.items ≡ spec.statements_for (variables self.now) (procedures self.now) (sizes self.now) self.now.module around (resolved.statements_of statements.now)) }
-        ensures faults { OnOk result (faults.new.items ≡ faults.old.items ++ spec.of_statements (variables self.now) (procedures self.now) self.now.module around (resolved.statements_of statements.now)) }
+        ensures { IfOk result (λ r. noted (view.statements_of r.items) faults.new.items ≡ noted_after faults.old.items (statements_by self.now around (resolved.statements_of statements.now))) }
     {
         let mut typed = Vec::new(self.alloc);
         for statement in statements {

@@ -3,6 +3,7 @@ use Rattle.std.proofs.lemmas.List.{length-map}
 use Rattle.word86.specs.declared.fault.Fault.{Fault}
 use Rattle.plm_decl.specs.declared.found.Found.{Found}
 use Rattle.plm_decl.specs.Names.{procedure_of, declared_location_of, main_of}
+use Rattle.plm_decl.specs.Placement.{sizes_of}
 use Rattle.plm_decl.specs.Found.{IsLeast}
 use Rattle.plm_type.specs.Rest.{Procedure}
 use Rattle.plm_type.specs.Statements as statements
@@ -27,11 +28,11 @@ returns-in-Some-clause-refused c =
     let names = c.args.names in
     let vs = names.variables.items in
     let ps = map procedure_of names.procedures.items in
-    let l = statements.of_locations vs ps (map declared_location_of names.locations.items) in
-    let p = statements.of_procedures vs ps ps in
-    let m = statements.of_main vs ps (main_of names.main) in
+    let l = statements.of_locations vs ps (sizes_of names) (map declared_location_of names.locations.items) in
+    let p = statements.of_procedures vs ps (sizes_of names) ps in
+    let m = statements.of_main vs ps (sizes_of names) (main_of names.main) in
     let extra = c.in_ok-interrupt_faults.ensures in
-    let typed = c.in_ok-main.ensures.faults
+    let typed = (λ j. (c.in_ok-main.ensures j).faults)
     ∙ ap (λ (x : List Found). x ++ m) (c.in_ok-procedures.ensures.faults ∙ ap (λ (x : List Found). x ++ p) (c.in_ok-locations.ensures ∙ ap (λ (x : List Found). x ++ l) c.new-faults.ensures.items))
     ∙ append_assoc l p m in
     let all : c.deref.result.now ≡ faults names ++ extra.0 = c.deref.ensures.value ∙ extra.2 ∙ ap (λ (x : List Found). x ++ extra.0) typed in
@@ -43,11 +44,11 @@ returns-in-Err-clause-refused c =
     let names = c.args.names in
     let vs = names.variables.items in
     let ps = map procedure_of names.procedures.items in
-    let l = statements.of_locations vs ps (map declared_location_of names.locations.items) in
-    let p = statements.of_procedures vs ps ps in
-    let m = statements.of_main vs ps (main_of names.main) in
+    let l = statements.of_locations vs ps (sizes_of names) (map declared_location_of names.locations.items) in
+    let p = statements.of_procedures vs ps (sizes_of names) ps in
+    let m = statements.of_main vs ps (sizes_of names) (main_of names.main) in
     let extra = c.in_ok-interrupt_faults.ensures in
-    let typed = c.in_ok-main.ensures.faults
+    let typed = (λ j. (c.in_ok-main.ensures j).faults)
     ∙ ap (λ (x : List Found). x ++ m) (c.in_ok-procedures.ensures.faults ∙ ap (λ (x : List Found). x ++ p) (c.in_ok-locations.ensures ∙ ap (λ (x : List Found). x ++ l) c.new-faults.ensures.items))
     ∙ append_assoc l p m in
     let all : c.deref.result.now ≡ faults names ++ extra.0 = c.deref.ensures.value ∙ extra.2 ∙ ap (λ (x : List Found). x ++ extra.0) typed in
@@ -62,11 +63,11 @@ invariant_of-result c =
     let names = c.args.names in
     let vs = names.variables.items in
     let ps = map procedure_of names.procedures.items in
-    let l = statements.of_locations vs ps (map declared_location_of names.locations.items) in
-    let p = statements.of_procedures vs ps ps in
-    let m = statements.of_main vs ps (main_of names.main) in
+    let l = statements.of_locations vs ps (sizes_of names) (map declared_location_of names.locations.items) in
+    let p = statements.of_procedures vs ps (sizes_of names) ps in
+    let m = statements.of_main vs ps (sizes_of names) (main_of names.main) in
     let extra = c.in_ok-interrupt_faults.ensures in
-    let typed = c.in_ok-main.ensures.faults
+    let typed = (λ j. (c.in_ok-main.ensures j).faults)
     ∙ ap (λ (x : List Found). x ++ m) (c.in_ok-procedures.ensures.faults ∙ ap (λ (x : List Found). x ++ p) (c.in_ok-locations.ensures ∙ ap (λ (x : List Found). x ++ l) c.new-faults.ensures.items))
     ∙ append_assoc l p m in
     let all : c.deref.result.now ≡ faults names ++ extra.0 = c.deref.ensures.value ∙ extra.2 ∙ ap (λ (x : List Found). x ++ extra.0) typed in
@@ -76,7 +77,7 @@ invariant_of-result c =
     let order = subst (λ (qs : List Procedure). IsOrder c.in-Ok.order.items (graph_of qs)) made
     (subst (λ (r : Result (Vec ℕ) Found). IfOk r (λ o. IsOrder o.items (graph_of (map view.procedure_of c.deref-2.result.now)))) c.in-Ok.is c.in_ok-order.ensures.order) in
     record {
-      main_is = c.in_ok-main.ensures.tree;
+      main_is = (λ j. (c.in_ok-main.ensures j).tree);
       procedures_are = c.in_ok-procedures.ensures.tree;
       no_fault = parts.0;
       lets_nothing_in = lets_nothing_in names none;
@@ -94,11 +95,11 @@ returns-in-Ok-clause-typed c =
     let names = c.args.names in
     let vs = names.variables.items in
     let ps = map procedure_of names.procedures.items in
-    let l = statements.of_locations vs ps (map declared_location_of names.locations.items) in
-    let p = statements.of_procedures vs ps ps in
-    let m = statements.of_main vs ps (main_of names.main) in
+    let l = statements.of_locations vs ps (sizes_of names) (map declared_location_of names.locations.items) in
+    let p = statements.of_procedures vs ps (sizes_of names) ps in
+    let m = statements.of_main vs ps (sizes_of names) (main_of names.main) in
     let extra = c.in_ok-interrupt_faults.ensures in
-    let typed = c.in_ok-main.ensures.faults
+    let typed = (λ j. (c.in_ok-main.ensures j).faults)
     ∙ ap (λ (x : List Found). x ++ m) (c.in_ok-procedures.ensures.faults ∙ ap (λ (x : List Found). x ++ p) (c.in_ok-locations.ensures ∙ ap (λ (x : List Found). x ++ l) c.new-faults.ensures.items))
     ∙ append_assoc l p m in
     let all : c.deref.result.now ≡ faults names ++ extra.0 = c.deref.ensures.value ∙ extra.2 ∙ ap (λ (x : List Found). x ++ extra.0) typed in
@@ -107,7 +108,7 @@ returns-in-Ok-clause-typed c =
     let made = ap (map view.procedure_of) c.deref-2.ensures.value ∙ c.in_ok-procedures.ensures.tree in
     record {
       kept = refl;
-      main = c.in_ok-main.ensures.tree;
+      main = (λ j. (c.in_ok-main.ensures j).tree);
       procedures = c.in_ok-procedures.ensures.tree;
       no_fault = parts.0;
       lets_nothing_in = lets_nothing_in names none;

@@ -1,5 +1,4 @@
-use Rattle.std.proofs.Common.{◌≡◌, ◌+◌, drop, [], ◌∷◌, ◌++◌, OnOk, List, append_assoc, append-nil, subst, refl, sym, ap, ◌∙◌}
-use Rattle.plm_decl.specs.declared.resolved.Expression.{Expression}
+use Rattle.std.proofs.Common.{◌≡◌, ◌+◌, drop, [], ◌∷◌, ◌++◌, OnOk, List, append_assoc, append-nil, subst, sym, ap, ◌∙◌}
 use Rattle.plm_decl.specs.declared.resolved.Operation.{Operation}
 use Rattle.plm_decl.specs.Resolved.{ExpressionR, ReferenceR, ReferenceR', EmbeddedR, BinaryR, LocationR', LocationOf}
 use Rattle.plm_decl.specs.ResolvedView as resolved

@@ -1,5 +1,5 @@
 use Rattle.std.proofs.Common.{◌≡◌, ◌+◌, ◌++◌, OnOk, List, drop, append_assoc, subst, sym, ap, ◌∙◌}
-use Rattle.plm_decl.specs.Resolved.{StatementR, StatementsR, DoR, WhileR, CaseR, IterateR}
+use Rattle.plm_decl.specs.Resolved.{StatementR, DoR, WhileR, CaseR, IterateR}
 use Rattle.plm_decl.specs.ResolvedView as resolved
 use Rattle.plm_type.proofs.ResolvedTrees.{statement_row}
 use Rattle.plm_type.specs.declared.effects.Effect.{Effect}

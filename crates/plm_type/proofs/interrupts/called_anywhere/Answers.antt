@@ -1,9 +1,8 @@
-use Rattle.std.proofs.Common.{◌≡◌, ℕ, ◌+◌, ◌<◌, ◌≤◌, ◌⊎◌, inl, inr, List, [], Bool, false, length, slice_get, Contains, below_more, arith, sym, ap, subst, ◌∙◌, ◌↔◌}
+use Rattle.std.proofs.Common.{ℕ, ◌<◌, ◌≤◌, ◌⊎◌, inl, inr, List, Bool, length, slice_get, Contains, below_more, arith, sym, ap, subst, ◌∙◌}
 use Rattle.std.proofs.lemmas.Bool.{cases_lt}
 use Rattle.std.proofs.lemmas.List.{length-map, length-replicate}
 use Rattle.std.proofs.lemmas.Option.{slice_get_past}
 use Rattle.plm_type.specs.Inner.Reach.{rows, IsMarked}
-use Rattle.plm_type.specs.Inner.Interrupts.{IsCalledIn}
 use Rattle.plm_type.specs.Reach.{Graph, row_of}
 use Rattle.plm_type.proofs.Exploring.{none_false}
 use Rattle.plm_type.proofs.interrupts.called_anywhere.Goals as goal

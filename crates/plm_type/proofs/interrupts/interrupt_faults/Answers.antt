@@ -1,7 +1,7 @@
-use Rattle.std.proofs.Common.{◌≡◌, ℕ, ◌++◌, List, Bool, false, map, slice_index_or, Result, Ok, Err, OnOk, sym, ap, subst, ◌∙◌, ◌↔◌, refl}
+use Rattle.std.proofs.Common.{◌≡◌, ℕ, ◌++◌, List, Bool, false, map, slice_index_or, Result, Ok, Err, OnOk, subst, ◌↔◌, refl}
 use Rattle.plm_decl.specs.declared.names.Procedure.{Procedure}
 use Rattle.plm_decl.specs.declared.found.Found.{Found}
-use Rattle.plm_decl.specs.Names.{ProcedureR, procedure_of}
+use Rattle.plm_decl.specs.Names.{procedure_of}
 use Rattle.plm_type.specs.Inner.Reach.{IsMarked}
 use Rattle.plm_type.specs.Interrupts as spec
 use Rattle.plm_type.proofs.interrupts.interrupt_faults.Goals as goal

@@ -1,4 +1,4 @@
-use Rattle.std.proofs.Common.{rules, ◌≡◌, ℕ, ◌+◌, ◌<◌, ◌≤◌, ◌⊎◌, inl, inr, List, [], ◌∷◌, ◌++◌, Bool, true, false, length, map, slice_get, slice_index_or, get_or, Option, Some, IsTrue, arith, sym, ap, subst, ◌∙◌, ◌↔◌}
+use Rattle.std.proofs.Common.{rules, ◌≡◌, ℕ, ◌+◌, ◌<◌, ◌≤◌, ◌⊎◌, inl, inr, List, Bool, true, false, length, map, slice_get, slice_index_or, get_or, Option, Some, IsTrue, arith, sym, ap, subst, ◌∙◌, ◌↔◌}
 use Rattle.std.proofs.lemmas.List.{length-map}
 use Rattle.plm_decl.specs.declared.names.Procedure.{Procedure}
 use Rattle.plm_decl.specs.declared.resolved.Statement.{Statement}
@@ -8,7 +8,6 @@ use Rattle.plm_type.specs.Effects.{of_statements}
 use Rattle.plm_type.specs.Inner.Interrupts.{IsCalledIn}
 use Rattle.plm_type.specs.Inner.Reach.{rows, IsMarked}
 use Rattle.plm_type.specs.Interrupts as spec
-use Rattle.plm_type.specs.Reach.{Graph}
 use Rattle.plm_type.proofs.Faultless.{misused_there}
 use Rattle.plm_type.proofs.MarkedLists.{marked_more, marked_all, at_map}
 use Rattle.plm_type.proofs.interrupts.misused.Goals as goal

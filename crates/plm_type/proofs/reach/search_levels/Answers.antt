@@ -1,7 +1,7 @@
 use Rattle.std.proofs.Common.{rules, ◌≡◌, ℕ, ◌<◌, ◌+◌, ◌∷◌, [], ◌++◌, List, Bool, false, length, slice_get, slice_index_or, count_by, true≢false, below_more, arith, sym, ap, subst, ◌∙◌, ◌↔◌}
 use Rattle.std.proofs.lemmas.List.{length-map}
 use Rattle.plm_type.specs.Inner.Reach.{rows, IsMarked}
-use Rattle.plm_type.specs.Reach.{row_of, IsOnCycle, Leads}
+use Rattle.plm_type.specs.Reach.{row_of, Leads}
 use Rattle.plm_type.proofs.Exploring.{none_until}
 use Rattle.plm_type.proofs.Ordering.{Ranked, ranked_levels, ranked_more, index_last}
 use Rattle.plm_type.proofs.reach.search_levels.Goals as goal

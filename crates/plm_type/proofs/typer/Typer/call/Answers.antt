@@ -1,24 +1,27 @@
-use Rattle.std.proofs.Common.{List, sym, ap, ◌∙◌}
+use Rattle.std.proofs.Common.{◌++◌, List, append_assoc, sym, ap, ◌∙◌}
 use Rattle.plm_decl.specs.declared.resolved.Expression as declared
 use Rattle.plm_decl.specs.declared.resolved.Binding.{Binding}
 use Rattle.plm_decl.specs.Resolved.{Use}
 use Rattle.plm_decl.specs.ResolvedView as resolved
-use Rattle.plm_type.specs.Rest as rest
-use Rattle.plm_type.specs.Inner.Typer.{variables, procedures, sizes}
-use Rattle.plm_type.specs.Trees as trees
-use Rattle.plm_type.specs.Statements as spec
+use Rattle.plm_type.specs.Rest.{Call}
+use Rattle.plm_type.specs.Trees.{entry_of}
+use Rattle.plm_type.specs.Faults.{call_faults}
+use Rattle.plm_type.specs.Inner.Typer.{variables, noted, noted_after, list_after, list_by, call_by}
 use Rattle.plm_type.proofs.Rows.{expression_row}
 use Rattle.plm_type.proofs.typer.Typer.call.Goals as goal
 
-pub returns-clause-tree : goal.returns-clause-tree
-returns-clause-tree c =
+pub returns : goal.returns
+returns c =
     let self = c.args.self.now in
-    let vs = variables self in
-    let ps = procedures self in
+    let old = c.args.faults.now.items in
     let r = c.args.reference.now in
     let es = resolved.expressions_of r.subscripts.items in
     let s = resolved.selector_of r.selector in
-    let entry = c.entry_of.ensures ∙ ap trees.entry_of c.procedure-procedure.ensures in
-    let arguments = expression_row c.in_ok-arguments.arguments.trees ∙ c.in_ok-arguments.ensures.trees
-    ∙ ap (λ (l : List declared.Expression). trees.trees_of vs ps (sizes self) self.module (resolved.expressions_of l)) c.deref.ensures.value in
-    (λ j. rest.Call (entry j) (arguments j)) ∙ ap (λ (m : Binding). spec.called vs ps (sizes self) self.module (Use r.place m es s)) (sym c.in-Procedure.is)
+    let q = c.procedure-procedure.ensures in
+    let did = c.in_ok-arguments.ensures ∙ ap (λ (l : List declared.Expression). list_after old (list_by self (resolved.expressions_of l))) c.deref.ensures.value in
+    let entry = c.entry_of.ensures ∙ ap entry_of q in
+    let arguments = expression_row c.in_ok-arguments.arguments.trees ∙ (λ j. (did j).trees) in
+    let types = c.deref-2.ensures.value ∙ (λ j. (did j).types) in
+    let faults = c.in_ok-note_call.ensures ∙ (λ j. (did j).faults ++ call_faults (variables self) self.module r.place (q j) s (types j)) ∙ append_assoc old (list_by self es).faults _ in
+    (λ j. noted (Call (entry j) (arguments j)) (faults j))
+    ∙ ap (λ (m : Binding). noted_after old (call_by self c.args.place (Use r.place m es s))) (sym c.in-Procedure.is)

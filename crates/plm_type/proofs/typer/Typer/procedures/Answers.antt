@@ -28,15 +28,15 @@ loop-procedure-preserved c =
     let tree = did.tree
     ∙ (λ j. spec.procedure_for (names j).variables.items (map procedure_of (names j).procedures.items) (sizes_of (names j)) (procedure_of x)) in
     let faults = did.faults
-    ∙ (λ j. here.faults.items ++ spec.of_procedure (names j).variables.items (map procedure_of (names j).procedures.items) (procedure_of x)) in
+    ∙ (λ j. here.faults.items ++ spec.of_procedure (names j).variables.items (map procedure_of (names j).procedures.items) (sizes_of (names j)) (procedure_of x)) in
     record {
       tree = ap (λ (l : List declared.Procedure). map view.procedure_of l ++ trees left) c.in_ok-push.ensures.items
           ∙ mapped_more view.procedure_of here.typed.items c.in_ok-procedure_in.field-0 (trees left)
           ∙ ap (λ (p : rest.Procedure). before ++ p ∷ trees left) tree
           ∙ ap (λ (l : List ProcedureR). before ++ trees l) at
           ∙ here.invariant.tree;
-      faults = ap (λ (l : List Found). l ++ spec.of_procedures vs ps left) faults
+      faults = ap (λ (l : List Found). l ++ spec.of_procedures vs ps (sizes self) left) faults
           ∙ append_assoc here.faults.items _ _
-          ∙ ap (λ (l : List ProcedureR). here.faults.items ++ spec.of_procedures vs ps l) at
+          ∙ ap (λ (l : List ProcedureR). here.faults.items ++ spec.of_procedures vs ps (sizes self) l) at
           ∙ here.invariant.faults;
     }

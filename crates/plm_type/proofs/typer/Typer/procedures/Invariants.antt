@@ -12,5 +12,5 @@ invariant-loop-procedure l =
     let left = map procedure_of (drop l.procedure-index l.procedure-items) in
     record {
       tree : map view.procedure_of l.typed.items ++ map (procedure_for vs ps (sizes l.self)) left ≡ map (procedure_for vs ps (sizes l.self)) ps;
-      faults : l.faults.items ++ of_procedures vs ps left ≡ l.initial.faults.items ++ of_procedures vs ps ps;
+      faults : l.faults.items ++ of_procedures vs ps (sizes l.self) left ≡ l.initial.faults.items ++ of_procedures vs ps (sizes l.self) ps;
     }

@@ -1,0 +1,107 @@
+-- What is said of the parts of a program, one thing at a time: trees, types, faults.
+use Rattle.std.specs.Prelude.{ℕ, List, Option}
+use Rattle.plm_syntax.specs.declared.tree.Position.{Position}
+use Rattle.plm_decl.specs.declared.builtin.Builtin.{Builtin}
+use Rattle.plm_decl.specs.declared.layout.ScalarType.{ScalarType}
+use Rattle.plm_decl.specs.declared.names.Variable.{Variable}
+use Rattle.plm_decl.specs.declared.resolved.Binding.{Binding}
+use Rattle.plm_decl.specs.declared.found.Found.{Found}
+use Rattle.plm_decl.specs.Names.{ProcedureR}
+use Rattle.plm_decl.specs.Resolved.{ExpressionR, ExpressionsR, SelectorR, ReferenceR', LocationR', ReferencesR, StatementR, StatementsR}
+use Rattle.plm_type.specs.declared.statements.Around.{Around}
+use Rattle.plm_type.specs.Rest.{Expression, Expressions, Target, Statement, Statements}
+use Rattle.plm_type.specs.Expressions as expressions
+use Rattle.plm_type.specs.Statements as statements
+
+module _ (variables : List Variable) (procedures : List ProcedureR) (sizes : List ℕ) (module_index : ℕ) where
+  abbrev pub tree_of : ExpressionR → Expression
+  tree_of e = (expressions.typed variables procedures sizes module_index e).tree
+
+  abbrev pub type_of : ExpressionR → Option ScalarType
+  type_of e = (expressions.typed variables procedures sizes module_index e).scalar
+
+  abbrev pub faults_of : ExpressionR → List Found
+  faults_of e = (expressions.typed variables procedures sizes module_index e).faults
+
+  abbrev pub trees_of : ExpressionsR → Expressions
+  trees_of es = (expressions.list variables procedures sizes module_index es).trees
+
+  abbrev pub types_of : ExpressionsR → List (Option ScalarType)
+  types_of es = (expressions.list variables procedures sizes module_index es).types
+
+  abbrev pub faults_in : ExpressionsR → List Found
+  faults_in es = (expressions.list variables procedures sizes module_index es).faults
+
+  abbrev pub selector_trees : SelectorR → Expressions
+  selector_trees s = (expressions.selector variables procedures sizes module_index s).trees
+
+  abbrev pub selector_types : SelectorR → List (Option ScalarType)
+  selector_types s = (expressions.selector variables procedures sizes module_index s).types
+
+  abbrev pub selector_faults : SelectorR → List Found
+  selector_faults s = (expressions.selector variables procedures sizes module_index s).faults
+
+  abbrev pub value_of : ReferenceR' → Expression
+  value_of x = (expressions.value variables procedures sizes module_index x).tree
+
+  abbrev pub value_faults : ReferenceR' → List Found
+  value_faults x = (expressions.value variables procedures sizes module_index x).faults
+
+  abbrev pub location_of : LocationR' → Expression
+  location_of l = (expressions.location variables procedures sizes module_index l).tree
+
+  abbrev pub location_faults : LocationR' → List Found
+  location_faults l = (expressions.location variables procedures sizes module_index l).faults
+
+  abbrev pub target_of : ReferenceR' → Target
+  target_of x = (expressions.target variables procedures sizes module_index x).tree
+
+  abbrev pub target_faults : ReferenceR' → List Found
+  target_faults x = (expressions.target variables procedures sizes module_index x).faults
+
+  abbrev pub measured_value : Position → Builtin → ExpressionsR → Expression
+  measured_value p b es = (expressions.arguments variables procedures sizes module_index p b es).tree
+
+  abbrev pub argument_value : Position → Builtin → ExpressionR → Expression
+  argument_value p b e = (expressions.argument variables procedures sizes module_index p b e).tree
+
+  abbrev pub reference_value : Position → Builtin → ReferenceR' → Expression
+  reference_value p b x = (expressions.measured_reference variables procedures sizes module_index p b x).tree
+
+  -- ---- statements
+
+  abbrev pub of_number : Position → ExpressionR → List Found
+  of_number p e = (statements.number_in variables procedures sizes module_index p e).faults
+
+  abbrev pub target_trees : ReferencesR → List Target
+  target_trees xs = (statements.typed_targets variables procedures sizes module_index xs).trees
+
+  abbrev pub of_targets : ReferencesR → List Found
+  of_targets xs = (statements.typed_targets variables procedures sizes module_index xs).faults
+
+  abbrev pub called : Position → ReferenceR' → Expression
+  called p x = (statements.typed_call variables procedures sizes module_index p x).tree
+
+  abbrev pub of_call : Position → ReferenceR' → List Found
+  of_call p x = (statements.typed_call variables procedures sizes module_index p x).faults
+
+  abbrev pub of_index : Position → Position → Binding → List Found
+  of_index p q m = (statements.typed_index variables procedures sizes module_index p q m).faults
+
+  abbrev pub step_for : Position → Option ExpressionR → Expression
+  step_for p s = (statements.typed_step variables procedures sizes module_index p s).tree
+
+  abbrev pub of_step : Position → Option ExpressionR → List Found
+  of_step p s = (statements.typed_step variables procedures sizes module_index p s).faults
+
+  abbrev pub statement_for : Around → StatementR → Statement
+  statement_for around s = (statements.typed_statement variables procedures sizes module_index around s).tree
+
+  abbrev pub of_statement : Around → StatementR → List Found
+  of_statement around s = (statements.typed_statement variables procedures sizes module_index around s).faults
+
+  abbrev pub statements_for : Around → StatementsR → Statements
+  statements_for around ss = (statements.typed_statements variables procedures sizes module_index around ss).tree
+
+  abbrev pub of_statements : Around → StatementsR → List Found
+  of_statements around ss = (statements.typed_statements variables procedures sizes module_index around ss).faults

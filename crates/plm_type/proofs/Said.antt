@@ -1,0 +1,74 @@
+-- What the code says of a construct's parts, behind faults that are noted already, makes what it says of the construct.
+use Rattle.std.proofs.Common.{◌≡◌, ℕ, ◌++◌, [], List, Result, IfOk, append_assoc, subst, ap, ◌∙◌}
+use Rattle.word86.specs.declared.number.Number.TheVariants.{E401}
+use Rattle.plm_syntax.specs.declared.tree.Position.{Position}
+use Rattle.plm_syntax.specs.declared.tree.BinaryOperator.{BinaryOperator}
+use Rattle.plm_decl.specs.declared.found.Found.{Found}
+use Rattle.plm_type.specs.declared.typer.Typed as declared
+use Rattle.plm_type.specs.declared.references.TypedTarget as declared_target
+use Rattle.plm_type.specs.Types as scalars
+use Rattle.plm_type.specs.Faults.{fault_unless}
+use Rattle.plm_type.specs.Typer.{Typed, TypedTarget, TypedList, Parts, Noted}
+use Rattle.plm_type.specs.Expressions as spec
+use Rattle.plm_type.specs.Inner.Typer.{said, target_said, noted, after, target_after, list_after, parts_after}
+
+-- what is said of an answer, said in other words
+pub typed_moved : {E : Type 0} (r : Result declared.Typed E) (noted : List Found) {x y : Typed} → x ≡ y → IfOk r (λ e. said e noted ≡ x) → IfOk r (λ e. said e noted ≡ y)
+typed_moved r noted is h = subst (λ (z : Typed). IfOk r (λ e. said e noted ≡ z)) is h
+
+pub target_moved : {E : Type 0} (r : Result declared_target.TypedTarget E) (noted : List Found) {x y : TypedTarget} → x ≡ y → IfOk r (λ t. target_said t noted ≡ x) → IfOk r (λ t. target_said t noted ≡ y)
+target_moved r noted is h = subst (λ (z : TypedTarget). IfOk r (λ t. target_said t noted ≡ z)) is h
+
+pub noted_moved : {A T E : Type 0} (view : A → T) (r : Result A E) (faults : List Found) {x y : Noted T} → x ≡ y → IfOk r (λ a. noted (view a) faults ≡ x) → IfOk r (λ a. noted (view a) faults ≡ y)
+noted_moved view r faults is h = subst (λ z. IfOk r (λ a. noted (view a) faults ≡ z)) is h
+
+abbrev pub typed_with : Typed → List Found → Typed
+typed_with e noted = record { tree = e.tree; scalar = e.scalar; faults = noted }
+
+abbrev pub target_with : TypedTarget → List Found → TypedTarget
+target_with x noted = record { tree = x.tree; scalar = x.scalar; faults = noted }
+
+-- a construct's own faults stand behind those of its part
+pub own_after : (e : Typed) (old a b : List Found) → typed_with e ((old ++ a) ++ b) ≡ typed_with e (old ++ (a ++ b))
+own_after e old a b = ap (typed_with e) (append_assoc old a b)
+
+pub target_own_after : (x : TypedTarget) (old a b : List Found) → target_with x ((old ++ a) ++ b) ≡ target_with x (old ++ (a ++ b))
+target_own_after x old a b = ap (target_with x) (append_assoc old a b)
+
+-- ---- two parts, of which the second's faults are noted behind the first's
+
+pub embedded_said : (m : ℕ) (p : Position) (old : List Found) (x y : TypedTarget) (e d : Typed) → y ≡ target_after old x → d ≡ after y.faults e
+    → spec.embedded m p (target_with y d.faults) (typed_with d []) ≡ after old (spec.embedded m p x e)
+embedded_said m p old x y e d h g =
+    let both = g ∙ ap (λ (z : TypedTarget). after z.faults e) h in
+    let own = fault_unless m (scalars.takes x.scalar e.scalar) E401 p in
+    (λ j. spec.embedded m p (target_with (h j) (both j).faults) (typed_with (both j) []))
+    ∙ ap (typed_with (spec.embedded m p x e)) (append_assoc (old ++ x.faults) e.faults own ∙ append_assoc old x.faults (e.faults ++ own))
+
+pub joined_said : (m : ℕ) (p : Position) (o : BinaryOperator) (first : Position) (left b d : Typed) → d ≡ after left.faults b
+    → spec.binary m p o first (typed_with left d.faults) (typed_with d []) ≡ spec.binary m p o first left b
+joined_said m p o first left b d h =
+    let own = fault_unless m (scalars.operands_fit o left.scalar b.scalar) E401 first in
+    (λ j. spec.binary m p o first (typed_with left (h j).faults) (typed_with (h j) []))
+    ∙ ap (typed_with (spec.binary m p o first left b)) (append_assoc left.faults b.faults own)
+
+pub joined_after : (m : ℕ) (p : Position) (o : BinaryOperator) (first : Position) (old : List Found) (a b : Typed)
+    → spec.binary m p o first (after old a) b ≡ after old (spec.binary m p o first a b)
+joined_after m p o first old a b = own_after (spec.binary m p o first a b) old a.faults _
+
+abbrev quiet : TypedList → TypedList
+quiet es = record { trees = es.trees; types = es.types; faults = [] }
+
+abbrev pub parts_with : TypedList → TypedList → List Found → Parts
+parts_with es us noted = spec.parts (quiet es) (record { trees = us.trees; types = us.types; faults = noted })
+
+pub parts_made : (old : List Found) (a b y d : TypedList) → y ≡ list_after old a → d ≡ list_after y.faults b → parts_with y d d.faults ≡ parts_after old (spec.parts a b)
+parts_made old a b y d h g =
+    let both = g ∙ ap (λ (z : TypedList). list_after z.faults b) h in
+    (λ j. parts_with (h j) (both j) (both j).faults) ∙ ap (parts_with a b) (append_assoc old a.faults b.faults)
+
+-- ---- what has no type
+
+-- a construct's own faults stand behind those of its part
+pub noted_own_after : {A : Type 0} (tree : A) (old a b : List Found) → noted tree ((old ++ a) ++ b) ≡ noted tree (old ++ (a ++ b))
+noted_own_after tree old a b = ap (noted tree) (append_assoc old a b)
