@@ -22,8 +22,7 @@ use Rattle.i86_code.specs.declared.form.Prefixes.{Prefixes}
 use Rattle.i86_code.specs.declared.form.Prefixes.TheVariants as prefixes
 use Rattle.i86_code.specs.declared.form.RegisterOrMemory.{RegisterOrMemory}
 use Rattle.i86_code.specs.declared.form.RegisterOrMemory.TheVariants.{Register, Indirect, Direct, Near, Far}
-use Rattle.i86_code.specs.Opcodes.{opcode_byte}
-use Rattle.i86_code.specs.Forms.{form_bytes, field_bytes, prefix_bytes, place_bytes, word_bytes, IsPlace, base_code}
+use Rattle.i86_code.specs.Forms.{form_bytes, field_bytes, prefix_bytes, place_bytes, word_bytes, IsPlace, base_code, opcode_byte}
 use Rattle.i86_code.specs.Instructions.{segment_under, usual_segment, operand}
 use Rattle.i86_code.specs.Writing.{prefix_for, prefix_at, prefix_of, is_near, is_bp, based_form, address_form, place_form, plain, addressed, with_memory, with_byte, with_word, in_group, from_register, accumulator_form, cost, is_turned, is_turned_address, is_turned_form, is_alu_short, is_repeat_first}
 use Rattle.std.proofs.lemmas.List.{length-append}

@@ -4,10 +4,11 @@ use Rattle.std.specs.Prelude.{IfSome, IfNone}
 use Rattle.std.proofs.lemmas.List.{length-append, take_at}
 use Rattle.i86_table.specs.declared.instruction.Instr.{Instr}
 use Rattle.i86_code.specs.declared.form.Form.{Form}
-use Rattle.i86_code.specs.Forms.{form_bytes, IsForm}
+use Rattle.i86_code.specs.Forms.{form_bytes, IsForm, Spells}
 use Rattle.i86_code.specs.Reading.{Read, form_at}
-use Rattle.i86_code.specs.Instructions.{instruction_of, Spells}
-use Rattle.i86_code.specs.Decoding.{decoded, form_then, instruction_then, AreBytes}
+use Rattle.i86_code.specs.Instructions.{instruction_of}
+use Rattle.i86_code.specs.Decoding.{decoded, form_then, instruction_then}
+use Rattle.i86_code.specs.Coding.{AreBytes}
 use Rattle.i86_code.proofs.FormLaws.{form_again, form_found}
 
 pub decoded_again : (f : Form) (rest : List ℕ) (i : Instr) → IsForm f → instruction_of f ≡ Some i → decoded (form_bytes f ++ rest) ≡ Some (i, length (form_bytes f))

@@ -4,11 +4,11 @@ use Rattle.std.specs.Prelude.{IfSome}
 use Rattle.std.proofs.lemmas.List.{length-append, length-take}
 use Rattle.i86_table.specs.declared.instruction.Instr.{Instr}
 use Rattle.i86_code.specs.declared.form.Form.{Form}
-use Rattle.i86_code.specs.Opcodes.{opcode_byte}
-use Rattle.i86_code.specs.Forms.{form_bytes, prefix_bytes, field_bytes}
+use Rattle.i86_code.specs.Forms.{form_bytes, prefix_bytes, field_bytes, opcode_byte, Spells}
 use Rattle.i86_code.specs.Reading.{Read, form_at}
-use Rattle.i86_code.specs.Instructions.{instruction_of, Spells}
-use Rattle.i86_code.specs.Decoding.{decoded, form_then, instruction_then, DecodedSpells}
+use Rattle.i86_code.specs.Instructions.{instruction_of}
+use Rattle.i86_code.specs.Decoding.{decoded, form_then, instruction_then}
+use Rattle.i86_code.specs.Coding.{DecodedSpells}
 use Rattle.i86_code.proofs.Places.{some_is}
 use Rattle.i86_code.proofs.DecodeLaws.{decoded_found}
 

@@ -9,7 +9,7 @@ use Rattle.i86_code.specs.declared.form.RegisterOrMemory.{RegisterOrMemory}
 use Rattle.i86_code.specs.declared.form.RegisterOrMemory.TheVariants.{Register, Indirect, Direct, Near, Far}
 use Rattle.i86_code.specs.Forms.{base_code, word_bytes, place_bytes, IsPlace}
 use Rattle.i86_code.specs.Reading.{base_at, word_at, memory_at, place_at, then_read}
-use Rattle.i86_code.specs.Decoding.{AreBytes}
+use Rattle.i86_code.specs.Coding.{AreBytes}
 
 pub IsBytes-rest : (b : ℕ) (bytes : List ℕ) → AreBytes (b ∷ bytes) → AreBytes bytes
 IsBytes-rest b bytes h i = h (suc i)

@@ -8,9 +8,9 @@ use Rattle.i86_code.specs.declared.form.Prefixes.TheVariants as prefixes
 use Rattle.i86_code.specs.declared.form.RegisterOrMemory.{RegisterOrMemory}
 use Rattle.i86_code.specs.declared.form.RegisterOrMemory.TheVariants.{Register, Indirect, Direct, Near, Far}
 use Rattle.i86_code.specs.declared.form.Form.{Form}
-use Rattle.i86_code.specs.Opcodes.{opcode_byte}
-use Rattle.i86_code.specs.Forms.{place_bytes, word_bytes, field_bytes, prefix_bytes, form_bytes}
-use Rattle.i86_code.specs.Decoding.{decoded, IsOneForm, IsShort}
+use Rattle.i86_code.specs.Forms.{place_bytes, word_bytes, field_bytes, prefix_bytes, form_bytes, opcode_byte}
+use Rattle.i86_code.specs.Decoding.{decoded}
+use Rattle.i86_code.specs.Coding.{IsOneForm, IsShort}
 use Rattle.i86_code.proofs.DecodeLaws.{decoded_again}
 
 place_size : (r : ℕ) (p : RegisterOrMemory) → length (place_bytes r p) ≤ 3

@@ -1,8 +1,9 @@
 pub mod Opcodes
-pub mod Forms
 pub mod Reading
 pub mod Instructions
 pub mod Decoding
+pub mod Forms
+pub mod Coding
 pub mod Widths
 pub mod Writing
 pub mod Ranges

@@ -12,9 +12,7 @@ use Rattle.i86_table.specs.Numbers.{byte_register_code, word_register_code}
 use Rattle.i86_table.specs.Open.{spot_address, closed}
 use Rattle.i86_code.specs.declared.form.Opcode.{Opcode}
 use Rattle.i86_code.specs.declared.form.Opcode.TheVariants as op
-use Rattle.i86_code.specs.Opcodes.{opcode_byte}
-use Rattle.i86_code.specs.Forms.{base_code, prefix_bytes, word_bytes}
-use Rattle.i86_code.specs.Instructions.{Spells}
+use Rattle.i86_code.specs.Forms.{base_code, prefix_bytes, word_bytes, opcode_byte, Spells}
 use Rattle.i86_code.specs.Writing.{prefix_at, is_al, is_ax}
 
 -- the address byte of a place with a word for its number: [number] or [base+number]

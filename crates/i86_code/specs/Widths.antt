@@ -2,7 +2,8 @@
 use Rattle.std.specs.Prelude.{ℕ, ◌≡◌, Some, List}
 use Rattle.i86_table.specs.declared.instruction.Instr.{Instr}
 use Rattle.i86_table.specs.Widths.{HasWidths}
-use Rattle.i86_code.specs.Decoding.{decoded, AreBytes}
+use Rattle.i86_code.specs.Decoding.{decoded}
+use Rattle.i86_code.specs.Coding.{AreBytes}
 
 -- they have their widths
 abbrev pub DecodedHasWidths : Type 0

@@ -44,8 +44,7 @@ use Rattle.i86_code.specs.declared.form.Prefixes.TheVariants as prefixes
 use Rattle.i86_code.specs.declared.form.RegisterOrMemory.{RegisterOrMemory}
 use Rattle.i86_code.specs.declared.form.RegisterOrMemory.TheVariants.{Register, Indirect, Direct, Near, Far}
 use Rattle.i86_code.specs.declared.form.Form.{Form}
-use Rattle.i86_code.specs.Opcodes.{operation_code, segment_code}
-use Rattle.i86_code.specs.Forms.{form_bytes, IsForm}
+use Rattle.i86_code.specs.Forms.{form_bytes, IsForm, operation_code, segment_code}
 use Rattle.i86_code.specs.Instructions.{usual_segment, is_short, instruction_of}
 
 -- ---- which form is better

@@ -1,9 +1,10 @@
 //! Decoding and encoding.
 
 ghost use Rattle.std.specs.Prelude.{◌≡◌, ◌≤◌, ◌++◌, ℕ, List, IfSome, IfNone, take, length, Some};
-ghost use Rattle.i86_code.specs.Instructions.{Spells};
+ghost use Rattle.i86_code.specs.Forms.{Spells};
 ghost use Rattle.i86_code.specs.Writing.{WritesBest, bytes_of};
-ghost use Rattle.i86_code.specs.Decoding.{decoded, DecodedSpells, IsOneForm, IsShort};
+ghost use Rattle.i86_code.specs.Decoding.{decoded};
+ghost use Rattle.i86_code.specs.Coding.{DecodedSpells, IsOneForm, IsShort};
 ghost use Rattle.i86_code.specs.Widths.{DecodedHasWidths};
 
 use crate::form::Form;

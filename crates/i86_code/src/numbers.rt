@@ -2,7 +2,8 @@
 
 ghost use Rattle.std.specs.Prelude.{◌≡◌, ◌<◌, ℕ};
 ghost use Rattle.i86_table.specs.Numbers.{byte_register_code, word_register_code};
-ghost use Rattle.i86_code.specs.Opcodes.{operation_at, operation_code, condition_at, condition_code, byte_register_at, word_register_at, segment_at, segment_code, loadable_at, width_at, width_code};
+ghost use Rattle.i86_code.specs.Opcodes.{operation_at, condition_at, byte_register_at, word_register_at, segment_at, loadable_at, width_at};
+ghost use Rattle.i86_code.specs.Forms.{operation_code, condition_code, segment_code, width_code};
 
 use i86_table::{AluOperation, Condition, LoadableSegment, Register8, Register16, Segment};
 use word86::Width;

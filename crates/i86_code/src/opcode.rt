@@ -1,7 +1,8 @@
 //! The opcode bytes.
 
 ghost use Rattle.std.specs.Prelude.{◌≡◌, ◌<◌, ◌≤◌};
-ghost use Rattle.i86_code.specs.Opcodes.{opcode_byte, opcode_at, opcode_below_40, opcode_below_80, opcode_below_90, opcode_below_a0, opcode_below_c0, opcode_below_e0, opcode_below_f0, opcode_from_f0, push_segment_at, pop_segment_at, field_kind_of};
+ghost use Rattle.i86_code.specs.Opcodes.{opcode_at, opcode_below_40, opcode_below_80, opcode_below_90, opcode_below_a0, opcode_below_c0, opcode_below_e0, opcode_below_f0, opcode_from_f0, push_segment_at, pop_segment_at, field_kind_of};
+ghost use Rattle.i86_code.specs.Forms.{opcode_byte};
 
 use crate::form::{FieldKind, Opcode};
 use crate::numbers::{

@@ -4,8 +4,9 @@ use Rattle.std.specs.Prelude.{if◌then◌else◌}
 use Rattle.std.proofs.lemmas.Bool.{cases_lt, lt-ltb, le-ltb}
 use Rattle.std.proofs.lemmas.List.{get_or-drop, get_or-take, length-take-le}
 use Rattle.i86_table.specs.declared.instruction.Instr.{Instr}
-use Rattle.i86_code.specs.Instructions.{Spells}
-use Rattle.i86_code.specs.Decoding.{decoded, AreBytes, DecodedSpells}
+use Rattle.i86_code.specs.Forms.{Spells}
+use Rattle.i86_code.specs.Decoding.{decoded}
+use Rattle.i86_code.specs.Coding.{AreBytes, DecodedSpells}
 use Rattle.layout_link.specs.Rom.{Written, CodeInRom, rom_code}
 
 module _ (law : DecodedSpells) (rom : List ℕ) (small : AreBytes rom) (size : length rom ≤ 65536) where

@@ -2,8 +2,7 @@
 use Rattle.std.proofs.Common.{◌≡◌, ℕ, suc, ◌+◌, ◌%◌, ◌/◌, ◌<◌, List, [], ◌∷◌, ◌++◌, length, get_or, set, refl, sym, ap, ap₂, ◌∙◌, subst, arith, append_assoc, length-append}
 use Rattle.std.specs.Prelude.{nat_lt, if◌then◌else◌, true}
 use Rattle.std.proofs.lemmas.Bool.{lt-ltb}
-use Rattle.i86_code.specs.Forms.{word_bytes}
-use Rattle.i86_code.specs.Instructions.{Spells}
+use Rattle.i86_code.specs.Forms.{word_bytes, Spells}
 use Rattle.i86_table.specs.declared.open.Open.{Open}
 use Rattle.select.specs.declared.part.Kind.{Kind}
 use Rattle.select.specs.declared.part.Kind.TheVariants.{Case}

@@ -5,7 +5,7 @@ use Rattle.i86_table.specs.declared.instruction.Instr.{Instr}
 use Rattle.i86_table.specs.declared.instruction.Instr.TheVariants as i
 use Rattle.i86_table.specs.Contexts.{further}
 use Rattle.i86_code.specs.Writing.{bytes_of, form_of, move_byte_of, move_word_of, alu_byte_of, alu_word_of, based_form}
-use Rattle.i86_code.specs.Opcodes.{opcode_byte}
+use Rattle.i86_code.specs.Forms.{opcode_byte}
 use Rattle.layout_link.specs.declared.tasks.Task.{Task}
 use Rattle.layout_link.specs.declared.tasks.Task.TheVariants as tasks
 use Rattle.layout_link.specs.Startup.{load_word, rep_movsb, Stands, HasAct, HasActs, HasStartUp, Copy}

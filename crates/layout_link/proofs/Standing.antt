@@ -7,14 +7,14 @@ use Rattle.i86_table.specs.declared.instruction.Instr.{Instr}
 use Rattle.i86_table.specs.declared.instruction.Instr.TheVariants as i
 use Rattle.i86_table.specs.Arithmetic.{sign_extended}
 use Rattle.i86_table.specs.Contexts.{further}
-use Rattle.i86_code.specs.Instructions.{Spells}
-use Rattle.i86_code.specs.Decoding.{decoded, IsOneForm}
+use Rattle.i86_code.specs.Decoding.{decoded}
+use Rattle.i86_code.specs.Coding.{IsOneForm}
 use Rattle.select.specs.declared.part.Step.{Step}
 use Rattle.select.specs.declared.part.Step.TheVariants.{Plain, Refer, AtStep, Word, Goto, GotoIf}
 use Rattle.i86_table.specs.Open.{closed}
 use Rattle.i86_table.specs.Conditions.{inverse}
 use Rattle.select.specs.Parts.{target_of}
-use Rattle.i86_code.specs.Forms.{word_bytes}
+use Rattle.i86_code.specs.Forms.{word_bytes, Spells}
 use Rattle.layout_link.specs.Rom.{word_in, rom_code, rom_words}
 use Rattle.select.specs.Linked.{StandsAt, Stands, AllStand}
 use Rattle.layout_link.specs.Inner.Linked.{IsLinked, AreLinked}

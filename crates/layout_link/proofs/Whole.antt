@@ -5,8 +5,8 @@ use Rattle.std.proofs.lemmas.List.{length-replicate, length-map, get_or-append-a
 use Rattle.std.proofs.lemmas.List.Sums.{sum_by-take-le}
 use Rattle.i86_table.specs.declared.instruction.Instr.{Instr}
 use Rattle.i86_table.specs.declared.instruction.Instr.TheVariants as i
-use Rattle.i86_code.specs.Instructions.{Spells}
-use Rattle.i86_code.specs.Decoding.{IsOneForm}
+use Rattle.i86_code.specs.Forms.{Spells}
+use Rattle.i86_code.specs.Coding.{IsOneForm}
 use Rattle.i86_code.specs.Writing.{bytes_of, form_of}
 use Rattle.select.specs.declared.part.Fixup.{Fixup}
 use Rattle.select.specs.declared.part.Part.{Part}

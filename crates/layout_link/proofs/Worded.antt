@@ -3,7 +3,7 @@ use Rattle.std.proofs.Common.{◌≡◌, ℕ, zero, suc, ◌+◌, ◌-◌, ◌%�
 use Rattle.std.specs.Prelude.{nat_lt, ◌||◌, if◌then◌else◌}
 use Rattle.std.proofs.lemmas.Bool.{cases_lt, lt-ltb, le-ltb}
 use Rattle.std.proofs.lemmas.Option.{none-some}
-use Rattle.i86_code.specs.Decoding.{AreBytes}
+use Rattle.i86_code.specs.Coding.{AreBytes}
 use Rattle.layout_link.specs.Rom.{rom_byte, Written, WordsInRom, word_in, rom_words}
 
 some_is : (m n : ℕ) → Some m ≡ Some n → m ≡ n

@@ -4,7 +4,7 @@ use Rattle.plm_decl.specs.declared.names.Variable.{Variable}
 use Rattle.plm_decl.specs.declared.names.Object.{Object}
 use Rattle.plm_decl.specs.Names.{object_of}
 use Rattle.plm_decl.specs.Initial.{first_bytes}
-use Rattle.i86_code.specs.Decoding.{AreBytes}
+use Rattle.i86_code.specs.Coding.{AreBytes}
 use Rattle.layout_link.specs.declared.tasks.Task.{Task}
 use Rattle.layout_link.specs.declared.tasks.Task.TheVariants as tasks
 

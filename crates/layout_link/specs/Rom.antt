@@ -1,7 +1,7 @@
 -- The code in the bytes of a ROM.
 use Rattle.std.specs.Prelude.{ℕ, ◌≡◌, ◌+◌, ◌*◌, ◌-◌, ◌/◌, ◌%◌, ◌<◌, ◌≤◌, ◌||◌, nat_lt, if◌then◌else◌, List, [], ◌∷◌, length, drop, slice_index, Option, Some, None}
 use Rattle.i86_table.specs.declared.instruction.Instr.{Instr}
-use Rattle.i86_code.specs.Instructions.{Spells}
+use Rattle.i86_code.specs.Forms.{Spells}
 use Rattle.i86_code.specs.Decoding.{decoded}
 
 -- the byte at a place of the code's segment 0F000H, at whose end the ROM ends

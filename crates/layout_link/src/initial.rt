@@ -1,7 +1,7 @@
 //! The bytes that the objects of a program have at start.
 
 ghost use Rattle.std.specs.Prelude.{◌≡◌, ◌+◌, ◌-◌, ◌<◌, ◌≤◌, ◌^◌, ◌++◌, ℕ, IfOk, OnOk, IsOkUnless, length, map, slice_get, slice_index};
-ghost use Rattle.i86_code.specs.Decoding.{AreBytes};
+ghost use Rattle.i86_code.specs.Coding.{AreBytes};
 ghost use Rattle.plm_decl.specs.Initial.{word, variable_address, datum_bytes, initial_bytes};
 ghost use Rattle.layout_link.specs.Initial.{puts, is_copied, object_tasks, copied, copies_with, object_bytes, HaveBytes, data_tasks, copied_bytes};
 

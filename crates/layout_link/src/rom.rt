@@ -2,7 +2,7 @@
 
 ghost use Rattle.std.specs.Prelude.{◌≡◌, ◌++◌, ◌+◌, ◌-◌, ◌<◌, ◌≤◌, ℕ, OnOk, IfOk, IsOkUnless, Some, length, replicate, slice_index, vec_len};
 ghost use Rattle.i86_table.specs.declared.instruction.Instr.TheVariants as instructions;
-ghost use Rattle.i86_code.specs.Instructions.{Spells};
+ghost use Rattle.i86_code.specs.Forms.{Spells};
 ghost use Rattle.i86_code.specs.Writing.{bytes_of};
 ghost use Rattle.layout_link.specs.Image.{bytes_in, base_of};
 ghost use Rattle.layout_link.specs.Places.{total_of, places_from};

@@ -1,6 +1,5 @@
 -- The Rust trees of resolved statements as plain ones.
 use Rattle.std.specs.Prelude.{List, [], ◌∷◌, Option, Some, None}
-use Rattle.plm_syntax.specs.View.{number_of}
 use Rattle.plm_decl.specs.declared.resolved.Expression.{Expression, Row_of-Expression, end_of-Expression, more_of-Expression, Row_of-Operation, end_of-Operation, more_of-Operation}
 use Rattle.plm_decl.specs.declared.resolved.Expression.TheVariants as expression
 use Rattle.plm_decl.specs.declared.resolved.Operation.{Operation}
@@ -15,7 +14,7 @@ use Rattle.plm_decl.specs.Resolved.{ExpressionR, NumberR, TextR, ReferenceR, Loc
 
 abbrev mutual
   pub expression_of : Expression → ExpressionR
-  expression_of (expression.Number n) = NumberR (number_of n)
+  expression_of (expression.Number n) = NumberR (record { value = n.value; place = n.place })
   expression_of (expression.Text p s) = TextR p s.items
   expression_of (expression.Reference' p m shape es s) = ReferenceR (Use p m (expressions_in es) (selector_of s))
   expression_of (expression.Location l) = LocationR (location_of l)

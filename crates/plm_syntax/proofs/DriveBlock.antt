@@ -7,7 +7,8 @@ use Rattle.plm_syntax.specs.declared.tree.Position.{Position}
 use Rattle.plm_syntax.specs.declared.tree.Scalar.{Scalar}
 use Rattle.plm_syntax.specs.declared.tree.Scalar.TheVariants as scalar
 use Rattle.plm_syntax.specs.declared.tree.UnaryOperator.TheVariants as unary
-use Rattle.plm_syntax.specs.Terminal.{NameT, NumeralT, Terminal, Name, Key, Sign, Finish, Leaf, leaf, leaf_at, is_key, is_sign}
+use Rattle.plm_syntax.specs.Terminal.{NameT, NumeralT, Terminal, Name, Key, Sign, Finish, Leaf, leaf, leaf_at, is_key}
+use Rattle.plm_syntax.specs.Inner.Terminal.{is_sign}
 use Rattle.plm_syntax.specs.Tree.{Pointer, Offset, ExpressionT, NumeralE, TextE, ReferenceE, LocationE, ParenthesisedE, EmbeddedE, UnaryE, BinaryE, ReferenceT, ReferenceOf, ExpressionsT, no_expressions, expressions, SelectorT, no_member, member, member_at, LocationOf, ConstantsOf, NamesT, no_names, names, ElementsT, LinkageT, no_linkage, public_linkage, external_linkage, ReferencesT, no_references, references, StatementT, Labelled, BasicT, EmptyS, AssignS, CallS, ReturnS, ReturnValueS, EnableS, DisableS, HaltS, IfS, IfElseS, DoS, WhileS, CaseS, IterateS, StatementsT, no_statements, statements, BlockT, BlockOf, ItemsT, no_items, items, ItemT, DeclareI, ProcedureI, ModuleT, ModuleOf}
 use Rattle.plm_syntax.specs.Spelling.{binary_sign, last_name, expression, reference, subscripts, selector, listed_names, parenthesised_names, returned, interrupt, linkage, ending, listed_references, targets, labels, step, statement, basic, statement_list, block, item_list, item, module_leaves, put_leaf, leaves_of}
 use Rattle.plm_syntax.specs.WellFormed.{Well, WellExpressions, WellSelector, WellElements, WellTargets, WellStep, ends_open, basic_open, is_end_name, WellEnd, WellStatement, WellBasic, WellStatements, WellItems, WellItem, WellModule}

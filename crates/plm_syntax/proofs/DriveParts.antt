@@ -5,7 +5,8 @@ use Rattle.plm_syntax.specs.declared.tree.Position.{Position}
 use Rattle.plm_syntax.specs.declared.tree.UnaryOperator.TheVariants as unary
 use Rattle.plm_syntax.specs.declared.tree.BinaryOperator.{BinaryOperator}
 use Rattle.plm_syntax.specs.declared.tree.BinaryOperator.TheVariants as binary
-use Rattle.plm_syntax.specs.Terminal.{NameT, Terminal, Sign, Leaf, leaf, leaf_at, is_sign}
+use Rattle.plm_syntax.specs.Terminal.{NameT, Terminal, Sign, Leaf, leaf, leaf_at}
+use Rattle.plm_syntax.specs.Inner.Terminal.{is_sign}
 use Rattle.plm_syntax.specs.Tree.{LocationForm, Pointer, Offset, ExpressionT, NumeralE, TextE, ReferenceE, LocationE, ParenthesisedE, EmbeddedE, UnaryE, BinaryE, ReferenceOf, ExpressionsT, no_expressions, expressions, SelectorT, no_member, member, member_at, LocationT, LocationOf, ConstantsOf, ValueT, NumeralV, NegativeV, TextV, LocationV, ValuesT, no_values, values}
 use Rattle.plm_syntax.specs.Spelling.{binary_sign, expression, reference, subscripts, selector, value, value_list, listed_values, put_leaf}
 use Rattle.plm_syntax.specs.WellFormed.{Well, WellExpressions, WellSelector, WellLocation, WellValue, WellValues, WellSomeValues}

@@ -7,7 +7,8 @@ use Rattle.plm_token.specs.declared.token.Keyword.{Keyword}
 use Rattle.plm_syntax.specs.declared.tree.Position.{Position}
 use Rattle.plm_syntax.specs.declared.cursor.Cursor.{Cursor}
 use Rattle.plm_syntax.specs.declared.failure.Failure.{Failure}
-use Rattle.plm_syntax.specs.Terminal.{Key, Sign, Leaf, is_sign, leaf_at, key_number, sign_number}
+use Rattle.plm_syntax.specs.Terminal.{Key, Sign, Leaf, leaf_at, key_number}
+use Rattle.plm_syntax.specs.Inner.Terminal.{is_sign, sign_number}
 use Rattle.plm_syntax.specs.declared.tree.UnaryOperator.{UnaryOperator}
 use Rattle.plm_syntax.specs.declared.tree.Expression.{Expression}
 use Rattle.plm_syntax.specs.Tree.{ExpressionT, UnaryE}

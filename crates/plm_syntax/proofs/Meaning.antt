@@ -6,7 +6,8 @@ use Rattle.plm_token.specs.declared.token.Mark.{Mark}
 use Rattle.plm_token.specs.declared.token.Mark.TheVariants as mark
 use Rattle.plm_syntax.specs.declared.tree.Position.{Position}
 use Rattle.plm_syntax.specs.declared.tree.Scalar.{Scalar}
-use Rattle.plm_syntax.specs.Terminal.{NameT, NumeralT, Terminal, Name, Numeral, Text, Key, Sign, Finish, Leaf, leaf, leaf_at, key_number, sign_number, is_key, is_sign, is_same}
+use Rattle.plm_syntax.specs.Terminal.{NameT, NumeralT, Terminal, Name, Numeral, Text, Key, Sign, Finish, Leaf, leaf, leaf_at, key_number, is_key}
+use Rattle.plm_syntax.specs.Inner.Terminal.{sign_number, is_sign, is_same}
 use Rattle.plm_syntax.specs.Tree.{ExpressionT, ReferenceT, ExpressionsT, SelectorT, LocationT, ValueT, ValuesT, NamesT, VariableT, VariablesT, DimensionT, MemberT, MembersT, TypeT, StructureType, AtT, no_at, at_number, at_location, InitialT, AttributesT, ElementT, ElementsT, LinkageT, ReferencesT, StatementT, BasicT, DoS, WhileS, CaseS, IterateS, StatementsT, BlockOf, ItemsT, ModuleT}
 use Rattle.plm_syntax.specs.Spelling.{form_sign, scalar_key, last_name, behind_labels, expression, reference, subscripts, listed, selector, location, value, value_list, name_list, parenthesised_names, base, variable, variable_list, dimension_leaves, count, member_leaves, member_list, type_leaves, at_leaves, initial_leaves, attributes, element, element_list, returned, interrupt, linkage, ending, listed_references, targets, labels, step, statement, statement_list, block, item_list, module_leaves, put_leaf}
 use Rattle.plm_syntax.specs.WellFormed.{precedence, Well, WellReference, WellExpressions, WellSelector, WellLocation, WellValue, WellValues, HasNames, HasVariables, WellMember, WellType, WellAt, WellInitial, WellAttributes, WellElement, WellElements, WellTargets, WellStep, ends_open, WellEnd, WellStatement, WellStatements, WellItems, WellModule}

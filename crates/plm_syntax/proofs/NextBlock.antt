@@ -4,7 +4,8 @@ use Rattle.plm_token.specs.declared.token.Keyword.TheVariants as key
 use Rattle.plm_token.specs.declared.token.Mark.TheVariants as mark
 use Rattle.plm_syntax.specs.declared.tree.Position.{Position}
 use Rattle.plm_syntax.specs.declared.tree.Scalar.{Scalar}
-use Rattle.plm_syntax.specs.Terminal.{NameT, Terminal, Name, Numeral, Text, Key, Sign, Finish, Leaf, leaf_at, is_key, is_sign, is_finish}
+use Rattle.plm_syntax.specs.Terminal.{NameT, Terminal, Name, Numeral, Text, Key, Sign, Finish, Leaf, leaf_at, is_key}
+use Rattle.plm_syntax.specs.Inner.Terminal.{is_sign, is_finish}
 use Rattle.plm_syntax.specs.Tree.{no_expressions, no_member, no_names, names, no_elements, public_linkage, external_linkage, no_references, EmptyS, EnableS, DisableS, HaltS, no_statements, BlockT, BlockOf, ItemsT, no_items, ModuleT}
 use Rattle.plm_syntax.specs.WellFormed.{is_end_name}
 use Rattle.plm_syntax.specs.Inner.Symbol.{Value, Symbol, depth, Rule, behind, otherwise, before, need, push, ReferencesR, NamesR, StatementsR, ItemsR, EndR, ElementsR, ModuleR, SubscriptsG, SelectorG, StatementG, LeadG, TargetG, MoreTargetsG, CalledG, ReturnedG, ArmG, OtherwiseG, DoG, StepG, StatementsG, EndG, ItemsG, ItemLeadG, ItemColonG, ParametersG, ParameterG, MoreParametersG, ReturnedTypeG, InterruptG, InterruptNumberG, LinkageG, ElementG, MoreElementsG, Need, Want, Do, Leave, Refused, Over, Take, Keep}
@@ -16,7 +17,7 @@ use Rattle.plm_syntax.specs.declared.tree.Module.{Module}
 use Rattle.plm_syntax.specs.View.{module_of}
 use Rattle.plm_token.specs.declared.token.Kind.{Kind}
 use Rattle.plm_token.specs.declared.token.Kind.TheVariants.{Reserved, Identifier, Numeral as NumeralKind, String, Special}
-use Rattle.plm_syntax.specs.Answer.{terminal_of}
+use Rattle.plm_syntax.specs.Reading.{terminal_of}
 use Rattle.plm_token.specs.declared.token.Token.{Token}
 use Rattle.std.specs.Prelude.{◌&&◌, IsErrAnd}
 use Rattle.std.proofs.lemmas.Bool.{ltb-true, ltb-false, true≢false, false≢true}

@@ -5,7 +5,8 @@ use Rattle.plm_token.specs.declared.token.Mark.TheVariants as mark
 use Rattle.plm_syntax.specs.declared.tree.Position.{Position}
 use Rattle.plm_syntax.specs.declared.tree.Scalar.{Scalar}
 use Rattle.plm_syntax.specs.declared.tree.Scalar.TheVariants as scalar
-use Rattle.plm_syntax.specs.Terminal.{NumeralT, Terminal, Name, Numeral, Text, Key, Sign, Finish, Leaf, leaf, leaf_at, is_key, is_sign}
+use Rattle.plm_syntax.specs.Terminal.{NumeralT, Terminal, Name, Numeral, Text, Key, Sign, Finish, Leaf, leaf, leaf_at, is_key}
+use Rattle.plm_syntax.specs.Inner.Terminal.{is_sign}
 use Rattle.plm_syntax.specs.Tree.{LocationForm, Pointer, Offset, no_names, VariableT, no_variables, OneVariable, no_dimension, implicit_dimension, no_members, ScalarType}
 use Rattle.plm_syntax.specs.Spelling.{form_sign, scalar_key}
 use Rattle.plm_syntax.specs.Inner.Symbol.{Value, Action, Goal, Symbol, depth, Rule, behind, otherwise, before, need, push, NamesR, VariableR, VariablesR, DimensionR, CountR, MembersR, MemberR, TypeR, DeclaredR, LocatedG, ParameterG, MoreParametersG, ReturnedTypeG, ElementG, ElementLeadG, LiteralTextG, VariableG, MoreVariablesG, BasedG, BaseG, DimensionG, TypeG, MemberOfG, MemberNameG, MoreMemberNamesG, CountG, MemberTypeG, MoreMembersG, AttributesG, AtG, AtBodyG, InitialG, MoreElementsG, Want, Do, Refused, Over, Take, Keep}
@@ -15,7 +16,7 @@ use Rattle.plm_syntax.specs.declared.tree.MemberNames.{MemberNames}
 use Rattle.plm_syntax.specs.declared.tree.MemberNames.TheVariants as member_names
 use Rattle.plm_syntax.specs.View.{member_with}
 use Rattle.plm_syntax.specs.Inner.Parsed.{ahead, next_of, first_of, stream, place_at, is_name, is_number, is_text}
-use Rattle.plm_syntax.specs.Answer.{terminal_of}
+use Rattle.plm_syntax.specs.Reading.{terminal_of}
 use Rattle.plm_token.specs.declared.token.Token.{Token}
 use Rattle.plm_syntax.specs.Inner.Parts.{member_names_read}
 use Rattle.plm_syntax.proofs.Steps.{go, trace_step, same_trace, ruled, feed_want, over, IsDecided, ruled_behind, ruled_otherwise}

@@ -4,7 +4,8 @@ use Rattle.plm_token.specs.declared.token.Keyword.TheVariants as key
 use Rattle.plm_token.specs.declared.token.Mark.TheVariants as mark
 use Rattle.plm_syntax.specs.declared.tree.Position.{Position}
 use Rattle.plm_syntax.specs.declared.tree.UnaryOperator.TheVariants as unary
-use Rattle.plm_syntax.specs.Terminal.{Terminal, Name, Numeral, Text, Key, Sign, Finish, Leaf, leaf_at, is_key, is_sign}
+use Rattle.plm_syntax.specs.Terminal.{Terminal, Name, Numeral, Text, Key, Sign, Finish, Leaf, leaf_at, is_key}
+use Rattle.plm_syntax.specs.Inner.Terminal.{is_sign}
 use Rattle.plm_syntax.specs.Tree.{LocationForm, Pointer, Offset}
 use Rattle.plm_syntax.specs.Spelling.{form_sign}
 use Rattle.plm_syntax.specs.Inner.Symbol.{Value, Precedence, Symbol, depth, behind, Products, Sums, Relations, Conjunctions, Disjunctions, PrimaryG, SignedG, NegationG, MoreG, InsideG, AfterReferenceG, MoreSubscriptsG, LocatedG, ValueG, NegativeG, MoreValuesG, Want, Do, Leave, Refused, Take, Keep}

@@ -19,7 +19,7 @@ use Rattle.plm_syntax.specs.Terminal.{Finish, leaf}
 use Rattle.plm_syntax.specs.Tree.{ModuleT}
 use Rattle.plm_syntax.specs.Sentence.{Spells}
 use Rattle.plm_syntax.specs.Literals.{LiteralText, Blocks, Out, is_identifier, is_string, declared_name, between, declare, put, put_source, literal_for, by_literal, stop_at, or_else, symbol_out, text_out, source_out, nothing_out, expanded}
-use Rattle.plm_syntax.specs.Answer.{tokens_from, text_end}
+use Rattle.plm_syntax.specs.Reading.{tokens_from, text_end}
 use Rattle.plm_syntax.specs.InForce.{in_force, put_all, IsRead, of_source, of_text, LiteralsInForce}
 use Rattle.plm_syntax.proofs.Replaced.{symbol_stopped, symbol_text}
 use Rattle.plm_syntax.proofs.Words.{key_word, sign_word}

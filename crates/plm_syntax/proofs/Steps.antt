@@ -3,7 +3,8 @@ use Rattle.std.proofs.Common.{◌≡◌, ℕ, ◌≤◌, ◌<◌, List, [], ◌�
 use Rattle.plm_token.specs.declared.token.Mark.TheVariants as mark
 use Rattle.plm_syntax.specs.declared.tree.Position.{Position}
 use Rattle.plm_syntax.specs.declared.tree.BinaryOperator.{BinaryOperator}
-use Rattle.plm_syntax.specs.Terminal.{Terminal, Name, Numeral, Text, Key, Sign, Finish, Leaf, is_sign}
+use Rattle.plm_syntax.specs.Terminal.{Terminal, Name, Numeral, Text, Key, Sign, Finish, Leaf}
+use Rattle.plm_syntax.specs.Inner.Terminal.{is_sign}
 use Rattle.plm_syntax.specs.Tree.{no_expressions}
 use Rattle.plm_syntax.specs.WellFormed.{precedence_of}
 use Rattle.plm_syntax.specs.Inner.Symbol.{Value, Action, Precedence, Goal, Symbol, depth, Rule, behind, otherwise, need, push, ExpressionsR, MoreG, SubscriptsG, MoreSubscriptsG, SelectorG, MemberG, MemberSubscriptG, Want, Do, Leave, Refused, Over, Take, Keep}

@@ -3,7 +3,8 @@ use Rattle.std.proofs.Common.{◌≡◌, ℕ, suc, List, [], ◌∷◌, Bool, tr
 use Rattle.plm_token.specs.declared.token.Keyword.TheVariants as key
 use Rattle.plm_token.specs.declared.token.Mark.TheVariants as mark
 use Rattle.plm_syntax.specs.declared.tree.Position.{Position}
-use Rattle.plm_syntax.specs.Terminal.{NameT, Terminal, Name, Numeral, Text, Key, Sign, Finish, Leaf, leaf, leaf_at, is_key, is_sign}
+use Rattle.plm_syntax.specs.Terminal.{NameT, Terminal, Name, Numeral, Text, Key, Sign, Finish, Leaf, leaf, leaf_at, is_key}
+use Rattle.plm_syntax.specs.Inner.Terminal.{is_sign}
 use Rattle.plm_syntax.specs.Tree.{ExpressionT, ReferenceE, ReferenceT, ReferenceOf, ExpressionsT, no_expressions, SelectorT, no_member, NamesT, no_names, names, no_elements, elements, ReferencesT, no_references, references, Labelled, BasicT, EmptyS, AssignS, CallS, ReturnS, ReturnValueS, EnableS, DisableS, HaltS, IfS, IfElseS, StatementsT, no_statements, statements, BlockOf, ItemsT, no_items, items, ItemT, DeclareI, ProcedureI, ModuleOf}
 use Rattle.plm_syntax.specs.Spelling.{last_name, behind_labels, expression, reference, subscripts, selector, parenthesised_names, returned, interrupt, linkage, listed_references, targets, labels, step, statement, basic, statement_list, item_list, item, put_leaf}
 use Rattle.plm_syntax.specs.WellFormed.{Well, WellExpressions, WellSomeReferences, WellTargets, basic_open, is_end_name, WellBasic, WellStatements, WellItems, WellItem}

@@ -1,7 +1,8 @@
 -- Runs and modules: no two modules are spelled by one list, and what a run takes begins a module.
 use Rattle.std.proofs.Common.{◌≡◌, ℕ, suc, List, [], ◌∷◌, ◌++◌, Bool, true, false, cond, Option, Some, None, refl, sym, ap, ◌∙◌, subst, length}
 use Rattle.plm_syntax.specs.declared.tree.Position.{Position}
-use Rattle.plm_syntax.specs.Terminal.{Terminal, Leaf, leaf, leaf_at, is_same}
+use Rattle.plm_syntax.specs.Terminal.{Terminal, Leaf, leaf, leaf_at}
+use Rattle.plm_syntax.specs.Inner.Terminal.{is_same}
 use Rattle.plm_syntax.specs.Tree.{ModuleT}
 use Rattle.plm_syntax.specs.Spelling.{module_leaves, put_leaf, leaves_of, levels_of}
 use Rattle.plm_syntax.specs.WellFormed.{WellModule}

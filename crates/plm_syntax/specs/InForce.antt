@@ -12,7 +12,7 @@ use Rattle.plm_syntax.specs.Tree.{ElementT, LiteralElement, VariableElement, Ele
 use Rattle.plm_syntax.specs.Spelling.{tok, sign, word, expression, parenthesised_names, element, returned, interrupt, linkage, ending, labels, step, basic}
 use Rattle.plm_syntax.specs.Sentence.{Spells}
 use Rattle.plm_syntax.specs.Literals.{LiteralText, Out, between, literal_for, put_source, text_out, nothing_out, expanded}
-use Rattle.plm_syntax.specs.Answer.{text_tokens}
+use Rattle.plm_syntax.specs.Reading.{text_tokens}
 
 -- literals, the oldest first
 abbrev pub Table : Type 0

@@ -1,4 +1,5 @@
 -- What private contracts cite: the machine over tokens, the parts that it reads, and views of the code's own values.
+pub mod Terminal
 pub mod Symbol
 pub mod Machine
 pub mod Runs

@@ -5,6 +5,7 @@ pub mod Spelling
 pub mod WellFormed
 pub mod Sentence
 pub mod Literals
+pub mod Reading
 pub mod Answer
 pub mod InForce
 pub mod Inner

@@ -41,8 +41,7 @@ use Rattle.i86_table.specs.Numbers.{word_register_code}
 use Rattle.i86_table.specs.Pairs.{word_pair}
 use Rattle.i86_table.specs.declared.pairs.WordPair.{WordPair}
 use Rattle.i86_code.specs.declared.form.Opcode.TheVariants as opcode
-use Rattle.i86_code.specs.Opcodes.{operation_code}
-use Rattle.i86_code.specs.Forms.{place_bytes, form_bytes}
+use Rattle.i86_code.specs.Forms.{place_bytes, form_bytes, operation_code}
 use Rattle.i86_code.specs.Instructions.{is_short}
 use Rattle.i86_code.specs.Open.{front_of}
 use Rattle.i86_code.specs.Writing as writing

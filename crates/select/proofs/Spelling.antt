@@ -7,9 +7,8 @@ use Rattle.i86_table.specs.declared.instruction.Instr.TheVariants as i
 use Rattle.i86_table.specs.Arithmetic.{sign_extended}
 use Rattle.i86_table.specs.Contexts.{further}
 use Rattle.i86_code.specs.declared.form.Form.{Form}
-use Rattle.i86_code.specs.Opcodes.{opcode_byte}
-use Rattle.i86_code.specs.Forms.{word_bytes, form_bytes, prefix_bytes, field_bytes}
-use Rattle.i86_code.specs.Instructions.{Spells, instruction_of, instruction_from, byte_instruction, word_instruction}
+use Rattle.i86_code.specs.Forms.{word_bytes, form_bytes, prefix_bytes, field_bytes, opcode_byte, Spells}
+use Rattle.i86_code.specs.Instructions.{instruction_of, instruction_from, byte_instruction, word_instruction}
 use Rattle.i86_code.specs.Writing.{form_of, bytes_of}
 use Rattle.select.specs.declared.sizes.Extent.{Extent}
 use Rattle.select.specs.declared.sizes.Extent.TheVariants.{Jump}

@@ -1,8 +1,7 @@
 //! From steps to the bytes of a part.
 
 ghost use Rattle.std.specs.Prelude.{◌≡◌, ◌<◌, ◌≤◌, ◌+◌, ◌%◌, ◌++◌, ◌∷◌, [], ℕ, OnOk, IfOk, IsOkUnless, length, map, slice_index};
-ghost use Rattle.i86_code.specs.Forms.{word_bytes};
-ghost use Rattle.i86_code.specs.Instructions.{Spells};
+ghost use Rattle.i86_code.specs.Forms.{word_bytes, Spells};
 ghost use Rattle.i86_code.specs.Writing.{bytes_of};
 ghost use Rattle.i86_code.specs.Open.{front_of, IsOpen};
 ghost use Rattle.select.specs.Sizes.{start, AreSettled};

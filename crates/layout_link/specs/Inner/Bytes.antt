@@ -1,7 +1,7 @@
 -- How a ROM is written: start-up, the parts, initial bytes of the data, zeros, and the far jump of the reset.
 use Rattle.std.specs.Prelude.{ℕ, ◌≡◌, ◌+◌, ◌-◌, List, [], ◌∷◌, ◌++◌, length, replicate, slice_index, Option, Some}
 use Rattle.i86_table.specs.declared.instruction.Instr.{Instr}
-use Rattle.i86_code.specs.Instructions.{Spells}
+use Rattle.i86_code.specs.Forms.{Spells}
 use Rattle.i86_code.specs.Writing.{bytes_of}
 use Rattle.select.specs.declared.part.Part.{Part}
 use Rattle.layout_link.specs.Inner.Words.{filled}

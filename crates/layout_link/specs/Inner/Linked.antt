@@ -5,8 +5,7 @@ use Rattle.i86_table.specs.Arithmetic.{sign_extended}
 use Rattle.i86_table.specs.Conditions.{inverse}
 use Rattle.i86_table.specs.Contexts.{further}
 use Rattle.i86_table.specs.Open.{closed}
-use Rattle.i86_code.specs.Forms.{word_bytes}
-use Rattle.i86_code.specs.Instructions.{Spells}
+use Rattle.i86_code.specs.Forms.{word_bytes, Spells}
 use Rattle.select.specs.declared.part.Step.{Step}
 use Rattle.select.specs.declared.part.Step.TheVariants.{Plain, Refer, AtStep, Word, Goto, GotoIf}
 use Rattle.select.specs.Parts.{target_of}

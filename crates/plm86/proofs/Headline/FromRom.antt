@@ -2,7 +2,7 @@
 use Rattle.std.proofs.Common.{◌≡◌, ℕ, false, List, length, refl, sym}
 use Rattle.i86_table.specs.Contexts.{Working, all_registers}
 use Rattle.i86_table.specs.Words.{AreWords, KeepsWords}
-use Rattle.i86_code.specs.Decoding.{IsOneForm, IsShort}
+use Rattle.i86_code.specs.Coding.{IsOneForm, IsShort}
 use Rattle.i86_code.specs.Widths.{DecodedHasWidths}
 use Rattle.word86.specs.Chips.{Chips}
 use Rattle.plm_meaning.specs.Store.{Store, with_chips, shared}

@@ -5,7 +5,7 @@ use Rattle.std.proofs.lemmas.Bool.{cases_lt}
 use Rattle.word86.specs.Action.{Shared}
 use Rattle.word86.specs.Chips.{Chips}
 use Rattle.plm_meaning.specs.Store.{Store, shared}
-use Rattle.i86_code.specs.Decoding.{IsOneForm, IsShort}
+use Rattle.i86_code.specs.Coding.{IsOneForm, IsShort}
 use Rattle.board.specs.World.{World, Whole, board_model, region, screen_at}
 use Rattle.board.specs.Machine.{Board, outputs, final, power_on}
 use Rattle.plm86.specs.Boots.{after_events, Boots}

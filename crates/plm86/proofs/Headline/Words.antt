@@ -12,7 +12,7 @@ use Rattle.i86_table.specs.declared.instruction.Instr.{Instr}
 use Rattle.i86_table.specs.Contexts.{Context}
 use Rattle.i86_table.specs.Widths.{HasWidths}
 use Rattle.i86_table.specs.Words.{HasWords, LeadsToWords}
-use Rattle.i86_code.specs.Decoding.{AreBytes}
+use Rattle.i86_code.specs.Coding.{AreBytes}
 use Rattle.i86_code.specs.Widths.{DecodedHasWidths}
 use Rattle.cpu8086.specs.BusModel.{BusModel}
 use Rattle.cpu8086.specs.Machine.{loaded_byte}

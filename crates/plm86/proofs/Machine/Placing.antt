@@ -3,8 +3,9 @@ use Rattle.std.proofs.Common.{◌≡◌, ℕ, zero, suc, ◌+◌, ◌-◌, ◌*�
 use Rattle.std.specs.Prelude.{slice_index, if◌then◌else◌}
 use Rattle.word86.specs.Chips.{Chips}
 use Rattle.i86_table.specs.declared.instruction.Instr.{Instr}
-use Rattle.i86_code.specs.Instructions.{Spells}
-use Rattle.i86_code.specs.Decoding.{decoded, IsOneForm, IsShort}
+use Rattle.i86_code.specs.Forms.{Spells}
+use Rattle.i86_code.specs.Decoding.{decoded}
+use Rattle.i86_code.specs.Coding.{IsOneForm, IsShort}
 use Rattle.cpu8086.specs.Machine.{physical, next_offset, loaded_byte, loaded_word}
 use Rattle.cpu8086.specs.Turn.{fetched}
 use Rattle.board.specs.World.{World, Whole, board_model, region, screen_at}

@@ -4,7 +4,7 @@ use Rattle.word86.specs.declared.fault.Fault.{Fault}
 use Rattle.word86.specs.declared.fault.Fault.TheVariants.{Memory, At}
 use Rattle.word86.specs.declared.number.Number.TheVariants.{E501, E601}
 use Rattle.i86_table.specs.Words.{KeepsWords}
-use Rattle.i86_code.specs.Decoding.{IsOneForm, IsShort}
+use Rattle.i86_code.specs.Coding.{IsOneForm, IsShort}
 use Rattle.i86_code.specs.Widths.{DecodedHasWidths}
 use Rattle.plm_decl.specs.declared.names.Names.{Names}
 use Rattle.plm_decl.specs.Placement.{IsPlacement, sizes_of}

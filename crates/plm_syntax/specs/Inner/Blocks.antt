@@ -21,13 +21,14 @@ use Rattle.plm_syntax.specs.declared.statement.Signature.{Signature}
 use Rattle.plm_syntax.specs.declared.statement.Bounds.{Bounds}
 use Rattle.plm_syntax.specs.declared.cursor.Cursor.{Cursor}
 use Rattle.plm_syntax.specs.declared.failure.Failure.{Failure}
-use Rattle.plm_syntax.specs.Terminal.{NameT, NumeralT, Terminal, Name, Numeral, Text, Key, Sign, Finish, Leaf, leaf_at, is_key, is_sign}
+use Rattle.plm_syntax.specs.Terminal.{NameT, NumeralT, Terminal, Name, Numeral, Text, Key, Sign, Finish, Leaf, leaf_at, is_key}
+use Rattle.plm_syntax.specs.Inner.Terminal.{is_sign}
 use Rattle.plm_syntax.specs.Tree.{BlockT, BlockOf, StatementsT, NamesT, no_names, ItemsT, items, no_items, no_statements, no_linkage, Labelled}
 use Rattle.plm_syntax.specs.View.{name_of, counted, base_of, names_of, expression_of, step_of, linkage_of, basic_of, statement_of, statements_of, item_of, block_of, procedure_of, module_of}
 use Rattle.plm_syntax.specs.Inner.Symbol.{Value, Symbol, depth, need, push, Need, Want, Do, Leave, ExpressionR, StatementR, StatementsR, ItemsR, EndR, StepR, RangeR, HeaderR, ModuleR, ArmG, OtherwiseG, StepG, StatementsG, ItemsG, ParametersG, ReturnedTypeG, InterruptG, LinkageG}
 use Rattle.plm_syntax.specs.Inner.Machine.{an_expression, make_if, make_range, make_iterate, no_statement_yet, make_procedure, run, start}
 use Rattle.plm_token.specs.declared.token.Token.{Token}
-use Rattle.plm_syntax.specs.Answer.{terminal_of}
+use Rattle.plm_syntax.specs.Reading.{terminal_of}
 use Rattle.plm_syntax.specs.Inner.Parsed.{next_of, ahead, is_name, Takes, Fails}
 
 -- ---- the tokens that come next

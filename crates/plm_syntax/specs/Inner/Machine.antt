@@ -9,7 +9,8 @@ use Rattle.plm_syntax.specs.declared.tree.UnaryOperator.{UnaryOperator}
 use Rattle.plm_syntax.specs.declared.tree.UnaryOperator.TheVariants as unary
 use Rattle.plm_syntax.specs.declared.tree.BinaryOperator.{BinaryOperator}
 use Rattle.plm_syntax.specs.declared.tree.BinaryOperator.TheVariants as binary
-use Rattle.plm_syntax.specs.Terminal.{NameT, NumeralT, TextT, Terminal, Name, Numeral, Text, Key, Sign, Finish, Leaf, is_key, is_sign, is_same}
+use Rattle.plm_syntax.specs.Terminal.{NameT, NumeralT, TextT, Terminal, Name, Numeral, Text, Key, Sign, Finish, Leaf, is_key}
+use Rattle.plm_syntax.specs.Inner.Terminal.{is_sign, is_same}
 use Rattle.plm_syntax.specs.WellFormed.{precedence_of, is_end_name}
 use Rattle.plm_syntax.specs.Tree.{LocationForm, Pointer, Offset, NumeralE, TextE, ReferenceE, LocationE, ParenthesisedE, EmbeddedE, UnaryE, BinaryE, ReferenceT, ReferenceOf, no_expressions, expressions, no_member, member, member_at, LocationOf, ConstantsOf, NumeralV, NegativeV, TextV, LocationV, no_values, values, no_names, names, VariableOf, no_variables, variables, OneVariable, VariableList, DimensionT, no_dimension, dimension, implicit_dimension, OneMember, MemberList, no_members, members, ScalarType, StructureType, AtT, no_at, at_number, at_location, no_initial, initial, constant_data, External, Attributes, LiteralElement, VariableElement, no_elements, elements, LinkageT, no_linkage, public_linkage, external_linkage, no_references, references, Labelled, BasicT, EmptyS, AssignS, CallS, ReturnS, ReturnValueS, EnableS, DisableS, HaltS, IfS, IfElseS, DoS, WhileS, CaseS, IterateS, no_statements, statements, BlockOf, no_items, items, DeclareI, ProcedureI, ModuleOf}
 use Rattle.plm_syntax.specs.Inner.Symbol.{Value, Action, Precedence, Goal, Symbol, depth, Rule, behind, otherwise, before, opened, need, push, ExpressionR, ExpressionsR, NameR, ValueR, ValuesR, ReferencesR, NamesR, StatementR, ArmsR, StatementsR, ItemsR, StepR, EndR, VariableR, VariablesR, DimensionR, CountR, MembersR, MemberR, TypeR, AttributesR, ElementR, ElementsR, DeclaredR, RangeR, HeaderR, ModuleR, Products, Sums, Relations, Conjunctions, Disjunctions, PrimaryG, SignedG, NegationG, MoreG, InsideG, AfterReferenceG, SubscriptsG, MoreSubscriptsG, SelectorG, MemberG, MemberSubscriptG, LocatedG, ValueG, NegativeG, MoreValuesG, StatementG, LeadG, TargetG, MoreTargetsG, CalledG, ReturnedG, ArmG, OtherwiseG, DoG, StepG, StatementsG, EndG, ItemsG, ItemLeadG, ItemColonG, ParametersG, ParameterG, MoreParametersG, ReturnedTypeG, InterruptG, InterruptNumberG, LinkageG, ElementG, ElementLeadG, LiteralTextG, VariableG, MoreVariablesG, BasedG, BaseG, DimensionG, DimensionBodyG, TypeG, MemberOfG, MemberNameG, MoreMemberNamesG, CountG, CountNumberG, MemberTypeG, MoreMembersG, AttributesG, AtG, AtBodyG, InitialG, MoreElementsG, ModuleG, StartG, Need, Want, Do, Leave, Refused, Over, Take, Keep}

@@ -29,7 +29,8 @@ use Rattle.plm_syntax.specs.declared.tree.At.{At}
 use Rattle.plm_syntax.specs.declared.tree.Initial.{Initial}
 use Rattle.plm_syntax.specs.declared.tree.Attributes.{Attributes as Extras}
 use Rattle.plm_syntax.specs.declared.tree.Element.{Element}
-use Rattle.plm_syntax.specs.Terminal.{NameT, is_sign}
+use Rattle.plm_syntax.specs.Terminal.{NameT}
+use Rattle.plm_syntax.specs.Inner.Terminal.{is_sign}
 use Rattle.plm_syntax.specs.Tree.{ExpressionT, ElementsT, elements, no_variables, no_members, no_linkage, no_initial, AtT, Attributes, LocationForm, ReferenceE, LocationE, UnaryE, ReferenceOf, ExpressionsT, no_expressions, no_member}
 use Rattle.plm_syntax.specs.View.{name_of, counted, names_of, variable_of, variables_from, dimension_of, member_of, members_from, type_of, at_of, initial_of, attributes_of, element_of, elements_of, expression_of, leaned, expressions_of, reference_of, selector_of, location_of, value_of, values_of}
 use Rattle.plm_syntax.specs.Spelling.{binary_sign, form_sign, scalar_key}

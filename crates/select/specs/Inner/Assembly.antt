@@ -3,8 +3,7 @@ use Rattle.std.specs.Prelude.{ℕ, ◌+◌, ◌-◌, ◌%◌, ◌<◌, ◌==◌,
 use Rattle.i86_table.specs.declared.instruction.Condition.{Condition}
 use Rattle.i86_table.specs.declared.instruction.Instr.TheVariants as i
 use Rattle.i86_table.specs.Conditions.{inverse}
-use Rattle.i86_code.specs.Forms.{word_bytes}
-use Rattle.i86_code.specs.Instructions.{Spells}
+use Rattle.i86_code.specs.Forms.{word_bytes, Spells}
 use Rattle.i86_code.specs.Writing.{bytes_of}
 use Rattle.i86_code.specs.Open.{front_of, IsOpen}
 use Rattle.select.specs.declared.part.Kind.TheVariants.{Case}

@@ -1,7 +1,7 @@
 use Rattle.std.proofs.Common.{ℕ, Option, take, sym, subst, arith}
 use Rattle.std.specs.Prelude.{IfSome}
 use Rattle.i86_table.specs.declared.instruction.Instr.{Instr}
-use Rattle.i86_code.specs.Instructions.{Spells}
+use Rattle.i86_code.specs.Forms.{Spells}
 use Rattle.i86_code.proofs.DecodeLaws.{decoded_found, decoded_none}
 use Rattle.i86_code.proofs.coding.decode.Goals as goal
 

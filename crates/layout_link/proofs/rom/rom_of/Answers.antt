@@ -1,6 +1,6 @@
 use Rattle.std.proofs.Common.{◌≡◌, ◌+◌, ◌-◌, ◌++◌, [], ℕ, length, refl, ap, ◌∙◌, subst, arith}
 use Rattle.i86_table.specs.declared.instruction.Instr.TheVariants as i
-use Rattle.i86_code.specs.Instructions.{Spells}
+use Rattle.i86_code.specs.Forms.{Spells}
 use Rattle.i86_code.specs.Writing.{bytes_of, form_of}
 use Rattle.std.specs.Prelude.{replicate}
 use Rattle.layout_link.specs.Image.{bytes_in, base_of}
