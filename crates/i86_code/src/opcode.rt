@@ -273,7 +273,7 @@ impl Opcode {
     }
 
     /// The byte of an opcode.
-    #[tactic(auto, unfolding(crate::specs::Opcodes::opcode_byte))]
+    #[tactic(auto, unfolding(crate::specs::Forms::opcode_byte))]
     pub fn byte(self) -> u8
         ensures { result ≡ opcode_byte self }
     {

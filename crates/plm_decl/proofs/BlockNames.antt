@@ -1,10 +1,8 @@
 -- The names of a frame are those that its block declares.
-use Rattle.std.proofs.Common.{◌≡◌, ℕ, List, [], ◌∷◌, ◌++◌, Bool, true, false, ◌&&◌, ◌||◌, not, cond, is_some, Option, Some, None, bytes_eq, refl, sym, ap, subst, ◌∙◌}
-use Rattle.std.specs.List.{list_any}
+use Rattle.std.proofs.Common.{◌≡◌, ℕ, List, [], ◌∷◌, ◌++◌, Bool, true, false, ◌||◌, not, cond, is_some, Option, Some, None, bytes_eq, refl, sym, ap, ◌∙◌}
 use Rattle.std.specs.Option.{option_or}
 use Rattle.std.proofs.lemmas.Slice.Eq.{bytes_eq-Decides}
 use Rattle.plm_token.specs.Names.{normal}
-use Rattle.plm_syntax.specs.declared.tree.Position.{Position}
 use Rattle.plm_syntax.specs.Terminal.{NameT}
 use Rattle.plm_syntax.specs.Tree.{VariableT, VariableOf, ElementT, LiteralElement, VariableElement, AttributesT, DimensionT, TypeT, ItemT, DeclareI, ProcedureI, ItemsT, no_items, items}
 use Rattle.plm_decl.specs.declared.names.Item.{Item}
@@ -13,9 +11,9 @@ use Rattle.plm_decl.specs.declared.elements.Traits.{Traits}
 use Rattle.plm_decl.specs.Scope.{Entries, Frame, found_in, found_here, meant, with_entry, with_name, is_fresh}
 use Rattle.plm_decl.specs.Resolver.{Known}
 use Rattle.plm_decl.specs.Lists.{element_list}
-use Rattle.plm_decl.specs.Shape.{size_of_shape, shape_for}
-use Rattle.plm_decl.specs.Elements.{site_after, declared_variable, declared_variables, declared_list, element_values, first_site}
-use Rattle.plm_decl.specs.Fill.{traits_for, declared_at, declared_names, element}
+use Rattle.plm_decl.specs.Shape.{size_of_shape}
+use Rattle.plm_decl.specs.Elements.{site_after, declared_variable, declared_variables, declared_list}
+use Rattle.plm_decl.specs.Fill.{declared_names, element}
 use Rattle.plm_decl.specs.Statements.{with_elements, with_items, with_item}
 use Rattle.plm_decl.specs.BlockNames.{name_of_variable, names_of_variables, names_of_element, names_of_elements, names_of_item, names_of_items, has_name}
 

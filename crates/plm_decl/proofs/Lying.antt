@@ -1,6 +1,6 @@
 -- Views stay in their objects: objects keep their sizes, and further ones come after them.
-use Rattle.std.proofs.Common.{◌≡◌, ℕ, zero, suc, ◌+◌, ◌*◌, ◌≤◌, List, [], ◌∷◌, ◌++◌, length, Bool, true, false, ◌&&◌, cond, Option, Some, None, nat_le, nat_eq, refl, sym, ap, ◌∙◌, arith}
-use Rattle.std.specs.Prelude.{slice_get, slice_set, min}
+use Rattle.std.proofs.Common.{◌≡◌, ℕ, zero, suc, ◌+◌, ◌*◌, ◌≤◌, List, [], ◌∷◌, ◌++◌, length, Bool, true, false, ◌&&◌, Option, Some, None, nat_le, nat_eq, refl, ap, ◌∙◌, arith}
+use Rattle.std.specs.Prelude.{slice_get, slice_set}
 use Rattle.std.specs.List.{list_all}
 use Rattle.std.proofs.lemmas.Bool.Decides.{nat_tests}
 use Rattle.word86.specs.declared.number.Number.{Number}
@@ -14,7 +14,7 @@ use Rattle.plm_decl.specs.Resolver.{Known, note_unless}
 use Rattle.plm_decl.specs.Joins.{same_dimension, same_form, same_type, with_region, bytes_from, have_room}
 use Rattle.plm_decl.specs.Regions.{size_at, region_holds, view_lies, views_lie}
 use Rattle.plm_decl.specs.Inner.Regions.{counted_holds, span, lies_in}
-use Rattle.plm_decl.proofs.Kept.{both, left, right, maybe}
+use Rattle.plm_decl.proofs.Kept.{both, left, right}
 
 pub le_more : (a b c : ℕ) → nat_le a b ≡ true → b ≤ c → nat_le a c ≡ true
 le_more a b c h g = grind (arith, nat_tests)

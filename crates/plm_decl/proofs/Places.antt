@@ -1,6 +1,6 @@
 -- At a place in blocks a name means what the innermost block that declares it declares.
 use Rattle.std.proofs.Common.{◌≡◌, ℕ, List, [], ◌∷◌, Bool, true, false, cond, is_some, refl, ◌∙◌}
-use Rattle.plm_decl.specs.Scope.{Frame, frame, meant, found_here}
+use Rattle.plm_decl.specs.Scope.{frame, meant, found_here}
 use Rattle.plm_decl.specs.BlockNames.{has_name}
 use Rattle.plm_decl.specs.Laws.{Before, names_before, scope_at, declaring}
 use Rattle.plm_decl.proofs.BlockNames.{Enters, declaration_enters, inside, outside}

@@ -1,5 +1,5 @@
 -- The names that a block declares, read off its tree alone.
-use Rattle.std.specs.Prelude.{ℕ, List, [], ◌∷◌, ◌++◌, map, Bool, bytes_eq}
+use Rattle.std.specs.Prelude.{ℕ, List, [], ◌∷◌, ◌++◌, Bool, bytes_eq}
 use Rattle.std.specs.List.{list_any}
 use Rattle.plm_token.specs.Names.{normal}
 use Rattle.plm_syntax.specs.Terminal.{NameT}

@@ -1,3 +1,4 @@
+pub mod Elements
 pub mod Expressions
 pub mod Fill
 pub mod Modules

@@ -91,8 +91,7 @@ impl Resolver {
         place: Position,
         values: &[Value<'_>],
     ) -> Result<usize, AllocError>
-        ensures object { IfOk result (λ o. o ≡ (constant_bytes (frames_of scope.now) place (map value_of values.now) (known_of self.old)).0) }
-        ensures known { OnOk result (known_of self.new ≡ (constant_bytes (frames_of scope.now) place (map value_of values.now) (known_of self.old)).1) }
+        ensures { IfOk result (λ o. (o, known_of self.new) ≡ constant_bytes (frames_of scope.now) place (map value_of values.now) (known_of self.old)) }
     {
         let (bytes, are_bytes) = self.constant_values(values)?;
         self.note_unless(are_bytes, Number::E305, place)?;

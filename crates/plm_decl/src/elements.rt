@@ -12,6 +12,7 @@ ghost use Rattle.plm_decl.specs.Regions.{size_at};
 ghost use Rattle.plm_decl.specs.ResolvedView as view;
 ghost use Rattle.plm_decl.specs.Shape.{size_of_shape};
 ghost use Rattle.plm_decl.specs.Elements as spec;
+ghost use Rattle.plm_decl.specs.Inner.Elements.{with_variables};
 ghost use Rattle.plm_decl.specs.Fill as fills;
 ghost use Rattle.plm_decl.specs.Inner.Fill.{filling_of};
 
@@ -305,8 +306,7 @@ impl Resolver {
         scope: &Scope<'_>,
         location: &plm_syntax::Location<'_>,
     ) -> Result<Site, AllocError>
-        ensures value { IfOk result (λ r. r ≡ (spec.location_site (frames_of scope.now) (location_of location.now) (known_of self.old)).0) }
-        ensures known { OnOk result (known_of self.new ≡ (spec.location_site (frames_of scope.now) (location_of location.now) (known_of self.old)).1) }
+        ensures { IfOk result (λ r. (r, known_of self.new) ≡ spec.location_site (frames_of scope.now) (location_of location.now) (known_of self.old)) }
     {
         match location {
             plm_syntax::Location::Constants(..) => Ok(Site::Outside),
@@ -325,8 +325,7 @@ impl Resolver {
 
     /// Where an element's first name goes.
     fn site(&mut self, scope: &Scope<'_>, attributes: &Attributes<'_>) -> Result<Site, AllocError>
-        ensures value { IfOk result (λ r. r ≡ (spec.first_site (frames_of scope.now) (attributes_of attributes.now) (known_of self.old)).0) }
-        ensures known { OnOk result (known_of self.new ≡ (spec.first_site (frames_of scope.now) (attributes_of attributes.now) (known_of self.old)).1) }
+        ensures { IfOk result (λ r. (r, known_of self.new) ≡ spec.first_site (frames_of scope.now) (attributes_of attributes.now) (known_of self.old)) }
     {
         let Attributes::Own { at, .. } = attributes else {
             return Ok(Site::Nowhere);
@@ -369,8 +368,7 @@ impl Resolver {
         base: &Name<'_>,
         has_attribute: bool,
     ) -> Result<Region, AllocError>
-        ensures value { IfOk result (λ r. r ≡ (spec.base_for (frames_of scope.now) (name_of name.now) (name_of base.now) has_attribute (known_of self.old)).0) }
-        ensures known { OnOk result (known_of self.new ≡ (spec.base_for (frames_of scope.now) (name_of name.now) (name_of base.now) has_attribute (known_of self.old)).1) }
+        ensures { IfOk result (λ r. (r, known_of self.new) ≡ spec.base_for (frames_of scope.now) (name_of name.now) (name_of base.now) has_attribute (known_of self.old)) }
     {
         let binding = self.used(scope, base)?;
         let is_base = self.is_base(binding);
@@ -388,8 +386,7 @@ impl Resolver {
         name: &[u8],
         size: u64,
     ) -> Result<Region, AllocError>
-        ensures value { IfOk result (λ r. r ≡ (spec.own_region (frames_of scope.now) name.now size (known_of self.old)).0) }
-        ensures known { OnOk result (known_of self.new ≡ (spec.own_region (frames_of scope.now) name.now size (known_of self.old)).1) }
+        ensures { IfOk result (λ r. (r, known_of self.new) ≡ spec.own_region (frames_of scope.now) name.now size (known_of self.old)) }
     {
         if scope.is_external() {
             return Ok(Region::Nowhere);
@@ -447,8 +444,7 @@ impl Resolver {
         size: u64,
         site: Site,
     ) -> Result<Region, AllocError>
-        ensures value { IfOk result (λ r. r ≡ (spec.region_for (frames_of scope.now) (name_of name.now) key.now size site (known_of self.old)).0) }
-        ensures known { OnOk result (known_of self.new ≡ (spec.region_for (frames_of scope.now) (name_of name.now) key.now size site (known_of self.old)).1) }
+        ensures { IfOk result (λ r. (r, known_of self.new) ≡ spec.region_for (frames_of scope.now) (name_of name.now) key.now size site (known_of self.old)) }
     {
         match site {
             Site::Own => self.own_region(scope, key, size),
@@ -565,8 +561,7 @@ impl Resolver {
         traits: Traits,
         site: Site,
     ) -> Result<Region, AllocError>
-        ensures value { IfOk result (λ r. r ≡ (spec.region_at (frames_of scope.now) (name_of variable.now.name) (base_of variable.now.base) key.now traits site (known_of self.old)).0) }
-        ensures known { OnOk result (known_of self.new ≡ (spec.region_at (frames_of scope.now) (name_of variable.now.name) (base_of variable.now.base) key.now traits site (known_of self.old)).1) }
+        ensures { IfOk result (λ r. (r, known_of self.new) ≡ spec.region_at (frames_of scope.now) (name_of variable.now.name) (base_of variable.now.base) key.now traits site (known_of self.old)) }
     {
         match &variable.base {
             Some(base) => self.base(scope, &variable.name, base, traits.has_attribute),
@@ -611,8 +606,7 @@ impl Resolver {
         site: Site,
     ) -> Result<Site, AllocError>
         ensures site { IfOk result (λ s. s ≡ spec.site_after site (size_of_shape traits.shape)) }
-        ensures names { OnOk result (frames_of scope.new ≡ (spec.declared_variable (variable_of variable.now) traits site (frames_of scope.old) (known_of self.old)).0) }
-        ensures known { OnOk result (known_of self.new ≡ (spec.declared_variable (variable_of variable.now) traits site (frames_of scope.old) (known_of self.old)).1) }
+        ensures known { OnOk result ((frames_of scope.new, known_of self.new) ≡ spec.declared_variable (variable_of variable.now) traits site (frames_of scope.old) (known_of self.old)) }
     {
         let place = variable.name.place;
         let key = normal(self.alloc, variable.name.text)?;
@@ -630,8 +624,7 @@ impl Resolver {
         traits: Traits,
         first: Site,
     ) -> Result<(), AllocError>
-        ensures names { OnOk result (frames_of scope.new ≡ (spec.declared_variables (map variable_of names.now) traits first (frames_of scope.old) (known_of self.old)).1) }
-        ensures known { OnOk result (known_of self.new ≡ (spec.declared_variables (map variable_of names.now) traits first (frames_of scope.old) (known_of self.old)).2) }
+        ensures { OnOk result ((frames_of scope.new, known_of self.new) ≡ with_variables (map variable_of names.now) traits first (frames_of scope.old) (known_of self.old)) }
     {
         let mut site = first;
         for name in names {
@@ -666,8 +659,7 @@ impl Resolver {
         form: &VariableType<'_>,
         attributes: &Attributes<'_>,
     ) -> Result<(), AllocError>
-        ensures names { OnOk result (frames_of scope.new ≡ (fills.declared_at place (map variable_of names.now) (dimension_of dimension.now) (type_of form.now) (attributes_of attributes.now) (frames_of scope.old) (known_of self.old)).0) }
-        ensures known { OnOk result (known_of self.new ≡ (fills.declared_at place (map variable_of names.now) (dimension_of dimension.now) (type_of form.now) (attributes_of attributes.now) (frames_of scope.old) (known_of self.old)).1) }
+        ensures { OnOk result ((frames_of scope.new, known_of self.new) ≡ fills.declared_at place (map variable_of names.now) (dimension_of dimension.now) (type_of form.now) (attributes_of attributes.now) (frames_of scope.old) (known_of self.old)) }
     {
         let site = self.site(scope, attributes)?;
         let shape = self.shape(place, names.len(), dimension, form, values(attributes))?;
@@ -688,8 +680,7 @@ impl Resolver {
         scope: &mut Scope<'_>,
         element: &Element<'_>,
     ) -> Result<(), AllocError>
-        ensures names { OnOk result (frames_of scope.new ≡ (fills.element (element_of element.now) (frames_of scope.old) (known_of self.old)).0) }
-        ensures known { OnOk result (known_of self.new ≡ (fills.element (element_of element.now) (frames_of scope.old) (known_of self.old)).1) }
+        ensures { OnOk result ((frames_of scope.new, known_of self.new) ≡ fills.element (element_of element.now) (frames_of scope.old) (known_of self.old)) }
     {
         match element {
             Element::Literal(..) => Ok(()),

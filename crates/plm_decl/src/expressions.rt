@@ -36,8 +36,7 @@ impl Resolver {
 
     /// A structure's member. What is no structure has none, which is no fault of names.
     fn member(&mut self, binding: Binding, name: &Name<'_>) -> Result<Option<Member>, AllocError>
-        ensures member { IfOk result (λ m. m ≡ (spec.member_meant binding (name_of name.now) (known_of self.old)).0) }
-        ensures known { OnOk result (known_of self.new ≡ (spec.member_meant binding (name_of name.now) (known_of self.old)).1) }
+        ensures { IfOk result (λ m. (m, known_of self.new) ≡ spec.member_meant binding (name_of name.now) (known_of self.old)) }
     {
         let key = normal(self.alloc, name.text)?;
         let Some(structure) = self.structure(binding) else {
@@ -55,8 +54,7 @@ impl Resolver {
         e: &plm_syntax::Expression<'_>,
         scope: &Scope<'_>,
     ) -> Result<Expression, AllocError>
-        ensures value { IfOk result (λ r. view.expression_of r ≡ (spec.expression (frames_of scope.now) (tree.expression_of e.now) (known_of self.old)).0) }
-        ensures known { OnOk result (known_of self.new ≡ (spec.expression (frames_of scope.now) (tree.expression_of e.now) (known_of self.old)).1) }
+        ensures { IfOk result (λ r. (view.expression_of r, known_of self.new) ≡ spec.expression (frames_of scope.now) (tree.expression_of e.now) (known_of self.old)) }
     {
         match e {
             plm_syntax::Expression::Numeral(number) => Ok(Expression::Number(*number)),
@@ -94,8 +92,7 @@ impl Resolver {
         e: &plm_syntax::Expression<'_>,
         scope: &Scope<'_>,
     ) -> Result<Box<Expression>, AllocError>
-        ensures value { IfOk result (λ r. view.expression_of r.value ≡ (spec.expression (frames_of scope.now) (tree.expression_of e.now) (known_of self.old)).0) }
-        ensures known { OnOk result (known_of self.new ≡ (spec.expression (frames_of scope.now) (tree.expression_of e.now) (known_of self.old)).1) }
+        ensures { IfOk result (λ r. (view.expression_of r.value, known_of self.new) ≡ spec.expression (frames_of scope.now) (tree.expression_of e.now) (known_of self.old)) }
     {
         let expression = self.expression(e, scope)?;
         Ok(Box::new(self.alloc, expression)?)
@@ -108,8 +105,7 @@ impl Resolver {
         operations: &[plm_syntax::Operation<'_>],
         scope: &Scope<'_>,
     ) -> Result<Vec<Operation>, AllocError>
-        ensures value { IfOk result (λ r. (left : ExpressionR) → view.leaned left r.items ≡ (chained (frames_of scope.now) left operations.now (known_of self.old)).0) }
-        ensures known { OnOk result ((left : ExpressionR) → known_of self.new ≡ (chained (frames_of scope.now) left operations.now (known_of self.old)).1) }
+        ensures { IfOk result (λ r. (left : ExpressionR) → (view.leaned left r.items, known_of self.new) ≡ chained (frames_of scope.now) left operations.now (known_of self.old)) }
     {
         let mut resolved = Vec::new(self.alloc);
         for operation in operations {
@@ -129,8 +125,7 @@ impl Resolver {
         reference: &plm_syntax::Reference<'_>,
         scope: &Scope<'_>,
     ) -> Result<Reference, AllocError>
-        ensures value { IfOk result (λ r. view.reference_of r ≡ (spec.reference (frames_of scope.now) (tree.reference_of reference.now) (known_of self.old)).0) }
-        ensures known { OnOk result (known_of self.new ≡ (spec.reference (frames_of scope.now) (tree.reference_of reference.now) (known_of self.old)).1) }
+        ensures { IfOk result (λ r. (view.reference_of r, known_of self.new) ≡ spec.reference (frames_of scope.now) (tree.reference_of reference.now) (known_of self.old)) }
     {
         let binding = self.used(scope, &reference.name)?;
         let subscripts = self.subscripts(&reference.subscripts, scope)?;
@@ -149,8 +144,7 @@ impl Resolver {
         subscripts: &[plm_syntax::Expression<'_>],
         scope: &Scope<'_>,
     ) -> Result<Vec<Expression>, AllocError>
-        ensures value { IfOk result (λ r. view.expressions_of r.items ≡ (spec.subscripts (frames_of scope.now) (tree.expressions_of subscripts.now) (known_of self.old)).0) }
-        ensures known { OnOk result (known_of self.new ≡ (spec.subscripts (frames_of scope.now) (tree.expressions_of subscripts.now) (known_of self.old)).1) }
+        ensures { IfOk result (λ r. (view.expressions_of r.items, known_of self.new) ≡ spec.subscripts (frames_of scope.now) (tree.expressions_of subscripts.now) (known_of self.old)) }
     {
         let mut resolved = Vec::new(self.alloc);
         for subscript in subscripts {
@@ -166,8 +160,7 @@ impl Resolver {
         scope: &Scope<'_>,
         binding: Binding,
     ) -> Result<Selector, AllocError>
-        ensures value { IfOk result (λ r. view.selector_of r ≡ (spec.selector (frames_of scope.now) binding (tree.selector_of selector.now) (known_of self.old)).0) }
-        ensures known { OnOk result (known_of self.new ≡ (spec.selector (frames_of scope.now) binding (tree.selector_of selector.now) (known_of self.old)).1) }
+        ensures { IfOk result (λ r. (view.selector_of r, known_of self.new) ≡ spec.selector (frames_of scope.now) binding (tree.selector_of selector.now) (known_of self.old)) }
     {
         match selector {
             plm_syntax::Selector::None => Ok(Selector::None),
@@ -190,8 +183,7 @@ impl Resolver {
         location: &plm_syntax::Location<'_>,
         scope: &Scope<'_>,
     ) -> Result<Location, AllocError>
-        ensures value { IfOk result (λ r. view.location_of r ≡ (spec.location (frames_of scope.now) (tree.location_of location.now) (known_of self.old)).0) }
-        ensures known { OnOk result (known_of self.new ≡ (spec.location (frames_of scope.now) (tree.location_of location.now) (known_of self.old)).1) }
+        ensures { IfOk result (λ r. (view.location_of r, known_of self.new) ≡ spec.location (frames_of scope.now) (tree.location_of location.now) (known_of self.old)) }
     {
         match location {
             plm_syntax::Location::Reference(place, form, reference) => {

@@ -92,8 +92,7 @@ impl Resolver {
         scalar: ScalarType,
         location: &plm_syntax::Location<'_>,
     ) -> Result<Option<Datum>, AllocError>
-        ensures value { IfOk result (λ r. r ≡ (spec.location_in (frames_of scope.now) scalar (tree.location_of location.now) (known_of self.old)).0) }
-        ensures known { OnOk result (known_of self.new ≡ (spec.location_in (frames_of scope.now) scalar (tree.location_of location.now) (known_of self.old)).1) }
+        ensures { IfOk result (λ r. (r, known_of self.new) ≡ spec.location_in (frames_of scope.now) scalar (tree.location_of location.now) (known_of self.old)) }
     {
         let form = match location {
             plm_syntax::Location::Reference(_, form, _) => *form,
@@ -115,8 +114,7 @@ impl Resolver {
         scalar: ScalarType,
         value: &Value<'_>,
     ) -> Result<Option<Datum>, AllocError>
-        ensures value { IfOk result (λ r. r ≡ (spec.datum_for (frames_of scope.now) scalar (value_of value.now) (known_of self.old)).0) }
-        ensures known { OnOk result (known_of self.new ≡ (spec.datum_for (frames_of scope.now) scalar (value_of value.now) (known_of self.old)).1) }
+        ensures { IfOk result (λ r. (r, known_of self.new) ≡ spec.datum_for (frames_of scope.now) scalar (value_of value.now) (known_of self.old)) }
     {
         match value {
             Value::Numeral(number) => Ok(number_datum(scalar, number.value, false)),
@@ -193,8 +191,7 @@ impl Resolver {
         cursor: Cursor,
         datum: Option<Datum>,
     ) -> Result<Cursor, AllocError>
-        ensures value { IfOk result (λ r. r ≡ (spec.put_value (filling_of filling.entry) cursor datum (known_of self.old)).0) }
-        ensures known { OnOk result (known_of self.new ≡ (spec.put_value (filling_of filling.entry) cursor datum (known_of self.old)).1) }
+        ensures { IfOk result (λ r. (r, known_of self.new) ≡ spec.put_value (filling_of filling.entry) cursor datum (known_of self.old)) }
     {
         match filling.names.get(cursor.name) {
             Some(name) => {
@@ -225,8 +222,7 @@ impl Resolver {
         cursor: Cursor,
         characters: &[u8],
     ) -> Result<Cursor, AllocError>
-        ensures value { IfOk result (λ r. r ≡ (spec.put_characters (filling_of filling.entry) cursor characters.now (known_of self.old)).0) }
-        ensures known { OnOk result (known_of self.new ≡ (spec.put_characters (filling_of filling.entry) cursor characters.now (known_of self.old)).1) }
+        ensures { IfOk result (λ r. (r, known_of self.new) ≡ spec.put_characters (filling_of filling.entry) cursor characters.now (known_of self.old)) }
     {
         let mut cursor = cursor;
         for character in characters {
@@ -244,8 +240,7 @@ impl Resolver {
         cursor: Cursor,
         value: &Value<'_>,
     ) -> Result<Cursor, AllocError>
-        ensures value { IfOk result (λ r. r ≡ (spec.filled_with (frames_of scope.now) (filling_of filling.entry) cursor (value_of value.now) (known_of self.old)).0) }
-        ensures known { OnOk result (known_of self.new ≡ (spec.filled_with (frames_of scope.now) (filling_of filling.entry) cursor (value_of value.now) (known_of self.old)).1) }
+        ensures { IfOk result (λ r. (r, known_of self.new) ≡ spec.filled_with (frames_of scope.now) (filling_of filling.entry) cursor (value_of value.now) (known_of self.old)) }
     {
         let scalar = self.scalar_at(filling.shape.form, cursor.scalar);
         match value {

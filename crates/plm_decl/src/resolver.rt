@@ -117,8 +117,7 @@ impl Resolver {
 
     /// What a name that is used means.
     pub fn used(&mut self, scope: &Scope<'_>, name: &Name<'_>) -> Result<Binding, AllocError>
-        ensures binding { IfOk result (λ m. m ≡ (used (frames_of scope.now) (name_of name.now) (known_of self.old)).0) }
-        ensures known { OnOk result (known_of self.new ≡ (used (frames_of scope.now) (name_of name.now) (known_of self.old)).1) }
+        ensures { IfOk result (λ m. (m, known_of self.new) ≡ used (frames_of scope.now) (name_of name.now) (known_of self.old)) }
     {
         let key = normal(self.alloc, name.text)?;
         let binding = binding(scope.item(&key), Builtin::named(&key));

@@ -122,8 +122,7 @@ impl Resolver {
     /// A dimension that holds, or a fault at this place: then it counts as 1.
     fn dimension_if(&mut self, holds: bool, count: u64, place: Position) -> Result<u32, AllocError>
         requires { holds ≡ true → is_dimension count ≡ true }
-        ensures value { IfOk result (λ n. Some n ≡ (shape.dimension_if holds count place (known_of self.old)).0) }
-        ensures known { OnOk result (known_of self.new ≡ (shape.dimension_if holds count place (known_of self.old)).1) }
+        ensures { IfOk result (λ n. (Some n, known_of self.new) ≡ shape.dimension_if holds count place (known_of self.old)) }
     {
         self.note_unless(holds, Number::E305, place)?;
         Ok(if holds { count as u32 } else { 1 })
@@ -135,8 +134,7 @@ impl Resolver {
         place: Position,
         number: Option<Numeral>,
     ) -> Result<Option<u32>, AllocError>
-        ensures value { IfOk result (λ r. r ≡ (shape.number_of_elements place (number_view number) (known_of self.old)).0) }
-        ensures known { OnOk result (known_of self.new ≡ (shape.number_of_elements place (number_view number) (known_of self.old)).1) }
+        ensures { IfOk result (λ r. (r, known_of self.new) ≡ shape.number_of_elements place (number_view number) (known_of self.old)) }
     {
         match number {
             Some(number) => {
@@ -156,8 +154,7 @@ impl Resolver {
         member: &SyntaxMember<'_>,
         structure: &mut Structure,
     ) -> Result<(), AllocError>
-        ensures structure { OnOk result (structure_of structure.new ≡ (shape.with_members place (member_of member.now) (structure_of structure.old) (known_of self.old)).0) }
-        ensures known { OnOk result (known_of self.new ≡ (shape.with_members place (member_of member.now) (structure_of structure.old) (known_of self.old)).1) }
+        ensures { OnOk result ((structure_of structure.new, known_of self.new) ≡ shape.with_members place (member_of member.now) (structure_of structure.old) (known_of self.old)) }
     {
         let dimension = self.number_of_elements(place, member.count)?;
         for name in member_names(&member.names) {
@@ -174,8 +171,7 @@ impl Resolver {
         place: Position,
         members: &[SyntaxMember<'_>],
     ) -> Result<Structure, AllocError>
-        ensures structure { IfOk result (λ s. structure_of s ≡ (shape.structure_for place (map member_of members.now) no_fields (known_of self.old)).0) }
-        ensures known { OnOk result (known_of self.new ≡ (shape.structure_for place (map member_of members.now) no_fields (known_of self.old)).1) }
+        ensures { IfOk result (λ s. (structure_of s, known_of self.new) ≡ shape.structure_for place (map member_of members.now) no_fields (known_of self.old)) }
     {
         let mut structure = Structure {
             fields: Vec::new(self.alloc),
@@ -191,8 +187,7 @@ impl Resolver {
     /// What an element is; a fault of its dimensions stands at the first of its names.
     #[tactic(auto, using(crate::proofs::ListViews::member_list_from))]
     pub fn form(&mut self, place: Position, form: &VariableType<'_>) -> Result<Form, AllocError>
-        ensures value { IfOk result (λ r. r ≡ (shape.form_for place (type_of form.now) (known_of self.old)).0) }
-        ensures known { OnOk result (known_of self.new ≡ (shape.form_for place (type_of form.now) (known_of self.old)).1) }
+        ensures { IfOk result (λ r. (r, known_of self.new) ≡ shape.form_for place (type_of form.now) (known_of self.old)) }
     {
         match form {
             VariableType::Scalar(scalar) => Ok(Form::Scalar(ScalarType::of(*scalar))),
@@ -292,8 +287,7 @@ impl Resolver {
         form: Form,
         values: &[Value<'_>],
     ) -> Result<Option<u32>, AllocError>
-        ensures value { IfOk result (λ r. r ≡ (shape.dimension_for place names (dimension_of dimension.now) form (map value_of values.now) (known_of self.old)).0) }
-        ensures known { OnOk result (known_of self.new ≡ (shape.dimension_for place names (dimension_of dimension.now) form (map value_of values.now) (known_of self.old)).1) }
+        ensures { IfOk result (λ r. (r, known_of self.new) ≡ shape.dimension_for place names (dimension_of dimension.now) form (map value_of values.now) (known_of self.old)) }
     {
         match dimension {
             Dimension::None => Ok(None),
@@ -316,8 +310,7 @@ impl Resolver {
         form: &VariableType<'_>,
         values: &[Value<'_>],
     ) -> Result<Shape, AllocError>
-        ensures value { IfOk result (λ r. r ≡ (shape.shape_for place names (dimension_of dimension.now) (type_of form.now) (map value_of values.now) (known_of self.old)).0) }
-        ensures known { OnOk result (known_of self.new ≡ (shape.shape_for place names (dimension_of dimension.now) (type_of form.now) (map value_of values.now) (known_of self.old)).1) }
+        ensures { IfOk result (λ r. (r, known_of self.new) ≡ shape.shape_for place names (dimension_of dimension.now) (type_of form.now) (map value_of values.now) (known_of self.old)) }
     {
         let form = self.form(place, form)?;
         let dimension = self.dimension(place, names, dimension, form, values)?;

@@ -15,7 +15,7 @@ ghost use Rattle.plm_decl.specs.Layout.{scalar_of};
 ghost use Rattle.plm_decl.specs.Resolved as resolved;
 ghost use Rattle.plm_decl.specs.ResolvedView as view;
 ghost use Rattle.plm_decl.specs.Statements as spec;
-ghost use Rattle.plm_decl.specs.Inner.Statements.{header_for, procedure_declared, finished, bounds_of, bounds_for, iterated};
+ghost use Rattle.plm_decl.specs.Inner.Statements.{header_for, procedure_declared, finished, bounds_of, bounds_for, iterated, with_alternative};
 
 use crate::found::Found;
 use crate::layout::{Form, ScalarType};
@@ -67,8 +67,7 @@ fn returned_type(scalar: Option<Scalar>) -> Option<ScalarType>
 impl Resolver {
     /// The path of a `DO;` block: that of its last label, or the number of an unnamed one.
     fn do_path(&mut self, scope: &Scope<'_>, labels: &[Name<'_>]) -> Result<Vec<u8>, AllocError>
-        ensures value { IfOk result (λ r. r.items ≡ (spec.block_path (frames_of scope.now) (spec.last_name (names_of labels.now)) (known_of self.old)).0) }
-        ensures known { OnOk result (known_of self.new ≡ (spec.block_path (frames_of scope.now) (spec.last_name (names_of labels.now)) (known_of self.old)).1) }
+        ensures { IfOk result (λ r. (r.items, known_of self.new) ≡ spec.block_path (frames_of scope.now) (spec.last_name (names_of labels.now)) (known_of self.old)) }
     {
         match labels.last() {
             Some(label) => {
@@ -88,8 +87,7 @@ impl Resolver {
         scope: &Scope<'_>,
         references: &[plm_syntax::Reference<'_>],
     ) -> Result<Vec<Reference>, AllocError>
-        ensures value { IfOk result (λ r. view.references_of r.items ≡ (spec.targets_from (frames_of scope.now) resolved.no_references (map reference_of references.now) (known_of self.old)).0) }
-        ensures known { OnOk result (known_of self.new ≡ (spec.targets_from (frames_of scope.now) resolved.no_references (map reference_of references.now) (known_of self.old)).1) }
+        ensures { IfOk result (λ r. (view.references_of r.items, known_of self.new) ≡ spec.targets_from (frames_of scope.now) resolved.no_references (map reference_of references.now) (known_of self.old)) }
     {
         let mut resolved = Vec::new(self.alloc);
         for reference in references {
@@ -103,8 +101,7 @@ impl Resolver {
         scope: &Scope<'_>,
         step: &Option<plm_syntax::Expression<'_>>,
     ) -> Result<Option<Expression>, AllocError>
-        ensures value { IfOk result (λ r. view.step_of r ≡ (spec.step_for (frames_of scope.now) (tree.step_of step.now) (known_of self.old)).0) }
-        ensures known { OnOk result (known_of self.new ≡ (spec.step_for (frames_of scope.now) (tree.step_of step.now) (known_of self.old)).1) }
+        ensures { IfOk result (λ r. (view.step_of r, known_of self.new) ≡ spec.step_for (frames_of scope.now) (tree.step_of step.now) (known_of self.old)) }
     {
         match step {
             Some(step) => Ok(Some(self.expression(step, scope)?)),
@@ -118,8 +115,7 @@ impl Resolver {
         statement: &plm_syntax::Statement<'_>,
         scope: &Scope<'_>,
     ) -> Result<Statement, AllocError>
-        ensures value { IfOk result (λ r. view.statement_of r ≡ (spec.statement (frames_of scope.now) (statement_of statement.now) (known_of self.old)).0) }
-        ensures known { OnOk result (known_of self.new ≡ (spec.statement (frames_of scope.now) (statement_of statement.now) (known_of self.old)).1) }
+        ensures { IfOk result (λ r. (view.statement_of r, known_of self.new) ≡ spec.statement (frames_of scope.now) (statement_of statement.now) (known_of self.old)) }
     {
         Resolver::basic(&statement.basic, self, scope, &statement.labels)
     }
@@ -130,8 +126,7 @@ impl Resolver {
         statements: &[plm_syntax::Statement<'_>],
         scope: &Scope<'_>,
     ) -> Result<Vec<Statement>, AllocError>
-        ensures value { IfOk result (λ r. view.statements_of r.items ≡ (spec.statements (frames_of scope.now) (statements_of statements.now) (known_of self.old)).0) }
-        ensures known { OnOk result (known_of self.new ≡ (spec.statements (frames_of scope.now) (statements_of statements.now) (known_of self.old)).1) }
+        ensures { IfOk result (λ r. (view.statements_of r.items, known_of self.new) ≡ spec.statements (frames_of scope.now) (statements_of statements.now) (known_of self.old)) }
     {
         let mut resolved = Vec::new(self.alloc);
         for statement in statements {
@@ -149,8 +144,7 @@ impl Resolver {
         step: &Option<plm_syntax::Expression<'_>>,
         scope: &Scope<'_>,
     ) -> Result<Bounds, AllocError>
-        ensures value { IfOk result (λ r. bounds_of r ≡ (bounds_for (frames_of scope.now) (name_of index.now) (tree.expression_of from.now) (tree.expression_of to.now) (tree.step_of step.now) (known_of self.old)).0) }
-        ensures known { OnOk result (known_of self.new ≡ (bounds_for (frames_of scope.now) (name_of index.now) (tree.expression_of from.now) (tree.expression_of to.now) (tree.step_of step.now) (known_of self.old)).1) }
+        ensures { IfOk result (λ r. (bounds_of r, known_of self.new) ≡ bounds_for (frames_of scope.now) (name_of index.now) (tree.expression_of from.now) (tree.expression_of to.now) (tree.step_of step.now) (known_of self.old)) }
     {
         let binding = self.used(scope, index)?;
         let from = self.expression(from, scope)?;
@@ -172,8 +166,7 @@ impl Resolver {
         value: &plm_syntax::Expression<'_>,
         scope: &Scope<'_>,
     ) -> Result<Statement, AllocError>
-        ensures value { IfOk result (λ r. view.statement_of r ≡ (spec.basic (frames_of scope.now) None (AssignS (tree.references_from targets.now no_references) (tree.expression_of value.now)) (known_of self.old)).0) }
-        ensures known { OnOk result (known_of self.new ≡ (spec.basic (frames_of scope.now) None (AssignS (tree.references_from targets.now no_references) (tree.expression_of value.now)) (known_of self.old)).1) }
+        ensures { IfOk result (λ r. (view.statement_of r, known_of self.new) ≡ spec.basic (frames_of scope.now) None (AssignS (tree.references_from targets.now no_references) (tree.expression_of value.now)) (known_of self.old)) }
     {
         let targets = self.references(scope, targets)?;
         Ok(Statement::Assign(targets, self.expression(value, scope)?))
@@ -186,8 +179,7 @@ impl Resolver {
         place: Position,
         scope: &Scope<'_>,
     ) -> Result<Statement, AllocError>
-        ensures value { IfOk result (λ r. view.statement_of r ≡ (spec.basic (frames_of scope.now) None (CallS place (reference_of procedure.now)) (known_of self.old)).0) }
-        ensures known { OnOk result (known_of self.new ≡ (spec.basic (frames_of scope.now) None (CallS place (reference_of procedure.now)) (known_of self.old)).1) }
+        ensures { IfOk result (λ r. (view.statement_of r, known_of self.new) ≡ spec.basic (frames_of scope.now) None (CallS place (reference_of procedure.now)) (known_of self.old)) }
     {
         Ok(Statement::Call(place, self.reference(procedure, scope)?))
     }
@@ -199,8 +191,7 @@ impl Resolver {
         place: Position,
         scope: &Scope<'_>,
     ) -> Result<Statement, AllocError>
-        ensures value { IfOk result (λ r. view.statement_of r ≡ (spec.basic (frames_of scope.now) None (ReturnValueS place (tree.expression_of value.now)) (known_of self.old)).0) }
-        ensures known { OnOk result (known_of self.new ≡ (spec.basic (frames_of scope.now) None (ReturnValueS place (tree.expression_of value.now)) (known_of self.old)).1) }
+        ensures { IfOk result (λ r. (view.statement_of r, known_of self.new) ≡ spec.basic (frames_of scope.now) None (ReturnValueS place (tree.expression_of value.now)) (known_of self.old)) }
     {
         Ok(Statement::ReturnValue(place, self.expression(value, scope)?))
     }
@@ -211,8 +202,7 @@ impl Resolver {
         statement: &plm_syntax::Statement<'_>,
         scope: &Scope<'_>,
     ) -> Result<Box<Statement>, AllocError>
-        ensures value { IfOk result (λ r. view.statement_of r.value ≡ (spec.statement (frames_of scope.now) (statement_of statement.now) (known_of self.old)).0) }
-        ensures known { OnOk result (known_of self.new ≡ (spec.statement (frames_of scope.now) (statement_of statement.now) (known_of self.old)).1) }
+        ensures { IfOk result (λ r. (view.statement_of r.value, known_of self.new) ≡ spec.statement (frames_of scope.now) (statement_of statement.now) (known_of self.old)) }
     {
         let statement = self.statement(statement, scope)?;
         Ok(Box::new(self.alloc, statement)?)
@@ -227,8 +217,7 @@ impl Resolver {
         place: Position,
         scope: &Scope<'_>,
     ) -> Result<Statement, AllocError>
-        ensures value { IfOk result (λ r. view.statement_of r ≡ (spec.basic (frames_of scope.now) None (IfS place (tree.expression_of test.now) (statement_of body.now)) (known_of self.old)).0) }
-        ensures known { OnOk result (known_of self.new ≡ (spec.basic (frames_of scope.now) None (IfS place (tree.expression_of test.now) (statement_of body.now)) (known_of self.old)).1) }
+        ensures { IfOk result (λ r. (view.statement_of r, known_of self.new) ≡ spec.basic (frames_of scope.now) None (IfS place (tree.expression_of test.now) (statement_of body.now)) (known_of self.old)) }
     {
         let test = self.expression(test, scope)?;
         Ok(Statement::If(place, test, self.boxed_statement(body, scope)?))
@@ -244,8 +233,7 @@ impl Resolver {
         place: Position,
         scope: &Scope<'_>,
     ) -> Result<Statement, AllocError>
-        ensures value { IfOk result (λ r. view.statement_of r ≡ resolved.IfElseR place (view.expression_of test) (view.statement_of body.value) (spec.statement (frames_of scope.now) (statement_of other.now) (known_of self.old)).0) }
-        ensures known { OnOk result (known_of self.new ≡ (spec.statement (frames_of scope.now) (statement_of other.now) (known_of self.old)).1) }
+        ensures { IfOk result (λ r. (view.statement_of r, known_of self.new) ≡ with_alternative place (view.expression_of test) (view.statement_of body.value) (spec.statement (frames_of scope.now) (statement_of other.now) (known_of self.old))) }
     {
         let other = self.boxed_statement(other, scope)?;
         Ok(Statement::IfElse(place, test, body, other))
@@ -260,8 +248,7 @@ impl Resolver {
         scope: &Scope<'_>,
         labels: &[Name<'_>],
     ) -> Result<Statement, AllocError>
-        ensures value { IfOk result (λ r. view.statement_of r ≡ (spec.basic (frames_of scope.now) (spec.last_name (names_of labels.now)) (DoS place (block_of block.now) None) (known_of self.old)).0) }
-        ensures known { OnOk result (known_of self.new ≡ (spec.basic (frames_of scope.now) (spec.last_name (names_of labels.now)) (DoS place (block_of block.now) None) (known_of self.old)).1) }
+        ensures { IfOk result (λ r. (view.statement_of r, known_of self.new) ≡ spec.basic (frames_of scope.now) (spec.last_name (names_of labels.now)) (DoS place (block_of block.now) None) (known_of self.old)) }
     {
         let path = self.do_path(scope, labels)?;
         let mut inside = Scope::inside(self.alloc, scope, path, scope.is_external());
@@ -278,8 +265,7 @@ impl Resolver {
         place: Position,
         scope: &Scope<'_>,
     ) -> Result<Statement, AllocError>
-        ensures value { IfOk result (λ r. view.statement_of r ≡ (spec.basic (frames_of scope.now) None (WhileS place (tree.expression_of test.now) (statements_of body.now) None) (known_of self.old)).0) }
-        ensures known { OnOk result (known_of self.new ≡ (spec.basic (frames_of scope.now) None (WhileS place (tree.expression_of test.now) (statements_of body.now) None) (known_of self.old)).1) }
+        ensures { IfOk result (λ r. (view.statement_of r, known_of self.new) ≡ spec.basic (frames_of scope.now) None (WhileS place (tree.expression_of test.now) (statements_of body.now) None) (known_of self.old)) }
     {
         let test = self.expression(test, scope)?;
         Ok(Statement::While(place, test, self.statements(body, scope)?))
@@ -295,8 +281,7 @@ impl Resolver {
         place: Position,
         scope: &Scope<'_>,
     ) -> Result<Statement, AllocError>
-        ensures value { IfOk result (λ r. view.statement_of r ≡ (spec.basic (frames_of scope.now) None (CaseS place (tree.expression_of selector.now) (statements_of cases.now) None) (known_of self.old)).0) }
-        ensures known { OnOk result (known_of self.new ≡ (spec.basic (frames_of scope.now) None (CaseS place (tree.expression_of selector.now) (statements_of cases.now) None) (known_of self.old)).1) }
+        ensures { IfOk result (λ r. (view.statement_of r, known_of self.new) ≡ spec.basic (frames_of scope.now) None (CaseS place (tree.expression_of selector.now) (statements_of cases.now) None) (known_of self.old)) }
     {
         let selector = self.expression(selector, scope)?;
         Ok(Statement::Case(place, selector, self.statements(cases, scope)?))
@@ -312,8 +297,7 @@ impl Resolver {
         index: Position,
         scope: &Scope<'_>,
     ) -> Result<Statement, AllocError>
-        ensures value { IfOk result (λ r. view.statement_of r ≡ iterated place index (bounds_of bounds) (spec.statements (frames_of scope.now) (statements_of body.now) (known_of self.old)).0) }
-        ensures known { OnOk result (known_of self.new ≡ (spec.statements (frames_of scope.now) (statements_of body.now) (known_of self.old)).1) }
+        ensures { IfOk result (λ r. (view.statement_of r, known_of self.new) ≡ iterated place index (bounds_of bounds) (spec.statements (frames_of scope.now) (statements_of body.now) (known_of self.old))) }
     {
         let body = self.statements(body, scope)?;
         let Bounds {
@@ -333,8 +317,7 @@ impl Resolver {
         scope: &Scope<'_>,
         labels: &[Name<'_>],
     ) -> Result<Statement, AllocError>
-        ensures value { IfOk result (λ r. view.statement_of r ≡ (spec.basic (frames_of scope.now) (spec.last_name (names_of labels.now)) (basic_of basic.now) (known_of resolver.old)).0) }
-        ensures known { OnOk result (known_of resolver.new ≡ (spec.basic (frames_of scope.now) (spec.last_name (names_of labels.now)) (basic_of basic.now) (known_of resolver.old)).1) }
+        ensures { IfOk result (λ r. (view.statement_of r, known_of resolver.new) ≡ spec.basic (frames_of scope.now) (spec.last_name (names_of labels.now)) (basic_of basic.now) (known_of resolver.old)) }
     {
         match basic {
             Basic::Empty(place) => Ok(Statement::Empty(*place)),
@@ -366,8 +349,7 @@ impl Resolver {
     /// The items of a block.
     #[cycle(statement)]
     fn items(&mut self, items: &[SyntaxItem<'_>], scope: &mut Scope<'_>) -> Result<(), AllocError>
-        ensures names { OnOk result (frames_of scope.new ≡ (spec.with_items (frames_of scope.old) (items_of items.now) (known_of self.old)).0) }
-        ensures known { OnOk result (known_of self.new ≡ (spec.with_items (frames_of scope.old) (items_of items.now) (known_of self.old)).1) }
+        ensures { OnOk result ((frames_of scope.new, known_of self.new) ≡ spec.with_items (frames_of scope.old) (items_of items.now) (known_of self.old)) }
     {
         for item in items {
             self.item(item, scope)?;
@@ -382,9 +364,7 @@ impl Resolver {
         resolver: &mut Resolver,
         scope: &mut Scope<'_>,
     ) -> Result<Vec<Statement>, AllocError>
-        ensures value { IfOk result (λ r. view.statements_of r.items ≡ (spec.block (frames_of scope.old) (block_of block.now) (known_of resolver.old)).0) }
-        ensures names { OnOk result (frames_of scope.new ≡ (spec.block (frames_of scope.old) (block_of block.now) (known_of resolver.old)).1) }
-        ensures known { OnOk result (known_of resolver.new ≡ (spec.block (frames_of scope.old) (block_of block.now) (known_of resolver.old)).2) }
+        ensures { IfOk result (λ r. (view.statements_of r.items, frames_of scope.new, known_of resolver.new) ≡ spec.block (frames_of scope.old) (block_of block.now) (known_of resolver.old)) }
     {
         let Block { items, statements } = block;
         resolver.items(items, scope)?;
@@ -395,8 +375,7 @@ impl Resolver {
     #[cycle(statement)]
     #[tactic(auto, using(crate::proofs::ListViews::element_list_from))]
     fn item(&mut self, item: &SyntaxItem<'_>, scope: &mut Scope<'_>) -> Result<(), AllocError>
-        ensures names { OnOk result (frames_of scope.new ≡ (spec.with_item (frames_of scope.old) (item_of item.now) (known_of self.old)).0) }
-        ensures known { OnOk result (known_of self.new ≡ (spec.with_item (frames_of scope.old) (item_of item.now) (known_of self.old)).1) }
+        ensures { OnOk result ((frames_of scope.new, known_of self.new) ≡ spec.with_item (frames_of scope.old) (item_of item.now) (known_of self.old)) }
     {
         match item {
             SyntaxItem::Declare(_, elements) => self.elements(scope, elements),
@@ -409,8 +388,7 @@ impl Resolver {
         scope: &mut Scope<'_>,
         elements: &[Element<'_>],
     ) -> Result<(), AllocError>
-        ensures names { OnOk result (frames_of scope.new ≡ (spec.with_elements (map element_of elements.now) (frames_of scope.old) (known_of self.old)).0) }
-        ensures known { OnOk result (known_of self.new ≡ (spec.with_elements (map element_of elements.now) (frames_of scope.old) (known_of self.old)).1) }
+        ensures { OnOk result ((frames_of scope.new, known_of self.new) ≡ spec.with_elements (map element_of elements.now) (frames_of scope.old) (known_of self.old)) }
     {
         for element in elements {
             self.element(scope, element)?;
@@ -501,8 +479,7 @@ impl Resolver {
         procedure: &SyntaxProcedure<'_>,
     ) -> Result<usize, AllocError>
         ensures number { IfOk result (λ n. n ≡ length (known_of self.old).procedures) }
-        ensures names { OnOk result (frames_of scope.new ≡ (procedure_declared (frames_of scope.old) procedure.now (known_of self.old)).0) }
-        ensures known { OnOk result (known_of self.new ≡ (procedure_declared (frames_of scope.old) procedure.now (known_of self.old)).1) }
+        ensures known { OnOk result ((frames_of scope.new, known_of self.new) ≡ procedure_declared (frames_of scope.old) procedure.now (known_of self.old)) }
     {
         let SyntaxProcedure { name, linkage, .. } = procedure;
         let path = self.path_of(scope, name)?;
@@ -518,8 +495,7 @@ impl Resolver {
         inside: &Scope<'_>,
         names: &[Name<'_>],
     ) -> Result<Vec<usize>, AllocError>
-        ensures value { IfOk result (λ r. r.items ≡ (spec.parameters_from (frames_of inside.now) [] [] (map name_of names.now) (known_of self.old)).0) }
-        ensures known { OnOk result (known_of self.new ≡ (spec.parameters_from (frames_of inside.now) [] [] (map name_of names.now) (known_of self.old)).1) }
+        ensures { IfOk result (λ r. (r.items, known_of self.new) ≡ spec.parameters_from (frames_of inside.now) [] [] (map name_of names.now) (known_of self.old)) }
     {
         let mut listed = Table::new(self.alloc);
         let mut parameters = Vec::new(self.alloc);
@@ -538,8 +514,7 @@ impl Resolver {
         parameters: &mut Vec<usize>,
     ) -> Result<(), AllocError>
         ensures listed { OnOk result (entries_of listed.new ≡ spec.with_parameter (name_of name.now) (entries_of listed.old)) }
-        ensures parameters { OnOk result (parameters.new.items ≡ (spec.parameter_for (frames_of inside.now) (entries_of listed.old) parameters.old.items (name_of name.now) (known_of self.old)).0) }
-        ensures known { OnOk result (known_of self.new ≡ (spec.parameter_for (frames_of inside.now) (entries_of listed.old) parameters.old.items (name_of name.now) (known_of self.old)).1) }
+        ensures known { OnOk result ((parameters.new.items, known_of self.new) ≡ spec.parameter_for (frames_of inside.now) (entries_of listed.old) parameters.old.items (name_of name.now) (known_of self.old)) }
     {
         let key = normal(self.alloc, name.text)?;
         let declared = inside.here(&key);
@@ -610,8 +585,7 @@ impl Resolver {
         procedure: &SyntaxProcedure<'_>,
         scope: &mut Scope<'_>,
     ) -> Result<(), AllocError>
-        ensures names { OnOk result (frames_of scope.new ≡ (spec.with_item (frames_of scope.old) (procedure_of procedure.now) (known_of self.old)).0) }
-        ensures known { OnOk result (known_of self.new ≡ (spec.with_item (frames_of scope.old) (procedure_of procedure.now) (known_of self.old)).1) }
+        ensures { OnOk result ((frames_of scope.new, known_of self.new) ≡ spec.with_item (frames_of scope.old) (procedure_of procedure.now) (known_of self.old)) }
     {
         let SyntaxProcedure {
             name,

@@ -1,7 +1,6 @@
 -- What is known while trees are read, within the counts of the finished tables.
 use Rattle.std.specs.Prelude.{◌≡◌, length, Bool, true, nat_lt}
 use Rattle.std.specs.List.{list_all}
-use Rattle.plm_decl.specs.declared.names.Variable.{Variable}
 use Rattle.plm_decl.specs.declared.names.Item.{Item}
 use Rattle.plm_decl.specs.declared.names.Item.TheVariants as item
 use Rattle.plm_decl.specs.Scope.{Entries}

@@ -7,7 +7,7 @@ use Rattle.plm_decl.specs.declared.statements.Bounds.{Bounds}
 use Rattle.plm_decl.specs.Spelling.{name_after}
 use Rattle.plm_decl.specs.Scope.{Frame, path_in}
 use Rattle.plm_decl.specs.Uses.{used}
-use Rattle.plm_decl.specs.Resolved.{ExpressionR, StatementR, StatementsR, IterateR}
+use Rattle.plm_decl.specs.Resolved.{ExpressionR, StatementR, StatementsR, IfElseR, IterateR}
 use Rattle.plm_decl.specs.ResolvedView as view
 use Rattle.plm_decl.specs.Expressions.{expression}
 use Rattle.plm_syntax.specs.declared.tree.Position.{Position}
@@ -52,5 +52,10 @@ bounds_for frames i a b s k =
     let m = used frames i k in let r = expression frames a m.1 in let q = expression frames b r.1 in let u = step_for frames s q.1 in
     (record { binding = m.0; from = r.0; to = q.0; step = u.0 }, u.1)
 
-abbrev pub iterated : Position → Position → BoundsR → StatementsR → StatementR
-iterated p i b ss = IterateR p i b.binding b.from b.to b.step ss
+abbrev pub iterated : Position → Position → BoundsR → StatementsR × Known → StatementR × Known
+iterated p i b r = (IterateR p i b.binding b.from b.to b.step r.0, r.1)
+
+-- ---- IF with ELSE
+
+abbrev pub with_alternative : Position → ExpressionR → StatementR → StatementR × Known → StatementR × Known
+with_alternative p e s r = (IfElseR p e s r.0, r.1)

@@ -1,4 +1,4 @@
-use Rattle.std.proofs.Common.{List, None, sym, ◌∙◌}
+use Rattle.std.proofs.Common.{List, sym, ◌∙◌}
 use Rattle.std.proofs.lemmas.List.{at_drop_all}
 use Rattle.plm_decl.specs.declared.found.Found.{Found}
 use Rattle.plm_decl.specs.Found.{least}

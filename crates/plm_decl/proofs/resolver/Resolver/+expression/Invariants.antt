@@ -10,11 +10,7 @@ use Rattle.plm_decl.proofs.resolver.Resolver.+expression.Given as goal
 
 abbrev pub invariant-subscripts-loop-subscript : goal.invariant-subscripts-loop-subscript
 invariant-subscripts-loop-subscript l =
-    let done = subscripts (frames_of l.scope) (expressions_of (take l.subscript-index l.subscripts)) (known_of l.initial.self) in
-    record {
-      value : view.expressions_of l.resolved.items ≡ done.0;
-      known : known_of l.self ≡ done.1;
-    }
+    (view.expressions_of l.resolved.items, known_of l.self) ≡ subscripts (frames_of l.scope) (expressions_of (take l.subscript-index l.subscripts)) (known_of l.initial.self)
 
 abbrev pub invariant-operations-loop-operation : goal.invariant-operations-loop-operation
 invariant-operations-loop-operation l =

@@ -8,16 +8,8 @@ use Rattle.plm_decl.proofs.resolver.Resolver.+statement.Given as goal
 
 abbrev pub invariant-statements-loop-statement : goal.invariant-statements-loop-statement
 invariant-statements-loop-statement l =
-    let done = statements (frames_of l.scope) (statements_of (take l.statement-index l.statements)) (known_of l.initial.self) in
-    record {
-      value : view.statements_of l.resolved.items ≡ done.0;
-      known : known_of l.self ≡ done.1;
-    }
+    (view.statements_of l.resolved.items, known_of l.self) ≡ statements (frames_of l.scope) (statements_of (take l.statement-index l.statements)) (known_of l.initial.self)
 
 abbrev pub invariant-items-loop-item : goal.invariant-items-loop-item
 invariant-items-loop-item l =
-    let done = with_items (frames_of l.initial.scope) (items_of (take l.item-index l.items)) (known_of l.initial.self) in
-    record {
-      names : frames_of l.scope ≡ done.0;
-      known : known_of l.self ≡ done.1;
-    }
+    (frames_of l.scope, known_of l.self) ≡ with_items (frames_of l.initial.scope) (items_of (take l.item-index l.items)) (known_of l.initial.self)

@@ -5,12 +5,7 @@ use Rattle.plm_decl.specs.Statements.{last_name}
 use Rattle.plm_decl.proofs.ListViews.{last_name_is}
 use Rattle.plm_decl.proofs.resolver.Resolver.do_path.Goals as goal
 
-pub returns-in_ok-key-in-Some-clause-value : goal.returns-in_ok-key-in-Some-clause-value
-returns-in_ok-key-in-Some-clause-value c =
-    let e : last_name (names_of c.args.labels.now) ≡ Some (name_of c.in-Some.label.now) = last_name_is c.args.labels.now ∙ ap (option_map name_of) (sym c.in-Some.ensures.value) in
-    rw e (search rules)
-
-pub returns-in_ok-key-in-Some-clause-known : goal.returns-in_ok-key-in-Some-clause-known
-returns-in_ok-key-in-Some-clause-known c =
+pub returns-in_ok-key-in-Some : goal.returns-in_ok-key-in-Some
+returns-in_ok-key-in-Some c =
     let e : last_name (names_of c.args.labels.now) ≡ Some (name_of c.in-Some.label.now) = last_name_is c.args.labels.now ∙ ap (option_map name_of) (sym c.in-Some.ensures.value) in
     rw e (search rules)

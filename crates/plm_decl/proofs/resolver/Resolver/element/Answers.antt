@@ -18,26 +18,14 @@ declared_first (w ∷ vs) v d t a frames k e =
     let same : v ≡ w = cc in
     ap (λ (x : Variable). declared_at x.name.place (map variable_of (w ∷ vs)) d t a frames k) same
 
-pub returns-in_ok-names-in-Some-clause-names : goal.returns-in_ok-names-in-Some-clause-names
-returns-in_ok-names-in-Some-clause-names c =
+pub returns-in_ok-names-in-Some : goal.returns-in_ok-names-in-Some
+returns-in_ok-names-in-Some c =
     let frames = frames_of c.args.scope.now in
     let k = known_of c.args.self.now in
     let d = dimension_of c.in-Variable.dimension in
     let t = type_of c.in-Variable.form in
     let a = attributes_of c.in-Variable.attributes in
-    c.in_ok-names-in-Some.ensures.names
-    ∙ ap (λ (r : List Frame × Known). r.0) (declared_first c.declared_names-names.result.now c.in-Some.first.now d t a frames k c.in-Some.ensures.value)
-    ∙ ap (λ (vs : List VariableT). (declared_names vs d t a frames k).0) c.declared_names-names.ensures
-    ∙ ap (λ (e : Element). (element (element_of e) frames k).0) (sym c.in-Variable.is)
-
-pub returns-in_ok-names-in-Some-clause-known : goal.returns-in_ok-names-in-Some-clause-known
-returns-in_ok-names-in-Some-clause-known c =
-    let frames = frames_of c.args.scope.now in
-    let k = known_of c.args.self.now in
-    let d = dimension_of c.in-Variable.dimension in
-    let t = type_of c.in-Variable.form in
-    let a = attributes_of c.in-Variable.attributes in
-    c.in_ok-names-in-Some.ensures.known
-    ∙ ap (λ (r : List Frame × Known). r.1) (declared_first c.declared_names-names.result.now c.in-Some.first.now d t a frames k c.in-Some.ensures.value)
-    ∙ ap (λ (vs : List VariableT). (declared_names vs d t a frames k).1) c.declared_names-names.ensures
-    ∙ ap (λ (e : Element). (element (element_of e) frames k).1) (sym c.in-Variable.is)
+    c.in_ok-names-in-Some.ensures
+    ∙ declared_first c.declared_names-names.result.now c.in-Some.first.now d t a frames k c.in-Some.ensures.value
+    ∙ ap (λ (vs : List VariableT). declared_names vs d t a frames k) c.declared_names-names.ensures
+    ∙ ap (λ (e : Element). element (element_of e) frames k) (sym c.in-Variable.is)

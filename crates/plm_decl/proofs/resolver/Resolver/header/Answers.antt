@@ -6,7 +6,7 @@ use Rattle.plm_syntax.specs.View.{name_of}
 use Rattle.plm_decl.specs.declared.names.Item.TheVariants as item
 use Rattle.plm_decl.specs.Spelling.{name_after}
 use Rattle.plm_decl.specs.Inner.Scope.{frames_of}
-use Rattle.plm_decl.specs.Scope.{path_in, is_fresh}
+use Rattle.plm_decl.specs.Scope.{path_in, is_fresh, with_name}
 use Rattle.plm_decl.specs.Resolver.{Known, note_unless}
 use Rattle.plm_decl.specs.Inner.Resolver.{known_of}
 use Rattle.plm_decl.specs.Inner.Statements.{header_for}
@@ -27,8 +27,8 @@ returns-clause-known c =
     let entered = λ (key : List ℕ) (number : ℕ) (q : Known). note_unless (is_fresh key frames) E302 n.place (linked frames o.linkage key (item.Procedure number) q) in
     let headed : known_of c.put_procedure.new.resolver ≡ with_header (header_for path p k) k =
     did.known ∙ (λ j. with_header (header_for (c.in_ok-path.ensures j) p k) k) in
-    c.in_ok-enter.ensures.known
-    ∙ (λ j. entered (c.in_ok-key.ensures j) (did.number j) (headed j))
-    ∙ (λ j. entered (normal n.text) (length k.procedures) (with_header (header_for_parts path p k j) k))
-    ∙ (λ j. (declared_procedure frames n (sym (header_for_parts path p k) j) k).1)
-    ∙ sym (λ j. (declared_procedure frames (name_for_parts p j) (header_for (name_after (path_in frames) (normal (name_for_parts p j).text)) p k) k).1)
+    (λ j. (c.in_ok-enter.ensures.names j, c.in_ok-enter.ensures.known j))
+    ∙ (λ j. (with_name (c.in_ok-key.ensures j) (item.Procedure (did.number j)) frames, entered (c.in_ok-key.ensures j) (did.number j) (headed j)))
+    ∙ (λ j. (with_name (normal n.text) (item.Procedure (length k.procedures)) frames, entered (normal n.text) (length k.procedures) (with_header (header_for_parts path p k j) k)))
+    ∙ (λ j. declared_procedure frames n (sym (header_for_parts path p k) j) k)
+    ∙ sym (λ j. declared_procedure frames (name_for_parts p j) (header_for (name_after (path_in frames) (normal (name_for_parts p j).text)) p k) k)

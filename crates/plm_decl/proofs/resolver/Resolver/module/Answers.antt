@@ -18,5 +18,5 @@ returns c =
     let is_main = ap not c.is_empty.ensures ∙ ap (λ (n : ℕ). not (nat_eq n 0)) ss.ok.0
     ∙ sym (has_statements_from (items_of (out-Block b).items.items) ss.items) ∙ sym (ap has_statements (block_parts b)) in
     c.in_ok-put_main.ensures
-    ∙ (λ j. with_main (is_main j) (did.value j) (did.known j))
+    ∙ (λ j. with_main (is_main j) (did j).0 (did j).2)
     ∙ (λ j. let r = block (frames j) (block_of b) k in with_main (has_statements (block_of b)) r.0 r.2)

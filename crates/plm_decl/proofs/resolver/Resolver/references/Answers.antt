@@ -19,9 +19,9 @@ loop-reference-preserved c =
     let rest = map tree.reference_of (drop (i + 1) xs) in
     let one = sym (add-one i) in
     let is = sym c.reference-item.is in
-    let pushed = ap view.references_of c.in_ok-push.ensures.items ∙ reference_pushed here.resolved.items did.field-0
-    ∙ ap (and_reference (view.references_of here.resolved.items)) did.ensures.value in
+    let pushed = ap view.references_of c.in_ok-push.ensures.items ∙ reference_pushed here.resolved.items did.field-0 in
     let at = ap (map tree.reference_of) (drop-cons xs i x c.loop-reference-test.true) ∙ (λ j. tree.reference_of (is j) ∷ map tree.reference_of (drop (one j) xs)) in
-    (λ j. targets_from frames (pushed j) rest (did.ensures.known j))
+    (λ j. targets_from frames (pushed j) rest (known_of c.reference.new.self))
+    ∙ (λ j. targets_from frames (and_reference (view.references_of here.resolved.items) (did.ensures j).0) rest (did.ensures j).1)
     ∙ ap (λ l. targets_from frames (view.references_of here.resolved.items) l (known_of here.self)) (sym at)
     ∙ here.invariant

@@ -1,9 +1,8 @@
-use Rattle.std.proofs.Common.{◌≡◌, List, map, sym, ap, ◌∙◌}
+use Rattle.std.proofs.Common.{List, map, sym, ◌∙◌}
 use Rattle.std.proofs.lemmas.List.{at_drop_all}
 use Rattle.plm_syntax.specs.declared.tree.Member.{Member}
 use Rattle.plm_syntax.specs.View.{member_of}
-use Rattle.plm_decl.specs.Layout.{StructureR, structure_of, no_fields}
-use Rattle.plm_decl.specs.Resolver.{Known}
+use Rattle.plm_decl.specs.Layout.{structure_of}
 use Rattle.plm_decl.specs.Inner.Resolver.{known_of}
 use Rattle.plm_decl.specs.Shape.{structure_for}
 use Rattle.plm_decl.proofs.resolver.Resolver.structure_with.Goals as goal
@@ -12,10 +11,5 @@ pub returns : goal.returns
 returns c =
     let place = c.args.place in
     let here = c.loop-member in
-    let all : (structure_of here.structure, known_of here.self) ≡ structure_for place (map member_of c.args.members.now) no_fields (known_of c.args.self.now) =
     sym (at_drop_all (λ (l : List Member). structure_for place (map member_of l) (structure_of here.structure) (known_of here.self)) c.args.members.now here.member-index c.loop-member-test.false)
-    ∙ here.invariant in
-    record {
-      structure = ap (λ (r : StructureR × Known). r.0) all;
-      known = ap (λ (r : StructureR × Known). r.1) all;
-    }
+    ∙ here.invariant
