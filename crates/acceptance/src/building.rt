@@ -242,7 +242,7 @@ fn put_procedure(text: &mut Vec<u8>, number: u16) -> Result<(), Fault> {
     Ok(())
 }
 
-/// A text with a procedure that calls none, so many others of which each one calls the one before, and a main that calls the last.
+/// A text with a procedure that calls none, this number of others of which each one calls the one before, and a main that calls the last.
 fn chain(alloc: Global, others: u16) -> Result<Vec<u8>, Fault> {
     let mut text = Vec::new(alloc);
     text.extend_from_slice(b"M: DO; PAAA: PROCEDURE; END; ")?;
@@ -268,7 +268,7 @@ fn stack_is_full(rt: HostRuntime) -> Result<(), Fail> {
     Ok(())
 }
 
-/// So many bytes are put out.
+/// This number of bytes are put out.
 fn puts_out(alloc: Global, bytes: u16) -> Result<Vec<u8>, Fault> {
     let mut text = Vec::new(alloc);
     text.extend_from_slice(b"M: DO;")?;

@@ -109,7 +109,7 @@ enum End {
     GoesOn,
 }
 
-/// The accesses of main's steps up to its HALT of this number, if it comes so far in 4,000 steps.
+/// The accesses of main's steps up to its HALT of this number, if it comes there in 4,000 steps.
 fn accesses_of(
     alloc: Global,
     code: &Code,
@@ -412,7 +412,7 @@ fn main_goes_on_behind_halts(rt: HostRuntime) -> Result<(), Fail> {
         run(alloc, forever, &[])?.0.as_slice(),
         [Label::Out(0x300, 1)].as_slice()
     );
-    // Behind its last statement main halts again and again.
+    // After its last statement main halts again and again.
     let waiting =
         b"M: DO; OUTPUT(20H) = 13H; OUTPUT(21H) = 8; OUTPUT(21H) = 1; OUTPUT(21H) = 0FEH; OUTPUT(43H) = 14H; OUTPUT(40H) = 4; HALT; OUTPUT(300H) = 1; END M;";
     let (labels, end) = labels_of(alloc, &[waiting], &[], 5)?;
@@ -531,7 +531,7 @@ fn rows_access_in_order(rt: HostRuntime) -> Result<(), Fail> {
         accesses_in(alloc, &[wrapping], &[2], 1)?.as_slice(),
         wanted.as_slice()
     );
-    // Targets from left to right; what an embedded assignment stores is read behind it.
+    // Targets from left to right; what an embedded assignment stores is read after it.
     let several =
         b"M: DO; DECLARE A BYTE, B WORD; A, B = 300; OUTPUT(300H) = A; OUTWORD(302H) = B; OUTPUT(304H) = (A := 5) + A; END M;";
     let wanted = [

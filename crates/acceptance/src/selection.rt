@@ -20,7 +20,7 @@ fn is_part(part: &Part, entry: Entry, bytes: &[u8]) -> bool {
     part.entry == entry && part.bytes.as_slice() == bytes && part.fixups.is_empty()
 }
 
-/// The parts of a section; of no one behind the last.
+/// The parts of a section; none past the last.
 pub(crate) fn section_of(alloc: Global, code: &Code, section: usize) -> Result<Vec<Part>, Fault> {
     if section < code.sections {
         select_section(alloc, code, section)

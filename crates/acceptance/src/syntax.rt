@@ -275,7 +275,7 @@ fn literals(rt: HostRuntime) {
     check(&rt, rt.alloc(), ROWS);
 }
 
-/// A text with a part so many times.
+/// A text with a part repeated this number of times.
 fn repeated(
     alloc: Global,
     before: &[u8],

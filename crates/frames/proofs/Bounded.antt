@@ -78,7 +78,7 @@ module _ (offsets sizes : List ℕ) (code : Routine → List Instruction) (level
   abbrev pub Standing : Context → Type 0
   Standing (At r p a ws) = (ps : List Position) × IsPath code begin ps r × Shape (height (code r) p) ps ws
 
-  -- behind a division by zero
+  -- after a division by zero
   abbrev pub Lost : Context → Type 0
   Lost (At r p a ws) = (r ≡ Nowhere) × (length ws ≤ most)
 

@@ -39,7 +39,7 @@ module _ (code : Routine → List Instruction) (count n : ℕ) (place : ℕ → 
   bounds : (begin : Routine) (ps : List Position) (r : Routine) (k : ℕ) → IsPath code begin ps r → height (code r) k + words_along code ps ≤ (of begin).words
   bounds begin ps r k path = omega (arith, needing.heights t 0 (code r) k, climbs begin ps r path)
 
-  -- ---- one pushes so many
+  -- ---- what one pushes
 
   abbrev Reached : Routine → ℕ → Type 0
   Reached begin m = (ps : List Position) × (r : Routine) × (k : ℕ) × IsPath code begin ps r × (height (code r) k + words_along code ps ≡ m)

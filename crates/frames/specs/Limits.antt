@@ -9,14 +9,14 @@ use Rattle.icode.specs.Counted.{IsPath, IsHandler, IsCounted}
 use Rattle.icode.specs.Levels.{height}
 use Rattle.frames.specs.Counting.{IsPastRoom}
 
--- Nowhere has a routine pushed more words than this; a path of calls from main has at most so many calls, and one from what an
--- interrupt enters so many. A path of calls has as many procedures as calls, and what an interrupt enters is one more.
+-- Nowhere has a routine pushed more than this number of words; a path of calls from main has at most main_calls calls, and one from
+-- what an interrupt enters at most interrupt_calls. A path has as many procedures as calls, and what an interrupt enters is one more.
 pub record IsLimited (c : Code) (words main_calls interrupt_calls : ℕ) : Type 0 where
   pub low : (r : Routine) (k : ℕ) → height (code_of c r) k ≤ words
   pub from_main : (ps : List Position) (r : Routine) → IsPath (code_of c) Main ps r → length ps ≤ main_calls
   pub from_interrupt : (begin : Routine) → IsHandler c begin → (ps : List Position) (r : Routine) → IsPath (code_of c) begin ps r → length ps ≤ interrupt_calls
 
--- the words of a routine and of so many that are called on a path: each call pushes where it goes on
+-- the words of a routine and of those that are called on a path with this number of calls: each call pushes where it goes on
 abbrev pub words_of : (words calls : ℕ) → ℕ
 words_of words calls = words + calls * (words + 1)
 

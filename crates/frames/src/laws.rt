@@ -2,8 +2,8 @@
 
 ghost use Rattle.frames.specs.Limits.{StackIsBounded, SmallProgramsFit};
 
-/// Where no routine pushes more than so many words, and paths of calls from main and from what an interrupt enters have at most so
-/// many calls, what is counted is at most the sum along such paths.
+/// Where there is a limit to the words that a routine pushes, and one to the calls on a path from main and from what an interrupt
+/// enters, what is counted is at most the sum along such paths.
 pub fn stack_is_bounded()
     ensures { StackIsBounded }
 {}

@@ -55,7 +55,7 @@ impl Need {
         }
     }
 
-    // Of an instruction, where its routine has pushed so many values.
+    // Of an instruction at which its routine has pushed `height` values.
     fn met(needs: &[Need], instruction: Instruction, height: usize) -> Need
         requires { (q : ℕ) → (need_at needs.now q).words + 2 ^ 64 < 2 ^ 128 }
         ensures { result ≡ met (need_at needs.now) instruction height }
@@ -104,7 +104,7 @@ fn popped(test: Test) -> usize
     }
 }
 
-// How many values a routine has pushed behind an instruction, where it had pushed so many before.
+// How many values a routine has pushed after an instruction, of `height` before it.
 fn height_after(instruction: Instruction, height: usize) -> usize
     requires { height + 1 < 2 ^ 64 }
     ensures { result ≡ after instruction height }

@@ -133,7 +133,7 @@ in_object (Some x) = Some (In x.0 x.1)
 abbrev pub on_screen : (offset n : ℕ) → Option Where
 on_screen offset n = if nat_le 0x8000 offset && nat_le (offset + n) 0x8FA0 then Some (Screen (offset - 0x8000)) else None
 
--- a place so far on, modulo 65,536
+-- a place this distance on, modulo 65,536
 abbrev pub further : (place distance : ℕ) → ℕ
 further place distance = (place + distance) % 65536
 

@@ -17,7 +17,7 @@ use Rattle.i86_table.specs.declared.open.Spot.{Spot}
 use Rattle.i86_table.specs.declared.open.Open.{Open}
 use Rattle.i86_table.specs.declared.open.Open.TheVariants as opens
 
--- the address of so many bytes, or so many bytes from the base registers
+-- the address n, or n bytes from the base registers
 abbrev pub spot_address : Option Base → ℕ → Address
 spot_address None n = Direct n
 spot_address (Some b) n = Based b n

@@ -5,7 +5,7 @@ use Rattle.std.proofs.Math.ListN.{drop_of_length-le}
 use Rattle.std.proofs.lemmas.List.{reverse-append, length-reverse, take-append-drop}
 use Rattle.std.proofs.Math.Seq.{drop-append_seam}
 
--- what is left of a stack once so many words are gone from its top
+-- what is left of a stack once this number of words are gone from its top
 pub left_below : {A : Type 0} (xs : List A) (n : ℕ) → n ≤ length xs → drop n (reverse xs) ≡ reverse (take (length xs - n) xs)
 left_below xs n h =
     let m = length xs - n in

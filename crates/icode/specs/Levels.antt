@@ -12,7 +12,7 @@ abbrev pub popped : Test → ℕ
 popped (test.Top o) = 1
 popped _ = 0
 
--- how many values a routine has pushed behind an instruction, where it had pushed so many before
+-- how many values a routine has pushed after an instruction, of this number before it
 abbrev pub after : Instruction → ℕ → ℕ
 after op.Push h = suc h
 after (op.Drop n) h = h - n
@@ -32,7 +32,7 @@ behind h (x ∷ xs) = behind (after x h) xs
 abbrev pub height : List Instruction → ℕ → ℕ
 height all k = behind 0 (take k all)
 
--- where a jump leads, where the index behind it is p
+-- where a jump leads, where p is the index after it
 abbrev pub target : Instruction → (p : ℕ) → Option ℕ
 target (op.Ahead n) p = Some (p + n)
 target (op.AheadUnless t n) p = Some (p + n)
@@ -46,7 +46,7 @@ target _ p = None
 pub record IsLevelled (all : List Instruction) : Type 0 where
   -- a Drop takes no more values than the routine has pushed; others that find no value are Bad
   pub drops : (k n : ℕ) → slice_get all k ≡ Some (op.Drop n) → n ≤ height all k
-  -- no value is pushed behind a jump, and none where it leads
+  -- no value is pushed after a jump, and none where it leads
   pub flat : (k t : ℕ) (x : Instruction) → slice_get all k ≡ Some x → target x (k + 1) ≡ Some t → (height all (k + 1) ≡ 0) × (height all t ≡ 0)
 
 -- ---- the order of procedures
@@ -61,7 +61,7 @@ abbrev pub place_in : List ℕ → ℕ → ℕ
 place_in [] p = 0
 place_in (x ∷ xs) p = cond (nat_eq x p) 0 (suc (place_in xs p))
 
--- each procedure stands in it once, behind those that it calls
+-- each procedure stands in it once, after those that it calls
 pub record AreOrdered (order : List ℕ) (procedures : List Procedure) : Type 0 where
   pub each : (p : ℕ) → p < length procedures → slice_get order (place_in order p) ≡ Some p
   pub once : (i p : ℕ) → slice_get order i ≡ Some p → place_in order p ≡ i

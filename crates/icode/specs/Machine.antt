@@ -82,7 +82,7 @@ abbrev pub left : Option Position → ℕ → List Word → Action Access Contex
 left (Some p) a ws = Silent (At p.routine p.index a ws)
 left None a ws = Bad 0 0
 
--- a context without its newest words, if it has so many
+-- a context without its n newest words, if it has as many
 abbrev pub dropped : (n : ℕ) → Routine → (next accumulator : ℕ) → List Word → Action Access Context
 dropped n r p a ws = if nat_le n (length ws) then Silent (At r p a (drop n ws)) else Bad 0 0
 
@@ -97,7 +97,7 @@ switched _ r p a ws = Bad 0 0
 
 -- the objects' offsets and sizes
 module _ (offsets sizes : List ℕ) where
-  -- the address so many bytes behind a place
+  -- the address this number of bytes after a place
   abbrev pub address : Place → ℕ → ℕ
   address (place.Ram k i) more = (slice_index offsets k + i + more) % 65536
   address (place.Screen i) more = (screen_begins + i + more) % 65536
@@ -114,7 +114,7 @@ module _ (offsets sizes : List ℕ) where
   jumped (test.Plain o read x) r p q a ws = loaded read (found read x (address x 0)) (λ v. At r (if stands o a v then p else q) a ws)
   jumped (test.Top o) r p q a ws = with_value (value_on_top ws) (λ v. Silent (At r (if stands o v a then p else q) a (drop 1 ws)))
 
-  -- an instruction among those of its routine; the index of the instruction behind it; the accumulator; the words
+  -- an instruction among those of its routine; the index of the instruction after it; the accumulator; the words
   module _ (all : List Instruction) where
     abbrev pub run : Instruction → Routine → (next accumulator : ℕ) → List Word → Action Access Context
     run (op.Constant k) r p a ws = Silent (At r p k ws)

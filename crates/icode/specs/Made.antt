@@ -18,7 +18,7 @@ constant_in (op.AheadUnless t n) = asked_constant t
 constant_in (op.BackUnless t n) = asked_constant t
 constant_in _ = 0
 
--- how many cases stand behind an instruction
+-- how many cases stand after an instruction
 abbrev pub cases_of : Instruction → ℕ
 cases_of (op.Switch n) = n
 cases_of _ = 0

@@ -15,7 +15,7 @@ Leads Over e = ⊥
 Leads (Bad file line) e = ⊥
 
 module _ (next : Context → Action Access Context) (begin : Context) where
-  -- the code comes to a context in so many steps
+  -- the code comes to a context in this number of steps
   abbrev pub Comes : ℕ → Context → Type 0
   Comes zero d = begin ≡ d
   Comes (suc n) d = (c : Context) × Comes n c × Leads (next c) d

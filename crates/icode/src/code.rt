@@ -47,7 +47,7 @@ pub struct Code {
     pub main_module: usize,
     pub main: Vec<Instruction>,
     pub procedures: Vec<Procedure>,
-    /// The procedures' numbers, each behind those that it calls.
+    /// The procedures' numbers, each after those that it calls.
     pub order: Vec<usize>,
     pub ghost main_levelled: { IsLevelled main.items },
     pub ghost levelled: { (p : ℕ) → IsLevelled (instructions_of (slice_get procedures.items p)) },

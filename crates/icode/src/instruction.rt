@@ -34,17 +34,17 @@ pub enum Instruction {
     Constant(u16),
     /// It gets the address of a place.
     Locate(Place),
-    /// It gets the address so many bytes behind a place as it says.
+    /// It gets the address that lies as many bytes after a place as it says.
     LocateAt(Place),
-    /// It gets what is read at a place; so many bytes behind a place as it says; at the address in it.
+    /// It gets what is read at a place; as many bytes after a place as it says; at the address in it.
     Load(Width, Place),
     LoadAt(Width, Place),
     LoadThere(Width),
     /// The accumulator is pushed.
     Push,
-    /// The accumulator gets the value that so many words lie above, which stays.
+    /// The accumulator gets the value that this number of words lie on, which stays.
     Pick(usize),
-    /// So many words go from the top.
+    /// This number of words go from the top.
     Drop(usize),
     /// An operator on the accumulator.
     Unary(UnaryOperation, Width),
@@ -55,7 +55,7 @@ pub enum Instruction {
     BinaryPlain(BinaryOperation, Width, Width, Place),
     /// The accumulator is written at a place, and stays as it is.
     Store(Width, Place),
-    /// The value on top, which goes, is written, so many bytes behind a place as the accumulator says, or at the address in it;
+    /// The value on top, which goes, is written, as many bytes after a place as the accumulator says, or at the address in it;
     /// the accumulator gets the value.
     StoreAt(Width, Place),
     StoreThere(Width),
@@ -66,15 +66,15 @@ pub enum Instruction {
     /// The accumulator gets what is read from the port in it; from a port.
     Receive(Width),
     ReceiveFrom(Width, u16),
-    /// On over so many instructions of the same routine; there unless a test holds.
+    /// On over this number of instructions of the same routine; there unless a test holds.
     Ahead(usize),
     AheadUnless(Test, usize),
-    /// Back over so many, this one among them; there unless a test holds.
+    /// Back over this number of them, this one among them; there unless a test holds.
     Back(usize),
     BackUnless(Test, usize),
-    /// On by the one of so many cases that follow which the accumulator counts from 0, or behind them all.
+    /// On by one of the cases that follow, of this number, which the accumulator counts from 0, or past them all.
     Switch(usize),
-    /// A case of a `Switch`: on from it over so many instructions. It is no instruction of its own.
+    /// A case of a `Switch`: on from it over this number of instructions. It is no instruction of its own.
     Case(usize),
     /// A procedure is called, by its number; it leaves for where it was called.
     Invoke(usize),

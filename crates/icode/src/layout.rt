@@ -23,7 +23,7 @@ fn bytes(width: Width) -> u64
     }
 }
 
-// Whether so many bytes from the address on are among the size bytes from the first on.
+// Whether `count` bytes from the address on are among the `size` bytes from the first on.
 fn covers(first: u16, size: u64, address: u16, count: u64) -> bool
     ensures { result ≡ covers first size address count }
 {
@@ -42,7 +42,7 @@ impl Layout<'_> {
         }
     }
 
-    /// The address so many bytes behind a place, modulo 65,536.
+    /// The address `more` bytes after a place, modulo 65,536.
     pub fn address(self, place: Place, more: u16) -> u16
         ensures { result ≡ address self.entry.offsets.now self.entry.sizes.now place more }
     {
@@ -85,7 +85,7 @@ impl Layout<'_> {
         }
     }
 
-    // What lies so many bytes behind a place.
+    // What lies `more` bytes after a place.
     pub(crate) fn reached(self, width: Width, place: Place, more: u16) -> Option<Place>
         ensures { option_map where_of result ≡ found self.entry.offsets.now self.entry.sizes.now width place (address self.entry.offsets.now self.entry.sizes.now place more) }
     {

@@ -150,7 +150,7 @@ impl Context {
         }
     }
 
-    // So many words go from the top.
+    // `count` words go from the top.
     fn remove(&mut self, count: usize)
         ensures words { words_of self.new ≡ drop count (words_of self.old) }
         ensures position { self.new.position ≡ self.old.position }
@@ -160,7 +160,7 @@ impl Context {
         self.words.truncate(left);
     }
 
-    // So many words go, if there are so many.
+    // `count` words go, if there are as many.
     fn discard(&mut self, next: usize, count: usize, answer: u16) -> Result<Step, Stop>
         ensures { Does (dropped count self.old.position.routine next self.old.accumulator (words_of self.old)) answer self.old self.new result }
     {
@@ -171,7 +171,7 @@ impl Context {
         Ok(self.go_on(next, self.accumulator))
     }
 
-    // The value that so many words lie above.
+    // The value that `above` words lie on.
     fn picked(&self, above: usize) -> Option<u16>
         ensures { result ≡ value_in (slice_get (words_of self.now) above) }
     {
@@ -381,7 +381,7 @@ impl Context {
         Ok(Step::Silent)
     }
 
-    // On over so many instructions. A place beyond what memory can hold is refused as want of it.
+    // On over `count` instructions. A place beyond what memory can hold is refused as want of it.
     fn ahead(&mut self, next: usize, count: usize, answer: u16) -> Result<Step, Stop>
         ensures { Does (Silent (At self.old.position.routine (next + count) self.old.accumulator (words_of self.old))) answer self.old self.new result }
     {
@@ -435,7 +435,7 @@ impl Context {
         }
     }
 
-    // On by the case that the accumulator counts, or behind so many.
+    // On by the case that the accumulator counts, or past all cases.
     fn choose(
         &mut self,
         all: &[Instruction],
@@ -589,7 +589,7 @@ impl Context {
         }
     }
 
-    // Those that do not go on behind themselves alone. A case is no instruction of its own.
+    // Those that do not only go on at the next one. A case is no instruction of its own.
     fn make_jump(
         &mut self,
         layout: Layout<'_>,

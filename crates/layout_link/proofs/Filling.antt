@@ -35,7 +35,7 @@ pub word_is : (a : List ℕ) (m : ℕ) (z : List ℕ) → word_in (a ++ (word_by
 word_is a m z = let p = first a (m % 256) (m / 256 ∷ z) in let q = second a (m % 256) (m / 256) z in omega (arith, p, q)
 
 module _ (offsets places : List ℕ) (base : ℕ) where
-  -- one word, behind these bytes
+  -- one word, after these bytes
   one_filled : (a : List ℕ) (m : ℕ) (z : List ℕ) (f : Fixup) → f.place ≡ length a → filled_one offsets places base (a ++ (word_bytes m ++ z)) f ≡ a ++ (word_bytes ((m + value_of offsets places base f) % 65536) ++ z)
   one_filled a m z f at =
       let whole = a ++ (word_bytes m ++ z) in

@@ -19,7 +19,7 @@ puts to (a ∷ b ∷ rest) = tasks.Word to (a + 256 * b) ∷ puts (to + 2) rest
 abbrev pub is_copied : (copies count : ℕ) → Bool
 is_copied copies count = nat_lt copies 840 && nat_le 5 count
 
--- what is done for an object with these bytes there, where so many bytes and objects are copied before it
+-- what is done for an object with these bytes there, where `at` bytes of `copies` objects are copied before it
 abbrev pub object_tasks : (at copies to : ℕ) → List ℕ → List Task
 object_tasks at copies to bytes = if is_copied copies (length bytes) then tasks.Copy at to (length bytes - 1) ∷ [] else puts to bytes
 
@@ -41,7 +41,7 @@ module _ (offsets : List ℕ) (variables : List Variable) where
   HaveBytes [] = Unit {0}
   HaveBytes (o ∷ os) = AreBytes (object_bytes o) × HaveBytes os
 
-  -- what is done for the objects from the k-th on, where so many bytes and objects are copied before them; the data segment is 0040H
+  -- what is done for the objects from the k-th on, where `at` bytes of `copies` objects are copied before them; the data segment is 0040H
   abbrev pub data_tasks : (at copies k : ℕ) → List Object → List Task
   data_tasks at copies k [] = []
   data_tasks at copies k (o ∷ os) =

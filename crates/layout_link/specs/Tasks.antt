@@ -54,7 +54,7 @@ abbrev pub vector_task : (vector : ℕ) → Option ℕ → List Task
 vector_task v None = []
 vector_task v (Some p) = tasks.Vector v p ∷ []
 
--- so many vectors from one on
+-- this number of vectors, from one on
 unfoldable pub vector_tasks : List Part → (vector count : ℕ) → List Task
 vector_tasks parts v zero = []
 vector_tasks parts v (suc n) = vector_task v (serving parts v) ++ vector_tasks parts (suc v) n

@@ -107,7 +107,7 @@ fn put(tasks: &mut Vec<Task>, to: u16, bytes: &[u8]) -> Result<(), Fault>
     Ok(())
 }
 
-/// Whether an object with so many bytes is copied, where so many are before it.
+/// Whether an object with `count` bytes is copied, where `copies` objects are copied before it.
 fn is_copied(copies: usize, count: usize) -> bool
     ensures { result ≡ is_copied copies count }
 {

@@ -41,7 +41,7 @@ fn room_behind(tasks: &[Task], room: usize) -> Option<usize>
     Some(left)
 }
 
-/// The bytes of start-up, if it, the parts and so many initial bytes fit a ROM; E601 exactly if they do not.
+/// The bytes of start-up, if it, the parts and the initial bytes, `initial` in number, fit a ROM; E601 exactly if they do not.
 fn head_of(tasks: &[Task], parts: &[Part], initial: usize, size: RomSize) -> Result<usize, Fault>
     ensures head { IfOk result (λ head. head ≡ 39 + bytes_of_tasks tasks.now) }
     ensures fits { OnOk result (39 + bytes_of_tasks tasks.now + total_of parts.now + initial + 16 ≤ bytes_in size) }

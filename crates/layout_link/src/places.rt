@@ -7,7 +7,7 @@ use select::Part;
 use std::alloc::Global;
 use word86::Fault;
 
-/// Whether the parts have together at most so many bytes.
+/// Whether the parts have together at most `room` bytes.
 pub(crate) fn are_within(parts: &[Part], room: usize) -> bool
     ensures { IsTrue result ↔ (total_of parts.now ≤ room) }
 {

@@ -90,7 +90,7 @@ fn to_entry(entry: u16) -> [Instr; 8]
     ]
 }
 
-/// Loads the segments and the stack pointer, and goes on so far.
+/// Loads the segments and the stack pointer, and jumps this distance.
 fn to_main(distance: u16) -> [Instr; 7]
     ensures { result ≡ to_main distance }
 {
@@ -106,7 +106,7 @@ fn to_main(distance: u16) -> [Instr; 7]
     ]
 }
 
-/// One byte and so many more are copied.
+/// One byte and `more` after it are copied.
 fn copy(head: &mut Vec<Instr>, from: u16, to: u16, more: u16) -> Result<(), Fault>
     ensures items { OnOk result (head.new.items ≡ head.old.items ++ instructions_of (Rattle.layout_link.specs.Startup.Copy from to more)) }
     ensures memory { IsOkUnless result Fault.Memory }
@@ -144,8 +144,8 @@ fn perform(head: &mut Vec<Instr>, task: Task, places: &[u16], from: u16) -> Resu
     }
 }
 
-/// Start-up: every vector leads to this entry; then come the tasks; then the segments and the stack pointer are loaded, and it goes
-/// on so far.
+/// Start-up: every vector leads to this entry; then come the tasks; then the segments and the stack pointer are loaded, and it
+/// jumps to main.
 pub(crate) fn start_up(
     alloc: Global,
     entry: u16,

@@ -16,7 +16,7 @@ pub enum Task {
     Word { to: u16, word: u16 },
     /// A byte is put there.
     Byte { to: u16, byte: u8 },
-    /// One byte and so many more are copied there, from so far behind the first of the initial bytes on.
+    /// One byte and `more` after it are copied there, from the initial byte with the index `at` on.
     Copy { at: usize, to: u16, more: u16 },
 }
 

@@ -5,7 +5,7 @@ ghost use Rattle.layout_link.specs.Inner.Words.{value_of, filled_one, filled};
 
 use select::{Fixup, Kind};
 
-/// The number at an index of a list, or 0 behind its end.
+/// The number at an index of a list, or 0 past its end.
 pub(crate) fn number_at(numbers: &[u16], index: usize) -> u16
     ensures { result ≡ slice_index numbers.now index }
 {

@@ -70,7 +70,7 @@ pub names_from : (lines : List (List ℕ)) (done : ℕ) (names : List ScreenName
 names_from lines done names j s lt at =
     at_drop_more (declared_lines lines done) names j s lt ∙ ap (λ (x : ScreenName). declared_lines lines done (x ∷ drop (j + 1) names)) (sym at)
 
--- behind the last screen name stand all objects that are left
+-- after the last screen name stand all objects that are left
 pub names_none : (offsets : List ℕ) (objects : List Object) (done : ℕ) (names : List ScreenName) (j : ℕ) → length names ≤ j
     → declared_lines (object_lines offsets 0 objects) done (drop j names) ≡ concat (slice_range (object_lines offsets 0 objects) done (length objects))
 names_none offsets objects done names j le = at_drop_all (declared_lines (object_lines offsets 0 objects) done) names j le ∙ sym (objects_left offsets objects done)

@@ -41,7 +41,7 @@ abbrev pub handler_line : ℕ → Option (List ℕ) → List ℕ
 handler_line number None = []
 handler_line number (Some name) = codes "HANDLER " ++ hex2 number ++ codes " " ++ name ++ line_end
 
--- a line for each interrupt that has a handler, of so many from this number on
+-- a line for each interrupt that has a handler, of `count` from this number on
 unfoldable pub handler_lines : ℕ → ℕ → List Procedure → List ℕ
 handler_lines zero number procedures = []
 handler_lines (suc count) number procedures = handler_line number (handler_of number procedures) ++ handler_lines count (number + 1) procedures

@@ -1,4 +1,4 @@
--- The listing of a source: each line with its number, and behind it the warnings at it.
+-- The listing of a source: each line with its number, and after it the warnings at it.
 use Rattle.std.specs.Prelude.{ℕ, ◌+◌, ◌-◌, Bool, false, ◌&&◌, ◌==◌, if◌then◌else◌, List, [], ◌∷◌, ◌++◌, length, take, codes, decimal}
 use Rattle.std.specs.List.{flat_map}
 use Rattle.plm_type.specs.declared.sharing.Warning.{Warning}
@@ -35,7 +35,7 @@ warning_line = codes "***** " ++ number_text W1 ++ line_end
 abbrev pub warning_lines : ℕ → List Warning → List ℕ
 warning_lines number warnings = flat_map (λ w. if w.line == number then warning_line else []) warnings
 
--- the lines from this number on, each with its warnings behind it
+-- the lines from this number on, each with its warnings after it
 abbrev pub listing_lines : ℕ → List Warning → List (List ℕ) → List ℕ
 listing_lines number warnings [] = []
 listing_lines number warnings (line ∷ lines) = (numbered_line number line ++ warning_lines number warnings) ++ listing_lines (number + 1) warnings lines

@@ -1,4 +1,4 @@
-//! The listing of a source: each line with its number, and behind it the warnings at it.
+//! The listing of a source: each line with its number, and after it the warnings at it.
 
 ghost use Rattle.std.specs.Prelude.{◌≡◌, ◌+◌, ◌<◌, ◌≤◌, false, ℕ, List, [], ◌∷◌, ◌++◌, length, if◌then◌else◌, ◌==◌, IfOk, IfErr};
 ghost use Rattle.std.specs.List.{All};
@@ -14,7 +14,7 @@ use plm_type::Warning;
 use word86::{Fault, Number, Sink, SinkFault};
 
 /// Writes the listing of a source with its warnings, which may stand in any order: each line with its number from 1 on, right
-/// in five places, and behind it a line for each warning at it. The one refusal is E704, where the sink failed; what it took
+/// in five places, and after it a line for each warning at it. The one refusal is E704, where the sink failed; what it took
 /// is then a beginning of the text. It takes no memory.
 pub fn listing<S: Sink>(source: &[u8], warnings: &[Warning], sink: &mut S) -> Result<(), Fault>
     ensures text { Writes (S.taken sink.old) (S.taken sink.new) (S.failures sink.old) (S.failures sink.new) (listing_text source.now warnings.now) result }

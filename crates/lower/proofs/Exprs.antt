@@ -84,7 +84,7 @@ length_pushed (v ∷ vs) ws = omega (arith, length_pushed vs (words.Value v ∷ 
 
 -- ---- subscripts
 
--- so many bytes are in the accumulator behind subscripts, over which an offset has moved on
+-- the accumulator holds these bytes after subscripts, over which an offset has moved on
 abbrev pub Reached : Subscripts → ℕ → ℕ → ℕ → Type 0
 Reached NoSubscripts offset further more = offset ≡ further
 Reached (Subscript stride e ss) offset further more = (offset + more) % 65536 ≡ further % 65536
@@ -161,7 +161,7 @@ module _ (x : Setting) where
   pub soon : (n f g : ℕ) (R : Rest) (i : Context) → f ≤ g → S x 2 n f R i → T x n g R i
   soon n f g R i le h = then_ x 2 n f g R i (omega arith) le h
 
-  -- a value that is used, behind a call
+  -- a value that is used, after a call
   pub used_then : (g : Bool) (n : ℕ) (C : Expression → Rest) (r : Routine) (p : ℕ) (ws : List Word) → HasAt (x.code r) p (used g) → After n C r (p + length (used g)) ws → Left g n C r p ws
   used_then true n C r p ws has after = after_at n C r (p + 0) p ws (omega arith) after
   used_then false n C r p ws has after = λ R i a u e.
@@ -299,7 +299,7 @@ module _ (x : Setting) where
       (acts x r p more ws (op.BinaryPlain binary.Add widths.Word widths.Word (place_of base)) has ∙ ap (λ o. loaded widths.Word o (λ b. At r (p + 1) ((more + b) % 65536) ws)) (found_plain x widths.Word base lies))
       (λ b lt. k b ((more + b) % 65536) (λ z. from_both b offset further more is z) (from_both_on b offset further more is))
 
-  -- ---- what stands behind the subscripts of a reference
+  -- ---- what comes after the subscripts of a reference
 
   module _ (n : ℕ) (C : Expression → Rest) (cx : IsHole x C) (r : Routine) (ws : List Word) (m l : ℕ) where
     variable_is : (w : Width) (anchor : Anchor) (further a : ℕ) → address_of x.offsets x.sizes x.procedures (Refer m l anchor further NoSubscripts) ≡ Some a
@@ -369,7 +369,7 @@ module _ (x : Setting) where
         (moved_to x.room n 2 (C (Value ((b + further) % 65536))) r (p + length (based base offset ss)) (p + 1 + length (moved offset)) ((b + further) % 65536) ws (omega arith) (after ((b + further) % 65536) (omega arith))))
     locate_final (There b) lies ss offset further more is p has after = absurd lies
 
-  -- ---- what stands behind the subscripts of a target
+  -- ---- what comes after the subscripts of a target
 
   module _ (n v : ℕ) (C : Target → Rest) (done : Rest) (tx : IsTargetHole x v C done) (r : Routine) (ws : List Word) (m l : ℕ) where
     pub fixed_written : (w : Width) (anchor : Anchor) → AnchorLies x.sizes anchor → IsFixed anchor → (offset further more : ℕ) → (offset + more) % 65536 ≡ further % 65536 → (i : Context) (p : ℕ)

@@ -71,7 +71,7 @@ next_level x Computed code before k = level_then code (add_pushed x (before + le
 
 -- which procedures may be called; whether ENABLE and HALT may stand; whether the end of an interrupt procedure may; where jumps may lead
 module _ (MayCall : ℕ → Type 0) (Enables Finishes : Type 0) (Spot : ℕ → Type 0) where
-  -- at an index, where so many values are pushed, before others
+  -- at an index, where this number of values are pushed, before others
   abbrev pub Fit : (p h : ℕ) → Instruction → List Instruction → Type 0
   Fit p h (op.Constant k) more = k < 65536
   Fit p h (op.BinaryConstant o width k) more = k < 65536
@@ -142,7 +142,7 @@ module _ (MayCall : ℕ → Type 0) (Enables Finishes : Type 0) (Spot : ℕ → 
   pub spots_last : (p : ℕ) (xs : List Instruction) → behind 0 xs ≡ 0 → Spots p xs → Spot (p + length xs)
   spots_last p xs keeps s = s (length xs) (omega arith) (ap (behind 0) (take-length xs) ∙ keeps)
 
-  -- behind an instruction after which no value is pushed
+  -- where the instruction before leaves no value pushed
   spots_over : (p : ℕ) (xs : List Instruction) (x : Instruction) (ys : List Instruction) → after x (behind 0 xs) ≡ 0 → Spots p (xs ++ (x ∷ ys)) → Spots (suc (p + length xs)) ys
   spots_over p xs x ys keeps s k le e =
       subst Spot (omega arith) (s (length xs + suc k) (omega (arith, le, length-append xs (x ∷ ys)))

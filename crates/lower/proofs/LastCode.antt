@@ -22,7 +22,7 @@ first_false : (a b : Bool) → a ≡ false → (a && b) ≡ false
 first_false true b h = absurd (true≢false h)
 first_false false b h = refl
 
--- what stands behind nothing but silent statements is silent
+-- what comes after nothing but silent statements is silent
 pub silent_behind : (ss : List (Box Statement)) (k : ℕ) → are_silent (statements_of ss) ≡ true → are_silent (statements_of (drop k ss)) ≡ true
 silent_behind ss zero h = h
 silent_behind [] (suc k) h = refl

@@ -183,7 +183,7 @@ operated_stays m h o width (Name read x) code s = let le = begins m (suc h) (suc
 operated_stays m h o width Computed code s =
     pushes m h h (code ++ op.Binary o width ∷ []) (then_stays m (suc h) (suc h) h code (op.Binary o width ∷ []) s (spends m h (op.Binary o width) (omega arith) (begins m (suc h) (suc h) code s)))
 
--- behind a right operand stands its test
+-- after a right operand comes its test
 beside_stays : (m : ℕ) (o : Relation) (right : Operand) (code : List Instruction) → Stays m 1 1 code → Stays m 0 (popped (stands_to o right)) (beside right code)
 beside_stays m o (Number k) code s = (omega arith, refl)
 beside_stays m o (Name read x) code s = (omega arith, refl)

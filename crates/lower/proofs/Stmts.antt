@@ -180,7 +180,7 @@ module _ (x : Setting) (MayCall : ℕ → Type 0) (calls : (q : ℕ) → MayCall
   StatementsRun ss = are_silent ss ≡ false → (n : ℕ) → Returns around n → (exit : ℕ) (later : Statements) (p k : ℕ) → k + leads ss ≤ x.room → HasAt (x.code r) p (statements_code x.procedures around exit ss)
       → K k 2 n later (p + length (statements_code x.procedures around exit ss)) → K k 1 n later (p + length (statements_code x.procedures around exit ss) + exit) → K (k + leads ss) 1 n (behind ss later) p
 
-  -- the same behind an instruction that came with a step
+  -- the same after an instruction that came with a step
   abbrev pub ArmRuns : Statements → Type 0
   ArmRuns ss = (n : ℕ) → Returns around n → (exit : ℕ) (later : Statements) (p k : ℕ) → k + leads ss ≤ x.room → HasAt (x.code r) p (statements_code x.procedures around exit ss)
       → K k 2 n later (p + length (statements_code x.procedures around exit ss)) → K k 1 n later (p + length (statements_code x.procedures around exit ss) + exit) → K (k + leads ss) 2 n (behind ss later) p
@@ -201,7 +201,7 @@ module _ (x : Setting) (MayCall : ℕ → Type 0) (calls : (q : ℕ) → MayCall
       let none = ap length (silent_code x.procedures around s e exit) in
       silent_sim s e n k 2 later p (omega arith) (k_at k 2 n later (p + length (code_at exit s)) p (omega (arith, none)) to)
 
-  -- a statement, and those behind it
+  -- a statement, and those after it
   pair_runs : (s : Statement) (rest : Statements) → StatementRuns s → StatementsRun rest → (bs br : Bool) → is_silent s ≡ bs → are_silent rest ≡ br → (bs && br) ≡ false → (n : ℕ) → Returns around n → (exit : ℕ) (later : Statements) (p k : ℕ) → k + (lead s + leads rest + 1) ≤ x.room
       → HasAt (x.code r) p (code_at (exit_before br exit) s ++ codes_at exit rest) → K k 2 n later (p + length (code_at (exit_before br exit) s ++ codes_at exit rest)) → K k 1 n later (p + length (code_at (exit_before br exit) s ++ codes_at exit rest) + exit)
       → K (k + (lead s + leads rest + 1)) 1 n (Then s (behind rest later)) p
@@ -266,7 +266,7 @@ module _ (x : Setting) (MayCall : ℕ → Type 0) (calls : (q : ℕ) → MayCall
       (expression_sim x MayCall calls e ge n (λ y. D (evaluated (value_of y) y later)) (in_evaluate x D dx later) r p ws has
       (λ v lt. to_room k n later (p + length (expression_code x.procedures e)) v (omega (arith, small)) to) a))
 
-  -- behind a call whose value is dropped the accumulator is not asked for
+  -- after a call whose value is dropped the accumulator is not asked for
   left_out : (g : Bool) (n : ℕ) (later : Statements) (p k : ℕ) → k ≤ x.room → K k 2 n later p → Left x g n (λ y. D (evaluated (value_of y) y later)) r p ws
   left_out true n later p k small to = λ v lt. to_room k n later p v small to
   left_out false n later p k small to = λ R i a u e. both x 0 n 1 R (D later) i (At r p a ws) u e (then_ x x.room n 2 2 (D later) (At r p a ws) (omega arith) (omega arith) (to_room k n later p a small to))
@@ -567,7 +567,7 @@ module _ (x : Setting) (MayCall : ℕ → Type 0) (calls : (q : ℕ) → MayCall
         both_more x 1 n 0 (D (Then (Ending sum l) later)) (D later) i (At r pe z ws) (dx (Then (Ending sum l) later) refl ∙ ap (λ b. Silent (D (if b then Then (Round l) later else later))) e) (h ∙ ap (λ b. Silent (At r (if not b then pe else pr) z ws)) e)
         (then_ x k n 2 2 (D later) (At r pe z ws) (omega (arith, small)) (omega arith) (k_fewer k 2 n later pe go z))
 
-    -- the sum is stored, and tested by the jump behind
+    -- the sum is stored, and tested by the jump after it
     storing_then : (n sum : ℕ) (us : List Word) (p : ℕ) → slice_get (x.code r) p ≡ Some (op.Store w (place_of y.place)) → S x 2 n 0 (D (Then (Ending sum l) later)) (At r (p + 1) (low w sum) us) → S x 2 n 0 (D (Then (Storing sum l) later)) (At r p (low w sum) us)
     storing_then n sum us p h k =
         let z = low w sum in

@@ -200,7 +200,7 @@ module _ (x : Setting) (MayCall : ℕ → Type 0) (calls : (q : ℕ) → MayCall
     expression_sim (Passing q xs vs) good n C cx r p ws has after a = absurd good
     expression_sim (Running ss) good n C cx r p ws has after a = absurd good
 
-    -- a call, behind which its value may be left out
+    -- a call, after which its value may be left out
     pub call_sim : (es : Expressions) (q : ℕ) (good : IsExpression x.sizes x.procedures MayCall (Call q es)) (n : ℕ) (C : Expression → Rest) → IsHole x C → (r : Routine) (p : ℕ) (ws : List Word) → HasAt (x.code r) p (calling x.procedures q es)
         → Left x (are_giving good.0.0.body) n C r (p + length (calling x.procedures q es)) ws → (a : ℕ) → S x 2 n 0 (C (Call q es)) (At r p a ws)
     call_sim NoMore q good n C cx r p ws has after a =

@@ -37,7 +37,7 @@ pub chain_is : (e : Expression) (os : List Operation) → 1 ≤ length os → op
 chain_is e [] h = absurd (omega (arith, h))
 chain_is e (o ∷ os) h = chain_computed _ os refl
 
--- no operators behind the left operand
+-- no operators after the left operand
 pub chain_none : (e : Expression) (os : List Operation) → length os ≡ 0 → chained e os ≡ e
 chain_none e [] h = refl
 chain_none e (o ∷ os) h = absurd (omega (arith, h))
@@ -70,7 +70,7 @@ pub based_behind : (base : Place) (offset : ℕ) (ss : List Subscript) → 1 ≤
 based_behind base offset [] h = absurd (omega (arith, h))
 based_behind base offset (s ∷ ss) h = ap (λ p. op.BinaryPlain binary.Add widths.Word widths.Word p ∷ moved offset) (same_place base)
 
--- behind subscripts at a fixed place
+-- after subscripts at a fixed place
 pub reading_behind : (width : Width) (a : declared_anchor.Anchor) (offset : ℕ) (ss : List Subscript) → ((base : Place) → a ≡ anchors.Based base → ⊥) → 1 ≤ length ss
     → reading width (anchor_of a) offset (subscripts_of ss) ≡ op.LoadAt width (anchor_place (anchor_of a) offset) ∷ []
 reading_behind width a offset [] fixed h = absurd (omega (arith, h))

@@ -62,18 +62,18 @@ operation o width Computed = op.Binary o width
 
 -- ---- references
 
--- so many bytes behind the first of an anchor that lies at a fixed place
+-- the place at this offset from an anchor that lies at a fixed place
 abbrev pub anchor_place : Anchor → ℕ → Place
 anchor_place (InObject k start size) offset = places.Ram k ((start + offset) % 65536)
 anchor_place (OnScreen start size) offset = places.Screen ((start + offset) % 65536)
 anchor_place (Behind base) offset = place_of base
 anchor_place (There address) offset = places.Screen 0
 
--- the accumulator counts elements of so many bytes
+-- the accumulator counts elements of this number of bytes
 abbrev pub scaled : ℕ → List Instruction
 scaled stride = cond (nat_eq stride 1) [] (op.BinaryConstant binary.Multiply widths.Word (stride % 65536) ∷ [])
 
--- the accumulator holds an address, from which it goes so many bytes on
+-- the accumulator holds an address, to which this offset is added
 abbrev pub moved : ℕ → List Instruction
 moved offset = cond (nat_eq offset 0) [] (op.BinaryConstant binary.Add widths.Word (offset % 65536) ∷ [])
 
@@ -85,7 +85,7 @@ from_base base (Subscript stride e more) = op.BinaryPlain binary.Add widths.Word
 abbrev pub based : Where → ℕ → Subscripts → List Instruction
 based base offset ss = from_base base ss ∷ moved offset
 
--- what is read and located behind the subscripts; a variable without any lies at a fixed place
+-- what is read and located once the subscripts are added; a variable without any lies at a fixed place
 abbrev pub reading : Width → Anchor → ℕ → Subscripts → List Instruction
 reading width (Behind base) offset ss = based base offset ss ++ op.LoadThere width ∷ []
 reading width anchor offset NoSubscripts = op.Load width (anchor_place anchor offset) ∷ []
@@ -96,7 +96,7 @@ locating (Behind base) offset ss = based base offset ss
 locating anchor offset NoSubscripts = op.Locate (anchor_place anchor offset) ∷ []
 locating anchor offset (Subscript stride e more) = op.LocateAt (anchor_place anchor offset) ∷ []
 
--- the value in the accumulator is written behind the subscripts, whose code this is, and is there afterwards
+-- the value in the accumulator, whose code this is, is written once the subscripts are added, and is there afterwards
 abbrev pub writing : Width → Anchor → ℕ → Subscripts → List Instruction → List Instruction
 writing width (Behind base) offset ss code = op.Push ∷ (code ++ (based base offset ss ++ op.StoreThere width ∷ []))
 writing width anchor offset NoSubscripts code = op.Store width (anchor_place anchor offset) ∷ []
@@ -157,7 +157,7 @@ abbrev pub gives : Option Procedure → Bool
 gives None = true
 gives (Some p) = are_giving p.body
 
--- behind a call whose value is used: of a procedure that gives none it is 0
+-- after a call whose value is used: of a procedure that gives none it is 0
 abbrev pub used : (gives : Bool) → List Instruction
 used true = []
 used false = op.Constant 0 ∷ []
@@ -264,8 +264,8 @@ abbrev pub narrowed : Width → List Instruction
 narrowed widths.Byte = op.Unary unary.Low widths.Word ∷ []
 narrowed widths.Word = []
 
--- The end of a round: the step is added, and unless the sum is below the step, as where it wrapped, a next round begins so many
--- instructions before. A constant step is an operand; every other one is pushed twice.
+-- The end of a round: the step is added, and unless the sum is below the step, as where it wrapped, a next round begins
+-- `before` instructions back. A constant step is an operand; every other one is pushed twice.
 abbrev pub next_by_number : Scalar → (step before : ℕ) → List Instruction
 next_by_number x s before =
     op.Load x.width (place_of x.place) ∷ op.BinaryConstant binary.Add x.width s ∷ op.Store x.width (place_of x.place)
@@ -293,7 +293,7 @@ abbrev mutual
   are_silent (Then s later) = is_silent s && are_silent later
   are_silent (Returned v) = false
 
--- behind an arm, a jump over what is done otherwise, if anything is
+-- after an arm, a jump over what is done otherwise, if anything is
 abbrev pub over : (silent : Bool) (otherwise : List Instruction) (exit : ℕ) → List Instruction
 over true otherwise exit = []
 over false otherwise exit = op.Ahead (length otherwise + exit) ∷ []
@@ -311,23 +311,24 @@ abbrev pub all_of : List (List Instruction) → List Instruction
 all_of [] = []
 all_of (c ∷ cs) = c ++ all_of cs
 
--- For each case, how far it lies from behind its entry: over the other entries, a jump, and the cases before it, which are so long.
+-- For each case, how far it lies from the end of its entry: over the other entries, a jump, and the cases before it, which have this
+-- number of instructions.
 abbrev pub entries : (before : ℕ) → List (List Instruction) → List Instruction
 entries before [] = []
 entries before (c ∷ cs) = op.Case (length cs + 1 + before) ∷ entries (before + length c) cs
 
--- behind the entries stands the jump for a value that has no case
+-- after the entries stands the jump for a value that has no case
 abbrev pub switching : List (List Instruction) → (exit : ℕ) → List Instruction
 switching cases exit = op.Switch (length cases) ∷ (entries 0 cases ++ (op.Ahead (length (all_of cases) + exit) ∷ all_of cases))
 
--- where control goes on behind a statement: at what comes next, if that has code
+-- where control goes on after a statement: at what comes next, if that has code
 abbrev pub exit_before : (silent : Bool) (exit : ℕ) → ℕ
 exit_before true exit = exit
 exit_before false exit = 0
 
 module _ (procedures : List Procedure) (around : Kind) where
-  -- Of a statement behind which control goes on at an exit: so many instructions behind its own end, where a jump that stands there
-  -- leads. So the ends of arms in arms are no chain of jumps.
+  -- Of a statement after which control goes on at an exit: this number of instructions after its own end, where a jump that stands
+  -- there leads. So the ends of arms in arms are no chain of jumps.
   abbrev mutual
     pub statement_code : (exit : ℕ) → Statement → List Instruction
     statement_code exit Empty = []
@@ -369,7 +370,7 @@ module _ (procedures : List Procedure) (around : Kind) where
     statements_code exit (Then s later) = statement_code (exit_before (are_silent later) exit) s ++ statements_code exit later
     statements_code exit (Returned v) = []
 
-    -- each case goes on at the exit of all, over those behind it
+    -- each case goes on at the exit of all, over those after it
     pub cases_code : (exit : ℕ) → Statements → List (List Instruction)
     cases_code exit End = []
     cases_code exit (Then s later) =

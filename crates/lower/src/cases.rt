@@ -24,7 +24,7 @@ fn enter(code: &mut Instructions, cases: &[Instructions]) -> Result<usize, Fault
     Ok(before)
 }
 
-// The cases, one behind the other.
+// The cases, one after the other.
 fn join(code: &mut Instructions, cases: &[Instructions]) -> Result<(), Fault>
     ensures code { OnOk result (code.new.items ≡ code.old.items ++ all_of (map vec_items cases.now)) }
     ensures memory { IsOkUnless result Fault.Memory }

@@ -25,7 +25,7 @@ fn low(bytes: u128) -> u16
     (bytes % 0x1_0000) as u16
 }
 
-// So many bytes behind the first of an anchor that lies at a fixed place, else its base.
+// The place at this offset from an anchor that lies at a fixed place, else its base.
 #[tactic(auto, using(crate::proofs::Trees::same_place))]
 fn anchor_place(anchor: Anchor, offset: u64) -> Place
     ensures { result ≡ anchor_place (anchor_of anchor) offset }
@@ -39,7 +39,7 @@ fn anchor_place(anchor: Anchor, offset: u64) -> Place
     }
 }
 
-// The accumulator counts elements of so many bytes.
+// The accumulator counts elements of `stride` bytes.
 fn scale(code: &mut Instructions, stride: u64) -> Result<(), Fault>
     ensures code { OnOk result (code.new.items ≡ code.old.items ++ scaled stride) }
     ensures memory { IsOkUnless result Fault.Memory }
@@ -54,7 +54,7 @@ fn scale(code: &mut Instructions, stride: u64) -> Result<(), Fault>
     )
 }
 
-// The accumulator holds an address, from which it goes so many bytes on.
+// The accumulator holds an address, to which the offset is added.
 fn step(code: &mut Instructions, offset: u64) -> Result<(), Fault>
     ensures code { OnOk result (code.new.items ≡ code.old.items ++ moved offset) }
     ensures memory { IsOkUnless result Fault.Memory }
@@ -69,7 +69,7 @@ fn step(code: &mut Instructions, offset: u64) -> Result<(), Fault>
     )
 }
 
-// The address of a based name behind its subscripts.
+// The address of a based name with its subscripts.
 #[tactic(auto, using(crate::proofs::Trees::same_place))]
 fn follow(
     code: &mut Instructions,
@@ -159,7 +159,7 @@ pub fn expression(
     }
 }
 
-// What is read behind the subscripts.
+// What is read once the subscripts are added.
 fn read(
     code: &mut Instructions,
     width: Width,
@@ -181,7 +181,7 @@ fn read(
     }
 }
 
-// The address behind the subscripts.
+// The address once the subscripts are added.
 fn locate(
     code: &mut Instructions,
     anchor: Anchor,

@@ -22,7 +22,7 @@ pub fn checked_trees_are_well_formed()
 {}
 
 /// The code of a well-formed program can be counted and selected: the number of pushed values is the same along every run, and none
-/// is pushed behind a jump or where one leads; jumps lead to instructions, cases stand behind their `Switch`, and constants are words.
+/// is pushed after a jump or where one leads; jumps lead to instructions, cases stand after their `Switch`, and constants are words.
 /// Main and a procedure call only those that their trees call, and none that serves an interrupt is called.
 pub fn checked_code_is_sound()
     ensures { SoundLaw }

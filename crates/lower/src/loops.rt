@@ -79,7 +79,7 @@ pub fn iterate(
     count(code, &compared, test, body, &again, exit)
 }
 
-// The end of a round: the step is added, and a next round begins so many instructions before, unless the sum wrapped.
+// The end of a round: the step is added, and a next round begins `before` instructions back, unless the sum wrapped.
 fn next_round(
     alloc: Global,
     callees: Callees<'_>,

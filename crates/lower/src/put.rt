@@ -1,4 +1,4 @@
-//! Instructions one behind the other, and operands.
+//! Instructions one after the other, and operands.
 
 ghost use Rattle.std.specs.Prelude.{◌≡◌, ◌+◌, ◌++◌, ◌∷◌, [], IfOk, OnOk, IsOkUnless};
 ghost use Rattle.plm_type.specs.View.{expression_of};

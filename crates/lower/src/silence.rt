@@ -39,7 +39,7 @@ pub fn with_code(body: &[Box<Statement>]) -> usize
     0
 }
 
-/// Where control goes on behind a statement: at what comes next, if that has code.
+/// Where control goes on after a statement: at what comes next, if that has code.
 pub fn exit_before(silent: bool, exit: usize) -> usize
     ensures { result ≡ exit_before silent exit }
 {

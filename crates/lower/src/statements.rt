@@ -83,7 +83,7 @@ fn pass_over(
     put(code, Instruction::Ahead(distance(otherwise.len(), exit)?))
 }
 
-// How far behind the code of an arm its exit is.
+// How far the exit of an arm is from the end of its code.
 fn arm_exit(silent: bool, otherwise: &[Instruction], exit: usize) -> Result<usize, Fault>
     ensures exit { IfOk result (λ r. r ≡ length (over silent otherwise.now exit) + length otherwise.now + exit) }
     ensures memory { IsOkUnless result Fault.Memory }
@@ -189,7 +189,7 @@ impl Around<'_> {
         Ok(code)
     }
 
-    // The code of a statement behind which control goes on so many instructions behind its end.
+    // The code of a statement after which control goes on at its exit, `exit` instructions after its end.
     #[cycle(statements)]
     fn statement(self, statement: &Statement, exit: usize) -> Result<Instructions, Fault>
         ensures code { IfOk result (λ r. r.items ≡ statement_code (procedures_of self.entry.callees.procedures.now) self.entry.kind exit (statement_of statement.now)) }
@@ -305,7 +305,7 @@ impl Around<'_> {
         Ok(code)
     }
 
-    // The code of each case. The last one is made first, since each jumps over those behind it.
+    // The code of each case. The last one is made first, since each jumps over those after it.
     #[cycle(statements)]
     fn each_case(self, cases: &[Box<Statement>], exit: usize) -> Result<Vec<Instructions>, Fault>
         ensures code { IfOk result (λ r. map vec_items r.items ≡ cases_code (procedures_of self.entry.callees.procedures.now) self.entry.kind exit (statements_of cases.now)) }

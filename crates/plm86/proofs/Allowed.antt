@@ -49,7 +49,7 @@ unless_bad : (can : Bool) (o : Option (ℕ × ℕ)) (b : ℕ × ℕ) → unless 
 unless_bad true o b h = absurd cc
 unless_bad false o b h = (refl, h)
 
--- ---- one run behind another
+-- ---- one run after another
 
 pair_same : {A : Type 0} → (x y : A) → Some x ≡ Some y → x ≡ y
 pair_same x y h = cc
@@ -68,7 +68,7 @@ labelled_both before ls ms t u y o h e =
 state_labelled : {S L : Type 0} → (before ls : List L) (t : S) (y : S × List L) → labelled before (Some y) ≡ Some (t, ls) → y.0 ≡ t
 state_labelled before ls t y h = (both_same y.0 t (before ++ y.1) ls h).0
 
--- Where the first run leads on by the second, behind a step too.
+-- Where the first run leads on by the second, after a step too.
 leads_on : {S L : Type 0} → (f g : S → Option (S × List L)) (t u : S) (ms : List L) → ((s : S) (ls : List L) → f s ≡ Some (t, ls) → g s ≡ Some (u, ls ++ ms))
     → (x : S × List L) (ls : List L) (o : Option (S × List L)) → f x.0 ≡ o → labelled x.1 o ≡ Some (t, ls) → labelled x.1 (g x.0) ≡ Some (u, ls ++ ms)
 leads_on f g t u ms r x ls None is h = absurd cc

@@ -152,7 +152,7 @@ module _ (names : Names) (placement : Placement) (whole : List Label × MeanEnd)
       → Far names placement whole ((Occurs (get_or es k d) ∷ []) ∷ (map (λ e. Occurs e ∷ []) (drop (k + 1) es) ++ left)) m old a before f
   far_event es k d left lt x = subst (λ ls. Far names placement whole ls m old a before f) (event_left es k d left lt) x
 
-  -- behind the events of a turn its step is left
+  -- after the events of a turn its step is left
   pub far_step : (es : List Event) (k : ℕ) (left : List (List (Choice Event))) → length es ≤ k
       → Far names placement whole (map (λ e. Occurs e ∷ []) (drop k es) ++ left) m old a before f → Far names placement whole left m old a before f
   far_step es k left le x = subst (λ (xs : List Event). Far names placement whole (map alone xs ++ left) m old a before f) (drop_all k es le) x

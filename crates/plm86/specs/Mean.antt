@@ -40,7 +40,7 @@ one_step = Enter ∷ Program ∷ Leave ∷ Idle ∷ []
 abbrev pub turn_choices : List Event → Alternatives
 turn_choices es = map (λ e. Occurs e ∷ []) es ++ one_step ∷ []
 
--- in so many turns from one on
+-- in this number of turns, from one on
 abbrev pub choices_from : (due : ℕ → List Event) → (count turn : ℕ) → Alternatives
 choices_from due zero turn = []
 choices_from due (suc n) turn = turn_choices (due turn) ++ choices_from due n (suc turn)
@@ -51,7 +51,7 @@ unless_refused (Makes t labels) other = Makes t labels
 unless_refused (BadAt module_index line) other = BadAt module_index line
 unless_refused Refused other = other
 
--- labels, and how a run ends behind them
+-- labels, and how a run ends after them
 abbrev pub behind : List Label → List Label × MeanEnd → List Label × MeanEnd
 behind labels x = (labels ++ x.0, x.1)
 

@@ -227,7 +227,7 @@ pub record Holds (os : List ObjectR) (size most o : ℕ) : Type 0 where
   pub bytes : object.size ≡ size
   pub few : sum_by bytes_of_datum object.initial ≤ most
 
--- the objects of some variables, one behind another from this number on, with at most so many bytes in the first
+-- the objects of some variables, one after another from this number on, with a limit to the bytes of the first
 abbrev pub PendingAt : List ObjectR → ℕ → ℕ → ℕ → Region → (ℕ → Type 0) → Type 0
 PendingAt os size most low (region.Ram o x) rest = (low ≤ o) × Holds os size most o × rest (suc o)
 PendingAt os size most low (region.Screen x) rest = rest low
@@ -239,7 +239,7 @@ abbrev pub Pending : List ObjectR → ℕ → ℕ → List Variable → Type 0
 Pending os size low [] = Unit {0}
 Pending os size low (v ∷ vs) = PendingAt os size 0 low v.region (λ n. Pending os size n vs)
 
--- with at most so many bytes in the first
+-- with a limit to the bytes of the first
 abbrev pub Ready : List ObjectR → ℕ → ℕ → ℕ → List Variable → Type 0
 Ready os size most low [] = Unit {0}
 Ready os size most low (v ∷ vs) = PendingAt os size most low v.region (λ n. Pending os size n vs)
@@ -291,7 +291,7 @@ next_at os size most low (region.Screen x) P h = (low, h)
 next_at os size most low (region.Based v) P h = (low, h)
 next_at os size most low region.Nowhere P h = (low, h)
 
--- behind the first
+-- after the first
 ready_next : (os : List ObjectR) (size most low : ℕ) (vs : List Variable) (n : ℕ) → Ready os size most low (drop n vs) → (l : ℕ) × Ready os size 0 l (drop (suc n) vs)
 ready_next os size most low [] zero h = (0, tt)
 ready_next os size most low [] (suc n) h = (0, tt)

@@ -208,7 +208,7 @@ rows_bytes s (suc n) e =
 
 -- ---- the scalars of a name
 
--- where scalars fill a name, one after another: so many stand there, and where its bytes are fewer than can be counted, they have room in it
+-- where scalars fill a name, one after another: this number stand there, and where its bytes are fewer than can be counted, they have room in it
 pub record RowFits (at : ℕ → layout.ScalarType) (scalars size : ℕ) : Type 0 where
   pub some : 0 < scalars
   pub counted_up : scalars ≤ 18446744073709551615

@@ -136,12 +136,12 @@ abbrev pub has_no_base : VariableT → Bool
 has_no_base (VariableOf n None) = true
 has_no_base (VariableOf n (Some base)) = false
 
--- one object for each of so many names, in their order
+-- one object for each of these names, in their order
 abbrev pub own_regions : ℕ → List VariableT → List Region
 own_regions first [] = []
 own_regions first (v ∷ vs) = region.Ram first 0 ∷ own_regions (suc first) vs
 
--- names without AT and base, outside EXTERNAL procedures, have objects of their own, behind all that there were
+-- names without AT and base, outside EXTERNAL procedures, have objects of their own, after all that there were
 abbrev pub HaveOwnObjects : Type 0
 HaveOwnObjects =
     (vs : List VariableT) (t : Traits) (frames : List Frame) (k : Known)

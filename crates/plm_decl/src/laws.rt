@@ -29,7 +29,7 @@ pub fn constants_fill_their_object()
 {}
 
 /// The law of own objects: names of an element without AT, that are not based and stand in no EXTERNAL procedure, have one
-/// object each, in their order. These are new ones, behind all that there were, so no two such names have one object.
+/// object each, in their order. These are new ones, after all that there were, so no two such names have one object.
 pub fn names_have_own_objects()
     ensures { HaveOwnObjects }
 {}

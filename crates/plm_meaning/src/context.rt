@@ -78,7 +78,7 @@ pub enum Phase {
     Round,
     /// The index is compared with the bound.
     Comparing(u16, u16),
-    /// Behind the body, with the step: the index is read.
+    /// After the body, with the step: the index is read.
     Stepping(u16),
     /// The step is added to the index.
     Adding(u16, u16),

@@ -93,7 +93,7 @@ plain_found p (x ∷ ls) l e h = by_test (p x) (λ k. plain_found p ls l k h.1) 
 
 -- ---- through words
 
--- no literal has the name of a name that came out last, also behind LITERALLY
+-- no literal has the name of a name that came out last, also after LITERALLY
 abbrev pub IsFresh : Word → Word → List LiteralText → Type 0
 IsFresh (Named n) b ls = IsAbsent n ls
 IsFresh Declares (Named n) ls = IsAbsent n ls

@@ -1,4 +1,4 @@
--- Declarations, statements and blocks lead from the literals in force before them to those behind them.
+-- Declarations, statements and blocks lead from the literals in force before them to those after them.
 use Rattle.std.proofs.Common.{◌≡◌, ℕ, suc, List, [], ◌∷◌, ◌++◌, length, take, Option, Some, None, refl, sym, ap, ◌∙◌, subst, append_assoc}
 use Rattle.std.proofs.lemmas.List.{append-nil}
 use Rattle.plm_token.specs.declared.token.Keyword.TheVariants as key

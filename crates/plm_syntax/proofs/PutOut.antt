@@ -208,7 +208,7 @@ ahead_text levels line text o whole h a = record {
 pub ahead_sources : (ts : List Lexeme) (o : Out) → Ahead o (sources_out ts o)
 ahead_sources ts o = record { goes = goes_sources ts o; stays = λ stop e. sources_stay ts o stop e }
 
--- what is behind the whole, of which nothing stopped, has not stopped
+-- what comes after the whole, of which nothing stopped, has not stopped
 pub runs_before : (o whole : Out) → Ahead o whole → whole.stop ≡ None → o.stop ≡ None
 runs_before o whole a h = by_stop o.stop refl
   where

@@ -46,7 +46,7 @@ word_of (Key k) = key_word k
 word_of (Sign m) = sign_word m
 word_of Finish = Other
 
--- ---- what a word does behind two others
+-- ---- what a word does after two others
 
 -- whether a semicolon ends a block
 abbrev pub ends_words : Word → Word → Bool
@@ -86,7 +86,7 @@ is_calm Ends = false
 is_calm Declares = false
 is_calm w = true
 
--- two words behind which no calm word does anything
+-- two words after which no calm word does anything
 abbrev pub is_clear : Word → Word → Bool
 is_clear Ends b = false
 is_clear Declares b = false
@@ -156,7 +156,7 @@ calm_binary binary.ExclusiveOr = refl
 abbrev pub blocks : List LiteralText → List ℕ → Blocks
 blocks L S = record { literals = L; starts = S }
 
--- From the blocks' literals L and starts S behind two words a part leads to M and T, and its leaves have what g puts down.
+-- From the blocks' literals L and starts S after two words a part leads to M and T, and its leaves have what g puts down.
 pub record Led (f : List Leaf → List Leaf) (g : List (List LiteralText) → List (List LiteralText)) (L : List LiteralText) (S : List ℕ) (M : List LiteralText) (T : List ℕ) (a b : Word) : Type 0 where
   pub last : Word
   pub before : Word

@@ -51,7 +51,7 @@ at ls l depth r = ls ∷ r
 -- Each function puts what is in force at the tokens of a part before what is in force at those that follow. It is told what is in force where the part
 -- begins. How deep a part stands makes no difference.
 
--- elements, each with a comma after it: a literal is in force behind its own element
+-- elements, each with a comma after it: a literal is in force after its own element
 abbrev pub in_listed : Table → ElementsT → List Table → List Table
 in_listed ls no_elements r = r
 in_listed ls (elements es e) r = in_listed ls es (element (at (ls ++ literals_of_elements es)) 0 e (sign (at (ls ++ literals_of_elements (elements es e))) mark.Comma r))
@@ -78,7 +78,7 @@ abbrev mutual
   in_statements ls no_statements r = r
   in_statements ls (statements ss s) r = in_statements ls ss (in_statement ls s r)
 
-  -- A block with its END: its items' literals are in force in its statements and at its END, and no more behind it.
+  -- A block with its END: its items' literals are in force in its statements and at its END, and no more after it.
   pub in_block : Table → BlockT → Option NameT → List Table → List Table
   in_block ls (BlockOf is ss) n r = in_items ls is (in_statements (ls ++ literals_of_items is) ss (ending (at (ls ++ literals_of_items is)) n r))
 

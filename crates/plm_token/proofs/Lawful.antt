@@ -8,7 +8,7 @@ use Rattle.plm_token.specs.Pieces.{longest_within, or_shorter, front_from, front
 use Rattle.plm_token.specs.Laws.{IsLongest, formed, formless, FirstThenRest, InOrder, characters_of}
 use Rattle.plm_token.proofs.Skips.{skipped}
 
--- what the longest beginning of at most so many characters is
+-- what the longest beginning of at most this number of characters is
 data Found : ScanState → List ℕ → ℕ → Option (Form × ℕ) → Type 0 where
   found : {state : ScanState} {text : List ℕ} {k : ℕ} (form : Form) (n : ℕ) → 0 < n → n ≤ k → form_of state (take n text) ≡ Some form
       → ((m : ℕ) → n < m → m ≤ k → form_of state (take m text) ≡ None) → Found state text k (Some (form, n))

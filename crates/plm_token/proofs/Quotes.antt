@@ -16,7 +16,7 @@ pub inside_string : (pending : Bool) (bs : List ℕ) → string_length pending b
 inside_string pending [] = omega arith
 inside_string pending (b ∷ bs) = inside_more _ _ _ (inside_string (not pending) bs) (inside_string false bs) (is_apostrophe b) (not pending && is_printable b)
 
--- the first characters, so many, are a string exactly if it is closed there, and else the beginning of one
+-- the first characters, of this number, are a string exactly if it is closed there, and else the beginning of one
 abbrev Whole : Bool → List ℕ → ℕ → Bool → Type 0
 Whole pending bs n closed = (ends_string pending (take n bs) ≡ closed) × (closed ≡ false → ends_string pending (take n bs ++ codes "'") ≡ true)
 

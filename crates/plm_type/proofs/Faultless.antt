@@ -38,7 +38,7 @@ none_at l m k (p ∷ ps) e (suc i) h =
     let rest = none_at l m (k + 1) ps left i (omega (arith, h)) in
     (subst (λ (n : ℕ). l n ≡ false) next rest.0, subst (λ (n : ℕ). m n ≡ false) next rest.1)
 
--- what holds of a procedure holds of none behind the last
+-- what holds of a procedure holds of none past the last
 pub there : (f : Option ProcedureR → Bool) → f None ≡ false → (ps : List ProcedureR) (p : ℕ) → f (slice_get ps p) ≡ true → p < length ps
 there f n [] p h = absurd (true≢false (sym h ∙ n))
 there f n (q ∷ ps) zero h = omega arith

@@ -1,4 +1,4 @@
--- What the code says of a construct's parts, behind faults that are noted already, makes what it says of the construct.
+-- What the code says of a construct's parts, after faults that are noted already, makes what it says of the construct.
 use Rattle.std.proofs.Common.{◌≡◌, ℕ, ◌++◌, [], List, Result, IfOk, append_assoc, subst, ap, ◌∙◌}
 use Rattle.word86.specs.declared.number.Number.TheVariants.{E401}
 use Rattle.plm_syntax.specs.declared.tree.Position.{Position}
@@ -28,14 +28,14 @@ typed_with e noted = record { tree = e.tree; scalar = e.scalar; faults = noted }
 abbrev pub target_with : TypedTarget → List Found → TypedTarget
 target_with x noted = record { tree = x.tree; scalar = x.scalar; faults = noted }
 
--- a construct's own faults stand behind those of its part
+-- a construct's own faults stand after those of its part
 pub own_after : (e : Typed) (old a b : List Found) → typed_with e ((old ++ a) ++ b) ≡ typed_with e (old ++ (a ++ b))
 own_after e old a b = ap (typed_with e) (append_assoc old a b)
 
 pub target_own_after : (x : TypedTarget) (old a b : List Found) → target_with x ((old ++ a) ++ b) ≡ target_with x (old ++ (a ++ b))
 target_own_after x old a b = ap (target_with x) (append_assoc old a b)
 
--- ---- two parts, of which the second's faults are noted behind the first's
+-- ---- two parts, of which the second's faults are noted after the first's
 
 pub embedded_said : (m : ℕ) (p : Position) (old : List Found) (x y : TypedTarget) (e d : Typed) → y ≡ target_after old x → d ≡ after y.faults e
     → spec.embedded m p (target_with y d.faults) (typed_with d []) ≡ after old (spec.embedded m p x e)
@@ -69,6 +69,6 @@ parts_made old a b y d h g =
 
 -- ---- what has no type
 
--- a construct's own faults stand behind those of its part
+-- a construct's own faults stand after those of its part
 pub noted_own_after : {A : Type 0} (tree : A) (old a b : List Found) → noted tree ((old ++ a) ++ b) ≡ noted tree (old ++ (a ++ b))
 noted_own_after tree old a b = ap (noted tree) (append_assoc old a b)

@@ -212,7 +212,7 @@ module _ (variables : List Variable) where
   of_parameters external module_index [] = []
   of_parameters external module_index (x ∷ xs) = of_parameter external module_index (slice_get variables x) ++ of_parameters external module_index xs
 
--- what a call runs has a body of its own, and so many parameters
+-- what a call runs has a body of its own, and as many parameters as the call has arguments
 abbrev pub is_entry : ℕ → Option ProcedureR → Bool
 is_entry n None = false
 is_entry n (Some p) = not (is_external p.linkage) && nat_eq (length p.parameters) n

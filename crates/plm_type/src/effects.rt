@@ -180,7 +180,7 @@ fn add_statement(statement: &Statement, effects: &mut Vec<Effect>) -> Result<(),
     }
 }
 
-/// What these statements do, added behind the rest.
+/// What these statements do, added after the rest.
 #[cycle(statement_effects)]
 pub fn add_statements(statements: &[Statement], effects: &mut Vec<Effect>) -> Result<(), AllocError>
     ensures { OnOk result (effects.new.items ≡ effects.old.items ++ spec.of_statements (resolved.statements_of statements.now)) }

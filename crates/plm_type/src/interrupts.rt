@@ -248,7 +248,7 @@ fn add_faults(
     Ok(())
 }
 
-/// The faults of interrupt procedures, added behind the others.
+/// The faults of interrupt procedures, added after the others.
 pub fn interrupt_faults(
     alloc: Global,
     names: &Names,

@@ -46,7 +46,7 @@ fn is_external(linkage: Linkage) -> bool
     }
 }
 
-/// Whether a procedure is what a call with so many arguments may run.
+/// Whether a procedure is what a call with `count` arguments may run.
 fn is_entry(count: usize, procedure: Option<&plm_decl::Procedure>) -> bool
     ensures { result ≡ spec.is_entry count (option_map (λ p. procedure_of p.now) procedure.entry) }
 {

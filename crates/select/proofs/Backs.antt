@@ -34,7 +34,7 @@ all_back s base =
     ∙ append_assoc base (plain (given_back r1)) (Plain i.InterruptReturn ∷ [])
     ∙ ap (λ z. base ++ z) (sym (map-append Plain (given_back r1) (i.InterruptReturn ∷ [])))
 
--- a register that is saved, and the others behind it
+-- a register that is saved, and the others after it
 one_saved : (b : Bool) (r : Register16) (rs : List Register16) (base : List Step) → (base ++ plain (saved (with_register b r []))) ++ plain (saved rs) ≡ base ++ plain (saved (with_register b r rs))
 one_saved true r rs base = append_assoc base (plain (saved (r ∷ []))) (plain (saved rs))
 one_saved false r rs base = ap (λ z. z ++ plain (saved rs)) (append-nil base)

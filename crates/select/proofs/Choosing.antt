@@ -47,11 +47,11 @@ index_sum : (k y z : ℕ) → k + 1 + y + 1 + z ≡ k + 1 + suc y + z
 index_sum k y z = omega arith
 
 module _ (inverse_holds : InverseHolds) (laws : Laws) (x : Image) (all : IsSelected x) where
-  -- an instruction that stands here, and what comes behind it
+  -- an instruction that stands here, and what comes after it
   then_comes : (most : ℕ) (c d e : Context) → offer x.code x.find x.words x.entry x.main x.handler c ≡ Does (Silent e) → SilentlyComes x most e d → SilentlyComes x (suc most) c d
   then_comes most c d e o s = inr (e, o, s)
 
-  -- a jump, short or long, behind one instruction
+  -- a jump, short or long, after one instruction
   comes_by_jump : (c d e : Context) → offer x.code x.find x.words x.entry x.main x.handler c ≡ Does (Silent e) → ArrivesSoon x.code x.find x.words x.entry x.main x.handler e d → SilentlyComes x 3 c d
   comes_by_jump c d e o (inl s) = inr (e, o, inr (s.0, s.1, inl s.2))
   comes_by_jump c d e o (inr s) = inr (e, o, inr (s.0, s.1, inr (s.2.0, s.2.1, s.2.2)))
@@ -88,7 +88,7 @@ module _ (inverse_holds : InverseHolds) (laws : Laws) (x : Image) (all : IsSelec
     abbrev doubled : Working
     doubled = word_result Bx copied (shifted shifts.Shl widths.Word g.ax 1 copied.flags)
 
-    -- the jump behind the cases is taken where the value is not below their number
+    -- the jump after the cases is taken where the value is not below their number
     past_the_cases : (b : Bool) → nat_lt g.ax n ≡ b → holds conditions.NotBelow compared.flags ≡ not b
     past_the_cases b l = ap not (Flags.cmp_carry laws g.ax (n % 65536) g.flags ∙ ap (nat_lt g.ax) limit_is ∙ l)
 

@@ -540,7 +540,7 @@ module _ (laws : Laws) (find : ℕ → ℕ → Option (ℕ × ℕ)) (words : ℕ
 
   -- ---- operators that take their right operand where it lies
 
-  -- behind the operation the value is in AX, and the stack as it was
+  -- after the operation the value is in AX, and the stack as it was
   abbrev pub After : List Instr → Working → Working → List ℕ → Option ℕ → Type 0
   After ns g h st None = Unit {0}
   After ns g h st (Some x) = (k : Working) × S ns h st k st × (k.ax ≡ x) × (x < 65536) × OnlyChanges just_accumulator g k

@@ -117,7 +117,7 @@ module _ (R : Type 0) (next : R → Action Access R) (code : ℕ → Option (Ins
         joint n f r r2 (Own p g st false given) (Own c.0 s.0 s.1 false given) u (stands p c.0 x g st false c.1 c.2 ∙ s.2 c.0)
         (looser n (with_each ns k) limit r2 (Own c.0 s.0 s.1 false given) le (runs ns n k c.0 q r2 s.0 s.1 h st2 s.3 c.3 (λ m less. go m (omega (arith, less)))))
 
-    -- what comes behind instructions that only run
+    -- what comes after instructions that only run
     pub parted : (ns : List Instr) (xs : List Step) (p q : ℕ) → Chain at p (plain ns ++ xs) q → (m : ℕ) × Chain at p (plain ns) m × Chain at m xs q
     parted [] xs p q h = (p, refl, h)
     parted (n ∷ ns) xs p q h = let t = parted ns xs h.0 q h.3 in (t.0, (h.0, h.1, h.2, t.1), t.2)

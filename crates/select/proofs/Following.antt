@@ -186,7 +186,7 @@ module _ (laws : Laws) (x : Image) (all : IsSelected x)
     lands m l c u r2 k2 v q ws2 h st leads eq es ea lt sm keep =
         arrives m r2 k2 v q ws2 h st (go m l) eq ea es (comes_on here (At r2 k2 v ws2) c p (acts c u) leads) lt sm (keeps p.0 r k g.ax ws ins p.1 e g h keep inv)
 
-    -- a silent step, with these instructions, and whatever comes behind them
+    -- a silent step, with these instructions, and whatever comes after them
     begins : (y : Instr) (ns : List Instr) (f q : ℕ) (d : machine.Context) (h : Working) (st2 : List ℕ) → does_so ≡ Silent d
         → Chain r (place r k) (plain (y ∷ ns)) q → with_each ns f ≤ 20 → Str (y ∷ ns) g (stack_of ws) h st2 → ((m : ℕ) → m < n → Fl m f d (Own q h st2 false given)) → Goal
     begins y ns f q d h st2 u c le s go2 =
@@ -199,7 +199,7 @@ module _ (laws : Laws) (x : Image) (all : IsSelected x)
         begins y ns 8 (place r (k + 1)) (At r (k + 1) v ws2) h (stack_of ws2) u c le s
         (λ m l. lands m l (Silent (At r (k + 1) v ws2)) u r (k + 1) v (place r (k + 1)) ws2 h (stack_of ws2) refl refl refl is lt sm keep)
 
-    -- an access, and whatever comes behind it
+    -- an access, and whatever comes after it
     touching : (before : List Instr) (y : Instr) (xs : List Step) (q : ℕ) (acc : Access) (d : ℕ → machine.Context) (g1 : Working) (st1 : List ℕ) (after : ℕ → Working)
         → does_so ≡ Touch acc d → Chain r (place r k) (plain before ++ Plain y ∷ xs) q → with_each before 0 ≤ 8 → Str before g (stack_of ws) g1 st1
         → ((z : ℕ) → offered x.find x.words x.main x.handler y z g1 st1 false given ≡ Does (Touch acc (λ v. Own z (after v) st1 false given)))
@@ -214,7 +214,7 @@ module _ (laws : Laws) (x : Image) (all : IsSelected x)
         looser m (with_each ns f) 20 d (Own z g1 st1 false given) le
         (Engine.runs machine.Context next x.code x.find x.words x.entry x.main x.handler 20 (is_main given) x.offsets x.places given (x.at r) ns m f z q d g1 st1 h st2 s c go2)
 
-    -- an access, instructions behind it, and the next instruction
+    -- an access, instructions after it, and the next instruction
     accessing : (before : List Instr) (y : Instr) (behind : List Instr) (acc : Access) (v2 : ℕ → ℕ) (ws2 : List Word) (g1 : Working) (st1 : List ℕ) (after : ℕ → Working)
         → does_so ≡ Touch acc (λ v. At r (k + 1) (v2 v) ws2) → Chain r (place r k) (plain before ++ Plain y ∷ plain behind) (place r (k + 1))
         → with_each before 0 ≤ 8 → with_each behind 8 ≤ 20 → Str before g (stack_of ws) g1 st1
@@ -226,7 +226,7 @@ module _ (laws : Laws) (x : Image) (all : IsSelected x)
         finishes behind 8 m z (place r (k + 1)) (At r (k + 1) (v2 v) ws2) (after v) st1 w.0 (stack_of ws2) le2 c2 w.1
         (λ j le. lands j (omega (arith, l, le)) (Touch acc (λ v. At r (k + 1) (v2 v) ws2)) u r (k + 1) (v2 v) (place r (k + 1)) ws2 w.0 (stack_of ws2) (v, lt, refl) refl refl w.2 w.3 sm w.4))
 
-    -- a read, if there is a place, and whatever comes behind it
+    -- a read, if there is a place, and whatever comes after it
     reading : (width : Width) (before : List Instr) (y : Instr) (xs : List Step) (q : ℕ) (o : Option Where) (d : ℕ → machine.Context) (g1 : Working) (after : ℕ → Working)
         → does_so ≡ loaded width o d → Chain r (place r k) (plain before ++ Plain y ∷ xs) q → with_each before 0 ≤ 8 → Str before g (stack_of ws) g1 (stack_of ws)
         → ((z : ℕ) → offered x.find x.words x.main x.handler y z g1 (stack_of ws) false given ≡ reads o width (λ v. Own z (after v) (stack_of ws) false given))
@@ -245,7 +245,7 @@ module _ (laws : Laws) (x : Image) (all : IsSelected x)
         Engine.goes_if machine.Context next x.code x.find x.words x.entry x.main x.handler 20 (is_main given) x.offsets x.places given cond true m 8 z at.0 (place r t) (first r t) (At r t v ws2) h (stack_of ws2) e2 at.1 at.2
         (λ j le. lands j (omega (arith, l, le)) c u r t v (place r t) ws2 h (stack_of ws2) leads refl refl is lt sm keep)
 
-    -- a read, instructions behind it, and the next instruction
+    -- a read, instructions after it, and the next instruction
     read_on : (width : Width) (before : List Instr) (y : Instr) (behind : List Instr) (o : Option Where) (v2 : ℕ → ℕ) (g1 : Working) (after : ℕ → Working)
         → does_so ≡ loaded width o (λ v. At r (k + 1) (v2 v) ws) → Chain r (place r k) (plain before ++ Plain y ∷ plain behind) (place r (k + 1))
         → with_each before 0 ≤ 8 → with_each behind 8 ≤ 20 → Str before g (stack_of ws) g1 (stack_of ws)
@@ -543,7 +543,7 @@ module _ (laws : Laws) (x : Image) (all : IsSelected x)
     abbrev plain_at : ℕ
     plain_at = address x.offsets x.sizes y 0
 
-    -- behind the access instructions lead to the operator's value, or nothing goes on
+    -- after the access instructions lead to the operator's value, or nothing goes on
     after_read : (w : Where) → found x.offsets x.sizes read y plain_at ≡ Some w → (v : ℕ) → v < values read → (m : ℕ) → m < n → (z : ℕ) (g2 : Working) (ns : List Instr) → Chain r z (plain ns) (place r (k + 1)) → with_each ns 8 ≤ 20
         → (s : Option ℕ) → binary_value o width g.ax v ≡ s
         → ((u : ℕ) → s ≡ Some u → (h : Working) × Str ns g2 (stack_of ws) h (stack_of ws) × (h.ax ≡ u) × (u < 65536) × OnlyChanges (of_read read o) g h)

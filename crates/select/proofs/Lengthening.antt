@@ -182,7 +182,7 @@ module _ (xs : List Extent) (good : AreExtents xs) where
 
 -- ---- it ends
 
--- so many bytes more may come, and so many steps are left
+-- the bytes that may still come, and the steps that are left
 abbrev pub left : (most now steps at : ℕ) → ℕ
 left most now steps at = (most - now) * (steps + 1) + (steps - at)
 

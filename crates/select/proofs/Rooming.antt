@@ -107,7 +107,7 @@ place_room r b d = cases (d == 0 && not (is_bp b)) (is_near d)
     cases false true = omega arith
     cases false false = omega arith
 
--- a step on a place has at most so many bytes, wherever that is
+-- a step on a place has at most this number of bytes, wherever that is
 abbrev IsWithin : (Segment → Open) → ℕ → Type 0
 IsWithin x n = (length (front_of (x segments.Ds)) + 2 ≤ n) × ((k : ℕ) → length (bytes_of (closed (x segments.Es) k)) ≤ n)
 

@@ -24,7 +24,7 @@ module _ (place : Routine → ℕ → ℕ) (base : List ℕ) where
   stack_length [] = omega arith
   stack_length (w ∷ ws) = omega (arith, stack_length ws)
 
-  -- a value that lies so many words under the top
+  -- a value that this number of words lie on
   pub value_there : (ws : List Word) (n v : ℕ) → slice_get ws n ≡ Some (Value v) → slice_get (stack_of ws) n ≡ Some v
   value_there [] n v e = absurd (cc)
   value_there (w ∷ ws) zero v e = ap some_number e
@@ -58,7 +58,7 @@ module _ (place : Routine → ℕ → ℕ) (base : List ℕ) where
   dropped_small (suc n) [] s = tt
   dropped_small (suc n) (w ∷ ws) s = dropped_small n ws s.1
 
--- the stack's word so many words above the stack pointer
+-- the stack's word this number of words above the stack pointer
 pub found_word : (st : List ℕ) (n offset sp : ℕ) → offset ≡ sp + 2 * n → stack_word offset sp st ≡ slice_get st n
 found_word [] n offset sp e = refl
 found_word (v ∷ st) zero offset sp e = ap (λ (b : Bool). if b then Some v else stack_word offset (sp + 2) st) (eq-eqb offset sp (omega (arith, e)))

@@ -276,7 +276,7 @@ pub counted : (f h : ℕ → ℕ) (saves : Registers) (all : List Instruction) (
     → length new ≡ first_of saves all (k + 1)
 counted f h saves all k p n old new e is before = ap length is ∙ length-append old (row f h saves p n) ∙ omega (arith, before, row_size f h saves p n, first_more saves all k n e)
 
--- behind the last row
+-- past the last row
 first_past : (saves : Registers) (all : List Instruction) (k : ℕ) → length all ≤ k → first_of saves all k ≡ first_of saves all (length all)
 first_past saves all k l = ap (λ z. length (registers_of saves) + total saves z) (taken_all all k l ∙ sym (taken_all all (length all) (omega arith)))
   where

@@ -1,4 +1,4 @@
--- The words of a table stand behind the `Switch` that jumps through it.
+-- The words of a table stand after the `Switch` that jumps through it.
 use Rattle.std.proofs.Common.{◌≡◌, ℕ, zero, suc, ◌+◌, ◌*◌, ◌<◌, ◌≤◌, Some, ap, ◌∙◌, arith, slice_get}
 use Rattle.icode.specs.declared.instruction.Instruction.{Instruction}
 use Rattle.icode.specs.declared.instruction.Instruction.TheVariants as op

@@ -9,7 +9,7 @@ use Rattle.icode.specs.declared.code.Word.{Word}
 use Rattle.icode.specs.Machine.{At}
 use Rattle.select.specs.Promise.{Image, IsSelected, next_of, place_of}
 
--- from one context to another by at most so many instructions, each of which makes no access and no other action
+-- from one context to another by at most `most` instructions, each of which makes no access and no other action
 abbrev pub SilentlyComes : Image → (most : ℕ) → Context → Context → Type 0
 SilentlyComes x zero c d = c ≡ d
 SilentlyComes x (suc n) c d = (c ≡ d) ⊎ ((e : Context) × (offer x.code x.find x.words x.entry x.main x.handler c ≡ Does (Silent e)) × SilentlyComes x n e d)
@@ -23,7 +23,7 @@ pub record ChangesBx (g h : Working) : Type 0 where
   pub si : h.si ≡ g.si
   pub di : h.di ≡ g.di
 
--- From one index of a routine to another: by one silent step of the code, and by at most so many silent instructions of main or of
+-- From one index of a routine to another: by one silent step of the code, and by at most `most` silent instructions of main or of
 -- an interrupt procedure, whatever is on its stack.
 pub record LeadsSoon (x : Image) (most : ℕ) (r : Routine) (k target : ℕ) (g : Working) : Type 0 where
   pub code : (ws : List Word) → next_of x (At r k g.ax ws) ≡ Silent (At r target g.ax ws)
@@ -32,7 +32,7 @@ pub record LeadsSoon (x : Image) (most : ℕ) (r : Routine) (k target : ℕ) (g 
   pub instructions : (st : List ℕ) (after_sti : Bool) (given : Option Given) → SilentlyComes x most (Own (place_of x r k) g st after_sti given) (Own (place_of x r target) registers st false given)
 
 -- With the value of a DO CASE in AX, whatever the number of cases: five instructions lead to the first one of the case that the
--- value chooses, and at most three, where there is no such case, to what stands behind the table.
+-- value chooses, and at most three, where there is no such case, to what stands after the table.
 abbrev pub CasesComeSoon : Type 0
 CasesComeSoon =
     (x : Image) → IsSelected x

@@ -36,7 +36,7 @@ abbrev pub words_of : machine.Context → List Word
 words_of (At r k a ws) = ws
 
 module _ (next : machine.Context → Action Access machine.Context) (begin : machine.Context) where
-  -- no run has more than so many words on the stack
+  -- no run has more than `most` words on the stack
   pub record Counted (main : Bool) (most : ℕ) : Type 0 where
     pub few : (n : ℕ) (c : machine.Context) → Comes next begin n c → length (words_of c) ≤ most
     pub allowed : (n : ℕ) (c : machine.Context) → Comes next begin n c → Allowed main (next c)

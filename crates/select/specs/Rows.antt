@@ -233,15 +233,15 @@ changed unary.Double width = i.Nop ∷ []
 abbrev pub left_from_stack : List Instr
 left_from_stack = exchange Cx ∷ pop Ax ∷ []
 
--- a word of the context's own, so many under the top
+-- a word of the context's own, that n others lie on
 abbrev pub own_word : ℕ → Memory
 own_word n = record { segment = segments.Ss; address = Based bases.Bp (2 * n % 65536) }
 
--- AX gets the word so many under the top; the one on top is popped and pushed again
+-- AX gets the word that n others lie on; the one on top is popped and pushed again
 abbrev pub picked : ℕ → List Instr
 picked n = if nat_eq n 0 then pop Ax ∷ push Ax ∷ [] else copy Bp Sp ∷ i.MoveWord (FromMemory Ax (own_word n)) ∷ []
 
--- so many words go
+-- n words go
 abbrev pub dropped : ℕ → Instr
 dropped n = if nat_eq n 0 then i.Nop else if nat_eq n 1 then pop Cx else alu_number Add Sp (2 * n % 65536)
 
@@ -339,7 +339,7 @@ finished saves = plain (given_back (registers_of saves) ++ i.InterruptReturn ∷
 
 -- The step at which each row of the routine begins, by its index; the part of each procedure; the registers that the routine saves.
 module _ (first : ℕ → ℕ) (part : ℕ → ℕ) (saves : Registers) where
-  -- an instruction's row, where the index behind it is this
+  -- an instruction's row, where this is the index after it
   abbrev pub row : (next : ℕ) → Instruction → List Step
   row p (op.Constant k) = Plain (accumulator_gets k) ∷ []
   row p (op.Locate x) = on_place (λ s. opens.Number Ax) x ∷ []
@@ -385,7 +385,7 @@ module _ (first : ℕ → ℕ) (part : ℕ → ℕ) (saves : Registers) where
 abbrev pub steps_in : Registers → Instruction → ℕ
 steps_in saves n = length (row (λ k. 0) (λ q. 0) saves 0 n)
 
--- the step at which the row of an index begins, behind the pushes of what is saved
+-- the step at which the row of an index begins, after the pushes of what is saved
 abbrev pub first_of : Registers → List Instruction → ℕ → ℕ
 first_of saves code k = length (registers_of saves) + sum (map (steps_in saves) (take k code))
 

@@ -1,4 +1,4 @@
--- The parts of a program: module by module its procedures, in their order, and main behind those of its module; last the part for
+-- The parts of a program: module by module its procedures, in their order, and main after those of its module; last the part for
 -- the vectors without a procedure.
 use Rattle.std.specs.Prelude.{◌≡◌, ℕ, zero, suc, ◌+◌, Bool, false, nat_eq, cond, List, [], ◌∷◌, ◌++◌, length, Option, Some, None, slice_get}
 use Rattle.icode.specs.declared.code.Procedure as declared

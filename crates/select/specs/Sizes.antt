@@ -10,7 +10,7 @@ extent_at xs k = slice_index_or xs k (Fixed 0)
 abbrev pub start : List ℕ → ℕ → ℕ
 start sizes k = sum (take k sizes)
 
--- If the jump from a step to another one alone were short, then the distance from behind it would be -128 to 127.
+-- If the jump from a step to another one alone were short, then the distance from its end would be -128 to 127.
 pub record IsInReach (sizes : List ℕ) (from target : ℕ) : Type 0 where
   pub ahead : start (slice_set sizes from 2) target ≤ start (slice_set sizes from 2) (from + 1) + 127
   pub back : start (slice_set sizes from 2) (from + 1) ≤ start (slice_set sizes from 2) target + 128

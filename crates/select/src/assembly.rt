@@ -77,7 +77,7 @@ fn places_of(alloc: Global, sizes: &[u8]) -> Result<Vec<u16>, Fault>
     Ok(places)
 }
 
-// The number at an index of a list, or 0 behind its end.
+// The number at an index of a list, or 0 past its end.
 fn number_at(numbers: &[u16], index: usize) -> u16
     ensures { result ≡ slice_index numbers.now index }
 {

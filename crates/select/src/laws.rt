@@ -20,7 +20,7 @@ pub fn instructions_follow_code()
 }
 
 /// With a DO CASE's value in AX, whatever the number of cases: five instructions lead to the first one of the case that it chooses,
-/// and at most three behind the table where there is none. They make no access and no other action, and change BX and the flags alone.
+/// and at most three past the table where there is none. They make no access and no other action, and change BX and the flags alone.
 pub fn cases_come_soon()
     ensures { CasesComeSoon }
 {

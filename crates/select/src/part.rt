@@ -7,7 +7,7 @@ use i86_table::{Condition, Instr, Open};
 pub enum Kind {
     /// The offset of an object of the data.
     Offset,
-    /// How far it is from behind the word to where a part begins.
+    /// How far it is from the end of the word to where a part begins.
     Near,
     /// Where a part begins.
     Case,

@@ -1,4 +1,4 @@
-//! Instructions and steps one behind the other.
+//! Instructions and steps one after the other.
 
 ghost use Rattle.std.specs.Prelude.{◌≡◌, ◌*◌, ◌%◌, ◌++◌, ◌∷◌, [], IsOkUnless, OnOk};
 ghost use Rattle.select.specs.declared.part.Step.TheVariants.{Plain};
@@ -164,7 +164,7 @@ pub(crate) fn placed(place: Place, ram: Open, screen: Open) -> Step
     }
 }
 
-/// The context's own word so many under the top, where BP is the stack pointer.
+/// The context's own word that `above` others lie on, where BP is the stack pointer.
 pub(crate) fn own_word(above: usize) -> Memory
     ensures { result ≡ own_word above }
 {
@@ -177,7 +177,7 @@ pub(crate) fn own_word(above: usize) -> Memory
     }
 }
 
-/// The bytes of so many words, modulo 65,536.
+/// The bytes of this number of words, modulo 65,536.
 pub(crate) fn twice(words: usize) -> u16
     ensures { result ≡ 2 * words % 65536 }
 {

@@ -34,7 +34,7 @@ const BP: Register16 = Register16::Bp;
 
 const SP: Register16 = Register16::Sp;
 
-/// AL or AX gets what lies at a place, or behind it as the base says.
+/// AL or AX gets what lies at a place, or as far after it as the base says.
 fn load(width: Width, base: Option<Base>, place: Place) -> Step
     ensures { result ≡ on_place (loads width base) place }
 {
@@ -52,7 +52,7 @@ fn load_right(width: Width, place: Place) -> Step
     placed(place, ram, screen)
 }
 
-/// AL or AX is written at a place, or behind it as the base says.
+/// AL or AX is written at a place, or as far after it as the base says.
 fn store(width: Width, base: Option<Base>, place: Place) -> Step
     ensures { result ≡ on_place (stores width base) place }
 {
@@ -82,7 +82,7 @@ fn operate(operation: AluOperation, place: Place) -> Step
     placed(place, ram, screen)
 }
 
-/// AX gets the word so many under the top; the one on top is popped and pushed again.
+/// AX gets the word that `above` others lie on; the one on top is popped and pushed again.
 fn picked(steps: &mut Vec<Step>, above: usize) -> Result<(), Fault>
     ensures steps { OnOk result (steps.new.items ≡ steps.old.items ++ plain (picked above)) }
     ensures memory { IsOkUnless result Fault.Memory }
@@ -205,7 +205,7 @@ fn step_at(firsts: &[usize], index: usize) -> usize
     }
 }
 
-/// The step at which a row so many further on begins.
+/// The step at which the row `count` after the next begins.
 fn ahead(firsts: &[usize], next: usize, count: usize) -> usize
     ensures { result ≡ step_at firsts.now (next + count) }
 {
@@ -248,7 +248,7 @@ fn finish(steps: &mut Vec<Step>, saves: Registers) -> Result<(), Fault>
     add(steps, Instr::InterruptReturn)
 }
 
-/// A jump through a table whose words follow, for so many cases, or behind them.
+/// A jump through a table whose words follow, one for each of `count` cases, or past them.
 fn switch(steps: &mut Vec<Step>, firsts: &[usize], next: usize, count: usize) -> Result<(), Fault>
     ensures steps { OnOk result (steps.new.items ≡ steps.old.items ++ row (step_at firsts.now) (λ q. 0) none next (Switch count)) }
     ensures memory { IsOkUnless result Fault.Memory }
@@ -275,7 +275,7 @@ fn switch(steps: &mut Vec<Step>, firsts: &[usize], next: usize, count: usize) ->
     )
 }
 
-/// What stands at a place goes to AL or AX, behind what comes first; a byte fills its word.
+/// What stands at a place goes to AL or AX, after what comes first; a byte fills its word.
 fn loaded(
     steps: &mut Vec<Step>,
     width: Width,
@@ -289,7 +289,7 @@ fn loaded(
     narrow(steps, width)
 }
 
-/// A jump to the row that stands so many further on.
+/// A jump to the step that a row begins with.
 fn jump(steps: &mut Vec<Step>, target: usize) -> Result<(), Fault>
     ensures steps { OnOk result (steps.new.items ≡ steps.old.items ++ Goto target ∷ []) }
     ensures memory { IsOkUnless result Fault.Memory }
@@ -297,7 +297,7 @@ fn jump(steps: &mut Vec<Step>, target: usize) -> Result<(), Fault>
     put(steps, Step::Goto { target })
 }
 
-/// The steps of an instruction of a routine that saves these registers, where the index behind it is `next`, the rows begin at
+/// The steps of an instruction of a routine that saves these registers, where the index after it is `next`, the rows begin at
 /// `firsts`, the last of which is the end of the routine, and the procedures' parts have the numbers `parts`. The one refusal is want of memory.
 pub(crate) fn row(
     steps: &mut Vec<Step>,

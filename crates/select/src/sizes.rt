@@ -10,16 +10,16 @@ use word86::Fault;
 /// How many bytes a step of a part has.
 #[derive(Clone, Copy)]
 pub(crate) enum Extent {
-    /// So many.
+    /// This number.
     Fixed(u8),
-    /// A jump to a step of the part has two bytes where it is short, and so many where it is long.
+    /// A jump to a step of the part has two bytes where it is short, and `long` where it is long.
     Jump { target: usize, long: u8 },
 }
 
 /// The bytes of a short jump.
 const SHORT: u8 = 2;
 
-/// No jump farther away than so many steps spans a place and is short.
+/// A jump that spans more steps than this is not short.
 const SPAN: usize = 128;
 
 // Whether these sizes are together at most so much. It looks at no more sizes than that and one.

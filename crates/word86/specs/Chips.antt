@@ -1,4 +1,4 @@
--- What stands behind the ports: their values, what an access leaves, and the interrupt line.
+-- What the ports lead to: their values, what an access leaves, and the interrupt line.
 use Rattle.std.specs.Prelude.{ℕ, Bool, ◌<◌}
 use Rattle.word86.specs.declared.width.Width.{Width}
 use Rattle.word86.specs.declared.event.Event.{Event}

@@ -25,7 +25,7 @@ module _ (A : Type 0) (answers : A → ℕ) (R : Type 0) (next : R → Action A 
     Pairs P f j r (Bad module_index line) = ⊥
 
     -- For n of its steps the code's context tracks the rest up to the rest's first Bad step. At most f of its steps come
-    -- before the rest's next one, at most limit between two, and at most so many silent ones of the rest with one.
+    -- before the rest's next one, at most limit between two, and at most `most` silent ones of the rest with one.
     abbrev pub Tracks : ℕ → ℕ → R → I → Type 0
     Tracks zero f r i = Unit {0}
     Tracks (suc n) f r i = (j : ℕ) × (q : R) × Quiet j r q × (IsBad (next q) ⊎ Pairs (Tracks n) f j q (does i)) × (j ≤ most)

@@ -23,11 +23,11 @@ abbrev pub bytes : Width → ℕ
 bytes widths.Byte = 1
 bytes widths.Word = 2
 
--- so many bytes from the address on are among the size bytes from the first on
+-- `count` bytes from the address on are among the `size` bytes from the first on
 abbrev pub covers : (first size address count : ℕ) → Bool
 covers first size address count = nat_le first address && nat_le (address + count) (first + size)
 
--- the RAM object, counted from k, that holds so many bytes from the address on, and the index of the first
+-- the RAM object, counted from k, that holds `count` bytes from the address on, and the index of the first
 abbrev pub held : (k : ℕ) (offsets sizes : List ℕ) → (address count : ℕ) → Option Where
 held k [] sizes address count = None
 held k (o ∷ os) [] address count = None

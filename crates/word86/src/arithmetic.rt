@@ -65,7 +65,7 @@ pub fn div16(a: u16, b: u16) -> (u16, u16)
     (a / b, a % b)
 }
 
-/// The low bits of a value shifted left by so many places, with zeros coming in.
+/// The low bits of a value shifted left by `count` places, with zeros coming in.
 pub fn shl(width: Width, value: u16, count: u8) -> u16
     ensures { result ≡ low width (value * 2 ^ count) }
 {
@@ -75,7 +75,7 @@ pub fn shl(width: Width, value: u16, count: u8) -> u16
     width.low(u32::from(value) << u32::from(count))
 }
 
-/// The value, of which the low bits count, shifted right by so many places, with zeros coming in.
+/// The value, of which the low bits count, shifted right by `count` places, with zeros coming in.
 pub fn shr(width: Width, value: u16, count: u8) -> u16
     ensures { result ≡ low width value / 2 ^ count }
 {
@@ -94,14 +94,14 @@ fn rotate(width: Width, value: u16, places: u32) -> u16
     width.low(u32::from(width.low(turned)) + (turned >> width.bits()))
 }
 
-/// The low bits of a value turned left by so many places.
+/// The low bits of a value rotated left by `count` places.
 pub fn rol(width: Width, value: u16, count: u8) -> u16
     ensures { result ≡ rotated_left width value count }
 {
     rotate(width, value, u32::from(count) % width.bits())
 }
 
-/// The low bits of a value turned right by so many places.
+/// The low bits of a value rotated right by `count` places.
 pub fn ror(width: Width, value: u16, count: u8) -> u16
     ensures { result ≡ rotated_right width value count }
 {

@@ -8,7 +8,7 @@ use crate::label::Label;
 /// A train of clock pulses, or a key code from the keyboard.
 #[derive(Debug, Clone, Copy, PartialEq, Eq)]
 pub enum Event {
-    /// So many pulses, 1 to 65,535, on every channel of the timer.
+    /// This number of pulses, 1 to 65,535, on every channel of the timer.
     Tick(u16),
     /// A code of the keyboard.
     Key(u8),

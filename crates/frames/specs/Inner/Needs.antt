@@ -18,7 +18,7 @@ nothing = record { words = 0; registers = none }
 abbrev pub both : Need → Need → Need
 both x y = record { words = max x.words y.words; registers = joined x.registers y.registers }
 
--- behind so many values of a routine its instruction is met: at a call the words go on with where it returns, and what the callee needs
+-- at this height of the routine an instruction is met: at a call the words go on with where it returns, and what the callee needs
 abbrev pub met : (ℕ → Need) → Instruction → ℕ → Need
 met t (Invoke q) h = record { words = h + 1 + (t q).words; registers = (t q).registers }
 met t x h = record { words = h; registers = changes x }

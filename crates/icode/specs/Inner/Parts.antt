@@ -3,7 +3,7 @@ use Rattle.std.specs.Prelude.{Bool, true, false}
 use Rattle.icode.specs.declared.instruction.Instruction.{Instruction}
 use Rattle.icode.specs.declared.instruction.Instruction.TheVariants as op
 
--- it has no access and goes on behind itself
+-- it has no access and goes on at the next one
 abbrev pub is_plain : Instruction → Bool
 is_plain (op.Constant k) = true
 is_plain (op.Locate x) = true

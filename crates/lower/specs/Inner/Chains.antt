@@ -16,7 +16,7 @@ module _ (procedures : List Procedure) where
   chain_code [] = []
   chain_code (o ∷ os) = operation_code o ++ chain_code os
 
-  -- the targets behind the first one
+  -- the targets after the first one
   abbrev pub others_code : List declared_target.Target → List Instruction
   others_code [] = []
   others_code (t ∷ ts) = target_code procedures (target_of t) ++ others_code ts

@@ -144,7 +144,7 @@ module_or d (Some p) = p.module
 module_or d None = d
 
 module _ (k : ℕ) where
-  -- where the first of them has a number, those behind it may stand
+  -- where the first of them has a number, those after it may stand
   abbrev first_of_them : (of_section : Bool) (number : ℕ) → List declared.Procedure → List Routine
   first_of_them b number ps = cond b (Procedure number ∷ procedures_in k (number + 1) ps) (procedures_in k (number + 1) ps)
 

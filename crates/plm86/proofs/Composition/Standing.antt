@@ -53,7 +53,7 @@ module _ (c : Code) (saves : Routine → Registers) where
         let at_n = subst (λ z. AllStand code words offsets places (λ j. slice_index places z + start is.sizes j) 0 steps) own there in
         subst (λ z. AllStand code words offsets places (λ j. slice_index places n + start z j) 0 steps) (sym found.5) at_n
 
--- ---- no step begins behind its part
+-- ---- no step begins past the end of its part
 
 -- the bytes of steps end where the last of them ends
 spelt_end : (own : ℕ) (at : ℕ → ℕ) (k : ℕ) (steps : List Step) (bytes : List ℕ) (fixups : List Fixup) → AreSpelt own at k steps bytes fixups → at (k + length steps) ≡ at k + length bytes
@@ -75,7 +75,7 @@ step_within own steps bytes fixups is k =
     omega (arith, start_within is.sizes k, ap (start is.sizes) many, spelt_end own (start is.sizes) 0 steps bytes fixups is.spelt, begin)
 
 module _ (c : Code) (saves : Routine → Registers) where
-  -- nor behind the last part, where parts lie one after another
+  -- nor past the last part, where parts lie one after another
   pub steps_within : (own : ℕ) (rs : List Routine) (ps : List Part) (are : ArePartsOf c saves own rs ps) (from n k : ℕ)
       → slice_index (places_from from ps) n + start (sizes_in c saves own rs ps are n) k ≤ from + total_of ps
   steps_within own [] [] are from n k = past n k

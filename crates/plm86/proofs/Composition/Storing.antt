@@ -12,7 +12,7 @@ module _ (offsets : List ℕ) (variables : List Variable) where
   abbrev bytes_of : Object → List ℕ
   bytes_of o = object_bytes offsets variables o
 
-  -- the address of no initial byte of these objects, which are the k-th and those behind it
+  -- the address of no initial byte of these objects, which are the k-th and those after it
   abbrev pub IsBeside : (k : ℕ) → List Object → (a : ℕ) → Type 0
   IsBeside k os a = (j : ℕ) (o : Object) → slice_get os j ≡ Some o → (i : ℕ) → i < length (bytes_of o) → a ≡ 1024 + slice_index offsets (k + j) + i → ⊥
 
@@ -26,11 +26,11 @@ module _ (offsets : List ℕ) (variables : List Variable) where
   abbrev pub AreLow : (k : ℕ) → List Object → Type 0
   AreLow k os = (j : ℕ) (o : Object) → slice_get os j ≡ Some o → (i : ℕ) → i < length (bytes_of o) → slice_index offsets (k + j) + i < 0xF000
 
-  -- so of those behind the first
+  -- so of those after the first
   beside_rest : (k : ℕ) (o : Object) (os : List Object) (a : ℕ) → IsBeside k (o ∷ os) a → IsBeside (k + 1) os a
   beside_rest k o os a h j p e i lt at = let next : k + 1 + j ≡ k + suc j = omega arith in h (suc j) p e i lt (at ∙ ap (λ z. 1024 + slice_index offsets z + i) next)
 
-  -- it lies before the first one's initial bytes or behind them
+  -- it lies before the first one's initial bytes or after them
   beside_one : (k : ℕ) (o : Object) (os : List Object) (a : ℕ) → IsBeside k (o ∷ os) a → (a < 1024 + slice_index offsets k) ⊎ (1024 + slice_index offsets k + length (bytes_of o) ≤ a)
   beside_one k o os a h =
       let to = 1024 + slice_index offsets k in
@@ -47,7 +47,7 @@ module _ (offsets : List ℕ) (variables : List Variable) where
   rom_beside : (k : ℕ) (os : List Object) (a : ℕ) → AreLow k os → 0xF0000 ≤ a → IsBeside k os a
   rom_beside k os a low le j o e i lt at = let small = low j o e i lt in absurd (omega (arith, at, le, small))
 
-  -- what holds of all holds of those behind the first
+  -- what holds of all holds of those after the first
   apart_rest : (k : ℕ) (o : Object) (os : List Object) → AreApart k (o ∷ os) → AreApart (k + 1) os
   apart_rest k o os h j g p q ej eg lt i l lti ltl same =
       let next_j : k + 1 + j ≡ k + suc j = omega arith in
@@ -77,7 +77,7 @@ module _ (offsets : List ℕ) (variables : List Variable) where
         ∙ objects_beside at2 copies2 (k + 1) os (done places from own f) a (beside_rest k o os a h)
         ∙ object_beside places from at copies (1024 + slice_index offsets k) (bytes_of o) f a (beside_one k o os a h)
 
-    -- behind an object the others' bytes are in the ROM
+    -- after an object the others' bytes are in the ROM
     rom_rest : (at copies k : ℕ) (o : Object) (os : List Object) (f : ℕ → ℕ) → AreLow k (o ∷ os) → AreInRom at copies (o ∷ os) f
         → AreInRom (at + length (copied copies (bytes_of o))) (copies_with copies (bytes_of o)) os (done places from (object_tasks at copies (1024 + slice_index offsets k) (bytes_of o)) f)
     rom_rest at copies k o os f low stands j lt =

@@ -19,7 +19,7 @@ use Rattle.plm86.specs.declared.mean.MeanEnd.TheVariants as ends
 use Rattle.plm86.specs.declared.mean.Ending.{Ending}
 use Rattle.plm86.specs.declared.mean.Ending.TheVariants as endings
 
--- A run has made so many labels, which were taken, and these choices are left: what is to come is the rest of the whole.
+-- A run has made labels, which were taken, and these choices are left: what is to come is the rest of the whole.
 pub record Far (names : Names) (placement : Placement) (whole : List Label × MeanEnd) (left : List (List (Choice Event))) (m : Meaning) (old new : Option (List ℕ)) (before after : ℕ) : Type 0 where
   pub run : IsRunOf m names placement
   pub chips : ChipState

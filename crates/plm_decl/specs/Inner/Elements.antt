@@ -1,4 +1,4 @@
--- Names of one declaration, without the place behind the last of them.
+-- Names of one declaration, without the place after the last of them.
 use Rattle.std.specs.Prelude.{List}
 use Rattle.plm_syntax.specs.Tree.{VariableT}
 use Rattle.plm_decl.specs.declared.elements.Site.{Site}

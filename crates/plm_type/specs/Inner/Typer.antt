@@ -36,7 +36,7 @@ sizes t = sizes_of t.names.now
 abbrev pub with_stride : ℕ → Expression → Subscript
 with_stride stride e = record { stride = stride; index = e }
 
--- ---- what the definition says, behind faults that are noted already
+-- ---- what the definition says, after faults that are noted already
 
 abbrev pub after : List Found → Typed → Typed
 after noted e = record { tree = e.tree; scalar = e.scalar; faults = noted ++ e.faults }

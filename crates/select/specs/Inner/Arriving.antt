@@ -10,7 +10,7 @@ use Rattle.select.specs.declared.part.Step.TheVariants.{Goto, GotoIf}
 use Rattle.select.specs.Linked.{Stands}
 
 module _ (code : ℕ → Option (Instr × ℕ)) (find : (offset n : ℕ) → Option (ℕ × ℕ)) (words : ℕ → Option ℕ) (entry : (vector : ℕ) → ℕ) (main handler : ℕ) where
-  -- from one context to another by so many silent instructions
+  -- from one context to another by this number of silent instructions
   abbrev pub Arrives : ℕ → Context → Context → Type 0
   Arrives zero c d = c ≡ d
   Arrives (suc n) c d = (e : Context) × (offer code find words entry main handler c ≡ Does (Silent e)) × Arrives n e d

@@ -3,7 +3,7 @@ use Rattle.plm_type.specs.Rest.{End}
 use Rattle.plm_meaning.specs.Context.{Todo, todo_in}
 use Rattle.plm_meaning.proofs.settle.at_end.Given as goal
 
--- what is left behind the frames taken off so far is what was to do
+-- what is left without the frames taken off so far is what was to do
 abbrev pub invariant-loop-frame : goal.invariant-loop-frame
 invariant-loop-frame l = todo_in l.context.frames.items (Todo End) ≡ todo_in l.initial.context.frames.items (Todo End)
 

@@ -58,7 +58,7 @@ arm-returns-clause-leads t c = λ s v d. arrives_left read_arm s v c.boxed.resul
     (arm_goes c.args.cursor s v c.args.room c.in_ok-inside.inside d c.in_ok-inside.ensures)
     (boxes read_statement (Leave ∷ s) v c.statement.result c.boxed.result (run 64 (Want (StatementG None) ∷ Leave ∷ s) (NamesR no_names ∷ v) (ahead c.args.cursor)) c.boxed.ensures (c.statement.ensures.leads (Leave ∷ s) v (deeper (depth s) c.args.room c.in_ok-inside.inside d c.in_ok-inside.ensures)))
 
--- what is awaited behind the word THEN, and behind its arm
+-- what is awaited after the word THEN, and after its arm
 abbrev to_arms : Position → List Symbol → List Symbol
 to_arms p s = Want ArmG ∷ Want OtherwiseG ∷ Do (make_if p) ∷ s
 

@@ -13,7 +13,7 @@ use Rattle.plm_syntax.proofs.Along.{quiet, taken, need_refused, failed, refusal}
 use Rattle.plm_syntax.proofs.Joined.{arrived, ended, stays_within, stays_less}
 use Rattle.plm_syntax.proofs.statement.range.Goals as goal
 
--- what is awaited behind an iteration's bounds
+-- what is awaited after an iteration's bounds
 abbrev to_step : List Symbol → List Symbol
 to_step s = Do make_range ∷ push (StepR None) ∷ Want StepG ∷ need mark.Semicolon ∷ s
 
