@@ -13,7 +13,7 @@ abbrev pub IsCallPath : Graph → (calls path : List ℕ) → Type 0
 IsCallPath graph calls [] = ⊤
 IsCallPath graph calls (p ∷ path) = Contains calls p × IsCallPath graph (row_of (slice_get graph p)) path
 
--- Each path of calls from main has at most main procedures, and each one from an interrupt procedure at most interrupt ones, itself
+-- Each path of calls from main has at most `main` procedures, and each one from an interrupt procedure at most `interrupt`, itself
 -- among them: together 8. No statement has more than 32 constants and references.
 pub record IsShallow (names : Names) : Type 0 where
   pub main : ℕ
