@@ -3,7 +3,7 @@ use Rattle.std.proofs.Common.{◌≡◌, ℕ, ◌+◌, ◌-◌, ◌≤◌, List,
 use Rattle.std.proofs.lemmas.List.{length-drop, get_or-drop}
 use Rattle.cpu8086.specs.BusModel.{eight_bytes}
 use Rattle.std.specs.Prelude.{slice_range, Option}
-use Rattle.acceptance.specs.TestBus.{test_bus}
+use Rattle.acceptance.specs.Inner.TestBus.{test_bus}
 
 -- the front of a list by its items
 front_eight : (l : List ℕ) → 8 ≤ length l → take 8 l ≡ slice_index_or l 0 255 ∷ slice_index_or l 1 255 ∷ slice_index_or l 2 255 ∷ slice_index_or l 3 255 ∷ slice_index_or l 4 255 ∷ slice_index_or l 5 255 ∷ slice_index_or l 6 255 ∷ slice_index_or l 7 255 ∷ []

@@ -1,1 +1,1 @@
-pub mod TestBus
+pub mod Inner

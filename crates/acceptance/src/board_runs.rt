@@ -1,6 +1,7 @@
 //! ROMs made by hand, with the traces that the manuals and the formats give.
 
 use crate::board_roms::*;
+use crate::expect::Expect;
 use board::{Board, End, read_schedule};
 use bstr::ByteSlice;
 use std::alloc::Global;
@@ -52,9 +53,10 @@ fn check(
     end: End,
     text: &[u8],
 ) -> Result<(), Fail> {
+    let mut expect = Expect::new(rt);
     let mut sink = CutSink::new(alloc, 300_000, 4096)?;
-    assert_eq!(rt; traced(alloc, code, reset, schedule, &mut sink)?, Ok(end));
-    assert_eq!(rt; sink.bytes(), text);
+    expect.same(traced(alloc, code, reset, schedule, &mut sink)?, Ok(end));
+    expect.same(sink.bytes(), text);
     Ok(())
 }
 
@@ -288,6 +290,7 @@ fn turns_one_by_one(rt: HostRuntime) -> Result<(), Fail> {
 // A sink that takes k bytes and then fails has them, and one that takes one byte a call takes the whole text.
 #[test]
 fn failing_sinks(rt: HostRuntime) -> Result<(), Fail> {
+    let mut expect = Expect::new(&rt);
     let text =
         b"OUT 0063 99\nIN 0060 00\nIN 0060 00\nKEY 1E\nIN 0060 1E\nOUT 0300 01\nTICK 12\nEND 40\n";
     let schedule = b"AT 8 KEY 1E\nAT 30 TICK 12\nSTOP 40";
@@ -312,8 +315,8 @@ fn failing_sinks(rt: HostRuntime) -> Result<(), Fail> {
         schedule,
         &mut sink,
     )?;
-    assert_eq!(rt; end, Ok(End::Stopped));
-    assert_eq!(rt; sink.bytes(), text.as_slice());
+    expect.same(end, Ok(End::Stopped));
+    expect.same(sink.bytes(), text.as_slice());
     Ok(())
 }
 
@@ -343,12 +346,13 @@ fn counted(alloc: Global, from: u32, word: &[u8], line: &[u8]) -> Result<(u32, u
 // ICW1 clears the one request of a key that came before it, and the register stays full.
 #[test]
 fn keys_at_every_turn(rt: HostRuntime) -> Result<(), Fail> {
+    let mut expect = Expect::new(&rt);
     let (reads, same) = counted(rt.alloc(), 1000, b"IN 0060", b"IN 0060 1E")?;
-    assert!(rt; reads > 0);
-    assert_eq!(rt; reads, same);
+    expect.holds(reads > 0);
+    expect.same(reads, same);
     let (taken, _) = counted(rt.alloc(), 1000, b"ACK", b"ACK 09")?;
-    assert!(rt; taken > 0);
+    expect.holds(taken > 0);
     let (taken, _) = counted(rt.alloc(), 0, b"ACK", b"ACK 09")?;
-    assert_eq!(rt; taken, 0);
+    expect.same(taken, 0);
     Ok(())
 }

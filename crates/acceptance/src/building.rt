@@ -1,5 +1,6 @@
 //! Texts are built into ROMs, which run: the traces are worked by hand from the language's rules.
 
+use crate::expect::Expect;
 use crate::lowering::program_of;
 use crate::selection::section_of;
 use board::{Board, End, read_schedule};
@@ -30,12 +31,13 @@ fn writes(
     schedule: &[u8],
     trace: &[u8],
 ) -> Result<(), Fail> {
+    let mut expect = Expect::new(rt);
     let image = built(alloc, texts, size)?;
     let schedule = read_schedule(alloc, schedule)?;
     let mut sink = CutSink::new(alloc, 100_000, 4096)?;
     let mut board = Board::new(alloc, &image.rom, PowerOn::filled(alloc, schedule.fill())?)?;
-    assert_eq!(rt; board.run(&schedule, &mut sink), Ok(End::Stopped));
-    assert_eq!(rt; sink.bytes(), trace);
+    expect.same(board.run(&schedule, &mut sink), Ok(End::Stopped));
+    expect.same(sink.bytes(), trace);
     Ok(())
 }
 
@@ -182,16 +184,17 @@ fn are_same(some: &[Part], others: &[Part]) -> bool {
 /// The parts of a module stay as they are where a body in another one is changed.
 #[test]
 fn sections_stand_alone(rt: HostRuntime) -> Result<(), Fail> {
+    let mut expect = Expect::new(&rt);
     let alloc = rt.alloc();
     let nine = [CALLS, PUTS_NINE];
     let eight = [CALLS, PUTS_EIGHT];
     let main = parts_of(alloc, &nine, 0)?;
     // The EXTERNAL procedure has a part in the module that names it.
-    assert_eq!(rt; main.len(), 2);
-    assert!(rt; are_same(&main, &parts_of(alloc, &eight, 0)?));
+    expect.same(main.len(), 2);
+    expect.holds(are_same(&main, &parts_of(alloc, &eight, 0)?));
     let puts = parts_of(alloc, &nine, 1)?;
-    assert_eq!(rt; puts.len(), 1);
-    assert!(rt; !are_same(&puts, &parts_of(alloc, &eight, 1)?));
+    expect.same(puts.len(), 1);
+    expect.holds(!are_same(&puts, &parts_of(alloc, &eight, 1)?));
     Ok(())
 }
 
@@ -257,14 +260,15 @@ fn chain(alloc: Global, others: u16) -> Result<Vec<u8>, Fault> {
 /// A call pushes 2 bytes: with the 6 of an interrupt, the 2,044 of main and 2,043 procedures take 4,094 bytes, as many as there are.
 #[test]
 fn stack_is_full(rt: HostRuntime) -> Result<(), Fail> {
+    let mut expect = Expect::new(&rt);
     let alloc = rt.alloc();
     let most = Stack {
         main: 4088,
         handler: 6,
     };
-    assert_eq!(rt; stack_of(alloc, &chain(alloc, 2043)?), Ok(most));
+    expect.same(stack_of(alloc, &chain(alloc, 2043)?), Ok(most));
     let past = Err(Fault::At(0, 1, Number::E501));
-    assert_eq!(rt; stack_of(alloc, &chain(alloc, 2044)?), past);
+    expect.same(stack_of(alloc, &chain(alloc, 2044)?), past);
     Ok(())
 }
 

@@ -1,5 +1,6 @@
 //! Small texts: what they declare.
 
+use crate::expect::Expect;
 use crate::names::{names_of, names_of_two};
 use plm_decl::{Datum, Form, Names, Object, Placement, Region, ScalarType, Variable, resolve};
 use plm_syntax::parse;
@@ -210,6 +211,7 @@ fn contents_of_declarations(rt: HostRuntime) -> Result<(), Fail> {
 
 #[test]
 fn names_on_the_screen(rt: HostRuntime) -> Result<(), Fail> {
+    let mut expect = Expect::new(&rt);
     let alloc = rt.alloc();
     let text = b"M: DO; DECLARE G BYTE DATA (9), (E, F) (3) WORD AT (0B8010H); ; END M;";
     let names = names_of(alloc, text)?;
@@ -217,22 +219,20 @@ fn names_on_the_screen(rt: HostRuntime) -> Result<(), Fail> {
         assert!(rt; false, "two names");
         return Ok(());
     };
-    assert!(rt;
-        first.path.as_slice() == b"M.E".as_slice() && second.path.as_slice() == b"M.F".as_slice()
+    expect.holds(
+        first.path.as_slice() == b"M.E".as_slice() && second.path.as_slice() == b"M.F".as_slice(),
     );
-    assert_eq!(rt;
-        (first.size, first.offset, first.objects_before),
-        (6, 16, 1)
-    );
-    assert_eq!(rt;
+    expect.same((first.size, first.offset, first.objects_before), (6, 16, 1));
+    expect.same(
         (second.size, second.offset, second.objects_before),
-        (6, 22, 1)
+        (6, 22, 1),
     );
     Ok(())
 }
 
 #[test]
 fn members_without_gaps(rt: HostRuntime) -> Result<(), Fail> {
+    let mut expect = Expect::new(&rt);
     let alloc = rt.alloc();
     let text = b"M: DO; DECLARE S STRUCTURE (X BYTE, (y, Z$) (2) WORD, Q POINTER); ; END M;";
     let names = names_of(alloc, text)?;
@@ -246,8 +246,8 @@ fn members_without_gaps(rt: HostRuntime) -> Result<(), Fail> {
         assert!(rt; false, "one structure");
         return Ok(());
     };
-    assert_eq!(rt; (structure.size, structure.scalars), (11, 6));
-    assert!(rt; structure.fields.len() == wanted.len());
+    expect.same((structure.size, structure.scalars), (11, 6));
+    expect.holds(structure.fields.len() == wanted.len());
     for (field, (name, dimension, offset)) in structure.fields.iter().zip(&wanted) {
         assert!(rt; field.name.as_slice() == *name, "member {name:?}");
         assert_eq!(rt;
@@ -260,6 +260,7 @@ fn members_without_gaps(rt: HostRuntime) -> Result<(), Fail> {
 
 #[test]
 fn regions_and_entries_joined(rt: HostRuntime) -> Result<(), Fail> {
+    let mut expect = Expect::new(&rt);
     let alloc = rt.alloc();
     let first =
         b"A: DO; DECLARE (L, X) WORD PUBLIC, W (3) BYTE EXTERNAL; P: PROCEDURE (N) PUBLIC; DECLARE N BYTE; END P; END A;";
@@ -281,18 +282,15 @@ fn regions_and_entries_joined(rt: HostRuntime) -> Result<(), Fail> {
         (BYTE, Some(3), 1, Region::Ram(3, 0)),
         (WORD, None, 2, Region::Ram(1, 0)),
     ];
-    assert!(rt; are_variables(&names.variables, &variables));
+    expect.holds(are_variables(&names.variables, &variables));
     let [public, external] = names.procedures.as_slice() else {
         assert!(rt; false, "two procedures");
         return Ok(());
     };
-    assert_eq!(rt;
-        (public.entry, external.entry, names.main.module),
-        (0, 0, 1)
-    );
-    assert!(rt;
+    expect.same((public.entry, external.entry, names.main.module), (0, 0, 1));
+    expect.holds(
         public.parameters.as_slice() == [3].as_slice()
-            && external.parameters.as_slice() == [6].as_slice()
+            && external.parameters.as_slice() == [6].as_slice(),
     );
     Ok(())
 }

@@ -4,6 +4,7 @@
 //! the operands in AL or AX, DL or DX, CL or CX (`gcc -O1`, GNU assembler, AT&T syntax, as `"push %3\n\tpopfq\n\tadc %%dl, %%al\n\tpushfq\n\tpop %3"`).
 //! Of the flags after it those were kept that the manual defines for the instruction; the undefined ones are those of before. SIGFPE is `None`.
 
+use crate::expect::Expect;
 use bitflags::Flags as _;
 use i86_table::{
     Address, AluOperation, AluOperation as Alu, Base, BytePair, Condition, Flags, LoadableSegment,
@@ -521,6 +522,7 @@ fn divisions(rt: HostRuntime) {
 /// Each other public call once.
 #[test]
 fn registers(rt: HostRuntime) {
+    let mut expect = Expect::new(&rt);
     let mut regs = with_flags(0xFFFF);
     regs.set_word(Register16::Ax, 0x1234);
     regs.set_word(Register16::Dx, 0x3F8);
@@ -528,43 +530,40 @@ fn registers(rt: HostRuntime) {
     regs.set_word(Register16::Si, 0x20);
     regs.set_code_segment(0xF000);
     regs.set_ip(0x100);
-    assert_eq!(rt; (regs.segment(Segment::Cs), regs.ip()), (0xF000, 0x100));
+    expect.same((regs.segment(Segment::Cs), regs.ip()), (0xF000, 0x100));
     regs.set_byte(Register8::Ah, 0x56);
     regs.set_word(Register16::Di, 7);
     regs.set_segment(LoadableSegment::Es, 0xB000);
-    assert_eq!(rt;
+    expect.same(
         (regs.word(Register16::Ax), regs.byte(Register8::Al)),
-        (0x5634, 0x34)
+        (0x5634, 0x34),
     );
-    assert_eq!(rt;
+    expect.same(
         (
             regs.word(Register16::Di),
-            regs.segment(LoadableSegment::Es.segment())
+            regs.segment(LoadableSegment::Es.segment()),
         ),
-        (7, 0xB000)
+        (7, 0xB000),
     );
     let address = Address::Based {
         base: Base::BxSi,
         displacement: 0xFFFE,
     };
-    assert_eq!(rt;
-        (regs.offset(address), regs.port(Port::Dx)),
-        (0x000E, 0x3F8)
-    );
-    assert_eq!(rt; regs.flags().bits(), 0xFD5);
+    expect.same((regs.offset(address), regs.port(Port::Dx)), (0x000E, 0x3F8));
+    expect.same(regs.flags().bits(), 0xFD5);
     regs.set_flag(Flags::ZERO, false);
-    assert!(rt; regs.holds(Condition::Below) && !regs.holds(Condition::Equal));
-    assert!(rt; regs.lets_interrupts_in());
+    expect.holds(regs.holds(Condition::Below) && !regs.holds(Condition::Equal));
+    expect.holds(regs.lets_interrupts_in());
     regs.test(Width::Byte, 0x80, 0x80);
-    assert_eq!(rt; regs.flags().bits(), 0x790);
-    assert_eq!(rt; (sign_extended(0x80), sign_word(0x7FFF)), (0xFF80, 0));
+    expect.same(regs.flags().bits(), 0x790);
+    expect.same((sign_extended(0x80), sign_word(0x7FFF)), (0xFF80, 0));
     let operands: Operands<Register8, u8> = Operands::Immediate(
         RmOperand::Register(Register8::Cl),
         1,
     );
-    assert!(rt; matches!(operands.target(), RmOperand::Register(Register8::Cl)));
+    expect.holds(matches!(operands.target(), RmOperand::Register(Register8::Cl)));
     let words = WordPair::of(Register16::Dx, Register16::Ax);
-    assert!(rt; words.first == Register16::Ax && words.second == Register16::Dx);
+    expect.holds(words.first == Register16::Ax && words.second == Register16::Dx);
     let bytes = BytePair::of(Register8::Al, Register8::Bh);
-    assert!(rt; bytes.first == Register8::Al && bytes.second == Register8::Bh);
+    expect.holds(bytes.first == Register8::Al && bytes.second == Register8::Bh);
 }

@@ -1,5 +1,6 @@
 //! Rows from the data sheet, worked by hand.
 
+use crate::expect::Expect;
 use pic8259::{Call, Pic, Reply, replay};
 use std::test::Fail;
 
@@ -24,77 +25,82 @@ fn taken(pic: &mut Pic) -> Option<u8> {
 // Two levels, one after the other: specific end, end of the highest, and the register in service.
 #[test]
 fn two_levels_in_turn(rt: HostRuntime) -> Result<(), Fail> {
+    let mut expect = Expect::new(&rt);
     let mut pic = started(false);
     pic.pulse(1);
     pic.pulse(0);
-    assert_eq!(rt; taken(&mut pic), Some(8));
-    assert!(rt; !pic.int_line());
+    expect.same(taken(&mut pic), Some(8));
+    expect.holds(!pic.int_line());
     pic.write(0, 0x61);
-    assert!(rt; !pic.int_line());
+    expect.holds(!pic.int_line());
     pic.write(0, 0x20);
-    assert_eq!(rt; taken(&mut pic), Some(9));
+    expect.same(taken(&mut pic), Some(9));
     pic.write(0, 0x0B);
-    assert_eq!(rt; pic.read(0), 2);
+    expect.same(pic.read(0), 2);
     Ok(())
 }
 
 // Fully nested mode: a higher level interrupts a lower one in service, a lower one waits, and each end takes the highest.
 #[test]
 fn fully_nested(rt: HostRuntime) -> Result<(), Fail> {
+    let mut expect = Expect::new(&rt);
     let mut pic = started(false);
     pic.pulse(4);
-    assert_eq!(rt; taken(&mut pic), Some(12));
+    expect.same(taken(&mut pic), Some(12));
     pic.pulse(6);
-    assert_eq!(rt; taken(&mut pic), None);
+    expect.same(taken(&mut pic), None);
     pic.pulse(2);
-    assert_eq!(rt; taken(&mut pic), Some(10));
+    expect.same(taken(&mut pic), Some(10));
     pic.write(0, 0x0B);
-    assert_eq!(rt; pic.read(0), 0x14);
+    expect.same(pic.read(0), 0x14);
     pic.write(0, 0x20);
-    assert_eq!(rt; pic.read(0), 0x10);
-    assert_eq!(rt; taken(&mut pic), None);
+    expect.same(pic.read(0), 0x10);
+    expect.same(taken(&mut pic), None);
     pic.write(0, 0x20);
-    assert_eq!(rt; taken(&mut pic), Some(14));
+    expect.same(taken(&mut pic), Some(14));
     Ok(())
 }
 
 // A specific end takes its level alone, also one that is not the highest.
 #[test]
 fn specific_end(rt: HostRuntime) -> Result<(), Fail> {
+    let mut expect = Expect::new(&rt);
     let mut pic = started(false);
     pic.pulse(5);
-    assert_eq!(rt; taken(&mut pic), Some(13));
+    expect.same(taken(&mut pic), Some(13));
     pic.pulse(3);
-    assert_eq!(rt; taken(&mut pic), Some(11));
+    expect.same(taken(&mut pic), Some(11));
     pic.write(0, 0x65);
     pic.write(0, 0x0B);
-    assert_eq!(rt; pic.read(0), 0x08);
+    expect.same(pic.read(0), 0x08);
     Ok(())
 }
 
 // OCW3 chooses the register only where bit 1 is 1 and bit 7 is 0: 8BH leaves the choice of 0AH, the requests.
 #[test]
 fn register_choice_kept(rt: HostRuntime) -> Result<(), Fail> {
+    let mut expect = Expect::new(&rt);
     let mut pic = started(false);
     pic.pulse(1);
-    assert_eq!(rt; taken(&mut pic), Some(9));
+    expect.same(taken(&mut pic), Some(9));
     pic.pulse(4);
     pic.write(0, 0x0A);
     pic.write(0, 0x8B);
-    assert_eq!(rt; pic.read(0), 0x10);
+    expect.same(pic.read(0), 0x10);
     pic.write(0, 0x08);
-    assert_eq!(rt; pic.read(0), 0x10);
+    expect.same(pic.read(0), 0x10);
     pic.write(0, 0x0B);
-    assert_eq!(rt; pic.read(0), 0x02);
+    expect.same(pic.read(0), 0x02);
     Ok(())
 }
 
 // Of OCW2's commands the plain and the specific end of interrupt alone end one: rotations and the others end nothing.
 #[test]
 fn other_commands_end_nothing(rt: HostRuntime) -> Result<(), Fail> {
+    let mut expect = Expect::new(&rt);
     let mut pic = started(false);
     pic.pulse(0);
-    assert_eq!(rt; taken(&mut pic), Some(8));
+    expect.same(taken(&mut pic), Some(8));
     pic.write(0, 0x0B);
     for word in [0xA0, 0xE0, 0x40, 0xC0, 0x00, 0x80] {
         pic.write(0, word);
@@ -103,8 +109,8 @@ fn other_commands_end_nothing(rt: HostRuntime) -> Result<(), Fail> {
         assert!(rt; !pic.int_line());
     }
     pic.write(0, 0x20);
-    assert_eq!(rt; pic.read(0), 0);
-    assert_eq!(rt; taken(&mut pic), Some(9));
+    expect.same(pic.read(0), 0);
+    expect.same(taken(&mut pic), Some(9));
     Ok(())
 }
 
@@ -123,73 +129,78 @@ fn no_ninth_line(rt: HostRuntime) -> Result<(), Fail> {
 // A mask holds a request back without dropping it, and reads back.
 #[test]
 fn mask_during_service(rt: HostRuntime) -> Result<(), Fail> {
+    let mut expect = Expect::new(&rt);
     let mut pic = started(false);
     pic.pulse(1);
-    assert_eq!(rt; taken(&mut pic), Some(9));
+    expect.same(taken(&mut pic), Some(9));
     pic.write(1, 0x01);
     pic.pulse(0);
-    assert_eq!(rt; pic.read(1), 0x01);
-    assert_eq!(rt; pic.read(0), 0x01);
-    assert_eq!(rt; taken(&mut pic), None);
+    expect.same(pic.read(1), 0x01);
+    expect.same(pic.read(0), 0x01);
+    expect.same(taken(&mut pic), None);
     pic.write(1, 0);
-    assert_eq!(rt; taken(&mut pic), Some(8));
+    expect.same(taken(&mut pic), Some(8));
     Ok(())
 }
 
 // ICW1 clears requests, service and mask, and leaves 8086 mode; the vector's bits stay.
 #[test]
 fn initialised_again(rt: HostRuntime) -> Result<(), Fail> {
+    let mut expect = Expect::new(&rt);
     let mut pic = started(true);
     pic.pulse(0);
     pic.pulse(7);
     pic.write(1, 0x80);
     pic.write(0, 0x0B);
     pic.write(0, 0x13);
-    assert!(rt; !pic.int_line());
-    assert_eq!(rt; pic.read(0), 0);
+    expect.holds(!pic.int_line());
+    expect.same(pic.read(0), 0);
     pic.pulse(3);
-    assert_eq!(rt; pic.read(0), 8);
+    expect.same(pic.read(0), 8);
     pic.write(1, 0x40);
     pic.write(1, 1);
-    assert_eq!(rt; pic.read(1), 0);
-    assert_eq!(rt; taken(&mut pic), Some(0x43));
+    expect.same(pic.read(1), 0);
+    expect.same(taken(&mut pic), Some(0x43));
     pic.write(0, 0x0B);
-    assert_eq!(rt; pic.read(0), 8);
+    expect.same(pic.read(0), 8);
     Ok(())
 }
 
 // With SNGL = 0 ICW3 is awaited and ignored; without ICW4 the chip stays out of 8086 mode.
 #[test]
 fn initialisation_words(rt: HostRuntime) -> Result<(), Fail> {
+    let mut expect = Expect::new(&rt);
     let mut pic = Pic::reset();
     for (a0, v) in [(0, 0x11), (1, 0x27), (1, 0xFF), (1, 1), (1, 0x0F)] {
         pic.write(a0, v);
     }
     pic.pulse(4);
-    assert_eq!(rt; taken(&mut pic), Some(0x24));
-    assert_eq!(rt; pic.read(1), 0x0F);
+    expect.same(taken(&mut pic), Some(0x24));
+    expect.same(pic.read(1), 0x0F);
     for (a0, v) in [(0, 0x12), (1, 8), (1, 0)] {
         pic.write(a0, v);
     }
     pic.pulse(4);
-    assert!(rt; !pic.int_line());
+    expect.holds(!pic.int_line());
     Ok(())
 }
 
 // Automatic end: nothing is in service, so a lower level follows at once.
 #[test]
 fn automatic_end(rt: HostRuntime) -> Result<(), Fail> {
+    let mut expect = Expect::new(&rt);
     let mut pic = started(true);
     pic.pulse(0);
     pic.pulse(1);
-    assert_eq!(rt; taken(&mut pic), Some(8));
-    assert_eq!(rt; taken(&mut pic), Some(9));
-    assert_eq!(rt; taken(&mut pic), None);
+    expect.same(taken(&mut pic), Some(8));
+    expect.same(taken(&mut pic), Some(9));
+    expect.same(taken(&mut pic), None);
     Ok(())
 }
 
 #[test]
 fn list_of_calls(rt: HostRuntime) -> Result<(), Fail> {
+    let mut expect = Expect::new(&rt);
     let calls = [
         Call::Write(0, 0x13),
         Call::Write(1, 8),
@@ -203,9 +214,9 @@ fn list_of_calls(rt: HostRuntime) -> Result<(), Fail> {
     ];
     let mut replies = [Reply::Nothing; 9];
     replay(&calls, &mut replies);
-    assert_eq!(rt; replies[4], Reply::Nothing);
-    assert_eq!(rt; replies[6], Reply::Level(true));
-    assert_eq!(rt; replies[7], Reply::Byte(9));
-    assert_eq!(rt; replies[8], Reply::Byte(0));
+    expect.same(replies[4], Reply::Nothing);
+    expect.same(replies[6], Reply::Signal(true));
+    expect.same(replies[7], Reply::Byte(9));
+    expect.same(replies[8], Reply::Byte(0));
     Ok(())
 }

@@ -15,6 +15,8 @@ mod codec;
 #[cfg(test)]
 mod declared_names;
 #[cfg(test)]
+mod expect;
+#[cfg(test)]
 mod flags;
 #[cfg(test)]
 mod interrupt_controller;

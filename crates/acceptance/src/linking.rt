@@ -1,5 +1,6 @@
 //! Parts made by hand, linked and run: the bytes of their code are from the manual's table, the trace from what they do.
 
+use crate::expect::Expect;
 use board::{Board, End, read_schedule};
 use frames::Stack;
 use layout_link::{RomSize, link};
@@ -34,6 +35,7 @@ fn object(place: usize, name: usize) -> Fixup {
 /// A byte that is put, six bytes of which the last is read, a word; then a call and HLT. A vector has a part of its own.
 #[test]
 fn parts_run(rt: HostRuntime) -> Result<(), Fail> {
+    let mut expect = Expect::new(&rt);
     let alloc = rt.alloc();
     let names = names_of(
         alloc,
@@ -70,17 +72,17 @@ fn parts_run(rt: HostRuntime) -> Result<(), Fail> {
         },
         RomSize::Kib8,
     )?;
-    assert_eq!(rt; image.rom.len(), 8192);
-    assert_eq!(rt; image.placement.offsets(), [2, 3, 9].as_slice());
+    expect.same(image.rom.len(), 8192);
+    expect.same(image.placement.offsets(), [2, 3, 9].as_slice());
     // 1,291 turns, the vector, the byte, a copy of six, and the word
-    assert_eq!(rt; image.start_turns, 1303);
+    expect.same(image.start_turns, 1303);
     let schedule = read_schedule(alloc, b"FILL 5A\nSTOP 3000\n")?;
     let mut sink = CutSink::new(alloc, 100_000, 4096)?;
     let mut board = Board::new(alloc, &image.rom, PowerOn::filled(alloc, schedule.fill())?)?;
-    assert_eq!(rt; board.run(&schedule, &mut sink), Ok(End::Stopped));
-    assert_eq!(rt;
+    expect.same(board.run(&schedule, &mut sink), Ok(End::Stopped));
+    expect.same(
         sink.bytes(),
-        b"OUT 00E0 05\nOUT 00E1 06\nOUTW 00E2 AABB\nOUT 00E4 77\nEND 3000\n".as_slice()
+        b"OUT 00E0 05\nOUT 00E1 06\nOUTW 00E2 AABB\nOUT 00E4 77\nEND 3000\n".as_slice(),
     );
     Ok(())
 }

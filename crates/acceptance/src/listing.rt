@@ -1,5 +1,6 @@
 //! Listings of small sources, and maps of small programs, written by hand.
 
+use crate::expect::Expect;
 use frames::Stack;
 use layout_link::Image;
 use listing_map::{listing, map};
@@ -47,13 +48,14 @@ fn lists_each_line(rt: HostRuntime) -> Result<(), Fail> {
 
 #[test]
 fn lists_a_warning_behind_its_line(rt: HostRuntime) -> Result<(), Fail> {
+    let mut expect = Expect::new(&rt);
     let source =
         b"M: DO; P: PROCEDURE; END P; H: PROCEDURE INTERRUPT 8; CALL P; END H; CALL P; END M;";
     let mut sink = CutSink::new(rt.alloc(), 200, 200)?;
-    assert_eq!(rt; listing(source, &[at(1)], &mut sink), Ok(()));
-    assert_eq!(rt;
+    expect.same(listing(source, &[at(1)], &mut sink), Ok(()));
+    expect.same(
         sink.bytes(),
-        b"    1  M: DO; P: PROCEDURE; END P; H: PROCEDURE INTERRUPT 8; CALL P; END H; CALL P; END M;\n***** W1 procedure shared with an interrupt procedure\n".as_slice()
+        b"    1  M: DO; P: PROCEDURE; END P; H: PROCEDURE INTERRUPT 8; CALL P; END H; CALL P; END M;\n***** W1 procedure shared with an interrupt procedure\n".as_slice(),
     );
     Ok(())
 }
@@ -61,10 +63,11 @@ fn lists_a_warning_behind_its_line(rt: HostRuntime) -> Result<(), Fail> {
 // the lines of warnings may stand in any order, twice, and where the source has no line
 #[test]
 fn lists_each_warning(rt: HostRuntime) -> Result<(), Fail> {
+    let mut expect = Expect::new(&rt);
     let warnings = [at(4), at(2), at(9), at(2), at(0), at(4294967295)];
     let mut sink = CutSink::new(rt.alloc(), 300, 7)?;
-    assert_eq!(rt; listing(b"A\nB\nC\nD", &warnings, &mut sink), Ok(()));
-    assert_eq!(rt;
+    expect.same(listing(b"A\nB\nC\nD", &warnings, &mut sink), Ok(()));
+    expect.same(
         sink.bytes(),
         b"    1  A
     2  B
@@ -74,7 +77,7 @@ fn lists_each_warning(rt: HostRuntime) -> Result<(), Fail> {
     4  D
 ***** W1 procedure shared with an interrupt procedure
 "
-            .as_slice()
+            .as_slice(),
     );
     Ok(())
 }
@@ -82,29 +85,31 @@ fn lists_each_warning(rt: HostRuntime) -> Result<(), Fail> {
 // lines up to 99,999 have 8 bytes each here, and the next ones 9
 #[test]
 fn lists_numbers_of_five_and_six_digits(rt: HostRuntime) -> Result<(), Fail> {
+    let mut expect = Expect::new(&rt);
     let source = vec![in rt.alloc(); b'\n'; 100_001]?;
     let mut sink = CutSink::new(rt.alloc(), 800_010, 800_010)?;
-    assert_eq!(rt;
+    expect.same(
         listing(source.as_slice(), &[at(100_000)], &mut sink),
-        Err(CANNOT_WRITE)
+        Err(CANNOT_WRITE),
     );
     let text = sink.bytes();
-    assert_eq!(rt; text.get(..8), Some(b"    1  \n".as_slice()));
-    assert_eq!(rt; text.get(64..80), Some(b"    9  \n   10  \n".as_slice()));
-    assert_eq!(rt; text.get(784..800), Some(b"   99  \n  100  \n".as_slice()));
-    assert_eq!(rt;
+    expect.same(text.get(..8), Some(b"    1  \n".as_slice()));
+    expect.same(text.get(64..80), Some(b"    9  \n   10  \n".as_slice()));
+    expect.same(text.get(784..800), Some(b"   99  \n  100  \n".as_slice()));
+    expect.same(
         text.get(79_984..80_000),
-        Some(b" 9999  \n10000  \n".as_slice())
+        Some(b" 9999  \n10000  \n".as_slice()),
     );
-    assert_eq!(rt;
+    expect.same(
         text.get(799_984..),
-        Some(b"99999  \n100000  \n***** W1 ".as_slice())
+        Some(b"99999  \n100000  \n***** W1 ".as_slice()),
     );
     Ok(())
 }
 
 #[test]
 fn listing_stops_where_the_sink_does(rt: HostRuntime) -> Result<(), Fail> {
+    let mut expect = Expect::new(&rt);
     let text =
         b"    1  A\n    2  B\n***** W1 procedure shared with an interrupt procedure\n    3  C\n";
     for room in 0..text.len() {
@@ -117,9 +122,9 @@ fn listing_stops_where_the_sink_does(rt: HostRuntime) -> Result<(), Fail> {
         assert_eq!(rt; sink.failures(), 1);
     }
     let mut sink = CutSink::new(rt.alloc(), text.len(), 1)?;
-    assert_eq!(rt; listing(b"A\r\nB\nC", &[at(2)], &mut sink), Ok(()));
-    assert_eq!(rt; sink.bytes(), text.as_slice());
-    assert_eq!(rt; sink.failures(), 0);
+    expect.same(listing(b"A\r\nB\nC", &[at(2)], &mut sink), Ok(()));
+    expect.same(sink.bytes(), text.as_slice());
+    expect.same(sink.failures(), 0);
     Ok(())
 }
 
@@ -176,6 +181,7 @@ START 4294967295
 
 #[test]
 fn maps_a_program(rt: HostRuntime) -> Result<(), Fail> {
+    let mut expect = Expect::new(&rt);
     let alloc = rt.alloc();
     let Ok(names) = names_of(alloc, PROGRAM) else {
         panic!(rt; "it is resolved");
@@ -187,8 +193,8 @@ fn maps_a_program(rt: HostRuntime) -> Result<(), Fail> {
     // the last object has no offset
     let image = image_of(alloc, 16384, &[2, 3, 4, 0xEFFE], stack, 4294967295)?;
     let mut sink = CutSink::new(alloc, 1000, 1000)?;
-    assert_eq!(rt; map(&image, &names, &mut sink), Ok(()));
-    assert_eq!(rt; sink.bytes(), MAP);
+    expect.same(map(&image, &names, &mut sink), Ok(()));
+    expect.same(sink.bytes(), MAP);
     for room in 0..MAP.len() {
         let mut sink = CutSink::new(alloc, room, 1)?;
         assert_eq!(rt; map(&image, &names, &mut sink), Err(CANNOT_WRITE));
@@ -201,6 +207,7 @@ fn maps_a_program(rt: HostRuntime) -> Result<(), Fail> {
 // an EXTERNAL procedure serves no interrupt
 #[test]
 fn maps_two_modules(rt: HostRuntime) -> Result<(), Fail> {
+    let mut expect = Expect::new(&rt);
     let alloc = rt.alloc();
     let first = b"M: DO; H: PROCEDURE INTERRUPT 0 EXTERNAL; END H; ; END M;";
     let second =
@@ -214,8 +221,8 @@ fn maps_two_modules(rt: HostRuntime) -> Result<(), Fail> {
     };
     let image = image_of(alloc, 65536, &[], stack, 0)?;
     let mut sink = CutSink::new(alloc, 200, 3)?;
-    assert_eq!(rt; map(&image, &names, &mut sink), Ok(()));
-    assert_eq!(rt;
+    expect.same(map(&image, &names, &mut sink), Ok(()));
+    expect.same(
         sink.bytes(),
         b"ROM 64 KIB
 OBJECT 0000 EA60 N.X
@@ -224,7 +231,7 @@ HANDLER FF N.H
 STACK 0000 ABCD
 START 0
 "
-            .as_slice()
+            .as_slice(),
     );
     Ok(())
 }

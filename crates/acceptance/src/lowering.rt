@@ -1,6 +1,7 @@
 //! Runs of the code that programs are lowered to, step by step over a store, with labels worked by hand from the language's rules. The
 //! meaning of the same text makes the same ones.
 
+use crate::expect::Expect;
 use crate::meaning::{run, run_of};
 use icode::{Code, Instruction, Layout, Machine, Routine, Step, Stop};
 use lower::lower;
@@ -397,6 +398,7 @@ fn bad_steps(rt: HostRuntime) -> Result<(), Fail> {
 
 #[test]
 fn main_goes_on_behind_halts(rt: HostRuntime) -> Result<(), Fail> {
+    let mut expect = Expect::new(&rt);
     let alloc = rt.alloc();
     let forever =
         b"M: DO; DECLARE FOREVER LITERALLY 'WHILE 1'; DO FOREVER; OUTPUT(300H) = 1; HALT; END; END M;";
@@ -406,11 +408,11 @@ fn main_goes_on_behind_halts(rt: HostRuntime) -> Result<(), Fail> {
         Label::Out(0x300, 1),
         Label::Out(0x300, 1),
     ];
-    assert_eq!(rt; labels.as_slice(), three.as_slice());
-    assert_eq!(rt; end, End::Halted);
-    assert_eq!(rt;
+    expect.same(labels.as_slice(), three.as_slice());
+    expect.same(end, End::Halted);
+    expect.same(
         run(alloc, forever, &[])?.0.as_slice(),
-        [Label::Out(0x300, 1)].as_slice()
+        [Label::Out(0x300, 1)].as_slice(),
     );
     // After its last statement main halts again and again.
     let waiting =
@@ -425,13 +427,14 @@ fn main_goes_on_behind_halts(rt: HostRuntime) -> Result<(), Fail> {
         Label::Out(0x40, 4),
         Label::Out(0x300, 1),
     ];
-    assert_eq!(rt; labels.as_slice(), shown.as_slice());
-    assert_eq!(rt; end, End::Halted);
+    expect.same(labels.as_slice(), shown.as_slice());
+    expect.same(end, End::Halted);
     Ok(())
 }
 
 #[test]
 fn main_goes_on_where_interrupts_come(rt: HostRuntime) -> Result<(), Fail> {
+    let mut expect = Expect::new(&rt);
     let alloc = rt.alloc();
     // Without the interrupt the base is A's address in each round.
     let based =
@@ -441,13 +444,13 @@ fn main_goes_on_where_interrupts_come(rt: HostRuntime) -> Result<(), Fail> {
     for _ in 0..200u32 {
         wanted.push(Label::Out(0x300, 1))?;
     }
-    assert_eq!(rt; labels.as_slice(), wanted.as_slice());
-    assert_eq!(rt; end, End::Halted);
+    expect.same(labels.as_slice(), wanted.as_slice());
+    expect.same(end, End::Halted);
     // The meaning is looked at up to the first HALT.
     let meant = run(alloc, based, &[2, 4, 5, 6])?.0;
-    assert_eq!(rt;
+    expect.same(
         meant.as_slice(),
-        [Label::Out(0x43, 0x14), Label::Out(0x40, 2)].as_slice()
+        [Label::Out(0x43, 0x14), Label::Out(0x40, 2)].as_slice(),
     );
     let waiting =
         b"M: DO; K: PROCEDURE INTERRUPT 9; OUTPUT(300H) = INPUT(60H); OUTPUT(61H) = 80H; OUTPUT(61H) = 0; END K; OUTPUT(63H) = 99H; OUTPUT(20H) = 13H; OUTPUT(21H) = 8; OUTPUT(21H) = 3; OUTPUT(21H) = 0FDH; ENABLE; DO WHILE 1; END; END M;";
@@ -459,9 +462,9 @@ fn main_goes_on_where_interrupts_come(rt: HostRuntime) -> Result<(), Fail> {
         Label::Out(0x21, 3),
         Label::Out(0x21, 0xFD),
     ];
-    assert_eq!(rt; labels.as_slice(), shown.as_slice());
-    assert_eq!(rt; end, End::GoesOn);
-    assert_eq!(rt; run(alloc, waiting, &[])?.0.as_slice(), shown.as_slice());
+    expect.same(labels.as_slice(), shown.as_slice());
+    expect.same(end, End::GoesOn);
+    expect.same(run(alloc, waiting, &[])?.0.as_slice(), shown.as_slice());
     Ok(())
 }
 
@@ -511,6 +514,7 @@ fn sends(port: u16, value: u16) -> Access {
 
 #[test]
 fn rows_access_in_order(rt: HostRuntime) -> Result<(), Fail> {
+    let mut expect = Expect::new(&rt);
     let alloc = rt.alloc();
     // The index is compared, sent, and read for the sum; the sum is stored, and wraps at last.
     let wrapping =
@@ -527,9 +531,9 @@ fn rows_access_in_order(rt: HostRuntime) -> Result<(), Fail> {
         wanted.extend_from_slice(&round)?;
     }
     wanted.extend_from_slice(&[reads(0), sends(0x301, 0)])?;
-    assert_eq!(rt;
+    expect.same(
         accesses_in(alloc, &[wrapping], &[2], 1)?.as_slice(),
-        wanted.as_slice()
+        wanted.as_slice(),
     );
     // Targets from left to right; what an embedded assignment stores is read after it.
     let several =
@@ -545,9 +549,9 @@ fn rows_access_in_order(rt: HostRuntime) -> Result<(), Fail> {
         reads(0),
         sends(0x304, 10),
     ];
-    assert_eq!(rt;
+    expect.same(
         accesses_in(alloc, &[several], &[2, 3], 1)?.as_slice(),
-        wanted.as_slice()
+        wanted.as_slice(),
     );
     // A member, a screen word, an element.
     let member =
@@ -558,35 +562,36 @@ fn rows_access_in_order(rt: HostRuntime) -> Result<(), Fail> {
         sends(0x302, 6),
         sends(0x303, 1),
     ];
-    assert_eq!(rt;
+    expect.same(
         accesses_in(alloc, &[member], &[2], 1)?.as_slice(),
-        wanted.as_slice()
+        wanted.as_slice(),
     );
     let screen = b"M: DO; DECLARE S WORD AT (0B8F9EH); S = 0741H; END M;";
     let wanted = [Access::Write(Width::Word, Place::Screen(0xF9E), 0x741)];
-    assert_eq!(rt;
+    expect.same(
         accesses_in(alloc, &[screen], &[], 1)?.as_slice(),
-        wanted.as_slice()
+        wanted.as_slice(),
     );
     let element = b"M: DO; DECLARE A(3) BYTE; A(2) = 1; END M;";
     let wanted = [Access::Write(Width::Byte, Place::Ram(0, 2), 1)];
-    assert_eq!(rt;
+    expect.same(
         accesses_in(alloc, &[element], &[2], 1)?.as_slice(),
-        wanted.as_slice()
+        wanted.as_slice(),
     );
     Ok(())
 }
 
 #[test]
 fn rows_of_calls_and_bases_access_in_order(rt: HostRuntime) -> Result<(), Fail> {
+    let mut expect = Expect::new(&rt);
     let alloc = rt.alloc();
     let caller =
         b"A: DO; DECLARE X BYTE EXTERNAL; P: PROCEDURE EXTERNAL; END P; CALL P; OUTPUT(300H) = X; END A;";
     let called = b"B: DO; DECLARE X BYTE PUBLIC; P: PROCEDURE PUBLIC; X = 9; END P; END B;";
     let wanted = [writes(0, 9), reads(0), sends(0x300, 9)];
-    assert_eq!(rt;
+    expect.same(
         accesses_in(alloc, &[caller, called], &[2], 1)?.as_slice(),
-        wanted.as_slice()
+        wanted.as_slice(),
     );
     // In each round the base is read, and then what it leads to.
     let based =
@@ -610,58 +615,60 @@ fn rows_of_calls_and_bases_access_in_order(rt: HostRuntime) -> Result<(), Fail> 
         wanted.extend_from_slice(&accesses)?;
     }
     wanted.push(reads(3))?;
-    assert_eq!(rt;
+    expect.same(
         accesses_in(alloc, &[based], &[2, 4, 5, 6], 2)?.as_slice(),
-        wanted.as_slice()
+        wanted.as_slice(),
     );
     Ok(())
 }
 
 #[test]
 fn modules_have_sections(rt: HostRuntime) -> Result<(), Fail> {
+    let mut expect = Expect::new(&rt);
     let alloc = rt.alloc();
     let first =
         b"A: DO; DECLARE X BYTE EXTERNAL; P: PROCEDURE EXTERNAL; END P; CALL P; OUTPUT(300H) = X; END A;";
     let second = b"B: DO; DECLARE X BYTE PUBLIC; P: PROCEDURE PUBLIC; X = 9; END P; END B;";
     let (labels, end) = labels_of(alloc, &[first, second], &[2], 1)?;
-    assert_eq!(rt; labels.as_slice(), [Label::Out(0x300, 9)].as_slice());
-    assert_eq!(rt; end, End::Halted);
+    expect.same(labels.as_slice(), [Label::Out(0x300, 9)].as_slice());
+    expect.same(end, End::Halted);
     let program = program_of(alloc, &[first, second])?;
     let placement = Placement::of([2].to_vec(alloc)?);
     let meant = run_of(alloc, &program, &placement)?.0;
-    assert_eq!(rt; meant.as_slice(), labels.as_slice());
+    expect.same(meant.as_slice(), labels.as_slice());
     let code = lower(alloc, &program)?;
-    assert_eq!(rt; code.sections, 2);
-    assert_eq!(rt; code.main_module, 0);
+    expect.same(code.sections, 2);
+    expect.same(code.main_module, 0);
     let mut modules = Vec::new(alloc);
     for procedure in &code.procedures {
         modules.push(procedure.module)?;
     }
-    assert_eq!(rt; modules.as_slice(), [0, 1].as_slice());
+    expect.same(modules.as_slice(), [0, 1].as_slice());
     // Main stands in the last section where its module is the last.
     let program = program_of(alloc, &[second, first])?;
     let code = lower(alloc, &program)?;
-    assert_eq!(rt; code.sections, 2);
-    assert_eq!(rt; code.main_module, 1);
+    expect.same(code.sections, 2);
+    expect.same(code.main_module, 1);
     Ok(())
 }
 
 #[test]
 fn interrupts_are_served(rt: HostRuntime) -> Result<(), Fail> {
+    let mut expect = Expect::new(&rt);
     let alloc = rt.alloc();
     let text =
         b"M: DO; Q: PROCEDURE; OUTPUT(61H) = 0; END Q; K: PROCEDURE INTERRUPT 9; OUTPUT(300H) = INPUT(60H); OUTPUT(61H) = 80H; CALL Q; END K; ENABLE; DO WHILE 1; END; END M;";
     let program = program_of(alloc, &[text])?;
     let code = lower(alloc, &program)?;
-    assert_eq!(rt; code.serving(9), Routine::Procedure(1));
-    assert_eq!(rt; code.serving(8), Routine::Unserved);
+    expect.same(code.serving(9), Routine::Procedure(1));
+    expect.same(code.serving(8), Routine::Unserved);
     // A procedure that gives no value ends by Leave alone, one that serves a vector by Finish.
     let called = [
         Instruction::Constant(0),
         Instruction::SendTo(Width::Byte, 0x61),
         Instruction::Leave,
     ];
-    assert_eq!(rt; code.instructions(Routine::Procedure(0)), called.as_slice());
+    expect.same(code.instructions(Routine::Procedure(0)), called.as_slice());
     let serving = [
         Instruction::ReceiveFrom(Width::Byte, 0x60),
         Instruction::SendTo(Width::Byte, 0x300),
@@ -670,11 +677,8 @@ fn interrupts_are_served(rt: HostRuntime) -> Result<(), Fail> {
         Instruction::Invoke(0),
         Instruction::Finish,
     ];
-    assert_eq!(rt;
-        code.instructions(Routine::Procedure(1)),
-        serving.as_slice()
-    );
+    expect.same(code.instructions(Routine::Procedure(1)), serving.as_slice());
     // The interrupt procedure calls the other one, which stands before it.
-    assert_eq!(rt; code.order.as_slice(), [0, 1].as_slice());
+    expect.same(code.order.as_slice(), [0, 1].as_slice());
     Ok(())
 }

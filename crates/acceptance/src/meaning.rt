@@ -1,5 +1,6 @@
 //! Steps of small programs, with traces written by hand from the language's rules.
 
+use crate::expect::Expect;
 use plm_decl::{Placement, resolve};
 use plm_meaning::{Choice, Meaning, Step, Stop};
 use plm_syntax::parse;
@@ -447,31 +448,33 @@ fn interrupts_without_procedure_enter_an_empty_one(rt: HostRuntime) -> Result<()
 
 #[test]
 fn silent_steps_are_counted(rt: HostRuntime) -> Result<(), Fail> {
+    let mut expect = Expect::new(&rt);
     // OUTPUT(300H) = 1: the constant, the port, the OUT; then main halts.
     let text = b"M: DO; OUTPUT(300H) = 1; END M;";
-    assert_eq!(rt; trace(rt.alloc(), text, &[], &[], 2)?.len(), 0);
-    assert_eq!(rt; trace(rt.alloc(), text, &[], &[], 3)?.len(), 1);
+    expect.same(trace(rt.alloc(), text, &[], &[], 2)?.len(), 0);
+    expect.same(trace(rt.alloc(), text, &[], &[], 3)?.len(), 1);
     Ok(())
 }
 
 #[test]
 fn chooses_what_is_allowed(rt: HostRuntime) -> Result<(), Fail> {
+    let mut expect = Expect::new(&rt);
     let alloc = rt.alloc();
     let program = program_of(alloc, b"M: DO; ; END M;")?;
     let placement = Placement::of(Vec::new(alloc));
     let mut meaning = opened(alloc, &program, &placement, 0)?;
-    assert_eq!(rt; meaning.step(Choice::Enter), Err(Stop::NotAllowed));
-    assert_eq!(rt; meaning.step(Choice::Leave), Err(Stop::NotAllowed));
-    assert_eq!(rt; meaning.step(Choice::Idle), Err(Stop::NotAllowed));
-    assert_eq!(rt; meaning.step(Choice::Program), Ok(Step { label: None }));
-    assert_eq!(rt; meaning.step(Choice::Program), Ok(Step { label: None }));
-    assert_eq!(rt; meaning.step(Choice::Program), Err(Stop::NotAllowed));
-    assert_eq!(rt; meaning.step(Choice::Idle), Ok(Step { label: None }));
-    assert_eq!(rt;
+    expect.same(meaning.step(Choice::Enter), Err(Stop::NotAllowed));
+    expect.same(meaning.step(Choice::Leave), Err(Stop::NotAllowed));
+    expect.same(meaning.step(Choice::Idle), Err(Stop::NotAllowed));
+    expect.same(meaning.step(Choice::Program), Ok(Step { label: None }));
+    expect.same(meaning.step(Choice::Program), Ok(Step { label: None }));
+    expect.same(meaning.step(Choice::Program), Err(Stop::NotAllowed));
+    expect.same(meaning.step(Choice::Idle), Ok(Step { label: None }));
+    expect.same(
         meaning.step(Choice::Event(Event::Key(3))),
         Ok(Step {
-            label: Some(Label::Key(3))
-        })
+            label: Some(Label::Key(3)),
+        }),
     );
     Ok(())
 }
@@ -505,6 +508,7 @@ fn asked<'a>(
 
 #[test]
 fn interrupts_come_promptly(rt: HostRuntime) -> Result<(), Fail> {
+    let mut expect = Expect::new(&rt);
     let alloc = rt.alloc();
     let text =
         b"M: DO; H: PROCEDURE INTERRUPT 8; END H; OUTPUT(20H) = 13H; OUTPUT(21H) = 8; OUTPUT(21H) = 3; OUTPUT(21H) = 0FEH; OUTPUT(43H) = 14H; OUTPUT(40H) = 2; ENABLE; ; ; ; ; ; ; ; ; ; ; END M;";
@@ -512,33 +516,34 @@ fn interrupts_come_promptly(rt: HostRuntime) -> Result<(), Fail> {
     let placement = Placement::of(Vec::new(alloc));
     let mut meaning = asked(alloc, &program, &placement)?;
     // Interrupts are off: it may not be entered.
-    assert_eq!(rt; meaning.step(Choice::Enter), Err(Stop::NotAllowed));
+    expect.same(meaning.step(Choice::Enter), Err(Stop::NotAllowed));
     // ENABLE, and then eight silent steps and no ninth.
-    assert_eq!(rt; goes_silently(&mut meaning, 1), true);
-    assert_eq!(rt; goes_silently(&mut meaning, 8), true);
-    assert_eq!(rt; meaning.step(Choice::Program), Err(Stop::NotAllowed));
+    expect.same(goes_silently(&mut meaning, 1), true);
+    expect.same(goes_silently(&mut meaning, 8), true);
+    expect.same(meaning.step(Choice::Program), Err(Stop::NotAllowed));
     let entered = Ok(Step {
         label: Some(Label::Ack(8)),
     });
-    assert_eq!(rt; meaning.step(Choice::Enter), entered);
+    expect.same(meaning.step(Choice::Enter), entered);
     // It runs with interrupts off, and is used up at once.
-    assert_eq!(rt; meaning.step(Choice::Enter), Err(Stop::NotAllowed));
-    assert_eq!(rt; meaning.step(Choice::Program), Err(Stop::NotAllowed));
-    assert_eq!(rt; meaning.step(Choice::Leave), Ok(Step { label: None }));
-    assert_eq!(rt; meaning.step(Choice::Enter), Err(Stop::NotAllowed));
+    expect.same(meaning.step(Choice::Enter), Err(Stop::NotAllowed));
+    expect.same(meaning.step(Choice::Program), Err(Stop::NotAllowed));
+    expect.same(meaning.step(Choice::Leave), Ok(Step { label: None }));
+    expect.same(meaning.step(Choice::Enter), Err(Stop::NotAllowed));
     // The ninth step comes now, and so does a second interrupt.
-    assert_eq!(rt; goes_silently(&mut meaning, 1), true);
+    expect.same(goes_silently(&mut meaning, 1), true);
     let ticked = Ok(Step {
         label: Some(Label::Tick(4)),
     });
-    assert_eq!(rt; meaning.step(Choice::Event(Event::Tick(4))), ticked);
-    assert_eq!(rt; meaning.step(Choice::Enter), entered);
-    assert_eq!(rt; meaning.step(Choice::Leave), Ok(Step { label: None }));
+    expect.same(meaning.step(Choice::Event(Event::Tick(4))), ticked);
+    expect.same(meaning.step(Choice::Enter), entered);
+    expect.same(meaning.step(Choice::Leave), Ok(Step { label: None }));
     Ok(())
 }
 
 #[test]
 fn interrupts_come_after_one_enable(rt: HostRuntime) -> Result<(), Fail> {
+    let mut expect = Expect::new(&rt);
     let alloc = rt.alloc();
     let text =
         b"M: DO; OUTPUT(20H) = 13H; OUTPUT(21H) = 8; OUTPUT(21H) = 3; OUTPUT(21H) = 0FEH; OUTPUT(43H) = 14H; OUTPUT(40H) = 2; ENABLE; ENABLE; ENABLE; END M;";
@@ -546,13 +551,13 @@ fn interrupts_come_after_one_enable(rt: HostRuntime) -> Result<(), Fail> {
     let placement = Placement::of(Vec::new(alloc));
     let mut meaning = asked(alloc, &program, &placement)?;
     // The first switches interrupts on; one more may come before the interrupt, and no second.
-    assert_eq!(rt; goes_silently(&mut meaning, 2), true);
-    assert_eq!(rt; meaning.step(Choice::Program), Err(Stop::NotAllowed));
+    expect.same(goes_silently(&mut meaning, 2), true);
+    expect.same(meaning.step(Choice::Program), Err(Stop::NotAllowed));
     let entered = Ok(Step {
         label: Some(Label::Ack(8)),
     });
-    assert_eq!(rt; meaning.step(Choice::Enter), entered);
-    assert_eq!(rt; meaning.step(Choice::Leave), Ok(Step { label: None }));
-    assert_eq!(rt; goes_silently(&mut meaning, 1), true);
+    expect.same(meaning.step(Choice::Enter), entered);
+    expect.same(meaning.step(Choice::Leave), Ok(Step { label: None }));
+    expect.same(goes_silently(&mut meaning, 1), true);
     Ok(())
 }

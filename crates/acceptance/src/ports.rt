@@ -1,5 +1,6 @@
 //! Rows from the data sheets, worked by hand.
 
+use crate::expect::Expect;
 use ppi_kbd::{Call, Ports, Reply, replay};
 use std::test::Fail;
 use word86::Event;
@@ -28,85 +29,91 @@ fn taken(ports: &mut Ports) -> Option<u8> {
 // A mode word clears the latches, and one with another mode than 0 is ignored as a whole.
 #[test]
 fn mode_words(rt: HostRuntime) -> Result<(), Fail> {
+    let mut expect = Expect::new(&rt);
     let mut ports = set(&[(0x63, 0x80), (0x60, 0x12), (0x61, 0x34), (0x62, 0x56)]);
-    assert_eq!(rt; ports.read(0x60), 0x12);
-    assert_eq!(rt; ports.read(0x61), 0x34);
-    assert_eq!(rt; ports.read(0x62), 0x56);
+    expect.same(ports.read(0x60), 0x12);
+    expect.same(ports.read(0x61), 0x34);
+    expect.same(ports.read(0x62), 0x56);
     for word in [0xA0, 0xC0, 0x84] {
         ports.write(0x63, word);
         assert_eq!(rt; ports.read(0x61), 0x34);
     }
     ports.write(0x63, 0x80);
-    assert_eq!(rt; ports.read(0x60), 0);
-    assert_eq!(rt; ports.read(0x61), 0);
-    assert_eq!(rt; ports.read(0x62), 0);
-    assert_eq!(rt; ports.read(0x63), 0xFF);
+    expect.same(ports.read(0x60), 0);
+    expect.same(ports.read(0x61), 0);
+    expect.same(ports.read(0x62), 0);
+    expect.same(ports.read(0x63), 0xFF);
     Ok(())
 }
 
 // Bits of port C set and reset one by one; its halves are inputs or outputs on their own.
 #[test]
 fn bits_of_port_c(rt: HostRuntime) -> Result<(), Fail> {
+    let mut expect = Expect::new(&rt);
     let mut ports = set(&[(0x63, 0x80), (0x63, 0x0F), (0x63, 0x01), (0x63, 0x07)]);
-    assert_eq!(rt; ports.read(0x62), 0x89);
+    expect.same(ports.read(0x62), 0x89);
     ports.write(0x63, 0x0E);
-    assert_eq!(rt; ports.read(0x62), 0x09);
+    expect.same(ports.read(0x62), 0x09);
     ports.write(0x63, 0x88);
     ports.write(0x62, 0xFF);
-    assert_eq!(rt; ports.read(0x62), 0x2F);
+    expect.same(ports.read(0x62), 0x2F);
     ports.write(0x63, 0x81);
     ports.write(0x62, 0xFF);
-    assert_eq!(rt; ports.read(0x62), 0xF0);
+    expect.same(ports.read(0x62), 0xF0);
     Ok(())
 }
 
 // At reset every port is an input: A the empty register, B 0FFH, C the timer's OUT 2; an unmapped port reads 0FFH.
 #[test]
 fn reset_reads(rt: HostRuntime) -> Result<(), Fail> {
+    let mut expect = Expect::new(&rt);
     let mut ports = Ports::reset();
-    assert_eq!(rt; ports.read(0x60), 0);
-    assert_eq!(rt; ports.read(0x61), 0xFF);
-    assert_eq!(rt; ports.read(0x62), 0x20);
-    assert_eq!(rt; ports.read(0x300), 0xFF);
-    assert_eq!(rt; ports.read(0x43), 0xFF);
-    assert!(rt; !ports.int_line());
+    expect.same(ports.read(0x60), 0);
+    expect.same(ports.read(0x61), 0xFF);
+    expect.same(ports.read(0x62), 0x20);
+    expect.same(ports.read(0x300), 0xFF);
+    expect.same(ports.read(0x43), 0xFF);
+    expect.holds(!ports.int_line());
     Ok(())
 }
 
 // Port B bit 0 is the gate of channel 2, whose OUT is bit 5 of port C.
 #[test]
 fn gate_and_out_of_channel_two(rt: HostRuntime) -> Result<(), Fail> {
+    let mut expect = Expect::new(&rt);
     let mut ports = set(&[(0x63, 0x99), (0x43, 0x94), (0x42, 2)]);
     ports.comes(Event::Tick(2));
-    assert_eq!(rt; ports.read(0x62), 0x20);
+    expect.same(ports.read(0x62), 0x20);
     ports.write(0x61, 1);
     ports.comes(Event::Tick(2));
-    assert_eq!(rt; ports.read(0x62), 0);
+    expect.same(ports.read(0x62), 0);
     ports.write(0x61, 0);
-    assert_eq!(rt; ports.read(0x62), 0x20);
+    expect.same(ports.read(0x62), 0x20);
     Ok(())
 }
 
 // Two keys: the second moves into the register when bit 7 of port B falls again.
 #[test]
 fn two_keys(rt: HostRuntime) -> Result<(), Fail> {
+    let mut expect = Expect::new(&rt);
     let mut ports = set(&STARTED);
     ports.comes(Event::Key(0x1E));
     ports.comes(Event::Key(0x30));
-    assert_eq!(rt; taken(&mut ports), Some(9));
-    assert_eq!(rt; taken(&mut ports), None);
-    assert_eq!(rt; ports.read(0x60), 0x1E);
+    expect.same(taken(&mut ports), Some(9));
+    expect.same(taken(&mut ports), None);
+    expect.same(ports.read(0x60), 0x1E);
     ports.write(0x61, 0x80);
-    assert_eq!(rt; ports.read(0x60), 0);
+    expect.same(ports.read(0x60), 0);
     ports.write(0x61, 0);
-    assert_eq!(rt; taken(&mut ports), Some(9));
-    assert_eq!(rt; ports.read(0x60), 0x30);
+    expect.same(taken(&mut ports), Some(9));
+    expect.same(ports.read(0x60), 0x30);
     Ok(())
 }
 
 // Of eighteen keys seventeen come: one in the register, sixteen in the queue, and the last is lost.
 #[test]
 fn eighteen_keys(rt: HostRuntime) -> Result<(), Fail> {
+    let mut expect = Expect::new(&rt);
     let mut ports = set(&STARTED);
     for code in 1..=18u8 {
         ports.comes(Event::Key(code));
@@ -117,20 +124,21 @@ fn eighteen_keys(rt: HostRuntime) -> Result<(), Fail> {
         ports.write(0x61, 0x80);
         ports.write(0x61, 0);
     }
-    assert_eq!(rt; taken(&mut ports), None);
-    assert_eq!(rt; ports.read(0x60), 0);
+    expect.same(taken(&mut ports), None);
+    expect.same(ports.read(0x60), 0);
     Ok(())
 }
 
 // While the clear line is up keys wait in the queue.
 #[test]
 fn keys_wait_while_cleared(rt: HostRuntime) -> Result<(), Fail> {
+    let mut expect = Expect::new(&rt);
     let mut ports = set(&STARTED);
     ports.write(0x61, 0x80);
     ports.comes(Event::Key(0x1E));
-    assert_eq!(rt; taken(&mut ports), None);
+    expect.same(taken(&mut ports), None);
     ports.write(0x61, 0);
-    assert_eq!(rt; taken(&mut ports), Some(9));
+    expect.same(taken(&mut ports), Some(9));
     Ok(())
 }
 
@@ -138,58 +146,62 @@ fn keys_wait_while_cleared(rt: HostRuntime) -> Result<(), Fail> {
 // of channel 2. The mode word 99H makes B an output and clears the latch, so nothing is driven then either.
 #[test]
 fn latch_of_an_input(rt: HostRuntime) -> Result<(), Fail> {
+    let mut expect = Expect::new(&rt);
     let mut ports = set(&[(0x43, 0x94), (0x42, 2), (0x61, 0x81)]);
     ports.comes(Event::Key(0x1E));
-    assert_eq!(rt; ports.read(0x60), 0x1E);
+    expect.same(ports.read(0x60), 0x1E);
     ports.comes(Event::Tick(2));
-    assert_eq!(rt; ports.read(0x62), 0x20);
-    assert_eq!(rt; ports.read(0x42), 0);
+    expect.same(ports.read(0x62), 0x20);
+    expect.same(ports.read(0x42), 0);
     ports.write(0x63, 0x99);
-    assert_eq!(rt; ports.read(0x61), 0);
-    assert_eq!(rt; ports.read(0x60), 0x1E);
+    expect.same(ports.read(0x61), 0);
+    expect.same(ports.read(0x60), 0x1E);
     ports.comes(Event::Tick(2));
-    assert_eq!(rt; ports.read(0x42), 0);
+    expect.same(ports.read(0x42), 0);
     ports.write(0x61, 0x81);
-    assert_eq!(rt; ports.read(0x60), 0);
+    expect.same(ports.read(0x60), 0);
     ports.comes(Event::Tick(2));
-    assert_eq!(rt; ports.read(0x42), 1);
+    expect.same(ports.read(0x42), 1);
     Ok(())
 }
 
 // Channel 0's OUT raises level 0 by a pulse and by a control word.
 #[test]
 fn timer_requests(rt: HostRuntime) -> Result<(), Fail> {
+    let mut expect = Expect::new(&rt);
     let mut ports = set(&STARTED);
     ports.write(0x43, 0x14);
     ports.write(0x40, 4);
     ports.comes(Event::Tick(4));
-    assert_eq!(rt; taken(&mut ports), None);
+    expect.same(taken(&mut ports), None);
     ports.comes(Event::Tick(1));
-    assert_eq!(rt; taken(&mut ports), Some(8));
+    expect.same(taken(&mut ports), Some(8));
     ports.write(0x43, 0x10);
-    assert_eq!(rt; taken(&mut ports), None);
+    expect.same(taken(&mut ports), None);
     ports.write(0x43, 0x14);
-    assert_eq!(rt; taken(&mut ports), Some(8));
+    expect.same(taken(&mut ports), Some(8));
     Ok(())
 }
 
 // A word is the low byte, then the high byte at the next port, modulo 65,536.
 #[test]
 fn words(rt: HostRuntime) -> Result<(), Fail> {
+    let mut expect = Expect::new(&rt);
     let mut ports = set(&[(0x63, 0x80)]);
     ports.write_word(0x60, 0x3412);
-    assert_eq!(rt; ports.read_word(0x60), 0x3412);
-    assert_eq!(rt; ports.read_word(0xFFFF), 0xFFFF);
+    expect.same(ports.read_word(0x60), 0x3412);
+    expect.same(ports.read_word(0xFFFF), 0xFFFF);
     ports.write_word(0x43, 0x0034);
     ports.write_word(0x3F, 0x0500);
     ports.write(0x40, 0);
     ports.comes(Event::Tick(1));
-    assert_eq!(rt; ports.read(0x40), 5);
+    expect.same(ports.read(0x40), 5);
     Ok(())
 }
 
 #[test]
 fn list_of_calls(rt: HostRuntime) -> Result<(), Fail> {
+    let mut expect = Expect::new(&rt);
     let calls = [
         Call::Write(0x63, 0x99),
         Call::Acknowledge,
@@ -203,10 +215,10 @@ fn list_of_calls(rt: HostRuntime) -> Result<(), Fail> {
     ];
     let mut replies = [Reply::Nothing; 9];
     replay(&calls, &mut replies);
-    assert_eq!(rt; replies[1], Reply::Nothing);
-    assert_eq!(rt; replies[5], Reply::Level(true));
-    assert_eq!(rt; replies[6], Reply::Byte(9));
-    assert_eq!(rt; replies[7], Reply::Byte(0x1E));
-    assert_eq!(rt; replies[8], Reply::Word(0x001E));
+    expect.same(replies[1], Reply::Nothing);
+    expect.same(replies[5], Reply::Signal(true));
+    expect.same(replies[6], Reply::Byte(9));
+    expect.same(replies[7], Reply::Byte(0x1E));
+    expect.same(replies[8], Reply::Word(0x001E));
     Ok(())
 }

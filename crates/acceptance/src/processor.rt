@@ -1,8 +1,9 @@
 //! ROMs and short programs whose outcome the manual tells, over memory in a `Vec`.
 
 ghost use Rattle.std.specs.Prelude.{◌≡◌};
-ghost use Rattle.acceptance.specs.TestBus.{TestWorld, test_bus, put, load_after_store_law, ports_law};
+ghost use Rattle.acceptance.specs.Inner.TestBus.{TestWorld, test_bus, put, load_after_store_law, ports_law};
 
+use crate::expect::Expect;
 use arrayvec::ArrayVec;
 use bitflags::Flags as _;
 use cpu8086::{Bus, Cpu, DecodeCache, Kind, Phase, Store};
@@ -274,6 +275,7 @@ fn short_programs(rt: HostRuntime) -> Result<(), Fail> {
 /// mov cx,3; rep movsb (es: di is 0600H, si 0500H); one repetition a turn, and none at CX = 0.
 #[test]
 fn repetitions(rt: HostRuntime) -> Result<(), Fail> {
+    let mut expect = Expect::new(&rt);
     let mut bus = TestBus::filled(rt.alloc(), 0)?;
     bus.write(0xFFFF0, &[0xF3, 0xA4, 0xF4]);
     bus.write(0x500, b"ABC");
@@ -286,24 +288,24 @@ fn repetitions(rt: HostRuntime) -> Result<(), Fail> {
         assert_eq!(rt; cpu.registers.word(Register16::Cx), left);
         assert_eq!(rt; cpu.registers.ip(), if left == 0 { 2 } else { 0 });
     }
-    assert_eq!(rt;
+    expect.same(
         [
             bus.load(0x600),
             bus.load(0x601),
             bus.load(0x602),
-            bus.load(0x603)
+            bus.load(0x603),
         ],
-        [65, 66, 67, 0]
+        [65, 66, 67, 0],
     );
     cpu.registers.set_ip(0);
     cpu.turn(&mut bus);
-    assert_eq!(rt;
+    expect.same(
         (
             cpu.registers.ip(),
             cpu.registers.word(Register16::Cx),
-            cpu.registers.word(Register16::Di)
+            cpu.registers.word(Register16::Di),
         ),
-        (2, 0, 0x603)
+        (2, 0, 0x603),
     );
     Ok(())
 }
@@ -362,6 +364,7 @@ fn interrupts(rt: HostRuntime) -> Result<(), Fail> {
 /// POPF that sets IF, with a request: the acknowledgement comes at once.
 #[test]
 fn no_delay_after_popf(rt: HostRuntime) -> Result<(), Fail> {
+    let mut expect = Expect::new(&rt);
     let mut bus = TestBus::filled(rt.alloc(), 0)?;
     bus.write(0xFFFF0, &[0x9D, 0x90]);
     bus.write(32, &[0x00, 0x20, 0x00, 0x00]);
@@ -369,30 +372,32 @@ fn no_delay_after_popf(rt: HostRuntime) -> Result<(), Fail> {
     let mut cpu = Cpu::reset();
     cpu.registers.set_word(Register16::Sp, 0x100);
     bus.request = Some(8);
-    assert_eq!(rt; cpu.turn(&mut bus).kind, Kind::Instr);
-    assert_eq!(rt; cpu.turn(&mut bus).kind, Kind::Ack);
-    assert_eq!(rt; cpu.registers.ip(), 0x2000);
+    expect.same(cpu.turn(&mut bus).kind, Kind::Instr);
+    expect.same(cpu.turn(&mut bus).kind, Kind::Ack);
+    expect.same(cpu.registers.ip(), 0x2000);
     Ok(())
 }
 
 /// POPF of 0FFFFH; PUSHF: the bits that are no flags are 0.
 #[test]
 fn flags_that_are_pushed(rt: HostRuntime) -> Result<(), Fail> {
+    let mut expect = Expect::new(&rt);
     let mut bus = TestBus::filled(rt.alloc(), 0)?;
     bus.write(0xFFFF0, &[0x9D, 0x9C]);
     bus.write(0xB0100, &[0xFF, 0xFF]);
     let mut cpu = Cpu::reset();
     cpu.registers.set_segment(LoadableSegment::Ss, 0xB000);
     cpu.registers.set_word(Register16::Sp, 0x100);
-    assert!(rt; cpu.turn(&mut bus).labels.as_slice().is_empty());
+    expect.holds(cpu.turn(&mut bus).labels.as_slice().is_empty());
     let turn = cpu.turn(&mut bus);
-    assert!(rt; turn.labels.as_slice() == [Label::ScrW(0x100, 0x0FD5)].as_slice());
+    expect.holds(turn.labels.as_slice() == [Label::ScrW(0x100, 0x0FD5)].as_slice());
     Ok(())
 }
 
 /// SHL byte [8000H],CL with CL = 0: the byte is stored and shown, and no flag changes.
 #[test]
 fn shift_by_no_places(rt: HostRuntime) -> Result<(), Fail> {
+    let mut expect = Expect::new(&rt);
     let mut bus = TestBus::filled(rt.alloc(), 0)?;
     bus.write(0xFFFF0, &[0xD2, 0x26, 0x00, 0x80]);
     bus.write(0xB8000, &[0x5A]);
@@ -400,8 +405,8 @@ fn shift_by_no_places(rt: HostRuntime) -> Result<(), Fail> {
     cpu.registers.set_segment(LoadableSegment::Ds, 0xB000);
     cpu.registers.set_flags(Flags::of_word(0x08C5));
     let turn = cpu.turn(&mut bus);
-    assert!(rt; turn.labels.as_slice() == [Label::Scr(0x8000, 0x5A)].as_slice());
-    assert_eq!(rt; cpu.registers.flags().bits(), 0x08C5);
+    expect.holds(turn.labels.as_slice() == [Label::Scr(0x8000, 0x5A)].as_slice());
+    expect.same(cpu.registers.flags().bits(), 0x08C5);
     Ok(())
 }
 

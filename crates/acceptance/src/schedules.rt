@@ -1,21 +1,23 @@
 //! Schedules whose answers the format's rules give.
 
+use crate::expect::Expect;
 use board::read_schedule;
 use std::test::Fail;
 use word86::{Event, Fault, Number};
 
 #[test]
 fn reads_a_schedule(rt: HostRuntime) -> Result<(), Fail> {
+    let mut expect = Expect::new(&rt);
     let text = b"; keys\nFILL fF\r\n\nAT 5 KEY 1e\n \t\nAT 5 TICK 65535\nAT 007 KEY 30\nSTOP 9";
     let schedule = read_schedule(rt.alloc(), text)?;
-    assert_eq!(rt; schedule.fill(), 0xFF);
-    assert_eq!(rt; schedule.stop(), 9);
-    assert_eq!(rt; schedule.due(4), [].as_slice());
-    assert_eq!(rt;
+    expect.same(schedule.fill(), 0xFF);
+    expect.same(schedule.stop(), 9);
+    expect.same(schedule.due(4), [].as_slice());
+    expect.same(
         schedule.due(5),
-        [Event::Key(0x1E), Event::Tick(65535)].as_slice()
+        [Event::Key(0x1E), Event::Tick(65535)].as_slice(),
     );
-    assert_eq!(rt; schedule.due(7), [Event::Key(0x30)].as_slice());
+    expect.same(schedule.due(7), [Event::Key(0x30)].as_slice());
     Ok(())
 }
 

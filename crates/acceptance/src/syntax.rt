@@ -1,5 +1,6 @@
 //! Small texts, and what becomes of them.
 
+use crate::expect::Expect;
 use plm_syntax::{Basic, parse};
 use plm_token::scan;
 use std::alloc::Global;
@@ -393,11 +394,12 @@ fn nearest_if(rt: HostRuntime) -> Result<(), Fault> {
 /// As many tokens as a module may have, and one more.
 #[test]
 fn many_tokens(rt: HostRuntime) -> Result<(), Fault> {
+    let mut expect = Expect::new(&rt);
     let alloc = rt.alloc();
     let full = repeated(alloc, b"M: DO;", b";", 65_535 - 6, b"", b"", b"\nEND;")?;
-    assert_eq!(&rt; parsed(alloc, &full), Fine);
+    expect.same(parsed(alloc, &full), Fine);
     let over = repeated(alloc, b"M: DO;", b";", 65_535 - 5, b"", b"", b"\nEND;")?;
-    assert_eq!(&rt; parsed(alloc, &over), Refused(Number::E205, 2));
+    expect.same(parsed(alloc, &over), Refused(Number::E205, 2));
     Ok(())
 }
 

@@ -1,5 +1,6 @@
 //! Rows from the data sheet, worked by hand.
 
+use crate::expect::Expect;
 use pit8253::{Call, Pit, Reply, Segments, pulse_agrees, replay};
 use std::test::Fail;
 
@@ -22,84 +23,91 @@ fn latched_word(pit: &mut Pit) -> u16 {
 // Mode 2: OUT rises at the fifth pulse, and a latch holds the count.
 #[test]
 fn rate_rises(rt: HostRuntime) -> Result<(), Fail> {
+    let mut expect = Expect::new(&rt);
     let mut pit = set(&[(3, 0x14), (0, 4)]);
-    assert!(rt; !pit.pulse(4));
-    assert!(rt; pit.pulse(1));
+    expect.holds(!pit.pulse(4));
+    expect.holds(pit.pulse(1));
     pit.write(3, 0);
-    assert_eq!(rt; pit.read(0), 4);
+    expect.same(pit.read(0), 4);
     Ok(())
 }
 
 // 65,535 pulses of a count of 1,000: 65 whole periods and 535 pulses.
 #[test]
 fn long_run(rt: HostRuntime) -> Result<(), Fail> {
+    let mut expect = Expect::new(&rt);
     let mut pit = set(&[(3, 0x34), (0, 0xE8), (0, 3)]);
-    assert!(rt; pit.pulse(65535));
+    expect.holds(pit.pulse(65535));
     pit.write(3, 0);
-    assert_eq!(rt; pit.read(0), 0xD2);
-    assert_eq!(rt; pit.read(0), 1);
+    expect.same(pit.read(0), 0xD2);
+    expect.same(pit.read(0), 1);
     Ok(())
 }
 
 #[test]
 fn square_wave(rt: HostRuntime) -> Result<(), Fail> {
+    let mut expect = Expect::new(&rt);
     let mut pit = set(&[(3, 0x16), (0, 5)]);
-    assert!(rt; !pit.pulse(4));
-    assert!(rt; !pit.out(0));
-    assert!(rt; !pit.pulse(1));
-    assert!(rt; pit.pulse(1));
+    expect.holds(!pit.pulse(4));
+    expect.holds(!pit.out(0));
+    expect.holds(!pit.pulse(1));
+    expect.holds(pit.pulse(1));
     Ok(())
 }
 
 // A count that waits is taken up at the next period.
 #[test]
 fn rewritten_rate(rt: HostRuntime) -> Result<(), Fail> {
+    let mut expect = Expect::new(&rt);
     let mut pit = set(&[(3, 0x14), (0, 4)]);
-    assert!(rt; !pit.pulse(2));
+    expect.holds(!pit.pulse(2));
     pit.write(0, 6);
-    assert!(rt; pit.pulse(8));
-    assert!(rt; !pit.out(0));
-    assert!(rt; pit.pulse(1));
+    expect.holds(pit.pulse(8));
+    expect.holds(!pit.out(0));
+    expect.holds(pit.pulse(1));
     Ok(())
 }
 
 // Mode 0: one rise, and the count goes on from 0 to 0FFH.
 #[test]
 fn terminal_count(rt: HostRuntime) -> Result<(), Fail> {
+    let mut expect = Expect::new(&rt);
     let mut pit = set(&[(3, 0x10), (0, 2)]);
-    assert!(rt; !pit.pulse(2));
-    assert!(rt; pit.pulse(1));
-    assert!(rt; !pit.pulse(1));
-    assert!(rt; pit.out(0));
-    assert_eq!(rt; pit.read(0), 0xFF);
+    expect.holds(!pit.pulse(2));
+    expect.holds(pit.pulse(1));
+    expect.holds(!pit.pulse(1));
+    expect.holds(pit.out(0));
+    expect.same(pit.read(0), 0xFF);
     Ok(())
 }
 
 // Mode 0 rewritten by one byte: OUT is low again at once, and the new count begins.
 #[test]
 fn terminal_count_rewritten_by_one_byte(rt: HostRuntime) -> Result<(), Fail> {
+    let mut expect = Expect::new(&rt);
     let mut pit = set(&[(3, 0x10), (0, 1)]);
-    assert!(rt; pit.pulse(2));
+    expect.holds(pit.pulse(2));
     pit.write(0, 3);
-    assert!(rt; !pit.out(0));
-    assert!(rt; !pit.pulse(3));
-    assert!(rt; pit.pulse(1));
+    expect.holds(!pit.out(0));
+    expect.holds(!pit.pulse(3));
+    expect.holds(pit.pulse(1));
     Ok(())
 }
 
 // Mode 0 rewritten by two bytes: the first stops the count, the second makes OUT low.
 #[test]
 fn terminal_count_rewritten_by_two_bytes(rt: HostRuntime) -> Result<(), Fail> {
+    let mut expect = Expect::new(&rt);
     let mut pit = set(&[(3, 0x30), (0, 2), (0, 0)]);
-    assert!(rt; pit.pulse(3));
+    expect.holds(pit.pulse(3));
     pit.write(0, 2);
-    assert!(rt; pit.out(0));
-    assert!(rt; !pit.pulse(100));
-    assert_eq!(rt; latched_word(&mut pit), 0);
+    expect.holds(pit.out(0));
+    expect.holds(!pit.pulse(100));
+    expect.same(latched_word(&mut pit), 0);
     pit.write(0, 1);
-    assert!(rt; !pit.out(0));
-    assert!(rt; !pit.pulse(258));
-    assert!(rt; pit.pulse(1));
+    expect.holds(!pit.out(0));
+    expect.holds(!pit.pulse(258));
+    expect.holds(pit.pulse(1));
     Ok(())
 }
 
@@ -163,98 +171,105 @@ fn period_of_one(rt: HostRuntime) -> Result<(), Fail> {
 // A written 0 is 65,536: OUT of mode 2 is low at the last of these pulses.
 #[test]
 fn count_of_zero(rt: HostRuntime) -> Result<(), Fail> {
+    let mut expect = Expect::new(&rt);
     let mut pit = set(&[(3, 0x34), (0, 0), (0, 0)]);
-    assert!(rt; !pit.pulse(65535));
-    assert!(rt; pit.out(0));
-    assert_eq!(rt; latched_word(&mut pit), 2);
-    assert!(rt; !pit.pulse(1));
-    assert!(rt; !pit.out(0));
-    assert_eq!(rt; latched_word(&mut pit), 1);
-    assert!(rt; pit.pulse(1));
-    assert_eq!(rt; latched_word(&mut pit), 0);
+    expect.holds(!pit.pulse(65535));
+    expect.holds(pit.out(0));
+    expect.same(latched_word(&mut pit), 2);
+    expect.holds(!pit.pulse(1));
+    expect.holds(!pit.out(0));
+    expect.same(latched_word(&mut pit), 1);
+    expect.holds(pit.pulse(1));
+    expect.same(latched_word(&mut pit), 0);
     Ok(())
 }
 
 // A latch holds both bytes while the count goes on, and a second latch is ignored until they are read.
 #[test]
 fn latch_low_then_high(rt: HostRuntime) -> Result<(), Fail> {
+    let mut expect = Expect::new(&rt);
     let mut pit = set(&[(3, 0x34), (0, 0), (0, 2)]);
     pit.pulse(1);
     pit.write(3, 0x0F);
     pit.pulse(300);
     pit.write(3, 0);
-    assert_eq!(rt; pit.read(0), 0);
-    assert_eq!(rt; pit.read(0), 2);
-    assert_eq!(rt; pit.read(0), 0xD4);
-    assert_eq!(rt; pit.read(0), 0);
+    expect.same(pit.read(0), 0);
+    expect.same(pit.read(0), 2);
+    expect.same(pit.read(0), 0xD4);
+    expect.same(pit.read(0), 0);
     Ok(())
 }
 
 // A latch between the two bytes of a reading: the high byte comes first, and two reads end it.
 #[test]
 fn latch_between_two_bytes(rt: HostRuntime) -> Result<(), Fail> {
+    let mut expect = Expect::new(&rt);
     let mut pit = set(&[(3, 0x34), (0, 0x34), (0, 0x12)]);
     pit.pulse(1);
-    assert_eq!(rt; pit.read(0), 0x34);
+    expect.same(pit.read(0), 0x34);
     pit.write(3, 0);
     pit.pulse(0x34);
-    assert_eq!(rt; pit.read(0), 0x12);
-    assert_eq!(rt; pit.read(0), 0x34);
-    assert_eq!(rt; pit.read(0), 0x12);
-    assert_eq!(rt; pit.read(0), 0);
+    expect.same(pit.read(0), 0x12);
+    expect.same(pit.read(0), 0x34);
+    expect.same(pit.read(0), 0x12);
+    expect.same(pit.read(0), 0);
     Ok(())
 }
 
 // A control word ends a latch: what is read afterwards is the running count.
 #[test]
 fn control_word_ends_a_latch(rt: HostRuntime) -> Result<(), Fail> {
+    let mut expect = Expect::new(&rt);
     let mut pit = set(&[(3, 0x14), (0, 9)]);
     pit.pulse(2);
     pit.write(3, 0);
     pit.write(3, 0x14);
     pit.write(0, 5);
     pit.pulse(1);
-    assert_eq!(rt; pit.read(0), 5);
+    expect.same(pit.read(0), 5);
     pit.pulse(1);
-    assert_eq!(rt; pit.read(0), 4);
+    expect.same(pit.read(0), 4);
     Ok(())
 }
 
 // Bits 3 to 1 as 110 and 111 are modes 2 and 3 too: of a count of 4, the first falls by one and the second by two.
 #[test]
 fn modes_of_three_bits(rt: HostRuntime) -> Result<(), Fail> {
+    let mut expect = Expect::new(&rt);
     let mut rate = set(&[(3, 0x1C), (0, 4)]);
     let steps = [(4, true), (3, true), (2, true), (1, false), (4, true)];
-    assert!(rt; counts_as(&mut rate, &steps));
+    expect.holds(counts_as(&mut rate, &steps));
     let mut square = set(&[(3, 0x1E), (0, 4)]);
     let steps = [(4, true), (2, true), (4, false), (2, false), (4, true)];
-    assert!(rt; counts_as(&mut square, &steps));
+    expect.holds(counts_as(&mut square, &steps));
     Ok(())
 }
 
 // A control word between the two bytes of a count, and of a reading, begins both with the low byte again.
 #[test]
 fn control_word_between_two_bytes(rt: HostRuntime) -> Result<(), Fail> {
+    let mut expect = Expect::new(&rt);
     let mut pit = set(&[(3, 0x34), (0, 0x77), (3, 0x34), (0, 0x34), (0, 0x12)]);
     pit.pulse(1);
-    assert_eq!(rt; pit.read(0), 0x34);
+    expect.same(pit.read(0), 0x34);
     pit.write(3, 0x34);
     pit.write(0, 0x78);
     pit.write(0, 0x56);
     pit.pulse(1);
-    assert_eq!(rt; pit.read(0), 0x78);
-    assert_eq!(rt; pit.read(0), 0x56);
+    expect.same(pit.read(0), 0x78);
+    expect.same(pit.read(0), 0x56);
     Ok(())
 }
 
 // Without a mode a latch holds 0, and bytes for the count are ignored; the control register reads 0FFH.
 #[test]
 fn without_a_mode(rt: HostRuntime) -> Result<(), Fail> {
+    let mut expect = Expect::new(&rt);
     let mut pit = set(&[(0, 5), (3, 0)]);
-    assert!(rt; pit.out(0));
-    assert!(rt; !pit.pulse(7));
-    assert_eq!(rt; pit.read(0), 0);
-    assert_eq!(rt; pit.read(3), 0xFF);
+    expect.holds(pit.out(0));
+    expect.holds(!pit.pulse(7));
+    expect.same(pit.read(0), 0);
+    expect.same(pit.read(3), 0xFF);
     Ok(())
 }
 
@@ -296,12 +311,13 @@ fn gate_of_channel_two(rt: HostRuntime) -> Result<(), Fail> {
 // Nine segments are enough, and these three channels need them.
 #[test]
 fn segments_of_a_long_run(rt: HostRuntime) -> Result<(), Fail> {
+    let mut expect = Expect::new(&rt);
     let mut pit = set(&[(3, 0x14), (0, 7), (3, 0x54), (1, 9), (3, 0x94), (2, 3)]);
     pit.gate(true);
     pit.pulse(5);
     let mut segments = Segments::new();
-    assert!(rt; pit.pulse_counted(60000, &mut segments));
-    assert_eq!(rt; segments.made(), 9);
+    expect.holds(pit.pulse_counted(60000, &mut segments));
+    expect.same(segments.made(), 9);
     Ok(())
 }
 
@@ -352,9 +368,9 @@ fn list_of_calls(rt: HostRuntime) -> Result<(), Fail> {
     let want = [
         Reply::Done,
         Reply::Done,
-        Reply::Level(false),
-        Reply::Level(false),
-        Reply::Level(true),
+        Reply::Signal(false),
+        Reply::Signal(false),
+        Reply::Signal(true),
         Reply::Done,
         Reply::Byte(4),
     ];

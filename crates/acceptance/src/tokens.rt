@@ -1,5 +1,6 @@
 //! Small texts, and what the rules of the language say of each.
 
+use crate::expect::Expect;
 use plm_token::{
     Keyword, Kind, Mark, SOURCE_LIMIT, Token, normal, same_name, scan, scan_literal, string_value,
 };
@@ -109,6 +110,7 @@ fn blanks_and_lines(rt: HostRuntime) -> Result<(), Fault> {
 
 #[test]
 fn names(rt: HostRuntime) -> Result<(), Fault> {
+    let mut expect = Expect::new(&rt);
     let alloc = rt.alloc();
     let table: &[(&[u8], Kind)] = &[
         (b"a", IDENTIFIER),
@@ -127,12 +129,12 @@ fn names(rt: HostRuntime) -> Result<(), Fault> {
     for (text, kind) in table {
         has_tokens(&rt, alloc, text, &[(*kind, *text, 1)])?;
     }
-    assert!(rt; same_name(b"Fo$o_1", b"f$OO_1$"));
-    assert!(rt; !same_name(b"FOO", b"FO"));
-    assert!(rt; !same_name(b"FO", b"FOO"));
-    assert!(rt; !same_name(b"F_O", b"FO"));
+    expect.holds(same_name(b"Fo$o_1", b"f$OO_1$"));
+    expect.holds(!same_name(b"FOO", b"FO"));
+    expect.holds(!same_name(b"FO", b"FOO"));
+    expect.holds(!same_name(b"F_O", b"FO"));
     let name = normal(alloc, b"$Fo$o_1$")?;
-    assert!(rt; name.as_slice() == b"FOO_1".as_slice());
+    expect.holds(name.as_slice() == b"FOO_1".as_slice());
     Ok(())
 }
 
@@ -372,12 +374,13 @@ fn long_sources(rt: HostRuntime) -> Result<(), Fault> {
 
 #[test]
 fn literals(rt: HostRuntime) -> Result<(), Fault> {
+    let mut expect = Expect::new(&rt);
     let alloc = rt.alloc();
     let tokens = scan_literal(alloc, b"WHILE /* it''s */ 1", 7)?;
-    assert_eq!(rt; tokens.len(), 2);
-    assert!(rt; is(&tokens[0], Kind::Reserved(Keyword::While), b"WHILE"));
-    assert!(rt; is(&tokens[1], Kind::Numeral(1), b"1"));
-    assert!(rt; scan_literal(alloc, b"", 1)?.is_empty());
+    expect.same(tokens.len(), 2);
+    expect.holds(is(&tokens[0], Kind::Reserved(Keyword::While), b"WHILE"));
+    expect.holds(is(&tokens[1], Kind::Numeral(1), b"1"));
+    expect.holds(scan_literal(alloc, b"", 1)?.is_empty());
     Ok(())
 }
 

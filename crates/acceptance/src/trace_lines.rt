@@ -1,5 +1,6 @@
 //! The printed texts, whose forms users rely on.
 
+use crate::expect::Expect;
 use listing_map::{fault_line, put_bad_line, put_end_line, put_opcode_line, trace_line};
 use std::test::Fail;
 use word86::{CutSink, Fault, Label, Number};
@@ -27,30 +28,32 @@ fn writes_each_label(rt: HostRuntime) -> Result<(), Fail> {
 
 #[test]
 fn writes_the_last_line(rt: HostRuntime) -> Result<(), Fail> {
+    let mut expect = Expect::new(&rt);
     let mut sink = CutSink::new(rt.alloc(), 100, 1)?;
-    assert!(rt; put_end_line(0, &mut sink).is_ok());
-    assert!(rt; put_end_line(4294967295, &mut sink).is_ok());
-    assert!(rt; put_opcode_line(0xFE00A, &mut sink).is_ok());
-    assert!(rt; put_opcode_line(0x400, &mut sink).is_ok());
-    assert!(rt; put_bad_line("m.plm", 3, &mut sink).is_ok());
-    assert_eq!(rt;
+    expect.holds(put_end_line(0, &mut sink).is_ok());
+    expect.holds(put_end_line(4294967295, &mut sink).is_ok());
+    expect.holds(put_opcode_line(0xFE00A, &mut sink).is_ok());
+    expect.holds(put_opcode_line(0x400, &mut sink).is_ok());
+    expect.holds(put_bad_line("m.plm", 3, &mut sink).is_ok());
+    expect.same(
         sink.bytes(),
-        b"END 0\nEND 4294967295\nOPCODE FE00A\nOPCODE 00400\nBAD m.plm(3)\n".as_slice()
+        b"END 0\nEND 4294967295\nOPCODE FE00A\nOPCODE 00400\nBAD m.plm(3)\n".as_slice(),
     );
     Ok(())
 }
 
 #[test]
 fn writes_faults_and_the_warning(rt: HostRuntime) -> Result<(), Fail> {
+    let mut expect = Expect::new(&rt);
     let mut sink = CutSink::new(rt.alloc(), 100, 1)?;
-    assert_eq!(rt; fault_line("m.plm", 1, Number::E201, &mut sink), Ok(()));
-    assert_eq!(rt;
+    expect.same(fault_line("m.plm", 1, Number::E201, &mut sink), Ok(()));
+    expect.same(
         fault_line("b.plm", 4294967295, Number::W1, &mut sink),
-        Ok(())
+        Ok(()),
     );
-    assert_eq!(rt;
+    expect.same(
         sink.bytes(),
-        b"m.plm(1): E201 syntax\nb.plm(4294967295): W1 procedure shared with an interrupt procedure\n".as_slice()
+        b"m.plm(1): E201 syntax\nb.plm(4294967295): W1 procedure shared with an interrupt procedure\n".as_slice(),
     );
     Ok(())
 }

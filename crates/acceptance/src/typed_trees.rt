@@ -1,5 +1,6 @@
 //! Small texts: what they are typed as.
 
+use crate::expect::Expect;
 use crate::types::program_of;
 use plm_type::{Anchor, Expression, Place, Program, Statement, Target};
 use std::process::Abort;
@@ -15,6 +16,7 @@ fn only(program: &Program) -> Option<&Statement> {
 
 #[test]
 fn trees_show_types(rt: HostRuntime) {
+    let mut expect = Expect::new(&rt);
     let alloc = rt.alloc();
     let sum: &[u8] = b"M: DO; DECLARE B BYTE, W WORD; OUTPUT(1) = B + B * 2 - W = 3; END M;";
     let Ok(program) = program_of(alloc, sum) else {
@@ -24,24 +26,22 @@ fn trees_show_types(rt: HostRuntime) {
         only(&program) else {
         panic!(rt; "one assignment to a port");
     };
-    assert!(rt; others.is_empty());
+    expect.holds(others.is_empty());
     let Expression::Chain(first, operations) = value else {
         panic!(rt; "a chain of operators");
     };
-    assert!(rt;
-        matches!(
-            first.as_ref(),
-            Expression::Plain(Width::Byte, Place::Ram(0, 0))
-        )
-    );
+    expect.holds(matches!(
+        first.as_ref(),
+        Expression::Plain(Width::Byte, Place::Ram(0, 0))
+    ));
     let [add, subtract, equal] = operations.as_slice() else {
         panic!(rt; "three operators");
     };
-    assert_eq!(rt; add.operation, BinaryOperation::Add);
-    assert_eq!(rt; add.width, Width::Word);
-    assert_eq!(rt; subtract.width, Width::Word);
-    assert_eq!(rt; equal.operation, BinaryOperation::Equal);
-    assert_eq!(rt; equal.width, Width::Byte);
+    expect.same(add.operation, BinaryOperation::Add);
+    expect.same(add.width, Width::Word);
+    expect.same(subtract.width, Width::Word);
+    expect.same(equal.operation, BinaryOperation::Equal);
+    expect.same(equal.width, Width::Byte);
 }
 
 #[test]
@@ -101,6 +101,7 @@ fn trees_show_widths(rt: HostRuntime) {
 
 #[test]
 fn trees_show_places(rt: HostRuntime) {
+    let mut expect = Expect::new(&rt);
     let alloc = rt.alloc();
     let text: &[u8] =
         b"M: DO; DECLARE X WORD, S(3) STRUCTURE (A BYTE, B(2) WORD), P WORD, V BASED P BYTE;\n\nV = S(X).B(1); END M;";
@@ -116,37 +117,36 @@ fn trees_show_places(rt: HostRuntime) {
     ) = only(&program) else {
         panic!(rt; "an assignment of a variable to a variable");
     };
-    assert_eq!(rt; stored.anchor, Anchor::Based(Place::Ram(2, 0)));
-    assert_eq!(rt; stored.line.line, 3);
-    assert_eq!(rt; read.anchor, Anchor::Ram(1, 0, 15));
-    assert_eq!(rt; read.offset, 1);
+    expect.same(stored.anchor, Anchor::Based(Place::Ram(2, 0)));
+    expect.same(stored.line.line, 3);
+    expect.same(read.anchor, Anchor::Ram(1, 0, 15));
+    expect.same(read.offset, 1);
     let [outer, inner] = read.subscripts.as_slice() else {
         panic!(rt; "two subscripts");
     };
-    assert_eq!(rt; outer.stride, 5);
-    assert!(rt;
-        matches!(
-            &outer.index,
-            Expression::Plain(Width::Word, Place::Ram(0, 0))
-        )
-    );
-    assert_eq!(rt; inner.stride, 2);
-    assert!(rt; matches!(&inner.index, Expression::Constant(1)));
+    expect.same(outer.stride, 5);
+    expect.holds(matches!(
+        &outer.index,
+        Expression::Plain(Width::Word, Place::Ram(0, 0))
+    ));
+    expect.same(inner.stride, 2);
+    expect.holds(matches!(&inner.index, Expression::Constant(1)));
 }
 
 #[test]
 fn handlers(rt: HostRuntime) {
+    let mut expect = Expect::new(&rt);
     let alloc = rt.alloc();
     let text: &[u8] =
         b"M: DO; H: PROCEDURE INTERRUPT 8; DISABLE; ; END H; K: PROCEDURE INTERRUPT 255; RETURN; END K; ; END M;";
     let Ok(program) = program_of(alloc, text) else {
         panic!(rt; "it is typed");
     };
-    assert_eq!(rt; program.handler(7).len(), 0);
-    assert_eq!(rt; program.handler(8).len(), 2);
-    assert_eq!(rt; program.handler(255).len(), 1);
-    assert_eq!(rt; program.procedures().len(), 2);
-    assert_eq!(rt; program.names().procedures.len(), 2);
+    expect.same(program.handler(7).len(), 0);
+    expect.same(program.handler(8).len(), 2);
+    expect.same(program.handler(255).len(), 1);
+    expect.same(program.procedures().len(), 2);
+    expect.same(program.names().procedures.len(), 2);
 }
 
 #[test]

@@ -1,5 +1,6 @@
 //! Small texts: where their types are refused.
 
+use crate::expect::Expect;
 use plm_decl::resolve;
 use plm_syntax::parse;
 use plm_token::scan;
@@ -520,38 +521,36 @@ fn targets_agree_without_a_value(rt: HostRuntime) {
 
 #[test]
 fn least_fault(rt: HostRuntime) {
+    let mut expect = Expect::new(&rt);
     let alloc = rt.alloc();
     let first: &[u8] = b"M: DO; P: PROCEDURE EXTERNAL; END P; CALL P;\nRETURN; END M;";
     let second: &[u8] = b"N: DO;\nP: PROCEDURE PUBLIC; RETURN 1; END P; END N;";
-    assert_eq!(rt;
+    expect.same(
         outcome(program_of_two(alloc, first, second)),
-        Some((0, 2, Number::E401))
+        Some((0, 2, Number::E401)),
     );
     let fine: &[u8] = b"M: DO; P: PROCEDURE EXTERNAL; END P; CALL P; END M;";
-    assert_eq!(rt;
+    expect.same(
         outcome(program_of_two(alloc, fine, second)),
-        Some((1, 2, Number::E401))
+        Some((1, 2, Number::E401)),
     );
     // of two faults at one token the lower number
     let both: &[u8] =
         b"M: DO; DECLARE D(2) BYTE DATA (1), B BYTE;\nF: PROCEDURE; END F; B = F(1); D = 1; END M;";
-    assert_eq!(rt;
-        outcome(program_of(alloc, both)),
-        Some((0, 2, Number::E401))
-    );
+    expect.same(outcome(program_of(alloc, both)), Some((0, 2, Number::E401)));
     // a fault within does not make what holds it faulty
     let within: &[u8] = b"M: DO; DECLARE B BYTE; B = 1 +\n(B(1)\n+ 2); END M;";
-    assert_eq!(rt;
+    expect.same(
         outcome(program_of(alloc, within)),
-        Some((0, 2, Number::E401))
+        Some((0, 2, Number::E401)),
     );
     // a call through two modules comes back
     let there: &[u8] =
         b"M: DO; P: PROCEDURE EXTERNAL; END P;\nQ: PROCEDURE PUBLIC; CALL P; END Q; ; END M;";
     let back: &[u8] =
         b"N: DO; Q: PROCEDURE EXTERNAL; END Q;\n\nP: PROCEDURE PUBLIC; CALL Q; END P; END N;";
-    assert_eq!(rt;
+    expect.same(
         outcome(program_of_two(alloc, there, back)),
-        Some((0, 2, Number::E404))
+        Some((0, 2, Number::E404)),
     );
 }
