@@ -3,7 +3,7 @@ use Rattle.std.specs.Prelude.{List, [], ◌∷◌, if◌then◌else◌}
 use Rattle.pic8259.specs.declared.calls.Call.{Call}
 use Rattle.pic8259.specs.declared.calls.Call.TheVariants.{Write, Read, Pulse, Line, Acknowledge}
 use Rattle.pic8259.specs.declared.calls.Reply.{Reply}
-use Rattle.pic8259.specs.declared.calls.Reply.TheVariants.{Nothing, Byte, Level}
+use Rattle.pic8259.specs.declared.calls.Reply.TheVariants.{Nothing, Byte, Signal}
 use Rattle.pic8259.specs.Controller.{Controller, written, answer, pulsed, line, vector, acknowledged}
 
 -- the controller after one call
@@ -19,7 +19,7 @@ abbrev pub reply_of : Call → Controller → Reply
 reply_of (Write a0 v) s = Nothing
 reply_of (Read a0) s = Byte (answer a0 s)
 reply_of (Pulse k) s = Nothing
-reply_of Line s = Level (line s)
+reply_of Line s = Signal (line s)
 reply_of Acknowledge s = if line s then Byte (vector s) else Nothing
 
 -- what a list of calls answers, call by call

@@ -30,7 +30,7 @@ pub enum Reply {
     /// The byte that was read, or the vector.
     Byte(u8),
     /// Whether INT is up.
-    Level(bool),
+    Signal(bool),
 }
 
 fn make(pic: &mut Pic, call: Call) -> Reply
@@ -47,7 +47,7 @@ fn make(pic: &mut Pic, call: Call) -> Reply
             pic.pulse(level);
             Reply::Nothing
         }
-        Call::Line => Reply::Level(pic.int_line()),
+        Call::Line => Reply::Signal(pic.int_line()),
         Call::Acknowledge => {
             if pic.int_line() {
                 Reply::Byte(pic.acknowledge())

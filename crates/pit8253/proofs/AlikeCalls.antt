@@ -3,7 +3,7 @@ use Rattle.std.proofs.Common.{◌≡◌, ℕ, zero, suc, ◌/◌, ◌==◌, Bool
 use Rattle.std.specs.Prelude.{not, ◌&&◌, ◌||◌}
 use Rattle.pit8253.specs.declared.calls.Call.{Call}
 use Rattle.pit8253.specs.declared.calls.Call.TheVariants.{Write, Read, Gate, Pulse, Out}
-use Rattle.pit8253.specs.declared.calls.Reply.TheVariants.{Byte, Level}
+use Rattle.pit8253.specs.declared.calls.Reply.TheVariants.{Byte, Signal}
 use Rattle.pit8253.specs.Timer.{Counter, Timer, AlikeCounters, AlikeTimers, written, read, command, pulses, out, rose, on}
 use Rattle.pit8253.specs.Calls.{after_one, reply_of}
 use Rattle.pit8253.proofs.Compose.{alike_pulses, alike_out, alike_counters_sym, alike_counters_trans}
@@ -68,9 +68,9 @@ call_answers (Read n) a b h =
     (same_choice (n == 1) _ _ _ _ (alike_answer a.one b.one h.same_one)
     (same_choice (n == 2) _ _ _ _ (alike_answer a.two b.two h.same_two) refl)))
 call_answers (Gate g) a b h = refl
-call_answers (Pulse k) a b h = ap Level (rose_same k a.zero b.zero h.same_zero)
+call_answers (Pulse k) a b h = ap Signal (rose_same k a.zero b.zero h.same_zero)
 call_answers (Out n) a b h =
-    ap Level
+    ap Signal
     (same_choice (n == 0) _ _ _ _ (alike_out a.zero b.zero h.same_zero)
     (same_choice (n == 1) _ _ _ _ (alike_out a.one b.one h.same_one)
     (same_choice (n == 2) _ _ _ _ (alike_out a.two b.two h.same_two) refl)))

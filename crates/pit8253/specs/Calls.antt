@@ -3,7 +3,7 @@ use Rattle.std.specs.Prelude.{◌≡◌, List, [], ◌∷◌}
 use Rattle.pit8253.specs.declared.calls.Call.{Call}
 use Rattle.pit8253.specs.declared.calls.Call.TheVariants.{Write, Read, Gate, Pulse, Out}
 use Rattle.pit8253.specs.declared.calls.Reply.{Reply}
-use Rattle.pit8253.specs.declared.calls.Reply.TheVariants.{Done, Byte, Level}
+use Rattle.pit8253.specs.declared.calls.Reply.TheVariants.{Done, Byte, Signal}
 use Rattle.pit8253.specs.Timer.{Timer, AlikeTimers, timer_written, timer_read, timer_answer, timer_gated, timer_pulses, timer_out, rose}
 
 -- the timer after one call
@@ -19,8 +19,8 @@ abbrev pub reply_of : Call → Timer → Reply
 reply_of (Write n v) c = Done
 reply_of (Read n) c = Byte (timer_answer n c)
 reply_of (Gate g) c = Done
-reply_of (Pulse k) c = Level (rose k c.zero)
-reply_of (Out n) c = Level (timer_out n c)
+reply_of (Pulse k) c = Signal (rose k c.zero)
+reply_of (Out n) c = Signal (timer_out n c)
 
 -- what a list of calls answers, call by call
 abbrev pub replies_of : List Call → Timer → List Reply

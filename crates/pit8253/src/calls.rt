@@ -29,7 +29,7 @@ pub enum Reply {
     /// The byte that was read.
     Byte(u8),
     /// Whether OUT is high, or of pulses whether channel 0's rose.
-    Level(bool),
+    Signal(bool),
 }
 
 fn make(pit: &mut Pit, call: Call) -> Reply
@@ -46,8 +46,8 @@ fn make(pit: &mut Pit, call: Call) -> Reply
             pit.gate(gate);
             Reply::Done
         }
-        Call::Pulse(k) => Reply::Level(pit.pulse(k)),
-        Call::Out(n) => Reply::Level(pit.out(n)),
+        Call::Pulse(k) => Reply::Signal(pit.pulse(k)),
+        Call::Out(n) => Reply::Signal(pit.out(n)),
     }
 }
 

@@ -4,7 +4,7 @@ use Rattle.word86.specs.declared.width.Width.TheVariants as width
 use Rattle.ppi_kbd.specs.declared.calls.Call.{Call}
 use Rattle.ppi_kbd.specs.declared.calls.Call.TheVariants.{Read, ReadWord, Write, WriteWord, Comes, Line, Acknowledge}
 use Rattle.ppi_kbd.specs.declared.calls.Reply.{Reply}
-use Rattle.ppi_kbd.specs.declared.calls.Reply.TheVariants.{Nothing, Byte, Word, Level}
+use Rattle.ppi_kbd.specs.declared.calls.Reply.TheVariants.{Nothing, Byte, Word, Signal}
 use Rattle.ppi_kbd.specs.Chips.{ChipState, value, reading, writing, comes, line, vector, acknowledged}
 
 -- the chips after one call
@@ -24,7 +24,7 @@ reply_of (ReadWord port) c = Word (value c width.Word port)
 reply_of (Write port v) c = Nothing
 reply_of (WriteWord port v) c = Nothing
 reply_of (Comes event) c = Nothing
-reply_of Line c = Level (line c)
+reply_of Line c = Signal (line c)
 reply_of Acknowledge c = if line c then Byte (vector c) else Nothing
 
 -- what a list of calls answers, call by call

@@ -39,7 +39,7 @@ pub enum Reply {
     /// The word that was read.
     Word(u16),
     /// Whether INT is up.
-    Level(bool),
+    Signal(bool),
 }
 
 fn make(ports: &mut Ports, call: Call) -> Reply
@@ -61,7 +61,7 @@ fn make(ports: &mut Ports, call: Call) -> Reply
             ports.comes(event);
             Reply::Nothing
         }
-        Call::Line => Reply::Level(ports.int_line()),
+        Call::Line => Reply::Signal(ports.int_line()),
         Call::Acknowledge => {
             if ports.int_line() {
                 Reply::Byte(ports.acknowledge())
