@@ -9,7 +9,7 @@ use Rattle.layout_link.specs.declared.image.RomSize.TheVariants.{Kib8, Kib16, Ki
 use Rattle.plm86.specs.declared.order.Order.{Order}
 use Rattle.plm86.specs.declared.order.Order.TheVariants.{Build, Run, Mean}
 use Rattle.plm86.specs.declared.order.OrderFault.{OrderFault}
-use Rattle.plm86.specs.declared.order.OrderFault.TheVariants.{Words, Memory}
+use Rattle.plm86.specs.declared.order.OrderFault.TheVariants.{Words, Help, Memory}
 pub use Rattle.plm86.specs.CommandLine.{value_of, values_of}
 
 abbrev pub size_named : Text → Option RomSize
@@ -38,9 +38,10 @@ Spells words o = (fault_of plm86_app words ≡ []) × (name : Text) × (rows : L
 
 abbrev pub HasWords : OrderFault → Type 0
 HasWords (Words text) = ⊤
+HasWords (Help text) = ⊤
 HasWords Memory = ⊥
 
--- `clap` refuses the words, or KIB is none of the four
+-- `clap` finds no order in the words, or KIB is none of the four
 abbrev pub IsRefused : List Text → Type 0
 IsRefused words = (fault_of plm86_app words ≡ [] → ⊥)
     ⊎ ((rows : List Row) × (subcommand_of plm86_app words ≡ Some (codes "build", rows))

@@ -20,8 +20,22 @@ pub(crate) struct Outputs<'a> {
     pub map: Option<&'a str>,
 }
 
-/// `build -r KIB -o ROM [-l LISTING] [-m MAP] SOURCE...`: all sources are read first. Warnings are shown once nothing more can be
-/// refused, and then the files are written.
+impl<'a> Outputs<'a> {
+    /// The first of these files that is a source too, where there is one: to write it would lose the source.
+    fn over_a_source(self, sources: &[&'a str]) -> Option<&'a str> {
+        for output in [Some(self.rom), self.listing, self.map] {
+            if let Some(name) = output {
+                if sources.contains(&name) {
+                    return Some(name);
+                }
+            }
+        }
+        None
+    }
+}
+
+/// `build -r KIB -o ROM [-l LISTING] [-m MAP] SOURCE...`: no output may be a source. All sources are read first. Warnings
+/// are shown once nothing more can be refused, and then the files are written.
 pub(crate) fn build_rom<R: Files, S: Sink>(
     rt: &R,
     alloc: Global,
@@ -30,6 +44,9 @@ pub(crate) fn build_rom<R: Files, S: Sink>(
     names: &[&str],
     errors: &mut S,
 ) -> Result<u8, Stop> {
+    if let Some(name) = outputs.over_a_source(names) {
+        return Err(Stop::over_a_source(alloc, name)?);
+    }
     let texts = read_texts(rt, alloc, names)?;
     let sources = sources_of(alloc, names, &texts)?;
     let built = build_sources(alloc, names, &sources, size)?;

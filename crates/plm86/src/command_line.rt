@@ -210,7 +210,8 @@ fn refusal(alloc: Global, error: &Error) -> OrderFault
         return OrderFault::Memory;
     }
     match format!(in alloc; "{error}") {
-        Ok(text) => OrderFault::Words(text),
+        Ok(text) if error.use_stderr() => OrderFault::Words(text),
+        Ok(text) => OrderFault::Help(text),
         Err(_) => OrderFault::Memory,
     }
 }
@@ -219,7 +220,8 @@ fn refusal(alloc: Global, error: &Error) -> OrderFault
 ///
 /// # Errors
 ///
-/// The words to print where `clap` refuses the line (help among them) or KIB is none of 8, 16, 32 and 64, or want of memory.
+/// The words to print where `clap` refuses the line or KIB is none of 8, 16, 32 and 64; help or the version where these are asked for; or
+/// want of memory.
 pub fn order<'a>(alloc: Global, words: &'a [&str]) -> Result<Order<'a>, OrderFault>
     ensures ok { IfOk result (Spells (map (λ w. w.now) words.entry.now)) }
     ensures words { IfErr result (λ e. HasWords e → IsRefused (map (λ w. w.now) words.entry.now)) }

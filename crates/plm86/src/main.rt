@@ -24,18 +24,30 @@ use meaning::run_meaning;
 use order::{Order, OrderFault};
 use running::run_rom;
 use std::alloc::Global;
+use std::io::ErrorKind;
 use std::process::ExitCode;
 use stop::Stop;
 use word86::{WriterSink, put_all};
 
+/// The words of the command line, the program's name before them.
+fn given_words(rt: &HostRuntime, alloc: Global) -> Result<Vec<String>, Stop> {
+    let given = match std::env::args(rt) {
+        Ok(given) => given,
+        Err(error) if error.kind() == ErrorKind::InvalidData => {
+            let text = "error: a word of the command line is not UTF-8\n";
+            return Err(Stop::Words(String::from_str(alloc, text)?));
+        }
+        Err(_) => return Err(Stop::Memory),
+    };
+    match given.collect::<Vec<String>>(alloc) {
+        Ok(words) => Ok(words),
+        Err(_) => Err(Stop::Memory),
+    }
+}
+
 /// Does what the words of the command line ask for, and answers the status.
 fn work(rt: &HostRuntime, alloc: Global) -> Result<u8, Stop> {
-    let Ok(given) = std::env::args(rt) else {
-        return Err(Stop::Memory);
-    };
-    let Ok(owned) = given.collect::<Vec<String>>(alloc) else {
-        return Err(Stop::Memory);
-    };
+    let owned = given_words(rt, alloc)?;
     let mut words: Vec<&str> = Vec::new(alloc);
     for word in owned.as_slice().iter().skip(1) {
         if words.push(word.as_str()).is_err() {
@@ -61,18 +73,9 @@ fn work(rt: &HostRuntime, alloc: Global) -> Result<u8, Stop> {
             let errors = &mut WriterSink::new(rt.stderr());
             run_meaning(rt, alloc, schedule, &sources, errors)
         }
-        Err(OrderFault::Words(text)) if asks_for_help(words.as_slice()) => {
-            show(rt, alloc, text.as_str())
-        }
-        Err(fault) => Err(Stop::from(fault)),
-    }
-}
-
-// A lone `--help` or `--version`: what it asks for is its answer, and no refusal.
-fn asks_for_help(words: &[&str]) -> bool {
-    match words {
-        [word] => matches!(*word, "--help" | "--version"),
-        _ => false,
+        Err(OrderFault::Help(text)) => show(rt, alloc, text.as_str()),
+        Err(OrderFault::Words(text)) => Err(Stop::Words(text)),
+        Err(OrderFault::Memory) => Err(Stop::Memory),
     }
 }
 

@@ -30,10 +30,11 @@ pub enum Order<'a> {
     },
 }
 
-/// Why there is no order: words to print, or want of memory.
+/// Why there is no order: it is refused, with the words to print; help or the version is asked for in its place; or want of memory.
 #[derive(Debug, Drop)]
 pub enum OrderFault {
     Words(String),
+    Help(String),
     Memory,
 }
 

@@ -1,8 +1,7 @@
 //! What ends the program before its work is done, and what it says then.
 
-use crate::order::OrderFault;
 use listing_map::fault_line;
-use std::alloc::AllocError;
+use std::alloc::{AllocError, Global};
 use word86::{Number, Sink, put_all};
 
 /// Why the program stops early.
@@ -26,16 +25,13 @@ impl From<AllocError> for Stop {
     }
 }
 
-impl From<OrderFault> for Stop {
-    fn from(fault: OrderFault) -> Stop {
-        match fault {
-            OrderFault::Memory => Stop::Memory,
-            OrderFault::Words(text) => Stop::Words(text),
-        }
-    }
-}
-
 impl Stop {
+    /// The refusal of a command line by which a source of this name would be written over.
+    pub fn over_a_source(alloc: Global, name: &str) -> Result<Stop, AllocError> {
+        let text = format!(in alloc; "error: {name} is a source and would be written over\n")?;
+        Ok(Stop::Words(text))
+    }
+
     /// Says on standard error why the program stops, and answers its status.
     pub fn report<S: Sink>(&self, errors: &mut S) -> u8 {
         // Where standard error cannot be written, the status still tells.
