@@ -17,7 +17,7 @@ opcode_of Ack = None
 opcode_of Instr = None
 opcode_of Wait = None
 
--- such a turn ends the text
+-- bytes that are no instruction end the text by their line
 abbrev pub closing : Kind → List ℕ
 closing (Opcode address) = opcode_line address
 closing Ack = []

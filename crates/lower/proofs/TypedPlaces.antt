@@ -65,7 +65,7 @@ module _ (sizes : List ℕ) where
   placed_at v (region.Based b) t lies e room = absurd (true_false (sym e))
   placed_at v region.Nowhere t lies e room = absurd (true_false (sym e))
 
-  -- with so much room its scalar lies
+  -- where the region has room for the scalar's bytes, the scalar lies in it
   pub with_room : (v : Variable) (t : ScalarType) → IsLying sizes v → has_room (size_of t) v ≡ true → Lies sizes (width_of (Some t)) (where_at v.region)
   with_room v t lies h =
       let both = both_true (lies_somewhere v.region) (nat_le (size_of t) (span v)) h in

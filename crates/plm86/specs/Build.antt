@@ -124,9 +124,9 @@ pub record AreTyped (texts : List (List ℕ)) (names : Names) : Type 0 where
 
 -- ---- the image
 
--- For every power-on memory and schedule the ROM, on the board with its chips from their reset on, does what the modules mean that
--- declare these names, with the objects as the image places them. Each vector leads to some entry, and the image tells how many bytes
--- main and an interrupt procedure have on the stack at most.
+-- For every power-on memory and schedule the ROM does on the board what the modules mean that declare these names. The chips begin at their
+-- reset, and the objects lie where the image places them. Each vector leads to some entry, and the image tells how many bytes main and an
+-- interrupt procedure have on the stack at most.
 pub record MeansNames (names : Names) (image : Image) : Type 0 where
   pub entry : (vector : ℕ) → ℕ
   pub faithful :
@@ -163,7 +163,7 @@ abbrev pub IsTooLarge : Names → RomSize → Type 0
 IsTooLarge names size = (16 * kib_of size < nodes_of names) ⊎ (bytes_in size < 4 * initial_size names)
 
 -- The first fault of the phases that ask for no ROM, each over all texts: scanning; parsing; names, where the least is answered, and
--- those of the whole program come last; types, likewise.
+-- those of the whole program come last; types, where the least is answered, and E404 only where there is no other.
 pub data IsFaulty (texts : List (List ℕ)) (f : Fault) : Type 0 where
   unscanned : IsFirst (scan_faults 0 texts) f → IsFaulty texts f
   unparsed : scan_faults 0 texts ≡ [] → IsFirstUnparsed 0 (map tokens_of texts) f → IsFaulty texts f
@@ -175,7 +175,8 @@ abbrev pub RefusesTexts : List (List ℕ) → Fault → Type 0
 RefusesTexts texts Memory = ⊤
 RefusesTexts texts (At which line number) = IsFaulty texts (At which line number)
 
--- The first fault of all phases: those, the stack's room, and the ROM's.
+-- The first fault of those phases. Where they find none: E501, which never comes to a shallow program, or E601, which never comes to one that
+-- is small for the ROM.
 pub data IsRefusal (texts : List (List ℕ)) (size : RomSize) (f : Fault) : Type 0 where
   faulty : IsFaulty texts f → IsRefusal texts size f
   too_deep : (names : Names) → AreTyped texts names → ¬ IsShallow names → f ≡ At 0 1 E501 → IsRefusal texts size f
