@@ -416,10 +416,10 @@ const DIVISIONS: [(Signedness, Width, u32, u16, Option<(u16, u16)>); 60] = [
 ];
 
 ghost use Rattle.std.specs.Prelude.{◌<◌, ◌*◌, IsTrue};
-ghost use Rattle.i86_table.specs.Arithmetic.{size_of};
+ghost use Rattle.word86.specs.Access.{values};
 
 fn fits(width: Width, number: u16) -> bool
-    ensures { IsTrue result → number < size_of width }
+    ensures { IsTrue result → number < values width }
 {
     match width {
         Width::Byte => number < 256,
@@ -428,7 +428,7 @@ fn fits(width: Width, number: u16) -> bool
 }
 
 fn fits_twice(width: Width, number: u32) -> bool
-    ensures { IsTrue result → number < size_of width * size_of width }
+    ensures { IsTrue result → number < values width * values width }
 {
     match width {
         Width::Byte => number < 65536,

@@ -1,6 +1,6 @@
 pub mod Settled
 pub mod Attached
-pub mod MemoryLaws
+pub mod LawfulMemory
 pub mod Reading
 pub mod Steps
 pub mod Stretch

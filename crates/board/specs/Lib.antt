@@ -3,6 +3,7 @@ pub mod Schedule
 pub mod Spelling
 pub mod Format
 pub mod World
+pub mod MemoryLaws
 pub mod Machine
 pub mod Rom
 pub mod Board

@@ -22,6 +22,13 @@ lies_in base bytes a = nat_le base a && nat_lt a (base + length bytes)
 abbrev pub region : (base : ℕ) → List ℕ → (address beyond : ℕ) → ℕ
 region base bytes a beyond = if lies_in base bytes a then slice_index bytes (a - base) else beyond
 
+abbrev pub screen_at : ℕ
+screen_at = 0xB8000
+
+-- the byte at an address: what is nowhere reads 0FFH
+abbrev pub memory_byte : (ram screen rom : List ℕ) → (address : ℕ) → ℕ
+memory_byte ram screen rom a = region 0 ram a (region screen_at screen a (region (0x100000 - length rom) rom a 255))
+
 -- a region after a byte was stored, perhaps elsewhere
 abbrev pub put : (base : ℕ) → List ℕ → (address value : ℕ) → List ℕ
 put base bytes a v = if lies_in base bytes a then slice_set bytes (a - base) v else bytes
@@ -29,9 +36,6 @@ put base bytes a v = if lies_in base bytes a then slice_set bytes (a - base) v e
 abbrev pub after_store : (base : ℕ) → List ℕ → Store → List ℕ
 after_store base bytes (stores.Byte address value) = put base bytes address value
 after_store base bytes (stores.Word low high value) = put base (put base bytes low (value % 256)) high (value / 256)
-
-abbrev pub screen_at : ℕ
-screen_at = 0xB8000
 
 abbrev pub is_on_screen : (address : ℕ) → Bool
 is_on_screen a = nat_le screen_at a && nat_lt a (screen_at + 4000)
@@ -48,10 +52,10 @@ abbrev pub with_chips_of : {P : Type 0} → World P → P → World P
 with_chips_of w p = record { ram = w.ram; screen = w.screen; rom = w.rom; chips = p }
 
 module _ {P : Type 0} (c : Chips P) where
-  -- what memory and ports answer; what is nowhere reads 0FFH, and stores there and into the ROM are lost
+  -- what memory and ports answer; stores into the ROM, and where nothing is, are lost
   abbrev pub board_model : BusModel (World P)
   board_model = record {
-    load = λ w a. region 0 w.ram a (region screen_at w.screen a (region (0x100000 - length w.rom) w.rom a 255));
+    load = λ w a. memory_byte w.ram w.screen w.rom a;
     store = λ w s. record { ram = after_store 0 w.ram s; screen = after_store screen_at w.screen s; rom = w.rom; chips = w.chips };
     store_label = λ w s. shown_store s;
     keeps = λ w a. lies_in 0 w.ram a || lies_in screen_at w.screen a;

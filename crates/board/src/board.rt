@@ -89,13 +89,17 @@ impl Board {
         ensures kind { (b : State (World ChipState)) → Shows self.old b → result.kind ≡ turn_kind (board_model board_chips) (comes board_chips) events.now b }
     {
         let mut labels = ArrayVec::new();
-        let kind = self.turn_onto(events, &mut labels);
+        let kind = self.turn_leaving_labels(events, &mut labels);
         Turn { labels, kind }
     }
 
     /// The same turn, with the processor's labels left in `labels`, which is handed in empty.
     #[inline(always)]
-    pub(crate) fn turn_onto(&mut self, events: &[Event], labels: &mut ArrayVec<Label, 4>) -> Kind
+    pub(crate) fn turn_leaving_labels(
+        &mut self,
+        events: &[Event],
+        labels: &mut ArrayVec<Label, 4>,
+    ) -> Kind
         requires { labels.old.items ≡ [] }
         ensures state { (b : State (World ChipState)) → Shows self.old b → Shows self.new (turn (board_model board_chips) (comes board_chips) events.now b).0 }
         ensures labels { (b : State (World ChipState)) → Shows self.old b → map event_label events.now ++ labels.new.items ≡ (turn (board_model board_chips) (comes board_chips) events.now b).1 }

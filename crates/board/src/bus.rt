@@ -8,7 +8,7 @@ ghost use Rattle.cpu8086.specs.Machine.{access_at, loaded_word};
 ghost use Rattle.board.specs.World.{World, board_model, put, shown_store};
 ghost use Rattle.board.specs.Inner.Settled.{chips_of, settled_chips};
 ghost use Rattle.board.specs.Inner.Attached.{world_of};
-ghost use Rattle.board.specs.Inner.MemoryLaws.{load_after_store_law, ports_law};
+ghost use Rattle.board.specs.Inner.LawfulMemory.{load_after_store_law, ports_law};
 
 use crate::attached::Attached;
 use crate::chips::{acknowledge, int_line, read_port, write_port};

@@ -1,13 +1,21 @@
-//! The laws of schedules: what is read of a text, and its first fault, in the format's own terms.
+//! The laws of the memory, and of schedules: what is read of a text, and its first fault, in the format's own terms.
 
 ghost use Rattle.std.specs.Prelude.{◌≡◌, ℕ, Some, None};
 ghost use Rattle.word86.specs.declared.fault.Fault.{Fault};
 ghost use Rattle.word86.specs.declared.fault.Fault.TheVariants.{At};
 ghost use Rattle.word86.specs.declared.number.Number.{Number};
 ghost use Rattle.board.specs.declared.reading.Item.{Item};
+ghost use Rattle.board.specs.MemoryLaws.{MemoryLaws};
 ghost use Rattle.board.specs.Schedule.{Text, item_of, read_lines, fault_of};
 ghost use Rattle.board.specs.Spelling.{Plan, Spells, IsPlan, lines_in};
 ghost use Rattle.board.specs.Format.{IsLineOf, HasFault};
+
+/// The laws of the board's memory: an address in RAM or on the screen has after a store what the store left there, each other
+/// address has what it had, and no store makes RAM or the screen longer or shorter. They rule out a store into the ROM that is
+/// kept, a store that changes another byte, and a region that a store moves.
+pub fn memory_laws()
+    ensures { MemoryLaws }
+{}
 
 /// A text is read without a fault exactly where it spells a schedule, and what is read is that schedule: a FILL line or none,
 /// then events whose turns do not fall and stay below the stop, then the STOP line, between them blank lines and comments.

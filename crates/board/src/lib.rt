@@ -15,6 +15,6 @@ mod trace;
 mod words;
 
 pub use board::Board;
-pub use laws::{fault_law, line_law, schedule_law};
+pub use laws::{fault_law, line_law, memory_laws, schedule_law};
 pub use run::End;
 pub use schedule::{Schedule, read_schedule};

@@ -1,11 +1,12 @@
 //! Instructions that compute.
 
 ghost use Rattle.std.specs.Prelude.{◌≡◌, not, ◌+◌, ◌*◌, ◌<◌, ◌≤◌};
-ghost use Rattle.i86_table.specs.Arithmetic.{size_of};
+ghost use Rattle.word86.specs.Access.{values};
+ghost use Rattle.i86_table.specs.Arithmetic.{is_comparison};
 ghost use Rattle.arrayvec.specs.ArrayVec.{array_vec_len};
 ghost use Rattle.cpu8086.specs.Machine.{machine};
 ghost use Rattle.cpu8086.specs.Operands.{bytes, located, in_memory, held};
-ghost use Rattle.cpu8086.specs.Arithmetic.{computed, computed_at, register_computed, register_changed, is_compare, changed_in_place, tested_place, shift_count, shifted_place, multiplied_byte, multiplied_word, divided_byte, divided_word};
+ghost use Rattle.cpu8086.specs.Arithmetic.{computed, computed_at, register_computed, register_changed, changed_in_place, tested_place, shift_count, shifted_place, multiplied_byte, multiplied_word, divided_byte, divided_word};
 
 use crate::bus::Bus;
 use crate::control::interrupt;
@@ -20,7 +21,7 @@ use word86::Width;
 /// Whether an operation stores its result: CMP does not.
 #[inline(always)]
 fn is_stored(operation: AluOperation) -> bool
-    ensures { result ≡ not (is_compare operation) }
+    ensures { result ≡ not (is_comparison operation) }
 {
     !matches!(operation, AluOperation::Cmp)
 }
@@ -33,7 +34,7 @@ pub(crate) fn compute<R: Operand, B: Bus>(
     bus: &mut B,
     labels: &mut Labels,
     operation: AluOperation,
-    operands: &Operands<R, R::Number>,
+    operands: &Operands<R, R::Immediate>,
 )
     requires { array_vec_len labels.old < 4 }
     ensures { machine registers.new (B.world bus.new) labels.new.items
@@ -44,8 +45,8 @@ pub(crate) fn compute<R: Operand, B: Bus>(
             let second = source.value(registers);
             compute_place(registers, bus, labels, operation, place, second);
         }
-        Operands::Immediate(place, number) => {
-            let second = R::number(*number);
+        Operands::Immediate(place, immediate) => {
+            let second = R::number(*immediate);
             compute_place(registers, bus, labels, operation, place, second);
         }
         Operands::FromMemory(register, memory) => {
@@ -94,7 +95,7 @@ fn compute_place<R: Operand, B: Bus>(
     place: &RmOperand<R>,
     second: u16,
 )
-    requires fits { second < size_of R.bank.width }
+    requires fits { second < values R.bank.width }
     requires room { array_vec_len labels.old < 4 }
     ensures { machine registers.new (B.world bus.new) labels.new.items
         ≡ computed_at B.model R.bank operation (located registers.old place.now) second (machine registers.old (B.world bus.old) labels.old.items) }
@@ -115,7 +116,7 @@ fn compute_register<R: Operand>(
     register: R,
     second: u16,
 )
-    requires { second < size_of R.bank.width }
+    requires { second < values R.bank.width }
     ensures { registers.new ≡ register_computed R.bank operation register second registers.old }
 {
     let first = register.value(registers);
@@ -135,7 +136,7 @@ fn compute_memory<R: Operand, B: Bus>(
     memory: &Memory,
     second: u16,
 )
-    requires fits { second < size_of R.bank.width }
+    requires fits { second < values R.bank.width }
     requires room { array_vec_len labels.old < 4 }
     ensures { machine registers.new (B.world bus.new) labels.new.items
         ≡ computed_at B.model R.bank operation (in_memory registers.old memory.now) second (machine registers.old (B.world bus.old) labels.old.items) }
@@ -219,7 +220,7 @@ pub(crate) fn test_place<R: Operand, B: Bus>(
     registers: &mut Regs,
     bus: &B,
     place: &RmOperand<R>,
-    mask: &TestMask<R, R::Number>,
+    mask: &TestMask<R, R::Immediate>,
 )
     ensures { registers.new ≡ tested_place B.model R.bank place.now mask.now (B.world bus.now) registers.old }
 {

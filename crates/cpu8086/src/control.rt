@@ -5,7 +5,8 @@ ghost use Rattle.i86_table.specs.Conditions.{holds};
 ghost use Rattle.i86_table.specs.State.{with_ip};
 ghost use Rattle.arrayvec.specs.ArrayVec.{array_vec_len};
 ghost use Rattle.cpu8086.specs.Machine.{machine};
-ghost use Rattle.cpu8086.specs.Control.{named_offset, flag_word, closed, jumped, jumped_if, looped, called_at, called, called_to, returned, returned_dropping, flags_popped, returned_from_interrupt, interrupted};
+ghost use Rattle.i86_table.specs.Arithmetic.{without_trap_and_interrupts};
+ghost use Rattle.cpu8086.specs.Control.{named_offset, flag_word, jumped, jumped_if, looped, called_at, called, called_to, returned, returned_dropping, flags_popped, returned_from_interrupt, interrupted};
 
 use crate::bus::Bus;
 use crate::memory::{Labels, pop, push};
@@ -21,9 +22,10 @@ pub(crate) fn flag_word(flags: Flags) -> u16
     flags.bits() & 0xFD5
 }
 
+// The flags with which an interrupt begins.
 #[inline(always)]
-fn close(flags: Flags) -> Flags
-    ensures { result ≡ closed flags }
+fn without_trap_and_interrupts(flags: Flags) -> Flags
+    ensures { result ≡ without_trap_and_interrupts flags }
 {
     flags.with(Flags::TRAP, false).with(Flags::INTERRUPT, false)
 }
@@ -165,7 +167,7 @@ pub(crate) fn interrupt<B: Bus>(registers: &mut Regs, bus: &mut B, labels: &mut 
 {
     let flags = flag_word(registers.flags());
     push(registers, bus, labels, flags);
-    registers.set_flags(close(registers.flags()));
+    registers.set_flags(without_trap_and_interrupts(registers.flags()));
     push(registers, bus, labels, registers.segment(Segment::Cs));
     push(registers, bus, labels, registers.ip());
     let vector = 4 * u16::from(number);

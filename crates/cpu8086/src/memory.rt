@@ -1,7 +1,7 @@
 //! Memory by segment and offset, and the stack.
 
 ghost use Rattle.std.specs.Prelude.{◌≡◌, ◌+◌, ◌<◌, ◌≤◌, ◌^◌, ◌++◌};
-ghost use Rattle.i86_table.specs.Arithmetic.{size_of};
+ghost use Rattle.word86.specs.Access.{values};
 ghost use Rattle.arrayvec.specs.ArrayVec.{array_vec_len};
 ghost use Rattle.cpu8086.specs.Machine.{machine, physical, next_offset, access_at, labels_of, loaded_byte, loaded_word, loaded, pushed, popped};
 
@@ -44,7 +44,7 @@ pub(crate) fn load_byte<B: Bus>(bus: &B, segment: u16, offset: u16) -> u8
 #[inline(always)]
 pub(crate) fn load<B: Bus>(bus: &B, width: Width, segment: u16, offset: u16) -> u16
     ensures value { result ≡ loaded B.model width (B.world bus.now) segment offset }
-    ensures fits { result < size_of width }
+    ensures fits { result < values width }
 {
     match width {
         Width::Byte => u16::from(load_byte(bus, segment, offset)),
@@ -63,7 +63,7 @@ pub(crate) fn store<B: Bus>(
     offset: u16,
     value: u16,
 )
-    requires fits { value < size_of width }
+    requires fits { value < values width }
     requires room { array_vec_len labels.old < 4 }
     ensures after { B.world bus.new ≡ B.model.store (B.world bus.old) (access_at width segment offset value) }
     ensures shown { labels.new.items ≡ labels.old.items ++ labels_of (B.model.store_label (B.world bus.old) (access_at width segment offset value)) }

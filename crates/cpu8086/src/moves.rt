@@ -1,7 +1,7 @@
 //! Instructions that move data.
 
 ghost use Rattle.std.specs.Prelude.{◌≡◌, ◌<◌, ◌≤◌, ◌%◌};
-ghost use Rattle.i86_table.specs.Arithmetic.{size_of};
+ghost use Rattle.word86.specs.Access.{values};
 ghost use Rattle.arrayvec.specs.ArrayVec.{array_vec_len};
 ghost use Rattle.cpu8086.specs.Machine.{machine};
 ghost use Rattle.cpu8086.specs.Moves.{exchanged_bytes, exchanged_words, byte_converted, word_converted, accumulator, with_accumulator, in_label, out_label, moved, exchanged_with, moved_from_segment, moved_to_segment, pushed_value, pushed_place, popped_to, popped_to_segment, read_in, written_out};
@@ -22,7 +22,7 @@ pub(crate) fn move_operands<R: Operand, B: Bus>(
     registers: &mut Regs,
     bus: &mut B,
     labels: &mut Labels,
-    operands: &Operands<R, R::Number>,
+    operands: &Operands<R, R::Immediate>,
 )
     requires { array_vec_len labels.old < 4 }
     ensures { machine registers.new (B.world bus.new) labels.new.items
@@ -187,7 +187,7 @@ pub(crate) fn pop_to_segment<B: Bus>(registers: &mut Regs, bus: &B, segment: Loa
 #[inline(always)]
 pub(crate) fn accumulator(width: Width, registers: &Regs) -> u16
     ensures value { result ≡ accumulator width registers.now }
-    ensures fits { result < size_of width }
+    ensures fits { result < values width }
 {
     match width {
         Width::Byte => u16::from(registers.byte(Register8::Al)),
@@ -197,7 +197,7 @@ pub(crate) fn accumulator(width: Width, registers: &Regs) -> u16
 
 #[inline(always)]
 fn set_accumulator(width: Width, registers: &mut Regs, value: u16)
-    requires { value < size_of width }
+    requires { value < values width }
     ensures { registers.new ≡ with_accumulator width registers.old value }
 {
     match width {
@@ -208,8 +208,8 @@ fn set_accumulator(width: Width, registers: &mut Regs, value: u16)
 
 #[inline(always)]
 fn wrapped(width: Width, value: u16) -> u16
-    ensures value { result ≡ value % size_of width }
-    ensures fits { result < size_of width }
+    ensures value { result ≡ value % values width }
+    ensures fits { result < values width }
 {
     match width {
         Width::Byte => value % 256,
@@ -219,7 +219,7 @@ fn wrapped(width: Width, value: u16) -> u16
 
 #[inline(always)]
 fn in_label(width: Width, port: u16, value: u16) -> Label
-    requires { value < size_of width }
+    requires { value < values width }
     ensures { result ≡ in_label width port value }
 {
     match width {
@@ -230,7 +230,7 @@ fn in_label(width: Width, port: u16, value: u16) -> Label
 
 #[inline(always)]
 fn out_label(width: Width, port: u16, value: u16) -> Label
-    requires { value < size_of width }
+    requires { value < values width }
     ensures { result ≡ out_label width port value }
 {
     match width {

@@ -1,7 +1,7 @@
 //! Operands of both widths, by one text.
 
 ghost use Rattle.std.specs.Prelude.{◌≡◌, ◌<◌, ◌≤◌, ◌+◌};
-ghost use Rattle.i86_table.specs.Arithmetic.{size_of};
+ghost use Rattle.word86.specs.Access.{values};
 ghost use Rattle.arrayvec.specs.ArrayVec.{array_vec_len};
 ghost use Rattle.cpu8086.specs.Machine.{machine};
 ghost use Rattle.cpu8086.specs.Operands.{Bank, bytes, words, located, in_memory, held, put, source, mask};
@@ -20,29 +20,30 @@ pub(crate) enum Spot<R> {
 
 /// A register of one width, by which operand code is written once for both.
 pub(crate) trait Operand: Copy {
-    /// An immediate number of this width.
-    type Number: Copy;
+    /// An immediate operand of this width.
+    type Immediate: Copy;
 
-    ghost bank: { Bank Self Self.Number };
+    ghost bank: { Bank Self Self.Immediate };
 
     fn width() -> Width
         ensures { result ≡ bank.width };
 
     fn value(self, registers: &Regs) -> u16
         ensures value { result ≡ bank.value registers.now self }
-        ensures fits { result < size_of bank.width };
+        ensures fits { result < values bank.width };
 
     fn set(self, registers: &mut Regs, value: u16)
-        requires { value < size_of bank.width }
+        requires { value < values bank.width }
         ensures { registers.new ≡ bank.with_value registers.old self value };
 
-    fn number(number: Self::Number) -> u16
-        ensures value { result ≡ bank.number number }
-        ensures fits { result < size_of bank.width };
+    /// The number that an immediate operand is.
+    fn number(immediate: Self::Immediate) -> u16
+        ensures value { result ≡ bank.number immediate }
+        ensures fits { result < values bank.width };
 }
 
 impl Operand for Register8 {
-    type Number = u8;
+    type Immediate = u8;
 
     ghost bank = { bytes };
 
@@ -58,13 +59,13 @@ impl Operand for Register8 {
         registers.set_byte(self, value as u8);
     }
 
-    fn number(number: u8) -> u16 {
-        u16::from(number)
+    fn number(immediate: u8) -> u16 {
+        u16::from(immediate)
     }
 }
 
 impl Operand for Register16 {
-    type Number = u16;
+    type Immediate = u16;
 
     ghost bank = { words };
 
@@ -80,8 +81,8 @@ impl Operand for Register16 {
         registers.set_word(self, value);
     }
 
-    fn number(number: u16) -> u16 {
-        number
+    fn number(immediate: u16) -> u16 {
+        immediate
     }
 }
 
@@ -109,7 +110,7 @@ impl<R: Operand> Spot<R> {
     #[inline(always)]
     pub(crate) fn read<B: Bus>(self, registers: &Regs, bus: &B) -> u16
         ensures value { result ≡ held B.model R.bank registers.now (B.world bus.now) self }
-        ensures fits { result < size_of R.bank.width }
+        ensures fits { result < values R.bank.width }
     {
         match self {
             Spot::Register(register) => register.value(registers),
@@ -126,7 +127,7 @@ impl<R: Operand> Spot<R> {
         labels: &mut Labels,
         value: u16,
     )
-        requires fits { value < size_of R.bank.width }
+        requires fits { value < values R.bank.width }
         requires room { array_vec_len labels.old < 4 }
         ensures after { machine registers.new (B.world bus.new) labels.new.items
             ≡ put B.model R.bank self value (machine registers.old (B.world bus.old) labels.old.items) }
@@ -144,7 +145,7 @@ impl<R: Operand> Spot<R> {
 #[inline(always)]
 pub(crate) fn read_memory<R: Operand, B: Bus>(registers: &Regs, bus: &B, memory: &Memory) -> u16
     ensures value { result ≡ held B.model R.bank registers.now (B.world bus.now) (in_memory registers.now memory.now) }
-    ensures fits { result < size_of R.bank.width }
+    ensures fits { result < values R.bank.width }
 {
     locate_memory::<R>(registers, memory).read(registers, bus)
 }
@@ -153,25 +154,25 @@ pub(crate) fn read_memory<R: Operand, B: Bus>(registers: &Regs, bus: &B, memory:
 pub(crate) fn read_source<R: Operand, B: Bus>(
     registers: &Regs,
     bus: &B,
-    operands: &Operands<R, R::Number>,
+    operands: &Operands<R, R::Immediate>,
 ) -> u16
     ensures value { result ≡ source B.model R.bank registers.now (B.world bus.now) operands.now }
-    ensures fits { result < size_of R.bank.width }
+    ensures fits { result < values R.bank.width }
 {
     match operands {
         Operands::FromRegister(_, register) => register.value(registers),
         Operands::FromMemory(_, memory) => read_memory::<R, B>(registers, bus, memory),
-        Operands::Immediate(_, number) => R::number(*number),
+        Operands::Immediate(_, immediate) => R::number(*immediate),
     }
 }
 
 #[inline(always)]
-pub(crate) fn read_mask<R: Operand>(registers: &Regs, tested: &TestMask<R, R::Number>) -> u16
+pub(crate) fn read_mask<R: Operand>(registers: &Regs, tested: &TestMask<R, R::Immediate>) -> u16
     ensures value { result ≡ mask R.bank registers.now tested.now }
-    ensures fits { result < size_of R.bank.width }
+    ensures fits { result < values R.bank.width }
 {
     match tested {
         TestMask::Register(register) => register.value(registers),
-        TestMask::Immediate(number) => R::number(*number),
+        TestMask::Immediate(immediate) => R::number(*immediate),
     }
 }

@@ -79,7 +79,7 @@ fn largest_room(needs: &[Need], code: &Code) -> u128
     largest
 }
 
-// As bytes, where the stack has so much room.
+// These words as bytes, where both together are at most `ROOM` words.
 fn in_bytes(main: u128, handler: u128) -> Option<Stack>
     ensures main { IfSome result (λ s. s.main ≡ 2 * main) }
     ensures handler { IfSome result (λ s. s.handler ≡ 2 * handler) }

@@ -39,7 +39,7 @@ use Rattle.i86_table.specs.declared.instruction.Repeat.{Repeat}
 use Rattle.i86_table.specs.declared.instruction.Repeat.TheVariants.{Once, WhileCx}
 use Rattle.i86_table.specs.declared.instruction.Instr.{Instr}
 use Rattle.i86_table.specs.declared.instruction.Instr.TheVariants as i
-use Rattle.i86_table.specs.Numbers.{byte_register_code, word_register_code}
+use Rattle.i86_table.specs.Numbers.{byte_register_code, word_register_code, segment_code}
 use Rattle.i86_table.specs.State.{loadable}
 use Rattle.i86_table.specs.Arithmetic.{sign_extended}
 use Rattle.i86_table.specs.Pairs.{word_pair}
@@ -55,7 +55,7 @@ use Rattle.i86_code.specs.declared.form.RegisterOrMemory.{RegisterOrMemory}
 use Rattle.i86_code.specs.declared.form.RegisterOrMemory.TheVariants.{Register, Indirect, Near, Far}
 use Rattle.i86_code.specs.declared.form.Form.{Form}
 use Rattle.i86_code.specs.Opcodes.{operation_at, byte_register_at, word_register_at, field_kind_of}
-use Rattle.i86_code.specs.Forms.{kind_of_fields, FieldsFit, IsPlace, base_code, operation_code, segment_code}
+use Rattle.i86_code.specs.Forms.{kind_of_fields, FieldsFit, IsPlace, base_code, operation_code}
 use Rattle.i86_code.specs.Instructions.{segment_under, repeats, usual_segment, based, direct, operand, byte_operand, word_operand, to_register, exchanged_byte, exchanged_word, load_address, shift_at, shift_then, addressed_instruction, byte_unary, word_unary, is_short, addressed_byte_instruction, addressed_word_instruction, exchanged_accumulator, plain_instruction, byte_instruction, word_instruction, instruction_from, instruction_of}
 use Rattle.i86_code.specs.Ranges.{AddressFits, RmOperandFits, OperandsFit, MaskFits, PortFits, InstrFits}
 use Rattle.i86_code.specs.Writing.{prefix_for, prefix_at, prefix_of, is_near, is_bp, based_form, address_form, place_form, plain, addressed, with_memory, with_byte, with_word, in_group, is_al, is_ax, at_register, accumulator_form, alu_immediate_of, alu_byte_of, alu_word_of, move_byte_of, move_word_of, test_byte_of, test_word_of, unary_byte_of, register_or, unary_word_of, multiply_code, divide_code, shift_code, exchange_words_of, string_prefixes, in_of, out_of, form_of, bytes_of}

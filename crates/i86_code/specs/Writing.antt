@@ -32,7 +32,7 @@ use Rattle.i86_table.specs.declared.instruction.Repeat.{Repeat}
 use Rattle.i86_table.specs.declared.instruction.Repeat.TheVariants.{Once, WhileCx}
 use Rattle.i86_table.specs.declared.instruction.Instr.{Instr}
 use Rattle.i86_table.specs.declared.instruction.Instr.TheVariants as i
-use Rattle.i86_table.specs.Numbers.{byte_register_code, word_register_code}
+use Rattle.i86_table.specs.Numbers.{byte_register_code, word_register_code, segment_code}
 use Rattle.i86_table.specs.State.{loadable}
 use Rattle.i86_table.specs.Arithmetic.{number_of}
 use Rattle.i86_code.specs.declared.form.Opcode.{Opcode}
@@ -44,7 +44,7 @@ use Rattle.i86_code.specs.declared.form.Prefixes.TheVariants as prefixes
 use Rattle.i86_code.specs.declared.form.RegisterOrMemory.{RegisterOrMemory}
 use Rattle.i86_code.specs.declared.form.RegisterOrMemory.TheVariants.{Register, Indirect, Direct, Near, Far}
 use Rattle.i86_code.specs.declared.form.Form.{Form}
-use Rattle.i86_code.specs.Forms.{form_bytes, IsForm, operation_code, segment_code}
+use Rattle.i86_code.specs.Forms.{form_bytes, IsForm, operation_code}
 use Rattle.i86_code.specs.Instructions.{usual_segment, is_short, instruction_of}
 
 -- ---- which form is better

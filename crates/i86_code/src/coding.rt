@@ -1,4 +1,4 @@
-//! Decoding and encoding.
+//! From bytes to an instruction and back: decoding takes every form of the table, encoding writes the best one.
 
 ghost use Rattle.std.specs.Prelude.{◌≡◌, ◌≤◌, ◌++◌, ℕ, List, IfSome, IfNone, take, length, Some};
 ghost use Rattle.i86_code.specs.Forms.{Spells};
@@ -12,6 +12,7 @@ use crate::ranges::instruction_fits;
 use arrayvec::ArrayVec;
 use i86_table::{Instr, pair_laws};
 
+// As `decode`, by the definition that computes: a form is read, and then what instruction it is.
 #[tactic(auto, unfolding(crate::specs::Decoding::decoded))]
 fn decode_front(bytes: &[u8]) -> Option<(Instr, usize)>
     ensures exact { result ≡ decoded bytes.now }

@@ -1,4 +1,6 @@
 pub mod FlagProofs
+pub mod ControlFlags
+pub mod ContextProofs
 pub mod OverflowProofs
 pub mod ShiftProofs
 pub mod RotationProofs

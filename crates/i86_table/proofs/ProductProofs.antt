@@ -11,7 +11,8 @@ use Rattle.word86.specs.declared.width.Width.TheVariants.{Byte, Word}
 use Rattle.i86_table.specs.declared.instruction.Signedness.TheVariants.{Unsigned, Signed}
 use Rattle.i86_table.specs.declared.outcome.Division.{Division}
 use Rattle.i86_table.specs.declared.flags.Flags.{Flags}
-use Rattle.i86_table.specs.Arithmetic.{size_of, same, has, magnitude, is_negative, with_sign, carry_and_overflow, multiplied, divided}
+use Rattle.word86.specs.Access.{values}
+use Rattle.i86_table.specs.Arithmetic.{same, has, magnitude, is_negative, with_sign, carry_and_overflow, multiplied, divided}
 use Rattle.i86_table.specs.ArithmeticLaws.{signed, in_range, ProductLaws, IsQuotient, QuotientLaws}
 use Rattle.i86_table.proofs.FlagLists.{has_put}
 
@@ -35,11 +36,11 @@ pub record IsEven (size : ℕ) : Type 0 where
   pub even : size ≡ 2 * (size / 2)
   pub some : 0 < size / 2
 
-pub even_width : (w : Width) → IsEven (size_of w)
+pub even_width : (w : Width) → IsEven (values w)
 even_width Byte = record { even = refl; some = lit< tt }
 even_width Word = record { even = refl; some = lit< tt }
 
-even_twice : (w : Width) → IsEven (size_of w * size_of w)
+even_twice : (w : Width) → IsEven (values w * values w)
 even_twice Byte = record { even = refl; some = lit< tt }
 even_twice Word = record { even = refl; some = lit< tt }
 
@@ -103,7 +104,7 @@ product_of false true m n = right_minus m n
 product_of false false m n = pos-*ℤ-pos m n
 
 -- what a width cannot hold
-outside : (w : Width) (r : Bool) (m : ℕ) → (if r then nat_lt (size_of w / 2) m else nat_le (size_of w / 2) m) ≡ not (in_range (size_of w) (minus r m))
+outside : (w : Width) (r : Bool) (m : ℕ) → (if r then nat_lt (values w / 2) m else nat_le (values w / 2) m) ≡ not (in_range (values w) (minus r m))
 outside Byte true zero = refl
 outside Byte true (suc k) = grind arith
 outside Byte false m = grind arith
@@ -111,7 +112,7 @@ outside Word true zero = refl
 outside Word true (suc k) = grind arith
 outside Word false m = grind arith
 
-pub product_small : (w : Width) (m n : ℕ) → m ≤ size_of w / 2 → n ≤ size_of w / 2 → m * n < size_of w * size_of w / 2
+pub product_small : (w : Width) (m n : ℕ) → m ≤ values w / 2 → n ≤ values w / 2 → m * n < values w * values w / 2
 product_small Byte m n hm hn = omega (arith, mul-le m n 128 128 hm hn)
 product_small Word m n hm hn = omega (arith, mul-le m n 32768 32768 hm hn)
 
@@ -121,32 +122,32 @@ carry_of v f = has_put ((2048, v) ∷ (1, v) ∷ []) 1 f (refl, refl, (lit< tt, 
 overflow_of : (v : Bool) (f : Flags) → has (carry_and_overflow v f) 2048 ≡ v
 overflow_of v f = has_put ((2048, v) ∷ (1, v) ∷ []) 2048 f (lit< tt, refl)
 
-signed_product : (w : Width) (a b : ℕ) → a < size_of w → b < size_of w → signed (size_of w) a *ℤ signed (size_of w) b ≡ minus (not (same (is_negative (size_of w) a) (is_negative (size_of w) b))) (magnitude (size_of w) a * magnitude (size_of w) b)
+signed_product : (w : Width) (a b : ℕ) → a < values w → b < values w → signed (values w) a *ℤ signed (values w) b ≡ minus (not (same (is_negative (values w) a) (is_negative (values w) b))) (magnitude (values w) a * magnitude (values w) b)
 signed_product w a b ha hb =
-    let s = size_of w in
+    let s = values w in
     ap (λ (z : ℤ). z *ℤ signed s b) (parts s a ha) ∙ ap (λ (z : ℤ). minus (is_negative s a) (magnitude s a) *ℤ z) (parts s b hb)
     ∙ product_of (is_negative s a) (is_negative s b) (magnitude s a) (magnitude s b)
 
-imul : (w : Width) (a b : ℕ) (f : Flags) → a < size_of w → b < size_of w → signed (size_of w * size_of w) (multiplied Signed w a b f).value ≡ signed (size_of w) a *ℤ signed (size_of w) b
+imul : (w : Width) (a b : ℕ) (f : Flags) → a < values w → b < values w → signed (values w * values w) (multiplied Signed w a b f).value ≡ signed (values w) a *ℤ signed (values w) b
 unfolding multiplied
 imul w a b f ha hb =
-    let s = size_of w in
+    let s = values w in
     let m = magnitude s a * magnitude s b in
     let small = product_small w (magnitude s a) (magnitude s b) (magnitude_small s a (even_width w)) (magnitude_small s b (even_width w)) in
     shown (s * s) m (not (same (is_negative s a) (is_negative s b))) (even_twice w) (omega (arith, small)) (λ e. small)
     ∙ sym (signed_product w a b ha hb)
 
-needed : (w : Width) (a b : ℕ) → a < size_of w → b < size_of w → (if not (same (is_negative (size_of w) a) (is_negative (size_of w) b)) then nat_lt (size_of w / 2) (magnitude (size_of w) a * magnitude (size_of w) b) else nat_le (size_of w / 2) (magnitude (size_of w) a * magnitude (size_of w) b)) ≡ not (in_range (size_of w) (signed (size_of w) a *ℤ signed (size_of w) b))
+needed : (w : Width) (a b : ℕ) → a < values w → b < values w → (if not (same (is_negative (values w) a) (is_negative (values w) b)) then nat_lt (values w / 2) (magnitude (values w) a * magnitude (values w) b) else nat_le (values w / 2) (magnitude (values w) a * magnitude (values w) b)) ≡ not (in_range (values w) (signed (values w) a *ℤ signed (values w) b))
 needed w a b ha hb =
-    outside w (not (same (is_negative (size_of w) a) (is_negative (size_of w) b))) (magnitude (size_of w) a * magnitude (size_of w) b)
-    ∙ ap (λ (z : ℤ). not (in_range (size_of w) z)) (sym (signed_product w a b ha hb))
+    outside w (not (same (is_negative (values w) a) (is_negative (values w) b))) (magnitude (values w) a * magnitude (values w) b)
+    ∙ ap (λ (z : ℤ). not (in_range (values w) z)) (sym (signed_product w a b ha hb))
 
 pub product_tells : ProductLaws
 unfolding multiplied
 product_tells = record {
   mul = λ w a b f. refl;
-  mul_carry = λ w a b f. carry_of (nat_le (size_of w) (a * b)) f;
-  mul_overflow = λ w a b f. overflow_of (nat_le (size_of w) (a * b)) f;
+  mul_carry = λ w a b f. carry_of (nat_le (values w) (a * b)) f;
+  mul_overflow = λ w a b f. overflow_of (nat_le (values w) (a * b)) f;
   imul = imul;
   imul_carry = λ w a b f ha hb. carry_of _ f ∙ needed w a b ha hb;
   imul_overflow = λ w a b f ha hb. overflow_of _ f ∙ needed w a b ha hb;
@@ -223,10 +224,10 @@ not_zero : (b : ℕ) → (b == 0) ≡ false → 0 < b
 not_zero zero e = absurd (true≢false e)
 not_zero (suc b) e = omega arith
 
-idiv : (w : Width) (a b : ℕ) (d : Division) → a < size_of w * size_of w → b < size_of w → divided Signed w a b ≡ Some d → IsQuotient (signed (size_of w * size_of w) a) (signed (size_of w) b) (signed (size_of w) d.quotient) (signed (size_of w) d.remainder)
+idiv : (w : Width) (a b : ℕ) (d : Division) → a < values w * values w → b < values w → divided Signed w a b ≡ Some d → IsQuotient (signed (values w * values w) a) (signed (values w) b) (signed (values w) d.quotient) (signed (values w) d.remainder)
 unfolding divided
 idiv w a b d ha hb e =
-    let s = size_of w in
+    let s = values w in
     let p = is_negative (s * s) a in
     let q = is_negative s b in
     let m = magnitude (s * s) a in
@@ -246,10 +247,10 @@ out_of_range : (r : Bool) → true ≡ not r → r ≡ false
 out_of_range true e = absurd (true≢false e)
 out_of_range false e = refl
 
-idiv_fault : (w : Width) (a b : ℕ) → a < size_of w * size_of w → b < size_of w → divided Signed w a b ≡ None → (b ≡ 0) ⊎ (in_range (size_of w) (int_div (signed (size_of w * size_of w) a) (signed (size_of w) b)) ≡ false)
+idiv_fault : (w : Width) (a b : ℕ) → a < values w * values w → b < values w → divided Signed w a b ≡ None → (b ≡ 0) ⊎ (in_range (values w) (int_div (signed (values w * values w) a) (signed (values w) b)) ≡ false)
 unfolding divided
 idiv_fault w a b ha hb e =
-    let s = size_of w in
+    let s = values w in
     let p = is_negative (s * s) a in
     let q = is_negative s b in
     let m = magnitude (s * s) a in
@@ -258,10 +259,10 @@ idiv_fault w a b ha hb e =
     let x : Division = record { quotient = with_sign s negative (m / n); remainder = with_sign s p (m % n) } in
     cases (fault (b == 0) (nat_lt (if negative then s / 2 else s / 2 - 1) (m / n)) x e)
   where
-    cases : ((b == 0) ≡ true) ⊎ (nat_lt (if not (same (is_negative (size_of w * size_of w) a) (is_negative (size_of w) b)) then size_of w / 2 else size_of w / 2 - 1) (magnitude (size_of w * size_of w) a / magnitude (size_of w) b) ≡ true) → (b ≡ 0) ⊎ (in_range (size_of w) (int_div (signed (size_of w * size_of w) a) (signed (size_of w) b)) ≡ false)
+    cases : ((b == 0) ≡ true) ⊎ (nat_lt (if not (same (is_negative (values w * values w) a) (is_negative (values w) b)) then values w / 2 else values w / 2 - 1) (magnitude (values w * values w) a / magnitude (values w) b) ≡ true) → (b ≡ 0) ⊎ (in_range (values w) (int_div (signed (values w * values w) a) (signed (values w) b)) ≡ false)
     cases (inl t) = inl (eqb-true b 0 t)
     cases (inr t) =
-        let s = size_of w in
+        let s = values w in
         let p = is_negative (s * s) a in
         let q = is_negative s b in
         let m = magnitude (s * s) a in
@@ -274,15 +275,15 @@ div : (w : Width) (a b : ℕ) (d : Division) → divided Unsigned w a b ≡ Some
 unfolding divided
 div w a b d e =
     let x : Division = record { quotient = a / b; remainder = a % b } in
-    let tests = found (b == 0) (nat_le (size_of w) (a / b)) x d e in
+    let tests = found (b == 0) (nat_le (values w) (a / b)) x d e in
     subst (λ (y : Division). (y.quotient * b + y.remainder ≡ a) × (y.remainder < b)) tests.2 (div-add-mod' a b, mod_below a b (not_zero b tests.0))
 
-div_fault : (w : Width) (a b : ℕ) → divided Unsigned w a b ≡ None → (b ≡ 0) ⊎ (size_of w ≤ a / b)
+div_fault : (w : Width) (a b : ℕ) → divided Unsigned w a b ≡ None → (b ≡ 0) ⊎ (values w ≤ a / b)
 unfolding divided
-div_fault w a b e = cases (fault (b == 0) (nat_le (size_of w) (a / b)) (record { quotient = a / b; remainder = a % b }) e) where
-  cases : ((b == 0) ≡ true) ⊎ (nat_le (size_of w) (a / b) ≡ true) → (b ≡ 0) ⊎ (size_of w ≤ a / b)
+div_fault w a b e = cases (fault (b == 0) (nat_le (values w) (a / b)) (record { quotient = a / b; remainder = a % b }) e) where
+  cases : ((b == 0) ≡ true) ⊎ (nat_le (values w) (a / b) ≡ true) → (b ≡ 0) ⊎ (values w ≤ a / b)
   cases (inl t) = inl (eqb-true b 0 t)
-  cases (inr t) = inr (leb-true (size_of w) (a / b) t)
+  cases (inr t) = inr (leb-true (values w) (a / b) t)
 
 pub quotient_tells : QuotientLaws
 quotient_tells = record { div = div; div_fault = div_fault; idiv = idiv; idiv_fault = idiv_fault }

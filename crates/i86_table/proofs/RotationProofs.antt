@@ -8,7 +8,8 @@ use Rattle.word86.specs.declared.width.Width.{Width}
 use Rattle.word86.specs.declared.width.Width.TheVariants.{Byte, Word}
 use Rattle.i86_table.specs.declared.instruction.ShiftOperation.TheVariants.{Rol, Ror}
 use Rattle.i86_table.specs.declared.flags.Flags.{Flags}
-use Rattle.i86_table.specs.Arithmetic.{size_of, half_of, sign, has, is_carry, moved, moved_once, shifted}
+use Rattle.word86.specs.Access.{values}
+use Rattle.i86_table.specs.Arithmetic.{half_of, sign, has, is_carry, moved, moved_once, shifted}
 use Rattle.i86_table.specs.ArithmeticLaws.{RotationLaws}
 use Rattle.i86_table.proofs.ShiftProofs.{value_is, carry_is}
 
@@ -75,16 +76,16 @@ right s p q a e hp hq ha =
 
 -- ---- by widths
 
-turn_is : (w : Width) (a k : ℕ) → turn (size_of w) a (2 ^ k) ≡ rotated w a k
+turn_is : (w : Width) (a k : ℕ) → turn (values w) a (2 ^ k) ≡ rotated w a k
 turn_is Byte a k = refl
 turn_is Word a k = refl
 
 -- not at all, and once round
-none : (w : Width) (a : ℕ) → a < size_of w → a ≡ turn (size_of w) a (2 ^ 0)
+none : (w : Width) (a : ℕ) → a < values w → a ≡ turn (values w) a (2 ^ 0)
 none Byte a h = omega arith
 none Word a h = omega arith
 
-round : (w : Width) (a : ℕ) → a < size_of w → turn (size_of w) a (2 ^ bits w) ≡ a
+round : (w : Width) (a : ℕ) → a < values w → turn (values w) a (2 ^ bits w) ≡ a
 round Byte a h = omega arith
 round Word a h = omega arith
 
@@ -93,7 +94,7 @@ powers k n h =
     let e : k + suc (n - (k + 1)) ≡ n = omega (arith, h) in
     ap (λ (x : ℕ). 2 ^ k * x) (sym (pow-succ' 2 (n - (k + 1)))) ∙ sym (pow-add 2 k (suc (n - (k + 1)))) ∙ ap (λ (x : ℕ). 2 ^ x) e
 
-size_is : (w : Width) → 2 ^ bits w ≡ size_of w
+size_is : (w : Width) → 2 ^ bits w ≡ values w
 size_is Byte = refl
 size_is Word = refl
 
@@ -101,24 +102,24 @@ half_is : (w : Width) (k : ℕ) → k < bits w → half_of w ≡ 2 ^ k * 2 ^ (bi
 half_is Byte k h = omega (arith, powers k 8 h, mul_left_comm (2 ^ k) 2 (2 ^ (8 - (k + 1))))
 half_is Word k h = omega (arith, powers k 16 h, mul_left_comm (2 ^ k) 2 (2 ^ (16 - (k + 1))))
 
-left_once : (w : Width) (a k : ℕ) → k < bits w → a < size_of w → turn (size_of w) (moved_once Rol w a).0 (2 ^ k) ≡ turn (size_of w) a (2 ^ suc k)
+left_once : (w : Width) (a k : ℕ) → k < bits w → a < values w → turn (values w) (moved_once Rol w a).0 (2 ^ k) ≡ turn (values w) a (2 ^ suc k)
 left_once w a k h ha =
-    left (size_of w) (2 ^ k) (2 ^ (bits w - (k + 1))) a (powers k (bits w) h ∙ size_is w) (pow_pos k) (pow_pos (bits w - (k + 1))) ha
-    ∙ ap (turn (size_of w) a) (sym (pow-succ' 2 k))
+    left (values w) (2 ^ k) (2 ^ (bits w - (k + 1))) a (powers k (bits w) h ∙ size_is w) (pow_pos k) (pow_pos (bits w - (k + 1))) ha
+    ∙ ap (turn (values w) a) (sym (pow-succ' 2 k))
 
-right_once : (w : Width) (a k : ℕ) → k < bits w → a < size_of w → turn (size_of w) (moved_once Ror w a).0 (2 ^ suc k) ≡ turn (size_of w) a (2 ^ k)
+right_once : (w : Width) (a k : ℕ) → k < bits w → a < values w → turn (values w) (moved_once Ror w a).0 (2 ^ suc k) ≡ turn (values w) a (2 ^ k)
 right_once w a k h ha =
-    let s = size_of w in
+    let s = values w in
     let q = 2 ^ (bits w - (k + 1)) in
     ap (λ (x : ℕ). turn s (a / 2 + a % 2 * x) (2 ^ suc k)) (half_is w k h)
     ∙ ap (turn s (a / 2 + a % 2 * (2 ^ k * q))) (pow-succ' 2 k)
     ∙ right s (2 ^ k) q a (powers k (bits w) h ∙ size_is w) (pow_pos k) (pow_pos (bits w - (k + 1))) ha
 
-rol_below : (w : Width) (a : ℕ) → a < size_of w → (moved_once Rol w a).0 < size_of w
+rol_below : (w : Width) (a : ℕ) → a < values w → (moved_once Rol w a).0 < values w
 rol_below Byte a h = omega arith
 rol_below Word a h = omega arith
 
-ror_below : (w : Width) (a : ℕ) → a < size_of w → (moved_once Ror w a).0 < size_of w
+ror_below : (w : Width) (a : ℕ) → a < values w → (moved_once Ror w a).0 < values w
 ror_below Byte a h = omega arith
 ror_below Word a h = omega arith
 
@@ -137,66 +138,66 @@ count_below : (w : Width) (n : ℕ) → n % bits w < bits w
 count_below Byte n = omega arith
 count_below Word n = omega arith
 
-rol_next : (w : Width) (a n : ℕ) → a < size_of w → ((suc (n % bits w) ≡ bits w) × (suc n % bits w ≡ 0)) ⊎ ((suc (n % bits w) < bits w) × (suc n % bits w ≡ suc (n % bits w))) → turn (size_of w) a (2 ^ suc (n % bits w)) ≡ turn (size_of w) a (2 ^ (suc n % bits w))
-rol_next w a n h (inl e) = ap (λ (k : ℕ). turn (size_of w) a (2 ^ k)) e.0 ∙ round w a h ∙ none w a h ∙ ap (λ (k : ℕ). turn (size_of w) a (2 ^ k)) (sym e.1)
-rol_next w a n h (inr e) = ap (λ (k : ℕ). turn (size_of w) a (2 ^ k)) (sym e.1)
+rol_next : (w : Width) (a n : ℕ) → a < values w → ((suc (n % bits w) ≡ bits w) × (suc n % bits w ≡ 0)) ⊎ ((suc (n % bits w) < bits w) × (suc n % bits w ≡ suc (n % bits w))) → turn (values w) a (2 ^ suc (n % bits w)) ≡ turn (values w) a (2 ^ (suc n % bits w))
+rol_next w a n h (inl e) = ap (λ (k : ℕ). turn (values w) a (2 ^ k)) e.0 ∙ round w a h ∙ none w a h ∙ ap (λ (k : ℕ). turn (values w) a (2 ^ k)) (sym e.1)
+rol_next w a n h (inr e) = ap (λ (k : ℕ). turn (values w) a (2 ^ k)) (sym e.1)
 
 start : (w : Width) → 0 % bits w ≡ 0
 start Byte = refl
 start Word = refl
 
-rol_value : (w : Width) (n a : ℕ) (c : Bool) → a < size_of w → (moved Rol w n (a, c)).0 ≡ turn (size_of w) a (2 ^ (n % bits w))
+rol_value : (w : Width) (n a : ℕ) (c : Bool) → a < values w → (moved Rol w n (a, c)).0 ≡ turn (values w) a (2 ^ (n % bits w))
 unfolding moved
-rol_value w zero a c h = none w a h ∙ ap (λ (k : ℕ). turn (size_of w) a (2 ^ k)) (sym (start w))
+rol_value w zero a c h = none w a h ∙ ap (λ (k : ℕ). turn (values w) a (2 ^ k)) (sym (start w))
 rol_value w (suc n) a c h =
     let x = moved_once Rol w a in
     rol_value w n x.0 x.1 (rol_below w a h) ∙ left_once w a (n % bits w) (count_below w n) h ∙ rol_next w a n h (next w n)
 
-ror_next : (w : Width) (a n i : ℕ) → a < size_of w → bits w - n % bits w ≡ suc i → ((suc (n % bits w) ≡ bits w) × (suc n % bits w ≡ 0)) ⊎ ((suc (n % bits w) < bits w) × (suc n % bits w ≡ suc (n % bits w))) → turn (size_of w) a (2 ^ i) ≡ turn (size_of w) a (2 ^ (bits w - suc n % bits w))
+ror_next : (w : Width) (a n i : ℕ) → a < values w → bits w - n % bits w ≡ suc i → ((suc (n % bits w) ≡ bits w) × (suc n % bits w ≡ 0)) ⊎ ((suc (n % bits w) < bits w) × (suc n % bits w ≡ suc (n % bits w))) → turn (values w) a (2 ^ i) ≡ turn (values w) a (2 ^ (bits w - suc n % bits w))
 ror_next w a n i h at (inl e) =
     let first : i ≡ 0 = omega (arith, at, e.0) in
     let whole : bits w - suc n % bits w ≡ bits w = omega (arith, e.1) in
-    ap (λ (k : ℕ). turn (size_of w) a (2 ^ k)) first ∙ sym (none w a h) ∙ sym (round w a h) ∙ ap (λ (k : ℕ). turn (size_of w) a (2 ^ k)) (sym whole)
+    ap (λ (k : ℕ). turn (values w) a (2 ^ k)) first ∙ sym (none w a h) ∙ sym (round w a h) ∙ ap (λ (k : ℕ). turn (values w) a (2 ^ k)) (sym whole)
 ror_next w a n i h at (inr e) =
     let same : i ≡ bits w - suc n % bits w = omega (arith, at, e.0, e.1) in
-    ap (λ (k : ℕ). turn (size_of w) a (2 ^ k)) same
+    ap (λ (k : ℕ). turn (values w) a (2 ^ k)) same
 
-ror_value : (w : Width) (n a : ℕ) (c : Bool) → a < size_of w → (moved Ror w n (a, c)).0 ≡ turn (size_of w) a (2 ^ (bits w - n % bits w))
+ror_value : (w : Width) (n a : ℕ) (c : Bool) → a < values w → (moved Ror w n (a, c)).0 ≡ turn (values w) a (2 ^ (bits w - n % bits w))
 unfolding moved
 ror_value w zero a c h =
     let e : bits w - 0 % bits w ≡ bits w = omega (arith, start w) in
-    sym (round w a h) ∙ ap (λ (k : ℕ). turn (size_of w) a (2 ^ k)) (sym e)
+    sym (round w a h) ∙ ap (λ (k : ℕ). turn (values w) a (2 ^ k)) (sym e)
 ror_value w (suc n) a c h =
     let x = moved_once Ror w a in
     let i = bits w - n % bits w - 1 in
     let at : bits w - n % bits w ≡ suc i = omega (arith, count_below w n) in
-    ror_value w n x.0 x.1 (ror_below w a h) ∙ ap (λ (k : ℕ). turn (size_of w) x.0 (2 ^ k)) at ∙ right_once w a i (omega (arith, count_below w n)) h ∙ ror_next w a n i h at (next w n)
+    ror_value w n x.0 x.1 (ror_below w a h) ∙ ap (λ (k : ℕ). turn (values w) x.0 (2 ^ k)) at ∙ right_once w a i (omega (arith, count_below w n)) h ∙ ror_next w a n i h at (next w n)
 
 -- ---- the bit that comes in
 
-rol_bit : (w : Width) (a : ℕ) → a < size_of w → (a * 2 / size_of w == 1) ≡ ((a * 2 % size_of w + a * 2 / size_of w) % 2 == 1)
+rol_bit : (w : Width) (a : ℕ) → a < values w → (a * 2 / values w == 1) ≡ ((a * 2 % values w + a * 2 / values w) % 2 == 1)
 rol_bit Byte a h = ap (λ (x : ℕ). nat_eq x 1) (omega arith)
 rol_bit Word a h = ap (λ (x : ℕ). nat_eq x 1) (omega arith)
 
-ror_bit : (w : Width) (a : ℕ) → a < size_of w → (a % 2 == 1) ≡ sign w (a / 2 + a % 2 * half_of w)
+ror_bit : (w : Width) (a : ℕ) → a < values w → (a % 2 == 1) ≡ sign w (a / 2 + a % 2 * half_of w)
 ror_bit Byte a h = grind arith
 ror_bit Word a h = grind arith
 
-rol_out : (w : Width) (n a : ℕ) (c : Bool) → a < size_of w → (moved Rol w (suc n) (a, c)).1 ≡ ((moved Rol w (suc n) (a, c)).0 % 2 == 1)
+rol_out : (w : Width) (n a : ℕ) (c : Bool) → a < values w → (moved Rol w (suc n) (a, c)).1 ≡ ((moved Rol w (suc n) (a, c)).0 % 2 == 1)
 unfolding moved
 rol_out w zero a c h = rol_bit w a h
 rol_out w (suc n) a c h = let x = moved_once Rol w a in rol_out w n x.0 x.1 (rol_below w a h)
 
-ror_out : (w : Width) (n a : ℕ) (c : Bool) → a < size_of w → (moved Ror w (suc n) (a, c)).1 ≡ sign w (moved Ror w (suc n) (a, c)).0
+ror_out : (w : Width) (n a : ℕ) (c : Bool) → a < values w → (moved Ror w (suc n) (a, c)).1 ≡ sign w (moved Ror w (suc n) (a, c)).0
 unfolding moved
 ror_out w zero a c h = ror_bit w a h
 ror_out w (suc n) a c h = let x = moved_once Ror w a in ror_out w n x.0 x.1 (ror_below w a h)
 
-rol_carry : (w : Width) (n a : ℕ) (f : Flags) → a < size_of w → 0 < n → has (shifted Rol w a n f).flags 1 ≡ ((shifted Rol w a n f).value % 2 == 1)
+rol_carry : (w : Width) (n a : ℕ) (f : Flags) → a < values w → 0 < n → has (shifted Rol w a n f).flags 1 ≡ ((shifted Rol w a n f).value % 2 == 1)
 rol_carry w zero a f h some = absurd (omega (arith, some))
 rol_carry w (suc n) a f h some = carry_is Rol w a n f ∙ rol_out w n a (is_carry f) h ∙ ap (λ (x : ℕ). nat_eq (x % 2) 1) (sym (value_is Rol w a (suc n) f))
 
-ror_carry : (w : Width) (n a : ℕ) (f : Flags) → a < size_of w → 0 < n → has (shifted Ror w a n f).flags 1 ≡ sign w (shifted Ror w a n f).value
+ror_carry : (w : Width) (n a : ℕ) (f : Flags) → a < values w → 0 < n → has (shifted Ror w a n f).flags 1 ≡ sign w (shifted Ror w a n f).value
 ror_carry w zero a f h some = absurd (omega (arith, some))
 ror_carry w (suc n) a f h some = carry_is Ror w a n f ∙ ror_out w n a (is_carry f) h ∙ ap (sign w) (sym (value_is Ror w a (suc n) f))
 

@@ -11,7 +11,8 @@ use Rattle.word86.specs.declared.width.Width.TheVariants.{Byte, Word}
 use Rattle.i86_table.specs.declared.instruction.ShiftOperation.{ShiftOperation}
 use Rattle.i86_table.specs.declared.instruction.ShiftOperation.TheVariants.{Rol, Ror, Shl, Shr, Sar}
 use Rattle.i86_table.specs.declared.flags.Flags.{Flags}
-use Rattle.i86_table.specs.Arithmetic.{size_of, half_of, sign, has, is_carry, carry, overflow, with_result, moved, moved_once, with_shift_result, shift_overflow, shifted}
+use Rattle.word86.specs.Access.{values}
+use Rattle.i86_table.specs.Arithmetic.{half_of, sign, has, is_carry, carry, overflow, with_result, moved, moved_once, with_shift_result, shift_overflow, shifted}
 use Rattle.i86_table.specs.ArithmeticLaws.{signed, ShiftLaws}
 use Rattle.i86_table.proofs.FlagLists.{has_put}
 
@@ -47,29 +48,29 @@ carry_is o w a n f =
 
 -- ---- to the left
 
-once_below : (w : Width) (a : ℕ) → a * 2 % size_of w < size_of w
+once_below : (w : Width) (a : ℕ) → a * 2 % values w < values w
 once_below Byte a = omega arith
 once_below Word a = omega arith
 
 doubled : (a n : ℕ) → a * 2 * 2 ^ n ≡ a * 2 ^ suc n
 doubled a n = mul_assoc a 2 (2 ^ n) ∙ ap (λ (x : ℕ). a * x) (sym (pow-succ' 2 n))
 
-none : (w : Width) (a : ℕ) → a < size_of w → a ≡ a * 2 ^ 0 % size_of w
+none : (w : Width) (a : ℕ) → a < values w → a ≡ a * 2 ^ 0 % values w
 none Byte a h = omega arith
 none Word a h = omega arith
 
-shl_value : (w : Width) (n a : ℕ) (c : Bool) → a < size_of w → (moved Shl w n (a, c)).0 ≡ a * 2 ^ n % size_of w
+shl_value : (w : Width) (n a : ℕ) (c : Bool) → a < values w → (moved Shl w n (a, c)).0 ≡ a * 2 ^ n % values w
 unfolding moved
 shl_value w zero a c h = none w a h
 shl_value w (suc n) a c h =
-    shl_value w n (a * 2 % size_of w) (a * 2 / size_of w == 1) (once_below w a)
-    ∙ mul-mod_first (a * 2) (2 ^ n) (size_of w) ∙ ap (λ (x : ℕ). x % size_of w) (doubled a n)
+    shl_value w n (a * 2 % values w) (a * 2 / values w == 1) (once_below w a)
+    ∙ mul-mod_first (a * 2) (2 ^ n) (values w) ∙ ap (λ (x : ℕ). x % values w) (doubled a n)
 
 spread : (s q r a m : ℕ) → a ≡ s * q + r → a * (2 * m) ≡ s * (2 * (q * m)) + r * (2 * m)
 spread s q r a m e = ap (λ (x : ℕ). x * (2 * m)) e ∙ add-mul (s * q) r (2 * m) ∙ ap (λ (x : ℕ). x + r * (2 * m)) (mul_assoc s q (2 * m) ∙ ap (λ (x : ℕ). s * x) (mul_left_comm q 2 m))
 
 -- a bit that went out earlier leaves the later ones
-parted : (w : Width) (a m : ℕ) → (a % size_of w * (2 * m)) / size_of w % 2 ≡ a * (2 * m) / size_of w % 2
+parted : (w : Width) (a m : ℕ) → (a % values w * (2 * m)) / values w % 2 ≡ a * (2 * m) / values w % 2
 parted Byte a m =
     let e : a * (2 * m) ≡ 256 * (2 * (a / 256 * m)) + a % 256 * (2 * m) = spread 256 (a / 256) (a % 256) a m (omega arith) in
     omega (arith, e)
@@ -77,16 +78,16 @@ parted Word a m =
     let e : a * (2 * m) ≡ 65536 * (2 * (a / 65536 * m)) + a % 65536 * (2 * m) = spread 65536 (a / 65536) (a % 65536) a m (omega arith) in
     omega (arith, e)
 
-out_first : (w : Width) (a : ℕ) → a < size_of w → (a * 2 / size_of w == 1) ≡ (a * 2 ^ 1 / size_of w % 2 == 1)
+out_first : (w : Width) (a : ℕ) → a < values w → (a * 2 / values w == 1) ≡ (a * 2 ^ 1 / values w % 2 == 1)
 out_first Byte a h = ap (λ (x : ℕ). nat_eq x 1) (omega arith)
 out_first Word a h = ap (λ (x : ℕ). nat_eq x 1) (omega arith)
 
-shl_out : (w : Width) (n a : ℕ) (c : Bool) → a < size_of w → (moved Shl w (suc n) (a, c)).1 ≡ (a * 2 ^ suc n / size_of w % 2 == 1)
+shl_out : (w : Width) (n a : ℕ) (c : Bool) → a < values w → (moved Shl w (suc n) (a, c)).1 ≡ (a * 2 ^ suc n / values w % 2 == 1)
 unfolding moved
 shl_out w zero a c h = out_first w a h
 shl_out w (suc n) a c h =
-    shl_out w n (a * 2 % size_of w) (a * 2 / size_of w == 1) (once_below w a)
-    ∙ ap (λ (x : ℕ). nat_eq x 1) (ap (λ (x : ℕ). a * 2 % size_of w * x / size_of w % 2) (pow-succ' 2 n) ∙ parted w (a * 2) (2 ^ n) ∙ ap (λ (x : ℕ). a * 2 * x / size_of w % 2) (sym (pow-succ' 2 n)) ∙ ap (λ (x : ℕ). x / size_of w % 2) (doubled a (suc n)))
+    shl_out w n (a * 2 % values w) (a * 2 / values w == 1) (once_below w a)
+    ∙ ap (λ (x : ℕ). nat_eq x 1) (ap (λ (x : ℕ). a * 2 % values w * x / values w % 2) (pow-succ' 2 n) ∙ parted w (a * 2) (2 ^ n) ∙ ap (λ (x : ℕ). a * 2 * x / values w % 2) (sym (pow-succ' 2 n)) ∙ ap (λ (x : ℕ). x / values w % 2) (doubled a (suc n)))
 
 -- ---- to the right
 
@@ -109,11 +110,11 @@ shr_z_twice : (z : ℤ) (n : ℕ) → shr_z (shr_z z 2) (2 ^ n) ≡ shr_z z (2 ^
 shr_z_twice (pos a) n = ap pos (halved a n)
 shr_z_twice (negsuc a) n = ap negsuc (halved a n)
 
-sar_below : (w : Width) (a : ℕ) → a < size_of w → (moved_once Sar w a).0 < size_of w
+sar_below : (w : Width) (a : ℕ) → a < values w → (moved_once Sar w a).0 < values w
 sar_below Byte a h = grind arith
 sar_below Word a h = grind arith
 
-sar_of : (w : Width) (p : Bool) (a : ℕ) → sign w a ≡ p → a < size_of w → signed (size_of w) (a / 2 + (if p then half_of w else 0)) ≡ shr_z (if p then pos a -ℤ pos (size_of w) else pos a) 2
+sar_of : (w : Width) (p : Bool) (a : ℕ) → sign w a ≡ p → a < values w → signed (values w) (a / 2 + (if p then half_of w else 0)) ≡ shr_z (if p then pos a -ℤ pos (values w) else pos a) 2
 sar_of Byte true a e h =
     let below : pos a -ℤ pos 256 ≡ negsuc (255 - a) = omega (arith, ints) in
     let high : nat_le 128 (a / 2 + 128) ≡ true = le-leb 128 (a / 2 + 128) (omega arith) in
@@ -131,7 +132,7 @@ sar_of Word false a e h =
     let low : nat_le 32768 (a / 2 + 0) ≡ false = lt-leb 32768 (a / 2 + 0) (grind arith) in
     rw low (ap pos (omega arith))
 
-sar_once : (w : Width) (a : ℕ) → a < size_of w → signed (size_of w) (moved_once Sar w a).0 ≡ shr_z (signed (size_of w) a) 2
+sar_once : (w : Width) (a : ℕ) → a < values w → signed (values w) (moved_once Sar w a).0 ≡ shr_z (signed (values w) a) 2
 sar_once Byte a h = sar_of Byte (sign Byte a) a refl h
 sar_once Word a h = sar_of Word (sign Word a) a refl h
 
@@ -139,12 +140,12 @@ shr_z_none : (z : ℤ) → z ≡ shr_z z (2 ^ 0)
 shr_z_none (pos a) = ap pos (omega arith)
 shr_z_none (negsuc a) = ap negsuc (omega arith)
 
-sar_value : (w : Width) (n a : ℕ) (c : Bool) → a < size_of w → signed (size_of w) (moved Sar w n (a, c)).0 ≡ shr_z (signed (size_of w) a) (2 ^ n)
+sar_value : (w : Width) (n a : ℕ) (c : Bool) → a < values w → signed (values w) (moved Sar w n (a, c)).0 ≡ shr_z (signed (values w) a) (2 ^ n)
 unfolding moved
-sar_value w zero a c h = shr_z_none (signed (size_of w) a)
+sar_value w zero a c h = shr_z_none (signed (values w) a)
 sar_value w (suc n) a c h =
     let x = moved_once Sar w a in
-    sar_value w n x.0 x.1 (sar_below w a h) ∙ ap (λ (z : ℤ). shr_z z (2 ^ n)) (sar_once w a h) ∙ shr_z_twice (signed (size_of w) a) n
+    sar_value w n x.0 x.1 (sar_below w a h) ∙ ap (λ (z : ℤ). shr_z z (2 ^ n)) (sar_once w a h) ∙ shr_z_twice (signed (values w) a) n
 
 sar_out : (w : Width) (n a : ℕ) (c d : Bool) → (moved Sar w (suc n) (a, c)).1 ≡ ((moved Sar w n (a, d)).0 % 2 == 1)
 unfolding moved
@@ -156,7 +157,7 @@ sar_out w (suc n) a c d = let x = moved_once Sar w a in sar_out w n x.0 x.1 x.1
 less_one : (n : ℕ) → n ≡ suc n - 1
 less_one n = omega arith
 
-shl_carry : (w : Width) (n a : ℕ) (f : Flags) → a < size_of w → 0 < n → has (shifted Shl w a n f).flags 1 ≡ (a * 2 ^ n / size_of w % 2 == 1)
+shl_carry : (w : Width) (n a : ℕ) (f : Flags) → a < values w → 0 < n → has (shifted Shl w a n f).flags 1 ≡ (a * 2 ^ n / values w % 2 == 1)
 shl_carry w zero a f h some = absurd (omega (arith, some))
 shl_carry w (suc n) a f h some = carry_is Shl w a n f ∙ shl_out w n a (is_carry f) h
 
@@ -176,6 +177,6 @@ shift_tells = record {
   shl_carry = λ w a n f h some. shl_carry w n a f h some;
   shr = λ w a n f. value_is Shr w a n f ∙ shr_value w n a (is_carry f);
   shr_carry = λ w a n f some. shr_carry w n a f some;
-  sar = λ w a n f h. ap (signed (size_of w)) (value_is Sar w a n f) ∙ sar_value w n a (is_carry f) h;
+  sar = λ w a n f h. ap (signed (values w)) (value_is Sar w a n f) ∙ sar_value w n a (is_carry f) h;
   sar_carry = λ w a n f some. sar_carry w n a f some;
 }

@@ -6,7 +6,7 @@ use Rattle.std.proofs.Math.Nat.{mod-lt}
 use Rattle.std.proofs.lemmas.Bool.{leb-false, ltb-false}
 use Rattle.word86.specs.declared.width.Width.{Width}
 use Rattle.word86.specs.declared.width.Width.TheVariants as widths
-use Rattle.word86.specs.Access.{Access, Where}
+use Rattle.word86.specs.Access.{Access, Where, values}
 use Rattle.word86.specs.Following.{Offer}
 use Rattle.i86_table.specs.declared.registers.Register16.{Register16}
 use Rattle.i86_table.specs.declared.registers.Register16.TheVariants.{Ax, Cx, Dx, Bx, Sp, Bp, Si, Di}
@@ -29,8 +29,8 @@ use Rattle.i86_table.specs.declared.instruction.Signedness.{Signedness}
 use Rattle.i86_table.specs.declared.instruction.Signedness.TheVariants.{Unsigned, Signed}
 use Rattle.i86_table.specs.declared.instruction.Instr.{Instr}
 use Rattle.i86_table.specs.declared.instruction.Instr.TheVariants as i
-use Rattle.i86_table.specs.Arithmetic.{size_of, sign_extended, sign_word, operated, added, subtracted, combined, changed, shifted, moved, moved_once, magnitude, is_negative, same, with_sign, multiplied, divided, sign}
-use Rattle.i86_table.specs.Contexts.{Context, Own, Working, Given, offset_in, further, top_of, stack_pointer, stack_word, word_in, byte_in, set_word, set_byte, set_flags, alu_word, alu_byte, is_comparison, is_sp, is_stack, unless, silently, reads, writes, takes, moved_word, stack_offer, jump_offer, offered, offered_at, room, refused, pop_offer, divides, word_quotient, byte_quotient, move_word_offer, move_byte_offer, alu_word_offer, alu_byte_offer, place_of, masks_sp, count_in, enable_offer, end_offer, gives_back}
+use Rattle.i86_table.specs.Arithmetic.{sign_extended, sign_word, operated, added, subtracted, combined, changed, shifted, moved, moved_once, magnitude, is_negative, same, with_sign, multiplied, divided, sign, is_comparison}
+use Rattle.i86_table.specs.Contexts.{Context, Own, Working, Given, offset_in, further, top_of, stack_pointer, stack_word, word_in, byte_in, set_word, set_byte, set_flags, alu_word, alu_byte, is_sp, is_stack, unless, silently, reads, writes, takes, moved_word, stack_offer, jump_offer, offered, offered_at, room, refused, pop_offer, divides, word_quotient, byte_quotient, move_word_offer, move_byte_offer, alu_word_offer, alu_byte_offer, place_of, masks_sp, count_in, enable_offer, end_offer, gives_back}
 use Rattle.i86_table.specs.Widths.{HasWidths}
 use Rattle.i86_table.specs.Words.{AreWords, AllWords, HasWords, LeadsToWords, KeepsWords}
 use Rattle.i86_table.proofs.ProductProofs.{magnitude_small, product_small, even_width}
@@ -80,7 +80,7 @@ set_byte_fits Bh g v h l = set_fits Bx g (v * 256 + g.bx % 256) h (omega (arith,
 
 -- ---- arithmetic
 
-operated_fits : (f : AluOperation) (width : Width) (a b : ℕ) (flags : Flags) → a < size_of width → b < size_of width → (operated f width a b flags).value < size_of width
+operated_fits : (f : AluOperation) (width : Width) (a b : ℕ) (flags : Flags) → a < values width → b < values width → (operated f width a b flags).value < values width
 unfolding operated added subtracted combined
 operated_fits Add widths.Byte a b flags x y = omega arith
 operated_fits Add widths.Word a b flags x y = omega arith
@@ -97,7 +97,7 @@ operated_fits Xor widths.Byte a b flags x y = xor_of_8 a b x y
 operated_fits Xor widths.Word a b flags x y = xor_of_16 a b x y
 operated_fits Cmp width a b flags x y = x
 
-changed_fits : (f : UnaryOperation) (width : Width) (a : ℕ) (flags : Flags) → a < size_of width → (changed f width a flags).value < size_of width
+changed_fits : (f : UnaryOperation) (width : Width) (a : ℕ) (flags : Flags) → a < values width → (changed f width a flags).value < values width
 unfolding changed added subtracted
 changed_fits Not widths.Byte a flags x = omega arith
 changed_fits Not widths.Word a flags x = omega arith
@@ -112,7 +112,7 @@ half_if : (b : Bool) (h a s : ℕ) → a / 2 + h < s → a / 2 < s → a / 2 + (
 half_if true h a s x y = x
 half_if false h a s x y = omega (arith, y)
 
-once_fits : (f : ShiftOperation) (width : Width) (a : ℕ) → a < size_of width → (moved_once f width a).0 < size_of width
+once_fits : (f : ShiftOperation) (width : Width) (a : ℕ) → a < values width → (moved_once f width a).0 < values width
 once_fits Rol widths.Byte a x = omega (arith, x)
 once_fits Rol widths.Word a x = omega (arith, x)
 once_fits Ror widths.Byte a x = omega (arith, x)
@@ -124,12 +124,12 @@ once_fits Shr widths.Word a x = omega (arith, x)
 once_fits Sar widths.Byte a x = half_if (sign widths.Byte a) 128 a 256 (omega (arith, x)) (omega (arith, x))
 once_fits Sar widths.Word a x = half_if (sign widths.Word a) 32768 a 65536 (omega (arith, x)) (omega (arith, x))
 
-moved_fits : (f : ShiftOperation) (width : Width) (n : ℕ) (a : ℕ × Bool) → a.0 < size_of width → (moved f width n a).0 < size_of width
+moved_fits : (f : ShiftOperation) (width : Width) (n : ℕ) (a : ℕ × Bool) → a.0 < values width → (moved f width n a).0 < values width
 unfolding moved
 moved_fits f width zero a x = x
 moved_fits f width (suc n) a x = moved_fits f width n (moved_once f width a.0) (once_fits f width a.0 x)
 
-shifted_fits : (f : ShiftOperation) (width : Width) (a n : ℕ) (flags : Flags) → a < size_of width → (shifted f width a n flags).value < size_of width
+shifted_fits : (f : ShiftOperation) (width : Width) (a n : ℕ) (flags : Flags) → a < values width → (shifted f width a n flags).value < values width
 unfolding shifted
 shifted_fits f width a n flags x = moved_fits f width n (a, _) x
 
@@ -139,53 +139,53 @@ with_sign_fits size false m some h = h
 
 abbrev DivisionFits : Width → Option Division → Type 0
 DivisionFits width None = Unit {0}
-DivisionFits width (Some x) = (x.quotient < size_of width) × (x.remainder < size_of width)
+DivisionFits width (Some x) = (x.quotient < values width) × (x.remainder < values width)
 
 magnitude_some : (size b : ℕ) (p : Bool) → nat_lt b (size / 2) ≡ p → b < size → 0 < b → 0 < (if p then b else size - b)
 magnitude_some size b true e h some = some
 magnitude_some size b false e h some = omega (arith, h)
 
-size_some : (width : Width) → 0 < size_of width
+size_some : (width : Width) → 0 < values width
 size_some widths.Byte = lit< tt
 size_some widths.Word = lit< tt
 
-divided_fits : (s : Signedness) (width : Width) (a b : ℕ) → b < size_of width → DivisionFits width (divided s width a b)
+divided_fits : (s : Signedness) (width : Width) (a b : ℕ) → b < values width → DivisionFits width (divided s width a b)
 unfolding divided
 divided_fits Unsigned width a zero l = tt
-divided_fits Unsigned width a (suc b) l = by (suc b == 0) (nat_le (size_of width) (a / suc b)) refl
+divided_fits Unsigned width a (suc b) l = by (suc b == 0) (nat_le (values width) (a / suc b)) refl
   where
-    by : (z t : Bool) → nat_le (size_of width) (a / suc b) ≡ t → DivisionFits width (if z then None else if t then None else Some (record { quotient = a / suc b; remainder = a % suc b }))
+    by : (z t : Bool) → nat_le (values width) (a / suc b) ≡ t → DivisionFits width (if z then None else if t then None else Some (record { quotient = a / suc b; remainder = a % suc b }))
     by true t e = tt
     by false true e = tt
-    by false false e = (leb-false (size_of width) (a / suc b) e, omega (arith, l, mod-lt a {m = suc b} (omega arith)))
+    by false false e = (leb-false (values width) (a / suc b) e, omega (arith, l, mod-lt a {m = suc b} (omega arith)))
 divided_fits Signed width a zero l = tt
 divided_fits Signed width a (suc b) l =
-    let size = size_of width in
+    let size = values width in
     let d = magnitude size (suc b) in
     let m = magnitude (size * size) a in
     let negative = not (same (is_negative (size * size) a) (is_negative size (suc b))) in
     let small : d ≤ size / 2 = magnitude_small size (suc b) (even_width width) in
     let rest : m % d < d = mod-lt m {m = d} (magnitude_some size (suc b) (nat_lt (suc b) (size / 2)) refl l (omega arith)) in
-    limited width (suc b == 0) (nat_lt (if negative then size / 2 else size / 2 - 1) (m / d)) (if negative then size / 2 else size / 2 - 1) (m / d) (m % d) negative (is_negative (size * size) a) refl (limit_small negative (size_of width) (size_some width)) (omega (arith, small, rest, size_some width))
+    limited width (suc b == 0) (nat_lt (if negative then size / 2 else size / 2 - 1) (m / d)) (if negative then size / 2 else size / 2 - 1) (m / d) (m % d) negative (is_negative (size * size) a) refl (limit_small negative (values width) (size_some width)) (omega (arith, small, rest, size_some width))
   where
     limit_small : (p : Bool) (size : ℕ) → 0 < size → (if p then size / 2 else size / 2 - 1) < size
     limit_small true size some = omega (arith, some)
     limit_small false size some = omega (arith, some)
 
-    limited : (width : Width) (z t : Bool) (limit q r : ℕ) (p u : Bool) → nat_lt limit q ≡ t → limit < size_of width → r < size_of width
-        → DivisionFits width (if z then None else if t then None else Some (record { quotient = with_sign (size_of width) p q; remainder = with_sign (size_of width) u r }))
+    limited : (width : Width) (z t : Bool) (limit q r : ℕ) (p u : Bool) → nat_lt limit q ≡ t → limit < values width → r < values width
+        → DivisionFits width (if z then None else if t then None else Some (record { quotient = with_sign (values width) p q; remainder = with_sign (values width) u r }))
     limited width true t limit q r p u e h k = tt
     limited width false true limit q r p u e h k = tt
     limited width false false limit q r p u e h k =
         let below : q ≤ limit = ltb-false limit q e in
-        (with_sign_fits (size_of width) p q (size_some width) (omega (arith, below, h)), with_sign_fits (size_of width) u r (size_some width) k)
+        (with_sign_fits (values width) p q (size_some width) (omega (arith, below, h)), with_sign_fits (values width) u r (size_some width) k)
 
-multiplied_fits : (s : Signedness) (width : Width) (a b : ℕ) (flags : Flags) → a < size_of width → b < size_of width → (multiplied s width a b flags).value < size_of width * size_of width
+multiplied_fits : (s : Signedness) (width : Width) (a b : ℕ) (flags : Flags) → a < values width → b < values width → (multiplied s width a b flags).value < values width * values width
 unfolding multiplied
 multiplied_fits Unsigned widths.Byte a b flags x y = omega (arith, mul-le a b 255 255 (omega (arith, x)) (omega (arith, y)))
 multiplied_fits Unsigned widths.Word a b flags x y = omega (arith, mul-le a b 65535 65535 (omega (arith, x)) (omega (arith, y)))
 multiplied_fits Signed width a b flags x y =
-    let size = size_of width in
+    let size = values width in
     let m = magnitude size a * magnitude size b in
     let small : m < size * size / 2 = product_small width (magnitude size a) (magnitude size b) (magnitude_small size a (even_width width)) (magnitude_small size b (even_width width)) in
     with_sign_fits (size * size) (not (same (is_negative size a) (is_negative size b))) m (omega (arith, small)) (omega (arith, small))
@@ -200,7 +200,7 @@ fits_if : (b : Bool) (x : Offer Access Context) → LeadsToWords x → LeadsToWo
 fits_if true x h = h
 fits_if false x h = tt
 
-fits_read : (o : Option Where) (width : Width) (k : ℕ → Context) → ((v : ℕ) → v < size_of width → HasWords (k v)) → LeadsToWords (reads o width k)
+fits_read : (o : Option Where) (width : Width) (k : ℕ → Context) → ((v : ℕ) → v < values width → HasWords (k v)) → LeadsToWords (reads o width k)
 fits_read None width k h = tt
 fits_read (Some x) widths.Byte k h = λ v l. h v l
 fits_read (Some x) widths.Word k h = λ v l. h v l

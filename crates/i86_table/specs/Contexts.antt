@@ -29,12 +29,12 @@ use Rattle.i86_table.specs.declared.instruction.Port.{Port}
 use Rattle.i86_table.specs.declared.instruction.Count.{Count}
 use Rattle.i86_table.specs.declared.instruction.Count.TheVariants as counts
 use Rattle.i86_table.specs.declared.instruction.AluOperation.{AluOperation}
-use Rattle.i86_table.specs.declared.instruction.AluOperation.TheVariants.{Add, Cmp}
+use Rattle.i86_table.specs.declared.instruction.AluOperation.TheVariants.{Add}
 use Rattle.i86_table.specs.declared.instruction.Instr.{Instr}
 use Rattle.i86_table.specs.declared.instruction.Instr.TheVariants as i
 use Rattle.i86_table.specs.State.{word_of, byte_of, with_word, with_byte, offset_of, port_of}
 use Rattle.i86_table.specs.Conditions.{holds}
-use Rattle.i86_table.specs.Arithmetic.{operated, tested, changed, shifted, multiplied, divided, with_flag, flag_bit, sign_extended, sign_word}
+use Rattle.i86_table.specs.Arithmetic.{is_comparison, without_trap_and_interrupts, operated, tested, changed, shifted, multiplied, divided, with_flag, flag_bit, sign_extended, sign_word}
 
 -- the registers that a context has for itself: all but SP, IP and the segments
 pub record Working : Type 0 where
@@ -139,10 +139,6 @@ further place distance = (place + distance) % 65536
 
 -- ---- what registers an instruction leaves
 
-abbrev pub is_comparison : AluOperation → Bool
-is_comparison Cmp = true
-is_comparison _ = false
-
 abbrev pub word_result : Register16 → Working → Outcome → Working
 word_result r g x = set_word (set_flags g x.flags) r x.value
 
@@ -179,10 +175,6 @@ input_gives widths.Word g v = set_word g Ax v
 abbrev pub output_takes : Width → Working → ℕ
 output_takes widths.Byte g = byte_in g Al
 output_takes widths.Word g = g.ax
-
--- the flags with which an interrupt procedure begins
-abbrev pub without_trap_and_interrupts : Flags → Flags
-without_trap_and_interrupts f = with_flag (flag_bit 512) false (with_flag (flag_bit 256) false f)
 
 -- ---- offers
 

@@ -8,6 +8,7 @@ pub mod ArithmeticLaws
 pub mod Pairs
 pub mod PairLaws
 pub mod Contexts
+pub mod ContextLaws
 pub mod Widths
 pub mod Words
 pub mod Open

@@ -1,7 +1,8 @@
 //! Sums, differences and bitwise operations on bytes and words, with their flags.
 
 ghost use Rattle.std.specs.Prelude.{◌≡◌, ◌<◌};
-ghost use Rattle.i86_table.specs.Arithmetic.{size_of, added, subtracted, operated, tested, changed};
+ghost use Rattle.word86.specs.Access.{values};
+ghost use Rattle.i86_table.specs.Arithmetic.{added, subtracted, operated, tested, changed};
 
 use crate::flags::Flags;
 use crate::instruction::{AluOperation, UnaryOperation};
@@ -14,7 +15,7 @@ use word86::Width;
 #[tactic(auto, unfolding(crate::specs::Arithmetic::added))]
 pub(crate) fn add(width: Width, a: u16, b: u16, carry: bool, flags: Flags) -> Outcome
     ensures value { result ≡ added width a b carry flags }
-    ensures fits { result.value < size_of width }
+    ensures fits { result.value < values width }
 {
     let carry = u32::from(carry);
     let sum = u32::from(a) + u32::from(b) + carry;
@@ -34,10 +35,10 @@ pub(crate) fn add(width: Width, a: u16, b: u16, carry: bool, flags: Flags) -> Ou
 /// The difference with a borrow that comes in.
 #[tactic(auto, unfolding(crate::specs::Arithmetic::subtracted))]
 pub(crate) fn subtract(width: Width, a: u16, b: u16, borrow: bool, flags: Flags) -> Outcome
-    requires left { a < size_of width }
-    requires right { b < size_of width }
+    requires left { a < values width }
+    requires right { b < values width }
     ensures value { result ≡ subtracted width a b borrow flags }
-    ensures fits { result.value < size_of width }
+    ensures fits { result.value < values width }
 {
     let taken = u32::from(b) + u32::from(borrow);
     let value = wrap(width, u32::from(a) + size(width) - taken);
@@ -58,11 +59,11 @@ impl LateFlags {
     #[tactic(auto, using(std::proofs::lemmas::Nat::and_le_l, std::proofs::lemmas::Nat::widths, crate::proofs::LateLaws::combined_value), unfolding(crate::specs::Arithmetic::operated))]
     #[inline(always)]
     pub(crate) fn operate(&mut self, operation: AluOperation, width: Width, a: u16, b: u16) -> u16
-        requires left { a < size_of width }
-        requires right { b < size_of width }
+        requires left { a < values width }
+        requires right { b < values width }
         ensures value { result ≡ (operated operation width a b self.old).value }
         ensures flags { self.new ≡ (operated operation width a b self.old).flags }
-        ensures fits { result < size_of width }
+        ensures fits { result < values width }
     {
         match operation {
             AluOperation::Add => self.add(width, a, b, false),
@@ -97,10 +98,10 @@ impl LateFlags {
     #[tactic(auto, unfolding(crate::specs::Arithmetic::changed))]
     #[inline(always)]
     pub(crate) fn change(&mut self, operation: UnaryOperation, width: Width, a: u16) -> u16
-        requires { a < size_of width }
+        requires { a < values width }
         ensures value { result ≡ (changed operation width a self.old).value }
         ensures flags { self.new ≡ (changed operation width a self.old).flags }
-        ensures fits { result < size_of width }
+        ensures fits { result < values width }
     {
         match operation {
             UnaryOperation::Not => (size(width) - 1 - u32::from(a)) as u16,

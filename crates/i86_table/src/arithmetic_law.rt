@@ -1,5 +1,6 @@
 //! Laws of the arithmetic, in terms of numbers with sign, powers of two, quotients and remainders.
 
+ghost use Rattle.i86_table.specs.FlagLaws.{ArithmeticLeavesControl};
 ghost use Rattle.i86_table.specs.ArithmeticLaws.{OverflowLaws, ShiftLaws, RotationLaws, ProductLaws, QuotientLaws};
 
 /// The law that OF is set exactly where a result with sign leaves the range of its width.
@@ -25,4 +26,10 @@ pub fn product_laws()
 /// The laws that DIV and IDIV divide, and when they are a fault.
 pub fn quotient_laws()
     ensures { QuotientLaws }
+{}
+
+/// The law that arithmetic changes the status flags alone: TF, IF and DF are as they were, and no bit comes up that is no flag's.
+/// It rules out a sum, a test or a shift that lets interrupts in, keeps them off or turns strings round.
+pub fn control_flags_law()
+    ensures { ArithmeticLeavesControl }
 {}

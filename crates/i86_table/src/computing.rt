@@ -1,7 +1,8 @@
 //! Operations with the flags that the registers hold.
 
 ghost use Rattle.std.specs.Prelude.{◌≡◌, ◌<◌, ◌*◌};
-ghost use Rattle.i86_table.specs.Arithmetic.{size_of, operated, tested, changed, shifted, multiplied, has, with_flag};
+ghost use Rattle.word86.specs.Access.{values};
+ghost use Rattle.i86_table.specs.Arithmetic.{operated, tested, changed, shifted, multiplied, has, with_flag};
 ghost use Rattle.i86_table.specs.Conditions.{holds};
 ghost use Rattle.i86_table.specs.State.{with_flags};
 
@@ -15,11 +16,11 @@ impl Regs {
     /// The result of ADD, OR, ADC, SBB, AND, SUB or XOR, with its flags set; CMP answers its first operand.
     #[inline(always)]
     pub fn operate(&mut self, operation: AluOperation, width: Width, a: u16, b: u16) -> u16
-        requires left { a < size_of width }
-        requires right { b < size_of width }
+        requires left { a < values width }
+        requires right { b < values width }
         ensures value { result ≡ (operated operation width a b self.old.flags).value }
         ensures flags { self.new ≡ with_flags (operated operation width a b self.old.flags).flags self.old }
-        ensures fits { result < size_of width }
+        ensures fits { result < values width }
     {
         self.status.operate(operation, width, a, b)
     }
@@ -35,10 +36,10 @@ impl Regs {
     /// The result of NOT, NEG, INC or DEC, with its flags set.
     #[inline(always)]
     pub fn change(&mut self, operation: UnaryOperation, width: Width, a: u16) -> u16
-        requires { a < size_of width }
+        requires { a < values width }
         ensures value { result ≡ (changed operation width a self.old.flags).value }
         ensures flags { self.new ≡ with_flags (changed operation width a self.old.flags).flags self.old }
-        ensures fits { result < size_of width }
+        ensures fits { result < values width }
     {
         self.status.change(operation, width, a)
     }
@@ -46,21 +47,21 @@ impl Regs {
     /// The result of a shift or rotation by a count that is not masked, with its flags set.
     #[inline(always)]
     pub fn shift(&mut self, operation: ShiftOperation, width: Width, a: u16, count: u8) -> u16
-        requires { a < size_of width }
+        requires { a < values width }
         ensures value { result ≡ (shifted operation width a count self.old.flags).value }
         ensures flags { self.new ≡ with_flags (shifted operation width a count self.old.flags).flags self.old }
-        ensures fits { result < size_of width }
+        ensures fits { result < values width }
     {
         self.status.shift(operation, width, a, count)
     }
 
     /// The product of MUL or IMUL, of twice the width, with its flags set.
     pub fn multiply(&mut self, signedness: Signedness, width: Width, a: u16, b: u16) -> u32
-        requires left { a < size_of width }
-        requires right { b < size_of width }
+        requires left { a < values width }
+        requires right { b < values width }
         ensures value { result ≡ (multiplied signedness width a b self.old.flags).value }
         ensures flags { self.new ≡ with_flags (multiplied signedness width a b self.old.flags).flags self.old }
-        ensures fits { result < size_of width * size_of width }
+        ensures fits { result < values width * values width }
     {
         let product = multiply(signedness, width, a, b, self.flags());
         self.set_flags(product.flags);

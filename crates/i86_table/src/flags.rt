@@ -3,7 +3,7 @@
 ghost use Rattle.std.specs.Prelude.{⊤, ◌≡◌, ◌==◌, [], ◌∷◌, codes, Bool};
 ghost use Rattle.std.specs.Int.RustNames.{bit_and};
 ghost use Rattle.i86_table.specs.Arithmetic.{with_flag, with_result, flags_of};
-ghost use Rattle.i86_table.specs.FlagLaws.{SetFlagHolds, OtherFlagsStay};
+ghost use Rattle.i86_table.specs.FlagLaws.{SetFlagHolds, OtherFlagsStay, SetFlagIsAlone};
 
 use crate::width::sign;
 use bitflags::{Flag, Flags as _, bitflag_items};
@@ -80,8 +80,9 @@ impl Flags {
     }
 }
 
-/// The laws of a flag that is set or cleared: it is so then, and the others are as they were.
+/// The laws of a flag that is set or cleared: it is so then, the others are as they were, and no bit comes up that is no flag's.
 pub fn flag_laws()
     ensures same { SetFlagHolds }
     ensures others { OtherFlagsStay }
+    ensures alone { SetFlagIsAlone }
 {}

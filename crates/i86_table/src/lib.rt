@@ -5,6 +5,7 @@ mod alu;
 mod arithmetic_law;
 mod computing;
 mod condition;
+mod context_law;
 mod flags;
 mod instruction;
 mod late_flags;
@@ -19,8 +20,11 @@ mod shifts;
 mod width;
 mod words;
 
-pub use arithmetic_law::{overflow_laws, product_laws, quotient_laws, rotation_laws, shift_laws};
+pub use arithmetic_law::{
+    control_flags_law, overflow_laws, product_laws, quotient_laws, rotation_laws, shift_laws,
+};
 pub use condition::inverse_law;
+pub use context_law::context_laws;
 pub use flags::{Flags, flag_laws};
 pub use instruction::{
     Address, AluOperation, Base, Condition, Count, Instr, Memory, Operands, Port, Repeat,

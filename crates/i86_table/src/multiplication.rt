@@ -2,7 +2,8 @@
 
 ghost use Rattle.std.specs.Prelude.{◌≡◌, ◌<◌, ◌≤◌, ◌*◌, ◌%◌, IfSome};
 ghost use Rattle.i86_table.specs.declared.instruction.Signedness.TheVariants.{Unsigned, Signed};
-ghost use Rattle.i86_table.specs.Arithmetic.{size_of, sign_extended, sign_word, magnitude, is_negative, with_sign, carry_and_overflow, multiplied, divided};
+ghost use Rattle.word86.specs.Access.{values};
+ghost use Rattle.i86_table.specs.Arithmetic.{sign_extended, sign_word, magnitude, is_negative, with_sign, carry_and_overflow, multiplied, divided};
 
 use crate::flags::Flags;
 use crate::instruction::Signedness;
@@ -63,10 +64,10 @@ fn carry_and_overflow(value: bool, flags: Flags) -> Flags
 
 #[tactic(auto, unfolding(crate::specs::Arithmetic::multiplied))]
 fn multiply_unsigned(width: Width, a: u16, b: u16, flags: Flags) -> Product
-    requires left { a < size_of width }
-    requires right { b < size_of width }
+    requires left { a < values width }
+    requires right { b < values width }
     ensures value { result ≡ multiplied Unsigned width a b flags }
-    ensures fits { result.value < size_of width * size_of width }
+    ensures fits { result.value < values width * values width }
 {
     let value = u32::from(a) * u32::from(b);
     Product {
@@ -77,10 +78,10 @@ fn multiply_unsigned(width: Width, a: u16, b: u16, flags: Flags) -> Product
 
 #[tactic(auto, unfolding(crate::specs::Arithmetic::multiplied))]
 fn multiply_signed(width: Width, a: u16, b: u16, flags: Flags) -> Product
-    requires left { a < size_of width }
-    requires right { b < size_of width }
+    requires left { a < values width }
+    requires right { b < values width }
     ensures value { result ≡ multiplied Signed width a b flags }
-    ensures fits { result.value < size_of width * size_of width }
+    ensures fits { result.value < values width * values width }
 {
     let size = u64::from(size(width));
     let (a, b) = (u64::from(a), u64::from(b));
@@ -105,10 +106,10 @@ pub(crate) fn multiply(
     b: u16,
     flags: Flags,
 ) -> Product
-    requires left { a < size_of width }
-    requires right { b < size_of width }
+    requires left { a < values width }
+    requires right { b < values width }
     ensures value { result ≡ multiplied signedness width a b flags }
-    ensures fits { result.value < size_of width * size_of width }
+    ensures fits { result.value < values width * values width }
 {
     match signedness {
         Signedness::Unsigned => multiply_unsigned(width, a, b, flags),
@@ -118,9 +119,9 @@ pub(crate) fn multiply(
 
 #[tactic(auto, unfolding(crate::specs::Arithmetic::divided))]
 fn divide_unsigned(width: Width, dividend: u32, divisor: u16) -> Option<Division>
-    requires { divisor < size_of width }
+    requires { divisor < values width }
     ensures value { result ≡ divided Unsigned width dividend divisor }
-    ensures fits { IfSome result (λ d. (d.quotient < size_of width) × (d.remainder < size_of width)) }
+    ensures fits { IfSome result (λ d. (d.quotient < values width) × (d.remainder < values width)) }
 {
     if divisor == 0 {
         return None;
@@ -138,10 +139,10 @@ fn divide_unsigned(width: Width, dividend: u32, divisor: u16) -> Option<Division
 
 #[tactic(auto, unfolding(crate::specs::Arithmetic::divided))]
 fn divide_signed(width: Width, dividend: u32, divisor: u16) -> Option<Division>
-    requires left { dividend < size_of width * size_of width }
-    requires right { divisor < size_of width }
+    requires left { dividend < values width * values width }
+    requires right { divisor < values width }
     ensures value { result ≡ divided Signed width dividend divisor }
-    ensures fits { IfSome result (λ d. (d.quotient < size_of width) × (d.remainder < size_of width)) }
+    ensures fits { IfSome result (λ d. (d.quotient < values width) × (d.remainder < values width)) }
 {
     if divisor == 0 {
         return None;
@@ -164,10 +165,10 @@ fn divide_signed(width: Width, dividend: u32, divisor: u16) -> Option<Division>
 
 /// Quotient and remainder of DIV or IDIV; `None`, the fault, where the divisor is 0 or the quotient out of its range.
 pub fn divide(signedness: Signedness, width: Width, dividend: u32, divisor: u16) -> Option<Division>
-    requires left { dividend < size_of width * size_of width }
-    requires right { divisor < size_of width }
+    requires left { dividend < values width * values width }
+    requires right { divisor < values width }
     ensures value { result ≡ divided signedness width dividend divisor }
-    ensures fits { IfSome result (λ d. (d.quotient < size_of width) × (d.remainder < size_of width)) }
+    ensures fits { IfSome result (λ d. (d.quotient < values width) × (d.remainder < values width)) }
 {
     match signedness {
         Signedness::Unsigned => divide_unsigned(width, dividend, divisor),

@@ -1,7 +1,8 @@
-//! Shifts and rotations.
+//! Shifts and rotations of a byte or a word: the value is moved place by place, and CF is the bit that goes out last.
 
 ghost use Rattle.std.specs.Prelude.{◌≡◌, ◌<◌};
-ghost use Rattle.i86_table.specs.Arithmetic.{size_of, moved_once, moved, with_shift_result, shift_overflow, shifted};
+ghost use Rattle.word86.specs.Access.{values};
+ghost use Rattle.i86_table.specs.Arithmetic.{moved_once, moved, with_shift_result, shift_overflow, shifted};
 ghost use Rattle.i86_table.specs.Inner.LateFlags.{once_flags};
 
 use crate::flags::Flags;
@@ -14,9 +15,9 @@ use word86::Width;
 
 /// One place: the value, and the bit that went out.
 fn move_once(operation: ShiftOperation, width: Width, a: u16) -> (u16, bool)
-    requires { a < size_of width }
+    requires { a < values width }
     ensures value { result ≡ moved_once operation width a }
-    ensures fits { result.0 < size_of width }
+    ensures fits { result.0 < values width }
 {
     let wide = u32::from(a);
     let (size, half) = (size(width), half(width));
@@ -42,9 +43,9 @@ fn move_places(
     count: u8,
     carry: bool,
 ) -> (u16, bool)
-    requires { a < size_of width }
+    requires { a < values width }
     ensures value { result ≡ moved operation width count (a, carry) }
-    ensures fits { result.0 < size_of width }
+    ensures fits { result.0 < values width }
 {
     let mut value = a;
     let mut out = carry;
@@ -80,9 +81,9 @@ pub(crate) fn shift(
     count: u8,
     flags: Flags,
 ) -> Outcome
-    requires { a < size_of width }
+    requires { a < values width }
     ensures value { result ≡ shifted operation width a count flags }
-    ensures fits { result.value < size_of width }
+    ensures fits { result.value < values width }
 {
     let (value, out) = move_places(operation, width, a, count, flags.contains(Flags::CARRY));
     if count == 0 {
@@ -105,10 +106,10 @@ impl LateFlags {
     /// A shift by one place.
     #[inline(always)]
     fn set_shifted(&mut self, operation: ShiftOperation, width: Width, a: u16) -> u16
-        requires { a < size_of width }
+        requires { a < values width }
         ensures value { result ≡ (moved_once operation width a).0 }
         ensures flags { self.new ≡ once_flags operation width a self.old }
-        ensures fits { result < size_of width }
+        ensures fits { result < values width }
     {
         let (value, out) = move_once(operation, width, a);
         let overflow = overflow(operation, width, a, value, out);
@@ -126,10 +127,10 @@ impl LateFlags {
         a: u16,
         count: u8,
     ) -> u16
-        requires { a < size_of width }
+        requires { a < values width }
         ensures value { result ≡ (shifted operation width a count self.old).value }
         ensures flags { self.new ≡ (shifted operation width a count self.old).flags }
-        ensures fits { result < size_of width }
+        ensures fits { result < values width }
     {
         match operation {
             ShiftOperation::Shl | ShiftOperation::Shr | ShiftOperation::Sar if count == 1 => {

@@ -1,13 +1,14 @@
 //! The range of a width.
 
 ghost use Rattle.std.specs.Prelude.{◌≡◌, ◌<◌, ◌%◌};
-ghost use Rattle.i86_table.specs.Arithmetic.{size_of, half_of, sign};
+ghost use Rattle.word86.specs.Access.{values};
+ghost use Rattle.i86_table.specs.Arithmetic.{half_of, sign};
 
 use word86::Width;
 
 /// How many values there are.
 pub(crate) fn size(width: Width) -> u32
-    ensures { result ≡ size_of width }
+    ensures { result ≡ values width }
 {
     match width {
         Width::Byte => 256,
@@ -27,8 +28,8 @@ pub(crate) fn half(width: Width) -> u32
 
 /// The remainder of a number.
 pub(crate) fn wrap(width: Width, number: u32) -> u16
-    ensures value { result ≡ number % size_of width }
-    ensures fits { result < size_of width }
+    ensures value { result ≡ number % values width }
+    ensures fits { result < values width }
 {
     match width {
         Width::Byte => (number % 256) as u16,

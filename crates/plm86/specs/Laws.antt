@@ -1,5 +1,5 @@
 -- The laws: what a ROM does on the board, from the promises on its code and on its start-up, whatever the code generator.
-use Rattle.std.specs.Prelude.{ℕ, suc, true, false, ◌≡◌, ◌+◌, ◌*◌, ◌/◌, ◌%◌, ◌<◌, ◌-◌, ◌≤◌, Option, None, List, [], ◌∷◌, ◌⊎◌, length, slice_index}
+use Rattle.std.specs.Prelude.{ℕ, suc, true, false, ◌≡◌, ◌+◌, ◌*◌, ◌/◌, ◌%◌, ◌<◌, ◌≤◌, Option, None, List, [], ◌∷◌, ◌⊎◌, length, slice_index}
 use Rattle.word86.specs.Access.{Access, answers}
 use Rattle.word86.specs.Chips.{Chips}
 use Rattle.word86.specs.Action.{Action}
@@ -9,7 +9,7 @@ use Rattle.i86_table.specs.declared.instruction.Instr.{Instr}
 use Rattle.i86_table.specs.Contexts.{Context, Own, Working, all_registers, offer, start}
 use Rattle.i86_table.specs.Words.{AreWords, HasWords}
 use Rattle.cpu8086.specs.declared.cpu.Phase.TheVariants.{Running}
-use Rattle.board.specs.World.{World, Whole, board_model, region, screen_at}
+use Rattle.board.specs.World.{World, Whole, board_model, memory_byte, screen_at}
 use Rattle.board.specs.Machine.{Board, power_on}
 use Rattle.plm86.specs.Boots.{Boots}
 use Rattle.plm86.specs.Headline.{Firmware, RunsProgram, RomIsCorrect, StartsQuietly, board_turn}
@@ -85,7 +85,7 @@ module _ {P : Type 0} (c : Chips P) where
 
 -- the byte that the board has at an address when the power comes on
 abbrev pub power_on_memory : (rom ram screen : List ℕ) → ℕ → ℕ
-power_on_memory rom ram screen a = region 0 ram a (region screen_at screen a (region (0x100000 - length rom) rom a 255))
+power_on_memory rom ram screen a = memory_byte ram screen rom a
 
 -- memory holds the vectors and the store: each vector has its entry's offset and segment 0F000H, each object its bytes in segment 0040H
 pub record HoldsStore {P : Type 0} (x : Assembly) (s : Store P) (memory : ℕ → ℕ) : Type 0 where

@@ -1,9 +1,9 @@
 -- How flags, and the memory beside the stack, are while a program runs: code, tables, vectors, objects, screen and chips.
 use Rattle.std.specs.Prelude.{ℕ, Bool, ◌≡◌, ◌+◌, ◌<◌, ◌≤◌, Option, Some, length, slice_index}
-use Rattle.std.specs.Int.RustNames.{bit_and}
 use Rattle.i86_table.specs.declared.flags.Flags.{Flags}
 use Rattle.i86_table.specs.declared.instruction.Instr.{Instr}
 use Rattle.i86_table.specs.Arithmetic.{has}
+use Rattle.i86_table.specs.FlagLaws.{HasFlagsAlone}
 use Rattle.i86_code.specs.Decoding.{decoded}
 use Rattle.cpu8086.specs.BusModel.{BusModel}
 use Rattle.cpu8086.specs.Machine.{loaded_word}
@@ -14,7 +14,7 @@ use Rattle.plm86.specs.Headline.{Vectors}
 -- whether interrupts are on, and only flags that there are
 pub record FlagsAre (on : Bool) (f : Flags) : Type 0 where
   pub on_is : has f 512 ≡ on
-  pub known : bit_and f.0 0xFD5 ≡ f.0
+  pub known : HasFlagsAlone f
 
 module _ {W : Type 0} (m : BusModel W) where
   -- the bytes at each place of the code spell its instruction

@@ -5,6 +5,7 @@ ghost use Rattle.layout_link.specs.Image.{bytes_in};
 ghost use Rattle.layout_link.specs.Linker.{needed};
 ghost use Rattle.plm86.specs.Inner.Compiling.{Promises, IsLinked, IsImage, HasNoRoom};
 
+use crate::laws::laws_below;
 use frames::{Stack, count, small_programs_fit};
 use i86_code::{decoded_widths, one_form};
 use i86_table::instructions_keep_words;
@@ -29,6 +30,7 @@ fn layers_keep_their_promises()
     one_form();
     decoded_widths();
     instructions_keep_words();
+    laws_below();
     lowering_tracks();
     checked_trees_are_well_formed();
     checked_code_is_sound();

@@ -1,10 +1,12 @@
 //! What stands between the layers of the compiler and the board; and which run of the language the meaning's is.
 
+ghost use Rattle.plm86.specs.Inner.BoardLaws.{LawsBelow};
 ghost use Rattle.plm86.specs.Laws.{FromLayers, FromRom, QuietFromRom};
 ghost use Rattle.plm86.specs.Mean.{MeanLaw};
 
+use board::memory_laws;
 use i86_code::{decoded_widths, one_form};
-use i86_table::instructions_keep_words;
+use i86_table::{context_laws, control_flags_law, flag_laws, instructions_keep_words};
 
 /// The types of a compiler's layers: the states of the chips, the rests of a program's contexts, and the places of its
 /// intermediate code.
@@ -16,6 +18,16 @@ pub trait Layers {
     ghost Place: { Type 0 };
 }
 
+/// The laws of the crates below on which the lift from contexts to the board rests.
+pub(crate) fn laws_below()
+    ensures { LawsBelow }
+{
+    context_laws();
+    flag_laws();
+    control_flags_law();
+    memory_laws();
+}
+
 /// From the promises of the layers to what the board does.
 ///
 /// If the intermediate code tracks the program's rests, the instructions follow the intermediate code, and start-up leads from
@@ -25,6 +37,7 @@ pub trait Layers {
 pub fn board_is_correct<L: Layers>()
     ensures { FromLayers L.Ports L.Rest L.Place }
 {
+    laws_below();
     decoded_widths();
     instructions_keep_words();
 }
@@ -34,6 +47,7 @@ pub fn board_is_correct<L: Layers>()
 pub fn rom_is_correct<L: Layers>()
     ensures { FromRom L.Ports L.Rest L.Place }
 {
+    laws_below();
     one_form();
     decoded_widths();
     instructions_keep_words();
@@ -44,6 +58,7 @@ pub fn rom_is_correct<L: Layers>()
 pub fn rom_starts_quietly<L: Layers>()
     ensures { QuietFromRom L.Ports }
 {
+    laws_below();
     one_form();
 }
 

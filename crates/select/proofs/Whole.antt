@@ -9,7 +9,8 @@ use Rattle.i86_table.specs.declared.registers.Register16.{Register16}
 use Rattle.i86_table.specs.declared.registers.Register16.TheVariants.{Ax, Bx, Cx, Dx, Bp, Sp, Si, Di}
 use Rattle.i86_table.specs.declared.instruction.Instr.{Instr}
 use Rattle.i86_table.specs.declared.instruction.Instr.TheVariants as i
-use Rattle.i86_table.specs.Contexts.{Context, Own, Working, Given, word_in, set_word, set_flags, offer, offered, start, pushes, refused, gives_back, top_of, stack_pointer, without_trap_and_interrupts}
+use Rattle.i86_table.specs.Arithmetic.{without_trap_and_interrupts}
+use Rattle.i86_table.specs.Contexts.{Context, Own, Working, Given, word_in, set_word, set_flags, offer, offered, start, pushes, refused, gives_back, top_of, stack_pointer}
 use Rattle.i86_table.specs.Words.{AreWords, HasWords}
 use Rattle.icode.specs.declared.instruction.Instruction.{Instruction}
 use Rattle.icode.specs.declared.code.Routine.{Routine}

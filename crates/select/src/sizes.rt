@@ -22,7 +22,7 @@ const SHORT: u8 = 2;
 /// A jump that spans more steps than this is not short.
 const SPAN: usize = 128;
 
-// Whether these sizes are together at most so much. It looks at no more sizes than that and one.
+// Whether the sum of these sizes is at most `room`. It looks at no more than `room + 1` of them.
 fn is_within(sizes: &[u8], room: usize) -> bool
     ensures { IsTrue result ↔ (sum sizes.now ≤ room) }
 {

@@ -10,6 +10,7 @@ use Rattle.board.specs.World.{World, Whole, board_model, comes}
 use Rattle.board.specs.Machine.{Board, power_on}
 use Rattle.plm86.specs.Boots.{Boots}
 use Rattle.plm86.specs.Headline.{board_turn}
+use Rattle.plm86.specs.Inner.BoardLaws.{LawsBelow}
 use Rattle.plm86.specs.Relation.{FlagsAre}
 use Rattle.plm86.specs.Laws.{Assembly, IsSound, Begins, StartsUp, FromRom, HoldsStore, power_on_memory}
 use Rattle.layout_link.specs.Rom.{CodeInRom, WordsInRom}
@@ -26,14 +27,14 @@ use Rattle.plm86.proofs.Headline.Whole.{from_layers}
 abbrev pub at_the_end : (rom : List ℕ) (entry : ℕ) (acts : List Act) (ram screen : List ℕ) → ℕ → ℕ
 at_the_end rom entry acts ram screen = after_acts acts (with_vectors entry 0 256 (power_on_memory rom ram screen))
 
-module _ (only : IsOneForm) (short : IsShort) where
+module _ (below : LawsBelow) (only : IsOneForm) (short : IsShort) where
   -- start-up leads from power-on to all that follows from main's registers and the memory when it ends
   pub boots_from : {P : Type 0} (c : Chips P) (x : Assembly) → CodeInRom x.rom x.code → (entry : ℕ) (acts : List Act) → HasStartUp x.code entry acts x.main_at → (ram screen : List ℕ) → length ram ≡ 0x20000 → length screen ≡ 4000 → (s : Store P) (chips : P) → s.chips ≡ chips → (Begins : Board (World P) → Store P → Type 0)
-      → ((g : Working) → AreWords g → FlagsAre false g.flags → (d : Board (World P)) (p : P) → Boot (board_model c) c (λ w. w.chips) (Whole x.rom) (of_board c x.rom) (comes c) (events_law c x.rom) x.code (all_registers x.main_at g 0xFFFE) (at_the_end x.rom entry acts ram screen) d p → Begins d (with_chips p s))
+      → ((g : Working) → AreWords g → FlagsAre false g.flags → (d : Board (World P)) (p : P) → Boot (board_model c) c (λ w. w.chips) (Whole x.rom) (of_board below c x.rom) (comes c) (events_law c x.rom) x.code (all_registers x.main_at g 0xFFFE) (at_the_end x.rom entry acts ram screen) d p → Begins d (with_chips p s))
       → Boots (shared c) (board_turn c) Begins (start_up_turns acts) (power_on x.rom ram screen chips) s
   boots_from {P} c x in_rom entry acts start ram screen ram_size screen_size s chips same Begins begins =
       let m = board_model c in
-      let laws = of_board c x.rom in
+      let laws = of_board below c x.rom in
       let events = events_law c x.rom in
       let f = power_on_memory x.rom ram screen in
       let w : World P = record { ram = ram; screen = screen; rom = x.rom; chips = chips } in
@@ -53,9 +54,9 @@ module _ (only : IsOneForm) (short : IsShort) where
     starts_up : {P : Type 0} (c : Chips P) (x : Assembly) (sound : IsSound x) → CodeInRom x.rom x.code → WordsInRom x.rom x.words → (entry : ℕ) (acts : List Act) → HasStartUp x.code entry acts x.main_at → (ram screen : List ℕ) → length ram ≡ 0x20000 → length screen ≡ 4000 → (s : Store P) → HoldsStore x s (at_the_end x.rom entry acts ram screen) → (chips : P) → s.chips ≡ chips → StartsUp c x (start_up_turns acts) (power_on x.rom ram screen chips) s
     starts_up c x sound in_rom tables entry acts start ram screen ram_size screen_size s holds chips same =
         boots_from c x in_rom entry acts start ram screen ram_size screen_size s chips same (Begins c x)
-        (λ g words flags d p b. main_begins c x sound in_rom.size tables s (at_the_end x.rom entry acts ram screen) g words flags holds d p b)
+        (λ g words flags d p b. main_begins below c x sound in_rom.size tables s (at_the_end x.rom entry acts ram screen) g words flags holds d p b)
 
     pub from_rom : (P R I : Type 0) → FromRom P R I
     from_rom P R I c x sound in_rom tables entry acts start next first body does begin procedure k1 m1 k2 m2 lowered compiled paced chips first_store leaves =
-        from_layers widths keeps P R I c x sound next first body does begin procedure k1 m1 k2 m2 lowered compiled paced (start_up_turns acts) chips first_store
+        from_layers below widths keeps P R I c x sound next first body does begin procedure k1 m1 k2 m2 lowered compiled paced (start_up_turns acts) chips first_store
         (λ ram screen ram_size screen_size. let t = leaves ram screen ram_size screen_size in starts_up c x sound in_rom tables entry acts start ram screen ram_size screen_size (first_store ram screen) t.0 chips t.1)

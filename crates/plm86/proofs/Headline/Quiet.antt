@@ -8,6 +8,7 @@ use Rattle.plm_meaning.specs.Store.{Store, shared}
 use Rattle.i86_code.specs.Coding.{IsOneForm, IsShort}
 use Rattle.board.specs.World.{World, Whole, board_model, region, screen_at}
 use Rattle.board.specs.Machine.{Board, outputs, final, power_on}
+use Rattle.plm86.specs.Inner.BoardLaws.{LawsBelow}
 use Rattle.plm86.specs.Boots.{after_events, Boots}
 use Rattle.plm86.specs.Headline.{StartsQuietly, board_turn}
 use Rattle.plm86.specs.Laws.{Assembly, IsPut, IsSetBy, QuietFromRom, power_on_memory}
@@ -74,7 +75,7 @@ power_on_ram rom ram screen a size lt =
 abbrev Left : {P : Type 0} → Chips P → List ℕ → (ℕ → ℕ) → Board (World P) → Store P → Type 0
 Left c rom f b s = Whole rom b.world × ((a : ℕ) → a < 2 ^ 20 → (board_model c).load b.world a ≡ f a)
 
-module _ (only : IsOneForm) (short : IsShort) where
+module _ (below : LawsBelow) (only : IsOneForm) (short : IsShort) where
   -- where what is not set is as at power-on in the memory that start-up leaves
   pub quiet_by_memory : {P : Type 0} (c : Chips P) (x : Assembly) → CodeInRom x.rom x.code → (entry : ℕ) (acts : List Act) → HasStartUp x.code entry acts x.main_at → (chips : P) (IsSet : ℕ → Type 0)
       → ((ram screen : List ℕ) → length ram ≡ 0x20000 → length screen ≡ 4000 → (a : ℕ) → a < 0x20000 → ¬ IsSet a → after_acts acts (with_vectors entry 0 256 (power_on_memory x.rom ram screen)) a ≡ slice_index ram a)
@@ -85,7 +86,7 @@ module _ (only : IsOneForm) (short : IsShort) where
       let b = power_on x.rom ram screen chips in
       let s : Store P = record { objects = []; screen = []; chips = chips } in
       let boots : Boots (shared c) (board_turn c) (Left c x.rom f) n b s =
-      boots_from only short c x in_rom entry acts start ram screen ram_size screen_size s chips refl (Left c x.rom f) (λ g words flags d p h. (h.world.whole, h.world.memory)) in
+      boots_from below only short c x in_rom entry acts start ram screen ram_size screen_size s chips refl (Left c x.rom f) (λ g words flags d p h. (h.world.whole, h.world.memory)) in
       record {
         quiet = labels_are (shared c) (board_turn c) (Left c x.rom f) n b s boots;
         keeps = λ due turns a lt free.

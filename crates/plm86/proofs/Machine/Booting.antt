@@ -30,11 +30,11 @@ use Rattle.plm86.specs.Relation.{FlagsAre}
 use Rattle.layout_link.specs.Startup.{load_word, put_word, put_byte, Stands, Act, PutWord, PutByte, Copy, HasAct, HasActs, turns_of, turns_of_all, HasStartUp, start_up_turns}
 use Rattle.plm86.specs.Startup.{word_put, byte_put, with_vectors, copied, after_act, after_acts}
 use Rattle.plm86.proofs.Machine.Data.{store_at}
-use Rattle.plm86.proofs.Machine.FlagLaws.{with_flag_keeps}
+use Rattle.plm86.proofs.Machine.FlagLaws.{direction_keeps}
 use Rattle.plm86.proofs.Machine.Startup
 use Rattle.plm86.proofs.Machine.Startup.{Known, Boot, Leads, steps_by, then_leads, none, one, chips_later, boot_turn, world_later}
 use Rattle.plm86.proofs.Machine.Vectors
-use Rattle.plm86.proofs.Machine.Vectors.{has_same, regs, Somewhere, low_word, world_stored}
+use Rattle.plm86.proofs.Machine.Vectors.{regs, Somewhere, low_word, world_stored}
 use Rattle.plm86.proofs.Machine.Copying.{copying, low_byte, copies}
 
 -- AX is loaded again before main
@@ -206,7 +206,7 @@ module _ {W P : Type 0} (m : BusModel W) (c : Chips P) (chips : W → P) (Whole 
         let fl = at.0 in
         let r : Regs = regs entry 1024 (x.loop + 14) fl in
         let q : Regs = record r { ip = x.acting; flags = with_flag (flag_bit 1024) false fl } in
-        let early : IsEarly q = record { cs = refl; ds = refl; es = refl; flags = with_flag_keeps 1024 false false fl refl refl refl at.1; up = has_same 1024 false fl (omega arith) refl; words = record { ax = omega arith; cx = omega arith; dx = omega arith; bx = omega arith; bp = omega arith; si = omega arith; di = omega arith } } in
+        let early : IsEarly q = record { cs = refl; ds = refl; es = refl; flags = direction_keeps laws.below false false fl at.1; up = laws.below.set_flag 1024 false fl (omega arith) refl; words = record { ax = omega arith; cx = omega arith; dx = omega arith; bx = omega arith; bp = omega arith; si = omega arith; di = omega arith } } in
         clears r g (x.loop + 14) x.acting refl at.1.on_is refl x.clear j b s at.2 (λ d p t. rest d p (q, early, refl, t))
 
     -- segments, stack pointer, and the jump to main

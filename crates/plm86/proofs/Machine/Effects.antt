@@ -38,14 +38,14 @@ use Rattle.i86_table.specs.declared.instruction.Instr.{Instr}
 use Rattle.i86_table.specs.declared.instruction.Instr.TheVariants as i
 use Rattle.i86_table.specs.State.{segment_of, word_of, byte_of, with_word, with_byte, offset_of}
 use Rattle.i86_table.specs.Conditions.{holds}
-use Rattle.i86_table.specs.Arithmetic.{operated, tested, changed, shifted, multiplied, divided, added, with_flag, flag_bit, sign_extended, sign_word}
-use Rattle.i86_table.specs.Contexts.{Working, Given, all_registers, is_sp, is_stack, top_of, stack_pointer, stack_word, takes, moved_word, stack_offer, jump_offer, word_in, byte_in, set_word, set_byte, set_flags, offset_in, port_in, count_in, Context, Own, room, bytes, further, in_object, on_screen, is_comparison, alu_word, alu_byte, word_result, byte_result, word_product, byte_product, word_quotient, byte_quotient, word_mask, byte_mask, masks_sp, input_gives, output_takes, refused, unless, silently, reads, writes, divides, place_in, place_of, offered}
+use Rattle.i86_table.specs.Arithmetic.{operated, tested, changed, shifted, multiplied, divided, added, with_flag, flag_bit, sign_extended, sign_word, is_comparison}
+use Rattle.i86_table.specs.Contexts.{Working, Given, all_registers, is_sp, is_stack, top_of, stack_pointer, stack_word, takes, moved_word, stack_offer, jump_offer, word_in, byte_in, set_word, set_byte, set_flags, offset_in, port_in, count_in, Context, Own, room, bytes, further, in_object, on_screen, alu_word, alu_byte, word_result, byte_result, word_product, byte_product, word_quotient, byte_quotient, word_mask, byte_mask, masks_sp, input_gives, output_takes, refused, unless, silently, reads, writes, divides, place_in, place_of, offered}
 use Rattle.cpu8086.specs.declared.bus.Store.TheVariants as stores
 use Rattle.cpu8086.specs.BusModel.{BusModel}
 use Rattle.cpu8086.specs.declared.cpu.Phase.TheVariants.{Running, AfterSti, Halted}
 use Rattle.cpu8086.specs.Machine.{Machine, physical, next_offset, pushed, popped, loaded_byte, loaded_word, loaded, stored_at}
 use Rattle.cpu8086.specs.Control.{called, called_at, returned, jumped_if}
-use Rattle.cpu8086.specs.Arithmetic.{is_compare, computed, changed_in_place, tested_place, shifted_place, multiplied_byte, multiplied_word, divided_byte, divided_word, byte_division, word_division}
+use Rattle.cpu8086.specs.Arithmetic.{computed, changed_in_place, tested_place, shifted_place, multiplied_byte, multiplied_word, divided_byte, divided_word, byte_division, word_division}
 use Rattle.cpu8086.specs.Moves as moves
 use Rattle.cpu8086.specs.Moves.{pushed_place, popped_to, read_in, written_out}
 use Rattle.cpu8086.specs.Effect.{effect}
@@ -58,7 +58,7 @@ use Rattle.plm86.proofs.Machine.Memory.{push_is, pop_is, push_stacks, pop_stacks
 use Rattle.plm86.proofs.Machine.Data
 use Rattle.plm86.proofs.Machine.Data.{store_at, read_is, write_is, write_stack, load_at}
 use Rattle.plm86.proofs.Machine.FlagLaws.{operated_keeps, tested_keeps, changed_keeps, shifted_keeps, multiplied_keeps, on_after_sti, off_after_cli}
-use Rattle.plm86.proofs.Machine.Registers.{set_word_is, word_in_is, byte_in_is, set_byte_is, flags-set_word, flags-set_byte, word_mask_is, byte_mask_is, pushed_value_is, offset_is, port_is, count_is, comparison_is}
+use Rattle.plm86.proofs.Machine.Registers.{word_mask_is, byte_mask_is, pushed_value_is, count_is}
 
 abbrev pub NotIret : Instr → Type 0
 NotIret i.InterruptReturn = ⊥
@@ -122,10 +122,10 @@ module _ {W P : Type 0} (m : BusModel W) (c : Chips P) (chips : W → P) (Whole 
 
       -- a word register gets a value
       word_out : (n : Instr) (x : Machine W) (h : Working) (r : Register16) (v : ℕ) → phase_after n ≡ Running → is_sp r ≡ false → x ≡ x_of (with_word (all_registers q h sp) r v) → FlagsAre on h.flags → Meets a o base (silently (Own q (set_word h r v) st false o)) s on n x
-      word_out n x h r v ph k e f = goes_on n x q hq (set_word h r v) ph (e ∙ ap x_of (set_word_is q h sp r v k)) (subst (FlagsAre on) (sym (flags-set_word h r v)) f)
+      word_out n x h r v ph k e f = goes_on n x q hq (set_word h r v) ph (e ∙ ap x_of (laws.below.registers.set_words q h sp r v k)) (subst (FlagsAre on) (sym (laws.below.registers.word_flags h r v)) f)
 
       byte_out : (n : Instr) (x : Machine W) (h : Working) (r : Register8) (v : ℕ) → phase_after n ≡ Running → x ≡ x_of (with_byte (all_registers q h sp) r v) → FlagsAre on h.flags → Meets a o base (silently (Own q (set_byte h r v) st false o)) s on n x
-      byte_out n x h r v ph e f = goes_on n x q hq (set_byte h r v) ph (e ∙ ap x_of (set_byte_is q h sp r v)) (subst (FlagsAre on) (sym (flags-set_byte h r v)) f)
+      byte_out n x h r v ph e f = goes_on n x q hq (set_byte h r v) ph (e ∙ ap x_of (laws.below.registers.set_bytes q h sp r v)) (subst (FlagsAre on) (sym (laws.below.registers.byte_flags h r v)) f)
 
       -- what the instruction comes to, from the context's offer
       abbrev Fits : Instr → ℕ → Type 0
@@ -145,12 +145,12 @@ module _ {W P : Type 0} (m : BusModel W) (c : Chips P) (chips : W → P) (Whole 
 
       sti_runs : (start : ℕ) (p : Option Given) → o ≡ p → Meets a o base (offered find words main handler i.EnableInterrupts q g st a p) s on i.EnableInterrupts (effect m i.EnableInterrupts start before)
       unfolding effect
-      sti_runs start None e = ((settled q hq (set_flags g (with_flag (flag_bit 512) true g.flags)) (effect m i.EnableInterrupts start before) true refl (on_after_sti on g.flags flags), refl, sym e), refl)
+      sti_runs start None e = ((settled q hq (set_flags g (with_flag (flag_bit 512) true g.flags)) (effect m i.EnableInterrupts start before) true refl (on_after_sti laws.below on g.flags flags), refl, sym e), refl)
       sti_runs start (Some h) e = tt
 
       cli_runs : (start : ℕ) → Fits i.DisableInterrupts start
       unfolding effect
-      cli_runs start = ((settled q hq (set_flags g (with_flag (flag_bit 512) false g.flags)) _ false refl (off_after_cli on g.flags flags), refl, refl), refl)
+      cli_runs start = ((settled q hq (set_flags g (with_flag (flag_bit 512) false g.flags)) _ false refl (off_after_cli laws.below on g.flags flags), refl, refl), refl)
 
       -- ---- moves between registers
 
@@ -182,23 +182,23 @@ module _ {W P : Type 0} (m : BusModel W) (c : Chips P) (chips : W → P) (Whole 
       move_byte_register : (start : ℕ) (r t : Register8) → Fits (i.MoveByte (FromRegister (places.Register r) t)) start
       unfolding effect moves.moved
       move_byte_register start r t = let n = i.MoveByte (FromRegister (places.Register r) t) in
-          byte_out n (effect m n start before) g r (byte_in g t) refl (ap (λ v. x_of (with_byte (all_registers q g sp) r v)) (byte_in_is q g sp t)) flags
+          byte_out n (effect m n start before) g r (byte_in g t) refl (ap (λ v. x_of (with_byte (all_registers q g sp) r v)) (laws.below.registers.bytes q g sp t)) flags
 
       -- ---- arithmetic
 
       abbrev word_sum : AluOperation → Register16 → ℕ → ℕ → Machine W
-      word_sum f r x y = let z = operated f widths.Word x y g.flags in if is_compare f then x_of (all_registers q (set_flags g z.flags) sp) else x_of (with_word (all_registers q (set_flags g z.flags) sp) r z.value)
+      word_sum f r x y = let z = operated f widths.Word x y g.flags in if is_comparison f then x_of (all_registers q (set_flags g z.flags) sp) else x_of (with_word (all_registers q (set_flags g z.flags) sp) r z.value)
 
       abbrev byte_sum : AluOperation → Register8 → ℕ → ℕ → Machine W
-      byte_sum f r x y = let z = operated f widths.Byte x y g.flags in if is_compare f then x_of (all_registers q (set_flags g z.flags) sp) else x_of (with_byte (all_registers q (set_flags g z.flags) sp) r z.value)
+      byte_sum f r x y = let z = operated f widths.Byte x y g.flags in if is_comparison f then x_of (all_registers q (set_flags g z.flags) sp) else x_of (with_byte (all_registers q (set_flags g z.flags) sp) r z.value)
 
       word_chosen : (h : Working) (b : Bool) (r : Register16) (v : ℕ) → is_sp r ≡ false → (if b then x_of (all_registers q h sp) else x_of (with_word (all_registers q h sp) r v)) ≡ x_of (all_registers q (if b then h else set_word h r v) sp)
       word_chosen h true r v k = refl
-      word_chosen h false r v k = ap x_of (set_word_is q h sp r v k)
+      word_chosen h false r v k = ap x_of (laws.below.registers.set_words q h sp r v k)
 
       byte_chosen : (h : Working) (b : Bool) (r : Register8) (v : ℕ) → (if b then x_of (all_registers q h sp) else x_of (with_byte (all_registers q h sp) r v)) ≡ x_of (all_registers q (if b then h else set_byte h r v) sp)
       byte_chosen h true r v = refl
-      byte_chosen h false r v = ap x_of (set_byte_is q h sp r v)
+      byte_chosen h false r v = ap x_of (laws.below.registers.set_bytes q h sp r v)
 
       flags_chosen : (h k : Working) (b : Bool) → FlagsAre on h.flags → k.flags ≡ h.flags → FlagsAre on (if b then h else k).flags
       flags_chosen h k true f e = f
@@ -208,36 +208,34 @@ module _ {W P : Type 0} (m : BusModel W) (c : Chips P) (chips : W → P) (Whole 
       word_sum_is f r v k =
           let z = operated f widths.Word (word_in g r) v g.flags in
           let h = set_flags g z.flags in
-          ap (λ x. word_sum f r x v) (word_in_is q g sp r k)
-          ∙ ap (λ b. if b then x_of (all_registers q h sp) else x_of (with_word (all_registers q h sp) r z.value)) (comparison_is f)
+          ap (λ x. word_sum f r x v) (laws.below.registers.words q g sp r k)
           ∙ word_chosen h (is_comparison f) r z.value k
 
       byte_sum_is : (f : AluOperation) (r : Register8) (v : ℕ) → byte_sum f r (byte_of (all_registers q g sp) r) v ≡ x_of (all_registers q (alu_byte f r v g) sp)
       byte_sum_is f r v =
           let z = operated f widths.Byte (byte_in g r) v g.flags in
           let h = set_flags g z.flags in
-          ap (λ x. byte_sum f r x v) (byte_in_is q g sp r)
-          ∙ ap (λ b. if b then x_of (all_registers q h sp) else x_of (with_byte (all_registers q h sp) r z.value)) (comparison_is f)
+          ap (λ x. byte_sum f r x v) (laws.below.registers.bytes q g sp r)
           ∙ byte_chosen h (is_comparison f) r z.value
 
       word_sum_flags : (f : AluOperation) (r : Register16) (v : ℕ) → FlagsAre on (alu_word f r v g).flags
       word_sum_flags f r v =
           let z = operated f widths.Word (word_in g r) v g.flags in
           let h = set_flags g z.flags in
-          flags_chosen h (word_result r g z) (is_comparison f) (operated_keeps f widths.Word (word_in g r) v on g.flags flags) (flags-set_word h r z.value)
+          flags_chosen h (word_result r g z) (is_comparison f) (operated_keeps laws.below f widths.Word (word_in g r) v on g.flags flags) (laws.below.registers.word_flags h r z.value)
 
       byte_sum_flags : (f : AluOperation) (r : Register8) (v : ℕ) → FlagsAre on (alu_byte f r v g).flags
       byte_sum_flags f r v =
           let z = operated f widths.Byte (byte_in g r) v g.flags in
           let h = set_flags g z.flags in
-          flags_chosen h (byte_result r g z) (is_comparison f) (operated_keeps f widths.Byte (byte_in g r) v on g.flags flags) (flags-set_byte h r z.value)
+          flags_chosen h (byte_result r g z) (is_comparison f) (operated_keeps laws.below f widths.Byte (byte_in g r) v on g.flags flags) (laws.below.registers.byte_flags h r z.value)
 
       alu_word_register : (start : ℕ) (f : AluOperation) (r t : Register16) → Fits (i.AluWord f (FromRegister (places.Register r) t)) start
       unfolding effect computed
       alu_word_register start f r t = let n = i.AluWord f (FromRegister (places.Register r) t) in
           unless_meets (is_sp r) (is_sp r) _ n (effect m n start before) refl (λ kr.
           unless_meets (is_sp t) (is_sp t) _ n (effect m n start before) refl (λ kt.
-          goes_on n (effect m n start before) q hq (alu_word f r (word_in g t) g) refl (ap (word_sum f r (word_of (all_registers q g sp) r)) (word_in_is q g sp t kt) ∙ word_sum_is f r (word_in g t) kr) (word_sum_flags f r (word_in g t))))
+          goes_on n (effect m n start before) q hq (alu_word f r (word_in g t) g) refl (ap (word_sum f r (word_of (all_registers q g sp) r)) (laws.below.registers.words q g sp t kt) ∙ word_sum_is f r (word_in g t) kr) (word_sum_flags f r (word_in g t))))
 
       -- ADD SP: words are dropped
       pointer_added : (v : ℕ) → sp + v < 65536 → (operated Add widths.Word sp v g.flags).value ≡ sp + v
@@ -260,7 +258,7 @@ module _ {W P : Type 0} (m : BusModel W) (c : Chips P) (chips : W → P) (Whole 
             is = ap (λ z. x_of (all_registers q (h sp) z)) value;
             stack = drop_stacks m c chips Whole laws (v / 2) w sp st base (room main handler o) few stack;
             fine = fine;
-            flags = operated_keeps Add widths.Word sp v on g.flags flags;
+            flags = operated_keeps laws.below Add widths.Word sp v on g.flags flags;
             low = hq;
           } in
           ((subst (λ z. At q (h z) (drop (v / 2) st) base o s on [] (word_sum Add Sp sp v)) pointer_is done, refl, refl), refl)
@@ -293,7 +291,7 @@ module _ {W P : Type 0} (m : BusModel W) (c : Chips P) (chips : W → P) (Whole 
       alu_byte_register : (start : ℕ) (f : AluOperation) (r t : Register8) → Fits (i.AluByte f (FromRegister (places.Register r) t)) start
       unfolding effect computed
       alu_byte_register start f r t = let n = i.AluByte f (FromRegister (places.Register r) t) in
-          goes_on n (effect m n start before) q hq (alu_byte f r (byte_in g t) g) refl (ap (byte_sum f r (byte_of (all_registers q g sp) r)) (byte_in_is q g sp t) ∙ byte_sum_is f r (byte_in g t)) (byte_sum_flags f r (byte_in g t))
+          goes_on n (effect m n start before) q hq (alu_byte f r (byte_in g t) g) refl (ap (byte_sum f r (byte_of (all_registers q g sp) r)) (laws.below.registers.bytes q g sp t) ∙ byte_sum_is f r (byte_in g t)) (byte_sum_flags f r (byte_in g t))
 
       alu_byte_immediate : (start : ℕ) (f : AluOperation) (r : Register8) (v : ℕ) → Fits (i.AluByte f (Immediate (places.Register r) v)) start
       unfolding effect computed
@@ -302,7 +300,7 @@ module _ {W P : Type 0} (m : BusModel W) (c : Chips P) (chips : W → P) (Whole 
 
       -- a comparison with a target in memory
       compared_flags : (width : Width) (f : AluOperation) (v x : ℕ) → FlagsAre on (set_flags g (operated f width v x g.flags).flags).flags
-      compared_flags width f v x = operated_keeps f width v x on g.flags flags
+      compared_flags width f v x = operated_keeps laws.below f width v x on g.flags flags
 
       test_word : (start : ℕ) (r : Register16) (n : TestMask Register16 ℕ) → Fits (i.TestWord (places.Register r) n) start
       unfolding effect tested_place
@@ -310,13 +308,13 @@ module _ {W P : Type 0} (m : BusModel W) (c : Chips P) (chips : W → P) (Whole 
           unless_meets (is_sp r) (is_sp r) _ k (effect m k start before) refl (λ kr.
           unless_meets (masks_sp n) (masks_sp n) _ k (effect m k start before) refl (λ kn.
           goes_on k (effect m k start before) q hq (set_flags g (tested widths.Word (word_in g r) (word_mask g n) g.flags)) refl
-          (ap₂ (λ x y. x_of (all_registers q (set_flags g (tested widths.Word x y g.flags)) sp)) (word_in_is q g sp r kr) (word_mask_is q g sp n kn)) (tested_keeps widths.Word (word_in g r) (word_mask g n) on g.flags flags)))
+          (ap₂ (λ x y. x_of (all_registers q (set_flags g (tested widths.Word x y g.flags)) sp)) (laws.below.registers.words q g sp r kr) (word_mask_is laws.below.registers q g sp n kn)) (tested_keeps laws.below widths.Word (word_in g r) (word_mask g n) on g.flags flags)))
 
       test_byte : (start : ℕ) (r : Register8) (n : TestMask Register8 ℕ) → Fits (i.TestByte (places.Register r) n) start
       unfolding effect tested_place
       test_byte start r n = let k = i.TestByte (places.Register r) n in
           goes_on k (effect m k start before) q hq (set_flags g (tested widths.Byte (byte_in g r) (byte_mask g n) g.flags)) refl
-          (ap₂ (λ x y. x_of (all_registers q (set_flags g (tested widths.Byte x y g.flags)) sp)) (byte_in_is q g sp r) (byte_mask_is q g sp n)) (tested_keeps widths.Byte (byte_in g r) (byte_mask g n) on g.flags flags)
+          (ap₂ (λ x y. x_of (all_registers q (set_flags g (tested widths.Byte x y g.flags)) sp)) (laws.below.registers.bytes q g sp r) (byte_mask_is laws.below.registers q g sp n)) (tested_keeps laws.below widths.Byte (byte_in g r) (byte_mask g n) on g.flags flags)
 
       exchange_words : (start : ℕ) (p : WordPair) → Fits (i.ExchangeWords p) start
       unfolding effect
@@ -325,9 +323,9 @@ module _ {W P : Type 0} (m : BusModel W) (c : Chips P) (chips : W → P) (Whole 
           unless_meets (is_sp p.first) (is_sp p.first) _ k (effect m k start before) refl (λ kf.
           unless_meets (is_sp p.second) (is_sp p.second) _ k (effect m k start before) refl (λ ks.
           word_out k (effect m k start before) h p.second (word_in g p.first) refl ks
-          (ap₂ (λ x y. x_of (with_word (with_word (all_registers q g sp) p.first x) p.second y)) (word_in_is q g sp p.second ks) (word_in_is q g sp p.first kf)
-          ∙ ap (λ z. x_of (with_word z p.second (word_in g p.first))) (set_word_is q g sp p.first (word_in g p.second) kf))
-          (subst (FlagsAre on) (sym (flags-set_word g p.first (word_in g p.second))) flags)))
+          (ap₂ (λ x y. x_of (with_word (with_word (all_registers q g sp) p.first x) p.second y)) (laws.below.registers.words q g sp p.second ks) (laws.below.registers.words q g sp p.first kf)
+          ∙ ap (λ z. x_of (with_word z p.second (word_in g p.first))) (laws.below.registers.set_words q g sp p.first (word_in g p.second) kf))
+          (subst (FlagsAre on) (sym (laws.below.registers.word_flags g p.first (word_in g p.second))) flags)))
 
       -- an outcome in a register
       abbrev word_outcome : Register16 → Outcome → Machine W
@@ -341,39 +339,39 @@ module _ {W P : Type 0} (m : BusModel W) (c : Chips P) (chips : W → P) (Whole 
       unary_word start f r = let n = i.UnaryWord f (places.Register r) in
           let z = changed f widths.Word (word_in g r) g.flags in
           unless_meets (is_sp r) (is_sp r) _ n (effect m n start before) refl (λ k.
-          word_out n (effect m n start before) (set_flags g z.flags) r z.value refl k (ap (λ x. word_outcome r (changed f widths.Word x g.flags)) (word_in_is q g sp r k)) (changed_keeps f widths.Word (word_in g r) on g.flags flags))
+          word_out n (effect m n start before) (set_flags g z.flags) r z.value refl k (ap (λ x. word_outcome r (changed f widths.Word x g.flags)) (laws.below.registers.words q g sp r k)) (changed_keeps laws.below f widths.Word (word_in g r) on g.flags flags))
 
       unary_byte : (start : ℕ) (f : UnaryOperation) (r : Register8) → Fits (i.UnaryByte f (places.Register r)) start
       unfolding effect changed_in_place
       unary_byte start f r = let n = i.UnaryByte f (places.Register r) in
           let z = changed f widths.Byte (byte_in g r) g.flags in
-          byte_out n (effect m n start before) (set_flags g z.flags) r z.value refl (ap (λ x. byte_outcome r (changed f widths.Byte x g.flags)) (byte_in_is q g sp r)) (changed_keeps f widths.Byte (byte_in g r) on g.flags flags)
+          byte_out n (effect m n start before) (set_flags g z.flags) r z.value refl (ap (λ x. byte_outcome r (changed f widths.Byte x g.flags)) (laws.below.registers.bytes q g sp r)) (changed_keeps laws.below f widths.Byte (byte_in g r) on g.flags flags)
 
       shift_word : (start : ℕ) (f : ShiftOperation) (r : Register16) (k : Count) → Fits (i.ShiftWord f (places.Register r) k) start
       unfolding effect shifted_place
       shift_word start f r k = let n = i.ShiftWord f (places.Register r) k in
           let z = shifted f widths.Word (word_in g r) (count_in g k) g.flags in
           unless_meets (is_sp r) (is_sp r) _ n (effect m n start before) refl (λ e.
-          word_out n (effect m n start before) (set_flags g z.flags) r z.value refl e (ap₂ (λ x y. word_outcome r (shifted f widths.Word x y g.flags)) (word_in_is q g sp r e) (count_is q g sp k)) (shifted_keeps f widths.Word (word_in g r) (count_in g k) on g.flags flags))
+          word_out n (effect m n start before) (set_flags g z.flags) r z.value refl e (ap₂ (λ x y. word_outcome r (shifted f widths.Word x y g.flags)) (laws.below.registers.words q g sp r e) (count_is q g sp k)) (shifted_keeps laws.below f widths.Word (word_in g r) (count_in g k) on g.flags flags))
 
       shift_byte : (start : ℕ) (f : ShiftOperation) (r : Register8) (k : Count) → Fits (i.ShiftByte f (places.Register r) k) start
       unfolding effect shifted_place
       shift_byte start f r k = let n = i.ShiftByte f (places.Register r) k in
           let z = shifted f widths.Byte (byte_in g r) (count_in g k) g.flags in
-          byte_out n (effect m n start before) (set_flags g z.flags) r z.value refl (ap₂ (λ x y. byte_outcome r (shifted f widths.Byte x y g.flags)) (byte_in_is q g sp r) (count_is q g sp k)) (shifted_keeps f widths.Byte (byte_in g r) (count_in g k) on g.flags flags)
+          byte_out n (effect m n start before) (set_flags g z.flags) r z.value refl (ap₂ (λ x y. byte_outcome r (shifted f widths.Byte x y g.flags)) (laws.below.registers.bytes q g sp r) (count_is q g sp k)) (shifted_keeps laws.below f widths.Byte (byte_in g r) (count_in g k) on g.flags flags)
 
       multiply_word : (start : ℕ) (t : Signedness) (r : Register16) → Fits (i.MultiplyWord t (places.Register r)) start
       unfolding effect multiplied_word
       multiply_word start t r = let n = i.MultiplyWord t (places.Register r) in
           let product : ℕ → Product = λ x. multiplied t widths.Word g.ax x g.flags in
           unless_meets (is_sp r) (is_sp r) _ n (effect m n start before) refl (λ k.
-          goes_on n (effect m n start before) q hq (word_product (product (word_in g r)) g) refl (ap (λ x. x_of (all_registers q (word_product (product x) g) sp)) (word_in_is q g sp r k)) (multiplied_keeps t widths.Word g.ax (word_in g r) on g.flags flags))
+          goes_on n (effect m n start before) q hq (word_product (product (word_in g r)) g) refl (ap (λ x. x_of (all_registers q (word_product (product x) g) sp)) (laws.below.registers.words q g sp r k)) (multiplied_keeps laws.below t widths.Word g.ax (word_in g r) on g.flags flags))
 
       multiply_byte : (start : ℕ) (t : Signedness) (r : Register8) → Fits (i.MultiplyByte t (places.Register r)) start
       unfolding effect multiplied_byte
       multiply_byte start t r = let n = i.MultiplyByte t (places.Register r) in
           let product : ℕ → Product = λ x. multiplied t widths.Byte (byte_in g Al) x g.flags in
-          goes_on n (effect m n start before) q hq (byte_product (product (byte_in g r)) g) refl (ap (λ x. x_of (all_registers q (byte_product (product x) g) sp)) (byte_in_is q g sp r)) (multiplied_keeps t widths.Byte (byte_in g Al) (byte_in g r) on g.flags flags)
+          goes_on n (effect m n start before) q hq (byte_product (product (byte_in g r)) g) refl (ap (λ x. x_of (all_registers q (byte_product (product x) g) sp)) (laws.below.registers.bytes q g sp r)) (multiplied_keeps laws.below t widths.Byte (byte_in g Al) (byte_in g r) on g.flags flags)
 
       -- a division; its fault is no concern of the context
       divide_word : (start : ℕ) (t : Signedness) (r : Register16) → Fits (i.DivideWord t (places.Register r)) start
@@ -382,7 +380,7 @@ module _ {W P : Type 0} (m : BusModel W) (c : Chips P) (chips : W → P) (Whole 
           let quotient : ℕ → Option Division = λ x. divided t widths.Word (g.dx * 65536 + g.ax) x in
           let v = word_of (all_registers q g sp) r in
           unless_meets (is_sp r) (is_sp r) _ n (word_division m (quotient v) before) refl (λ k.
-          subst (λ y. Meets a o base (divides (quotient y) (λ x. Own q (word_quotient x g) st false o)) s on n (word_division m (quotient v) before)) (word_in_is q g sp r k) (go (quotient v)))
+          subst (λ y. Meets a o base (divides (quotient y) (λ x. Own q (word_quotient x g) st false o)) s on n (word_division m (quotient v) before)) (laws.below.registers.words q g sp r k) (go (quotient v)))
         where
           go : (d : Option Division) → Meets a o base (divides d (λ x. Own q (word_quotient x g) st false o)) s on (i.DivideWord t (places.Register r)) (word_division m d before)
           go None = tt
@@ -393,7 +391,7 @@ module _ {W P : Type 0} (m : BusModel W) (c : Chips P) (chips : W → P) (Whole 
       divide_byte start t r = let n = i.DivideByte t (places.Register r) in
           let quotient : ℕ → Option Division = λ x. divided t widths.Byte g.ax x in
           let v = byte_of (all_registers q g sp) r in
-          subst (λ y. Meets a o base (divides (quotient y) (λ x. Own q (byte_quotient x g) st false o)) s on n (byte_division m (quotient v) before)) (byte_in_is q g sp r) (go (quotient v))
+          subst (λ y. Meets a o base (divides (quotient y) (λ x. Own q (byte_quotient x g) st false o)) s on n (byte_division m (quotient v) before)) (laws.below.registers.bytes q g sp r) (go (quotient v))
         where
           go : (d : Option Division) → Meets a o base (divides d (λ x. Own q (byte_quotient x g) st false o)) s on (i.DivideByte t (places.Register r)) (byte_division m d before)
           go None = tt
@@ -430,7 +428,7 @@ module _ {W P : Type 0} (m : BusModel W) (c : Chips P) (chips : W → P) (Whole 
       jump_to start r = let n = i.JumpTo (places.Register r) in
           unless_meets (is_sp r) (is_sp r) _ n (effect m n start before) refl (λ k.
           unless_meets (nat_le 65536 (word_in g r)) (nat_le 65536 (word_in g r)) _ n (effect m n start before) refl (λ small.
-          goes_on n (effect m n start before) (word_in g r) (leb-false 65536 (word_in g r) small) g refl (ap (λ p. x_of (all_registers p g sp)) (word_in_is q g sp r k)) flags))
+          goes_on n (effect m n start before) (word_in g r) (leb-false 65536 (word_in g r) small) g refl (ap (λ p. x_of (all_registers p g sp)) (laws.below.registers.words q g sp r k)) flags))
 
       -- a number that the context goes on with
       takes_meet : (p : Option ℕ) (k : ℕ → Context) (n : Instr) (x : Machine W) → phase_after n ≡ Running → ((v : ℕ) → p ≡ Some v → Sits false o base (k v) s on [] x) → Meets a o base (takes p k) s on n x
@@ -440,7 +438,7 @@ module _ {W P : Type 0} (m : BusModel W) (c : Chips P) (chips : W → P) (Whole 
       -- through a table in the code's segment
       jump_through : (start : ℕ) (t : Memory) → Fits (i.JumpTo (places.Memory t)) start
       unfolding effect
-      jump_through start t = subst (λ z. Meets a o base (jump_offer words t.segment z g st o) s on (i.JumpTo (places.Memory t)) (effect m (i.JumpTo (places.Memory t)) start before)) (offset_is q g sp t.address) (by t.segment (offset_of (all_registers q g sp) t.address))
+      jump_through start t = subst (λ z. Meets a o base (jump_offer words t.segment z g st o) s on (i.JumpTo (places.Memory t)) (effect m (i.JumpTo (places.Memory t)) start before)) (laws.below.registers.offsets q g sp t.address) (by t.segment (offset_of (all_registers q g sp) t.address))
         where
           by : (segment : Segment) (off : ℕ) → Meets a o base (jump_offer words segment off g st o) s on (i.JumpTo (places.Memory t)) (x_of (record (all_registers q g sp) { ip = loaded_word m w (segment_of (all_registers q g sp) segment) off }))
           by segments.Cs off = takes_meet (words off) (λ place. Own place g st false o) (i.JumpTo (places.Memory t)) _ refl (λ v e.
@@ -509,10 +507,10 @@ module _ {W P : Type 0} (m : BusModel W) (c : Chips P) (chips : W → P) (Whole 
           let done : At q (set_word g r v) l base o s on [] (effect m n start before) = record {
             sp = sp + 2;
             w = w;
-            is = ap (λ (z : ℕ × Regs). x_of (with_word z.1 r z.0)) y.0 ∙ ap x_of (set_word_is q g (sp + 2) r v k);
+            is = ap (λ (z : ℕ × Regs). x_of (with_word z.1 r z.0)) y.0 ∙ ap x_of (laws.below.registers.set_words q g (sp + 2) r v k);
             stack = y.1;
             fine = fine;
-            flags = subst (FlagsAre on) (sym (flags-set_word g r v)) flags;
+            flags = subst (FlagsAre on) (sym (laws.below.registers.word_flags g r v)) flags;
             low = hq;
           } in
           ((done, refl, refl), refl))
@@ -609,7 +607,7 @@ module _ {W P : Type 0} (m : BusModel W) (c : Chips P) (chips : W → P) (Whole 
       reads_meet : (width : Width) (t : Memory) (p : Option Where) → place_of find g t width ≡ p → (k : ℕ → Context) (n : Instr) (x : Machine W) → phase_after n ≡ Running
           → ((v : ℕ) → load_in width t.segment (offset_of (all_registers q g sp) t.address) ≡ v → Sits false o base (k v) s on [] x) → Meets a o base (reads p width k) s on n x
       reads_meet width t None e k n x ph h = tt
-      reads_meet width t (Some y) e k n x ph h = (read_done y (h ((touch c (Read width y) s).0) (ap (load_in width t.segment) (offset_is q g sp t.address) ∙ read_place width t.segment (offset_in g t.address) y e)), ph)
+      reads_meet width t (Some y) e k n x ph h = (read_done y (h ((touch c (Read width y) s).0) (ap (load_in width t.segment) (laws.below.registers.offsets q g sp t.address) ∙ read_place width t.segment (offset_in g t.address) y e)), ph)
         where
           read_done : (y : Where) → Sits false o base (k (touch c (Read width y) s).0) s on [] x → Sits false o base (k (touch c (Read width y) s).0) (touch c (Read width y) s).1 on (touch c (Read width y) s).2 x
           read_done (In d j) z = z
@@ -620,7 +618,7 @@ module _ {W P : Type 0} (m : BusModel W) (c : Chips P) (chips : W → P) (Whole 
       writes_meet width t v None e n x ph h = tt
       writes_meet width t v (Some y) e n x ph h =
           let z = write_place width t.segment (offset_in g t.address) v y e in
-          let same : x ≡ store_in width t.segment (offset_in g t.address) v = h ∙ ap (λ z. store_in width t.segment z v) (offset_is q g sp t.address) in
+          let same : x ≡ store_in width t.segment (offset_in g t.address) v = h ∙ ap (λ z. store_in width t.segment z v) (laws.below.registers.offsets q g sp t.address) in
           ((subst (λ z. At q g st base o (touch c (Write width y v) s).1 on (touch c (Write width y v) s).2 z) (sym same) z, refl, refl), ph)
 
       stack_load : (segment : Segment) → is_stack segment ≡ true → (off v : ℕ) → stack_word off (stack_pointer o st) st ≡ Some v → load_in widths.Word segment off ≡ v
@@ -633,19 +631,19 @@ module _ {W P : Type 0} (m : BusModel W) (c : Chips P) (chips : W → P) (Whole 
       unfolding effect moves.moved
       fetch_word start r t = let n = i.MoveWord (FromMemory r t) in
           unless_meets (is_sp r) (is_sp r) _ n (effect m n start before) refl (λ k. by (is_stack t.segment) refl (λ v e.
-          (settled q hq (set_word g r v) _ on (ap (λ z. x_of (with_word (all_registers q g sp) r z)) e ∙ ap x_of (set_word_is q g sp r v k)) (subst (FlagsAre on) (sym (flags-set_word g r v)) flags), refl, refl)))
+          (settled q hq (set_word g r v) _ on (ap (λ z. x_of (with_word (all_registers q g sp) r z)) e ∙ ap x_of (laws.below.registers.set_words q g sp r v k)) (subst (FlagsAre on) (sym (laws.below.registers.word_flags g r v)) flags), refl, refl)))
         where
           by : (b : Bool) → is_stack t.segment ≡ b → let n = i.MoveWord (FromMemory r t) in let x = x_of (with_word (all_registers q g sp) r (load_in widths.Word t.segment (offset_of (all_registers q g sp) t.address))) in let k : ℕ → Context = λ v. Own q (set_word g r v) st false o in
               ((v : ℕ) → load_in widths.Word t.segment (offset_of (all_registers q g sp) t.address) ≡ v → Sits false o base (k v) s on [] x)
               → Meets a o base (if b then takes (stack_word (offset_in g t.address) (stack_pointer o st) st) k else reads (place_of find g t widths.Word) widths.Word k) s on n x
-          by true same h = takes_meet (stack_word (offset_in g t.address) (stack_pointer o st) st) _ (i.MoveWord (FromMemory r t)) _ refl (λ v e. h v (ap (load_in widths.Word t.segment) (offset_is q g sp t.address) ∙ stack_load t.segment same (offset_in g t.address) v e))
+          by true same h = takes_meet (stack_word (offset_in g t.address) (stack_pointer o st) st) _ (i.MoveWord (FromMemory r t)) _ refl (λ v e. h v (ap (load_in widths.Word t.segment) (laws.below.registers.offsets q g sp t.address) ∙ stack_load t.segment same (offset_in g t.address) v e))
           by false same h = reads_meet widths.Word t (place_of find g t widths.Word) refl _ (i.MoveWord (FromMemory r t)) _ refl h
 
       fetch_byte : (start : ℕ) (r : Register8) (t : Memory) → Fits (i.MoveByte (FromMemory r t)) start
       unfolding effect moves.moved
       fetch_byte start r t = let n = i.MoveByte (FromMemory r t) in
           reads_meet widths.Byte t (place_of find g t widths.Byte) refl (λ v. Own q (set_byte g r v) st false o) n (effect m n start before) refl (λ v e.
-          (settled q hq (set_byte g r v) _ on (ap (λ z. x_of (with_byte (all_registers q g sp) r z)) e ∙ ap x_of (set_byte_is q g sp r v)) (subst (FlagsAre on) (sym (flags-set_byte g r v)) flags), refl, refl))
+          (settled q hq (set_byte g r v) _ on (ap (λ z. x_of (with_byte (all_registers q g sp) r z)) e ∙ ap x_of (laws.below.registers.set_bytes q g sp r v)) (subst (FlagsAre on) (sym (laws.below.registers.byte_flags g r v)) flags), refl, refl))
 
       alu_word_memory : (start : ℕ) (f : AluOperation) (r : Register16) (t : Memory) → Fits (i.AluWord f (FromMemory r t)) start
       unfolding effect computed
@@ -661,8 +659,8 @@ module _ {W P : Type 0} (m : BusModel W) (c : Chips P) (chips : W → P) (Whole 
           (settled q hq (alu_byte f r v g) _ on (ap (byte_sum f r (byte_of (all_registers q g sp) r)) e ∙ byte_sum_is f r v) (byte_sum_flags f r v), refl, refl))
 
       -- a comparison of memory with a value
-      compared_to : (f : AluOperation) (b : Bool) → not (is_comparison f) ≡ b → b ≡ false → (x y : Machine W) → (if is_compare f then x else y) ≡ x
-      compared_to f b e off x y = ap (λ t. if t then x else y) (comparison_is f ∙ is_true (is_comparison f) (e ∙ off))
+      compared_to : (f : AluOperation) (b : Bool) → not (is_comparison f) ≡ b → b ≡ false → (x y : Machine W) → (if is_comparison f then x else y) ≡ x
+      compared_to f b e off x y = ap (λ t. if t then x else y) (is_true (is_comparison f) (e ∙ off))
         where
           is_true : (t : Bool) → not t ≡ false → t ≡ true
           is_true true h = refl
@@ -675,7 +673,7 @@ module _ {W P : Type 0} (m : BusModel W) (c : Chips P) (chips : W → P) (Whole 
           unless_meets (is_sp r) (is_sp r) _ n (effect m n start before) refl (λ k.
           reads_meet widths.Word t (place_of find g t widths.Word) refl (λ v. Own q (set_flags g (operated f widths.Word v (word_in g r) g.flags).flags) st false o) n (effect m n start before) refl (λ v e. (
             settled q hq (set_flags g (operated f widths.Word v (word_in g r) g.flags).flags) _ on
-                (compared_to f (not (is_comparison f)) refl kf _ _ ∙ ap₂ (λ x y. x_of (all_registers q (set_flags g (operated f widths.Word x y g.flags).flags) sp)) e (word_in_is q g sp r k)) (compared_flags widths.Word f v (word_in g r)),
+                (compared_to f (not (is_comparison f)) refl kf _ _ ∙ ap₂ (λ x y. x_of (all_registers q (set_flags g (operated f widths.Word x y g.flags).flags) sp)) e (laws.below.registers.words q g sp r k)) (compared_flags widths.Word f v (word_in g r)),
             refl,
             refl,
           ))))
@@ -697,7 +695,7 @@ module _ {W P : Type 0} (m : BusModel W) (c : Chips P) (chips : W → P) (Whole 
           unless_meets (not (is_comparison f)) (not (is_comparison f)) _ n (effect m n start before) refl (λ kf.
           reads_meet widths.Byte t (place_of find g t widths.Byte) refl (λ v. Own q (set_flags g (operated f widths.Byte v (byte_in g r) g.flags).flags) st false o) n (effect m n start before) refl (λ v e. (
             settled q hq (set_flags g (operated f widths.Byte v (byte_in g r) g.flags).flags) _ on
-                (compared_to f (not (is_comparison f)) refl kf _ _ ∙ ap₂ (λ x y. x_of (all_registers q (set_flags g (operated f widths.Byte x y g.flags).flags) sp)) e (byte_in_is q g sp r)) (compared_flags widths.Byte f v (byte_in g r)),
+                (compared_to f (not (is_comparison f)) refl kf _ _ ∙ ap₂ (λ x y. x_of (all_registers q (set_flags g (operated f widths.Byte x y g.flags).flags) sp)) e (laws.below.registers.bytes q g sp r)) (compared_flags widths.Byte f v (byte_in g r)),
             refl,
             refl,
           )))
@@ -717,12 +715,12 @@ module _ {W P : Type 0} (m : BusModel W) (c : Chips P) (chips : W → P) (Whole 
       unfolding effect moves.moved
       keep_word start r t = let n = i.MoveWord (FromRegister (places.Memory t) r) in
           unless_meets (is_sp r) (is_sp r) _ n (effect m n start before) refl (λ k.
-          writes_meet widths.Word t (word_in g r) (place_of find g t widths.Word) refl n (effect m n start before) refl (ap (store_in widths.Word t.segment (offset_of (all_registers q g sp) t.address)) (word_in_is q g sp r k)))
+          writes_meet widths.Word t (word_in g r) (place_of find g t widths.Word) refl n (effect m n start before) refl (ap (store_in widths.Word t.segment (offset_of (all_registers q g sp) t.address)) (laws.below.registers.words q g sp r k)))
 
       keep_byte : (start : ℕ) (r : Register8) (t : Memory) → Fits (i.MoveByte (FromRegister (places.Memory t) r)) start
       unfolding effect moves.moved
       keep_byte start r t = let n = i.MoveByte (FromRegister (places.Memory t) r) in
-          writes_meet widths.Byte t (byte_in g r) (place_of find g t widths.Byte) refl n (effect m n start before) refl (ap (store_in widths.Byte t.segment (offset_of (all_registers q g sp) t.address)) (byte_in_is q g sp r))
+          writes_meet widths.Byte t (byte_in g r) (place_of find g t widths.Byte) refl n (effect m n start before) refl (ap (store_in widths.Byte t.segment (offset_of (all_registers q g sp) t.address)) (laws.below.registers.bytes q g sp r))
 
       keep_word_number : (start v : ℕ) (t : Memory) → Fits (i.MoveWord (Immediate (places.Memory t) v)) start
       unfolding effect moves.moved
@@ -750,10 +748,10 @@ module _ {W P : Type 0} (m : BusModel W) (c : Chips P) (chips : W → P) (Whole 
       unfolding read_in
       input_is widths.Byte p = let port = port_in g p in
           let small : c.value s.chips widths.Byte port % 256 ≡ c.value s.chips widths.Byte port = omega (arith, c.value_fits s.chips widths.Byte port) in
-          ap (λ y. input_to widths.Byte y (m.port_value w widths.Byte y % 256)) (port_is q g sp p) ∙ ap (λ v. input_to widths.Byte port (v % 256)) (input_value widths.Byte port) ∙ ap (input_to widths.Byte port) small
+          ap (λ y. input_to widths.Byte y (m.port_value w widths.Byte y % 256)) (laws.below.registers.ports q g sp p) ∙ ap (λ v. input_to widths.Byte port (v % 256)) (input_value widths.Byte port) ∙ ap (input_to widths.Byte port) small
       input_is widths.Word p = let port = port_in g p in
           let small : c.value s.chips widths.Word port % 65536 ≡ c.value s.chips widths.Word port = omega (arith, c.value_fits s.chips widths.Word port) in
-          ap (λ y. input_to widths.Word y (m.port_value w widths.Word y % 65536)) (port_is q g sp p) ∙ ap (λ v. input_to widths.Word port (v % 65536)) (input_value widths.Word port) ∙ ap (input_to widths.Word port) small
+          ap (λ y. input_to widths.Word y (m.port_value w widths.Word y % 65536)) (laws.below.registers.ports q g sp p) ∙ ap (λ v. input_to widths.Word port (v % 65536)) (input_value widths.Word port) ∙ ap (input_to widths.Word port) small
 
       input_runs : (start : ℕ) (width : Width) (p : Port) → Fits (i.In width p) start
       unfolding effect
@@ -774,8 +772,8 @@ module _ {W P : Type 0} (m : BusModel W) (c : Chips P) (chips : W → P) (Whole 
 
       output_is : (width : Width) (p : Port) → written_out m width p before ≡ record { registers = all_registers q g sp; world = m.port_out w width (port_in g p) (output_takes width g); labels = output_label width (port_in g p) (output_takes width g) ∷ [] }
       unfolding written_out
-      output_is widths.Byte p = ap (λ port. record { registers = all_registers q g sp; world = m.port_out w widths.Byte port (output_takes widths.Byte g); labels = output_label widths.Byte port (output_takes widths.Byte g) ∷ [] }) (port_is q g sp p)
-      output_is widths.Word p = ap (λ port. record { registers = all_registers q g sp; world = m.port_out w widths.Word port (output_takes widths.Word g); labels = output_label widths.Word port (output_takes widths.Word g) ∷ [] }) (port_is q g sp p)
+      output_is widths.Byte p = ap (λ port. record { registers = all_registers q g sp; world = m.port_out w widths.Byte port (output_takes widths.Byte g); labels = output_label widths.Byte port (output_takes widths.Byte g) ∷ [] }) (laws.below.registers.ports q g sp p)
+      output_is widths.Word p = ap (λ port. record { registers = all_registers q g sp; world = m.port_out w widths.Word port (output_takes widths.Word g); labels = output_label widths.Word port (output_takes widths.Word g) ∷ [] }) (laws.below.registers.ports q g sp p)
 
       output_runs : (start : ℕ) (width : Width) (p : Port) → Fits (i.Out width p) start
       unfolding effect

@@ -16,8 +16,8 @@ use Rattle.word86.specs.Events.{event_label}
 use Rattle.i86_table.specs.declared.registers.Regs.{Regs}
 use Rattle.i86_table.specs.declared.instruction.Instr.{Instr}
 use Rattle.i86_table.specs.declared.instruction.Instr.TheVariants as i
-use Rattle.i86_table.specs.Arithmetic.{has, flags_of}
-use Rattle.i86_table.specs.Contexts.{Working, Given, all_registers, set_flags, Context, Own, room, top_of, stack_pointer, refused, offered, offered_at, offer, start, gives_back, without_trap_and_interrupts}
+use Rattle.i86_table.specs.Arithmetic.{has, flags_of, without_trap_and_interrupts}
+use Rattle.i86_table.specs.Contexts.{Working, Given, all_registers, set_flags, Context, Own, room, top_of, stack_pointer, refused, offered, offered_at, offer, start, gives_back}
 use Rattle.i86_code.specs.Decoding.{decoded}
 use Rattle.cpu8086.specs.declared.bus.Store.TheVariants as stores
 use Rattle.cpu8086.specs.declared.cpu.Cpu.{Cpu}
@@ -354,7 +354,7 @@ module _ {W P : Type 0} (m : BusModel W) (c : Chips P) (chips : W → P) (Whole 
         record {
           pair = Twofold (entry (c.vector s.chips)) g1 [] p g st s0;
           is = refl;
-          fits = (record { sp = t; is = refl; stack = record { words = subst (λ l. Stacked m w3 t l) (append-nil (frame p g st)) k3.words; within = omega arith; at = omega (arith, k3.at) }; fine = f3; flags = off_after_both true g.flags flags; low = small_entry }, (low.within, hp), flags);
+          fits = (record { sp = t; is = refl; stack = record { words = subst (λ l. Stacked m w3 t l) (append-nil (frame p g st)) k3.words; within = omega arith; at = omega (arith, k3.at) }; fine = f3; flags = off_after_both laws.below true g.flags flags; low = small_entry }, (low.within, hp), flags);
         },
       ) in
       subst (λ y. Lifted (Some (Serving (Own p g st false None) (Own (entry (c.vector s.chips)) g1 [] false (Some (saved g st))) s0, labels.Ack (c.vector s.chips) ∷ [])) (made y)) (sym all) done

@@ -1,8 +1,6 @@
 -- The loop of start-up that sets all vectors.
-use Rattle.std.proofs.Common.{◌≡◌, ℕ, zero, suc, ◌+◌, ◌-◌, ◌*◌, ◌/◌, ◌%◌, ◌<◌, ◌≤◌, ◌==◌, ◌⊎◌, inl, inr, Bool, true, false, not, [], Option, Some, refl, sym, ap, ◌∙◌, subst, arith, ap₂, ⊎_elim, eq-eqb, nat_eq}
+use Rattle.std.proofs.Common.{◌≡◌, ℕ, zero, suc, ◌+◌, ◌-◌, ◌*◌, ◌/◌, ◌%◌, ◌<◌, ◌≤◌, ◌==◌, ◌⊎◌, inl, inr, Bool, true, false, not, [], Option, Some, refl, sym, ap, ◌∙◌, subst, arith, ap₂, ⊎_elim, eq-eqb}
 use Rattle.std.proofs.lemmas.Bool.{ne_eqb, cases_eq}
-use Rattle.std.proofs.lemmas.Nat.{and_or_self, and_or_apart, and_assoc, and_le_r}
-use Rattle.std.specs.Int.RustNames.{bit_and, bit_or}
 use Rattle.word86.specs.declared.event.Event.{Event}
 use Rattle.word86.specs.declared.width.Width.TheVariants as widths
 use Rattle.word86.specs.Chips.{Chips}
@@ -16,7 +14,7 @@ use Rattle.i86_table.specs.declared.instruction.AluOperation.TheVariants.{Add, C
 use Rattle.i86_table.specs.declared.instruction.Condition.TheVariants as conditions
 use Rattle.i86_table.specs.declared.instruction.Instr.{Instr}
 use Rattle.i86_table.specs.declared.instruction.Instr.TheVariants as i
-use Rattle.i86_table.specs.Arithmetic.{with_flag, flag_bit, has, with_result, added, subtracted, operated, sign_extended}
+use Rattle.i86_table.specs.Arithmetic.{has, with_result, added, subtracted, operated, sign_extended}
 use Rattle.i86_table.specs.Contexts.{bytes, further}
 use Rattle.cpu8086.specs.declared.bus.Store.TheVariants as stores
 use Rattle.cpu8086.specs.declared.cpu.Phase.TheVariants.{Running}
@@ -29,7 +27,7 @@ use Rattle.cpu8086.specs.Effect.{effect}
 use Rattle.cpu8086.specs.Turn.{phase_after}
 use Rattle.layout_link.specs.Startup.{low_half, high_half, HasLoop}
 use Rattle.plm86.specs.Startup.{word_put, with_vectors}
-use Rattle.plm86.specs.Inner.BoardLaws.{OfBoard, Events}
+use Rattle.plm86.specs.Inner.BoardLaws.{LawsBelow, OfBoard, Events}
 use Rattle.board.specs.Machine.{Board}
 use Rattle.plm86.specs.Relation.{FlagsAre}
 use Rattle.plm86.proofs.Machine.Memory
@@ -39,22 +37,9 @@ use Rattle.plm86.proofs.Machine.FlagLaws.{operated_keeps}
 use Rattle.plm86.proofs.Machine.Startup.{Known, Boot, Leads, steps_by, then_leads}
 
 -- the flag that a comparison leaves for JNE
-pub has_same : (k : ℕ) (b : Bool) (f : Flags) → 0 < k → bit_and (65535 - k) k ≡ 0 → has (with_flag (flag_bit k) b f) k ≡ b
-unfolding with_flag
-has_same k true f h e = eq-eqb (bit_and (bit_or f.0 k) k) k (and_or_self k f.0)
-has_same k false f h e =
-    let nothing : bit_and f.0 0 ≡ 0 = omega (arith, and_le_r f.0 0) in
-    let cleared : bit_and (bit_and f.0 (65535 - k)) k ≡ 0 = and_assoc k f.0 (65535 - k) ∙ ap (bit_and f.0) e ∙ nothing in
-    ne_eqb (bit_and (bit_and f.0 (65535 - k)) k) k (λ q. absurd (omega (arith, cleared, q, h)))
-
-has_other : (k n : ℕ) (b : Bool) (f : Flags) → bit_and k n ≡ 0 → bit_and (65535 - k) n ≡ n → has (with_flag (flag_bit k) b f) n ≡ has f n
-unfolding with_flag
-has_other k n true f apart kept = ap (λ (x : ℕ). nat_eq x n) (and_or_apart n f.0 k apart)
-has_other k n false f apart kept = ap (λ (x : ℕ). nat_eq x n) (and_assoc n f.0 (65535 - k) ∙ ap (bit_and f.0) kept)
-
-compared : (a b : ℕ) (f : Flags) → has (operated Cmp widths.Word a b f).flags 64 ≡ ((a + 65536 - (b + 0)) % 65536 == 0)
+compared : (below : LawsBelow) (a b : ℕ) (f : Flags) → has (operated Cmp widths.Word a b f).flags 64 ≡ ((a + 65536 - (b + 0)) % 65536 == 0)
 unfolding operated subtracted with_result
-compared a b f = has_other 4 64 _ _ refl refl ∙ has_other 128 64 _ _ refl refl ∙ has_same 64 _ _ (omega arith) refl
+compared below a b f = below.other_flags 4 64 _ _ refl refl ∙ below.other_flags 128 64 _ _ refl refl ∙ below.set_flag 64 _ _ (omega arith) refl
 
 sum_is : (a b : ℕ) (fl : Flags) → a + b < 65536 → (operated Add widths.Word a b fl).value ≡ a + b
 unfolding operated added
@@ -147,7 +132,7 @@ module _ {W P : Type 0} (m : BusModel W) (c : Chips P) (chips : W → P) (Whole 
         let f2 = word_put (bx + 2) 0xF000 f1 in
         let fl1 = (operated Add widths.Word bx 4 fl).flags in
         let fl2 = (operated Cmp widths.Word (bx + 4) 1024 fl1).flags in
-        let ok1 = operated_keeps Add widths.Word bx 4 false fl ok in
+        let ok1 = operated_keeps laws.below Add widths.Word bx 4 false fl ok in
         let s1 = step (regs ax bx l fl) f low_half 2 (regs ax bx (l + 2) fl) f1 refl ok.on_is refl loop.first (λ p w. first_is ax bx l fl f p w (omega (arith, h)) (omega (arith, loop.fits))) in
         let s2 = step (regs ax bx (l + 2) fl) f1 high_half 3 (regs ax bx (l + 2 + 3) fl) f2 refl ok.on_is refl loop.second (λ p w. second_is ax bx (l + 2) fl f1 p w (omega (arith, h)) (omega (arith, loop.fits))) in
         let s3 = step (regs ax bx (l + 2 + 3) fl) f2 (i.AluWord Add (Immediate (places.Register Bx) 4)) 3 (regs ax (bx + 4) (l + 2 + 3 + 3) fl1) f2 refl ok.on_is refl (ap code (omega arith) ∙ loop.third) (λ p w. third_is ax bx (l + 2 + 3) fl f2 p w (omega (arith, h)) (omega (arith, loop.fits))) in
@@ -159,10 +144,10 @@ module _ {W P : Type 0} (m : BusModel W) (c : Chips P) (chips : W → P) (Whole 
         subst (λ z. To 4 (Boots (regs ax bx l fl) f) (Boots (regs ax (bx + 4) z fl2) f2)) here all
 
     again_at : (fl : Flags) (bx : ℕ) → bx < 1024 → has (operated Cmp widths.Word bx 1024 fl).flags 64 ≡ false
-    again_at fl bx h = compared bx 1024 fl ∙ ne_eqb ((bx + 65536 - (1024 + 0)) % 65536) 0 (λ e. absurd (omega (arith, e, h)))
+    again_at fl bx h = compared laws.below bx 1024 fl ∙ ne_eqb ((bx + 65536 - (1024 + 0)) % 65536) 0 (λ e. absurd (omega (arith, e, h)))
 
     done_at : (fl : Flags) (bx : ℕ) → bx ≡ 1024 → has (operated Cmp widths.Word bx 1024 fl).flags 64 ≡ true
-    done_at fl bx h = compared bx 1024 fl ∙ eq-eqb ((bx + 65536 - (1024 + 0)) % 65536) 0 (omega (arith, h))
+    done_at fl bx h = compared laws.below bx 1024 fl ∙ eq-eqb ((bx + 65536 - (1024 + 0)) % 65536) 0 (omega (arith, h))
 
     -- a round that goes on
     round : (k : ℕ) (f : ℕ → ℕ) → k < 255 → To 5 (Somewhere ax (4 * k) l f) (Somewhere ax (4 * suc k) l (word_put (4 * k + 2) 0xF000 (word_put (4 * k) ax f)))
@@ -172,7 +157,7 @@ module _ {W P : Type 0} (m : BusModel W) (c : Chips P) (chips : W → P) (Whole 
         let f2 = word_put (4 * k + 2) 0xF000 (word_put (4 * k) ax f) in
         let fl1 = (operated Add widths.Word (4 * k) 4 fl).flags in
         let fl2 = (operated Cmp widths.Word bx 1024 fl1).flags in
-        let ok2 : FlagsAre false fl2 = operated_keeps Cmp widths.Word bx 1024 false fl1 (operated_keeps Add widths.Word (4 * k) 4 false fl at.1) in
+        let ok2 : FlagsAre false fl2 = operated_keeps laws.below Cmp widths.Word bx 1024 false fl1 (operated_keeps laws.below Add widths.Word (4 * k) 4 false fl at.1) in
         let s5 = step (regs ax bx (l + 12) fl2) f2 (i.JumpIf conditions.NotEqual back) 2 (regs ax bx (further (l + 12 + 2) (sign_extended back)) fl2) f2 refl ok2.on_is refl loop.fifth (λ p w. fifth_on ax bx (l + 12) back fl2 f2 p w (omega (arith, loop.fits)) (again_at fl1 bx (omega (arith, h)))) in
         let all = then_leads m c chips Whole laws comes events code Begins 4 1 (Boots (regs ax (4 * k) l fl) f) (Boots (regs ax bx (l + 12) fl2) f2) (Boots (regs ax bx (further (l + 12 + 2) (sign_extended back)) fl2) f2) (four k f fl (omega (arith, h)) at.1) s5 in
         let to : further (l + 12 + 2) (sign_extended back) ≡ l = ap (λ z. further z (sign_extended back)) (omega arith) ∙ loop.again in
@@ -187,7 +172,7 @@ module _ {W P : Type 0} (m : BusModel W) (c : Chips P) (chips : W → P) (Whole 
         let f2 = word_put (4 * 255 + 2) 0xF000 (word_put (4 * 255) ax f) in
         let fl1 = (operated Add widths.Word (4 * 255) 4 fl).flags in
         let fl2 = (operated Cmp widths.Word bx 1024 fl1).flags in
-        let ok2 : FlagsAre false fl2 = operated_keeps Cmp widths.Word bx 1024 false fl1 (operated_keeps Add widths.Word (4 * 255) 4 false fl at.1) in
+        let ok2 : FlagsAre false fl2 = operated_keeps laws.below Cmp widths.Word bx 1024 false fl1 (operated_keeps laws.below Add widths.Word (4 * 255) 4 false fl at.1) in
         let s5 = step (regs ax bx (l + 12) fl2) f2 (i.JumpIf conditions.NotEqual back) 2 (regs ax bx (l + 12 + 2) fl2) f2 refl ok2.on_is refl loop.fifth (λ p w. fifth_off ax bx (l + 12) back fl2 f2 p w (omega (arith, loop.fits)) (done_at fl1 bx (omega arith))) in
         let all = then_leads m c chips Whole laws comes events code Begins 4 1 (Boots (regs ax (4 * 255) l fl) f) (Boots (regs ax bx (l + 12) fl2) f2) (Boots (regs ax bx (l + 12 + 2) fl2) f2) (four 255 f fl (omega arith) at.1) s5 in
         let to : l + 12 + 2 ≡ l + 14 = omega arith in

@@ -5,11 +5,24 @@ use Rattle.word86.specs.declared.event.Event.{Event}
 use Rattle.word86.specs.Chips.{Chips}
 use Rattle.cpu8086.specs.declared.bus.Store.{Store}
 use Rattle.cpu8086.specs.BusModel.{BusModel, LoadAfterStore, PortsKeepMemory}
+use Rattle.i86_table.specs.ContextLaws.{ContextRegisters}
+use Rattle.i86_table.specs.FlagLaws.{SetFlagHolds, OtherFlagsStay, SetFlagIsAlone, ArithmeticLeavesControl}
 use Rattle.board.specs.World.{shown_store}
+use Rattle.board.specs.MemoryLaws.{MemoryLaws}
+
+-- the laws of the crates below: of a context's registers, of flags, and of the board's memory
+pub record LawsBelow : Type 0 where
+  pub registers : ContextRegisters
+  pub set_flag : SetFlagHolds
+  pub other_flags : OtherFlagsStay
+  pub flags_alone : SetFlagIsAlone
+  pub arithmetic : ArithmeticLeavesControl
+  pub memory : MemoryLaws
 
 -- RAM below 128 KiB and the screen keep what is stored, what is above 0C0000H does not; stores show what comes to the screen;
 -- and the chips are these.
 pub record OfBoard {W : Type 0} {P : Type 0} (m : BusModel W) (c : Chips P) (chips : W → P) (Whole : W → Type 0) : Type 0 where
+  pub below : LawsBelow
   pub loads : LoadAfterStore m
   pub ports : PortsKeepMemory m
   pub ram : (w : W) → Whole w → (a : ℕ) → a < 0x20000 → m.keeps w a ≡ true

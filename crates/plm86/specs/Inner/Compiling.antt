@@ -32,12 +32,14 @@ use Rattle.layout_link.specs.Tasks.{is_main, is_unserved}
 use Rattle.plm_type.specs.Nodes.{initial_size}
 use Rattle.plm86.specs.Build.{MeansNames, StartsUp, IsTooLarge}
 use Rattle.plm86.specs.Depth.{IsShallow}
+use Rattle.plm86.specs.Inner.BoardLaws.{LawsBelow}
 
 pub record Promises : Type 0 where
   pub one_form : IsOneForm
   pub short : IsShort
   pub widths : DecodedHasWidths
   pub words : KeepsWords
+  pub below : LawsBelow
   pub tracks : LoweringLaw
   pub well_formed : CheckedLaw
   pub sound : SoundLaw

@@ -6,6 +6,7 @@ returns c = record {
   short = c.one_form.ensures.short;
   widths = c.decoded_widths.ensures;
   words = c.instructions_keep_words.ensures;
+  below = c.laws_below.ensures;
   tracks = c.lowering_tracks.ensures;
   well_formed = c.checked_trees_are_well_formed.ensures;
   sound = c.checked_code_is_sound.ensures;

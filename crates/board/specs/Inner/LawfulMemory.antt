@@ -1,4 +1,4 @@
--- The board's memory is lawful.
+-- The board's memory is lawful. The ghost items of its bus cite this, so that it stands in specs.
 use Rattle.std.specs.Prelude.{ℕ, Bool, true, false, ◌≡◌, ◌==◌, ◌+◌, ◌-◌, ◌%◌, ◌/◌, ◌<◌, ◌≤◌, ◌&&◌, ◌||◌, nat_lt, nat_le, if◌then◌else◌, List, slice_index, slice_set, length, refl}
 use Rattle.std.proofs.Common.{cond, ◌∙◌, ◌⊎◌, sym, ap, arith, inl, inr, subst}
 use Rattle.std.proofs.lemmas.Bool.Decides.{eqb_tells}
@@ -8,7 +8,7 @@ use Rattle.cpu8086.specs.declared.bus.Store.{Store}
 use Rattle.cpu8086.specs.declared.bus.Store.TheVariants as stores
 use Rattle.cpu8086.specs.BusModel.{LoadAfterStore, PortsKeepMemory, stored}
 use Rattle.word86.specs.Chips.{Chips}
-use Rattle.board.specs.World.{lies_in, region, put, after_store, board_model, screen_at}
+use Rattle.board.specs.World.{lies_in, region, put, after_store, memory_byte, board_model, screen_at}
 
 chosen : {A : Type 0} (b : Bool) (x y : A) → ((b ≡ true) × (cond b x y ≡ x)) ⊎ ((b ≡ false) × (cond b x y ≡ y))
 chosen true x y = inl (refl, refl)
@@ -71,12 +71,16 @@ nested true u f x y z = refl
 nested false true f x y z = refl
 nested false false f x y z = refl
 
+pub byte_after_store : (ram screen rom : List ℕ) (s : Store) (a : ℕ)
+    → memory_byte (after_store 0 ram s) (after_store screen_at screen s) rom a ≡ (if lies_in 0 ram a || lies_in screen_at screen a then stored s a (memory_byte ram screen rom a) else memory_byte ram screen rom a)
+byte_after_store ram screen rom s a =
+    let beyond = region (0x100000 - length rom) rom a 255 in
+    region_put 0 ram s a (region screen_at (after_store screen_at screen s) a beyond)
+    ∙ ap (λ x. if lies_in 0 ram a then stored s a (slice_index ram (a - 0)) else x) (region_put screen_at screen s a beyond)
+    ∙ nested (lies_in 0 ram a) (lies_in screen_at screen a) (λ x. stored s a x) (slice_index ram (a - 0)) (slice_index screen (a - screen_at)) beyond
+
 pub load_after_store_law : {P : Type 0} (c : Chips P) → LoadAfterStore (board_model c)
-load_after_store_law c w s a h =
-    let rom = region (0x100000 - length w.rom) w.rom a 255 in
-    region_put 0 w.ram s a (region screen_at (after_store screen_at w.screen s) a rom)
-    ∙ ap (λ x. if lies_in 0 w.ram a then stored s a (slice_index w.ram (a - 0)) else x) (region_put screen_at w.screen s a rom)
-    ∙ nested (lies_in 0 w.ram a) (lies_in screen_at w.screen a) (λ x. stored s a x) (slice_index w.ram (a - 0)) (slice_index w.screen (a - screen_at)) rom
+load_after_store_law c w s a h = byte_after_store w.ram w.screen w.rom s a
 
 pub ports_law : {P : Type 0} (c : Chips P) → PortsKeepMemory (board_model c)
 ports_law c = record { reading = λ w width port a. refl; writing = λ w width port value a. refl; acknowledging = λ w a. refl }

@@ -1,6 +1,6 @@
 use Rattle.board.specs.Inner.Attached.{world_of}
 use Rattle.board.proofs.BoardTurn.{turn_state, turn_labels, turn_kinds}
-use Rattle.board.proofs.board.Board.turn_onto.Goals as goal
+use Rattle.board.proofs.board.Board.turn_leaving_labels.Goals as goal
 
 pub returns-clause-state : goal.returns-clause-state
 returns-clause-state c = λ b h. turn_state c.args.self.now _ c.turn_leaving_labels.new.labels.items c.turn_leaving_labels.result c.args.events.now b (record { law = c.alike_law.ensures; between = world_of c.all_come.new.attached; came = c.all_come.ensures; went = c.turn_leaving_labels.ensures }) h
