@@ -52,42 +52,42 @@ quiet_in_more n m literals from to le None h = h
 quiet_in_more n m literals from to le (Some l) h = all_along (is_quiet n literals) (is_quiet m literals) (quiet_with_more n m literals le) (slice_range l.text from to) h
 
 -- a run among those that are known, where as many replacements may be made, or more
-pub run_is_quiet : (literals : List LiteralText) (runs : List QuietRun) (n : ℕ) (r : QuietRun) (i from levels : ℕ) → All (λ r. is_quiet_run literals r ≡ true) runs → n < length runs → r ≡ get_or runs n r → r.literal ≡ i → r.from ≡ from → r.levels ≤ levels
-    → is_quiet_between levels literals i from r.to ≡ true
-run_is_quiet literals runs n r i from levels h lt e same start le =
+pub run_is_quiet : (literals : List LiteralText) (runs : List QuietRun) (n : ℕ) (r : QuietRun) (i from depth : ℕ) → All (λ r. is_quiet_run literals r ≡ true) runs → n < length runs → r ≡ get_or runs n r → r.literal ≡ i → r.from ≡ from → r.depth ≤ depth
+    → is_quiet_between depth literals i from r.to ≡ true
+run_is_quiet literals runs n r i from depth h lt e same start le =
     let known : is_quiet_run literals r ≡ true = ap (is_quiet_run literals) e ∙ All-get_or (λ r. is_quiet_run literals r ≡ true) runs n r lt h in
-    quiet_in_more r.levels levels literals from r.to le (slice_get literals i)
-    (ap (λ (j : ℕ). is_quiet_between r.levels literals j from r.to) (sym same) ∙ ap (λ (a : ℕ). is_quiet_between r.levels literals r.literal a r.to) (sym start) ∙ known)
+    quiet_in_more r.depth depth literals from r.to le (slice_get literals i)
+    (ap (λ (j : ℕ). is_quiet_between r.depth literals j from r.to) (sym same) ∙ ap (λ (a : ℕ). is_quiet_between r.depth literals r.literal a r.to) (sym start) ∙ known)
 
 -- tokens of a literal's text that put nothing out are passed over
-pub passed_over : (levels line : ℕ) (text : List Symbol) (i at to : ℕ) (o : Out) → at ≤ to → ((l : LiteralText) → slice_get o.blocks.literals i ≡ Some l → l.text ≡ text) → is_quiet_between levels o.blocks.literals i at to ≡ true
-    → text_out levels line (drop at text) o ≡ text_out levels line (drop to text) o
-passed_over levels line text i at to o le same h = by_found (slice_get o.blocks.literals i) refl h
+pub passed_over : (depth line : ℕ) (text : List Symbol) (i at to : ℕ) (o : Out) → at ≤ to → ((l : LiteralText) → slice_get o.blocks.literals i ≡ Some l → l.text ≡ text) → is_quiet_between depth o.blocks.literals i at to ≡ true
+    → text_out depth line (drop at text) o ≡ text_out depth line (drop to text) o
+passed_over depth line text i at to o le same h = by_found (slice_get o.blocks.literals i) refl h
   where
-    by_found : (found : Option LiteralText) → slice_get o.blocks.literals i ≡ found → is_quiet_in levels o.blocks.literals at to found ≡ true → text_out levels line (drop at text) o ≡ text_out levels line (drop to text) o
+    by_found : (found : Option LiteralText) → slice_get o.blocks.literals i ≡ found → is_quiet_in depth o.blocks.literals at to found ≡ true → text_out depth line (drop at text) o ≡ text_out depth line (drop to text) o
     by_found None e k = absurd (cc k)
     by_found (Some l) e k =
-        let quiet : is_quiet_text levels o.blocks.literals (slice_range text at to) ≡ true = ap (λ (ss : List Symbol). is_quiet_text levels o.blocks.literals (slice_range ss at to)) (sym (same l e)) ∙ k in
-        ap (λ (ss : List Symbol). text_out levels line ss o) (drop_split text at to le)
-        ∙ fold-append (λ p x. symbol_out levels line x p) o (slice_range text at to) (drop to text)
-        ∙ ap (λ (q : Out). text_out levels line (drop to text) q) (quiet_text_out levels line (slice_range text at to) o quiet)
+        let quiet : is_quiet_text depth o.blocks.literals (slice_range text at to) ≡ true = ap (λ (ss : List Symbol). is_quiet_text depth o.blocks.literals (slice_range ss at to)) (sym (same l e)) ∙ k in
+        ap (λ (ss : List Symbol). text_out depth line ss o) (drop_split text at to le)
+        ∙ fold-append (λ p x. symbol_out depth line x p) o (slice_range text at to) (drop to text)
+        ∙ ap (λ (q : Out). text_out depth line (drop to text) q) (quiet_text_out depth line (slice_range text at to) o quiet)
 
 -- ---- what is seen
 
-pub none_quiet : (levels : ℕ) (literals : List LiteralText) (text : List Symbol) (at : ℕ) → is_quiet_text levels literals (slice_range text at at) ≡ true
-none_quiet levels literals text at = let none : at - at ≡ 0 = omega arith in rw none refl
+pub none_quiet : (depth : ℕ) (literals : List LiteralText) (text : List Symbol) (at : ℕ) → is_quiet_text depth literals (slice_range text at at) ≡ true
+none_quiet depth literals text at = let none : at - at ≡ 0 = omega arith in rw none refl
 
 -- one more token that puts nothing out
-pub one_more_quiet : (levels : ℕ) (literals : List LiteralText) (text : List Symbol) (from at : ℕ) (s : Symbol) → from ≤ at → at < length text → s ≡ get_or text at s → is_quiet_text levels literals (slice_range text from at) ≡ true → is_quiet levels literals s ≡ true
-    → is_quiet_text levels literals (slice_range text from (at + 1)) ≡ true
-one_more_quiet levels literals text from at s le lt e h k =
+pub one_more_quiet : (depth : ℕ) (literals : List LiteralText) (text : List Symbol) (from at : ℕ) (s : Symbol) → from ≤ at → at < length text → s ≡ get_or text at s → is_quiet_text depth literals (slice_range text from at) ≡ true → is_quiet depth literals s ≡ true
+    → is_quiet_text depth literals (slice_range text from (at + 1)) ≡ true
+one_more_quiet depth literals text from at s le lt e h k =
     let longer : at + 1 - from ≡ at - from + 1 = omega (arith, le) in
     let within : at - from < length (drop from text) = omega (arith, le, lt, length-drop from text) in
     let placed : from + (at - from) ≡ at = omega (arith, le) in
     let last : get_or (drop from text) (at - from) s ≡ s = get_or-drop from text (at - from) s ∙ ap (λ (n : ℕ). get_or text n s) placed ∙ sym e in
-    ap (λ (n : ℕ). is_quiet_text levels literals (take n (drop from text))) longer
-    ∙ list_all_more (is_quiet levels literals) (drop from text) (at - from) s within
-    ∙ and_both (list_all (is_quiet levels literals) (slice_range text from at)) (is_quiet levels literals (get_or (drop from text) (at - from) s)) h (ap (is_quiet levels literals) last ∙ k)
+    ap (λ (n : ℕ). is_quiet_text depth literals (take n (drop from text))) longer
+    ∙ list_all_more (is_quiet depth literals) (drop from text) (at - from) s within
+    ∙ and_both (list_all (is_quiet depth literals) (slice_range text from at)) (is_quiet depth literals (get_or (drop from text) (at - from) s)) h (ap (is_quiet depth literals) last ∙ k)
 
 -- ---- literals go, and none comes
 
@@ -125,10 +125,10 @@ fewer_text : (F : Symbol → Out → Out) → ((s : Symbol) (o : Out) → Fewer 
 fewer_text F f [] o = fewer_same o o refl
 fewer_text F f (s ∷ ss) o = fewer_along o (F s o) (fold (λ p x. F x p) (F s o) ss) (f s o) (fewer_text F f ss (F s o))
 
-fewer_symbol : (levels line : ℕ) (s : Symbol) (o : Out) → Fewer o (symbol_out levels line s o)
+fewer_symbol : (depth line : ℕ) (s : Symbol) (o : Out) → Fewer o (symbol_out depth line s o)
 unfolding symbol_out
 fewer_symbol zero line s o = fewer_or o.stop o _ (fewer_by _ (literal_for o.blocks.literals s.kind s.text) (put (on_line line s) o) o (λ l. fewer_same o (stop_at E202 line o) refl) (fewer_put (on_line line s) o))
-fewer_symbol (suc levels) line s o = fewer_or o.stop o _ (fewer_by _ (literal_for o.blocks.literals s.kind s.text) (put (on_line line s) o) o (λ l. fewer_text (symbol_out levels line) (fewer_symbol levels line) l.text o) (fewer_put (on_line line s) o))
+fewer_symbol (suc depth) line s o = fewer_or o.stop o _ (fewer_by _ (literal_for o.blocks.literals s.kind s.text) (put (on_line line s) o) o (λ l. fewer_text (symbol_out depth line) (fewer_symbol depth line) l.text o) (fewer_put (on_line line s) o))
 
 among_more : (literals more : List LiteralText) (i : ℕ) (l : LiteralText) → slice_get literals i ≡ Some l → slice_get (literals ++ more) i ≡ Some l
 among_more [] more i l e = absurd (cc e)
@@ -136,11 +136,11 @@ among_more (x ∷ xs) more zero l e = e
 among_more (x ∷ xs) more (suc i) l e = among_more xs more i l e
 
 -- a literal that is there once a token was put out was there before
-pub kept : (levels line : ℕ) (s : Symbol) (before after : Out) (i : ℕ) (l : LiteralText) → after ≡ symbol_out levels line s before → slice_get after.blocks.literals i ≡ Some l → slice_get before.blocks.literals i ≡ Some l
-kept levels line s before after i l e h =
-    let fewer : Fewer before (symbol_out levels line s before) = fewer_symbol levels line s before in
+pub kept : (depth line : ℕ) (s : Symbol) (before after : Out) (i : ℕ) (l : LiteralText) → after ≡ symbol_out depth line s before → slice_get after.blocks.literals i ≡ Some l → slice_get before.blocks.literals i ≡ Some l
+kept depth line s before after i l e h =
+    let fewer : Fewer before (symbol_out depth line s before) = fewer_symbol depth line s before in
     ap (λ (ls : List LiteralText). slice_get ls i) fewer.1
-    ∙ among_more (symbol_out levels line s before).blocks.literals fewer.0 i l (ap (λ (q : Out). slice_get q.blocks.literals i) (sym e) ∙ h)
+    ∙ among_more (symbol_out depth line s before).blocks.literals fewer.0 i l (ap (λ (q : Out). slice_get q.blocks.literals i) (sym e) ∙ h)
 
 -- ---- a text put out token by token
 
@@ -152,69 +152,69 @@ the_literal literals i l lt e t h =
 
 -- What is still to be put out, the text as long as the literal is there, and the tokens before that put nothing out
 abbrev pub Putting : ℕ → ℕ → List Token → ℕ → ℕ → ℕ → Out → Out → Type 0
-Putting levels line text i from at first o =
-    (text_out levels line (map symbol text) first ≡ text_out levels line (map symbol (drop at text)) o)
+Putting depth line text i from at first o =
+    (text_out depth line (map symbol text) first ≡ text_out depth line (map symbol (drop at text)) o)
     × (((t : LiteralText) → slice_get o.blocks.literals i ≡ Some t → t.text ≡ map symbol text)
     × ((from ≤ at)
-    × (is_quiet_text levels o.blocks.literals (slice_range (map symbol text) from at) ≡ true)))
+    × (is_quiet_text depth o.blocks.literals (slice_range (map symbol text) from at) ≡ true)))
 
-pub put_passed : (levels line : ℕ) (text : List Token) (i from at to : ℕ) (first o : Out) → Putting levels line text i from at first o → is_quiet_between levels o.blocks.literals i at to ≡ true → at < to → Putting levels line text i to to first o
-put_passed levels line text i from at to first o p q lt =
-    let out : List Symbol → Out = λ ss. text_out levels line ss o in
+pub put_passed : (depth line : ℕ) (text : List Token) (i from at to : ℕ) (first o : Out) → Putting depth line text i from at first o → is_quiet_between depth o.blocks.literals i at to ≡ true → at < to → Putting depth line text i to to first o
+put_passed depth line text i from at to first o p q lt =
+    let out : List Symbol → Out = λ ss. text_out depth line ss o in
     let le : at ≤ to = omega (arith, lt) in (
-      p.0 ∙ ap out (sym (drop-map symbol at text)) ∙ passed_over levels line (map symbol text) i at to o le p.1.0 q ∙ ap out (drop-map symbol to text),
-      (p.1.0, (omega arith, none_quiet levels o.blocks.literals (map symbol text) to)),
+      p.0 ∙ ap out (sym (drop-map symbol at text)) ∙ passed_over depth line (map symbol text) i at to o le p.1.0 q ∙ ap out (drop-map symbol to text),
+      (p.1.0, (omega arith, none_quiet depth o.blocks.literals (map symbol text) to)),
     )
 
-token_out : (levels line : ℕ) (text : List Token) (at : ℕ) (d : Token) (o next : Out) → at < length text → next ≡ symbol_out levels line (symbol (get_or text at d)) o
-    → text_out levels line (map symbol (drop at text)) o ≡ text_out levels line (map symbol (drop (at + 1) text)) next
-token_out levels line text at d o next lt h =
+token_out : (depth line : ℕ) (text : List Token) (at : ℕ) (d : Token) (o next : Out) → at < length text → next ≡ symbol_out depth line (symbol (get_or text at d)) o
+    → text_out depth line (map symbol (drop at text)) o ≡ text_out depth line (map symbol (drop (at + 1) text)) next
+token_out depth line text at d o next lt h =
     let after : suc at ≡ at + 1 = omega arith in
-    ap (λ (ts : List Token). text_out levels line (map symbol ts) o) (drop-cons text at d lt)
-    ∙ ap (λ (n : ℕ). text_out levels line (map symbol (drop n text)) (symbol_out levels line (symbol (get_or text at d)) o)) after
-    ∙ ap (λ (q : Out). text_out levels line (map symbol (drop (at + 1) text)) q) (sym h)
+    ap (λ (ts : List Token). text_out depth line (map symbol ts) o) (drop-cons text at d lt)
+    ∙ ap (λ (n : ℕ). text_out depth line (map symbol (drop n text)) (symbol_out depth line (symbol (get_or text at d)) o)) after
+    ∙ ap (λ (q : Out). text_out depth line (map symbol (drop (at + 1) text)) q) (sym h)
 
-pub put_loud : (levels line : ℕ) (text : List Token) (i from at : ℕ) (d : Token) (first o next : Out) → Putting levels line text i from at first o → at < length text → next ≡ symbol_out levels line (symbol (get_or text at d)) o
-    → Putting levels line text i (at + 1) (at + 1) first next
-put_loud levels line text i from at d first o next p lt h = (
-  p.0 ∙ token_out levels line text at d o next lt h,
-  ((λ l k. p.1.0 l (kept levels line (symbol (get_or text at d)) o next i l h k)), (omega arith, none_quiet levels next.blocks.literals (map symbol text) (at + 1))),
+pub put_loud : (depth line : ℕ) (text : List Token) (i from at : ℕ) (d : Token) (first o next : Out) → Putting depth line text i from at first o → at < length text → next ≡ symbol_out depth line (symbol (get_or text at d)) o
+    → Putting depth line text i (at + 1) (at + 1) first next
+put_loud depth line text i from at d first o next p lt h = (
+  p.0 ∙ token_out depth line text at d o next lt h,
+  ((λ l k. p.1.0 l (kept depth line (symbol (get_or text at d)) o next i l h k)), (omega arith, none_quiet depth next.blocks.literals (map symbol text) (at + 1))),
 )
 
-pub put_quiet : (levels line : ℕ) (text : List Token) (i from at : ℕ) (d : Token) (first o next : Out) → Putting levels line text i from at first o → at < length text → next ≡ symbol_out levels line (symbol (get_or text at d)) o
-    → is_quiet levels o.blocks.literals (symbol (get_or text at d)) ≡ true → Putting levels line text i from (at + 1) first next
-put_quiet levels line text i from at d first o next p lt h quiet =
+pub put_quiet : (depth line : ℕ) (text : List Token) (i from at : ℕ) (d : Token) (first o next : Out) → Putting depth line text i from at first o → at < length text → next ≡ symbol_out depth line (symbol (get_or text at d)) o
+    → is_quiet depth o.blocks.literals (symbol (get_or text at d)) ≡ true → Putting depth line text i from (at + 1) first next
+put_quiet depth line text i from at d first o next p lt h quiet =
     let s : Symbol = symbol (get_or text at d) in
-    let same : next ≡ o = h ∙ quiet_symbol_out levels line s o quiet in
+    let same : next ≡ o = h ∙ quiet_symbol_out depth line s o quiet in
     let within : at < length (map symbol text) = omega (arith, lt, length-map text symbol) in
     let placed : s ≡ get_or (map symbol text) at s = sym (get_or-map symbol text at d s lt) in (
-      p.0 ∙ token_out levels line text at d o next lt h,
+      p.0 ∙ token_out depth line text at d o next lt h,
       (
-        (λ l k. p.1.0 l (kept levels line s o next i l h k)),
+        (λ l k. p.1.0 l (kept depth line s o next i l h k)),
         (
           omega (arith, p.1.1.0),
-          ap (λ (q : Out). is_quiet_text levels q.blocks.literals (slice_range (map symbol text) from (at + 1))) same
-              ∙ one_more_quiet levels o.blocks.literals (map symbol text) from at s p.1.1.0 within placed p.1.1.1 quiet,
+          ap (λ (q : Out). is_quiet_text depth q.blocks.literals (slice_range (map symbol text) from (at + 1))) same
+              ∙ one_more_quiet depth o.blocks.literals (map symbol text) from at s p.1.1.0 within placed p.1.1.1 quiet,
         ),
       ),
     )
 
-pub put_over : (levels line : ℕ) (text : List Token) (i from at : ℕ) (first o : Out) → Putting levels line text i from at first o → length text ≤ at → o ≡ text_out levels line (map symbol text) first
-put_over levels line text i from at first o p le = sym (p.0 ∙ ap (λ (ts : List Token). text_out levels line (map symbol ts) o) (drop_all at text le))
+pub put_over : (depth line : ℕ) (text : List Token) (i from at : ℕ) (first o : Out) → Putting depth line text i from at first o → length text ≤ at → o ≡ text_out depth line (map symbol text) first
+put_over depth line text i from at first o p le = sym (p.0 ∙ ap (λ (ts : List Token). text_out depth line (map symbol ts) o) (drop_all at text le))
 
 -- ---- what stays so where literals are declared
 
-quiet_in_among : (levels : ℕ) (literals more : List LiteralText) (from to i : ℕ) → is_quiet_between levels literals i from to ≡ true → is_quiet_between levels (literals ++ more) i from to ≡ true
-quiet_in_among levels literals more from to i h = by_found (slice_get literals i) refl h
+quiet_in_among : (depth : ℕ) (literals more : List LiteralText) (from to i : ℕ) → is_quiet_between depth literals i from to ≡ true → is_quiet_between depth (literals ++ more) i from to ≡ true
+quiet_in_among depth literals more from to i h = by_found (slice_get literals i) refl h
   where
-    by_found : (found : Option LiteralText) → slice_get literals i ≡ found → is_quiet_in levels literals from to found ≡ true → is_quiet_between levels (literals ++ more) i from to ≡ true
+    by_found : (found : Option LiteralText) → slice_get literals i ≡ found → is_quiet_in depth literals from to found ≡ true → is_quiet_between depth (literals ++ more) i from to ≡ true
     by_found None e k = absurd (cc k)
     by_found (Some l) e k =
-        ap (is_quiet_in levels (literals ++ more) from to) (among_more literals more i l e)
-        ∙ all_along (is_quiet levels literals) (is_quiet levels (literals ++ more)) (quiet_among_more levels literals more) (slice_range l.text from to) k
+        ap (is_quiet_in depth (literals ++ more) from to) (among_more literals more i l e)
+        ∙ all_along (is_quiet depth literals) (is_quiet depth (literals ++ more)) (quiet_among_more depth literals more) (slice_range l.text from to) k
 
 known_among_more : (literals more : List LiteralText) (runs : List QuietRun) → All (λ r. is_quiet_run literals r ≡ true) runs → All (λ r. is_quiet_run (literals ++ more) r ≡ true) runs
-known_among_more literals more runs h = λ k d lt. let r = get_or runs k d in quiet_in_among r.levels literals more r.from r.to r.literal (h k d lt)
+known_among_more literals more runs h = λ k d lt. let r = get_or runs k d in quiet_in_among r.depth literals more r.from r.to r.literal (h k d lt)
 
 -- after a push of a literal, which may have failed
 pub known_declared : (b : Bool) (literals : List Literal) (l : Literal) (runs : List QuietRun) → All (λ r. is_quiet_run (map literal_text literals) r ≡ true) runs

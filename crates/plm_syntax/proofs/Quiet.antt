@@ -142,7 +142,7 @@ refused_ninth : (replaced : LiteralText → Out) (found : Option LiteralText) (p
 refused_ninth replaced None plain o f h l st = absurd (omega (arith, h, l))
 refused_ninth replaced (Some t) plain o f h l st = let stopped : is_some (replaced t).stop ≡ true = f t in absurd (cc (stopped, st))
 
-steady : (levels line : ℕ) → IsSteady (symbol_out levels line) (is_quiet levels)
+steady : (depth line : ℕ) → IsSteady (symbol_out depth line) (is_quiet depth)
 unfolding symbol_out is_quiet
 steady zero line = record {
   grows = λ s o. or_grows o.stop o _ (by_grows _ (literal_for o.blocks.literals s.kind s.text) (put (on_line line s) o) o (λ l. omega arith) (omega (arith, length_push o.tokens (on_line line s))));
@@ -150,23 +150,23 @@ steady zero line = record {
   same = λ s o h. absurd (cc h);
   seen = λ s o. or_seen o.stop o _ false refl (refused_ninth _ (literal_for o.blocks.literals s.kind s.text) (put (on_line line s) o) o (λ t. refl) (length_push o.tokens (on_line line s)));
 }
-steady (suc levels) line = record {
-  grows = λ s o. or_grows o.stop o _ (by_grows _ (literal_for o.blocks.literals s.kind s.text) (put (on_line line s) o) o (λ l. all_grow (symbol_out levels line) (is_quiet levels) (steady levels line) l.text o) (omega (arith, length_push o.tokens (on_line line s))));
-  halts = λ s o e. sym (symbol_stopped (suc levels) line s o e);
-  same = λ s o h. or_same o.stop o _ (by_same _ (literal_for o.blocks.literals s.kind s.text) (put (on_line line s) o) o (is_quiet levels o.blocks.literals) (λ l k. all_same (symbol_out levels line) (is_quiet levels) (steady levels line) l.text o k) h);
-  seen = λ s o. or_seen o.stop o _ (each_quiet (is_quiet levels o.blocks.literals) (literal_for o.blocks.literals s.kind s.text)) refl
-      (by_seen _ (literal_for o.blocks.literals s.kind s.text) (put (on_line line s) o) o (is_quiet levels o.blocks.literals) (λ t l st. all_seen (symbol_out levels line) (is_quiet levels) (steady levels line) t.text o l st) (length_push o.tokens (on_line line s)));
+steady (suc depth) line = record {
+  grows = λ s o. or_grows o.stop o _ (by_grows _ (literal_for o.blocks.literals s.kind s.text) (put (on_line line s) o) o (λ l. all_grow (symbol_out depth line) (is_quiet depth) (steady depth line) l.text o) (omega (arith, length_push o.tokens (on_line line s))));
+  halts = λ s o e. sym (symbol_stopped (suc depth) line s o e);
+  same = λ s o h. or_same o.stop o _ (by_same _ (literal_for o.blocks.literals s.kind s.text) (put (on_line line s) o) o (is_quiet depth o.blocks.literals) (λ l k. all_same (symbol_out depth line) (is_quiet depth) (steady depth line) l.text o k) h);
+  seen = λ s o. or_seen o.stop o _ (each_quiet (is_quiet depth o.blocks.literals) (literal_for o.blocks.literals s.kind s.text)) refl
+      (by_seen _ (literal_for o.blocks.literals s.kind s.text) (put (on_line line s) o) o (is_quiet depth o.blocks.literals) (λ t l st. all_seen (symbol_out depth line) (is_quiet depth) (steady depth line) t.text o l st) (length_push o.tokens (on_line line s)));
 }
 
 -- a text that is quiet changes nothing
-pub quiet_text_out : (levels line : ℕ) (text : List Symbol) (o : Out) → is_quiet_text levels o.blocks.literals text ≡ true → text_out levels line text o ≡ o
-quiet_text_out levels line text o h = all_same (symbol_out levels line) (is_quiet levels) (steady levels line) text o h
+pub quiet_text_out : (depth line : ℕ) (text : List Symbol) (o : Out) → is_quiet_text depth o.blocks.literals text ≡ true → text_out depth line text o ≡ o
+quiet_text_out depth line text o h = all_same (symbol_out depth line) (is_quiet depth) (steady depth line) text o h
 
 -- a token that is quiet changes nothing
-pub quiet_symbol_out : (levels line : ℕ) (s : Symbol) (o : Out) → is_quiet levels o.blocks.literals s ≡ true → symbol_out levels line s o ≡ o
-quiet_symbol_out levels line s o h = (steady levels line).same s o h
+pub quiet_symbol_out : (depth line : ℕ) (s : Symbol) (o : Out) → is_quiet depth o.blocks.literals s ≡ true → symbol_out depth line s o ≡ o
+quiet_symbol_out depth line s o h = (steady depth line).same s o h
 
 -- a token that added nothing, and did not stop, is quiet
-pub symbol_seen_quiet : (levels line : ℕ) (s : Symbol) (before after : Out) → after ≡ symbol_out levels line s before → length after.tokens ≡ length before.tokens → is_some after.stop ≡ false → is_quiet levels before.blocks.literals s ≡ true
-symbol_seen_quiet levels line s before after e l st =
-    (steady levels line).seen s before (ap (λ (q : Out). length q.tokens) (sym e) ∙ l) (ap (λ (q : Out). is_some q.stop) (sym e) ∙ st)
+pub symbol_seen_quiet : (depth line : ℕ) (s : Symbol) (before after : Out) → after ≡ symbol_out depth line s before → length after.tokens ≡ length before.tokens → is_some after.stop ≡ false → is_quiet depth before.blocks.literals s ≡ true
+symbol_seen_quiet depth line s before after e l st =
+    (steady depth line).seen s before (ap (λ (q : Out). length q.tokens) (sym e) ∙ l) (ap (λ (q : Out). is_some q.stop) (sym e) ∙ st)

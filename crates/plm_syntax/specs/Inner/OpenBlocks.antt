@@ -32,22 +32,22 @@ abbrev pub each_quiet : (Symbol → Bool) → Option LiteralText → Bool
 each_quiet quiet None = false
 each_quiet quiet (Some l) = list_all quiet l.text
 
--- A token of a literal's text puts nothing out where `levels` replacements may be made one inside the other: it names a literal, and each token of that
+-- A token of a literal's text puts nothing out where `depth` replacements may be made one inside the other: it names a literal, and each token of that
 -- literal's text puts nothing out where one less may be made.
 unfoldable pub is_quiet : ℕ → List LiteralText → Symbol → Bool
 is_quiet zero literals s = false
-is_quiet (suc levels) literals s = each_quiet (λ x. is_quiet levels literals x) (literal_for literals s.kind s.text)
+is_quiet (suc depth) literals s = each_quiet (λ x. is_quiet depth literals x) (literal_for literals s.kind s.text)
 
 abbrev pub is_quiet_text : ℕ → List LiteralText → List Symbol → Bool
-is_quiet_text levels literals text = list_all (λ s. is_quiet levels literals s) text
+is_quiet_text depth literals text = list_all (λ s. is_quiet depth literals s) text
 
 abbrev pub is_quiet_in : ℕ → List LiteralText → ℕ → ℕ → Option LiteralText → Bool
-is_quiet_in levels literals from to None = false
-is_quiet_in levels literals from to (Some l) = is_quiet_text levels literals (slice_range l.text from to)
+is_quiet_in depth literals from to None = false
+is_quiet_in depth literals from to (Some l) = is_quiet_text depth literals (slice_range l.text from to)
 
 -- the same of tokens of a literal, by its number
 abbrev pub is_quiet_between : ℕ → List LiteralText → ℕ → ℕ → ℕ → Bool
-is_quiet_between levels literals i from to = is_quiet_in levels literals from to (slice_get literals i)
+is_quiet_between depth literals i from to = is_quiet_in depth literals from to (slice_get literals i)
 
 abbrev pub is_quiet_run : List LiteralText → QuietRun → Bool
-is_quiet_run literals r = is_quiet_between r.levels literals r.literal r.from r.to
+is_quiet_run literals r = is_quiet_between r.depth literals r.literal r.from r.to
