@@ -2,7 +2,7 @@
 use Rattle.std.proofs.Common.{◌≡◌, ◌∙◌, ◌≢◌, ℕ, zero, suc, ◌+◌, ◌-◌, ◌<◌, ◌≤◌, max, List, [], ◌∷◌, ◌++◌, Bool, true, false, not, cond, ◌&&◌, Option, Some, None, IfSome, length, map, set, fold, take, drop, option_map, find, get_or, ap, refl, sym, subst, arith}
 use Rattle.std.specs.Prelude.{nat_lt, position}
 use Rattle.std.specs.Bool.{if◌then◌else◌}
-use Rattle.std.specs.List.{All, list_all, slice_get, slice_range, position_or_len}
+use Rattle.std.specs.List.{All, slice_get, slice_range, position_or_len}
 use Rattle.std.proofs.Math.Nat.{le-max_left, le-max_right, min-le_left}
 use Rattle.std.proofs.Math.Seq.{drop-cons}
 use Rattle.std.proofs.lemmas.Bool.{ltb-false}

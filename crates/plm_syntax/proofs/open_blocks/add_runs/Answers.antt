@@ -1,4 +1,4 @@
-use Rattle.std.proofs.Common.{◌≡◌, List, is_ok, sym, subst, refl}
+use Rattle.std.proofs.Common.{List, is_ok, sym, subst, refl}
 use Rattle.std.specs.List.{All}
 use Rattle.plm_syntax.specs.declared.open_blocks.KnownRun.{KnownRun}
 use Rattle.plm_syntax.specs.Inner.OpenBlocks.{IsKnown}
