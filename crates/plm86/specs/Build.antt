@@ -7,7 +7,7 @@ use Rattle.word86.specs.declared.number.Number.TheVariants.{E501, E601}
 use Rattle.plm_token.specs.Scanner.{Lexeme, scan_of}
 use Rattle.plm_syntax.specs.Tree.{ModuleT}
 use Rattle.plm_syntax.specs.Literals.{expanded}
-use Rattle.plm_syntax.specs.Reading.{FaultIs, text_tokens}
+use Rattle.plm_syntax.specs.Faults.{FaultIs, text_tokens}
 use Rattle.plm_syntax.specs.Sentence.{Spells, AllWithin}
 use Rattle.plm_syntax.specs.Spelling.{levels_of}
 use Rattle.plm_syntax.specs.WellFormed.{WellModule}

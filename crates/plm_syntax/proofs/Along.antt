@@ -13,7 +13,7 @@ use Rattle.plm_syntax.specs.Terminal.{Terminal, Finish, Leaf, leaf, leaf_at}
 use Rattle.plm_syntax.specs.Inner.Terminal.{is_same}
 use Rattle.plm_syntax.specs.Spelling.{binary_sign}
 use Rattle.plm_syntax.specs.WellFormed.{precedence_of}
-use Rattle.plm_syntax.specs.Reading.{terminal_of}
+use Rattle.plm_syntax.specs.Faults.{terminal_of}
 use Rattle.plm_syntax.specs.Inner.Symbol.{Value, Goal, Precedence, Symbol, depth, Rule, Need, Want, Do, Leave, Refused, Over, Keep, MoreG}
 use Rattle.plm_syntax.specs.Inner.Machine.{operand, again, number_of, operator_of, make_binary, operation, more, rule, Move, Stay, Next, Open, feed, Trace, Ended, Wrong, Then, trace, Stop, Refusal, Deep, Reading, run}
 use Rattle.plm_syntax.specs.Inner.Parsed.{place_at, stream, ahead, first_of, next_of, Takes, Fails, Arrives}

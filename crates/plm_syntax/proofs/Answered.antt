@@ -20,7 +20,7 @@ use Rattle.word86.specs.declared.fault.Fault.TheVariants.{At}
 use Rattle.plm_syntax.specs.Literals.{Out}
 use Rattle.plm_syntax.specs.Literals.{Expanded, expansion_of}
 use Rattle.plm_syntax.specs.Answer.{Answers}
-use Rattle.plm_syntax.specs.Reading.{terminal_of, tokens_from, text_end, text_tokens, line_from, terminal_at, opening_token, FaultIs, refused, too_deep, stopped}
+use Rattle.plm_syntax.specs.Faults.{terminal_of, tokens_from, text_end, text_tokens, line_from, terminal_at, opening_token, FaultIs, refused, too_deep, stopped}
 use Rattle.plm_syntax.specs.Inner.Answer.{refusal_at, deep_at, fault_of, LeftIn}
 use Rattle.plm_syntax.specs.Inner.Parsed.{stream, place_at, Fails}
 use Rattle.plm_syntax.proofs.Limits.{first_wrong, first_deep, takes_modules}

@@ -10,7 +10,7 @@ use Rattle.plm_syntax.specs.Spelling.{last_name, behind_labels, labels, put_leaf
 use Rattle.plm_syntax.specs.Inner.Symbol.{Goal, Symbol, depth_on, PrimaryG, SignedG, NegationG, MoreG, InsideG, AfterReferenceG, SubscriptsG, MoreSubscriptsG, SelectorG, MemberG, MemberSubscriptG, LocatedG, ValueG, NegativeG, MoreValuesG, StatementG, LeadG, TargetG, MoreTargetsG, CalledG, ReturnedG, ArmG, OtherwiseG, DoG, StepG, StatementsG, EndG, ItemsG, ItemLeadG, ItemColonG, ParametersG, ParameterG, MoreParametersG, ReturnedTypeG, InterruptG, InterruptNumberG, LinkageG, ElementG, ElementLeadG, LiteralTextG, VariableG, MoreVariablesG, BasedG, BaseG, DimensionG, DimensionBodyG, TypeG, MemberOfG, MemberNameG, MoreMemberNamesG, CountG, CountNumberG, MemberTypeG, MoreMembersG, AttributesG, AtG, AtBodyG, InitialG, MoreElementsG, ModuleG, StartG, Need, Want, Do, Leave}
 use Rattle.plm_syntax.proofs.TableExpression.{left_most_of}
 use Rattle.plm_syntax.proofs.TableBlock.{with_labels, along, assign_of, target_added, some_are_targets}
-use Rattle.plm_syntax.proofs.Meaning.{Means, Awaits, Nested, PlainDo, with_else}
+use Rattle.plm_syntax.proofs.GoalTrees.{Means, Awaits, Nested, PlainDo, with_else}
 
 pub nowhere : Position
 nowhere = record { token = 0; line = 0 }

@@ -16,7 +16,7 @@ use Rattle.plm_syntax.specs.Tree.{ModuleT}
 use Rattle.plm_syntax.specs.Spelling.{leaves_of}
 use Rattle.plm_syntax.specs.Sentence.{Fits, Spells}
 use Rattle.plm_syntax.specs.Literals.{LiteralText, Blocks, Out, opens, ends, declares, finishes, is_keyword, is_identifier, is_string, opened, closed, ends_block, blocks_behind, name_of, declared_name, between, declare, put, put_source, nothing_out}
-use Rattle.plm_syntax.specs.Reading.{terminal_of, place_of, tokens_from}
+use Rattle.plm_syntax.specs.Faults.{terminal_of, place_of, tokens_from}
 use Rattle.plm_syntax.specs.InForce.{table_at, in_force, put_all}
 use Rattle.plm_syntax.proofs.Words.{Word, Declares, Named, Quoted, Other, key_word, sign_word, word_of, ends_words, name_words, finished, named, behind, trail, blocks}
 use Rattle.plm_syntax.proofs.LeadBlock.{module_trail}

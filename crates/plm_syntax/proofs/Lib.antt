@@ -5,7 +5,7 @@ pub mod DriveDeclaration
 pub mod StatementSteps
 pub mod DriveBlock
 pub mod Levels
-pub mod Meaning
+pub mod GoalTrees
 pub mod TableExpression
 pub mod TableDeclaration
 pub mod TableBlock

@@ -17,7 +17,7 @@ use Rattle.plm_syntax.specs.declared.tree.Module.{Module}
 use Rattle.plm_syntax.specs.View.{module_of}
 use Rattle.plm_token.specs.declared.token.Kind.{Kind}
 use Rattle.plm_token.specs.declared.token.Kind.TheVariants.{Reserved, Identifier, Numeral as NumeralKind, String, Special}
-use Rattle.plm_syntax.specs.Reading.{terminal_of}
+use Rattle.plm_syntax.specs.Faults.{terminal_of}
 use Rattle.plm_token.specs.declared.token.Token.{Token}
 use Rattle.std.specs.Prelude.{◌&&◌, IsErrAnd}
 use Rattle.std.proofs.lemmas.Bool.{ltb-true, ltb-false, true≢false, false≢true}

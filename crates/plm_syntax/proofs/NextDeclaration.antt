@@ -16,7 +16,7 @@ use Rattle.plm_syntax.specs.declared.tree.MemberNames.{MemberNames}
 use Rattle.plm_syntax.specs.declared.tree.MemberNames.TheVariants as member_names
 use Rattle.plm_syntax.specs.View.{member_with}
 use Rattle.plm_syntax.specs.Inner.Parsed.{ahead, next_of, first_of, stream, place_at, is_name, is_number, is_text}
-use Rattle.plm_syntax.specs.Reading.{terminal_of}
+use Rattle.plm_syntax.specs.Faults.{terminal_of}
 use Rattle.plm_token.specs.declared.token.Token.{Token}
 use Rattle.plm_syntax.specs.Inner.Parts.{member_names_read}
 use Rattle.plm_syntax.proofs.Steps.{go, trace_step, same_trace, ruled, feed_want, over, IsDecided, ruled_behind, ruled_otherwise}

@@ -19,7 +19,7 @@ use Rattle.plm_syntax.specs.Terminal.{Finish, leaf}
 use Rattle.plm_syntax.specs.Tree.{ModuleT}
 use Rattle.plm_syntax.specs.Sentence.{Spells}
 use Rattle.plm_syntax.specs.Literals.{LiteralText, Blocks, Out, is_identifier, is_string, declared_name, between, declare, put, put_source, literal_for, by_literal, stop_at, or_else, symbol_out, text_out, source_out, nothing_out, expanded}
-use Rattle.plm_syntax.specs.Reading.{tokens_from, text_end}
+use Rattle.plm_syntax.specs.Faults.{tokens_from, text_end}
 use Rattle.plm_syntax.specs.InForce.{in_force, put_all, IsRead, of_source, of_text, LiteralsInForce}
 use Rattle.plm_syntax.proofs.Replaced.{symbol_stopped, symbol_text}
 use Rattle.plm_syntax.proofs.Words.{key_word, sign_word}
@@ -147,12 +147,12 @@ plain_for k text ls l e h = by_kind (is_identifier k) e
 
 -- ---- replacements
 
-pub symbol_stays : (levels line : ℕ) (s : Symbol) (o : Out) (stop : Number × ℕ) → o.stop ≡ Some stop → symbol_out levels line s o ≡ o
-symbol_stays levels line s o stop e = sym (symbol_stopped levels line s o (ap is_some e))
+pub symbol_stays : (depth line : ℕ) (s : Symbol) (o : Out) (stop : Number × ℕ) → o.stop ≡ Some stop → symbol_out depth line s o ≡ o
+symbol_stays depth line s o stop e = sym (symbol_stopped depth line s o (ap is_some e))
 
-pub text_stays : (levels line : ℕ) (text : List Symbol) (o : Out) (stop : Number × ℕ) → o.stop ≡ Some stop → text_out levels line text o ≡ o
-text_stays levels line [] o stop e = refl
-text_stays levels line (s ∷ text) o stop e = ap (text_out levels line text) (symbol_stays levels line s o stop e) ∙ text_stays levels line text o stop e
+pub text_stays : (depth line : ℕ) (text : List Symbol) (o : Out) (stop : Number × ℕ) → o.stop ≡ Some stop → text_out depth line text o ≡ o
+text_stays depth line [] o stop e = refl
+text_stays depth line (s ∷ text) o stop e = ap (text_out depth line text) (symbol_stays depth line s o stop e) ∙ text_stays depth line text o stop e
 
 pub source_stays : (t : Lexeme) (o : Out) (stop : Number × ℕ) → o.stop ≡ Some stop → source_out t o ≡ o
 source_stays t o stop e = ap (λ (x : Option (Number × ℕ)). or_else x o (by_literal (λ l. text_out 7 t.line l.text o) (literal_for o.blocks.literals t.kind t.text) (put_source t o))) e
@@ -164,9 +164,9 @@ pub sources_stay : (ts : List Lexeme) (o : Out) (stop : Number × ℕ) → o.sto
 sources_stay [] o stop e = refl
 sources_stay (t ∷ ts) o stop e = ap (sources_out ts) (source_stays t o stop e) ∙ sources_stay ts o stop e
 
-pub goes_text : (levels line : ℕ) → ((s : Symbol) (o : Out) → is_string s.kind ≡ false → Goes o (symbol_out levels line s o)) → (text : List Symbol) → IsPlain text → (o : Out) → Goes o (text_out levels line text o)
-goes_text levels line each [] h o = goes_same o
-goes_text levels line each (s ∷ text) h o = goes_on o (symbol_out levels line s o) (text_out levels line text (symbol_out levels line s o)) (each s o h.0) (λ stop e. text_stays levels line text (symbol_out levels line s o) stop e) (goes_text levels line each text h.1 (symbol_out levels line s o))
+pub goes_text : (depth line : ℕ) → ((s : Symbol) (o : Out) → is_string s.kind ≡ false → Goes o (symbol_out depth line s o)) → (text : List Symbol) → IsPlain text → (o : Out) → Goes o (text_out depth line text o)
+goes_text depth line each [] h o = goes_same o
+goes_text depth line each (s ∷ text) h o = goes_on o (symbol_out depth line s o) (text_out depth line text (symbol_out depth line s o)) (each s o h.0) (λ stop e. text_stays depth line text (symbol_out depth line s o) stop e) (goes_text depth line each text h.1 (symbol_out depth line s o))
 
 pub goes_put_symbol : (line : ℕ) (s : Symbol) (o : Out) → is_string s.kind ≡ false → literal_for o.blocks.literals s.kind s.text ≡ None → Goes o (put (on_line line s) o)
 goes_put_symbol line s o h e = subst (Goes o) (put_plain (on_line line s) o h) (goes_put (on_line line s) o (may_come s.kind s.text o.blocks.literals e))
@@ -174,13 +174,13 @@ goes_put_symbol line s o h e = subst (Goes o) (put_plain (on_line line s) o h) (
 pub goes_stopped : (number : Number) (line : ℕ) (o : Out) → Goes o (stop_at number line o)
 goes_stopped number line o g s = absurd cc
 
-pub goes_symbol : (levels line : ℕ) (s : Symbol) (o : Out) → is_string s.kind ≡ false → Goes o (symbol_out levels line s o)
+pub goes_symbol : (depth line : ℕ) (s : Symbol) (o : Out) → is_string s.kind ≡ false → Goes o (symbol_out depth line s o)
 unfolding symbol_out
 goes_symbol zero line s o h = goes_or o.stop o (by_literal (λ l. stop_at E202 line o) (literal_for o.blocks.literals s.kind s.text) (put (on_line line s) o))
     (goes_literal (literal_for o.blocks.literals s.kind s.text) (λ l. stop_at E202 line o) o (put (on_line line s) o) (goes_put_symbol line s o h) (λ l e. goes_stopped E202 line o))
-goes_symbol (suc levels) line s o h = goes_or o.stop o (by_literal (λ l. text_out levels line l.text o) (literal_for o.blocks.literals s.kind s.text) (put (on_line line s) o))
-    (goes_literal (literal_for o.blocks.literals s.kind s.text) (λ l. text_out levels line l.text o) o (put (on_line line s) o) (goes_put_symbol line s o h)
-    (λ l e g r. goes_text levels line (λ x p. goes_symbol levels line x p) l.text (plain_for s.kind s.text o.blocks.literals l e g.sound.plain) o g r))
+goes_symbol (suc depth) line s o h = goes_or o.stop o (by_literal (λ l. text_out depth line l.text o) (literal_for o.blocks.literals s.kind s.text) (put (on_line line s) o))
+    (goes_literal (literal_for o.blocks.literals s.kind s.text) (λ l. text_out depth line l.text o) o (put (on_line line s) o) (goes_put_symbol line s o h)
+    (λ l e g r. goes_text depth line (λ x p. goes_symbol depth line x p) l.text (plain_for s.kind s.text o.blocks.literals l e g.sound.plain) o g r))
 
 pub goes_source : (t : Lexeme) (o : Out) → Goes o (source_out t o)
 goes_source t o = goes_or o.stop o (by_literal (λ l. text_out 7 t.line l.text o) (literal_for o.blocks.literals t.kind t.text) (put_source t o))
@@ -199,10 +199,10 @@ pub record Ahead (o whole : Out) : Type 0 where
   pub goes : Goes o whole
   pub stays : (stop : Number × ℕ) → o.stop ≡ Some stop → whole ≡ o
 
-pub ahead_text : (levels line : ℕ) (text : List Symbol) (o whole : Out) → IsPlain text → Ahead (text_out levels line text o) whole → Ahead o whole
-ahead_text levels line text o whole h a = record {
-  goes = goes_on o (text_out levels line text o) whole (goes_text levels line (λ x p. goes_symbol levels line x p) text h o) a.stays a.goes;
-  stays = λ stop e. let same = text_stays levels line text o stop e in a.stays stop (ap (λ (x : Out). x.stop) same ∙ e) ∙ same;
+pub ahead_text : (depth line : ℕ) (text : List Symbol) (o whole : Out) → IsPlain text → Ahead (text_out depth line text o) whole → Ahead o whole
+ahead_text depth line text o whole h a = record {
+  goes = goes_on o (text_out depth line text o) whole (goes_text depth line (λ x p. goes_symbol depth line x p) text h o) a.stays a.goes;
+  stays = λ stop e. let same = text_stays depth line text o stop e in a.stays stop (ap (λ (x : Out). x.stop) same ∙ e) ∙ same;
 }
 
 pub ahead_sources : (ts : List Lexeme) (o : Out) → Ahead o (sources_out ts o)
@@ -224,10 +224,10 @@ pub record Front (o whole : Out) : Type 0 where
 pub front_of : (o whole : Out) → Good o → Ahead o whole → whole.stop ≡ None → Front o whole
 front_of o whole g a h = let b = a.goes g h in record { good = g; more = b.more; tokens = b.tokens }
 
-pub record Reading (whole : Out) (levels line : ℕ) (s : Symbol) (o : Out) : Type 0 where
+pub record Reading (whole : Out) (depth line : ℕ) (s : Symbol) (o : Out) : Type 0 where
   pub good : Good o
   pub ahead : Ahead o whole
-  pub within : (lower : ℕ) (l : LiteralText) → levels ≡ suc lower → literal_for o.blocks.literals s.kind s.text ≡ Some l → Ahead (text_out lower line l.text o) whole
+  pub within : (lower : ℕ) (l : LiteralText) → depth ≡ suc lower → literal_for o.blocks.literals s.kind s.text ≡ Some l → Ahead (text_out lower line l.text o) whole
 
 pub source_replaced : (t : Lexeme) (o : Out) (l : LiteralText) → o.stop ≡ None → literal_for o.blocks.literals t.kind t.text ≡ Some l → source_out t o ≡ text_out 7 t.line l.text o
 source_replaced t o l e f =
@@ -256,32 +256,32 @@ pub plain_back : (front back : List Symbol) → IsPlain (front ++ back) → IsPl
 plain_back [] back h = h
 plain_back (s ∷ front) back h = plain_back front back h.1
 
-pub reading_text : (levels line : ℕ) (front back : List Symbol) (x : Symbol) (o whole : Out) → Good o → whole.stop ≡ None → IsPlain (front ++ x ∷ back) → Ahead (text_out levels line (front ++ x ∷ back) o) whole
-    → Reading whole levels line x (text_out levels line front o)
-reading_text levels line front back x o whole g h plain a =
+pub reading_text : (depth line : ℕ) (front back : List Symbol) (x : Symbol) (o whole : Out) → Good o → whole.stop ≡ None → IsPlain (front ++ x ∷ back) → Ahead (text_out depth line (front ++ x ∷ back) o) whole
+    → Reading whole depth line x (text_out depth line front o)
+reading_text depth line front back x o whole g h plain a =
     let rest = plain_back front (x ∷ back) plain in
-    let behind : Ahead (text_out levels line (x ∷ back) (text_out levels line front o)) whole
-    = subst (λ (y : Out). Ahead y whole) (fold-append (λ q y. symbol_out levels line y q) o front (x ∷ back)) a in
-    let ahead = ahead_text levels line (x ∷ back) (text_out levels line front o) whole rest behind in
-    let runs = runs_before (text_out levels line front o) whole ahead h in
+    let behind : Ahead (text_out depth line (x ∷ back) (text_out depth line front o)) whole
+    = subst (λ (y : Out). Ahead y whole) (fold-append (λ q y. symbol_out depth line y q) o front (x ∷ back)) a in
+    let ahead = ahead_text depth line (x ∷ back) (text_out depth line front o) whole rest behind in
+    let runs = runs_before (text_out depth line front o) whole ahead h in
     record {
-      good = (goes_text levels line (λ y q. goes_symbol levels line y q) front (plain_front front (x ∷ back) plain) o g runs).good;
+      good = (goes_text depth line (λ y q. goes_symbol depth line y q) front (plain_front front (x ∷ back) plain) o g runs).good;
       ahead = ahead;
       within = λ lower l e f.
-          subst (λ (y : Out). Ahead y whole) (ap (λ (n : ℕ). symbol_out n line x (text_out levels line front o)) e ∙ sym (symbol_text lower line x (text_out levels line front o) l (ap is_some runs) f))
-          (ahead_text levels line back (symbol_out levels line x (text_out levels line front o)) whole rest.1 behind);
+          subst (λ (y : Out). Ahead y whole) (ap (λ (n : ℕ). symbol_out n line x (text_out depth line front o)) e ∙ sym (symbol_text lower line x (text_out depth line front o) l (ap is_some runs) f))
+          (ahead_text depth line back (symbol_out depth line x (text_out depth line front o)) whole rest.1 behind);
     }
 
-pub reading : (source : List Lexeme) → (sources_out source nothing_out).stop ≡ None → (levels line : ℕ) (s : Symbol) (o : Out) → IsRead source levels line s o → Reading (sources_out source nothing_out) levels line s o
+pub reading : (source : List Lexeme) → (sources_out source nothing_out).stop ≡ None → (depth line : ℕ) (s : Symbol) (o : Out) → IsRead source depth line s o → Reading (sources_out source nothing_out) depth line s o
 unfolding expanded
 reading source h _ _ _ _ (of_source front back t e) =
     let is = ap (λ (x : List Lexeme). sources_out x nothing_out) e ∙ fold-append (λ p x. source_out x p) nothing_out front (t ∷ back) in
     subst (λ (w : Out). Reading w 8 t.line (record { kind = t.kind; text = t.text }) (sources_out front nothing_out)) (sym is) (reading_source front back t (sym (ap (λ (x : Out). x.stop) is) ∙ h))
-reading source h _ _ _ _ (of_text levels line s o l front back x r f e) =
-    let a = reading source h (suc levels) line s o r in
-    reading_text levels line front back x o (sources_out source nothing_out) a.good h
+reading source h _ _ _ _ (of_text depth line s o l front back x r f e) =
+    let a = reading source h (suc depth) line s o r in
+    reading_text depth line front back x o (sources_out source nothing_out) a.good h
     (subst IsPlain e (plain_for s.kind s.text o.blocks.literals l f a.good.sound.plain))
-    (subst (λ (y : List Symbol). Ahead (text_out levels line y o) (sources_out source nothing_out)) e (a.within levels l refl f))
+    (subst (λ (y : List Symbol). Ahead (text_out depth line y o) (sources_out source nothing_out)) e (a.within depth l refl f))
 
 -- ---- the law
 
@@ -299,8 +299,8 @@ are_in_force source m h w =
     let whole = goes_sources source nothing_out nothing_good h in
     let spelled : Spells m (tokens_from 0 (sources_out source nothing_out).tokens ++ leaf Finish ∷ []) = subst (λ (x : Option (Number × ℕ)). Spells m (tokens_from 0 (sources_out source nothing_out).tokens ++ text_end x)) h w in
     record {
-      where_read = λ levels line s o r.
-          let a = reading source h levels line s o r in
+      where_read = λ depth line s o r.
+          let a = reading source h depth line s o r in
           at_front o (sources_out source nothing_out) m (front_of o (sources_out source nothing_out) a.good a.ahead h) spelled;
       one_by_one = sym whole.good.told;
       at_token = λ n le. at_token (sources_out source nothing_out).tokens m spelled n le;

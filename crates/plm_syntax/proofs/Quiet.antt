@@ -1,17 +1,25 @@
--- Tokens of literals that put nothing out: what is known of them, and how it is seen.
-use Rattle.std.proofs.Common.{◌≡◌, ◌∙◌, ℕ, zero, suc, ◌+◌, ◌≤◌, List, [], ◌∷◌, ◌++◌, Bool, true, false, cond, ◌&&◌, Option, Some, None, is_some, length, find, fold, ap, refl, sym, arith}
-use Rattle.std.specs.List.{list_all}
+-- Tokens of literals that put nothing out, and what that rests on.
+use Rattle.std.proofs.Common.{◌≡◌, ◌∙◌, ◌≢◌, ℕ, zero, suc, ◌+◌, ◌-◌, ◌<◌, ◌≤◌, max, List, [], ◌∷◌, ◌++◌, take, drop, Bool, true, false, cond, ◌&&◌, Option, Some, None, find, fold, ap, refl, sym, arith}
+use Rattle.std.specs.List.{list_all, slice_get}
 use Rattle.std.specs.Option.{option_or}
-use Rattle.std.proofs.lemmas.List.{length_push}
-use Rattle.std.proofs.lemmas.List.Folds.{find-append}
+use Rattle.std.proofs.Math.Nat.{le-max_left, le-max_right, max-le}
+use Rattle.std.proofs.lemmas.List.{take-append-drop}
+use Rattle.std.proofs.lemmas.List.Folds.{find-append, list_all-append}
 use Rattle.word86.specs.declared.number.Number.{Number}
 use Rattle.plm_token.specs.Names.{names_equal}
 use Rattle.plm_token.specs.Literals.{Symbol, on_line}
 use Rattle.plm_syntax.specs.Literals.{LiteralText, Out, or_else, by_literal, literal_for, put, symbol_out, text_out, is_identifier}
-use Rattle.plm_syntax.specs.Inner.OpenBlocks.{each_quiet, is_quiet, is_quiet_text}
-use Rattle.plm_syntax.proofs.Replaced.{symbol_stopped}
+use Rattle.plm_syntax.specs.declared.open_blocks.Quiet.{Quiet}
+use Rattle.plm_syntax.specs.Inner.OpenBlocks.{each_quiet, is_quiet, is_quiet_text, IsQuietBy, both_quiet, named_quiet}
 
 -- ---- tests of all tokens
+
+some_inj : {A : Type 0} {x y : A} → Some x ≡ Some y → x ≡ y
+some_inj e = cc e
+
+positive : (n : ℕ) → n ≢ 0 → 1 ≤ n
+positive zero h = absurd (h refl)
+positive (suc n) h = omega arith
 
 pub and_first : (a b : Bool) → (a && b) ≡ true → a ≡ true
 and_first true b h = refl
@@ -64,109 +72,115 @@ quiet_among_more (suc n) literals more s h = named_among_more n literals more s 
 
 -- ---- what a step does
 
-abbrev folded : (Symbol → Out → Out) → Out → List Symbol → Out
-folded F o ss = fold (λ p x. F x p) o ss
-
--- It takes nothing back, and stays where it has stopped. A token that is quiet changes nothing, and one that adds nothing and does not
--- stop is quiet.
-record IsSteady (F : Symbol → Out → Out) (quiet : List LiteralText → Symbol → Bool) : Type 0 where
-  grows : (s : Symbol) (o : Out) → length o.tokens ≤ length (F s o).tokens
-  halts : (s : Symbol) (o : Out) → is_some o.stop ≡ true → F s o ≡ o
-  same : (s : Symbol) (o : Out) → quiet o.blocks.literals s ≡ true → F s o ≡ o
-  seen : (s : Symbol) (o : Out) → length (F s o).tokens ≡ length o.tokens → is_some (F s o).stop ≡ false → quiet o.blocks.literals s ≡ true
-
-module _ (F : Symbol → Out → Out) (quiet : List LiteralText → Symbol → Bool) (steady : IsSteady F quiet) where
-  all_grow : (ss : List Symbol) (o : Out) → length o.tokens ≤ length (folded F o ss).tokens
-  all_grow [] o = omega arith
-  all_grow (s ∷ ss) o = omega (arith, steady.grows s o, all_grow ss (F s o))
-
-  all_halt : (ss : List Symbol) (o : Out) → is_some o.stop ≡ true → folded F o ss ≡ o
-  all_halt [] o e = refl
-  all_halt (s ∷ ss) o e = ap (λ (q : Out). folded F q ss) (steady.halts s o e) ∙ all_halt ss o e
-
-  all_same : (ss : List Symbol) (o : Out) → list_all (quiet o.blocks.literals) ss ≡ true → folded F o ss ≡ o
-  all_same [] o h = refl
-  all_same (s ∷ ss) o h =
-      ap (λ (q : Out). folded F q ss) (steady.same s o (and_first (quiet o.blocks.literals s) (list_all (quiet o.blocks.literals) ss) h))
-      ∙ all_same ss o (and_second (quiet o.blocks.literals s) (list_all (quiet o.blocks.literals) ss) h)
-
-  one_seen : (s : Symbol) (ss : List Symbol) (o : Out) → length (folded F (F s o) ss).tokens ≡ length o.tokens → is_some (folded F (F s o) ss).stop ≡ false
-      → (length (folded F (F s o) ss).tokens ≡ length (F s o).tokens → list_all (quiet (F s o).blocks.literals) ss ≡ true)
-      → (b : Bool) → is_some (F s o).stop ≡ b → list_all (quiet o.blocks.literals) (s ∷ ss) ≡ true
-  one_seen s ss o l st behind true e =
-      let halted : is_some (folded F (F s o) ss).stop ≡ true = ap (λ (q : Out). is_some q.stop) (all_halt ss (F s o) e) ∙ e in
-      absurd (cc (halted, st))
-  one_seen s ss o l st behind false e =
-      let one : length (F s o).tokens ≡ length o.tokens = omega (arith, l, steady.grows s o, all_grow ss (F s o)) in
-      let first : quiet o.blocks.literals s ≡ true = steady.seen s o one e in
-      and_both (quiet o.blocks.literals s) (list_all (quiet o.blocks.literals) ss) first
-      (ap (λ (q : Out). list_all (quiet q.blocks.literals) ss) (sym (steady.same s o first)) ∙ behind (l ∙ sym one))
-
-  all_seen : (ss : List Symbol) (o : Out) → length (folded F o ss).tokens ≡ length o.tokens → is_some (folded F o ss).stop ≡ false → list_all (quiet o.blocks.literals) ss ≡ true
-  all_seen [] o l st = refl
-  all_seen (s ∷ ss) o l st = one_seen s ss o l st (λ m. all_seen ss (F s o) m st) (is_some (F s o).stop) refl
-
-or_grows : (stop : Option (Number × ℕ)) (o next : Out) → length o.tokens ≤ length next.tokens → length o.tokens ≤ length (or_else stop o next).tokens
-or_grows None o next h = h
-or_grows (Some s) o next h = omega arith
+-- tokens that are each quiet change nothing
+all_same : (F : Symbol → Out → Out) (quiet : List LiteralText → Symbol → Bool) → ((s : Symbol) (o : Out) → quiet o.blocks.literals s ≡ true → F s o ≡ o)
+    → (ss : List Symbol) (o : Out) → list_all (quiet o.blocks.literals) ss ≡ true → fold (λ p x. F x p) o ss ≡ o
+all_same F quiet same [] o h = refl
+all_same F quiet same (s ∷ ss) o h =
+    ap (λ (q : Out). fold (λ p x. F x p) q ss) (same s o (and_first (quiet o.blocks.literals s) (list_all (quiet o.blocks.literals) ss) h))
+    ∙ all_same F quiet same ss o (and_second (quiet o.blocks.literals s) (list_all (quiet o.blocks.literals) ss) h)
 
 or_same : (stop : Option (Number × ℕ)) (o next : Out) → next ≡ o → or_else stop o next ≡ o
 or_same None o next e = e
 or_same (Some s) o next e = refl
-
-or_seen : (stop : Option (Number × ℕ)) (o next : Out) (b : Bool) → stop ≡ o.stop → (length next.tokens ≡ length o.tokens → is_some next.stop ≡ false → b ≡ true)
-    → length (or_else stop o next).tokens ≡ length o.tokens → is_some (or_else stop o next).stop ≡ false → b ≡ true
-or_seen None o next b e f l st = f l st
-or_seen (Some s) o next b e f l st = let stopped : is_some o.stop ≡ true = ap is_some (sym e) in absurd (cc (stopped, st))
-
-by_grows : (replaced : LiteralText → Out) (found : Option LiteralText) (plain o : Out) → ((l : LiteralText) → length o.tokens ≤ length (replaced l).tokens) → length o.tokens ≤ length plain.tokens
-    → length o.tokens ≤ length (by_literal replaced found plain).tokens
-by_grows replaced None plain o f h = h
-by_grows replaced (Some l) plain o f h = f l
 
 by_same : (replaced : LiteralText → Out) (found : Option LiteralText) (plain o : Out) (quiet : Symbol → Bool) → ((l : LiteralText) → list_all quiet l.text ≡ true → replaced l ≡ o)
     → each_quiet quiet found ≡ true → by_literal replaced found plain ≡ o
 by_same replaced None plain o quiet f h = absurd (cc h)
 by_same replaced (Some l) plain o quiet f h = f l h
 
-by_seen : (replaced : LiteralText → Out) (found : Option LiteralText) (plain o : Out) (quiet : Symbol → Bool)
-    → ((t : LiteralText) → length (replaced t).tokens ≡ length o.tokens → is_some (replaced t).stop ≡ false → list_all quiet t.text ≡ true)
-    → length plain.tokens ≡ length o.tokens + 1
-    → length (by_literal replaced found plain).tokens ≡ length o.tokens → is_some (by_literal replaced found plain).stop ≡ false → each_quiet quiet found ≡ true
-by_seen replaced None plain o quiet f h l st = absurd (omega (arith, h, l))
-by_seen replaced (Some t) plain o quiet f h l st = f t l st
-
-refused_ninth : (replaced : LiteralText → Out) (found : Option LiteralText) (plain o : Out) → ((t : LiteralText) → is_some (replaced t).stop ≡ true)
-    → length plain.tokens ≡ length o.tokens + 1
-    → length (by_literal replaced found plain).tokens ≡ length o.tokens → is_some (by_literal replaced found plain).stop ≡ false → false ≡ true
-refused_ninth replaced None plain o f h l st = absurd (omega (arith, h, l))
-refused_ninth replaced (Some t) plain o f h l st = let stopped : is_some (replaced t).stop ≡ true = f t in absurd (cc (stopped, st))
-
-steady : (levels line : ℕ) → IsSteady (symbol_out levels line) (is_quiet levels)
+quiet_symbol_out : (depth line : ℕ) (s : Symbol) (o : Out) → is_quiet depth o.blocks.literals s ≡ true → symbol_out depth line s o ≡ o
 unfolding symbol_out is_quiet
-steady zero line = record {
-  grows = λ s o. or_grows o.stop o _ (by_grows _ (literal_for o.blocks.literals s.kind s.text) (put (on_line line s) o) o (λ l. omega arith) (omega (arith, length_push o.tokens (on_line line s))));
-  halts = λ s o e. sym (symbol_stopped zero line s o e);
-  same = λ s o h. absurd (cc h);
-  seen = λ s o. or_seen o.stop o _ false refl (refused_ninth _ (literal_for o.blocks.literals s.kind s.text) (put (on_line line s) o) o (λ t. refl) (length_push o.tokens (on_line line s)));
-}
-steady (suc levels) line = record {
-  grows = λ s o. or_grows o.stop o _ (by_grows _ (literal_for o.blocks.literals s.kind s.text) (put (on_line line s) o) o (λ l. all_grow (symbol_out levels line) (is_quiet levels) (steady levels line) l.text o) (omega (arith, length_push o.tokens (on_line line s))));
-  halts = λ s o e. sym (symbol_stopped (suc levels) line s o e);
-  same = λ s o h. or_same o.stop o _ (by_same _ (literal_for o.blocks.literals s.kind s.text) (put (on_line line s) o) o (is_quiet levels o.blocks.literals) (λ l k. all_same (symbol_out levels line) (is_quiet levels) (steady levels line) l.text o k) h);
-  seen = λ s o. or_seen o.stop o _ (each_quiet (is_quiet levels o.blocks.literals) (literal_for o.blocks.literals s.kind s.text)) refl
-      (by_seen _ (literal_for o.blocks.literals s.kind s.text) (put (on_line line s) o) o (is_quiet levels o.blocks.literals) (λ t l st. all_seen (symbol_out levels line) (is_quiet levels) (steady levels line) t.text o l st) (length_push o.tokens (on_line line s)));
-}
+quiet_symbol_out zero line s o h = absurd (cc h)
+quiet_symbol_out (suc depth) line s o h =
+    or_same o.stop o _ (by_same _ (literal_for o.blocks.literals s.kind s.text) (put (on_line line s) o) o (is_quiet depth o.blocks.literals)
+    (λ l k. all_same (symbol_out depth line) (is_quiet depth) (quiet_symbol_out depth line) l.text o k) h)
 
 -- a text that is quiet changes nothing
-pub quiet_text_out : (levels line : ℕ) (text : List Symbol) (o : Out) → is_quiet_text levels o.blocks.literals text ≡ true → text_out levels line text o ≡ o
-quiet_text_out levels line text o h = all_same (symbol_out levels line) (is_quiet levels) (steady levels line) text o h
+pub quiet_text_out : (depth line : ℕ) (text : List Symbol) (o : Out) → is_quiet_text depth o.blocks.literals text ≡ true → text_out depth line text o ≡ o
+quiet_text_out depth line text o h = all_same (symbol_out depth line) (is_quiet depth) (quiet_symbol_out depth line) text o h
 
--- a token that is quiet changes nothing
-pub quiet_symbol_out : (levels line : ℕ) (s : Symbol) (o : Out) → is_quiet levels o.blocks.literals s ≡ true → symbol_out levels line s o ≡ o
-quiet_symbol_out levels line s o h = (steady levels line).same s o h
+-- ---- the first so many of the literals
 
--- a token that added nothing, and did not stop, is quiet
-pub symbol_seen_quiet : (levels line : ℕ) (s : Symbol) (before after : Out) → after ≡ symbol_out levels line s before → length after.tokens ≡ length before.tokens → is_some after.stop ≡ false → is_quiet levels before.blocks.literals s ≡ true
-symbol_seen_quiet levels line s before after e l st =
-    (steady levels line).seen s before (ap (λ (q : Out). length q.tokens) (sym e) ∙ l) (ap (λ (q : Out). is_some q.stop) (sym e) ∙ st)
+pub take_fewer : {A : Type 0} (n m : ℕ) (xs : List A) → n ≤ m → take n (take m xs) ≡ take n xs
+take_fewer zero m xs le = refl
+take_fewer (suc n) zero xs le = absurd (omega (arith, le))
+take_fewer (suc n) (suc m) [] le = refl
+take_fewer {A = A} (suc n) (suc m) (x ∷ xs) le = ap (λ (ys : List A). x ∷ ys) (take_fewer n m xs (omega (arith, le)))
+
+pub quiet_among_first : (depth n : ℕ) (literals : List LiteralText) (s : Symbol) → is_quiet depth (take n literals) s ≡ true → is_quiet depth literals s ≡ true
+quiet_among_first depth n literals s h =
+    ap (λ (ls : List LiteralText). is_quiet depth ls s) (sym (take-append-drop n literals)) ∙ quiet_among_more depth (take n literals) (drop n literals) s h
+
+pub text_with_more : (d e n m : ℕ) (literals : List LiteralText) (text : List Symbol) → d ≤ e → n ≤ m → is_quiet_text d (take n literals) text ≡ true → is_quiet_text e (take m literals) text ≡ true
+text_with_more d e n m literals text deeper more h =
+    all_along (is_quiet d (take n literals)) (is_quiet e (take m literals))
+    (λ s k. quiet_with_more d e (take m literals) deeper s
+    (quiet_among_first d n (take m literals) s (ap (λ (ls : List LiteralText). is_quiet d ls s) (take_fewer n m literals more) ∙ k)))
+    text h
+
+pub text_among_all : (d e n : ℕ) (literals : List LiteralText) (text : List Symbol) → d ≤ e → is_quiet_text d (take n literals) text ≡ true → is_quiet_text e literals text ≡ true
+text_among_all d e n literals text deeper h =
+    all_along (is_quiet d (take n literals)) (is_quiet e literals) (λ s k. quiet_with_more d e literals deeper s (quiet_among_first d n literals s k)) text h
+
+-- a text of which nothing comes changes nothing
+pub nothing_comes : (depth line : ℕ) (q : Quiet) (text : List Symbol) (o : Out) → IsQuietBy depth q o.blocks.literals text → text_out depth line text o ≡ o
+nothing_comes depth line q text o h = quiet_text_out depth line text o (text_among_all q.depth depth q.rests_on o.blocks.literals text h.within h.quiet)
+
+pub one_beside : (depth : ℕ) (a b : Quiet) (literals : List LiteralText) (s t : List Symbol) → IsQuietBy depth a literals s → IsQuietBy depth b literals t → IsQuietBy depth (both_quiet a b) literals (s ++ t)
+one_beside depth a b literals s t g h =
+    let first : List LiteralText = take (max a.rests_on b.rests_on) literals in record {
+      within = max-le g.within h.within;
+      quiet = list_all-append (is_quiet (max a.depth b.depth) first) s t
+          ∙ and_both (is_quiet_text (max a.depth b.depth) first s) (is_quiet_text (max a.depth b.depth) first t)
+          (text_with_more a.depth (max a.depth b.depth) a.rests_on (max a.rests_on b.rests_on) literals s (le-max_left a.depth b.depth) (le-max_left a.rests_on b.rests_on) g.quiet)
+          (text_with_more b.depth (max a.depth b.depth) b.rests_on (max a.rests_on b.rests_on) literals t (le-max_right a.depth b.depth) (le-max_right a.rests_on b.rests_on) h.quiet);
+    }
+
+-- ---- a literal that is named is found among the first so many
+
+first_passes : {A : Type 0} (test : A → Bool) (xs : List A) (x : A) → find test xs ≡ Some x → test x ≡ true
+first_passes test [] x e = absurd (cc e)
+first_passes test (y ∷ ys) x e = by_test (first_passes test ys x) (test y) refl e
+  where
+    by_test : (find test ys ≡ Some x → test x ≡ true) → (b : Bool) → test y ≡ b → cond b (Some y) (find test ys) ≡ Some x → test x ≡ true
+    by_test behind true t k = let same : y ≡ x = some_inj k in ap test (sym same) ∙ t
+    by_test behind false t k = behind k
+
+found_first : {A : Type 0} (test : A → Bool) (xs : List A) (i n : ℕ) (x : A) → i < n → slice_get xs i ≡ Some x → find test xs ≡ Some x → find test (take n xs) ≡ Some x
+found_first test [] i n x lt at e = absurd (cc e)
+found_first test (y ∷ ys) i zero x lt at e = absurd (omega (arith, lt))
+found_first test (y ∷ ys) zero (suc n) x lt at e = let same : y ≡ x = some_inj at in ap (λ (b : Bool). cond b (Some y) (find test (take n ys))) (ap test same ∙ first_passes test (y ∷ ys) x e) ∙ at
+found_first test (y ∷ ys) (suc i) (suc n) x lt at e = by_test (found_first test ys i n x (omega (arith, lt)) at) (test y) e
+  where
+    by_test : (find test ys ≡ Some x → find test (take n ys) ≡ Some x) → (b : Bool) → cond b (Some y) (find test ys) ≡ Some x → cond b (Some y) (find test (take n ys)) ≡ Some x
+    by_test behind true k = k
+    by_test behind false k = behind k
+
+named_first : (literals : List LiteralText) (i n : ℕ) (s : Symbol) (l : LiteralText) → i < n → slice_get literals i ≡ Some l → literal_for literals s.kind s.text ≡ Some l → literal_for (take n literals) s.kind s.text ≡ Some l
+named_first literals i n s l lt at e = by_kind (is_identifier s.kind) e
+  where
+    test : LiteralText → Bool
+    test = λ t. names_equal t.name s.text
+
+    by_kind : (b : Bool) → cond b (find test literals) None ≡ Some l → cond b (find test (take n literals)) None ≡ Some l
+    by_kind true f = found_first test literals i n l lt at f
+    by_kind false f = absurd (cc f)
+
+quiet_name : (depth : ℕ) (literals : List LiteralText) (s : Symbol) (l : LiteralText) → literal_for literals s.kind s.text ≡ Some l → is_quiet_text depth literals l.text ≡ true → is_quiet (depth + 1) literals s ≡ true
+unfolding is_quiet
+quiet_name depth literals s l e h =
+    let more : depth + 1 ≡ suc depth = omega arith in
+    rw more (ap (each_quiet (is_quiet depth literals)) e ∙ h)
+
+-- the name of a literal, where nothing comes of its text
+pub named_by : (depth : ℕ) (q : Quiet) (literals : List LiteralText) (i : ℕ) (s : Symbol) (l : LiteralText) → depth ≢ 0 → slice_get literals i ≡ Some l → literal_for literals s.kind s.text ≡ Some l
+    → IsQuietBy (depth - 1) q literals l.text → IsQuietBy depth (named_quiet i q) literals (s ∷ [])
+named_by depth q literals i s l more at e h =
+    let n : ℕ = max q.rests_on (i + 1) in
+    let after : i + 1 ≤ n = le-max_right q.rests_on (i + 1) in
+    let text : is_quiet_text q.depth (take n literals) l.text ≡ true = text_with_more q.depth q.depth q.rests_on n literals l.text (omega arith) (le-max_left q.rests_on (i + 1)) h.quiet in
+    record {
+      within = omega (arith, h.within, positive depth more);
+      quiet = and_both (is_quiet (q.depth + 1) (take n literals) s) true (quiet_name q.depth (take n literals) s l (named_first literals i n s l (omega (arith, after)) at e) text) refl;
+    }

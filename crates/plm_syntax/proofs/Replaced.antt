@@ -22,48 +22,48 @@ going : (stop : Option (Number × ℕ)) (o next : Out) → is_some stop ≡ fals
 going None o next e = refl
 going (Some s) o next e = absurd (cc e)
 
-pub symbol_stopped : (levels line : ℕ) (s : Symbol) (o : Out) → is_some o.stop ≡ true → o ≡ symbol_out levels line s o
+pub symbol_stopped : (depth line : ℕ) (s : Symbol) (o : Out) → is_some o.stop ≡ true → o ≡ symbol_out depth line s o
 unfolding symbol_out
 symbol_stopped zero line s o e = sym (stopped o.stop o _ e)
-symbol_stopped (suc levels) line s o e = sym (stopped o.stop o _ e)
+symbol_stopped (suc depth) line s o e = sym (stopped o.stop o _ e)
 
-pub symbol_plain : (levels line : ℕ) (s : Symbol) (o : Out) → is_some o.stop ≡ false → literal_for o.blocks.literals s.kind s.text ≡ None → put (on_line line s) o ≡ symbol_out levels line s o
+pub symbol_plain : (depth line : ℕ) (s : Symbol) (o : Out) → is_some o.stop ≡ false → literal_for o.blocks.literals s.kind s.text ≡ None → put (on_line line s) o ≡ symbol_out depth line s o
 unfolding symbol_out
 symbol_plain zero line s o e none = sym (going o.stop o _ e ∙ rw none refl)
-symbol_plain (suc levels) line s o e none = sym (going o.stop o _ e ∙ rw none refl)
+symbol_plain (suc depth) line s o e none = sym (going o.stop o _ e ∙ rw none refl)
 
 pub symbol_deep : (line : ℕ) (s : Symbol) (o : Out) (l : LiteralText) → is_some o.stop ≡ false → literal_for o.blocks.literals s.kind s.text ≡ Some l → stop_at E202 line o ≡ symbol_out 0 line s o
 unfolding symbol_out
 symbol_deep line s o l e some = sym (going o.stop o _ e ∙ rw some refl)
 
-pub symbol_text : (levels line : ℕ) (s : Symbol) (o : Out) (l : LiteralText) → is_some o.stop ≡ false → literal_for o.blocks.literals s.kind s.text ≡ Some l
-    → text_out levels line l.text o ≡ symbol_out (suc levels) line s o
+pub symbol_text : (depth line : ℕ) (s : Symbol) (o : Out) (l : LiteralText) → is_some o.stop ≡ false → literal_for o.blocks.literals s.kind s.text ≡ Some l
+    → text_out depth line l.text o ≡ symbol_out (suc depth) line s o
 unfolding symbol_out
-symbol_text levels line s o l e some = sym (going o.stop o _ e ∙ rw some refl)
+symbol_text depth line s o l e some = sym (going o.stop o _ e ∙ rw some refl)
 
-pub symbol_at_ninth : (levels line : ℕ) (s : Symbol) (o : Out) (l : LiteralText) → levels ≡ 0 → is_some o.stop ≡ false → literal_for o.blocks.literals s.kind s.text ≡ Some l
-    → stop_at E202 line o ≡ symbol_out levels line s o
-symbol_at_ninth levels line s o l zeroth e some = rw zeroth (symbol_deep line s o l e some)
+pub symbol_at_ninth : (depth line : ℕ) (s : Symbol) (o : Out) (l : LiteralText) → depth ≡ 0 → is_some o.stop ≡ false → literal_for o.blocks.literals s.kind s.text ≡ Some l
+    → stop_at E202 line o ≡ symbol_out depth line s o
+symbol_at_ninth depth line s o l zeroth e some = rw zeroth (symbol_deep line s o l e some)
 
-pub symbol_replaced : (levels line : ℕ) (s : Symbol) (o : Out) (l : LiteralText) → levels ≢ 0 → is_some o.stop ≡ false → literal_for o.blocks.literals s.kind s.text ≡ Some l
-    → text_out (levels - 1) line l.text o ≡ symbol_out levels line s o
+pub symbol_replaced : (depth line : ℕ) (s : Symbol) (o : Out) (l : LiteralText) → depth ≢ 0 → is_some o.stop ≡ false → literal_for o.blocks.literals s.kind s.text ≡ Some l
+    → text_out (depth - 1) line l.text o ≡ symbol_out depth line s o
 symbol_replaced zero line s o l more e some = absurd (more refl)
-symbol_replaced (suc levels) line s o l more e some = let less : suc levels - 1 ≡ levels = omega arith in rw less (symbol_text levels line s o l e some)
+symbol_replaced (suc depth) line s o l more e some = let less : suc depth - 1 ≡ depth = omega arith in rw less (symbol_text depth line s o l e some)
 
 -- ---- a literal by its number
 
 pub some_at : (literals : List LiteralText) (i : ℕ) → i < length literals → (l : LiteralText) × (slice_get literals i ≡ Some l)
 some_at literals i lt = let nameless : LiteralText = record { name = []; text = [] } in (get_or literals i nameless, slice_get-get_or literals i nameless lt)
 
-pub numbered_deep : (levels line : ℕ) (s : Symbol) (o : Out) (i : ℕ) → levels ≡ 0 → is_some o.stop ≡ false → slice_get o.blocks.literals i ≡ literal_for o.blocks.literals s.kind s.text → i < length o.blocks.literals
-    → stop_at E202 line o ≡ symbol_out levels line s o
-numbered_deep levels line s o i zeroth e at lt = let named = some_at o.blocks.literals i lt in symbol_at_ninth levels line s o named.0 zeroth e (sym at ∙ named.1)
+pub numbered_deep : (depth line : ℕ) (s : Symbol) (o : Out) (i : ℕ) → depth ≡ 0 → is_some o.stop ≡ false → slice_get o.blocks.literals i ≡ literal_for o.blocks.literals s.kind s.text → i < length o.blocks.literals
+    → stop_at E202 line o ≡ symbol_out depth line s o
+numbered_deep depth line s o i zeroth e at lt = let named = some_at o.blocks.literals i lt in symbol_at_ninth depth line s o named.0 zeroth e (sym at ∙ named.1)
 
-pub numbered_text : (levels line : ℕ) (s : Symbol) (o : Out) (i : ℕ) → levels ≢ 0 → is_some o.stop ≡ false → slice_get o.blocks.literals i ≡ literal_for o.blocks.literals s.kind s.text → i < length o.blocks.literals
-    → text_out (levels - 1) line (text_at o.blocks.literals i) o ≡ symbol_out levels line s o
-numbered_text levels line s o i more e at lt =
+pub numbered_text : (depth line : ℕ) (s : Symbol) (o : Out) (i : ℕ) → depth ≢ 0 → is_some o.stop ≡ false → slice_get o.blocks.literals i ≡ literal_for o.blocks.literals s.kind s.text → i < length o.blocks.literals
+    → text_out (depth - 1) line (text_at o.blocks.literals i) o ≡ symbol_out depth line s o
+numbered_text depth line s o i more e at lt =
     let named = some_at o.blocks.literals i lt in
-    ap (λ (found : Option LiteralText). text_out (levels - 1) line (text_of found) o) named.1 ∙ symbol_replaced levels line s o named.0 more e (sym at ∙ named.1)
+    ap (λ (found : Option LiteralText). text_out (depth - 1) line (text_of found) o) named.1 ∙ symbol_replaced depth line s o named.0 more e (sym at ∙ named.1)
 
 no_string : (kind : Kind) (last before : Option Lexeme) → is_string kind ≡ false → declared_name kind last before ≡ None
 no_string kind None before e = refl

@@ -13,7 +13,7 @@ use Rattle.plm_syntax.specs.Inner.Machine.{plain, an_expression, add_expression,
 use Rattle.plm_syntax.proofs.Steps.{IsDecided}
 use Rattle.plm_syntax.proofs.StatementSteps.{plain_decided, statement_plain}
 use Rattle.plm_syntax.proofs.TableExpression.{expression_of, reference_of, expression_says, subscripts_says, selector_says}
-use Rattle.plm_syntax.proofs.Meaning.{Group, group_leaves, group_statement, WellGroup, Ended_statements, ended_leaves, WellEnded, Ended_block, block_leaves, WellEndedBlock, begins_else, Means, Awaits, Says, split, on_sign, on_key, on_behind, on_otherwise, on_before, on_same, PlainDo, WhileDo, CaseDo, IterateDo, without, with_else, An, AStatement, Otherwise}
+use Rattle.plm_syntax.proofs.GoalTrees.{Group, group_leaves, group_statement, WellGroup, Ended_statements, ended_leaves, WellEnded, Ended_block, block_leaves, WellEndedBlock, begins_else, Means, Awaits, Says, split, on_sign, on_key, on_behind, on_otherwise, on_before, on_same, PlainDo, WhileDo, CaseDo, IterateDo, without, with_else, An, AStatement, Otherwise}
 
 -- A statement with its labels, from the part after them.
 pub with_labels : (m d : ℕ) (K : List Leaf → Type 0) (lab : Option NameT) (ns : NamesT) → last_name ns ≡ lab → (b : BasicT) → WellBasic lab b → (ls rest : List Leaf) → ls ≡ basic put_leaf (behind_labels m ns) d b rest → (begins_else rest ≡ true → basic_open b ≡ false) → K rest → AStatement m d K (labels put_leaf m ns ls)

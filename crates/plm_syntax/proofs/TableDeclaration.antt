@@ -12,7 +12,7 @@ use Rattle.plm_syntax.specs.Inner.Symbol.{Symbol, Rule, behind, otherwise, need,
 use Rattle.plm_syntax.specs.Inner.Machine.{set_returned, scalar_of, parameters_rule, parameter, more_parameters, returned_type, interrupt_rule, interrupt_number, linkage_rule, one_variable, make_member, add_member, make_structure, set_initial, set_data, attributes_tail, declared_tail, element_rule, more_elements, variable_rule, more_variables, based_rule, base_rule, dimension_rule, dimension_body, type_rule, member_of, member_name, more_member_names, count_rule, count_number, member_type, more_members, at_rule, at_body, initial_rule, attributes_rule, element_lead, literal_text}
 use Rattle.plm_syntax.proofs.Steps.{IsDecided}
 use Rattle.plm_syntax.proofs.TableExpression.{values_of}
-use Rattle.plm_syntax.proofs.Meaning.{at_body_leaves, WellAtBody, Means, Awaits, Says, on_sign, on_key, on_behind, on_otherwise, on_before, on_same, An, Token_then}
+use Rattle.plm_syntax.proofs.GoalTrees.{at_body_leaves, WellAtBody, Means, Awaits, Says, on_sign, on_key, on_behind, on_otherwise, on_before, on_same, An, Token_then}
 
 pub scalar_is : (t : Terminal) (s : Scalar) → scalar_of t ≡ Some s → scalar_key s ≡ t
 scalar_is (Key key.Byte) scalar.Byte h = refl

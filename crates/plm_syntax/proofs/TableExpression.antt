@@ -15,7 +15,7 @@ use Rattle.plm_syntax.specs.Inner.Machine.{operand, again, number_of, an_express
 use Rattle.std.specs.Prelude.{nat_eq}
 use Rattle.plm_syntax.proofs.Steps.{IsDecided}
 use Rattle.plm_syntax.proofs.DriveExpression.{signed_decided}
-use Rattle.plm_syntax.proofs.Meaning.{Inner, inner, WellInner, several_leaves, left_of, Means, Awaits, Says, on_sign, on_key, on_behind, on_otherwise, on_same, Nested, Stored, An}
+use Rattle.plm_syntax.proofs.GoalTrees.{Inner, inner, WellInner, several_leaves, left_of, Means, Awaits, Says, on_sign, on_key, on_behind, on_otherwise, on_same, Nested, Stored, An}
 
 -- ---- whole expressions
 

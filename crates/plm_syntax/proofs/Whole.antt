@@ -15,7 +15,7 @@ use Rattle.plm_syntax.proofs.Steps.{go, trace_step, ruled, feed_want}
 use Rattle.plm_syntax.proofs.Levels.{thens, levels_module_leaves}
 use Rattle.plm_syntax.proofs.DriveBlock.{module_drives}
 use Rattle.plm_syntax.proofs.Fill.{fill_all}
-use Rattle.plm_syntax.proofs.Meaning.{Means, Awaits, Says, split, same_is}
+use Rattle.plm_syntax.proofs.GoalTrees.{Means, Awaits, Says, split, same_is}
 use Rattle.plm_syntax.proofs.TableExpression.{more_says, subscripts_says, more_subscripts_says, selector_says, member_says, member_subscript_says, located_says, value_says, negative_says, more_values_says, primary_says, signed_says, negation_says, inside_says, after_reference_says}
 use Rattle.plm_syntax.proofs.TableDeclaration.{parameter_says, member_name_says, more_parameters_says, more_member_names_says, parameters_says, returned_type_says, interrupt_says, interrupt_number_says, linkage_says, at_says, at_body_says, initial_says, attributes_says, count_says, count_number_says, member_type_says, member_of_says, more_members_says, type_says, dimension_says, dimension_body_says, based_says, base_says, variable_says, more_variables_says, element_lead_says, literal_text_says, element_says, more_elements_says}
 use Rattle.plm_syntax.proofs.TableBlock.{statement_says, more_targets_says, target_says, lead_says, called_says, returned_says, arm_says, otherwise_says, step_says, end_says, statements_says, do_says, items_says, item_lead_says, item_colon_says, module_says, start_says}

@@ -8,7 +8,7 @@ use Rattle.plm_syntax.specs.Spelling.{levels_of}
 use Rattle.plm_syntax.specs.WellFormed.{WellModule}
 use Rattle.plm_syntax.specs.Sentence.{Spells, AllWithin}
 use Rattle.plm_syntax.specs.Literals.{Out}
-use Rattle.plm_syntax.specs.Reading.{text_tokens, FaultIs}
+use Rattle.plm_syntax.specs.Faults.{text_tokens, FaultIs}
 
 -- what is answered for the tokens that came out of the replacement
 abbrev pub Answers : Result Module Fault → Out → Type 0

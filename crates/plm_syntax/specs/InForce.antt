@@ -12,7 +12,7 @@ use Rattle.plm_syntax.specs.Tree.{ElementT, LiteralElement, VariableElement, Ele
 use Rattle.plm_syntax.specs.Spelling.{tok, sign, word, expression, parenthesised_names, element, returned, interrupt, linkage, ending, labels, step, basic}
 use Rattle.plm_syntax.specs.Sentence.{Spells}
 use Rattle.plm_syntax.specs.Literals.{LiteralText, Out, between, literal_for, put_source, text_out, nothing_out, expanded}
-use Rattle.plm_syntax.specs.Reading.{text_tokens}
+use Rattle.plm_syntax.specs.Faults.{text_tokens}
 
 -- literals, the oldest first
 abbrev pub Table : Type 0
@@ -110,16 +110,16 @@ in_force m n = table_at (tables_of m) n
 abbrev pub put_all : List Lexeme → Out
 put_all ts = fold (λ o t. put_source t o) nothing_out ts
 
--- Token s is read where o has come out, with `levels` replacements left that may be made one inside the other: a token of the source, or one of the
+-- Token s is read where o has come out, with `depth` replacements left that may be made one inside the other: a token of the source, or one of the
 -- text of a literal that was read.
 pub data IsRead (source : List Lexeme) : ℕ → ℕ → Symbol → Out → Type 0 where
   of_source : (front back : List Lexeme) (t : Lexeme) → source ≡ front ++ t ∷ back → IsRead source 8 t.line (record { kind = t.kind; text = t.text }) (expanded front)
-  of_text : (levels line : ℕ) (s : Symbol) (o : Out) (l : LiteralText) (front back : List Symbol) (x : Symbol) → IsRead source (suc levels) line s o → literal_for o.blocks.literals s.kind s.text ≡ Some l → l.text ≡ front ++ x ∷ back → IsRead source levels line x (text_out levels line front o)
+  of_text : (depth line : ℕ) (s : Symbol) (o : Out) (l : LiteralText) (front back : List Symbol) (x : Symbol) → IsRead source (suc depth) line s o → literal_for o.blocks.literals s.kind s.text ≡ Some l → l.text ≡ front ++ x ∷ back → IsRead source depth line x (text_out depth line front o)
 
 -- The literals by which a source is replaced are those in force in the module that it spells then.
 pub record AreInForce (source : List Lexeme) (m : ModuleT) : Type 0 where
   -- wherever a token is read
-  pub where_read : (levels line : ℕ) (s : Symbol) (o : Out) → IsRead source levels line s o → o.blocks.literals ≡ in_force m (length o.tokens)
+  pub where_read : (depth line : ℕ) (s : Symbol) (o : Out) → IsRead source depth line s o → o.blocks.literals ≡ in_force m (length o.tokens)
   -- at each token that comes out; they come out one after the other
   pub one_by_one : expanded source ≡ put_all (expanded source).tokens
   pub at_token : (n : ℕ) → n ≤ length (expanded source).tokens → (put_all (take n (expanded source).tokens)).blocks.literals ≡ in_force m n

@@ -5,7 +5,7 @@ pub mod Spelling
 pub mod WellFormed
 pub mod Sentence
 pub mod Literals
-pub mod Reading
+pub mod Faults
 pub mod Answer
 pub mod InForce
 pub mod Inner

@@ -30,7 +30,7 @@ abbrev pub finishes : Mark → Bool
 finishes marks.Semicolon = true
 finishes m = false
 
--- a word with such a meaning
+-- a reserved word of which the test holds
 abbrev pub is_keyword : (Keyword → Bool) → Kind → Bool
 is_keyword test (Reserved k) = test k
 is_keyword test Identifier = false
@@ -152,14 +152,14 @@ abbrev pub or_else : Option (Number × ℕ) → Out → Out → Out
 or_else None o next = next
 or_else (Some stop) o next = o
 
--- a token of a literal's text, with the line of the name that it replaces, where `levels` more replacements may be made one inside the other
+-- a token of a literal's text, with the line of the name that it replaces, where `depth` more replacements may be made one inside the other
 unfoldable pub symbol_out : ℕ → ℕ → Symbol → Out → Out
 symbol_out zero line s o = or_else o.stop o (by_literal (λ l. stop_at E202 line o) (literal_for o.blocks.literals s.kind s.text) (put (on_line line s) o))
-symbol_out (suc levels) line s o = or_else o.stop o (by_literal (λ l. fold (λ p x. symbol_out levels line x p) o l.text) (literal_for o.blocks.literals s.kind s.text) (put (on_line line s) o))
+symbol_out (suc depth) line s o = or_else o.stop o (by_literal (λ l. fold (λ p x. symbol_out depth line x p) o l.text) (literal_for o.blocks.literals s.kind s.text) (put (on_line line s) o))
 
 -- the tokens of a literal's text
 abbrev pub text_out : ℕ → ℕ → List Symbol → Out → Out
-text_out levels line text o = fold (λ p x. symbol_out levels line x p) o text
+text_out depth line text o = fold (λ p x. symbol_out depth line x p) o text
 
 -- a token of the source: eight replacements may be made one inside the other
 abbrev pub source_out : Lexeme → Out → Out

@@ -7,7 +7,7 @@ ghost use Rattle.plm_syntax.specs.Terminal.{is_key};
 ghost use Rattle.plm_token.specs.Scanner.{lexemes};
 ghost use Rattle.plm_syntax.specs.Literals.{expanded};
 ghost use Rattle.plm_syntax.specs.Answer.{Answers};
-ghost use Rattle.plm_syntax.specs.Reading.{line_from, terminal_of, tokens_from, opening_token};
+ghost use Rattle.plm_syntax.specs.Faults.{line_from, terminal_of, tokens_from, opening_token};
 ghost use Rattle.plm_syntax.specs.Inner.Answer.{refusal_at, deep_at, fault_of, LeftIn};
 
 use crate::cursor::Cursor;

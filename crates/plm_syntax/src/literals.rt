@@ -1,21 +1,21 @@
 //! Names that LITERALLY declares are replaced by their texts' tokens.
 
-ghost use Rattle.std.specs.Prelude.{◌≡◌, ◌<◌, true, Some, length, map, fold, OnOk, IfOk, IfErr, option_map};
+ghost use Rattle.std.specs.Prelude.{◌≡◌, ◌<◌, [], ◌∷◌, true, Some, length, map, take, fold, OnOk, IfOk, IfErr, IfSome, option_map};
 ghost use Rattle.std.specs.List.{slice_get, slice_range};
 ghost use Rattle.word86.specs.declared.fault.Fault.TheVariants.{Memory};
 ghost use Rattle.plm_token.specs.Scanner.{lexeme, lexemes};
 ghost use Rattle.plm_syntax.specs.Literals.{LiteralText, ends, declares, is_keyword, is_string, over_limit, ends_block, declared_name, between, put, symbol_out, text_out, nothing_out, expanded};
-ghost use Rattle.plm_syntax.specs.Inner.OpenBlocks.{symbol, text_at, is_quiet, is_quiet_text};
+ghost use Rattle.plm_syntax.specs.Inner.OpenBlocks.{symbol, text_at, is_quiet_text, IsQuietBy, joined, named_quiet};
 ghost use Rattle.plm_syntax.specs.Inner.Literals.{out_of, text_view, text_for, with_text, source_view, put_with_text, out_with_text};
 ghost use Rattle.plm_syntax.specs.Literals.{expansion_view, expansion_of};
 
-use crate::open_blocks::{OpenBlocks, QuietRun, is_identifier};
+use crate::open_blocks::{NOTHING, OpenBlocks, Quiet, QuietRun, is_identifier};
 use plm_token::{Keyword, Kind, Token, scan_literal};
 use std::alloc::Global;
 use word86::{Fault, Number};
 
 /// How many replacements may stand one inside the other.
-const LEVELS: u8 = 8;
+const DEPTH: u8 = 8;
 
 /// The most tokens that a module may have once its literals are replaced.
 const TOKEN_LIMIT: usize = 65_535;
@@ -65,6 +65,28 @@ fn over_limit(count: usize, line: u32) -> Option<(Number, u32)>
     }
 }
 
+/// What tokens rest on beside others, if nothing comes of them all.
+fn joined(before: Option<Quiet>, next: Option<Quiet>) -> Option<Quiet>
+    ensures { result ≡ joined before next }
+{
+    match (before, next) {
+        (Some(before), Some(next)) => Some(before.and(next)),
+        _ => None,
+    }
+}
+
+/// What the name of a literal rests on, if nothing comes of its text.
+fn named(text: Option<Quiet>, literal: usize) -> Option<Quiet>
+    requires depth { IfSome text (λ q. q.depth < 255) }
+    requires number { literal < 18446744073709551615 }
+    ensures { result ≡ option_map (named_quiet literal) text }
+{
+    match text {
+        Some(quiet) => Some(quiet.named(literal)),
+        None => None,
+    }
+}
+
 impl<'t, 'a> Expander<'t, 'a> {
     /// Whether a semicolon ends a block here: after END, or END and a name.
     fn ends_block(&self) -> bool
@@ -109,88 +131,99 @@ impl<'t, 'a> Expander<'t, 'a> {
         Ok(())
     }
 
-    /// Puts a token of a literal's text out, with the line of the name that the text replaces, or replaces it in turn.
+    /// Puts a token of a literal's text out, with the line of the name that the text replaces, or replaces it in turn. Where nothing comes of
+    /// it, the answer is what that rests on.
     #[cycle(replace)]
     #[tactic(auto, using(crate::proofs::Replaced::symbol_stopped, crate::proofs::Replaced::symbol_plain, crate::proofs::Replaced::symbol_deep, crate::proofs::Replaced::symbol_text))]
-    fn put_symbol(&mut self, token: Token<'a>, line: u32, levels: u8) -> Result<(), Fault>
-        ensures ok { OnOk result (out_of self.new ≡ symbol_out levels line (symbol token.entry) (out_of self.old)) }
+    fn put_symbol(&mut self, token: Token<'a>, line: u32, depth: u8) -> Result<Option<Quiet>, Fault>
+        ensures ok { OnOk result (out_of self.new ≡ symbol_out depth line (symbol token.entry) (out_of self.old)) }
+        ensures quiet { IfOk result (λ r. IfSome r (λ q. IsQuietBy depth q (out_of self.old).blocks.literals (symbol token.entry ∷ []))) }
         ensures err { IfErr result (λ f. f ≡ Memory) }
     {
         if self.stop.is_some() {
-            return Ok(());
+            return Ok(None);
         }
         match self.blocks.literal(token.kind, token.text) {
-            None => self.put(Token {
-                kind: token.kind,
-                text: token.text,
-                line,
-            }),
+            None => {
+                self.put(Token {
+                    kind: token.kind,
+                    text: token.text,
+                    line,
+                })?;
+                Ok(None)
+            }
             Some(index) => {
-                if levels == 0 {
+                if depth == 0 {
                     self.stop = Some((Number::E202, line));
-                    return Ok(());
+                    return Ok(None);
                 }
-                self.put_literal(index, line, levels - 1)
+                let quiet = self.put_literal(index, line, depth - 1)?;
+                Ok(named(quiet, index))
             }
         }
     }
 
-    /// Puts a literal's text out, its tokens with the line of the name that it replaces. Tokens that are known to put nothing out are passed
-    /// over, and those that are seen to are remembered.
+    /// Puts a literal's text out, its tokens with the line of the name that it replaces.
     #[cycle(replace)]
-    fn put_literal(&mut self, index: usize, line: u32, levels: u8) -> Result<(), Fault>
+    fn put_literal(&mut self, index: usize, line: u32, depth: u8) -> Result<Option<Quiet>, Fault>
         requires { index < length self.old.blocks.literals.items }
-        ensures ok { OnOk result (out_of self.new ≡ text_out levels line (text_at (out_of self.old).blocks.literals index) (out_of self.old)) }
+        ensures ok { OnOk result (out_of self.new ≡ text_out depth line (text_at (out_of self.old).blocks.literals index) (out_of self.old)) }
+        ensures quiet { IfOk result (λ r. IfSome r (λ q. IsQuietBy depth q (out_of self.old).blocks.literals (text_at (out_of self.old).blocks.literals index))) }
         ensures err { IfErr result (λ f. f ≡ Memory) }
     {
         let text = self.blocks.literals[index].text;
+        let mut quiet = Some(NOTHING);
         let mut at = 0;
-        let mut from = 0;
         while at < text.len() {
-            if let Some(to) = self.blocks.quiet_until(index, at, levels) {
-                at = to;
-                from = to;
-            } else {
-                let token = text[at];
-                let quiet = self.put_one(token, line, levels)?;
-                at += 1;
-                if quiet {
-                    self.remember(index, levels, from, at)?;
-                } else {
-                    from = at;
-                }
+            let (to, needs) = self.put_next(index, text, at, line, depth)?;
+            quiet = joined(quiet, needs);
+            at = to;
+        }
+        Ok(quiet)
+    }
+
+    /// Puts the next tokens of a literal's text out: those that are known to put nothing out, which are passed over, or else one. The answer
+    /// is up to where, and what they rest on if nothing came of them.
+    #[cycle(replace)]
+    fn put_next(
+        &mut self,
+        index: usize,
+        text: &'t [Token<'a>],
+        at: usize,
+        line: u32,
+        depth: u8,
+    ) -> Result<(usize, Option<Quiet>), Fault>
+        requires inside { at < length text.now }
+        requires same { (l : LiteralText) → slice_get (out_of self.old).blocks.literals index ≡ Some l → l.text ≡ map symbol text.now }
+        ensures later { IfOk result (λ r. at < r.0) }
+        ensures ok { IfOk result (λ r. out_of self.new ≡ text_out depth line (slice_range (map symbol text.now) at r.0) (out_of self.old)) }
+        ensures quiet { IfOk result (λ r. IfSome r.1 (λ q. IsQuietBy depth q (out_of self.old).blocks.literals (slice_range (map symbol text.now) at r.0))) }
+        ensures err { IfErr result (λ f. f ≡ Memory) }
+    {
+        if let Some(run) = self.blocks.quiet_from(index, at, depth) {
+            self.blocks.learn(run);
+            return Ok((run.to, Some(run.quiet)));
+        }
+        let quiet = self.put_symbol(text[at], line, depth)?;
+        self.learn(index, at, at + 1, quiet);
+        Ok((at + 1, quiet))
+    }
+
+    /// Remembers that tokens of a literal put nothing out, if so, where the literal is still there.
+    fn learn(&mut self, literal: usize, from: usize, to: usize, quiet: Option<Quiet>)
+        requires { IfSome quiet (λ q. (l : LiteralText) → slice_get (out_of self.old).blocks.literals literal ≡ Some l → is_quiet_text q.depth (take q.rests_on (out_of self.old).blocks.literals) (slice_range l.text from to) ≡ true) }
+        ensures { out_of self.new ≡ out_of self.old }
+    {
+        if let Some(needs) = quiet {
+            if literal < self.blocks.literals.len() {
+                self.blocks.learn(QuietRun {
+                    literal,
+                    from,
+                    to,
+                    quiet: needs.with(literal),
+                });
             }
         }
-        Ok(())
-    }
-
-    /// Puts a token of a literal's text out, and says whether nothing came of it.
-    #[cycle(replace)]
-    fn put_one(&mut self, token: Token<'a>, line: u32, levels: u8) -> Result<bool, Fault>
-        ensures ok { IfOk result (λ _. out_of self.new ≡ symbol_out levels line (symbol token.entry) (out_of self.old)) }
-        ensures quiet { IfOk result (λ q. q ≡ true → is_quiet levels (out_of self.old).blocks.literals (symbol token.entry) ≡ true) }
-        ensures err { IfErr result (λ f. f ≡ Memory) }
-    {
-        let count = self.tokens.len();
-        self.put_symbol(token, line, levels)?;
-        Ok(self.stop.is_none() && self.tokens.len() == count)
-    }
-
-    /// Remembers that tokens of a literal put nothing out, where the literal is still there.
-    fn remember(&mut self, literal: usize, levels: u8, from: usize, to: usize) -> Result<(), Fault>
-        requires { (l : LiteralText) → slice_get (out_of self.old).blocks.literals literal ≡ Some l → is_quiet_text levels (out_of self.old).blocks.literals (slice_range l.text from to) ≡ true }
-        ensures same { out_of self.new ≡ out_of self.old }
-        ensures err { IfErr result (λ f. f ≡ Memory) }
-    {
-        if literal < self.blocks.literals.len() {
-            self.blocks.remember(QuietRun {
-                literal,
-                levels,
-                from,
-                to,
-            })?;
-        }
-        Ok(())
     }
 
     /// Puts a token of the source out; a string may declare a literal, whose faults stand at it.
@@ -224,7 +257,10 @@ impl<'t, 'a> Expander<'t, 'a> {
         let token = source.token;
         match self.blocks.literal(token.kind, token.text) {
             None => self.put_source(token, &source.text),
-            Some(index) => self.put_literal(index, token.line, LEVELS - 1),
+            Some(index) => {
+                let _quiet = self.put_literal(index, token.line, DEPTH - 1)?;
+                Ok(())
+            }
         }
     }
 }

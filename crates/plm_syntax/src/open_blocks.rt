@@ -1,50 +1,124 @@
-//! The open blocks, their literals, and what was learned of the literals while they are these.
+//! The open blocks, their literals, and what is known of the literals' texts as long as these are there.
 
-ghost use Rattle.std.specs.Prelude.{◌≡◌, ◌<◌, true, length, map, position, OnOk, IfErr, IfSome};
+ghost use Rattle.std.specs.Prelude.{◌≡◌, ℕ, ◌<◌, ◌≤◌, List, true, length, map, position, OnOk, IfErr, IfSome};
 ghost use Rattle.std.specs.List.{All};
 ghost use Rattle.word86.specs.declared.fault.Fault.TheVariants.{Memory};
 ghost use Rattle.plm_token.specs.Names.{names_equal};
+ghost use Rattle.plm_syntax.specs.declared.open_blocks.Literal.{Literal};
 ghost use Rattle.plm_syntax.specs.Literals.{opens, is_keyword, is_semicolon, is_identifier};
-ghost use Rattle.plm_syntax.specs.Inner.OpenBlocks.{literal_text, is_quiet_run};
+ghost use Rattle.plm_syntax.specs.Inner.OpenBlocks.{literal_text, both_quiet, named_quiet, quiet_with, IsKnown};
 
 use plm_token::{Keyword, Kind, Mark, Token, same_name};
 use std::alloc::Global;
 use word86::Fault;
 
-/// A literal of an open block, and where the entries of its tokens begin.
+/// A literal of an open block, its number among all that were declared, and where what is known of its tokens begins.
 #[derive(Clone, Copy)]
 pub struct Literal<'t, 'a> {
     pub name: &'a [u8],
     pub text: &'t [Token<'a>],
-    pub first_entry: usize,
+    pub serial: usize,
+    pub first_run: usize,
 }
 
-/// Tokens of a literal's text, from one up to another, that put nothing out where `levels` replacements may be made one inside the other.
+/// What tokens of a literal's text that put nothing out need: how many replacements may be made one inside the other, and how many of the
+/// literals, the oldest first, have to be there.
+#[derive(Clone, Copy)]
+pub struct Quiet {
+    pub depth: u8,
+    pub rests_on: usize,
+}
+
+/// Tokens of a literal's text, from one up to another, that put nothing out.
 #[derive(Clone, Copy)]
 pub struct QuietRun {
     pub literal: usize,
-    pub levels: u8,
     pub from: usize,
     pub to: usize,
+    pub quiet: Quiet,
 }
 
-/// The open blocks: their literals, the oldest first, and how many there were when each block began, the innermost last. Beside them the runs
-/// of tokens that were seen to put nothing out while these are the literals, and for each token of a text the number of the run that begins there, if any.
+/// A run, and the number, among all literals that were declared, of the newest that it rests on: where another has its place, the run is known no more.
+#[derive(Clone, Copy)]
+pub struct KnownRun {
+    pub run: QuietRun,
+    pub serial: usize,
+}
+
+/// The open blocks: their literals, the oldest first, and how many there were when each block began, the innermost last. Beside them what is
+/// known of the literals' texts, and how many literals were declared so far.
+///
+/// A text's runs have lengths of 1, 2, 4 and so on, and begin at multiples of their lengths, as the halves of longer ones; each has its place between those of its halves.
+/// So where a literal goes, only the few runs around each name of it are known no more.
 #[derive(Drop)]
 pub struct OpenBlocks<'t, 'a> {
     pub literals: Vec<Literal<'t, 'a>>,
     pub starts: Vec<usize>,
-    pub runs: Vec<QuietRun>,
-    pub entries: Vec<usize>,
-    ghost known: { All (λ r. is_quiet_run (map literal_text literals.items) r ≡ true) runs.items },
+    pub runs: Vec<KnownRun>,
+    pub declared: usize,
+    ghost known: { All (λ k. IsKnown literals.items declared k) runs.items },
 }
 
-/// An entry for each token of a text, all of no run in particular.
-fn add_entries(entries: &mut Vec<usize>, text: &[Token<'_>]) -> Result<(), Fault>
+/// What is known of a run before anything is.
+const UNKNOWN: KnownRun = KnownRun {
+    run: QuietRun {
+        literal: 0,
+        from: 0,
+        to: 0,
+        quiet: NOTHING,
+    },
+    serial: 0,
+};
+
+/// What no tokens need.
+pub(crate) const NOTHING: Quiet = Quiet {
+    depth: 0,
+    rests_on: 0,
+};
+
+impl Quiet {
+    /// What tokens need beside others.
+    pub(crate) fn and(self, other: Quiet) -> Quiet
+        ensures { result ≡ both_quiet self other }
+    {
+        Quiet {
+            depth: self.depth.max(other.depth),
+            rests_on: self.rests_on.max(other.rests_on),
+        }
+    }
+
+    /// What the name of a literal needs, by its number, whose text needs this.
+    pub(crate) fn named(self, literal: usize) -> Quiet
+        requires depth { self.depth < 255 }
+        requires number { literal < 18446744073709551615 }
+        ensures { result ≡ named_quiet literal self }
+    {
+        Quiet {
+            depth: self.depth + 1,
+            rests_on: self.rests_on.max(literal + 1),
+        }
+    }
+
+    /// What tokens of a literal need, by its number, so that the literal itself is there too.
+    pub(crate) fn with(self, literal: usize) -> Quiet
+        requires { literal < 18446744073709551615 }
+        ensures { result ≡ quiet_with literal self }
+    {
+        Quiet {
+            depth: self.depth,
+            rests_on: self.rests_on.max(literal + 1),
+        }
+    }
+}
+
+/// Places for what will be known of a text: two for each token.
+fn add_runs(runs: &mut Vec<KnownRun>, text: &[Token<'_>]) -> Result<(), Fault>
+    ensures known { (literals : List Literal) (declared : ℕ) → All (λ k. IsKnown literals declared k) runs.old.items → All (λ k. IsKnown literals declared k) runs.new.items }
     ensures err { IfErr result (λ f. f ≡ Memory) }
 {
     for _ in text {
-        entries.push(0)?;
+        runs.push(UNKNOWN)?;
+        runs.push(UNKNOWN)?;
     }
     Ok(())
 }
@@ -69,7 +143,7 @@ pub(crate) fn is_identifier(kind: Kind) -> bool
 
 impl<'t, 'a> OpenBlocks<'t, 'a> {
     ghost use Rattle.plm_syntax.specs.Literals.{no_blocks, opened, closed, blocks_behind, with_literal, literal_for};
-    ghost use Rattle.plm_syntax.specs.Inner.OpenBlocks.{symbol, literal_at, is_quiet_between, is_quiet_run};
+    ghost use Rattle.plm_syntax.specs.Inner.OpenBlocks.{symbol, literal_at, is_quiet_run, newest_of};
     ghost use Rattle.plm_syntax.specs.Inner.Literals.{blocks_of};
 
     /// No block, and no literal.
@@ -80,7 +154,7 @@ impl<'t, 'a> OpenBlocks<'t, 'a> {
             literals: Vec::new(alloc),
             starts: Vec::new(alloc),
             runs: Vec::new(alloc),
-            entries: Vec::new(alloc),
+            declared: 0,
         }
     }
 
@@ -113,14 +187,13 @@ impl<'t, 'a> OpenBlocks<'t, 'a> {
         Ok(())
     }
 
-    /// Closes the innermost block. Where literals go with it, what was seen of the others is forgotten: their texts may name those that go.
+    /// Closes the innermost block. What was seen of the literals that stay is known still, unless it rests on those that go.
     fn close(&mut self)
         ensures { blocks_of self.new ≡ closed (blocks_of self.old).literals (blocks_of self.old).starts }
     {
         if let Some(start) = self.starts.pop() {
             if let Some(literal) = self.literals.get(start) {
-                self.entries.truncate(literal.first_entry);
-                self.runs.clear();
+                self.runs.truncate(literal.first_run);
                 self.literals.truncate(start);
             }
         }
@@ -134,64 +207,112 @@ impl<'t, 'a> OpenBlocks<'t, 'a> {
         let literal = Literal {
             name,
             text,
-            first_entry: self.entries.len(),
+            serial: self.declared,
+            first_run: self.runs.len(),
         };
-        add_entries(&mut self.entries, text)?;
+        add_runs(&mut self.runs, text)?;
         self.literals.push(literal)?;
+        self.declared = self.declared.saturating_add(1);
         Ok(())
     }
 
-    /// The number of the run of a literal that begins at this token, if one is known.
-    fn run_at(&self, literal: usize, from: usize) -> Option<usize>
-        ensures { IfSome result (λ n. n < length self.now.runs.items) }
+    /// Where what is known of tokens of a literal stands, if there is a place for it.
+    fn place(&self, literal: usize, from: usize, to: usize) -> Option<usize> {
+        let first = self.literals.get(literal)?.first_run;
+        first.checked_add(from)?.checked_add(to)?.checked_sub(1)
+    }
+
+    /// The number, among all that were declared, of the newest of so many literals.
+    fn newest(&self, count: usize) -> Option<usize>
+        ensures { result ≡ newest_of self.now.literals.items count }
     {
-        let first = self.literals.get(literal)?.first_entry;
-        let number = *self.entries.get(first.checked_add(from)?)?;
-        let run = self.runs.get(number)?;
-        if run.literal == literal && run.from == from {
-            Some(number)
+        let last = count.checked_sub(1)?;
+        Some(self.literals.get(last)?.serial)
+    }
+
+    /// The run of these tokens of a literal, if it is known that they put nothing out.
+    fn known(&self, literal: usize, from: usize, to: usize) -> Option<QuietRun>
+        ensures quiet { IfSome result (λ r. is_quiet_run (blocks_of self.now).literals r ≡ true) }
+        ensures place { IfSome result (λ r. (r.literal ≡ literal) × (r.from ≡ from) × (r.to ≡ to)) }
+        ensures some { IfSome result (λ r. r.from < r.to) }
+    {
+        let known = *self.runs.get(self.place(literal, from, to)?)?;
+        let run = known.run;
+        let there = self.newest(run.quiet.rests_on) == Some(known.serial);
+        if there && run.literal == literal && run.from == from && run.to == to && from < to {
+            Some(run)
         } else {
             None
         }
     }
 
-    /// Up to where the tokens of a literal from this one on are known to put nothing out, if one at least does not.
-    pub(crate) fn quiet_until(&self, literal: usize, from: usize, levels: u8) -> Option<usize>
-        ensures quiet { IfSome result (λ to. is_quiet_between levels (blocks_of self.now).literals literal from to ≡ true) }
-        ensures later { IfSome result (λ to. from < to) }
+    /// The longest run that is known of a literal's tokens from this one on, and needs no more than this depth.
+    pub(crate) fn quiet_from(&self, literal: usize, from: usize, depth: u8) -> Option<QuietRun>
+        ensures quiet { IfSome result (λ r. is_quiet_run (blocks_of self.now).literals r ≡ true) }
+        ensures place { IfSome result (λ r. (r.literal ≡ literal) × (r.from ≡ from)) }
+        ensures some { IfSome result (λ r. r.from < r.to) }
+        ensures within { IfSome result (λ r. r.quiet.depth ≤ depth) }
     {
-        let run = self.runs[self.run_at(literal, from)?];
-        if run.literal == literal && run.from == from && run.levels <= levels && from < run.to {
-            Some(run.to)
-        } else {
-            None
+        let mut longest = None;
+        let mut length = 1usize;
+        for _ in 0..usize::BITS {
+            let Some(run) = self.known(literal, from, from.saturating_add(length)) else {
+                return longest;
+            };
+            if run.quiet.depth > depth {
+                return longest;
+            }
+            longest = Some(run);
+            length = length.saturating_mul(2);
         }
+        longest
     }
 
-    /// Remembers that tokens of a literal put nothing out, in place of what is known of a run that begins there.
-    pub(crate) fn remember(&mut self, run: QuietRun) -> Result<(), Fault>
+    /// Remembers that tokens of a literal put nothing out, and what this says of longer runs of which they are the later half.
+    pub(crate) fn learn(&mut self, run: QuietRun)
         requires { is_quiet_run (blocks_of self.old).literals run ≡ true }
-        ensures same { blocks_of self.new ≡ blocks_of self.old }
-        ensures err { IfErr result (λ f. f ≡ Memory) }
+        ensures { blocks_of self.new ≡ blocks_of self.old }
     {
-        if let Some(number) = self.run_at(run.literal, run.from) {
-            self.runs[number] = run;
-            return Ok(());
+        self.remember(run);
+        let mut run = run;
+        while let Some(whole) = self.with_earlier_half(run) {
+            self.remember(whole);
+            run = whole;
         }
-        let number = self.runs.len();
-        self.runs.push(run)?;
-        self.enter(run, number);
-        Ok(())
     }
 
-    /// Notes the number of a run at the token where it begins.
-    fn enter(&mut self, run: QuietRun, number: usize)
-        ensures same { blocks_of self.new ≡ blocks_of self.old }
+    /// The run of which this one is the later half, if its earlier half is known.
+    fn with_earlier_half(&self, run: QuietRun) -> Option<QuietRun>
+        requires { is_quiet_run (blocks_of self.now).literals run ≡ true }
+        ensures quiet { IfSome result (λ r. is_quiet_run (blocks_of self.now).literals r ≡ true) }
+        ensures earlier { IfSome result (λ r. r.from < run.from) }
     {
-        if let Some(literal) = self.literals.get(run.literal) {
-            let entry = literal.first_entry.saturating_add(run.from);
-            if let Some(slot) = self.entries.get_mut(entry) {
-                *slot = number;
+        let length = run.to.checked_sub(run.from)?;
+        if run.from & length == 0 {
+            return None;
+        }
+        let earlier = self.known(run.literal, run.from.checked_sub(length)?, run.from)?;
+        Some(QuietRun {
+            literal: run.literal,
+            from: earlier.from,
+            to: run.to,
+            quiet: earlier.quiet.and(run.quiet),
+        })
+    }
+
+    /// Remembers that tokens of a literal put nothing out.
+    fn remember(&mut self, run: QuietRun)
+        requires { is_quiet_run (blocks_of self.old).literals run ≡ true }
+        ensures { blocks_of self.new ≡ blocks_of self.old }
+    {
+        if let (Some(place), Some(serial)) = (
+            self.place(run.literal, run.from, run.to),
+            self.newest(run.quiet.rests_on),
+        ) {
+            if serial < self.declared {
+                if let Some(known) = self.runs.get_mut(place) {
+                    *known = KnownRun { run, serial };
+                }
             }
         }
     }

@@ -4,7 +4,7 @@ ghost use Rattle.std.specs.Prelude.{◌≡◌, ℕ, List, nat_eq};
 ghost use Rattle.plm_syntax.specs.declared.tree.Position.{Position as SomePlace};
 ghost use Rattle.plm_syntax.specs.WellFormed.{precedence_of};
 ghost use Rattle.plm_syntax.specs.Inner.Machine.{number_of, operator_of};
-ghost use Rattle.plm_syntax.specs.Reading.{terminal_of};
+ghost use Rattle.plm_syntax.specs.Faults.{terminal_of};
 ghost use Rattle.plm_syntax.specs.Inner.Parts.{precedence_view, is_relations, IsOperator};
 
 use crate::cursor::Cursor;

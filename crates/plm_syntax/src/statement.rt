@@ -7,7 +7,7 @@ ghost use Rattle.plm_syntax.specs.declared.tree.Scalar.{Scalar as SomeScalar};
 ghost use Rattle.plm_syntax.specs.Terminal.{NameT, NumeralT, Key, is_key};
 ghost use Rattle.plm_syntax.specs.Tree.{NamesT, ItemsT, no_names, no_statements, no_items, no_references, no_linkage};
 ghost use Rattle.plm_syntax.specs.View.{name_of, base_of};
-ghost use Rattle.plm_syntax.specs.Reading.{terminal_of};
+ghost use Rattle.plm_syntax.specs.Faults.{terminal_of};
 ghost use Rattle.plm_syntax.specs.WellFormed.{is_end_name};
 ghost use Rattle.plm_syntax.specs.Inner.Symbol.{Want, Need, Do, need, NamesR, NameR, ReferencesR, StatementsR, ItemsR, HeaderR, StepR, StatementG, ArmG, DoG, StatementsG, EndG, ItemsG, StepG, SubscriptsG, SelectorG, MoreTargetsG, CalledG, ReturnedG, ParametersG, InterruptG};
 ghost use Rattle.plm_syntax.specs.Inner.Parsed.{Leads, LeadsInside, Reads, Within, is_name, next_of, ahead};

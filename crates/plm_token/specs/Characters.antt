@@ -1,4 +1,4 @@
--- The characters of a text.
+-- Which characters a text may have, by their ASCII codes: blanks, those of names and numbers, and those of strings.
 use Rattle.std.specs.Prelude.{ℕ, Bool, ◌&&◌, ◌||◌, nat_eq, nat_le}
 
 -- from one character through another

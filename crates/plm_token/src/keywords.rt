@@ -113,6 +113,7 @@ pub fn keyword(name: &[u8]) -> Option<Keyword>
     keyword_among(name, &KEYWORDS)
 }
 
+/// The first of some reserved words that a name is, if it is one.
 fn keyword_among(name: &[u8], keywords: &[Keyword]) -> Option<Keyword>
     ensures { result ≡ find (λ k. bytes_eq (normal name.now) (spelling k)) keywords.now }
 {

@@ -1,4 +1,4 @@
-//! The scanner.
+//! A text's pieces one after the other, their tokens and lines, and the first fault; of a literal's text the least one.
 
 ghost use Rattle.std.specs.Prelude.{◌≡◌, ◌≤◌, ◌<◌, ◌+◌, ℕ, [], ◌∷◌, length, fold, count_by, IfSome, IfNone, Some};
 ghost use Rattle.plm_token.specs.declared.piece.ScanState.TheVariants.{FirstColumn};

@@ -7,7 +7,7 @@ use Rattle.word86.specs.declared.number.Number.TheVariants.{E201, E203}
 use Rattle.plm_token.specs.Scanner.{Lexeme}
 use Rattle.plm_syntax.specs.declared.failure.Failure.{Failure}
 use Rattle.plm_syntax.specs.declared.failure.Failure.TheVariants as failure
-use Rattle.plm_syntax.specs.Reading.{tokens_from, line_from, opening_token}
+use Rattle.plm_syntax.specs.Faults.{tokens_from, line_from, opening_token}
 
 -- at the end of the text the fault at which the replacement stopped comes first
 abbrev pub refusal_at : List Lexeme → ℕ → Option (Number × ℕ) → Fault

@@ -28,7 +28,7 @@ use Rattle.plm_syntax.specs.View.{name_of, counted, base_of, names_of, expressio
 use Rattle.plm_syntax.specs.Inner.Symbol.{Value, Symbol, depth, need, push, Need, Want, Do, Leave, ExpressionR, StatementR, StatementsR, ItemsR, EndR, StepR, RangeR, HeaderR, ModuleR, ArmG, OtherwiseG, StepG, StatementsG, ItemsG, ParametersG, ReturnedTypeG, InterruptG, LinkageG}
 use Rattle.plm_syntax.specs.Inner.Machine.{an_expression, make_if, make_range, make_iterate, no_statement_yet, make_procedure, run, start}
 use Rattle.plm_token.specs.declared.token.Token.{Token}
-use Rattle.plm_syntax.specs.Reading.{terminal_of}
+use Rattle.plm_syntax.specs.Faults.{terminal_of}
 use Rattle.plm_syntax.specs.Inner.Parsed.{next_of, ahead, is_name, Takes, Fails}
 
 -- ---- the tokens that come next

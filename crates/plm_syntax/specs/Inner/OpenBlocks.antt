@@ -1,10 +1,13 @@
 -- Tokens of literals that put nothing out, which are remembered so that each is read once.
-use Rattle.std.specs.Prelude.{ℕ, zero, suc, List, [], map, Bool, false, Option, Some, None}
+use Rattle.std.specs.Prelude.{◌≡◌, ℕ, zero, suc, ◌+◌, ◌<◌, ◌≤◌, List, [], map, take, max, Bool, true, false, Option, Some, None}
+use Rattle.std.specs.Option.{option_map}
 use Rattle.std.specs.List.{list_all, slice_get, slice_range}
 use Rattle.plm_token.specs.declared.token.Token.{Token}
 use Rattle.plm_token.specs.Literals.{Symbol}
 use Rattle.plm_syntax.specs.declared.open_blocks.Literal.{Literal}
+use Rattle.plm_syntax.specs.declared.open_blocks.Quiet.{Quiet}
 use Rattle.plm_syntax.specs.declared.open_blocks.QuietRun.{QuietRun}
+use Rattle.plm_syntax.specs.declared.open_blocks.KnownRun.{KnownRun}
 use Rattle.plm_syntax.specs.Literals.{LiteralText, literal_for}
 
 abbrev pub symbol : Token → Symbol
@@ -32,22 +35,58 @@ abbrev pub each_quiet : (Symbol → Bool) → Option LiteralText → Bool
 each_quiet quiet None = false
 each_quiet quiet (Some l) = list_all quiet l.text
 
--- A token of a literal's text puts nothing out where `levels` replacements may be made one inside the other: it names a literal, and each token of that
+-- A token of a literal's text puts nothing out where `depth` replacements may be made one inside the other: it names a literal, and each token of that
 -- literal's text puts nothing out where one less may be made.
 unfoldable pub is_quiet : ℕ → List LiteralText → Symbol → Bool
 is_quiet zero literals s = false
-is_quiet (suc levels) literals s = each_quiet (λ x. is_quiet levels literals x) (literal_for literals s.kind s.text)
+is_quiet (suc depth) literals s = each_quiet (λ x. is_quiet depth literals x) (literal_for literals s.kind s.text)
 
 abbrev pub is_quiet_text : ℕ → List LiteralText → List Symbol → Bool
-is_quiet_text levels literals text = list_all (λ s. is_quiet levels literals s) text
+is_quiet_text depth literals text = list_all (λ s. is_quiet depth literals s) text
 
 abbrev pub is_quiet_in : ℕ → List LiteralText → ℕ → ℕ → Option LiteralText → Bool
-is_quiet_in levels literals from to None = false
-is_quiet_in levels literals from to (Some l) = is_quiet_text levels literals (slice_range l.text from to)
+is_quiet_in depth literals from to None = false
+is_quiet_in depth literals from to (Some l) = is_quiet_text depth literals (slice_range l.text from to)
 
 -- the same of tokens of a literal, by its number
 abbrev pub is_quiet_between : ℕ → List LiteralText → ℕ → ℕ → ℕ → Bool
-is_quiet_between levels literals i from to = is_quiet_in levels literals from to (slice_get literals i)
+is_quiet_between depth literals i from to = is_quiet_in depth literals from to (slice_get literals i)
+
+-- ---- what such tokens need
+
+-- The text puts nothing out, whatever literals there are after those that it rests on, and where no more replacements may be made than it needs.
+pub record IsQuietBy (depth : ℕ) (q : Quiet) (literals : List LiteralText) (text : List Symbol) : Type 0 where
+  pub within : q.depth ≤ depth
+  pub quiet : is_quiet_text q.depth (take q.rests_on literals) text ≡ true
+
+-- what both of two texts need
+abbrev pub both_quiet : Quiet → Quiet → Quiet
+both_quiet a b = record { depth = max a.depth b.depth; rests_on = max a.rests_on b.rests_on }
+
+-- what a name of a literal needs whose text needs this
+abbrev pub named_quiet : ℕ → Quiet → Quiet
+named_quiet i q = record { depth = q.depth + 1; rests_on = max q.rests_on (i + 1) }
+
+-- what tokens of a literal need, so that the literal itself is there too
+abbrev pub quiet_with : ℕ → Quiet → Quiet
+quiet_with i q = record { depth = q.depth; rests_on = max q.rests_on (i + 1) }
+
+-- what all tokens need, if nothing comes of any
+abbrev pub joined : Option Quiet → Option Quiet → Option Quiet
+joined None b = None
+joined (Some a) None = None
+joined (Some a) (Some b) = Some (both_quiet a b)
+
+-- ---- runs of such tokens
 
 abbrev pub is_quiet_run : List LiteralText → QuietRun → Bool
-is_quiet_run literals r = is_quiet_between r.levels literals r.literal r.from r.to
+is_quiet_run literals r = is_quiet_between r.quiet.depth (take r.quiet.rests_on literals) r.literal r.from r.to
+
+-- the number, among all that were declared, of the newest of so many literals
+abbrev pub newest_of : List Literal → ℕ → Option ℕ
+newest_of literals zero = None
+newest_of literals (suc n) = option_map (λ l. l.serial) (slice_get literals n)
+
+-- It is quiet as long as the newest of the literals that it rests on is there, which is one of those declared so far. (A run of no tokens says nothing.)
+abbrev pub IsKnown : List Literal → ℕ → KnownRun → Type 0
+IsKnown literals declared k = k.run.from < k.run.to → (k.serial < declared) × (newest_of literals k.run.quiet.rests_on ≡ Some k.serial → is_quiet_run (map literal_text literals) k.run ≡ true)

@@ -16,7 +16,7 @@ use Rattle.std.specs.Global.{Box}
 use Rattle.plm_syntax.specs.Terminal.{Terminal, Name, Numeral, Text, Key, Sign, Finish, Leaf, leaf, leaf_at, key_number, is_key}
 use Rattle.plm_syntax.specs.Inner.Terminal.{sign_number, is_sign, is_finish}
 use Rattle.plm_syntax.specs.View.{name_of, number_of, text_of}
-use Rattle.plm_syntax.specs.Reading.{terminal_of}
+use Rattle.plm_syntax.specs.Faults.{terminal_of}
 use Rattle.plm_syntax.specs.Inner.Symbol.{Value, Symbol, depth}
 use Rattle.plm_syntax.specs.Inner.Machine.{Reading, Stop, Refusal, Deep, run}
 

@@ -4,7 +4,7 @@ use Rattle.plm_token.specs.declared.token.Mark.{Mark}
 use Rattle.plm_syntax.specs.declared.tree.Position.{Position}
 use Rattle.plm_syntax.specs.declared.tree.Scalar.{Scalar}
 use Rattle.plm_syntax.specs.Terminal.{NameT, NumeralT, Terminal, Sign}
-use Rattle.plm_syntax.specs.Tree.{LocationForm, ExpressionT, ExpressionsT, ValueT, ValuesT, NamesT, VariableT, VariablesT, DeclaredT, DimensionT, MemberT, MembersT, TypeT, AtT, InitialT, AttributesT, ElementT, ElementsT, LinkageT, ReferencesT, StatementT, StatementsT, ItemsT, ModuleT}
+use Rattle.plm_syntax.specs.Tree.{LocationForm, ExpressionT, ExpressionsT, ValueT, ValuesT, NamesT, VariableT, VariablesT, DeclaredT, DimensionT, MemberT, MembersT, TypeT, AttributesT, ElementT, ElementsT, LinkageT, ReferencesT, StatementT, StatementsT, ItemsT, ModuleT}
 
 -- ---- the trees read so far, the newest first
 
@@ -29,9 +29,6 @@ pub data Value : Type 0 where
   MembersR : MembersT → Value
   MemberR : MemberT → Value
   TypeR : TypeT → Value
-  AtR : AtT → Value
-  InitialR : InitialT → Value
-  PublicR : Bool → Value
   AttributesR : AttributesT → Value
   ElementR : ElementT → Value
   ElementsR : ElementsT → Value

@@ -1,6 +1,6 @@
 use Rattle.std.proofs.Common.{◌≡◌, ◌-◌, ◌≤◌, drop}
 use Rattle.plm_token.specs.Scanner.{lexemes}
-use Rattle.plm_syntax.specs.Reading.{line_from}
+use Rattle.plm_syntax.specs.Faults.{line_from}
 use Rattle.plm_syntax.proofs.answer.line_at.Given as goal
 
 abbrev pub invariant-loop-at : goal.invariant-loop-at

@@ -11,7 +11,7 @@ use Rattle.plm_syntax.specs.View.{block_of, name_of, base_of, names_of, expressi
 use Rattle.plm_syntax.specs.Inner.Symbol.{Symbol, depth, push, Want, Do, Leave, ExpressionR, NameR, NamesR, ReferencesR, StatementR, StatementsR, ItemsR, ElementsR, StatementG, LeadG, ArmG, OtherwiseG, DoG, StatementsG, ItemsG, ElementG, MoreElementsG}
 use Rattle.plm_syntax.specs.Inner.Machine.{plain, add_label, join_arms, make_if, make_do, make_while, make_case, make_iterate, no_statement_yet, and_more, make_declare, make_procedure, procedure_symbols, run}
 use Rattle.plm_syntax.specs.Inner.Parsed.{ahead, next_of}
-use Rattle.plm_syntax.specs.Reading.{terminal_of}
+use Rattle.plm_syntax.specs.Faults.{terminal_of}
 use Rattle.plm_syntax.specs.Inner.Blocks.{items_part, statements_part, read_statement, read_basic, read_block, read_body, read_governed, read_procedure, read_header, read_range, read_arm, iteration_goals, procedure_goals, no_parameters_read}
 use Rattle.plm_syntax.specs.Inner.Parts.{read_expression, reference_read, read_elements}
 use Rattle.plm_syntax.proofs.Rows.{name_pushed, statement_pushed, item_pushed, statement_row}
