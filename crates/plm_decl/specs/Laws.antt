@@ -1,5 +1,5 @@
 -- What is read step by step, said of the tree of a block.
-use Rattle.std.specs.Prelude.{◌≡◌, ℕ, suc, ◌^◌, ◌<◌, ◌≤◌, List, [], ◌∷◌, ◌++◌, map, length, sum_by, slice_get, Bool, true, false, cond, not, nat_le, Option, Some, None, is_some}
+use Rattle.std.specs.Prelude.{◌≡◌, ℕ, suc, ◌^◌, ◌<◌, ◌≤◌, List, [], ◌∷◌, ◌++◌, map, length, sum_by, slice_get, Bool, true, false, cond, not, Option, Some, None, is_some}
 use Rattle.std.specs.List.{list_all, All}
 use Rattle.word86.specs.declared.number.Number.TheVariants.{E302}
 use Rattle.plm_token.specs.Names.{normal}
