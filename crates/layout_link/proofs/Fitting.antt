@@ -2,8 +2,8 @@
 use Rattle.std.proofs.Common.{◌≡◌, ℕ, zero, suc, ◌+◌, ◌-◌, ◌*◌, ◌<◌, ◌≤◌, ◌&&◌, Bool, true, false, List, [], ◌∷◌, ◌++◌, length, map, get_or, Option, Some, None, refl, sym, ap, subst, arith, length-append}
 use Rattle.std.specs.Prelude.{if◌then◌else◌, nat_lt, nat_le}
 use Rattle.std.proofs.lemmas.Bool.{leb-true, ltb-true}
-use Rattle.std.specs.List.{sum_by}
-use Rattle.std.proofs.lemmas.List.{length-take}
+use Rattle.std.specs.List.{All, sum_by}
+use Rattle.std.proofs.lemmas.List.Elements.{All-head, All-tail}
 use Rattle.std.proofs.lemmas.List.Sums.{sum_by-cons}
 use Rattle.plm_decl.specs.declared.names.Object.{Object}
 use Rattle.plm_decl.specs.declared.names.Variable.{Variable}
@@ -12,7 +12,6 @@ use Rattle.layout_link.specs.declared.tasks.Task.{Task}
 use Rattle.layout_link.specs.declared.tasks.Task.TheVariants as tasks
 use Rattle.layout_link.specs.Startup.{turns_of, turns_of_all}
 use Rattle.layout_link.specs.Tasks.{placed, serving, vector_task, vector_tasks}
-use Rattle.plm_decl.specs.Initial.{initial_bytes}
 use Rattle.layout_link.specs.Initial.{puts, is_copied, object_tasks, copied, copies_with, object_bytes, data_tasks, copied_bytes, count_of}
 use Rattle.layout_link.specs.Inner.Head.{TasksFit, turns_of_task, turns_of_tasks}
 use Rattle.layout_link.proofs.Heading.{fit_both}
@@ -120,8 +119,9 @@ object_fits from at to copies bytes room lt =
     room lt
 
 module _ (offsets : List ℕ) (variables : List Variable) where
-  first_long : (o : Object) → length (object_bytes offsets variables o) ≤ o.size
-  first_long o = let l = length-take o.size (initial_bytes offsets variables o.initial.items) in omega (arith, l)
+  -- an object has room for its initial bytes
+  abbrev HasRoom : Object → Type 0
+  HasRoom o = length (object_bytes offsets variables o) ≤ o.size
 
   pub data_turns : (at copies k : ℕ) (os : List Object) → copies ≤ 840 → turns_of_tasks (data_tasks offsets variables at copies k os) + 3 * copies ≤ count_of offsets variables os + 2520
   data_turns at copies k [] le = omega (arith, le)
@@ -135,10 +135,10 @@ module _ (offsets : List ℕ) (variables : List Variable) where
       let first = one.0 in
       omega (arith, a, first, rest)
 
-  pub data_fit : (from at copies k : ℕ) (os : List Object) → from + at + length (copied_bytes offsets variables copies os) < 65536
+  pub data_fit : (from at copies k : ℕ) (os : List Object) → All HasRoom os → from + at + length (copied_bytes offsets variables copies os) < 65536
       → ((i : ℕ) → get_or offsets (k + i) 0 + get_or (map (λ o. o.size) os) i 0 ≤ 61440) → TasksFit from (data_tasks offsets variables at copies k os)
-  data_fit from at copies k [] lt room = tt
-  data_fit from at copies k (o ∷ os) lt room =
+  data_fit from at copies k [] fit lt room = tt
+  data_fit from at copies k (o ∷ os) fit lt room =
       let b = object_bytes offsets variables o in
       let to = 1024 + get_or offsets k 0 in
       let here : k + 0 ≡ k = omega arith in
@@ -151,8 +151,8 @@ module _ (offsets : List ℕ) (variables : List Variable) where
       let q = room (suc i) in
       omega (arith, p, q) in
       fit_both from (object_tasks at copies to b) (data_tasks offsets variables (at + length (copied copies b)) (copies_with copies b) (k + 1) os)
-      (object_fits from at to copies b (omega (arith, r, at_k, first_long o)) (omega (arith, lt, all)))
-      (data_fit from (at + length (copied copies b)) (copies_with copies b) (k + 1) os (omega (arith, lt, all)) rest_room)
+      (object_fits from at to copies b (omega (arith, r, at_k, All-head HasRoom o os fit)) (omega (arith, lt, all)))
+      (data_fit from (at + length (copied copies b)) (copies_with copies b) (k + 1) os (All-tail HasRoom o os fit) (omega (arith, lt, all)) rest_room)
 
   pub few_turns : (parts : List Part) (os : List Object) → turns_of_tasks (vector_tasks parts 0 256 ++ data_tasks offsets variables 0 0 0 os) ≤ 2776 + count_of offsets variables os
   few_turns parts os =
@@ -162,6 +162,8 @@ module _ (offsets : List ℕ) (variables : List Variable) where
       omega (arith, a, v, d)
 
   -- no more bytes than the objects have
-  pub few_bytes : (os : List Object) → count_of offsets variables os ≤ sum_by (λ o. o.size) os
-  few_bytes [] = omega arith
-  few_bytes (o ∷ os) = let h = few_bytes os in omega (arith, h, first_long o, sum_by-cons (λ x. x.size) o os)
+  pub few_bytes : (os : List Object) → All HasRoom os → count_of offsets variables os ≤ sum_by (λ o. o.size) os
+  few_bytes [] fit = omega arith
+  few_bytes (o ∷ os) fit =
+      let h = few_bytes os (All-tail HasRoom o os fit) in
+      omega (arith, h, All-head HasRoom o os fit, sum_by-cons (λ x. x.size) o os)

@@ -3,6 +3,7 @@ use Rattle.std.proofs.Common.{◌≡◌, ℕ, ◌+◌, ◌<◌, ◌≤◌, ◌++
 use Rattle.plm_decl.specs.declared.names.Names.{Names}
 use Rattle.plm_decl.specs.declared.names.Object.{Object}
 use Rattle.plm_decl.specs.Placement.{IsPlacement, sizes_of}
+use Rattle.plm_decl.specs.Laws.{InitialBytesFit}
 use Rattle.select.specs.declared.part.Part.{Part}
 use Rattle.layout_link.specs.declared.tasks.Task.{Task}
 use Rattle.layout_link.specs.Objects.{offsets_from}
@@ -35,16 +36,16 @@ module _ (names : Names) where
   pub placed_well : IsPlacement (offsets_in names) (sizes_of names)
   placed_well = let s = sum_sizes names.objects.items in let r = names.has_room in is_placement (sizes_of names) (omega (arith, s, r))
 
-  pub tasks_fit : (parts : List Part) (from : ℕ) → from + length (initial_in names) < 65536 → TasksFit from (tasks_in names parts)
-  tasks_fit parts from lt =
+  pub tasks_fit : InitialBytesFit → (parts : List Part) (from : ℕ) → from + length (initial_in names) < 65536 → TasksFit from (tasks_in names parts)
+  tasks_fit law parts from lt =
       let os = names.objects.items in
       let vs = names.variables.items in
       fit_both from (vector_tasks parts 0 256) (data_tasks (offsets_in names) vs 0 0 0 os) (vectors_fit from parts 0 256 (omega arith))
-      (data_fit (offsets_in names) vs from 0 0 0 os (omega (arith, lt)) (λ k. let e : 0 + k ≡ k = omega arith in let p = ap (λ n. get_or (offsets_in names) n 0) e in let r = room k in omega (arith, p, r)))
+      (data_fit (offsets_in names) vs from 0 0 0 os (law names (offsets_in names)) (omega (arith, lt)) (λ k. let e : 0 + k ≡ k = omega arith in let p = ap (λ n. get_or (offsets_in names) n 0) e in let r = room k in omega (arith, p, r)))
 
-  pub turns_few : (parts : List Part) → (turns_of_tasks (tasks_in names parts) ≤ 2776 + count_of (offsets_in names) names.variables.items names.objects.items) × (turns_of_tasks (tasks_in names parts) ≤ 100000)
-  turns_few parts =
+  pub turns_few : InitialBytesFit → (parts : List Part) → (turns_of_tasks (tasks_in names parts) ≤ 2776 + count_of (offsets_in names) names.variables.items names.objects.items) × (turns_of_tasks (tasks_in names parts) ≤ 100000)
+  turns_few law parts =
       let t = few_turns (offsets_in names) names.variables.items parts names.objects.items in
-      let b = few_bytes (offsets_in names) names.variables.items names.objects.items in
+      let b = few_bytes (offsets_in names) names.variables.items names.objects.items (law names (offsets_in names)) in
       let r = names.has_room in
       (t, omega (arith, t, b, r))

@@ -2,8 +2,7 @@
 use Rattle.std.specs.Prelude.{ℕ, ◌+◌, ◌*◌, ◌-◌, ◌&&◌, nat_lt, nat_le, if◌then◌else◌, Bool, List, [], ◌∷◌, ◌++◌, length, slice_index}
 use Rattle.plm_decl.specs.declared.names.Variable.{Variable}
 use Rattle.plm_decl.specs.declared.names.Object.{Object}
-use Rattle.plm_decl.specs.Names.{object_of}
-use Rattle.plm_decl.specs.Initial.{first_bytes}
+use Rattle.plm_decl.specs.Initial.{initial_bytes}
 use Rattle.i86_code.specs.Coding.{AreBytes}
 use Rattle.layout_link.specs.declared.tasks.Task.{Task}
 use Rattle.layout_link.specs.declared.tasks.Task.TheVariants as tasks
@@ -34,7 +33,7 @@ copies_with copies bytes = if is_copied copies (length bytes) then copies + 1 el
 module _ (offsets : List ℕ) (variables : List Variable) where
   -- the initial bytes of an object
   abbrev pub object_bytes : Object → List ℕ
-  object_bytes o = first_bytes offsets variables (object_of o)
+  object_bytes o = initial_bytes offsets variables o.initial.items
 
   -- what these objects have at start are bytes
   abbrev pub HaveBytes : List Object → Type 0

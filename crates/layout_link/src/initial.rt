@@ -7,7 +7,7 @@ ghost use Rattle.layout_link.specs.Initial.{puts, is_copied, object_tasks, copie
 
 use crate::tasks::Task;
 use crate::words::number_at;
-use plm_decl::{Datum, Names, Object, Region};
+use plm_decl::{Datum, Names, Object, Region, initial_values_fit};
 use std::alloc::Global;
 use word86::Fault;
 
@@ -67,7 +67,7 @@ fn are_bytes(bytes: &[u8])
     ensures { AreBytes bytes.now }
 {}
 
-/// The initial bytes of an object, as many as it has room for.
+/// The initial bytes of an object.
 fn first_of(
     alloc: Global,
     names: &Names,
@@ -82,7 +82,6 @@ fn first_of(
     for datum in &object.initial {
         put_datum(&mut bytes, names, offsets, *datum)?;
     }
-    bytes.truncate(object.size as usize);
     are_bytes(&bytes);
     Ok(bytes)
 }
@@ -154,6 +153,7 @@ pub(crate) fn initial(
     ensures small { OnOk result (HaveBytes offsets.now names.now.variables.items names.now.objects.items) }
     ensures memory { IsOkUnless result Fault.Memory }
 {
+    initial_values_fit();
     let mut bytes = Vec::new(alloc);
     let mut copies = 0;
     for (k, object) in names.objects.iter().enumerate() {

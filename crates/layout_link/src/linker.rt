@@ -22,7 +22,7 @@ use crate::startup::{START_UP, start_up};
 use crate::tasks::{Task, bytes_of, is_main, is_unserved, vectors};
 use crate::words::number_at;
 use frames::Stack;
-use plm_decl::{Names, Placement};
+use plm_decl::{Names, Placement, initial_values_fit};
 use select::Part;
 use std::alloc::Global;
 use word86::{Fault, Number};
@@ -172,6 +172,7 @@ pub fn link(
     ensures fits { OnOk result (needed names.now parts.items ≤ bytes_in size) }
     ensures full { IfErr result (λ e. (e ≡ Fault.Memory) ⊎ ((e ≡ Fault.At 0 1 Number.E601) × (bytes_in size < needed names.now parts.items))) }
 {
+    initial_values_fit();
     let offsets = offsets_of(alloc, &names.objects)?;
     let mut tasks = vectors(alloc, &parts)?;
     let bytes = initial(alloc, names, &offsets, &mut tasks)?;

@@ -17,7 +17,7 @@ use Rattle.plm_decl.specs.Modules.{AreNames, faults_of, whole_faults_of}
 use Rattle.plm_decl.specs.Names.{object_of}
 use Rattle.plm_decl.specs.Found.{IsRefusal as IsLeastOf}
 use Rattle.plm_decl.specs.Placement.{IsPlacement, sizes_of}
-use Rattle.plm_decl.specs.Initial.{first_bytes}
+use Rattle.plm_decl.specs.Initial.{initial_bytes}
 use Rattle.plm_type.specs.Calls.{IsRecursive}
 use Rattle.plm_type.specs.Checked.{IsRefusal as IsRefusedFor}
 use Rattle.plm_type.specs.Next.{next}
@@ -137,7 +137,7 @@ pub record MeansNames (names : Names) (image : Image) : Type 0 where
 -- the address of an initial byte of an object, where the objects lie at these offsets
 abbrev pub IsInitialByte : Names → (offsets : List ℕ) → (address : ℕ) → Type 0
 IsInitialByte names offsets a =
-    (k : ℕ) × (o : Object) × (slice_get names.objects.items k ≡ Some o) × (i : ℕ) × (i < length (first_bytes offsets names.variables.items (object_of o))) × (a ≡ 1024 + slice_index offsets k + i)
+    (k : ℕ) × (o : Object) × (slice_get names.objects.items k ≡ Some o) × (i : ℕ) × (i < length (initial_bytes offsets names.variables.items o.initial.items)) × (a ≡ 1024 + slice_index offsets k + i)
 
 -- start-up sets the vectors and the objects' initial bytes
 abbrev pub IsSet : Names → (offsets : List ℕ) → (address : ℕ) → Type 0

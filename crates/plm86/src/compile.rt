@@ -14,7 +14,7 @@ use lower::{
     checked_code_is_sound, checked_runs_are_allowed, checked_trees_are_well_formed, code_has_room,
     heights_are_low, interrupts_enter_their_procedures, lower, lowering_tracks,
 };
-use plm_decl::Names;
+use plm_decl::{Names, initial_values_fit};
 use plm_type::Program;
 use select::{
     Part, instructions_follow_code, programs_have_room, registers_are_counted, select,
@@ -43,6 +43,7 @@ fn layers_keep_their_promises()
     programs_have_room();
     registers_are_counted();
     unserved_changes_none();
+    initial_values_fit();
 }
 
 /// The image of these parts.

@@ -42,7 +42,7 @@ use Rattle.plm_decl.specs.Expressions.{structure_meant, member_of_structure, mem
 use Rattle.plm_decl.specs.Datum.{is_byte, character_datum}
 use Rattle.plm_decl.specs.Shape.{member_names, member_count, member_scalar, number_of_elements, with_member_name, with_member_names, with_members, structure_for, form_for, elements_filled, dimension_for, shape_for, scalar_at, size_of_shape}
 use Rattle.plm_decl.specs.Elements.{start, found_item, location_site, at_site, first_site, base_for, with_screen_name, region_for, with_public, linked, declared, with_variable, variable_in, region_of_variable, declared_variable, declared_variables, declared_list, element_values, has_values, is_placed, place_of_variable, site_after}
-use Rattle.plm_decl.specs.Fill.{location_in, datum_for, FillingR, given_at, given_in, put_datum, too_many, put_at, put_value, past_at, unless_past, put_characters, put_single, filled_with, filled_from, filled_element, traits_for, declared_at, declared_names, element}
+use Rattle.plm_decl.specs.Fill.{location_in, datum_for, FillingR, given_at, given_in, put_datum, too_many, name_at, put_at, put_value, past_at, unless_past, put_characters, put_single, filled_with, filled_from, filled_element, traits_for, declared_at, declared_names, element}
 use Rattle.plm_decl.specs.Stray.{is_external_linkage}
 use Rattle.plm_decl.specs.Statements.{targets_from, step_for, last_name, block_path, with_elements, linkage_of, is_handled, note_handler, header, with_header, declared_procedure, parameter_is, with_parameter, parameter_for, parameters_from, completed_at, statement, basic, statements as read_statements, block, with_items, with_item}
 use Rattle.plm_decl.specs.Joins.{region_joined, entry_joined, joined, agree, unjoined, external_joined, externals_joined, have_room, program_fault, modules_joined, has_statements, with_main, at_module, with_module, modules_from, known_from}
@@ -360,13 +360,13 @@ put_characters_quiet f c [] k = quiet k
 put_characters_quiet f c (x ∷ xs) k =
     let d = character_datum (scalar_at k f.shape.form c.scalar) x in
     let r = put_value f c d k in
-    quiet_then (put_at_quiet f c (slice_get f.names c.name) d k) (put_characters_quiet f r.0 xs r.1)
+    quiet_then (put_at_quiet f c (name_at f c k) d k) (put_characters_quiet f r.0 xs r.1)
 
 put_single_quiet : (frames : List Frame) (f : FillingR) (c : Cursor) (v : ValueT) (k : Known) → Quiet k (put_single frames f c v k).1
 put_single_quiet frames f c v k =
     let s = scalar_at k f.shape.form c.scalar in
     let d = datum_for frames s v k in
-    quiet_then (datum_quiet frames s v k) (put_at_quiet f c (slice_get f.names c.name) d.0 d.1)
+    quiet_then (datum_quiet frames s v k) (put_at_quiet f c (name_at f c d.1) d.0 d.1)
 
 either_quiet : (b : Bool) (k : Known) (x y : Cursor × Known) → Quiet k x.1 → Quiet k y.1 → Quiet k (cond b x y).1
 either_quiet true k x y p q = p
@@ -376,7 +376,7 @@ filled_with_quiet : (frames : List Frame) (f : FillingR) (c : Cursor) (v : Value
 filled_with_quiet frames f c (NumeralV n) k = put_single_quiet frames f c (NumeralV n) k
 filled_with_quiet frames f c (NegativeV n) k = put_single_quiet frames f c (NegativeV n) k
 filled_with_quiet frames f c (TextV s) k =
-    either_quiet (is_byte (scalar_at k f.shape.form c.scalar)) k _ _ (quiet_then (past_quiet f (slice_get f.names c.name) k) (put_characters_quiet f c (string_characters s.text) (unless_past f c k)))
+    either_quiet (is_byte (scalar_at k f.shape.form c.scalar)) k _ _ (quiet_then (past_quiet f (name_at f c k) k) (put_characters_quiet f c (string_characters s.text) (unless_past f c k)))
     (put_single_quiet frames f c (TextV s) k)
 filled_with_quiet frames f c (LocationV l) k = put_single_quiet frames f c (LocationV l) k
 

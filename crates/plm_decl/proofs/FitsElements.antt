@@ -11,7 +11,6 @@ use Rattle.plm_syntax.specs.declared.tree.Linkage.TheVariants as linkage
 use Rattle.plm_syntax.specs.Terminal.{NameT}
 use Rattle.plm_syntax.specs.Tree.{VariableT, VariableOf, LocationT, ValueT, AtT, no_at, at_number, at_location, InitialT, AttributesT, External, Attributes, DimensionT, TypeT, ElementT, LiteralElement, VariableElement}
 use Rattle.plm_syntax.specs.Tree as tree
-use Rattle.plm_syntax.specs.WellFormed.{WellType, WellElement}
 use Rattle.plm_decl.specs.declared.names.Region.{Region}
 use Rattle.plm_decl.specs.declared.names.Region.TheVariants as region
 use Rattle.plm_decl.specs.declared.names.Variable.{Variable}
@@ -267,17 +266,17 @@ declared_fit place vs d t a frames k =
     fits_then (fits_extended (first_extends frames a k)) (fits_then (fits_same shape.variables shape.objects) (variables_fit vs (traits_for h.0 a) s.0 frames h.1))
 
 -- values of names that have objects of their own
-own_filled : (place : Position) (vs : List VariableT) (d : DimensionT) (t : TypeT) (a : AttributesT) (values : List ValueT) (frames : List Frame) (k : Known) → WellType t
+own_filled : (place : Position) (vs : List VariableT) (d : DimensionT) (t : TypeT) (a : AttributesT) (values : List ValueT) (frames : List Frame) (k : Known)
     → let h = shape_for place (length vs) d t values k in
     let r = declared_variables vs (traits_for h.0 a) site.Own frames h.1 in
     Fits r.2 (filled r.1 (record { names = vs; shape = h.0; number = length h.1.variables }) values r.2)
-own_filled place vs d t a values frames k well =
+own_filled place vs d t a values frames k =
     let h = shape_for place (length vs) d t values k in
     let r = declared_variables vs (traits_for h.0 a) site.Own frames h.1 in
     let f : FillingR = record { names = vs; shape = h.0; number = length h.1.variables } in
     let named = all_named vs (traits_for h.0 a) frames h.1 in
     let begin : Cursor = record { name = 0; scalar = 0 } in
-    let row = shape_still h.1 r.2 h.0 named.structures (shape_fits place (length vs) d t values k well) in
+    let row = shape_still h.1 r.2 h.0 named.structures (shape_fits place (length vs) d t values k) in
     let behind = ap (drop (length h.1.variables)) named.variables ∙ drop_at h.1.variables named.added (length h.1.variables) refl in
     let pending = subst (λ (ws : List Variable). Pending r.2.objects (size_of_shape h.0) (length h.1.objects) ws) (sym behind) (named.pending r.2.objects [] (sym (append-nil r.2.objects))) in
     let names = values_names r.1 f begin values r.2 in
@@ -287,20 +286,20 @@ own_filled place vs d t a values frames k well =
       fit = λ short fit. filled_fits r.1 f values r.2 row fit (length h.1.objects, pending) (omega (arith, count, short));
     }
 
-declared_at_fits : (place : Position) (vs : List VariableT) (d : DimensionT) (t : TypeT) (a : AttributesT) (frames : List Frame) (k : Known) → WellType t → Fits k (declared_at place vs d t a frames k).1
-declared_at_fits place vs d t External frames k well = declared_fit place vs d t External frames k
-declared_at_fits place vs d t (Attributes public no_at fill) frames k well =
+declared_at_fits : (place : Position) (vs : List VariableT) (d : DimensionT) (t : TypeT) (a : AttributesT) (frames : List Frame) (k : Known) → Fits k (declared_at place vs d t a frames k).1
+declared_at_fits place vs d t External frames k = declared_fit place vs d t External frames k
+declared_at_fits place vs d t (Attributes public no_at fill) frames k =
     let a = Attributes public no_at fill in
-    fits_then (declared_fit place vs d t a frames k) (own_filled place vs d t a (element_values a) frames k well)
-declared_at_fits place vs d t (Attributes public (at_number n) fill) frames k well =
+    fits_then (declared_fit place vs d t a frames k) (own_filled place vs d t a (element_values a) frames k)
+declared_at_fits place vs d t (Attributes public (at_number n) fill) frames k =
     fits_then (declared_fit place vs d t (Attributes public (at_number n) fill) frames k) (fits_tables (noted_same (not (has_values (Attributes public (at_number n) fill))) E305 place _))
-declared_at_fits place vs d t (Attributes public (at_location l) fill) frames k well =
+declared_at_fits place vs d t (Attributes public (at_location l) fill) frames k =
     fits_then (declared_fit place vs d t (Attributes public (at_location l) fill) frames k) (fits_tables (noted_same (not (has_values (Attributes public (at_location l) fill))) E305 place _))
 
-names_fit : (vs : List VariableT) (d : DimensionT) (t : TypeT) (a : AttributesT) (frames : List Frame) (k : Known) → WellType t → Fits k (declared_names vs d t a frames k).1
-names_fit [] d t a frames k well = fits_none k
-names_fit (v ∷ vs) d t a frames k well = declared_at_fits (place_of_variable v) (v ∷ vs) d t a frames k well
+names_fit : (vs : List VariableT) (d : DimensionT) (t : TypeT) (a : AttributesT) (frames : List Frame) (k : Known) → Fits k (declared_names vs d t a frames k).1
+names_fit [] d t a frames k = fits_none k
+names_fit (v ∷ vs) d t a frames k = declared_at_fits (place_of_variable v) (v ∷ vs) d t a frames k
 
-pub element_fits : (e : ElementT) (frames : List Frame) (k : Known) → WellElement e → Fits k (element e frames k).1
-element_fits (LiteralElement n s) frames k well = fits_none k
-element_fits (VariableElement d n t a) frames k well = names_fit (declared_list d) n t a frames k well.1
+pub element_fits : (e : ElementT) (frames : List Frame) (k : Known) → Fits k (element e frames k).1
+element_fits (LiteralElement n s) frames k = fits_none k
+element_fits (VariableElement d n t a) frames k = names_fit (declared_list d) n t a frames k

@@ -37,8 +37,8 @@ use Rattle.plm_decl.specs.Datum.{number_datum, text_datum, word_datum, character
 use Rattle.plm_decl.specs.Expressions.{structure_meant, member_of_structure, member_meant, all_constant_data, are_constants, with_constants, expression, reference, subscripts, selector, location}
 use Rattle.plm_decl.specs.Shape.{scalar_at, size_of_shape}
 use Rattle.plm_decl.specs.Elements.{distance}
-use Rattle.plm_decl.specs.Fill.{address_at, address_datum, variable_datum, reference_datum, location_datum, form_of_location, location_in, datum_for, FillingR, with_datum, given_at, given_in, put_datum, scalars_in_name, cursor_after, too_many, put_at, put_value, past_at, unless_past, put_characters, put_single, filled_with, filled_from, filled}
-use Rattle.plm_decl.specs.Laws.{bytes_of_datum}
+use Rattle.plm_decl.specs.Fill.{address_at, address_datum, variable_datum, reference_datum, location_datum, form_of_location, location_in, datum_for, FillingR, with_datum, given_at, given_in, put_datum, scalars_in_name, cursor_after, too_many, name_at, put_at, put_value, past_at, unless_past, put_characters, put_single, filled_with, filled_from, filled}
+use Rattle.plm_decl.specs.Values.{bytes_of_datum}
 use Rattle.plm_decl.proofs.Kept.{both, all_set, maybe, maybe_unless}
 use Rattle.plm_decl.proofs.Objects.{bytes_of_values}
 use Rattle.plm_decl.proofs.FitsShapes.{bytes_before, ShapeFits, SameTables, same_tables, noted_same, scalar_still, scalars_in_name_still}
@@ -406,7 +406,6 @@ counted_get vs n h = cases (nat_le n 18446744073709551615) refl
 
 pub record Good (f : FillingR) (base : Known) (scalar name : ℕ) (most : ℕ) (os : List ObjectR) : Type 0 where
   pub fit : list_all fits os ≡ true
-  pub inside : scalar < scalars_in_name base f.shape
   pub low : ℕ
   pub ready : Ready os (size_of_shape f.shape) most low (drop (f.number + name) base.variables)
 
@@ -432,7 +431,6 @@ extended {f} {base} {c} {k} {q} s e =
           let g = s.good h in
           let pushed : Good f base c.scalar c.name most (k.objects ++ e.made) = record {
             fit = list_all-append fits k.objects e.made ∙ both g.fit e.fit;
-            inside = g.inside;
             low = g.low;
             ready = ready_pushed k.objects e.made (size_of_shape f.shape) most g.low (drop (f.number + c.name) base.variables) g.ready;
           } in
@@ -443,8 +441,9 @@ within_scalar : (s : ScalarType) (d : Datum) → datum_fits s d ≡ true → byt
 within_scalar s d h = grind (arith, nat_tests)
 
 put_wrote : (f : FillingR) (base : Known) (c : Cursor) (v : VariableT) (d : Option Datum) (k : Known)
-    → ShapeFits base f.shape → maybe (datum_fits (scalar_at base f.shape.form c.scalar)) d ≡ true → Filled f base c k → Wrote f base c (put_datum f c.name v d k)
-put_wrote f base c v None k row h s = record {
+    → ShapeFits base f.shape → c.scalar < scalars_in_name base f.shape → maybe (datum_fits (scalar_at base f.shape.form c.scalar)) d ≡ true → Filled f base c k
+    → Wrote f base c (put_datum f c.name v d k)
+put_wrote f base c v None k row inside h s = record {
   variables = s.variables;
   structures = s.structures;
   good = λ b.
@@ -452,12 +451,11 @@ put_wrote f base c v None k row h s = record {
       let at = scalar_at base f.shape.form in
       record {
         fit = g.fit;
-        inside = g.inside;
         low = g.low;
         ready = ready_more k.objects (size_of_shape f.shape) (bytes_before at c.scalar) (bytes_before at (suc c.scalar)) g.low (drop (f.number + c.name) base.variables) (omega arith) g.ready;
       };
 }
-put_wrote f base c v (Some d) k row h s =
+put_wrote f base c v (Some d) k row inside h s =
     let n = f.number + c.name in
     let same = given_names (slice_get k.variables (counted n)) d k in
     let at = scalar_at base f.shape.form in
@@ -470,9 +468,9 @@ put_wrote f base c v (Some d) k row h s =
       good = λ short.
           let g = s.good short in
           let e = ap (λ (vs : List Variable). slice_get vs (counted n)) s.variables ∙ counted_get base.variables n short in
-          let there = given_there size most b g.low base.variables n d k (within_scalar (at c.scalar) d h) (λ small. row.room small (suc c.scalar) (omega (arith, g.inside))) g.ready g.fit in
+          let there = given_there size most b g.low base.variables n d k (within_scalar (at c.scalar) d h) (λ small. row.room small (suc c.scalar) (omega (arith, inside))) g.ready g.fit in
           let r = subst (λ (o : Option Variable). Given size (most + b) g.low (drop n base.variables) (option_map_or (λ v. given_in v.region d k) o k)) (sym e) there in
-          record { fit = r.fit; inside = g.inside; low = g.low; ready = r.ready };
+          record { fit = r.fit; low = g.low; ready = r.ready };
     }
 
 advance : (f : FillingR) (base : Known) (c : Cursor) (scalars : ℕ) (k : Known)
@@ -489,7 +487,6 @@ advance f base c scalars k row e s = cases (nat_lt (counted (c.scalar + 1)) scal
           structures = s.structures;
           good = λ short. let g = s.good short in record {
             fit = g.fit;
-            inside = omega (arith, l, e);
             low = g.low;
             ready = subst (λ (i : ℕ). Ready k.objects (size_of_shape f.shape) (bytes_before (scalar_at base f.shape.form) i) g.low (drop (f.number + c.name) base.variables)) (sym next) g.ready;
           };
@@ -503,7 +500,6 @@ advance f base c scalars k row e s = cases (nat_lt (counted (c.scalar + 1)) scal
           let next : suc (f.number + c.name) ≡ f.number + (c.name + 1) = omega arith in
           record {
             fit = g.fit;
-            inside = row.some;
             low = r.0;
             ready = subst (λ (i : ℕ). Ready k.objects (size_of_shape f.shape) 0 r.0 (drop i base.variables)) next r.1;
           };
@@ -513,13 +509,24 @@ too_many_same : (v : Option VariableT) (k : Known) → SameTables k (too_many v 
 too_many_same None k = same_tables k
 too_many_same (Some v) k = record { variables = refl; structures = refl; objects = refl }
 
+-- a name that is at the cursor has a scalar there
+where_some : (b : Bool) (v : Option VariableT) → is_some (cond b v None) ≡ true → b ≡ true
+where_some true v h = refl
+where_some false v h = h
+
+inside_name : (f : FillingR) (base : Known) (c : Cursor) (k : Known) → k.structures ≡ base.structures → is_some (name_at f c k) ≡ true → c.scalar < scalars_in_name base f.shape
+inside_name f base c k e h =
+    let t = where_some (nat_lt c.scalar (scalars_in_name k f.shape)) (slice_get f.names c.name) h in
+    let here : c.scalar < scalars_in_name k f.shape = grind (arith, nat_tests) in
+    omega (arith, here, scalars_in_name_still base k f.shape e)
+
 put_fills : (f : FillingR) (base : Known) (c : Cursor) (v : Option VariableT) (s : ScalarType) (d : Option Datum) (k : Known)
-    → ShapeFits base f.shape → s ≡ scalar_at base f.shape.form c.scalar → maybe (datum_fits s) d ≡ true → Filled f base c k
+    → ShapeFits base f.shape → (is_some v ≡ true → c.scalar < scalars_in_name base f.shape) → s ≡ scalar_at base f.shape.form c.scalar → maybe (datum_fits s) d ≡ true → Filled f base c k
     → Filled f base (put_at f c v d k).0 (put_at f c v d k).1
-put_fills f base c None s d k row e h g = extended g (extends (too_many_same (slice_get f.names (length f.names - 1)) k))
-put_fills f base c (Some v) s d k row e h g =
+put_fills f base c None s d k row inside e h g = extended g (extends (too_many_same (slice_get f.names (length f.names - 1)) k))
+put_fills f base c (Some v) s d k row inside e h g =
     let q = put_datum f c.name v d k in
-    let wrote = put_wrote f base c v d k row (subst (λ (t : ScalarType). maybe (datum_fits t) d ≡ true) e h) g in
+    let wrote = put_wrote f base c v d k row (inside refl) (subst (λ (t : ScalarType). maybe (datum_fits t) d ≡ true) e h) g in
     advance f base c (scalars_in_name q f.shape) q row (scalars_in_name_still base q f.shape wrote.structures) wrote
 
 past_same : (f : FillingR) (v : Option VariableT) (k : Known) → SameTables k (past_at f v k)
@@ -533,14 +540,15 @@ characters_fill f base c (x ∷ xs) k row g =
     let s = scalar_at k f.shape.form c.scalar in
     let r = put_value f c (character_datum s x) k in
     characters_fill f base r.0 xs r.1 row
-    (put_fills f base c (slice_get f.names c.name) s (character_datum s x) k row (scalar_still base k f.shape.form c.scalar g.structures) (character_fits s x) g)
+    (put_fills f base c (name_at f c k) s (character_datum s x) k row (inside_name f base c k g.structures) (scalar_still base k f.shape.form c.scalar g.structures) (character_fits s x) g)
 
 single_fills : (frames : List Frame) (f : FillingR) (base : Known) (c : Cursor) (v : ValueT) (k : Known) → ShapeFits base f.shape → Filled f base c k
     → Filled f base (put_single frames f c v k).0 (put_single frames f c v k).1
 single_fills frames f base c v k row g =
     let s = scalar_at k f.shape.form c.scalar in
     let d = datum_for frames s v k in
-    put_fills f base c (slice_get f.names c.name) s d.0 d.1 row (scalar_still base k f.shape.form c.scalar g.structures) (value_fits frames s v k) (extended g (datum_extends frames s v k))
+    let there = extended g (datum_extends frames s v k) in
+    put_fills f base c (name_at f c d.1) s d.0 d.1 row (inside_name f base c d.1 there.structures) (scalar_still base k f.shape.form c.scalar g.structures) (value_fits frames s v k) there
 
 where_filled : (f : FillingR) (base : Known) (b : Bool) (x y : Cursor × Known) → Filled f base x.0 x.1 → Filled f base y.0 y.1 → Filled f base (cond b x y).0 (cond b x y).1
 where_filled f base true x y p q = p
@@ -552,7 +560,7 @@ value_fills frames f base c (NumeralV n) k row g = single_fills frames f base c 
 value_fills frames f base c (NegativeV n) k row g = single_fills frames f base c (NegativeV n) k row g
 value_fills frames f base c (TextV s) k row g =
     where_filled f base (is_byte (scalar_at k f.shape.form c.scalar)) _ _
-    (characters_fill f base c (string_characters s.text) (unless_past f c k) row (extended g (extends (past_same f (slice_get f.names c.name) k))))
+    (characters_fill f base c (string_characters s.text) (unless_past f c k) row (extended g (extends (past_same f (name_at f c k) k))))
     (single_fills frames f base c (TextV s) k row g)
 value_fills frames f base c (LocationV l) k row g = single_fills frames f base c (LocationV l) k row g
 
@@ -577,13 +585,13 @@ characters_names f c [] k = refl
 characters_names f c (x ∷ xs) k =
     let d = character_datum (scalar_at k f.shape.form c.scalar) x in
     let r = put_value f c d k in
-    characters_names f r.0 xs r.1 ∙ put_names f c (slice_get f.names c.name) d k
+    characters_names f r.0 xs r.1 ∙ put_names f c (name_at f c k) d k
 
 single_names : (frames : List Frame) (f : FillingR) (c : Cursor) (v : ValueT) (k : Known) → (put_single frames f c v k).1.variables ≡ k.variables
 single_names frames f c v k =
     let s = scalar_at k f.shape.form c.scalar in
     let d = datum_for frames s v k in
-    put_names f c (slice_get f.names c.name) d.0 d.1 ∙ (datum_extends frames s v k).variables
+    put_names f c (name_at f c d.1) d.0 d.1 ∙ (datum_extends frames s v k).variables
 
 where_names : (b : Bool) (x y : Cursor × Known) (vs : List Variable) → x.1.variables ≡ vs → y.1.variables ≡ vs → (cond b x y).1.variables ≡ vs
 where_names true x y vs p q = p
@@ -594,7 +602,7 @@ value_names frames f c (NumeralV n) k = single_names frames f c (NumeralV n) k
 value_names frames f c (NegativeV n) k = single_names frames f c (NegativeV n) k
 value_names frames f c (TextV s) k =
     where_names (is_byte (scalar_at k f.shape.form c.scalar)) _ _ k.variables
-    (characters_names f c (string_characters s.text) (unless_past f c k) ∙ (past_same f (slice_get f.names c.name) k).variables) (single_names frames f c (TextV s) k)
+    (characters_names f c (string_characters s.text) (unless_past f c k) ∙ (past_same f (name_at f c k) k).variables) (single_names frames f c (TextV s) k)
 value_names frames f c (LocationV l) k = single_names frames f c (LocationV l) k
 
 pub values_names : (frames : List Frame) (f : FillingR) (c : Cursor) (vs : List ValueT) (k : Known) → (filled_from frames f c vs k).1.variables ≡ k.variables
@@ -608,5 +616,5 @@ filled_fits frames f vs k row fit p short =
     let begin : Cursor = record { name = 0; scalar = 0 } in
     let here : f.number ≡ f.number + 0 = omega arith in
     let ready = subst (λ (i : ℕ). Ready k.objects (size_of_shape f.shape) 0 p.0 (drop i k.variables)) here (ready_first k.objects (size_of_shape f.shape) p.0 (drop f.number k.variables) p.1) in
-    let start : Filled f k begin k = record { variables = refl; structures = refl; good = λ h. record { fit = fit; inside = row.some; low = p.0; ready = ready } } in
+    let start : Filled f k begin k = record { variables = refl; structures = refl; good = λ h. record { fit = fit; low = p.0; ready = ready } } in
     ((values_fill frames f k begin vs k row start).good short).fit

@@ -9,8 +9,7 @@ use Rattle.word86.specs.declared.number.Number.{Number}
 use Rattle.plm_token.specs.Names.{normal}
 use Rattle.plm_syntax.specs.declared.tree.Position.{Position}
 use Rattle.plm_syntax.specs.Terminal.{NameT, NumeralT}
-use Rattle.plm_syntax.specs.Tree.{no_names, names, MemberT, OneMember, MemberList, MembersT, no_members, members, TypeT, ScalarType, StructureType, DimensionT, no_dimension, dimension, implicit_dimension, ValueT}
-use Rattle.plm_syntax.specs.WellFormed.{WellMember, WellType}
+use Rattle.plm_syntax.specs.Tree.{MemberT, TypeT, ScalarType, StructureType, DimensionT, no_dimension, dimension, implicit_dimension, ValueT}
 use Rattle.plm_decl.specs.declared.layout.Form.{Form}
 use Rattle.plm_decl.specs.declared.layout.Form.TheVariants as form
 use Rattle.plm_decl.specs.declared.layout.ScalarType as layout
@@ -18,7 +17,7 @@ use Rattle.plm_decl.specs.declared.layout.ScalarType.TheVariants.{Byte, Word, Po
 use Rattle.plm_decl.specs.declared.shape.Shape.{Shape}
 use Rattle.plm_decl.specs.Layout.{FieldR, StructureR, counted, scalar_of, size_of, elements, is_dimension, no_fields, with_field, has_field, scalar_in}
 use Rattle.plm_decl.specs.Resolver.{Known, note_unless}
-use Rattle.plm_decl.specs.Lists.{name_list, member_list}
+use Rattle.plm_decl.specs.Lists.{member_list}
 use Rattle.plm_decl.specs.Shape.{number_of_elements, with_member_name, with_member_names, member_names, member_count, member_scalar, with_members, structure_for, form_for, stride_of, scalars_of, scalar_of_structure, scalar_at, size_of_shape, elements_filled, dimension_for, shape_for}
 use Rattle.plm_decl.specs.Fill.{scalars_in_name}
 use Rattle.plm_decl.proofs.Objects.{last_got}
@@ -132,7 +131,7 @@ members_add place (m ∷ ms) s k h =
     let r = with_members place m s k in
     members_add place ms r.0 r.1 (names_add (member_names m) (scalar_of (member_scalar m)) d.0 s d.1 h)
 
--- ---- a structure has a scalar
+-- ---- a dimension is positive
 
 positive_if : (b : Bool) (n : ℕ) → (b ≡ true → 0 < n) → 0 < cond b n 1
 positive_if true n h = h refl
@@ -144,37 +143,6 @@ positive_dimension n h = grind (arith, nat_tests)
 number_positive : (place : Position) (n : Option NumeralT) (k : Known) → 0 < elements (number_of_elements place n k).0
 number_positive place None k = omega arith
 number_positive place (Some n) k = positive_if (is_dimension n.value) n.value (positive_dimension n.value)
-
-last_name : (ns : List NameT) (n : NameT) (scalar : layout.ScalarType) (d : Option ℕ) (s : StructureR) (k : Known)
-    → (with_member_names (ns ++ n ∷ []) scalar d s k).0 ≡ with_field (normal n.text) scalar d (with_member_names ns scalar d s k).0
-last_name [] n scalar d s k = refl
-last_name (m ∷ ns) n scalar d s k = let r = with_member_name m scalar d s k in last_name ns n scalar d r.0 r.1
-
-last_member : (place : Position) (ms : List MemberT) (m : MemberT) (s : StructureR) (k : Known)
-    → (structure_for place (ms ++ m ∷ []) s k).0 ≡ (with_members place m (structure_for place ms s k).0 (structure_for place ms s k).1).0
-last_member place [] m s k = refl
-last_member place (x ∷ ms) m s k = let r = with_members place x s k in last_member place ms m r.0 r.1
-
-field_positive : (name : List ℕ) (scalar : layout.ScalarType) (d : Option ℕ) (s : StructureR) → 0 < elements d → 0 < scalars_of_fields (with_field name scalar d s).fields
-field_positive name scalar d s h = omega (arith, h, pushed_scalars s.fields (record { name = name; member = record { scalar = scalar; dimension = d; offset = s.size } }))
-
-names_positive : (ns : List NameT) (n : NameT) (scalar : layout.ScalarType) (d : Option ℕ) (s : StructureR) (k : Known) → 0 < elements d
-    → 0 < scalars_of_fields (with_member_names (ns ++ n ∷ []) scalar d s k).0.fields
-names_positive ns n scalar d s k h =
-    subst (λ (r : StructureR). 0 < scalars_of_fields r.fields) (sym (last_name ns n scalar d s k)) (field_positive (normal n.text) scalar d (with_member_names ns scalar d s k).0 h)
-
-member_positive : (place : Position) (m : MemberT) (s : StructureR) (k : Known) → WellMember m → 0 < scalars_of_fields (with_members place m s k).0.fields
-member_positive place (OneMember n c t) s k h =
-    let d = number_of_elements place c k in names_positive [] n (scalar_of t) d.0 s d.1 (number_positive place c k)
-member_positive place (MemberList no_names c t) s k h = absurd h
-member_positive place (MemberList (names ns n) c t) s k h =
-    let d = number_of_elements place c k in names_positive (name_list ns) n (scalar_of t) d.0 s d.1 (number_positive place c k)
-
-structure_positive : (place : Position) (ms : MembersT) (m : MemberT) (k : Known) → WellMember m
-    → 0 < scalars_of_fields (structure_for place (member_list ms ++ m ∷ []) no_fields k).0.fields
-structure_positive place ms m k h =
-    let r = structure_for place (member_list ms) no_fields k in
-    subst (λ (s : StructureR). 0 < scalars_of_fields s.fields) (sym (last_member place (member_list ms) m no_fields k)) (member_positive place m r.0 r.1 h)
 
 -- ---- an array of structures
 
@@ -210,16 +178,14 @@ rows_bytes s (suc n) e =
 
 -- where scalars fill a name, one after another: this number stand there, and where its bytes are fewer than can be counted, they have room in it
 pub record RowFits (at : ℕ → layout.ScalarType) (scalars size : ℕ) : Type 0 where
-  pub some : 0 < scalars
   pub counted_up : scalars ≤ 18446744073709551615
   pub room : size < 18446744073709551615 → (n : ℕ) → n ≤ scalars → bytes_before at n ≤ size
 
 abbrev pub ShapeFits : Known → Shape → Type 0
 ShapeFits k s = RowFits (scalar_at k s.form) (scalars_in_name k s) (size_of_shape s)
 
-alike_fit : (s : layout.ScalarType) (n : ℕ) → 0 < n → RowFits (λ i. s) (counted (1 * n)) (counted (size_of s * n))
-alike_fit s n h = record {
-  some = omega (arith, h);
+alike_fit : (s : layout.ScalarType) (n : ℕ) → RowFits (λ i. s) (counted (1 * n)) (counted (size_of s * n))
+alike_fit s n = record {
   counted_up = omega arith;
   room = λ small m p. let all = bytes_alike s m in let few = bounded s n m p in omega (arith, all, few, small);
 }
@@ -231,10 +197,6 @@ alike_fit s n h = record {
 
 unsaturated : (n : ℕ) → counted n < 18446744073709551615 → counted n ≡ n
 unsaturated n h = omega (arith, h)
-
-positive_product : (a b : ℕ) → 0 < a → 0 < b → 0 < a * b
-positive_product zero b p q = omega (arith, p)
-positive_product (suc a) b p q = let e : suc a * b ≡ a * b + b = grind arith in omega (arith, e, q)
 
 factor_below : (a b : ℕ) → 0 < b → a ≤ a * b
 factor_below a zero q = omega (arith, q)
@@ -257,25 +219,17 @@ structure_room s n m h p small q =
     let same : s.size * n ≡ n * bytes_of_fields s.fields = turned s.size n ∙ ap (λ (b : ℕ). n * b) bytes in
     omega (arith, most, all, same, whole)
 
-structure_fits : (s : StructureR) (n : ℕ) → Adds s → 0 < scalars_of_fields s.fields → 0 < n → RowFits (scalar_of_structure s) (counted (s.scalars * n)) (counted (s.size * n))
-structure_fits s n h some p =
-    let scalars : 0 < s.scalars = omega (arith, h.scalars, some) in
-    let product = positive_product s.scalars n scalars p in
-    record {
-      some = omega (arith, product);
-      counted_up = omega arith;
-      room = λ small m q. structure_room s n m h p small q;
-    }
+structure_fits : (s : StructureR) (n : ℕ) → Adds s → 0 < n → RowFits (scalar_of_structure s) (counted (s.scalars * n)) (counted (s.size * n))
+structure_fits s n h p = record { counted_up = omega arith; room = λ small m q. structure_room s n m h p small q }
 
-form_fits : (place : Position) (t : TypeT) (k : Known) (n : ℕ) → WellType t → 0 < n
+form_fits : (place : Position) (t : TypeT) (k : Known) (n : ℕ) → 0 < n
     → let r = form_for place t k in RowFits (scalar_at r.1 r.0) (counted (scalars_of r.1 r.0 * n)) (counted (stride_of r.1 r.0 * n))
-form_fits place (ScalarType s) k n h p = alike_fit (scalar_of s) n p
-form_fits place (StructureType no_members) k n h p = absurd h
-form_fits place (StructureType (members ms m)) k n h p =
-    let r = structure_for place (member_list ms ++ m ∷ []) no_fields k in
-    let adds : Adds r.0 = members_add place (member_list ms ++ m ∷ []) no_fields k (record { bytes = refl; scalars = refl }) in
+form_fits place (ScalarType s) k n p = alike_fit (scalar_of s) n
+form_fits place (StructureType ms) k n p =
+    let r = structure_for place (member_list ms) no_fields k in
+    let adds : Adds r.0 = members_add place (member_list ms) no_fields k (record { bytes = refl; scalars = refl }) in
     subst (λ (o : Option StructureR). RowFits (λ i. option_map_or (λ s. scalar_of_structure s i) o Byte) (counted (option_map_or (λ s. s.scalars) o 0 * n)) (counted (option_map_or (λ s. s.size) o 0 * n)))
-    (sym (last_got r.1.structures r.0)) (structure_fits r.0 n adds (structure_positive place ms m k h.1) p)
+    (sym (last_got r.1.structures r.0)) (structure_fits r.0 n adds p)
 
 -- ---- the same tables
 
@@ -358,13 +312,13 @@ stride_still k q (form.Structure n) e = ap (λ (ss : List StructureR). option_ma
 pub scalars_in_name_still : (k q : Known) (s : Shape) → q.structures ≡ k.structures → scalars_in_name q s ≡ scalars_in_name k s
 scalars_in_name_still k q s e = ap (λ (n : ℕ). counted (n * elements s.dimension)) (scalars_still k q s.form e)
 
-pub shape_fits : (place : Position) (count : ℕ) (d : DimensionT) (t : TypeT) (vs : List ValueT) (k : Known) → WellType t
+pub shape_fits : (place : Position) (count : ℕ) (d : DimensionT) (t : TypeT) (vs : List ValueT) (k : Known)
     → let h = shape_for place count d t vs k in ShapeFits h.1 h.0
-shape_fits place count d t vs k well =
+shape_fits place count d t vs k =
     let f = form_for place t k in
     let n = dimension_for place count d f.0 vs f.1 in
     let same = dimension_same place count d f.0 vs f.1 in
-    let here = form_fits place t k (elements n.0) well (dimension_positive place count d f.0 vs f.1) in
+    let here = form_fits place t k (elements n.0) (dimension_positive place count d f.0 vs f.1) in
     let at : (λ i. scalar_at n.1 f.0 i) ≡ (λ i. scalar_at f.1 f.0 i) = λ j i. scalar_still f.1 n.1 f.0 i same.structures j in
     let scalars = ap (λ (m : ℕ). counted (m * elements n.0)) (scalars_still f.1 n.1 f.0 same.structures) in
     let size = ap (λ (m : ℕ). counted (m * elements n.0)) (stride_still f.1 n.1 f.0 same.structures) in

@@ -2,22 +2,21 @@
 use Rattle.std.proofs.Common.{◌≡◌, ℕ, ◌+◌, ◌<◌, ◌≤◌, List, [], ◌∷◌, ◌++◌, map, length, Bool, true, false, ◌||◌, not, cond, Option, Some, None, nat_eq, arith, refl, sym, ap, subst, ◌∙◌}
 use Rattle.std.specs.Prelude.{slice_get, sum_by}
 use Rattle.std.specs.List.{list_all, All}
-use Rattle.std.proofs.lemmas.List.{length-append, length-set, take_all}
+use Rattle.std.proofs.lemmas.List.{length-append, length-set}
 use Rattle.std.proofs.lemmas.List.Sums.{sum_by-cons}
-use Rattle.std.proofs.lemmas.List.Elements.{All-head, All-tail, All-nil, All-cons}
+use Rattle.std.proofs.lemmas.List.Elements.{All-nil, All-cons}
 use Rattle.std.proofs.lemmas.Bool.Decides.{nat_tests}
 use Rattle.word86.specs.declared.number.Number.TheVariants.{E302, E308, E310}
 use Rattle.plm_token.specs.Names.{normal}
 use Rattle.plm_syntax.specs.declared.tree.Position.{Position}
 use Rattle.plm_syntax.specs.declared.tree.Linkage.{Linkage}
 use Rattle.plm_syntax.specs.Terminal.{NameT}
-use Rattle.plm_syntax.specs.Spelling.{last_name as label_of}
 use Rattle.plm_syntax.specs.Tree.{ElementT, ElementsT, no_elements, elements, ReferenceT, ExpressionT, StatementT, Labelled, BasicT, EmptyS, AssignS, CallS, ReturnS, ReturnValueS, EnableS, DisableS, HaltS, IfS, IfElseS, DoS, WhileS, CaseS, IterateS, StatementsT, BlockT, BlockOf, ItemsT, no_items, items, ItemT, DeclareI, ProcedureI, ModuleT, ModuleOf}
 use Rattle.plm_syntax.specs.Tree as tree
-use Rattle.plm_syntax.specs.WellFormed.{WellSomeElements, WellElements, WellStatement, WellBasic, WellStatements, WellBlock, WellItems, WellItem, WellModule}
 use Rattle.plm_decl.specs.declared.names.Datum.{Datum}
 use Rattle.plm_decl.specs.declared.names.Datum.TheVariants as datum
 use Rattle.plm_decl.specs.declared.names.Variable.{Variable}
+use Rattle.plm_decl.specs.declared.names.Object.{Object}
 use Rattle.plm_decl.specs.declared.names.Names.{Names}
 use Rattle.plm_decl.specs.declared.names.Item.{Item}
 use Rattle.plm_decl.specs.declared.names.Item.TheVariants as item
@@ -36,11 +35,9 @@ use Rattle.plm_decl.specs.Elements.{start, linked, with_variable}
 use Rattle.plm_decl.specs.Fill.{element}
 use Rattle.plm_decl.specs.Statements.{targets_from, step_for, last_name, block_path, with_elements, linkage_of, is_handled, note_handler, header, with_header, declared_procedure, in_place_of, parameter_is, with_parameter, parameter_for, parameters_from, completed_at, statement, basic, statements as read_statements, block, with_items, with_item}
 use Rattle.plm_decl.specs.Joins.{agree, with_region, region_joined, entry_joined, joined, external_joined, externals_joined, bytes_from, have_room, program_fault, modules_joined, has_statements, with_main, at_module, with_module, modules_from, known_from}
-use Rattle.plm_decl.specs.Modules.{AreNames}
-use Rattle.plm_decl.specs.Initial.{datum_bytes, initial_bytes, first_bytes}
-use Rattle.plm_decl.specs.Laws.{bytes_of_datum, values_fit}
+use Rattle.plm_decl.specs.Values.{bytes_of_datum, values_fit}
+use Rattle.plm_decl.specs.Initial.{datum_bytes, initial_bytes}
 use Rattle.plm_decl.proofs.Kept.{both, left, right}
-use Rattle.plm_decl.proofs.RangesJoins.{joined_room}
 use Rattle.plm_decl.proofs.FitsShapes.{SameTables, same_tables, same_then, noted_same}
 use Rattle.plm_decl.proofs.FitsFills.{fits, Extends, extends_none, extends_then, used_extends, expression_extends, reference_extends}
 use Rattle.plm_decl.proofs.FitsElements.{Fits, fits_none, fits_then, fits_same, fits_extended, fits_tables, unless_same, linked_same, declared_same, element_fits}
@@ -64,15 +61,11 @@ with_elements_last : (es : List ElementT) (e : ElementT) (frames : List Frame) (
 with_elements_last [] e frames k = refl
 with_elements_last (x ∷ es) e frames k = let r = element x frames k in with_elements_last es e r.0 r.1
 
-some_elements_fit : (es : ElementsT) (frames : List Frame) (k : Known) → WellSomeElements es → Fits k (with_elements (element_list es) frames k).1
-some_elements_fit no_elements frames k well = fits_none k
-some_elements_fit (elements es e) frames k well =
+elements_fit : (es : ElementsT) (frames : List Frame) (k : Known) → Fits k (with_elements (element_list es) frames k).1
+elements_fit no_elements frames k = fits_none k
+elements_fit (elements es e) frames k =
     let r = with_elements (element_list es) frames k in
-    subst (λ (q : Known). Fits k q) (sym (with_elements_last (element_list es) e frames k)) (fits_then (some_elements_fit es frames k well.0) (element_fits e r.0 r.1 well.1))
-
-elements_fit : (es : ElementsT) (frames : List Frame) (k : Known) → WellElements es → Fits k (with_elements (element_list es) frames k).1
-elements_fit no_elements frames k well = absurd well
-elements_fit (elements es e) frames k well = some_elements_fit (elements es e) frames k well
+    subst (λ (q : Known). Fits k q) (sym (with_elements_last (element_list es) e frames k)) (fits_then (elements_fit es frames k) (element_fits e r.0 r.1))
 
 -- ---- procedures
 
@@ -112,55 +105,55 @@ completed_fits number ps body (Some p) k = fits_same refl refl
 -- ---- statements
 
 mutual
-  statement_fits : (frames : List Frame) (s : StatementT) (k : Known) → WellStatement s → Fits k (statement frames s k).1
-  statement_fits frames (Labelled ls b) k well = basic_fits frames (last_name ls) (label_of ls) b k well
+  statement_fits : (frames : List Frame) (s : StatementT) (k : Known) → Fits k (statement frames s k).1
+  statement_fits frames (Labelled ls b) k = basic_fits frames (last_name ls) b k
 
-  basic_fits : (frames : List Frame) (label l : Option NameT) (b : BasicT) (k : Known) → WellBasic l b → Fits k (basic frames label b k).1
-  basic_fits frames label l (EmptyS p) k well = fits_none k
-  basic_fits frames label l (AssignS xs e) k well =
+  basic_fits : (frames : List Frame) (label : Option NameT) (b : BasicT) (k : Known) → Fits k (basic frames label b k).1
+  basic_fits frames label (EmptyS p) k = fits_none k
+  basic_fits frames label (AssignS xs e) k =
       fits_extended (extends_then (targets_extend frames no_references (reference_list xs) k) (expression_extends frames e (targets_from frames no_references (reference_list xs) k).1))
-  basic_fits frames label l (CallS p x) k well = fits_extended (reference_extends frames x k)
-  basic_fits frames label l (ReturnS p) k well = fits_none k
-  basic_fits frames label l (ReturnValueS p e) k well = fits_extended (expression_extends frames e k)
-  basic_fits frames label l (EnableS p) k well = fits_none k
-  basic_fits frames label l (DisableS p) k well = fits_none k
-  basic_fits frames label l (HaltS p) k well = fits_none k
-  basic_fits frames label l (IfS p e s) k well = fits_then (fits_extended (expression_extends frames e k)) (statement_fits frames s (expression frames e k).1 well.1)
-  basic_fits frames label l (IfElseS p e s t) k well =
+  basic_fits frames label (CallS p x) k = fits_extended (reference_extends frames x k)
+  basic_fits frames label (ReturnS p) k = fits_none k
+  basic_fits frames label (ReturnValueS p e) k = fits_extended (expression_extends frames e k)
+  basic_fits frames label (EnableS p) k = fits_none k
+  basic_fits frames label (DisableS p) k = fits_none k
+  basic_fits frames label (HaltS p) k = fits_none k
+  basic_fits frames label (IfS p e s) k = fits_then (fits_extended (expression_extends frames e k)) (statement_fits frames s (expression frames e k).1)
+  basic_fits frames label (IfElseS p e s t) k =
       let r = expression frames e k in let q = statement frames s r.1 in
-      fits_then (fits_extended (expression_extends frames e k)) (fits_then (statement_fits frames s r.1 well.1) (statement_fits frames t q.1 well.3))
-  basic_fits frames label l (DoS p b n) k well =
+      fits_then (fits_extended (expression_extends frames e k)) (fits_then (statement_fits frames s r.1) (statement_fits frames t q.1))
+  basic_fits frames label (DoS p b n) k =
       let r = block_path frames label k in
-      fits_then (fits_tables (path_same frames label k)) (block_fits (frame r.0 (is_external frames) ∷ frames) b r.1 well.0)
-  basic_fits frames label l (WhileS p e ss n) k well = fits_then (fits_extended (expression_extends frames e k)) (statements_fit frames ss (expression frames e k).1 well.1)
-  basic_fits frames label l (CaseS p e ss n) k well = fits_then (fits_extended (expression_extends frames e k)) (statements_fit frames ss (expression frames e k).1 well.1)
-  basic_fits frames label l (IterateS p i a b s ss n) k well =
+      fits_then (fits_tables (path_same frames label k)) (block_fits (frame r.0 (is_external frames) ∷ frames) b r.1)
+  basic_fits frames label (WhileS p e ss n) k = fits_then (fits_extended (expression_extends frames e k)) (statements_fit frames ss (expression frames e k).1)
+  basic_fits frames label (CaseS p e ss n) k = fits_then (fits_extended (expression_extends frames e k)) (statements_fit frames ss (expression frames e k).1)
+  basic_fits frames label (IterateS p i a b s ss n) k =
       let m = used frames i k in let r = expression frames a m.1 in let q = expression frames b r.1 in let u = step_for frames s q.1 in
       fits_then
       (fits_extended (extends_then (used_extends frames i k) (extends_then (expression_extends frames a m.1) (extends_then (expression_extends frames b r.1) (step_extends frames s q.1)))))
-      (statements_fit frames ss u.1 well.3)
+      (statements_fit frames ss u.1)
 
-  statements_fit : (frames : List Frame) (ss : StatementsT) (k : Known) → WellStatements ss → Fits k (read_statements frames ss k).1
-  statements_fit frames tree.no_statements k well = fits_none k
-  statements_fit frames (tree.statements ss s) k well = let r = read_statements frames ss k in fits_then (statements_fit frames ss k well.0) (statement_fits frames s r.1 well.1)
+  statements_fit : (frames : List Frame) (ss : StatementsT) (k : Known) → Fits k (read_statements frames ss k).1
+  statements_fit frames tree.no_statements k = fits_none k
+  statements_fit frames (tree.statements ss s) k = let r = read_statements frames ss k in fits_then (statements_fit frames ss k) (statement_fits frames s r.1)
 
-  pub block_fits : (frames : List Frame) (b : BlockT) (k : Known) → WellBlock b → Fits k (block frames b k).2
-  block_fits frames (BlockOf is ss) k well = let r = with_items frames is k in fits_then (items_fit frames is k well.0) (statements_fit r.0 ss r.1 well.1)
+  pub block_fits : (frames : List Frame) (b : BlockT) (k : Known) → Fits k (block frames b k).2
+  block_fits frames (BlockOf is ss) k = let r = with_items frames is k in fits_then (items_fit frames is k) (statements_fit r.0 ss r.1)
 
-  items_fit : (frames : List Frame) (is : ItemsT) (k : Known) → WellItems is → Fits k (with_items frames is k).1
-  items_fit frames no_items k well = fits_none k
-  items_fit frames (items is i) k well = let r = with_items frames is k in fits_then (items_fit frames is k well.0) (item_fits r.0 i r.1 well.1)
+  items_fit : (frames : List Frame) (is : ItemsT) (k : Known) → Fits k (with_items frames is k).1
+  items_fit frames no_items k = fits_none k
+  items_fit frames (items is i) k = let r = with_items frames is k in fits_then (items_fit frames is k) (item_fits r.0 i r.1)
 
-  item_fits : (frames : List Frame) (i : ItemT) (k : Known) → WellItem i → Fits k (with_item frames i k).1
-  item_fits frames (DeclareI p es) k well = elements_fit es frames k well
-  item_fits frames (ProcedureI n ps s i l b e) k well =
+  item_fits : (frames : List Frame) (i : ItemT) (k : Known) → Fits k (with_item frames i k).1
+  item_fits frames (DeclareI p es) k = elements_fit es frames k
+  item_fits frames (ProcedureI n ps s i l b e) k =
       let p = header (name_after (path_in frames) (normal n.text)) n (name_list ps) s i (linkage_of l) b k in
       let r = declared_procedure frames n p k in
       let inside = frame p.path (is_external_linkage p.linkage || is_external frames) in
       let q = block (inside ∷ r.0) b r.1 in
       let u = parameters_from q.1 [] [] (name_list ps) q.2 in
       fits_then (fits_tables (procedure_same frames n p k))
-      (fits_then (block_fits (inside ∷ r.0) b r.1 well.0)
+      (fits_then (block_fits (inside ∷ r.0) b r.1)
       (fits_then (parameters_fit q.1 [] [] (name_list ps) q.2) (completed_fits p.entry u.0 q.0 (slice_get u.1.procedures p.entry) u.1)))
 
 -- ---- modules
@@ -169,17 +162,17 @@ main_fits : (b : Bool) (ss : StatementsR) (k : Known) → Fits k (with_main b ss
 main_fits true ss k = fits_same refl refl
 main_fits false ss k = fits_none k
 
-module_fits : (number : ℕ) (m : ModuleT) (k : Known) → WellModule m → Fits k (with_module number m k)
-module_fits number (ModuleOf n b e) k well =
+module_fits : (number : ℕ) (m : ModuleT) (k : Known) → Fits k (with_module number m k)
+module_fits number (ModuleOf n b e) k =
     let frames = frame (normal n.text) false ∷ [] in
     let r = block frames b (at_module number k) in
     let begin : Fits k (at_module number k) = fits_same refl refl in
-    fits_then begin (fits_then (block_fits frames b (at_module number k) well.0) (main_fits (has_statements b) r.0 r.2))
+    fits_then begin (fits_then (block_fits frames b (at_module number k)) (main_fits (has_statements b) r.0 r.2))
 
-modules_fit : (number : ℕ) (ms : List ModuleT) (k : Known) → All WellModule ms → Fits k (modules_from number ms k)
-modules_fit number [] k well = fits_none k
-modules_fit number (m ∷ ms) k well =
-    fits_then (module_fits number m k (All-head WellModule m ms well)) (modules_fit (number + 1) ms (with_module number m k) (All-tail WellModule m ms well))
+modules_fit : (number : ℕ) (ms : List ModuleT) (k : Known) → Fits k (modules_from number ms k)
+modules_fit number [] k = fits_none k
+modules_fit number (m ∷ ms) k =
+    fits_then (module_fits number m k) (modules_fit (number + 1) ms (with_module number m k))
 
 -- ---- joining: as many variables, the same objects
 
@@ -248,20 +241,34 @@ small_fit b (o ∷ os) h f =
     here : (o : ObjectR) → o.size ≤ 61438 → fits o ≡ true → values_fit o ≡ true
     here o small f = grind (arith, nat_tests)
 
-pub initial_values_fit : (ms : List ModuleT) → All WellModule ms
+-- what is read
+pub known_fit : (ms : List ModuleT) → length (known_from ms).variables < 18446744073709551616 → have_room (known_from ms).objects ≡ true → list_all values_fit (known_from ms).objects ≡ true
+known_fit ms short room =
+    let most : bytes_from 0 (known_from ms).objects ≤ 61438 = grind (arith, nat_tests) in
+    small_fit 0 (known_from ms).objects most ((modules_fit 0 ms nothing_known).fit short refl)
+
+-- and what is joined of it
+pub joined_fit : (k : Known) → (have_room k.objects ≡ true → list_all values_fit k.objects ≡ true) → have_room (modules_joined k).objects ≡ true → list_all values_fit (modules_joined k).objects ≡ true
+joined_fit k fit room =
+    let same = (modules_join k).objects in
+    ap (list_all values_fit) same ∙ fit (ap have_room (sym same) ∙ room)
+
+pub initial_values_fit : (ms : List ModuleT)
     → length (modules_joined (known_from ms)).variables < 18446744073709551616 → have_room (modules_joined (known_from ms)).objects ≡ true
     → list_all values_fit (modules_joined (known_from ms)).objects ≡ true
-initial_values_fit ms well short room =
-    let k = known_from ms in
-    let joins = modules_join k in
-    let count = joins.count in
-    let all = (modules_fit 0 ms nothing_known well).fit (omega (arith, count, short)) refl in
-    let most : bytes_from 0 (modules_joined k).objects ≤ 61438 = grind (arith, nat_tests) in
-    small_fit 0 (modules_joined k).objects most (ap (list_all fits) joins.objects ∙ all)
+initial_values_fit ms short room =
+    let count = (modules_join (known_from ms)).count in
+    joined_fit (known_from ms) (known_fit ms (omega (arith, count, short))) room
 
--- ---- nothing is cut
+-- ---- bytes
 
 module _ (offsets : List ℕ) (vs : List Variable) where
+  length_of_datum : (d : Datum) → length (datum_bytes offsets vs d) ≡ bytes_of_datum d
+  length_of_datum (datum.Byte b) = refl
+  length_of_datum (datum.Word w) = refl
+  length_of_datum (datum.Variable v n) = refl
+  length_of_datum (datum.Constants o) = refl
+
   length_of_bytes : (ds : List Datum) → length (initial_bytes offsets vs ds) ≡ sum_by bytes_of_datum ds
   length_of_bytes [] = refl
   length_of_bytes (d ∷ ds) =
@@ -269,29 +276,19 @@ module _ (offsets : List ℕ) (vs : List Variable) where
       let one = length_of_datum d in
       let all = sum_by-cons bytes_of_datum d ds in
       omega (arith, length-append (datum_bytes offsets vs d) (initial_bytes offsets vs ds), one, rest, all)
-    where
-      length_of_datum : (d : Datum) → length (datum_bytes offsets vs d) ≡ bytes_of_datum d
-      length_of_datum (datum.Byte b) = refl
-      length_of_datum (datum.Word w) = refl
-      length_of_datum (datum.Variable v n) = refl
-      length_of_datum (datum.Constants o) = refl
 
-  all_bytes : (o : ObjectR) → values_fit o ≡ true → first_bytes offsets vs o ≡ initial_bytes offsets vs o.initial
-  all_bytes o h =
+  bytes_have_room : (o : ObjectR) → values_fit o ≡ true → length (initial_bytes offsets vs o.initial) ≤ o.size
+  bytes_have_room o h =
       let count = length_of_bytes o.initial in
       let few : sum_by bytes_of_datum o.initial ≤ o.size = grind (arith, nat_tests) in
-      take_all o.size (initial_bytes offsets vs o.initial) (omega (arith, count, few))
+      omega (arith, count, few)
 
-  all_uncut : (os : List ObjectR) → list_all values_fit os ≡ true → All (λ o. first_bytes offsets vs o ≡ initial_bytes offsets vs o.initial) os
-  all_uncut [] h = All-nil (λ o. first_bytes offsets vs o ≡ initial_bytes offsets vs o.initial)
-  all_uncut (o ∷ os) h =
-      All-cons (λ o. first_bytes offsets vs o ≡ initial_bytes offsets vs o.initial) o os
-      (all_bytes o (left (values_fit o) (list_all values_fit os) h)) (all_uncut os (right (values_fit o) (list_all values_fit os) h))
+  all_bytes_fit : (os : List Object) → list_all values_fit (map object_of os) ≡ true → All (λ o. length (initial_bytes offsets vs o.initial.items) ≤ o.size) os
+  all_bytes_fit [] h = All-nil (λ o. length (initial_bytes offsets vs o.initial.items) ≤ o.size)
+  all_bytes_fit (o ∷ os) h =
+      All-cons (λ o. length (initial_bytes offsets vs o.initial.items) ≤ o.size) o os
+      (bytes_have_room (object_of o) (left (values_fit (object_of o)) (list_all values_fit (map object_of os)) h))
+      (all_bytes_fit os (right (values_fit (object_of o)) (list_all values_fit (map object_of os)) h))
 
-pub nothing_is_cut : (names : Names) (ms : List ModuleT) (offsets : List ℕ) → All WellModule ms → AreNames names ms → length names.variables.items < 18446744073709551616
-    → All (λ o. first_bytes offsets names.variables.items o ≡ initial_bytes offsets names.variables.items o.initial) (map object_of names.objects.items)
-nothing_is_cut names ms offsets well are short =
-    let k = known_from ms in
-    let count = ap length are.variables in
-    let fit = initial_values_fit ms well (omega (arith, count, short)) (joined_room k are.no_whole_fault) in
-    all_uncut offsets names.variables.items (map object_of names.objects.items) (ap (list_all values_fit) are.objects ∙ fit)
+pub initial_bytes_fit : (names : Names) (offsets : List ℕ) → All (λ o. length (initial_bytes offsets names.variables.items o.initial.items) ≤ o.size) names.objects.items
+initial_bytes_fit names offsets = all_bytes_fit offsets names.variables.items names.objects.items names.values_fit

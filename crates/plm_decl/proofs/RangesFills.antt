@@ -25,7 +25,7 @@ use Rattle.plm_decl.specs.Datum.{number_datum, text_datum, word_datum, character
 use Rattle.plm_decl.specs.Expressions.{location}
 use Rattle.plm_decl.specs.Shape.{scalar_at, shape_for}
 use Rattle.plm_decl.specs.Elements.{distance, declared_variables, declared_list, element_values, has_values, is_placed, first_site, place_of_variable}
-use Rattle.plm_decl.specs.Fill.{address_at, address_datum, variable_datum, reference_datum, location_datum, form_of_location, location_in, datum_for, FillingR, with_datum, given_at, given_in, put_datum, too_many, put_at, put_value, past_at, unless_past, put_characters, put_single, filled_with, filled_from, traits_for, filled_element, declared_at, declared_names, element}
+use Rattle.plm_decl.specs.Fill.{address_at, address_datum, variable_datum, reference_datum, location_datum, form_of_location, location_in, datum_for, FillingR, with_datum, given_at, given_in, put_datum, too_many, name_at, put_at, put_value, past_at, unless_past, put_characters, put_single, filled_with, filled_from, traits_for, filled_element, declared_at, declared_names, element}
 use Rattle.plm_decl.specs.Ranges.{Counts, datum_within, object_within, expressions_within, selector_within, reference_within, location_within}
 use Rattle.plm_decl.specs.Inner.Ranges.{Within}
 use Rattle.plm_decl.proofs.Kept.{Ends, Kept, Reads, Declares, reads, reads_then, declares_none, kept, kept_then, left, frames_within, note_kept, note_unless_kept, all_pushed, all_set, maybe, got, maybe_unless}
@@ -178,7 +178,7 @@ put_characters_kept : (c : Counts) (f : FillingR) (at : Cursor) (xs : List ℕ) 
 put_characters_kept c f at [] k = kept c k
 put_characters_kept c f at (x ∷ xs) k =
     let d = character_datum (scalar_at k f.shape.form at.scalar) x in
-    let v = slice_get f.names at.name in
+    let v = name_at f at k in
     let r = put_value f at d k in
     let one : Kept c k r.1 = record { ends = λ e. put_at_ends c f at v d k e; within = λ e w. put_at_within c f at v d k (character_within c (scalar_at k f.shape.form at.scalar) x) e w } in
     kept_then one (put_characters_kept c f r.0 xs r.1)
@@ -187,7 +187,7 @@ put_single_reads : (c : Counts) (frames : List Frame) (f : FillingR) (at : Curso
 put_single_reads c frames f at v k =
     let s = scalar_at k f.shape.form at.scalar in
     let d = datum_for frames s v k in
-    let n = slice_get f.names at.name in
+    let n = name_at f at d.1 in
     let here = datum_reads c frames s v k in
     record {
       ends = λ e. here.ends (put_at_ends c f at n d.0 d.1 e);
@@ -204,7 +204,7 @@ filled_with_reads : (c : Counts) (frames : List Frame) (f : FillingR) (at : Curs
 filled_with_reads c frames f at (NumeralV n) k = put_single_reads c frames f at (NumeralV n) k
 filled_with_reads c frames f at (NegativeV n) k = put_single_reads c frames f at (NegativeV n) k
 filled_with_reads c frames f at (TextV s) k =
-    where_reads c frames (is_byte (scalar_at k f.shape.form at.scalar)) k _ _ (reads (kept_then (past_kept c f (slice_get f.names at.name) k) (put_characters_kept c f at (string_characters s.text) (unless_past f at k)))) (put_single_reads c frames f at (TextV s) k)
+    where_reads c frames (is_byte (scalar_at k f.shape.form at.scalar)) k _ _ (reads (kept_then (past_kept c f (name_at f at k) k) (put_characters_kept c f at (string_characters s.text) (unless_past f at k)))) (put_single_reads c frames f at (TextV s) k)
 filled_with_reads c frames f at (LocationV l) k = put_single_reads c frames f at (LocationV l) k
 
 filled_from_reads : (c : Counts) (frames : List Frame) (f : FillingR) (at : Cursor) (vs : List ValueT) (k : Known) → Reads c frames k (filled_from frames f at vs k).1

@@ -113,13 +113,17 @@ abbrev pub too_many : Option VariableT → Known → Known
 too_many None k = k
 too_many (Some v) k = note E305 (place_of_variable v) k
 
+-- the name at the cursor, if it has a scalar there
+abbrev pub name_at : FillingR → Cursor → Known → Option VariableT
+name_at f c k = cond (nat_lt c.scalar (scalars_in_name k f.shape)) (slice_get f.names c.name) None
+
 -- a value at the cursor; one too many does not fit the last name
 abbrev pub put_at : FillingR → Cursor → Option VariableT → Option Datum → Known → Cursor × Known
 put_at f c None d k = (c, too_many (slice_get f.names (length f.names - 1)) k)
 put_at f c (Some v) d k = let q = put_datum f c.name v d k in (cursor_after (scalars_in_name q f.shape) c, q)
 
 abbrev pub put_value : FillingR → Cursor → Option Datum → Known → Cursor × Known
-put_value f c d k = put_at f c (slice_get f.names c.name) d k
+put_value f c d k = put_at f c (name_at f c k) d k
 
 abbrev pub past_at : FillingR → Option VariableT → Known → Known
 past_at f None k = too_many (slice_get f.names (length f.names - 1)) k
@@ -127,7 +131,7 @@ past_at f (Some v) k = k
 
 -- a value that stands after the last element is one too many
 abbrev pub unless_past : FillingR → Cursor → Known → Known
-unless_past f c k = past_at f (slice_get f.names c.name) k
+unless_past f c k = past_at f (name_at f c k) k
 
 -- a string fills a BYTE with each of its characters
 abbrev pub put_characters : FillingR → Cursor → List ℕ → Known → Cursor × Known

@@ -1,11 +1,10 @@
 -- The bytes that objects have at start, where they lie at these offsets of the data segment.
-use Rattle.std.specs.Prelude.{ℕ, ◌+◌, ◌%◌, ◌/◌, List, [], ◌∷◌, ◌++◌, take, slice_get, slice_index, Option, Some, None}
+use Rattle.std.specs.Prelude.{ℕ, ◌+◌, ◌%◌, ◌/◌, List, [], ◌∷◌, ◌++◌, slice_get, slice_index, Option, Some, None}
 use Rattle.plm_decl.specs.declared.names.Datum.{Datum}
 use Rattle.plm_decl.specs.declared.names.Datum.TheVariants as datum
 use Rattle.plm_decl.specs.declared.names.Region.{Region}
 use Rattle.plm_decl.specs.declared.names.Region.TheVariants as region
 use Rattle.plm_decl.specs.declared.names.Variable.{Variable}
-use Rattle.plm_decl.specs.Names.{ObjectR}
 
 -- low byte first
 abbrev pub word : ℕ → List ℕ
@@ -29,10 +28,7 @@ module _ (offsets : List ℕ) (variables : List Variable) where
   datum_bytes (datum.Variable v n) = word (variable_address (slice_get variables v) + n)
   datum_bytes (datum.Constants k) = word (slice_index offsets k)
 
+  -- the first bytes of an object with these initial values
   abbrev pub initial_bytes : List Datum → List ℕ
   initial_bytes [] = []
   initial_bytes (d ∷ ds) = datum_bytes d ++ initial_bytes ds
-
-  -- the initial bytes of an object, as many as it has room for
-  abbrev pub first_bytes : ObjectR → List ℕ
-  first_bytes o = take o.size (initial_bytes o.initial)

@@ -1,15 +1,12 @@
 -- What is read step by step, said of the tree of a block.
-use Rattle.std.specs.Prelude.{◌≡◌, ℕ, suc, ◌^◌, ◌<◌, List, [], ◌∷◌, ◌++◌, map, length, sum_by, slice_get, Bool, true, false, cond, not, nat_le, Option, Some, None, is_some}
+use Rattle.std.specs.Prelude.{◌≡◌, ℕ, suc, ◌^◌, ◌<◌, ◌≤◌, List, [], ◌∷◌, ◌++◌, map, length, sum_by, slice_get, Bool, true, false, cond, not, Option, Some, None, is_some}
 use Rattle.std.specs.List.{list_all, All}
 use Rattle.word86.specs.declared.number.Number.TheVariants.{E302}
 use Rattle.plm_token.specs.Names.{normal}
 use Rattle.plm_syntax.specs.declared.tree.Position.{Position}
 use Rattle.plm_syntax.specs.Terminal.{NameT}
 use Rattle.plm_syntax.specs.Tree.{ModuleT, ItemsT, ElementT, VariableT, VariableOf, MemberT, ValueT}
-use Rattle.plm_syntax.specs.WellFormed.{WellModule}
 use Rattle.plm_decl.specs.declared.layout.ScalarType.{ScalarType}
-use Rattle.plm_decl.specs.declared.names.Datum.{Datum}
-use Rattle.plm_decl.specs.declared.names.Datum.TheVariants as datum
 use Rattle.plm_decl.specs.declared.names.Region.{Region}
 use Rattle.plm_decl.specs.declared.names.Region.TheVariants as region
 use Rattle.plm_decl.specs.declared.names.Item.{Item}
@@ -17,7 +14,7 @@ use Rattle.plm_decl.specs.declared.names.Names.{Names}
 use Rattle.plm_decl.specs.declared.elements.Site.{Site}
 use Rattle.plm_decl.specs.declared.elements.Site.TheVariants as site
 use Rattle.plm_decl.specs.declared.elements.Traits.{Traits}
-use Rattle.plm_decl.specs.Names.{ObjectR, object_of}
+use Rattle.plm_decl.specs.Names.{ObjectR}
 use Rattle.plm_decl.specs.Scope.{Frame, frame, meant, found_here, is_external}
 use Rattle.plm_decl.specs.Resolver.{Known, note_unless}
 use Rattle.plm_decl.specs.Layout.{no_fields}
@@ -28,8 +25,8 @@ use Rattle.plm_decl.specs.Statements.{with_elements, with_items, parameter_is, p
 use Rattle.plm_decl.specs.Modules.{faults_of, whole_faults_of}
 use Rattle.plm_decl.specs.DeclaredAgain.{names_of_members, second_declarations, declared_again}
 use Rattle.plm_decl.specs.Joins.{have_room, known_from, modules_joined}
-use Rattle.plm_decl.specs.Modules.{AreNames}
-use Rattle.plm_decl.specs.Initial.{initial_bytes, first_bytes}
+use Rattle.plm_decl.specs.Values.{bytes_of_datum, values_fit}
+use Rattle.plm_decl.specs.Initial.{initial_bytes}
 use Rattle.plm_decl.specs.BlockNames.{names_of_items, names_of_elements, names_of_variables, has_name}
 
 -- after some items of a block, some elements of a DECLARE and some names of an element, the next name that is declared is a
@@ -118,13 +115,6 @@ DeclaredIsFound =
 
 -- ---- objects
 
--- how many bytes an initial value fills
-abbrev pub bytes_of_datum : Datum → ℕ
-bytes_of_datum (datum.Byte b) = 1
-bytes_of_datum (datum.Word w) = 2
-bytes_of_datum (datum.Variable v n) = 2
-bytes_of_datum (datum.Constants o) = 2
-
 -- the object of constant bytes has as many bytes as its values fill
 abbrev pub ConstantsFill : Type 0
 ConstantsFill =
@@ -149,19 +139,15 @@ HaveOwnObjects =
     → (map (λ v. v.region) (declared_variables vs t site.Own frames k).2.variables ≡ map (λ v. v.region) k.variables ++ own_regions (length k.objects) vs)
     × ((os : List ObjectR) × ((declared_variables vs t site.Own frames k).2.objects ≡ k.objects ++ os) × (length os ≡ length vs))
 
--- an object's initial values have room in it
-abbrev pub values_fit : ObjectR → Bool
-values_fit o = nat_le (sum_by bytes_of_datum o.initial) o.size
-
--- where RAM has room for the objects of well-formed modules, the initial values of each have room in it; modules in a computer's memory have
+-- where RAM has room for the objects of modules, the initial values of each have room in it; modules in a computer's memory have
 -- fewer than 2^64 variables
 abbrev pub InitialValuesFit : Type 0
 InitialValuesFit =
-    (ms : List ModuleT) → All WellModule ms → let k = modules_joined (known_from ms) in
+    (ms : List ModuleT) → let k = modules_joined (known_from ms) in
     length k.variables < 2 ^ 64 → have_room k.objects ≡ true → list_all values_fit k.objects ≡ true
 
--- so no initial byte of a program's objects is cut off
-abbrev pub NothingIsCut : Type 0
-NothingIsCut =
-    (names : Names) (ms : List ModuleT) (offsets : List ℕ) → All WellModule ms → AreNames names ms → length names.variables.items < 2 ^ 64
-    → All (λ o. first_bytes offsets names.variables.items o ≡ initial_bytes offsets names.variables.items o.initial) (map object_of names.objects.items)
+-- so wherever a program's objects lie, the initial bytes of each have room in it
+abbrev pub InitialBytesFit : Type 0
+InitialBytesFit =
+    (names : Names) (offsets : List ℕ)
+    → All (λ o. length (initial_bytes offsets names.variables.items o.initial.items) ≤ o.size) names.objects.items

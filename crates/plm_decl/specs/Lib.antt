@@ -20,6 +20,7 @@ pub mod Joins
 pub mod Modules
 pub mod Placement
 pub mod Initial
+pub mod Values
 pub mod Ranges
 pub mod BlockNames
 pub mod DeclaredAgain

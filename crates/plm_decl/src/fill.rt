@@ -1,6 +1,6 @@
 //! Initial values.
 
-ghost use Rattle.std.specs.Prelude.{◌≡◌, ◌+◌, ◌-◌, ◌^◌, ◌<◌, IfOk, OnOk, map, length, slice_get};
+ghost use Rattle.std.specs.Prelude.{◌≡◌, ◌+◌, ◌-◌, ◌^◌, ◌<◌, IfOk, OnOk, OnSome, map, length, option_map, slice_get};
 ghost use Rattle.plm_syntax.specs.View.{value_of, variable_of};
 ghost use Rattle.plm_syntax.specs.View as tree;
 ghost use Rattle.plm_decl.specs.Inner.Scope.{frames_of};
@@ -184,6 +184,22 @@ impl Resolver {
         }
     }
 
+    /// The name at the cursor, if it has a scalar there.
+    fn name_at<'f, 'a>(
+        &self,
+        filling: Filling<'f, 'a>,
+        cursor: Cursor,
+    ) -> Option<&'f SyntaxVariable<'a>>
+        ensures name { option_map (λ n. variable_of n.now) result ≡ spec.name_at (filling_of filling.entry) cursor (known_of self.now) }
+        ensures within { OnSome result (cursor.name < length filling.entry.names.now) }
+    {
+        if cursor.scalar < self.scalars_in_name(filling.shape) {
+            filling.names.get(cursor.name)
+        } else {
+            None
+        }
+    }
+
     /// Fills the scalar at the cursor, and answers the next one. A value too many does not fit the last name.
     fn put(
         &mut self,
@@ -193,7 +209,7 @@ impl Resolver {
     ) -> Result<Cursor, AllocError>
         ensures { IfOk result (λ r. (r, known_of self.new) ≡ spec.put_value (filling_of filling.entry) cursor datum (known_of self.old)) }
     {
-        match filling.names.get(cursor.name) {
+        match self.name_at(filling, cursor) {
             Some(name) => {
                 self.put_datum(filling, cursor.name, name, datum)?;
                 Ok(cursor.after(self.scalars_in_name(filling.shape)))
@@ -209,7 +225,7 @@ impl Resolver {
     fn note_past(&mut self, filling: Filling<'_, '_>, cursor: Cursor) -> Result<(), AllocError>
         ensures { OnOk result (known_of self.new ≡ spec.unless_past (filling_of filling.entry) cursor (known_of self.old)) }
     {
-        match filling.names.get(cursor.name) {
+        match self.name_at(filling, cursor) {
             Some(_) => Ok(()),
             None => self.note_too_many(filling.names),
         }

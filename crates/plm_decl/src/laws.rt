@@ -1,6 +1,6 @@
 //! Laws that tie what is read step by step to the tree of a block. They compute nothing.
 
-ghost use Rattle.plm_decl.specs.Laws.{ConstantsFill, DeclaredIsFound, DeclaresOnce, HaveOwnObjects, InitialValuesFit, InnermostMeans, ListsOnce, MembersOnce, NothingElseTwice, NothingIsCut, StandsInside, StandsOutside};
+ghost use Rattle.plm_decl.specs.Laws.{ConstantsFill, DeclaredIsFound, DeclaresOnce, HaveOwnObjects, InitialBytesFit, InitialValuesFit, InnermostMeans, ListsOnce, MembersOnce, NothingElseTwice, StandsInside, StandsOutside};
 
 /// The law of second declarations: after some items of a block, some elements of a DECLARE and some names of an element, the
 /// next name that is declared there is a fault (E302) exactly where one of those before it has its normal form. The same
@@ -34,9 +34,9 @@ pub fn names_have_own_objects()
     ensures { HaveOwnObjects }
 {}
 
-/// The law of initial values: in well-formed modules whose objects have room in RAM, the initial values of each object have
-/// room in it. So where there are names, each object has all its initial bytes at start, and none is cut off.
+/// The law of initial values: in modules whose objects have room in RAM, the initial values of each object have room in it. So
+/// wherever the objects of a program lie, each has room for its initial bytes.
 pub fn initial_values_fit()
     ensures fit { InitialValuesFit }
-    ensures uncut { NothingIsCut }
+    ensures bytes { InitialBytesFit }
 {}

@@ -1,12 +1,14 @@
 //! From trees to names.
 
 ghost use Rattle.std.specs.Prelude.{◌≡◌, IfOk, IfErr, OnOk, [], map, length, true};
+ghost use Rattle.std.specs.List.{list_all};
 ghost use Rattle.plm_syntax.specs.View.{module_of};
 ghost use Rattle.plm_decl.specs.Inner.Resolver.{known_of};
 ghost use Rattle.plm_decl.specs.Resolver.{nothing_known};
 ghost use Rattle.plm_decl.specs.Found.{IsRefusal};
 ghost use Rattle.plm_decl.specs.ResolvedView as view;
 ghost use Rattle.plm_decl.specs.Joins as spec;
+ghost use Rattle.plm_decl.specs.Values.{values_fit};
 ghost use Rattle.plm_decl.specs.Inner.Ranges.{Within, counts_of};
 ghost use Rattle.plm_decl.specs.Modules.{AreNames, AreAnswered, faults_of, whole_faults_of};
 ghost use Rattle.plm_decl.specs.Inner.Modules.{AreTables, IsRefused};
@@ -77,6 +79,7 @@ impl Resolver {
         requires within { Within (counts_of (known_of self)) (known_of self) }
         requires one { length (known_of self).mains ≡ 1 }
         requires room { spec.have_room (known_of self).objects ≡ true }
+        requires fit { list_all values_fit (known_of self).objects ≡ true }
         ensures { AreTables result (known_of self) }
     {
         let Resolver {
@@ -107,6 +110,7 @@ impl Resolver {
     fn joined(mut self) -> Result<Names, Fault>
         requires no_fault { (known_of self).faults ≡ [] }
         requires within { Within (counts_of (known_of self)) (known_of self) }
+        requires fit { spec.have_room (known_of self).objects ≡ true → list_all values_fit (known_of self).objects ≡ true }
         ensures names { IfOk result (λ names. AreAnswered names (known_of self)) }
         ensures refused { IfErr result (λ fault. IsRefused fault (known_of self)) }
     {
@@ -119,7 +123,8 @@ impl Resolver {
 
     /// The names, where no fault was met.
     fn answer(self) -> Result<Names, Fault>
-        requires { (known_of self).faults ≡ [] → Within (counts_of (known_of self)) (known_of self) }
+        requires within { (known_of self).faults ≡ [] → Within (counts_of (known_of self)) (known_of self) }
+        requires fit { spec.have_room (known_of self).objects ≡ true → list_all values_fit (known_of self).objects ≡ true }
         ensures names { IfOk result (λ names. AreAnswered names (known_of self)) }
         ensures refused { IfErr result (λ fault. IsRefused fault (known_of self)) }
     {

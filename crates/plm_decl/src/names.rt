@@ -1,11 +1,12 @@
 //! What a program declares.
 
 ghost use Rattle.std.specs.Prelude.{◌≡◌, ◌≤◌, map, true};
-ghost use Rattle.std.specs.List.{sum_by};
+ghost use Rattle.std.specs.List.{list_all, sum_by};
 ghost use Rattle.plm_decl.specs.Layout.{structure_of};
 ghost use Rattle.plm_decl.specs.Names.{object_of, procedure_of, declared_location_of, main_of};
 ghost use Rattle.plm_decl.specs.Ranges.{names_within};
 ghost use Rattle.plm_decl.specs.Regions.{views_lie};
+ghost use Rattle.plm_decl.specs.Values.{values_fit};
 
 use crate::layout::{Form, ScalarType, Structure};
 use crate::resolved::{Location, Statement};
@@ -123,4 +124,6 @@ pub struct Names {
     ghost views_lie: { views_lie (map object_of objects.items) variables.items ≡ true },
     // The objects have together at most 61,438 bytes.
     ghost has_room: { sum_by (λ o. o.size) objects.items ≤ 61438 },
+    // The initial values of each object have room in it.
+    ghost values_fit: { list_all values_fit (map object_of objects.items) ≡ true },
 }

@@ -2,7 +2,7 @@
 use Rattle.std.specs.Prelude.{ℕ, ◌+◌, List, [], ◌∷◌, ◌++◌, length, drop, slice_range}
 use Rattle.plm_decl.specs.declared.names.Variable.{Variable}
 use Rattle.plm_decl.specs.Names.{ObjectR}
-use Rattle.plm_decl.specs.Initial.{first_bytes}
+use Rattle.plm_decl.specs.Initial.{initial_bytes}
 use Rattle.plm_meaning.specs.Store.{Store}
 
 -- the objects lie at these offsets
@@ -13,7 +13,7 @@ module _ (offsets : List ℕ) (variables : List Variable) where
 
   -- an object has its initial bytes, and after them what RAM holds at its place
   abbrev pub object_at : List ℕ → ℕ → ObjectR → List ℕ
-  object_at ram offset o = let first = first_bytes offsets variables o in first ++ drop (length first) (bytes_at ram offset o.size)
+  object_at ram offset o = let first = initial_bytes offsets variables o.initial in first ++ drop (length first) (bytes_at ram offset o.size)
 
   abbrev pub objects_at : List ℕ → List ℕ → List ObjectR → List (List ℕ)
   objects_at ram [] objects = []

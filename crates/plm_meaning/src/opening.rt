@@ -78,7 +78,7 @@ impl Surroundings<'_> {
         }
     }
 
-    // The bytes of an object: its initial ones, as far as it has room, and after them those of RAM.
+    // The bytes of an object: its initial ones, and after them those of RAM.
     fn object(
         self,
         alloc: Global,
@@ -96,7 +96,6 @@ impl Surroundings<'_> {
             without_first(ram, DATA + usize::from(offset)),
             object.size as usize,
         );
-        bytes.truncate(object.size as usize);
         let initial = bytes.len();
         bytes.extend_from_slice(without_first(held, initial))?;
         Ok(bytes)

@@ -2,7 +2,6 @@
 use Rattle.std.proofs.Common.{◌≡◌, ℕ, ◌+◌, ◌-◌, ◌*◌, ◌≤◌, ◌&&◌, Bool, true, false, List, [], ◌∷◌, length, map, refl, arith, length-append}
 use Rattle.std.specs.Prelude.{if◌then◌else◌, nat_lt, nat_le, slice_index}
 use Rattle.std.proofs.lemmas.Bool.{leb-true}
-use Rattle.std.proofs.lemmas.List.{length-take}
 use Rattle.plm_decl.specs.declared.names.Datum.{Datum}
 use Rattle.plm_decl.specs.declared.names.Datum.TheVariants as datum
 use Rattle.plm_decl.specs.declared.names.Object.{Object}
@@ -68,9 +67,7 @@ module _ (offsets : List ℕ) (variables : List Variable) where
 
   -- an object's initial bytes are no more than its values have
   first_few : (o : Object) → length (object_bytes offsets variables o) ≤ data_size o.initial.items
-  first_few o =
-      let l = length-take o.size (initial_bytes offsets variables o.initial.items) in
-      omega (arith, l, initial_length o.initial.items)
+  first_few o = omega (arith, initial_length o.initial.items)
 
   pub data_room : (at copies k : ℕ) (os : List Object)
       → bytes_of_tasks (data_tasks offsets variables at copies k os) + length (copied_bytes offsets variables copies os) ≤ 46 * values_nodes (map object_of os) + objects_size (map object_of os)

@@ -1,8 +1,10 @@
 -- Start-up leaves the program's first store.
 use Rattle.std.proofs.Common.{◌≡◌, ℕ, ◌+◌, ◌*◌, ◌-◌, ◌/◌, ◌%◌, ◌<◌, ◌≤◌, inl, inr, List, [], length, map, Option, Some, None, refl, sym, ap, ◌∙◌, subst, arith}
 use Rattle.std.specs.Prelude.{slice_get, slice_index, slice_index_or, position}
+use Rattle.std.specs.List.{All}
 use Rattle.std.specs.Option.{option_map_or}
 use Rattle.std.proofs.lemmas.Bool.{cases_lt, cases_order}
+use Rattle.std.proofs.lemmas.Option.{slice_get_within, get_or_from_slice_get}
 use Rattle.plm_decl.specs.declared.names.Names.{Names}
 use Rattle.plm_decl.specs.declared.names.Object.{Object}
 use Rattle.plm_decl.specs.Names.{object_of}
@@ -22,7 +24,7 @@ use Rattle.plm86.proofs.Machine.Vectors.{rounds_set, rounds_beside}
 use Rattle.plm86.proofs.Composition.Acting.{done, done_append, vectors_beside, vectors_set}
 use Rattle.plm86.proofs.Composition.Storing.{AreApart, AreLow, AreInRom, objects_beside, objects_set}
 use Rattle.plm86.proofs.Composition.PowerOn.{in_ram, on_screen, in_rom}
-use Rattle.plm86.proofs.Composition.Opening.{size_at, size_past, first_fits, object_is, object_past, object_long, object_first, object_rest}
+use Rattle.plm86.proofs.Composition.Opening.{size_at, size_past, object_is, object_past, object_long, object_first, object_rest}
 
 -- a ROM has at most 64 KiB
 rom_small : (size : RomSize) → bytes_in size ≤ 65536
@@ -93,7 +95,8 @@ module _ (names : Names) (parts : List Part) (size : RomSize) (rom ram screen : 
   kept_beside a le lt h = all_else a h ∙ above a le ∙ in_ram rom ram screen ram_long a lt
 
   module _ (screen_long : length screen ≡ 4000) (rom_long : length rom ≡ bytes_in size) (fits : needed names parts ≤ bytes_in size) (stands : InitialStands names parts size rom)
-      (have : HaveBytes (offsets_in names) names.variables.items names.objects.items) (is : IsPlacement (offsets_in names) (sizes_of names)) where
+      (have : HaveBytes (offsets_in names) names.variables.items names.objects.items) (fit : All (λ (o : Object). length (initial o) ≤ o.size) names.objects.items)
+      (is : IsPlacement (offsets_in names) (sizes_of names)) where
     -- the byte of an object, by its place in the placement
     holds_byte : (k : ℕ) (o : Object) → slice_get names.objects.items k ≡ Some o → (i : ℕ) → i < o.size → (offset k ≤ offset k + i) × (offset k + i < offset k + slice_index (sizes_of names) k)
     holds_byte k o e i lt = let s = size_at names.objects.items k o e in (omega arith, omega (arith, lt, s.1))
@@ -108,17 +111,20 @@ module _ (names : Names) (parts : List Part) (size : RomSize) (rom ram screen : 
         (subst (λ b. (offset k ≤ b) × (b < offset k + slice_index (sizes_of names) k)) (sym same) (holds_byte k p ek l ltl))
 
     -- initial bytes are bytes of the object
-    has_room : (o : Object) (i : ℕ) → i < length (initial o) → i < o.size
-    has_room o i lt = let room = first_fits (offsets_in names) names.variables.items (object_of o) in omega (arith, lt, room)
+    initial_fits : (k : ℕ) (o : Object) → slice_get names.objects.items k ≡ Some o → length (initial o) ≤ o.size
+    initial_fits k o e = subst (λ (p : Object). length (initial p) ≤ p.size) (get_or_from_slice_get names.objects.items k o o e) (fit k o (slice_get_within names.objects.items k o e))
+
+    has_room : (k : ℕ) (o : Object) → slice_get names.objects.items k ≡ Some o → (i : ℕ) → i < length (initial o) → i < o.size
+    has_room k o e i lt = omega (arith, lt, initial_fits k o e)
 
     are_apart : AreApart (offsets_in names) names.variables.items 0 names.objects.items
     are_apart j h o p ej eh lt i l lti ltl same =
         let first : 0 + j ≡ j = omega arith in
         let second : 0 + h ≡ h = omega arith in
-        apart j h o p ej eh lt i l (has_room o i lti) (has_room p l ltl) (ap (λ z. offset z + i) (sym first) ∙ same ∙ ap (λ z. offset z + l) second)
+        apart j h o p ej eh lt i l (has_room j o ej i lti) (has_room h p eh l ltl) (ap (λ z. offset z + i) (sym first) ∙ same ∙ ap (λ z. offset z + l) second)
 
     are_low : AreLow (offsets_in names) names.variables.items 0 names.objects.items
-    are_low j o e i lt = let same : j ≡ 0 + j = omega arith in subst (λ z. offset z + i < 0xF000) same (below j o e i (has_room o i lt))
+    are_low j o e i lt = let same : j ≡ 0 + j = omega arith in subst (λ z. offset z + i < 0xF000) same (below j o e i (has_room j o e i lt))
 
     -- the bytes that are copied are in the ROM
     are_in_rom : AreInRom (offsets_in names) names.variables.items places (initial_at names parts size) 0 0 names.objects.items served
@@ -154,14 +160,14 @@ module _ (names : Names) (parts : List Part) (size : RomSize) (rom ram screen : 
                   let there : offset h ≡ offset k = ap offset same in
                   let long : length (initial p) ≡ length (initial o) = ap (λ z. length (initial z)) one in
                   absurd (omega (arith, clash, there, long, ltl, le))
-              | inr (inl less) ↦ apart h k p o eh e less l i (has_room p l ltl) lt (sym clash)
-              | inr (inr more) ↦ apart k h o p e eh more i l lt (has_room p l ltl) clash
+              | inr (inl less) ↦ apart h k p o eh e less l i (has_room h p eh l ltl) lt (sym clash)
+              | inr (inr more) ↦ apart k h o p e eh more i l lt (has_room h p eh l ltl) clash
             ]
 
     -- each object is as long as its size
     object_size : (k : ℕ) (o : Object) → slice_get names.objects.items k ≡ Some o → length (object_at (offsets_in names) names.variables.items ram (offset k) (object_of o)) ≡ o.size
     object_size k o e =
-        object_long (offsets_in names) names.variables.items ram (offset k) (object_of o)
+        object_long (offsets_in names) names.variables.items ram (offset k) (object_of o) (initial_fits k o e)
         (λ some. let last = below k o e (o.size - 1) (omega (arith, some)) in omega (arith, some, last, ram_long))
 
     abbrev objects : List (List ℕ)
@@ -194,7 +200,7 @@ module _ (names : Names) (parts : List Part) (size : RomSize) (rom ram screen : 
     -- the screen is as it was
     screen_kept : (i : ℕ) → i < 4000 → memory (screen_at + i) ≡ slice_index screen i
     screen_kept i lt =
-        all_else (screen_at + i) (λ k o e j less at. let low = below k o e j (has_room o j less) in absurd (omega (arith, at, low)))
+        all_else (screen_at + i) (λ k o e j less at. let low = below k o e j (has_room k o e j less) in absurd (omega (arith, at, low)))
         ∙ above (screen_at + i) (omega arith) ∙ on_screen rom ram screen ram_long screen_long i lt
 
   -- the place to which a vector leads
@@ -226,6 +232,7 @@ pub first_store_stands : {P : Type 0} (x : Assembly) (names : Names) (parts : Li
     → needed names parts ≤ bytes_in size
     → InitialStands names parts size rom
     → HaveBytes (offsets_in names) names.variables.items names.objects.items
+    → All (λ (o : Object). length (object_bytes (offsets_in names) names.variables.items o) ≤ o.size) names.objects.items
     → IsPlacement (offsets_in names) (sizes_of names)
     → ((v : ℕ) → x.entry v ≡ option_map_or (λ p. slice_index (places_in names parts size) p) (serving parts v) (place_of names parts size is_unserved))
     → ((part : ℕ) → slice_index (places_in names parts size) part < 65536)
@@ -233,7 +240,7 @@ pub first_store_stands : {P : Type 0} (x : Assembly) (names : Names) (parts : Li
     → HoldsStore x (first_store ram screen (offsets_in names) names.variables.items (map object_of names.objects.items) chips)
     (after_acts (acts_in names parts size) (with_vectors (place_of names parts size is_unserved) 0 256 (power_on_memory rom ram screen)))
     × ((first_store ram screen (offsets_in names) names.variables.items (map object_of names.objects.items) chips).chips ≡ chips)
-first_store_stands x names parts size rom ram screen chips ram_long screen_long rom_long fits stands have is entries within placed sized =
+first_store_stands x names parts size rom ram screen chips ram_long screen_long rom_long fits stands have fit is entries within placed sized =
     let left = after_acts (acts_in names parts size) (with_vectors (place_of names parts size is_unserved) 0 256 (power_on_memory rom ram screen)) in
     let places = places_in names parts size in
     let unserved_small = chosen_small places (position (λ p. is_unserved p.entry) parts) 0 within (omega arith) in (
@@ -241,9 +248,9 @@ first_store_stands x names parts size rom ram screen chips ram_long screen_long 
         entries = λ n lt. let e = entries n in let small = chosen_small places (serving parts n) (place_of names parts size is_unserved) within unserved_small in omega (arith, e, small);
         vectors = λ n lt. let v = vector_is names parts size rom ram screen ram_long n lt in let e = entries n in
             (v.0 ∙ ap (λ z. z % 256) (sym e), v.1 ∙ ap (λ z. z / 256) (sym e), v.2, v.3);
-        bytes = λ k i lt. ap (λ z. left (1024 + (z + i))) (placed k) ∙ all_bytes names parts size rom ram screen ram_long screen_long rom_long fits stands have is k i lt;
-        screen = λ i lt. screen_kept names parts size rom ram screen ram_long screen_long rom_long fits stands have is i lt;
-        sizes = λ k. all_sizes names parts size rom ram screen ram_long screen_long rom_long fits stands have is k ∙ sym (sized k);
+        bytes = λ k i lt. ap (λ z. left (1024 + (z + i))) (placed k) ∙ all_bytes names parts size rom ram screen ram_long screen_long rom_long fits stands have fit is k i lt;
+        screen = λ i lt. screen_kept names parts size rom ram screen ram_long screen_long rom_long fits stands have fit is i lt;
+        sizes = λ k. all_sizes names parts size rom ram screen ram_long screen_long rom_long fits stands have fit is k ∙ sym (sized k);
         screen_size = screen_long;
       },
       refl,

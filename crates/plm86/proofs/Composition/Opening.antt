@@ -2,11 +2,11 @@
 use Rattle.std.proofs.Common.{◌≡◌, ℕ, zero, suc, ◌+◌, ◌-◌, ◌<◌, ◌≤◌, inl, inr, List, [], ◌∷◌, length, map, take, drop, Some, None, refl, ap, ◌∙◌, arith}
 use Rattle.std.specs.Prelude.{slice_get, slice_index, slice_index_or, slice_range}
 use Rattle.std.proofs.lemmas.Bool.{cases_lt}
-use Rattle.std.proofs.lemmas.List.{get_or-drop, get_or-take, length-take, length-take-le, length-drop, length-append, get_or_append_left, get_or-append_right}
+use Rattle.std.proofs.lemmas.List.{get_or-drop, get_or-take, length-take-le, length-drop, length-append, get_or_append_left, get_or-append_right}
 use Rattle.plm_decl.specs.declared.names.Object.{Object}
 use Rattle.plm_decl.specs.declared.names.Variable.{Variable}
 use Rattle.plm_decl.specs.Names.{ObjectR, object_of}
-use Rattle.plm_decl.specs.Initial.{first_bytes, initial_bytes}
+use Rattle.plm_decl.specs.Initial.{initial_bytes}
 use Rattle.plm_meaning.specs.Opening.{bytes_at, object_at, objects_at}
 
 -- ---- lists
@@ -38,51 +38,45 @@ range_at ram a n i lt = get_or-take (a + n - a) (drop a ram) i 0 (omega (arith, 
 
 -- ---- objects
 
-module _ (offsets : List ℕ) (variables : List Variable) where
-  -- an object has room for its first bytes
-  pub first_fits : (o : ObjectR) → length (first_bytes offsets variables o) ≤ o.size
-  first_fits o = let long = length-take o.size (initial_bytes offsets variables o.initial) in omega (arith, long)
+module _ (offsets : List ℕ) (variables : List Variable) (ram : List ℕ) where
+  -- the k-th object of the first store
+  pub object_is : (places : List ℕ) (os : List Object) (k : ℕ) (o : Object) → length places ≡ length (map (λ (p : Object). p.size) os) → slice_get os k ≡ Some o
+      → slice_index_or (objects_at offsets variables ram places (map object_of os)) k [] ≡ object_at offsets variables ram (slice_index places k) (object_of o)
+  object_is places [] k o e h = absurd (let wrong = h in cc)
+  object_is [] (q ∷ os) k o e h = absurd (omega (arith, e))
+  object_is (p ∷ ps) (q ∷ os) zero o e h = let same : q ≡ o = cc in ap (λ z. object_at offsets variables ram p (object_of z)) same
+  object_is (p ∷ ps) (q ∷ os) (suc k) o e h = object_is ps os k o (omega (arith, e)) h
 
-  module _ (ram : List ℕ) where
-    -- the k-th object of the first store
-    pub object_is : (places : List ℕ) (os : List Object) (k : ℕ) (o : Object) → length places ≡ length (map (λ (p : Object). p.size) os) → slice_get os k ≡ Some o
-        → slice_index_or (objects_at offsets variables ram places (map object_of os)) k [] ≡ object_at offsets variables ram (slice_index places k) (object_of o)
-    object_is places [] k o e h = absurd (let wrong = h in cc)
-    object_is [] (q ∷ os) k o e h = absurd (omega (arith, e))
-    object_is (p ∷ ps) (q ∷ os) zero o e h = let same : q ≡ o = cc in ap (λ z. object_at offsets variables ram p (object_of z)) same
-    object_is (p ∷ ps) (q ∷ os) (suc k) o e h = object_is ps os k o (omega (arith, e)) h
+  pub object_past : (places : List ℕ) (os : List Object) (k : ℕ) → slice_get os k ≡ None → slice_index_or (objects_at offsets variables ram places (map object_of os)) k [] ≡ []
+  object_past [] os k h = refl
+  object_past (p ∷ ps) [] k h = refl
+  object_past (p ∷ ps) (q ∷ os) zero h = absurd (let wrong = h in cc)
+  object_past (p ∷ ps) (q ∷ os) (suc k) h = object_past ps os k h
 
-    pub object_past : (places : List ℕ) (os : List Object) (k : ℕ) → slice_get os k ≡ None → slice_index_or (objects_at offsets variables ram places (map object_of os)) k [] ≡ []
-    object_past [] os k h = refl
-    object_past (p ∷ ps) [] k h = refl
-    object_past (p ∷ ps) (q ∷ os) zero h = absurd (let wrong = h in cc)
-    object_past (p ∷ ps) (q ∷ os) (suc k) h = object_past ps os k h
+  module _ (offset : ℕ) (o : ObjectR) where
+    abbrev first : List ℕ
+    first = initial_bytes offsets variables o.initial
 
-    module _ (offset : ℕ) (o : ObjectR) where
-      abbrev first : List ℕ
-      first = first_bytes offsets variables o
+    abbrev held : List ℕ
+    held = bytes_at offsets variables ram offset o.size
 
-      abbrev held : List ℕ
-      held = bytes_at offsets variables ram offset o.size
+    -- it is as long as its size says, where it lies in RAM
+    pub object_long : length first ≤ o.size → (1 ≤ o.size → 0x400 + offset + o.size ≤ length ram) → length (object_at offsets variables ram offset o) ≡ o.size
+    object_long fits inside =
+        let behind = length-drop (length first) held in
+        let all = length-append first (drop (length first) held) in
+        let long : length held ≡ o.size = elim (cases_lt 0 o.size) [
+          | inl some ↦ range_long ram (0x400 + offset) o.size (inside (omega (arith, some)))
+          | inr none ↦ omega (arith, none, empty_range ram (0x400 + offset) o.size none)
+        ] in
+        omega (arith, fits, behind, all, long)
 
-      -- it is as long as its size says, where it lies in RAM
-      pub object_long : (1 ≤ o.size → 0x400 + offset + o.size ≤ length ram) → length (object_at offsets variables ram offset o) ≡ o.size
-      object_long inside =
-          let fits = first_fits o in
-          let behind = length-drop (length first) held in
-          let all = length-append first (drop (length first) held) in
-          let long : length held ≡ o.size = elim (cases_lt 0 o.size) [
-            | inl some ↦ range_long ram (0x400 + offset) o.size (inside (omega (arith, some)))
-            | inr none ↦ omega (arith, none, empty_range ram (0x400 + offset) o.size none)
-          ] in
-          omega (arith, fits, behind, all, long)
+    -- its first bytes, and then those of RAM
+    pub object_first : (i : ℕ) → i < length first → slice_index (object_at offsets variables ram offset o) i ≡ slice_index first i
+    object_first i lt = get_or_append_left first (drop (length first) held) 0 i lt
 
-      -- its first bytes, and then those of RAM
-      pub object_first : (i : ℕ) → i < length first → slice_index (object_at offsets variables ram offset o) i ≡ slice_index first i
-      object_first i lt = get_or_append_left first (drop (length first) held) 0 i lt
-
-      pub object_rest : (i : ℕ) → length first ≤ i → i < o.size → slice_index (object_at offsets variables ram offset o) i ≡ slice_index ram (0x400 + offset + i)
-      object_rest i le lt =
-          let n = length first in
-          let same : n + (i - n) ≡ i = omega (arith, le) in
-          get_or-append_right first (drop n held) n i 0 (omega arith) le ∙ get_or-drop n held (i - n) 0 ∙ ap (slice_index held) same ∙ range_at ram (0x400 + offset) o.size i lt
+    pub object_rest : (i : ℕ) → length first ≤ i → i < o.size → slice_index (object_at offsets variables ram offset o) i ≡ slice_index ram (0x400 + offset + i)
+    object_rest i le lt =
+        let n = length first in
+        let same : n + (i - n) ≡ i = omega (arith, le) in
+        get_or-append_right first (drop n held) n i 0 (omega arith) le ∙ get_or-drop n held (i - n) 0 ∙ ap (slice_index held) same ∙ range_at ram (0x400 + offset) o.size i lt

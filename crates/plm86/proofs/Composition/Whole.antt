@@ -91,7 +91,7 @@ module _ (promises : Promises) (program : Program) (names : Names) (typed : AreT
       from_rom promises.below promises.one_form promises.short promises.widths promises.words chips.ChipState Rest Context board_chips rom is_sound linked.code linked.words (place_of names parts size is_unserved) (acts_in names parts size) linked.start_up
       (next (offsets_in names) (sizes_of names) (procedures_of names)) (main_rest names) (handler_rest names) (next_of x) begins_at (enters_at x) 2 together.most promise.limit 1 f.lowered f.compiled f.paced chips.reset
       (λ ram screen. first_store ram screen (offsets_in names) names.variables.items (map object_of names.objects.items) chips.reset)
-      (λ ram screen ram_long screen_long. first_store_stands rom names parts size image.rom.items ram screen chips.reset ram_long screen_long linked.long linked.fits linked.initial linked.bytes placement (λ v. refl) linked.within (λ k. refl) (λ k. refl))
+      (λ ram screen ram_long screen_long. first_store_stands rom names parts size image.rom.items ram screen chips.reset ram_long screen_long linked.long linked.fits linked.initial linked.bytes (promises.initial names (offsets_in names)) placement (λ v. refl) linked.within (λ k. refl) (λ k. refl))
 
   pub means : MeansNames names image
   means = record {

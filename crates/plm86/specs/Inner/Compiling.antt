@@ -8,6 +8,7 @@ use Rattle.i86_code.specs.Coding.{IsOneForm, IsShort}
 use Rattle.i86_code.specs.Widths.{DecodedHasWidths}
 use Rattle.plm_decl.specs.declared.names.Names.{Names}
 use Rattle.plm_decl.specs.Placement.{IsPlacement, sizes_of}
+use Rattle.plm_decl.specs.Laws.{InitialBytesFit}
 use Rattle.frames.specs.declared.counting.Stack.{Stack}
 use Rattle.frames.specs.Limits.{SmallProgramsFit}
 use Rattle.lower.specs.Checked.{CheckedLaw, SoundLaw}
@@ -52,6 +53,7 @@ pub record Promises : Type 0 where
   pub parts_room : ProgramsHaveRoom
   pub counted : RegistersAreCounted
   pub unserved : UnservedChangesNone
+  pub initial : InitialBytesFit
 
 -- want of memory may come at any point
 abbrev pub HasNoRoom : Names → RomSize → Fault → Type 0

@@ -33,7 +33,7 @@ rom_with-requires c =
     let vectors = vectors_are parts c.deref-2.result.now c.in_ok-tasks.tasks.items c.deref-2.ensures.value c.in_ok-tasks.ensures.tasks in
     let tasks = c.deref-6.ensures.value ∙ tasks_are names parts c.deref-3.result.now c.in_ok-tasks.tasks.items c.initial.new.tasks.items offsets vectors c.in_ok-bytes.ensures.tasks in
     let bytes = c.deref-7.ensures.value ∙ c.in_ok-bytes.ensures.bytes ∙ ap (λ b. copied_bytes b names.variables.items 0 names.objects.items) offsets in
-    along (λ ps ts bs. (from : ℕ) → from + length bs < 65536 → TasksFit from ts) parts parts (tasks_in names parts) c.deref-6.result.now (initial_in names) c.deref-7.result.now refl (sym tasks) (sym bytes) (tasks_fit names parts)
+    along (λ ps ts bs. (from : ℕ) → from + length bs < 65536 → TasksFit from ts) parts parts (tasks_in names parts) c.deref-6.result.now (initial_in names) c.deref-7.result.now refl (sym tasks) (sym bytes) (tasks_fit names c.initial_values_fit.ensures.bytes parts)
 
 pub start_turns-requires : goal.start_turns-requires
 start_turns-requires c =
@@ -43,7 +43,7 @@ start_turns-requires c =
     let vectors = vectors_are parts c.deref-2.result.now c.in_ok-tasks.tasks.items c.deref-2.ensures.value c.in_ok-tasks.ensures.tasks in
     let tasks = c.deref-8.ensures.value ∙ tasks_are names parts c.deref-3.result.now c.in_ok-tasks.tasks.items c.initial.new.tasks.items offsets vectors c.in_ok-bytes.ensures.tasks in
     let same = ap turns_of_tasks tasks in
-    let few = (turns_few names parts).1 in
+    let few = (turns_few names c.initial_values_fit.ensures.bytes parts).1 in
     omega (arith, same, few)
 
 pub returns-clause-start_up : goal.returns-clause-start_up
@@ -97,7 +97,7 @@ returns-clause-few_turns c =
     let vectors = vectors_are parts c.deref-2.result.now c.in_ok-tasks.tasks.items c.deref-2.ensures.value c.in_ok-tasks.ensures.tasks in
     let tasks = c.deref-8.ensures.value ∙ tasks_are names parts c.deref-3.result.now c.in_ok-tasks.tasks.items c.initial.new.tasks.items offsets vectors c.in_ok-bytes.ensures.tasks in
     let same = c.start_turns.ensures ∙ ap (λ ts. 1291 + turns_of_tasks ts) tasks in
-    let few = (turns_few names parts).0 in
+    let few = (turns_few names c.initial_values_fit.ensures.bytes parts).0 in
     omega (arith, same, few)
 
 pub returns-clause-parts : goal.returns-clause-parts

@@ -19,4 +19,5 @@ returns c = record {
   parts_room = c.programs_have_room.ensures;
   counted = c.registers_are_counted.ensures;
   unserved = c.unserved_changes_none.ensures;
+  initial = c.initial_values_fit.ensures.bytes;
 }

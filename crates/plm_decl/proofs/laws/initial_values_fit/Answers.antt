@@ -1,8 +1,8 @@
-use Rattle.plm_decl.proofs.FitsStatements.{initial_values_fit, nothing_is_cut}
+use Rattle.plm_decl.proofs.FitsStatements.{initial_values_fit, initial_bytes_fit}
 use Rattle.plm_decl.proofs.laws.initial_values_fit.Goals as goal
 
 pub returns-clause-fit : goal.returns-clause-fit
 returns-clause-fit c = initial_values_fit
 
-pub returns-clause-uncut : goal.returns-clause-uncut
-returns-clause-uncut c = nothing_is_cut
+pub returns-clause-bytes : goal.returns-clause-bytes
+returns-clause-bytes c = initial_bytes_fit

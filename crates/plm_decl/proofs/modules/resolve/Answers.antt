@@ -1,15 +1,18 @@
-use Rattle.std.proofs.Common.{◌≡◌, List, [], map, sym, subst, ◌∙◌}
+use Rattle.std.proofs.Common.{◌≡◌, ◌<◌, List, [], map, length, true, sym, ap, subst, ◌∙◌, arith}
+use Rattle.std.specs.List.{list_all}
 use Rattle.std.proofs.lemmas.List.{at_drop_all}
 use Rattle.std.proofs.lemmas.Result.{IfOk-weaker, IfErr-weaker}
 use Rattle.plm_syntax.specs.declared.tree.Module.{Module}
 use Rattle.plm_syntax.specs.View.{module_of}
 use Rattle.plm_decl.specs.Resolver.{Known}
 use Rattle.plm_decl.specs.Inner.Resolver.{known_of}
-use Rattle.plm_decl.specs.Joins.{known_from, modules_from}
+use Rattle.plm_decl.specs.Values.{values_fit}
+use Rattle.plm_decl.specs.Joins.{have_room, known_from, modules_from}
 use Rattle.plm_decl.specs.Modules.{AreAnswered}
 use Rattle.plm_decl.specs.Inner.Modules.{IsRefused}
 use Rattle.plm_decl.specs.Inner.Ranges.{Within, counts_of}
 use Rattle.plm_decl.proofs.RangesJoins.{known_within}
+use Rattle.plm_decl.proofs.FitsStatements.{known_fit}
 use Rattle.plm_decl.proofs.modules.resolve.Goals as goal
 
 pub answer-requires : goal.answer-requires
@@ -19,7 +22,13 @@ answer-requires c =
     let all : known_of here.resolver ≡ known_from (map module_of ms) =
     sym (at_drop_all (λ (l : List Module). modules_from here.number (map module_of l) (known_of here.resolver)) ms here.number c.loop-number-test.false)
     ∙ here.invariant in
-    λ none. subst (λ (k : Known). Within (counts_of k) k) (sym all) (known_within (map module_of ms) (subst (λ (k : Known). k.faults ≡ []) all none))
+    let table = here.resolver.variables in
+    let short : length table.items < 18446744073709551616 = omega (arith, table.ok.0, table.ok.1, table.small) in
+    let few : length (known_from (map module_of ms)).variables < 18446744073709551616 = omega (arith, short, ap (λ (k : Known). length k.variables) all) in
+    record {
+      within = λ none. subst (λ (k : Known). Within (counts_of k) k) (sym all) (known_within (map module_of ms) (subst (λ (k : Known). k.faults ≡ []) all none));
+      fit = subst (λ (k : Known). have_room k.objects ≡ true → list_all values_fit k.objects ≡ true) (sym all) (known_fit (map module_of ms) few);
+    }
 
 pub returns : goal.returns
 returns c =

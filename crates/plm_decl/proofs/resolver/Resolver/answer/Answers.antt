@@ -18,4 +18,4 @@ joined-requires c =
     let k = known_of c.args.self in
     let none : least None k.faults ≡ None = ap (least None) (sym c.deref.ensures.value) ∙ sym c.least.ensures.value ∙ c.in-None.is in
     let empty = none_is k.faults none in
-    record { no_fault = empty; within = c.requires empty }
+    record { no_fault = empty; within = c.requires.within empty; fit = c.requires.fit }

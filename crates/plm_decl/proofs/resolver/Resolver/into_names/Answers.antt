@@ -30,6 +30,7 @@ invariant_of-result c =
       views_lie = lie_plainly k.objects k.variables c.requires.room within.7;
       in_range = both within.0 (both within.1 (both within.2 (both within.3 last)));
       has_room = sizes_within c.args.self.objects.items c.requires.room;
+      values_fit = c.requires.fit;
     }
 
 pub returns : goal.returns

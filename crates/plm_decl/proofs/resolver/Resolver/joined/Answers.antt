@@ -1,13 +1,16 @@
 use Rattle.std.proofs.Common.{◌≡◌, length, None, Some, inr, refl, sym, subst, ap, ◌∙◌}
+use Rattle.std.specs.List.{list_all}
 use Rattle.word86.specs.declared.fault.Fault.{Fault}
 use Rattle.plm_decl.specs.Found.{least}
 use Rattle.plm_decl.specs.Resolver.{Known}
 use Rattle.plm_decl.specs.Inner.Resolver.{known_of}
+use Rattle.plm_decl.specs.Values.{values_fit}
 use Rattle.plm_decl.specs.Joins.{have_room, modules_joined}
 use Rattle.plm_decl.specs.Ranges.{Counts}
 use Rattle.plm_decl.specs.Inner.Ranges.{counts_of, Within}
 use Rattle.plm_decl.specs.Inner.Modules.{IsRefused}
 use Rattle.plm_decl.proofs.RangesJoins.{joined_within, joined_counts, joined_room}
+use Rattle.plm_decl.proofs.FitsStatements.{joined_fit}
 use Rattle.plm_decl.proofs.Least.{none_is, least_found}
 use Rattle.plm_decl.proofs.Joined.{one_main}
 use Rattle.plm_decl.proofs.resolver.Resolver.joined.Goals as goal
@@ -24,6 +27,7 @@ into_names-requires c =
       within = subst (λ (q : Known). Within (counts_of q) q) (sym joined) (subst (λ (n : Counts). Within n (modules_joined k)) (sym (joined_counts k)) before);
       one = ap (λ (q : Known). length q.mains) joined ∙ one_main k no_whole;
       room = ap (λ (q : Known). have_room q.objects) joined ∙ joined_room k no_whole;
+      fit = ap (λ (q : Known). list_all values_fit q.objects) joined ∙ joined_fit k c.requires.fit (joined_room k no_whole);
     }
 
 pub returns-in-Some-clause-refused : goal.returns-in-Some-clause-refused
