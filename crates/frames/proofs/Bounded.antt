@@ -29,7 +29,7 @@ Each P (Enable c) = P c
 Each P (Disable c) = P c
 Each P (Halt c) = P c
 Each P Over = Unit {0}
-Each P (Bad file line) = Unit {0}
+Each P (Bad module_index line) = Unit {0}
 
 led : (P : Context → Type 0) (a : Action Access Context) (d : Context) → Each P a → Leads a d → P d
 led P (Silent c) d h e = subst P e h
@@ -38,7 +38,7 @@ led P (Enable c) d h e = subst P e h
 led P (Disable c) d h e = subst P e h
 led P (Halt c) d h e = subst P e h
 led P Over d h e = absurd e
-led P (Bad file line) d h e = absurd e
+led P (Bad module_index line) d h e = absurd e
 
 -- ---- heights along the code
 

@@ -12,7 +12,7 @@ Leads (Enable d) e = d ≡ e
 Leads (Disable d) e = d ≡ e
 Leads (Halt d) e = d ≡ e
 Leads Over e = ⊥
-Leads (Bad file line) e = ⊥
+Leads (Bad module_index line) e = ⊥
 
 module _ (next : Context → Action Access Context) (begin : Context) where
   -- the code comes to a context in this number of steps

@@ -40,7 +40,7 @@ Made _ _ v d = ⊥
 
 abbrev pub IsStop : Stop → Action Access Context → Type 0
 IsStop stop.Over Over = Unit {0}
-IsStop stop.Bad (Bad file line) = Unit {0}
+IsStop stop.Bad (Bad module_index line) = Unit {0}
 IsStop stop.Memory a = Unit {0}
 IsStop _ _ = ⊥
 

@@ -11,8 +11,8 @@ use Rattle.plm_type.specs.Calls.{graph_of, statements_calls}
 use Rattle.plm_type.specs.Effects.{of_statements}
 use Rattle.plm_type.specs.Interrupts.{called, lets_in, body_effects, text_graph, procedure_lets_in, serves_interrupt}
 use Rattle.plm_type.specs.Reach.{row_of, Leads}
-use Rattle.plm_type.specs.Statements.{is_external, of_body, of_procedure, of_procedures, of_locations, of_main, of_parameters, of_stray, body_for, procedure_for, of_entry}
-use Rattle.lower.proofs.Typed.{statements_for}
+use Rattle.plm_type.specs.Statements.{is_external, of_locations, of_stray, of_entry}
+use Rattle.lower.proofs.Typed.{statements_for, of_body, of_procedure, of_procedures, of_main, of_parameters, body_for, procedure_for}
 use Rattle.lower.proofs.Typed as typed
 use Rattle.plm_type.specs.Programs.{declared_procedures, main_tree, procedures_of}
 use Rattle.lower.specs.Code.{has_vector, serves, number_for}

@@ -11,13 +11,14 @@ use Rattle.plm_decl.specs.Stray.{is_external_linkage}
 use Rattle.plm_decl.specs.Statements.{has_number, handles}
 use Rattle.plm_decl.specs.Placement.{sizes_of}
 use Rattle.plm_type.specs.Rest.{Statements, Procedure}
-use Rattle.plm_type.specs.Statements.{is_external, procedure_for}
+use Rattle.plm_type.specs.Statements.{is_external}
 use Rattle.plm_type.specs.Programs.{declared_procedures, procedures_of, handler_among, handler_tree}
 use Rattle.icode.specs.declared.code.Procedure as code
 use Rattle.icode.specs.declared.code.Code.{Code}
 use Rattle.icode.specs.Code.{is_number, procedure_or_none, serving}
 use Rattle.lower.specs.Code.{number_for, body_for}
 use Rattle.lower.specs.Lowered.{vector_of, vectors_of, IsLowered, EntryLaw}
+use Rattle.lower.proofs.Typed.{procedure_for}
 
 -- ---- the first one that passes
 

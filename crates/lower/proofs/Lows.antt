@@ -23,7 +23,7 @@ use Rattle.plm_type.specs.declared.statements.Around.TheVariants as stands
 use Rattle.plm_type.specs.Rest as rest
 use Rattle.plm_type.specs.Rest.{Expression, Expressions, NoMore, More, Reference, Refer, Subscripts, NoSubscripts, Target, Statements, End, Procedure}
 use Rattle.plm_type.specs.Shapes.{designated, fixed_place, read_of, store_to, member_stride}
-use Rattle.plm_type.specs.Statements.{assignment, targets, is_external, body_for, procedure_for}
+use Rattle.plm_type.specs.Statements.{assignment, targets, is_external}
 use Rattle.plm_type.specs.Trees.{use_read, use_stored, refer, strided, operated, read_port, shifted, builtin_value}
 use Rattle.plm_type.specs.Types.{width_of}
 use Rattle.plm_type.specs.Typing.{is_measure, is_target, first_type}
@@ -36,7 +36,7 @@ use Rattle.icode.specs.declared.code.Routine.{Routine}
 use Rattle.icode.specs.declared.code.Routine.TheVariants as routine
 use Rattle.icode.specs.declared.instruction.Instruction.TheVariants.{Finish}
 use Rattle.icode.specs.Levels.{height}
-use Rattle.lower.proofs.Typed.{tree_of, trees_of, selector_trees, value_of, location_of, target_of, types_of, measured_value, argument_value, reference_value, target_trees, called, step_for, statement_for, statements_for}
+use Rattle.lower.proofs.Typed.{tree_of, trees_of, selector_trees, value_of, location_of, target_of, types_of, measured_value, argument_value, reference_value, target_trees, called, step_for, statement_for, statements_for, body_for, procedure_for}
 use Rattle.lower.specs.Code.{OfMain, kind_of, are_giving, serves, procedure_code}
 use Rattle.lower.specs.Lowered.{vectors_of, program_code}
 use Rattle.lower.proofs.Peaks.{peak, pushed_peak, reference_peak, subscripts_peak, port_peak, target_peak, targets_peak, statement_peak, statements_peak, low, routine_low}

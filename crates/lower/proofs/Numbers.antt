@@ -9,8 +9,9 @@ use Rattle.plm_decl.specs.declared.names.Procedure as declared
 use Rattle.plm_decl.specs.Names.{ProcedureR, procedure_of, declared_location_of, main_of}
 use Rattle.plm_decl.specs.Placement.{sizes_of}
 use Rattle.plm_type.specs.Faults.{fault_unless}
-use Rattle.plm_type.specs.Statements.{of_locations, of_procedure, of_procedures, of_main, interrupt_fits}
+use Rattle.plm_type.specs.Statements.{of_locations, interrupt_fits}
 use Rattle.plm_type.specs.Programs.{faults, declared_procedures}
+use Rattle.lower.proofs.Typed.{of_procedure, of_procedures, of_main}
 
 none_of_both : (fs gs : List Found) → fs ++ gs ≡ [] → (fs ≡ []) × (gs ≡ [])
 none_of_both [] gs e = (refl, e)

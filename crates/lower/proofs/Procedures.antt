@@ -13,7 +13,6 @@ use Rattle.plm_type.specs.declared.program.Statement as declared_statement
 use Rattle.plm_type.specs.Rest.{Statements, Procedure}
 use Rattle.plm_type.specs.View.{statements_of}
 use Rattle.plm_type.specs.View.{procedures_of as typed_procedures}
-use Rattle.plm_type.specs.Statements.{procedure_for}
 use Rattle.plm_type.specs.Programs.{declared_procedures, procedures_of}
 use Rattle.plm_type.specs.Checked.{AreTyped}
 use Rattle.plm_type.specs.Calls.{graph_of, statements_calls}
@@ -31,6 +30,7 @@ use Rattle.lower.specs.Code.{Kind, OfMain, routine_code, kind_of, are_giving, ha
 use Rattle.lower.specs.Lowered.{IsLowered, vector_of, vectors_of, last_module, program_code}
 use Rattle.lower.specs.Checked.{IsSound}
 use Rattle.lower.specs.Inner.Lowering.{ProcedureC, plain, one_lowered, all_lowered}
+use Rattle.lower.proofs.Typed.{procedure_for}
 
 none_is_some : {A : Type 0} {x : A} → None ≡ Some x → ⊥
 none_is_some {A} e = true≢false (ap (λ (o : Option A). elim o [ None ↦ true | Some x ↦ false ]) e)

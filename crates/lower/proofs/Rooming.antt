@@ -8,12 +8,12 @@ use Rattle.plm_decl.specs.Names.{ProcedureR, MainR}
 use Rattle.plm_type.specs.declared.statements.Around.TheVariants as stands
 use Rattle.plm_type.specs.Rest.{Statements, End, Procedure}
 use Rattle.plm_type.specs.Faults.{fault_unless}
-use Rattle.plm_type.specs.Statements.{is_external, of_parameters, of_stray, interrupt_fits, of_body, of_procedure, of_procedures, of_locations, of_main, body_for, procedure_for, main_for, of_entry}
+use Rattle.plm_type.specs.Statements.{is_external, of_stray, interrupt_fits, of_locations, of_entry}
 use Rattle.plm_type.specs.Nodes.{statements_nodes, procedures_nodes}
 use Rattle.word86.specs.declared.number.Number.TheVariants.{E401}
 use Rattle.icode.specs.declared.code.Routine.TheVariants as routine
 use Rattle.icode.specs.Room.{room_in}
-use Rattle.lower.proofs.Typed.{statements_for, of_statements}
+use Rattle.lower.proofs.Typed.{statements_for, of_statements, of_parameters, of_body, of_procedure, of_procedures, of_main, body_for, procedure_for, main_for}
 use Rattle.lower.specs.Code.{OfMain, kind_of, are_giving, serves, routine_code, procedure_code, code}
 use Rattle.lower.specs.Well.{AreStatements}
 use Rattle.plm_decl.specs.declared.names.Names.{Names}

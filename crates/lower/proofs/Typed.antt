@@ -1,15 +1,15 @@
 -- What is said of the parts of a program, one thing at a time: trees, types, faults.
-use Rattle.std.specs.Prelude.{ℕ, List, Option}
+use Rattle.std.specs.Prelude.{ℕ, Bool, List, Option, map, slice_get}
 use Rattle.plm_syntax.specs.declared.tree.Position.{Position}
 use Rattle.plm_decl.specs.declared.builtin.Builtin.{Builtin}
 use Rattle.plm_decl.specs.declared.layout.ScalarType.{ScalarType}
 use Rattle.plm_decl.specs.declared.names.Variable.{Variable}
 use Rattle.plm_decl.specs.declared.resolved.Binding.{Binding}
 use Rattle.plm_decl.specs.declared.found.Found.{Found}
-use Rattle.plm_decl.specs.Names.{ProcedureR}
+use Rattle.plm_decl.specs.Names.{ProcedureR, MainR}
 use Rattle.plm_decl.specs.Resolved.{ExpressionR, ExpressionsR, SelectorR, ReferenceR', LocationR', ReferencesR, StatementR, StatementsR}
 use Rattle.plm_type.specs.declared.statements.Around.{Around}
-use Rattle.plm_type.specs.Rest.{Expression, Expressions, Target, Statement, Statements}
+use Rattle.plm_type.specs.Rest.{Expression, Expressions, Target, Scalar, Statement, Statements, Procedure}
 use Rattle.plm_type.specs.Expressions as expressions
 use Rattle.plm_type.specs.Statements as statements
 
@@ -105,3 +105,34 @@ module _ (variables : List Variable) (procedures : List ProcedureR) (sizes : Lis
 
   abbrev pub of_statements : Around → StatementsR → List Found
   of_statements around ss = (statements.typed_statements variables procedures sizes module_index around ss).faults
+
+-- ---- procedures and main
+
+module _ (variables : List Variable) where
+  abbrev pub parameters_for : List ℕ → List Scalar
+  parameters_for xs = map (λ x. statements.index_for (slice_get variables x)) xs
+
+  abbrev pub of_parameters : (external : Bool) → ℕ → List ℕ → List Found
+  of_parameters external module_index xs = (statements.typed_parameters variables external module_index xs).faults
+
+module _ (variables : List Variable) (procedures : List ProcedureR) (sizes : List ℕ) where
+  abbrev pub body_for : ProcedureR → Statements
+  body_for p = (statements.typed_body variables procedures sizes p).tree
+
+  abbrev pub of_body : ProcedureR → List Found
+  of_body p = (statements.typed_body variables procedures sizes p).faults
+
+  abbrev pub procedure_for : ProcedureR → Procedure
+  procedure_for p = (statements.typed_procedure variables procedures sizes p).tree
+
+  abbrev pub of_procedure : ProcedureR → List Found
+  of_procedure p = (statements.typed_procedure variables procedures sizes p).faults
+
+  abbrev pub of_procedures : List ProcedureR → List Found
+  of_procedures ps = (statements.typed_procedures variables procedures sizes ps).faults
+
+  abbrev pub main_for : MainR → Statements
+  main_for m = (statements.typed_main variables procedures sizes m).tree
+
+  abbrev pub of_main : MainR → List Found
+  of_main m = (statements.typed_main variables procedures sizes m).faults

@@ -29,9 +29,9 @@ use Rattle.plm_type.specs.Interrupts.{called, body_effects, text_graph, IsCalled
 use Rattle.plm_type.specs.Programs.{declared_procedures, main_tree, procedures_of}
 use Rattle.plm_type.specs.Reach.{row_of}
 use Rattle.plm_type.specs.Rest.{Statements, End, Procedure}
-use Rattle.plm_type.specs.Statements.{may_return_value, is_external, is_placed_scalar, index_for, of_parameter, of_parameters, of_entry, is_entry, of_body, of_procedure, of_procedures, of_locations, of_main, parameters_for, body_for, procedure_for}
+use Rattle.plm_type.specs.Statements.{may_return_value, is_external, is_placed_scalar, index_for, of_parameter, of_entry, is_entry, of_locations}
 use Rattle.plm_type.specs.Trees.{entry_of}
-use Rattle.lower.proofs.Typed.{statements_for, of_statements}
+use Rattle.lower.proofs.Typed.{statements_for, of_statements, of_parameters, of_body, of_procedure, of_procedures, of_main, parameters_for, body_for, procedure_for}
 use Rattle.lower.specs.Code.{Kind, OfMain, are_giving, has_vector, serves, kind_of}
 use Rattle.lower.specs.Lowered.{vector_of, vectors_of}
 use Rattle.lower.specs.Checked.{IsWellFormed, CheckedLaw}

@@ -38,7 +38,7 @@ module _ (Inside : Routine → Type 0) (nowhere : Inside routine.Nowhere) where
   Stays o (Disable d) = IsInside d
   Stays o (Halt d) = (o ≡ Some op.Halt) × IsInside d
   Stays o Over = o ≡ Some op.Finish
-  Stays o (Bad file line) = Unit {0}
+  Stays o (Bad module_index line) = Unit {0}
 
   dropped_inside : (n : ℕ) (ws : List Word) → AreInside ws → AreInside (drop n ws)
   dropped_inside zero ws f = f
@@ -160,7 +160,7 @@ module _ (Inside : Routine → Type 0) (nowhere : Inside routine.Nowhere) where
       leads_inside o (Disable c) d f e = subst (λ c. IsInside c) e f
       leads_inside o (Halt c) d f e = subst (λ c. IsInside c) e f.1
       leads_inside o Over d f e = absurd e
-      leads_inside o (Bad file line) d f e = absurd e
+      leads_inside o (Bad module_index line) d f e = absurd e
 
       pub comes_inside : (begin : Context) → IsInside begin → (n : ℕ) (d : Context) → Comes (does offsets sizes code) begin n d → IsInside d
       comes_inside begin f zero d e = subst (λ c. IsInside c) e f

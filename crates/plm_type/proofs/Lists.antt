@@ -1,5 +1,6 @@
 -- Lists as the code goes over them, and as it builds them.
-use Rattle.std.proofs.Common.{◌≡◌, ℕ, ◌+◌, ◌<◌, ◌≤◌, arith, List, [], ◌∷◌, ◌++◌, length, get_or, take, drop, drop-cons, add-one, map, Bool, true, false, ◌&&◌, Option, refl, sym, ap, ◌∙◌}
+use Rattle.std.proofs.Common.{◌≡◌, ℕ, ◌+◌, ◌<◌, ◌≤◌, arith, List, [], ◌∷◌, ◌++◌, length, get_or, take, drop, drop-cons, add-one, map, Bool, true, false, ◌&&◌, Option, append_assoc, refl, sym, ap, ◌∙◌}
+use Rattle.std.proofs.lemmas.List.{append-nil}
 use Rattle.std.specs.Global.{Box}
 use Rattle.plm_decl.specs.declared.resolved.Expression as declared_resolved
 use Rattle.plm_decl.specs.declared.resolved.Reference as resolved_reference
@@ -18,7 +19,7 @@ use Rattle.plm_type.specs.declared.statements.TypedTargets as declared_targets
 use Rattle.plm_type.specs.Typer.{TypedList, TypedTargets, Noted}
 use Rattle.plm_type.specs.Types.{may_be_number, may_be_numbers, is_known_number, are_known_numbers}
 use Rattle.plm_type.specs.Trees.{strided}
-use Rattle.plm_type.specs.Inner.Typer.{with_stride}
+use Rattle.plm_type.specs.Inner.Typer.{with_stride, noted, noted_after}
 use Rattle.plm_type.specs.Statements.{targets, assignment}
 use Rattle.plm_syntax.specs.declared.tree.Position.{Position}
 use Rattle.plm_decl.specs.declared.builtin.Builtin.{Builtin}
@@ -140,6 +141,21 @@ assigned (t ∷ ts) e first others h f r =
 pub mapped_more : {A B : Type 0} → (f : A → B) (xs : List A) (x : A) (others : List B) → map f (xs ++ x ∷ []) ++ others ≡ map f xs ++ f x ∷ others
 mapped_more f [] x others = refl
 mapped_more f (y ∷ ys) x others = ap (λ l. f y ∷ l) (mapped_more f ys x others)
+
+-- all that is said so far, before what is said of others
+abbrev pub mapped_before : {A B : Type 0} → (A → B) → List A → List Found → Noted (List B) → Noted (List B)
+mapped_before f xs noted others = record { tree = map f xs ++ others.tree; faults = noted ++ others.faults }
+
+-- one more is said
+pub mapped_next : {A B : Type 0} → (f : A → B) (xs ys : List A) (x : A) (old new : List Found) (first : Noted B) (others : Noted (List B)) → ys ≡ xs ++ x ∷ [] → noted (f x) new ≡ noted_after old first
+    → mapped_before f ys new others ≡ mapped_before f xs old (record { tree = first.tree ∷ others.tree; faults = first.faults ++ others.faults })
+mapped_next f xs ys x old new first others more did =
+    let tree = ap (λ l. map f l ++ others.tree) more ∙ mapped_more f xs x others.tree ∙ (λ j. map f xs ++ (did j).tree ∷ others.tree) in
+    let faults = (λ j. (did j).faults ++ others.faults) ∙ append_assoc old first.faults others.faults in
+    λ j. noted (tree j) (faults j)
+
+pub mapped_all : {A B : Type 0} → (f : A → B) (xs : List A) (faults : List Found) → noted (map f xs) faults ≡ mapped_before f xs faults (noted [] [])
+mapped_all f xs faults = λ j. noted (sym (append-nil (map f xs)) j) (sym (append-nil faults) j)
 
 pub targets_pushed : (ts : List Target) (t : Target) (others : List rest.Target) → map view.target_of (ts ++ t ∷ []) ++ others ≡ map view.target_of ts ++ view.target_of t ∷ others
 targets_pushed [] t others = refl

@@ -1,4 +1,4 @@
--- Where each procedure stands above those that it calls, none reaches itself, and their order by level is one in which each stands
+-- Where each procedure stands above those that it calls, none reaches itself, and their order by rank is one in which each stands
 -- after those that it calls.
 use Rattle.std.proofs.Common.{◌≡◌, ℕ, zero, suc, ◌+◌, ◌<◌, ◌≤◌, List, [], ◌∷◌, ◌++◌, Bool, true, false, true≢false, cond, ◌⊎◌, inl, inr, length, nat_eq, nat_lt, count_by, slice_get, slice_index_or, Option, Some, None, Contains, refl, sym, ap, subst, ◌∙◌, arith, ◌↔◌}
 use Rattle.std.specs.List.{range_with_len}
@@ -8,22 +8,22 @@ use Rattle.std.proofs.lemmas.List.FromFn.{length-range_with_len}
 use Rattle.std.proofs.lemmas.List.Sums.{sum_by-cons}
 use Rattle.std.proofs.lemmas.List.Sorted.{length_permutation, sum_by-IsPermutation}
 use Rattle.plm_type.specs.Reach.{Graph, row_of, LeadsBy, Leads, IsOnCycle}
-use Rattle.plm_type.specs.Inner.Reach.{AreLevels, IsMarked}
+use Rattle.plm_type.specs.Inner.Reach.{AreRanks, IsMarked}
 use Rattle.plm_type.specs.Order.{place_in, IsOrder}
 use Rattle.plm_type.specs.Inner.Order.{IsOrdered}
 
-led_below : (levels : List ℕ) (g : Graph) → AreLevels levels g → (n p q : ℕ) → LeadsBy g n (row_of (slice_get g p)) q
-    → slice_index_or levels q 0 < slice_index_or levels p 0
-led_below levels g above zero p q called = above p q called
-led_below levels g above (suc n) p q led =
+led_below : (ranks : List ℕ) (g : Graph) → AreRanks ranks g → (n p q : ℕ) → LeadsBy g n (row_of (slice_get g p)) q
+    → slice_index_or ranks q 0 < slice_index_or ranks p 0
+led_below ranks g above zero p q called = above p q called
+led_below ranks g above (suc n) p q led =
     let first = above p led.0 led.1 in
-    let later = led_below levels g above n led.0 q led.2 in
+    let later = led_below ranks g above n led.0 q led.2 in
     omega (arith, first, later)
 
-pub no_cycle : (levels : List ℕ) (g : Graph) → AreLevels levels g → (p : ℕ) → ¬ IsOnCycle g p
-no_cycle levels g above p cycle = let below = led_below levels g above cycle.0 p p cycle.1 in omega (arith, below)
+pub no_cycle : (ranks : List ℕ) (g : Graph) → AreRanks ranks g → (p : ℕ) → ¬ IsOnCycle g p
+no_cycle ranks g above p cycle = let below = led_below ranks g above cycle.0 p p cycle.1 in omega (arith, below)
 
--- ---- what a procedure reaches counts for its level
+-- ---- what a procedure reaches counts for its rank
 
 within_or_not : (a b : ℕ) → (a < b) ⊎ (b ≤ a)
 within_or_not a b = by (nat_lt a b) refl
@@ -32,12 +32,12 @@ within_or_not a b = by (nat_lt a b) refl
     by true e = inl (grind (arith, nat_tests))
     by false e = inr (grind (arith, nat_tests))
 
--- what a search from a procedure found, and the level that it gave
-pub record Ranked (g : Graph) (levels : List ℕ) (p : ℕ) : Type 0 where
+-- what a search from a procedure found, and the rank that it gave
+pub record Ranked (g : Graph) (ranks : List ℕ) (p : ℕ) : Type 0 where
   pub marks : List Bool
   pub long : length marks ≡ length g
   pub exact : (k : ℕ) → k < length g → IsMarked marks k ↔ Leads g (row_of (slice_get g p)) k
-  pub level : slice_index_or levels p 0 ≡ 1 + count_by (λ mark. mark) marks
+  pub rank : slice_index_or ranks p 0 ≡ 1 + count_by (λ mark. mark) marks
   pub apart : ¬ IsOnCycle g p
 
 one_le : (x y : Bool) → (x ≡ true → y ≡ true) → cond x 1 0 ≤ cond y 1 0
@@ -81,46 +81,46 @@ marked_within [] k m = absurd (true≢false (sym m))
 marked_within (x ∷ xs) zero m = omega arith
 marked_within (x ∷ xs) (suc k) m = let h = marked_within xs k m in omega (arith, h)
 
-level_past : (levels : List ℕ) (q : ℕ) → length levels ≤ q → slice_index_or levels q 0 ≡ 0
-level_past [] q h = refl
-level_past (l ∷ ls) zero h = absurd (omega (arith, h))
-level_past (l ∷ ls) (suc q) h = level_past ls q (omega (arith, h))
+rank_past : (ranks : List ℕ) (q : ℕ) → length ranks ≤ q → slice_index_or ranks q 0 ≡ 0
+rank_past [] q h = refl
+rank_past (l ∷ ls) zero h = absurd (omega (arith, h))
+rank_past (l ∷ ls) (suc q) h = rank_past ls q (omega (arith, h))
 
 -- what is called is reached from fewer
-called_below : (g : Graph) (levels : List ℕ) (p q : ℕ) → Ranked g levels p → Ranked g levels q → q < length g → Contains (row_of (slice_get g p)) q
-    → slice_index_or levels q 0 < slice_index_or levels p 0
-called_below g levels p q a b within called =
+called_below : (g : Graph) (ranks : List ℕ) (p q : ℕ) → Ranked g ranks p → Ranked g ranks q → q < length g → Contains (row_of (slice_get g p)) q
+    → slice_index_or ranks q 0 < slice_index_or ranks p 0
+called_below g ranks p q a b within called =
     let on : (k : ℕ) → IsMarked b.marks k → IsMarked a.marks k = λ k m.
     let h = subst (λ n. k < n) b.long (marked_within b.marks k m) in
     let led = (b.exact k h).0 m in
     (a.exact k h).1 (suc led.0, (q, called, led.1)) in
     let less = count_less b.marks a.marks (b.long ∙ sym a.long) on q ((a.exact q within).1 (0, called)) (λ m. b.apart ((b.exact q within).0 m)) in
-    omega (arith, less, a.level, b.level)
+    omega (arith, less, a.rank, b.rank)
 
-pub ranked_levels : (g : Graph) (levels : List ℕ) → length levels ≡ length g → ((q : ℕ) → q < length g → Ranked g levels q) → AreLevels levels g
-ranked_levels g levels long ranked p q called = elim (within_or_not p (length g)) [
+pub all_ranked : (g : Graph) (ranks : List ℕ) → length ranks ≡ length g → ((q : ℕ) → q < length g → Ranked g ranks q) → AreRanks ranks g
+all_ranked g ranks long ranked p q called = elim (within_or_not p (length g)) [
   | inl h ↦ elim (within_or_not q (length g)) [
-    | inl k ↦ called_below g levels p q (ranked p h) (ranked q k) k called
-    | inr k ↦ let none = level_past levels q (omega (arith, k, long)) in let one = (ranked p h).level in omega (arith, none, one)
+    | inl k ↦ called_below g ranks p q (ranked p h) (ranked q k) k called
+    | inr k ↦ let none = rank_past ranks q (omega (arith, k, long)) in let one = (ranked p h).rank in omega (arith, none, one)
   ]
   | inr h ↦ let c = subst (λ row. Contains (row_of row) q) (slice_get_past g p h) called in absurd (omega (arith, c.1))
 ]
 
--- ---- one more level
+-- ---- one more rank
 
-pub index_before : (levels : List ℕ) (n q : ℕ) → q < length levels → slice_index_or (levels ++ n ∷ []) q 0 ≡ slice_index_or levels q 0
+pub index_before : (ranks : List ℕ) (n q : ℕ) → q < length ranks → slice_index_or (ranks ++ n ∷ []) q 0 ≡ slice_index_or ranks q 0
 index_before [] n q h = absurd (omega (arith, h))
 index_before (l ∷ ls) n zero h = refl
 index_before (l ∷ ls) n (suc q) h = index_before ls n q (omega (arith, h))
 
-pub index_last : (levels : List ℕ) (n : ℕ) → slice_index_or (levels ++ n ∷ []) (length levels) 0 ≡ n
+pub index_last : (ranks : List ℕ) (n : ℕ) → slice_index_or (ranks ++ n ∷ []) (length ranks) 0 ≡ n
 index_last [] n = refl
 index_last (l ∷ ls) n = index_last ls n
 
-pub ranked_more : (g : Graph) (levels : List ℕ) (n q : ℕ) → q < length levels → Ranked g levels q → Ranked g (levels ++ n ∷ []) q
-ranked_more g levels n q h r = record { marks = r.marks; long = r.long; exact = r.exact; level = index_before levels n q h ∙ r.level; apart = r.apart }
+pub ranked_more : (g : Graph) (ranks : List ℕ) (n q : ℕ) → q < length ranks → Ranked g ranks q → Ranked g (ranks ++ n ∷ []) q
+ranked_more g ranks n q h r = record { marks = r.marks; long = r.long; exact = r.exact; rank = index_before ranks n q h ∙ r.rank; apart = r.apart }
 
--- ---- the order by level
+-- ---- the order by rank
 
 same_or_not : (x p : ℕ) → ((nat_eq x p ≡ true) × (x ≡ p)) ⊎ ((nat_eq x p ≡ false) × (x ≡ p → ⊥))
 same_or_not x p = by (nat_eq x p) refl
@@ -213,10 +213,10 @@ range_next n =
     let none : 0 + n ≡ n = omega arith in
     ap (range_with_len 0) one ∙ range_more 0 n ∙ ap (λ (z : ℕ). range_with_len 0 n ++ z ∷ []) none
 
--- those with a level stand once, and no other
-counted_once : (levels order : List ℕ) → IsOrdered levels order → (p : ℕ) → p < length levels → count_by (λ x. nat_eq x p) order ≡ 1
-counted_once levels order o p h =
-    sum_by-IsPermutation (λ x. cond (nat_eq x p) 1 0) (range_with_len 0 (length levels)) order o.all ∙ one_of_each 0 (length levels) p (omega arith) (omega (arith, h))
+-- those with a rank stand once, and no other
+counted_once : (ranks order : List ℕ) → IsOrdered ranks order → (p : ℕ) → p < length ranks → count_by (λ x. nat_eq x p) order ≡ 1
+counted_once ranks order o p h =
+    sum_by-IsPermutation (λ x. cond (nat_eq x p) 1 0) (range_with_len 0 (length ranks)) order o.all ∙ one_of_each 0 (length ranks) p (omega arith) (omega (arith, h))
 
 none_from : (a n p : ℕ) → a + n ≤ p → count_by (λ x. nat_eq x p) (range_with_len a n) ≡ 0
 none_from a zero p h = refl
@@ -227,22 +227,22 @@ none_from a (suc n) p h =
       | inr s ↦ let here = not_here a (range_with_len (a + 1) n) p s.0 in omega (arith, here, others)
     ]
 
-at_most_once : (levels order : List ℕ) → IsOrdered levels order → (p : ℕ) → count_by (λ x. nat_eq x p) order ≤ 1
-at_most_once levels order o p = elim (within_or_not p (length levels)) [
-  | inl h ↦ let one = counted_once levels order o p h in omega (arith, one)
+at_most_once : (ranks order : List ℕ) → IsOrdered ranks order → (p : ℕ) → count_by (λ x. nat_eq x p) order ≤ 1
+at_most_once ranks order o p = elim (within_or_not p (length ranks)) [
+  | inl h ↦ let one = counted_once ranks order o p h in omega (arith, one)
   | inr h ↦
-      let none = sum_by-IsPermutation (λ x. cond (nat_eq x p) 1 0) (range_with_len 0 (length levels)) order o.all ∙ none_from 0 (length levels) p (omega (arith, h)) in
+      let none = sum_by-IsPermutation (λ x. cond (nat_eq x p) 1 0) (range_with_len 0 (length ranks)) order o.all ∙ none_from 0 (length ranks) p (omega (arith, h)) in
       omega (arith, none)
 ]
 
-pub order_from_levels : (levels order : List ℕ) (g : Graph) → length levels ≡ length g → AreLevels levels g → IsOrdered levels order → IsOrder order g
-order_from_levels levels order g long above o =
+pub order_from_ranks : (ranks order : List ℕ) (g : Graph) → length ranks ≡ length g → AreRanks ranks g → IsOrdered ranks order → IsOrder order g
+order_from_ranks ranks order g long above o =
     let finds : (p : ℕ) → p < length g → slice_get order (place_in order p) ≡ Some p = λ p h.
-    let one = counted_once levels order o p (omega (arith, h, long)) in place_finds order p (omega (arith, one)) in
+    let one = counted_once ranks order o p (omega (arith, h, long)) in place_finds order p (omega (arith, one)) in
     record {
-      only = length_permutation (range_with_len 0 (length levels)) order o.all ∙ length-range_with_len 0 (length levels) ∙ long;
+      only = length_permutation (range_with_len 0 (length ranks)) order o.all ∙ length-range_with_len 0 (length ranks) ∙ long;
       each = finds;
-      once = λ i p e. only_place order i p (at_most_once levels order o p) e;
+      once = λ i p e. only_place order i p (at_most_once ranks order o p) e;
       later = λ p q h k called. elim (within_or_not (place_in order q) (place_in order p)) [
         | inl before ↦ before
         | inr after ↦
@@ -250,7 +250,7 @@ order_from_levels levels order g long above o =
             let rises = o.rising (place_in order p) (place_in order q) 0 after (slice_get_within order (place_in order q) q (finds q k)) in
             let here = get_or_from_slice_get order (place_in order p) p 0 (finds p h) in
             let there = get_or_from_slice_get order (place_in order q) q 0 (finds q k) in
-            let moved = subst (λ (n : ℕ). slice_index_or levels n 0 ≤ slice_index_or levels q 0) here (subst (λ (n : ℕ). slice_index_or levels (slice_index_or order (place_in order p) 0) 0 ≤ slice_index_or levels n 0) there rises) in
+            let moved = subst (λ (n : ℕ). slice_index_or ranks n 0 ≤ slice_index_or ranks q 0) here (subst (λ (n : ℕ). slice_index_or ranks (slice_index_or order (place_in order p) 0) 0 ≤ slice_index_or ranks n 0) there rises) in
             absurd (omega (arith, below, moved))
       ];
     }

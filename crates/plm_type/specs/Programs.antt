@@ -7,7 +7,7 @@ use Rattle.plm_decl.specs.Names.{ProcedureR, procedure_of, declared_location_of,
 use Rattle.plm_decl.specs.Statements.{handles}
 use Rattle.plm_decl.specs.Placement.{sizes_of}
 use Rattle.plm_type.specs.Rest.{Rest, Main, Handler, Statements, End, Procedure}
-use Rattle.plm_type.specs.Statements.{of_locations, of_procedures, of_main, main_for, body_for, procedure_for}
+use Rattle.plm_type.specs.Statements.{of_locations, typed_body, typed_procedures, typed_main}
 
 abbrev pub declared_procedures : Names → List ProcedureR
 declared_procedures names = map procedure_of names.procedures.items
@@ -15,23 +15,23 @@ declared_procedures names = map procedure_of names.procedures.items
 -- the body of the procedure for this interrupt; one without a procedure has an empty one
 abbrev pub handler_among : List Variable → List ProcedureR → List ℕ → (vector : ℕ) → List ProcedureR → Statements
 handler_among variables procedures sizes vector [] = End
-handler_among variables procedures sizes vector (p ∷ ps) = cond (handles vector p) (body_for variables procedures sizes p) (handler_among variables procedures sizes vector ps)
+handler_among variables procedures sizes vector (p ∷ ps) = cond (handles vector p) (typed_body variables procedures sizes p).tree (handler_among variables procedures sizes vector ps)
 
 module _ (names : Names) where
   abbrev pub faults : List Found
   faults =
       of_locations names.variables.items (declared_procedures names) (sizes_of names) (map declared_location_of names.locations.items)
-      ++ (of_procedures names.variables.items (declared_procedures names) (sizes_of names) (declared_procedures names)
-      ++ of_main names.variables.items (declared_procedures names) (sizes_of names) (main_of names.main))
+      ++ ((typed_procedures names.variables.items (declared_procedures names) (sizes_of names) (declared_procedures names)).faults
+      ++ (typed_main names.variables.items (declared_procedures names) (sizes_of names) (main_of names.main)).faults)
 
   abbrev pub main_tree : Statements
-  main_tree = main_for names.variables.items (declared_procedures names) (sizes_of names) (main_of names.main)
+  main_tree = (typed_main names.variables.items (declared_procedures names) (sizes_of names) (main_of names.main)).tree
 
   abbrev pub handler_tree : (vector : ℕ) → Statements
   handler_tree vector = handler_among names.variables.items (declared_procedures names) (sizes_of names) vector (declared_procedures names)
 
   abbrev pub procedures_of : List Procedure
-  procedures_of = map (procedure_for names.variables.items (declared_procedures names) (sizes_of names)) (declared_procedures names)
+  procedures_of = (typed_procedures names.variables.items (declared_procedures names) (sizes_of names) (declared_procedures names)).tree
 
   abbrev pub main_rest : Rest
   main_rest = Main main_tree

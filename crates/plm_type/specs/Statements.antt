@@ -1,5 +1,6 @@
 -- Statements, procedures and main: what is said of each, with names as places.
-use Rattle.std.specs.Prelude.{ℕ, Bool, true, false, not, ◌&&◌, ◌||◌, nat_eq, nat_le, cond, List, [], ◌∷◌, ◌++◌, length, slice_get, Option, Some, None, is_some}
+use Rattle.std.specs.Prelude.{ℕ, Bool, true, false, not, ◌&&◌, ◌||◌, nat_eq, nat_le, cond, List, [], ◌∷◌, ◌++◌, length, map, slice_get, Option, Some, None, is_some}
+use Rattle.std.specs.List.{flat_map}
 use Rattle.word86.specs.declared.number.Number.TheVariants.{E401, E403}
 use Rattle.word86.specs.declared.width.Width.{Width}
 use Rattle.word86.specs.declared.width.Width.TheVariants as width
@@ -207,10 +208,13 @@ abbrev pub of_parameter : (external : Bool) → ℕ → Option Variable → List
 of_parameter external module_index None = []
 of_parameter external module_index (Some v) = fault_unless module_index (is_parameter external v) E401 v.place
 
+-- the parameters of these numbers
 module _ (variables : List Variable) where
-  abbrev pub of_parameters : (external : Bool) → ℕ → List ℕ → List Found
-  of_parameters external module_index [] = []
-  of_parameters external module_index (x ∷ xs) = of_parameter external module_index (slice_get variables x) ++ of_parameters external module_index xs
+  abbrev pub typed_parameters : (external : Bool) → (module_index : ℕ) → List ℕ → Noted (List Scalar)
+  typed_parameters external module_index xs = record {
+    tree = map (λ x. index_for (slice_get variables x)) xs;
+    faults = flat_map (λ x. of_parameter external module_index (slice_get variables x)) xs;
+  }
 
 -- what a call runs has a body of its own, and as many parameters as the call has arguments
 abbrev pub is_entry : ℕ → Option ProcedureR → Bool
@@ -230,48 +234,28 @@ abbrev pub interrupt_fits : Option ℕ → Bool
 interrupt_fits None = true
 interrupt_fits (Some n) = nat_le n 255
 
-module _ (variables : List Variable) where
-  abbrev pub parameters_for : List ℕ → List Scalar
-  parameters_for [] = []
-  parameters_for (x ∷ xs) = index_for (slice_get variables x) ∷ parameters_for xs
-
 module _ (variables : List Variable) (procedures : List ProcedureR) (sizes : List ℕ) where
   -- an EXTERNAL one has none
-  abbrev pub body_of : ProcedureR → Noted Statements
-  body_of p =
+  abbrev pub typed_body : ProcedureR → Noted Statements
+  typed_body p =
       let body = typed_statements variables procedures sizes p.module (stands.Procedure p.returned) p.body in
       record { tree = cond (is_external p.linkage) End body.tree; faults = cond (is_external p.linkage) [] body.faults }
 
-  abbrev pub of_body : ProcedureR → List Found
-  of_body p = (body_of p).faults
+  abbrev pub typed_procedure : ProcedureR → Noted Procedure
+  typed_procedure p =
+      let parameters = typed_parameters variables (is_external p.linkage) p.module p.parameters in
+      let body = typed_body p in
+      record {
+        tree = record { parameters = parameters.tree; body = body.tree };
+        faults = parameters.faults
+            ++ (fault_unless p.module (interrupt_fits p.interrupt) E401 p.place ++ (of_entry procedures p ++ (of_stray p.module p.stray ++ body.faults)));
+      }
 
-  abbrev pub body_for : ProcedureR → Statements
-  body_for p = (body_of p).tree
-
-  abbrev pub of_procedure : ProcedureR → List Found
-  of_procedure p =
-      of_parameters variables (is_external p.linkage) p.module p.parameters
-      ++ (fault_unless p.module (interrupt_fits p.interrupt) E401 p.place ++ (of_entry procedures p ++ (of_stray p.module p.stray ++ of_body p)))
-
-  abbrev pub of_procedures : List ProcedureR → List Found
-  of_procedures [] = []
-  of_procedures (p ∷ ps) = of_procedure p ++ of_procedures ps
-
-  abbrev pub procedure_for : ProcedureR → Procedure
-  procedure_for p = record { parameters = parameters_for variables p.parameters; body = body_for p }
-
-  abbrev pub of_location : DeclaredLocationR → List Found
-  of_location l = (location variables procedures sizes l.module l.location).faults
+  abbrev pub typed_procedures : List ProcedureR → Noted (List Procedure)
+  typed_procedures ps = record { tree = map (λ p. (typed_procedure p).tree) ps; faults = flat_map (λ p. (typed_procedure p).faults) ps }
 
   abbrev pub of_locations : List DeclaredLocationR → List Found
-  of_locations [] = []
-  of_locations (l ∷ ls) = of_location l ++ of_locations ls
+  of_locations ls = flat_map (λ l. (location variables procedures sizes l.module l.location).faults) ls
 
   abbrev pub typed_main : MainR → Noted Statements
   typed_main m = typed_statements variables procedures sizes m.module stands.Main m.statements
-
-  abbrev pub of_main : MainR → List Found
-  of_main m = (typed_main m).faults
-
-  abbrev pub main_for : MainR → Statements
-  main_for m = (typed_main m).tree

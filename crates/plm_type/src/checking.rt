@@ -9,9 +9,9 @@ ghost use Rattle.plm_type.specs.View.{procedures_of};
 use crate::calls::call_graph;
 use crate::checked::Program;
 use crate::interrupts::interrupt_faults;
-use crate::order::by_level;
+use crate::order::by_rank;
 use crate::program::Procedure;
-use crate::reach::levels_or_cycle;
+use crate::reach::ranks_or_cycle;
 use crate::typer::Typer;
 use plm_decl::Names;
 use plm_decl::found::{Found, least};
@@ -31,8 +31,8 @@ fn order_of(
     ensures cycle { IfOk result (λ found. IfErr found (λ f. spec.IsRecursion (procedures_of procedures.now) names.now f)) }
 {
     let graph = call_graph(alloc, procedures)?;
-    match levels_or_cycle(alloc, &graph)? {
-        Ok(levels) => Ok(Ok(by_level(alloc, &levels)?)),
+    match ranks_or_cycle(alloc, &graph)? {
+        Ok(ranks) => Ok(Ok(by_rank(alloc, &ranks)?)),
         Err(number) => {
             let procedure = &names.procedures[number];
             Ok(Err(Found {

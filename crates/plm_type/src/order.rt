@@ -1,29 +1,29 @@
 //! An order of procedures in which each stands after those that it calls. Where there is one, none reaches itself.
 
 ghost use Rattle.std.specs.Prelude.{◌≡◌, ℕ, ◌<◌, IsTrue, IfOk, Contains, length, slice_index_or};
-ghost use Rattle.plm_type.specs.Inner.Reach.{rows, AreLevels};
+ghost use Rattle.plm_type.specs.Inner.Reach.{rows, AreRanks};
 ghost use Rattle.plm_type.specs.Inner.Order.{IsOrdered};
 
 use crate::reach::row_at;
 use std::alloc::{AllocError, Global};
 
-/// The procedure's level, counted from 1; 0 where it has none.
-fn level_of(levels: &[usize], procedure: usize) -> usize
-    ensures { result ≡ slice_index_or levels.now procedure 0 }
+/// The procedure's rank, counted from 1; 0 where it has none.
+fn rank_of(ranks: &[usize], procedure: usize) -> usize
+    ensures { result ≡ slice_index_or ranks.now procedure 0 }
 {
-    match levels.get(procedure) {
-        Some(level) => *level,
+    match ranks.get(procedure) {
+        Some(rank) => *rank,
         None => 0,
     }
 }
 
 /// Whether the procedure stands above each of these.
-fn is_above(levels: &[usize], procedure: usize, called: &[usize]) -> bool
-    ensures { IsTrue result → (q : ℕ) → Contains called.now q → slice_index_or levels.now q 0 < slice_index_or levels.now procedure 0 }
+fn is_above(ranks: &[usize], procedure: usize, called: &[usize]) -> bool
+    ensures { IsTrue result → (q : ℕ) → Contains called.now q → slice_index_or ranks.now q 0 < slice_index_or ranks.now procedure 0 }
 {
-    let level = level_of(levels, procedure);
+    let rank = rank_of(ranks, procedure);
     for other in called {
-        if level <= level_of(levels, *other) {
+        if rank <= rank_of(ranks, *other) {
             return false;
         }
     }
@@ -31,11 +31,11 @@ fn is_above(levels: &[usize], procedure: usize, called: &[usize]) -> bool
 }
 
 /// Whether each procedure stands above those that it calls.
-pub fn are_levels(levels: &[usize], graph: &[Vec<usize>]) -> bool
-    ensures { IsTrue result → AreLevels levels.now (rows graph.now) }
+pub fn are_ranks(ranks: &[usize], graph: &[Vec<usize>]) -> bool
+    ensures { IsTrue result → AreRanks ranks.now (rows graph.now) }
 {
     for (procedure, called) in graph.iter().enumerate() {
-        if !is_above(levels, procedure, called) {
+        if !is_above(ranks, procedure, called) {
             return false;
         }
     }
@@ -88,33 +88,33 @@ fn take_calls(
     Ok(())
 }
 
-/// A level for each procedure, counted from 1, such that each stands above those that it calls, as far as there are such
-/// levels: each step takes the highest level that is left for a procedure that no procedure without a level calls. Nothing
-/// rests on it that `are_levels` does not test.
-pub fn levels_for(alloc: Global, graph: &[Vec<usize>]) -> Result<Vec<usize>, AllocError> {
+/// A rank for each procedure, counted from 1, such that each stands above those that it calls, as far as there are such
+/// ranks: each step takes the highest rank that is left for a procedure that no procedure without a rank calls. Nothing
+/// rests on it that `are_ranks` does not test.
+pub fn ranks_for(alloc: Global, graph: &[Vec<usize>]) -> Result<Vec<usize>, AllocError> {
     let mut calls = count_calls(alloc, graph)?;
     let mut free = uncalled(alloc, &calls)?;
-    let mut levels = vec![in alloc; 0; graph.len()]?;
+    let mut ranks = vec![in alloc; 0; graph.len()]?;
     for taken in 0..graph.len() {
         let Some(procedure) = free.pop() else {
-            return Ok(levels);
+            return Ok(ranks);
         };
-        if let Some(level) = levels.get_mut(procedure) {
-            *level = graph.len() - taken;
+        if let Some(rank) = ranks.get_mut(procedure) {
+            *rank = graph.len() - taken;
         }
         take_calls(&mut calls, &mut free, row_at(graph, procedure))?;
     }
-    Ok(levels)
+    Ok(ranks)
 }
 
-/// The procedures by their levels, from the lowest on.
-pub fn by_level(alloc: Global, levels: &[usize]) -> Result<Vec<usize>, AllocError>
-    ensures { IfOk result (λ order. IsOrdered levels.now order.items) }
+/// The procedures by their ranks, from the lowest on.
+pub fn by_rank(alloc: Global, ranks: &[usize]) -> Result<Vec<usize>, AllocError>
+    ensures { IfOk result (λ order. IsOrdered ranks.now order.items) }
 {
     let mut order = Vec::new(alloc);
-    for procedure in 0..levels.len() {
+    for procedure in 0..ranks.len() {
         order.push(procedure)?;
     }
-    order.sort_by_key(|procedure| level_of(levels, *procedure))?;
+    order.sort_by_key(|procedure| rank_of(ranks, *procedure))?;
     Ok(order)
 }

@@ -3,6 +3,8 @@
 
 ghost use Rattle.std.specs.Prelude.{◌≡◌, ◌++◌, IfOk, OnOk, map, option_map, slice_get};
 ghost use Rattle.plm_decl.specs.Names.{procedure_of, declared_location_of, main_of};
+ghost use Rattle.plm_decl.specs.ResolvedView as resolved;
+ghost use Rattle.plm_type.specs.Expressions.{location};
 ghost use Rattle.plm_type.specs.Inner.Typer.{variables, procedures, sizes, noted, noted_after};
 ghost use Rattle.plm_type.specs.Statements as spec;
 ghost use Rattle.plm_type.specs.View as view;
@@ -85,8 +87,7 @@ impl Typer<'_> {
         parameters: &[usize],
         faults: &mut Vec<Found>,
     ) -> Result<Vec<Scalar>, AllocError>
-        ensures tree { IfOk result (λ r. map view.scalar_of r.items ≡ spec.parameters_for (variables self.now) parameters.now) }
-        ensures faults { OnOk result (faults.new.items ≡ faults.old.items ++ spec.of_parameters (variables self.now) external self.now.module parameters.now) }
+        ensures { IfOk result (λ r. noted (map view.scalar_of r.items) faults.new.items ≡ noted_after faults.old.items (spec.typed_parameters (variables self.now) external self.now.module parameters.now)) }
     {
         let mut scalars = Vec::new(self.alloc);
         for parameter in parameters {
@@ -127,7 +128,7 @@ impl Typer<'_> {
         faults: &mut Vec<Found>,
     ) -> Result<Vec<Box<Statement>>, AllocError>
         requires { procedure.now.module ≡ self.now.module }
-        ensures { IfOk result (λ r. noted (view.statements_of r.items) faults.new.items ≡ noted_after faults.old.items (spec.body_of (variables self.now) (procedures self.now) (sizes self.now) (procedure_of procedure.now))) }
+        ensures { IfOk result (λ r. noted (view.statements_of r.items) faults.new.items ≡ noted_after faults.old.items (spec.typed_body (variables self.now) (procedures self.now) (sizes self.now) (procedure_of procedure.now))) }
     {
         if is_external(procedure.linkage) {
             return Ok(Vec::new(self.alloc));
@@ -146,8 +147,7 @@ impl Typer<'_> {
         faults: &mut Vec<Found>,
     ) -> Result<Procedure, AllocError>
         requires { procedure.now.module ≡ self.now.module }
-        ensures tree { IfOk result (λ r. view.procedure_of r ≡ spec.procedure_for (variables self.now) (procedures self.now) (sizes self.now) (procedure_of procedure.now)) }
-        ensures faults { OnOk result (faults.new.items ≡ faults.old.items ++ spec.of_procedure (variables self.now) (procedures self.now) (sizes self.now) (procedure_of procedure.now)) }
+        ensures { IfOk result (λ r. noted (view.procedure_of r) faults.new.items ≡ noted_after faults.old.items (spec.typed_procedure (variables self.now) (procedures self.now) (sizes self.now) (procedure_of procedure.now))) }
     {
         let external = is_external(procedure.linkage);
         let parameters = self.parameters(external, &procedure.parameters, faults)?;
@@ -162,19 +162,17 @@ impl Typer<'_> {
     /// The same names, for statements of another module.
     fn of_module(&self, number: usize) -> Typer<'_>
         ensures names { result.names.now ≡ self.now.names.now }
-        ensures module { result.module ≡ number }
+        ensures index { result.module ≡ number }
     {
         Typer {
-            alloc: self.alloc,
-            names: self.names,
             module: number,
+            ..*self
         }
     }
 
     /// All procedures, in order of declaration.
     pub fn procedures(&self, faults: &mut Vec<Found>) -> Result<Vec<Procedure>, AllocError>
-        ensures tree { IfOk result (λ r. map view.procedure_of r.items ≡ map (spec.procedure_for (variables self.now) (procedures self.now) (sizes self.now)) (procedures self.now)) }
-        ensures faults { OnOk result (faults.new.items ≡ faults.old.items ++ spec.of_procedures (variables self.now) (procedures self.now) (sizes self.now) (procedures self.now)) }
+        ensures { IfOk result (λ r. noted (view.procedures_of r.items) faults.new.items ≡ noted_after faults.old.items (spec.typed_procedures (variables self.now) (procedures self.now) (sizes self.now) (procedures self.now))) }
     {
         let mut typed = Vec::new(self.alloc);
         for procedure in &self.names.procedures {
@@ -199,7 +197,7 @@ impl Typer<'_> {
         declared: &DeclaredLocation,
         faults: &mut Vec<Found>,
     ) -> Result<(), AllocError>
-        ensures { OnOk result (faults.new.items ≡ faults.old.items ++ spec.of_location (variables self.now) (procedures self.now) (sizes self.now) (declared_location_of declared.now)) }
+        ensures { OnOk result (faults.new.items ≡ faults.old.items ++ (location (variables self.now) (procedures self.now) (sizes self.now) declared.now.module (resolved.location_of declared.now.location)).faults) }
     {
         self.of_module(declared.module)
             .location(&declared.location, faults)?;

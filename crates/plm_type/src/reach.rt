@@ -1,10 +1,10 @@
-//! Which procedures calls lead to, by a search; and from that a level for each procedure, or the first that reaches itself.
+//! Which procedures calls lead to, by a search; and from that a rank for each procedure, or the first that reaches itself.
 
 ghost use Rattle.std.specs.Prelude.{◌≡◌, ◌++◌, ◌∷◌, [], ◌↔◌, ◌<◌, ℕ, true, false, cond, length, slice_get, OnOk, IfOk, IfErr, slice_set, slice_index_or, count_by};
-ghost use Rattle.plm_type.specs.Inner.Reach.{rows, IsMarked, AreLevels, Marks};
+ghost use Rattle.plm_type.specs.Inner.Reach.{rows, IsMarked, AreRanks, Marks};
 ghost use Rattle.plm_type.specs.Reach.{row_of, Leads, IsOnCycle};
 
-use crate::order::{are_levels, levels_for};
+use crate::order::{are_ranks, ranks_for};
 use std::alloc::{AllocError, Global};
 
 /// Whether the procedure is marked.
@@ -97,46 +97,46 @@ fn count_marks(marks: &[bool]) -> usize
     count
 }
 
-/// A level for each procedure, above those of all that it reaches: one more than how many these are. Or the first that
+/// A rank for each procedure, above those of all that it reaches: one more than how many these are. Or the first that
 /// reaches itself.
-fn search_levels(
+fn search_ranks(
     alloc: Global,
     graph: &[Vec<usize>],
 ) -> Result<Result<Vec<usize>, usize>, AllocError>
-    ensures levels { IfOk result (λ found. IfOk found (λ levels. AreLevels levels.items (rows graph.now))) }
-    ensures length { IfOk result (λ found. IfOk found (λ levels. length levels.items ≡ length graph.now)) }
-    ensures none { IfOk result (λ found. IfOk found (λ levels. (q : ℕ) → ¬ IsOnCycle (rows graph.now) q)) }
+    ensures ranks { IfOk result (λ found. IfOk found (λ ranks. AreRanks ranks.items (rows graph.now))) }
+    ensures length { IfOk result (λ found. IfOk found (λ ranks. length ranks.items ≡ length graph.now)) }
+    ensures none { IfOk result (λ found. IfOk found (λ ranks. (q : ℕ) → ¬ IsOnCycle (rows graph.now) q)) }
     ensures cycle { IfOk result (λ found. IfErr found (λ p. IsOnCycle (rows graph.now) p)) }
     ensures first { IfOk result (λ found. IfErr found (λ p. (q : ℕ) → q < p → ¬ IsOnCycle (rows graph.now) q)) }
     ensures within { IfOk result (λ found. IfErr found (λ p. p < length graph.now)) }
 {
-    let mut levels = Vec::new(alloc);
+    let mut ranks = Vec::new(alloc);
     for procedure in 0..graph.len() {
         let marks = reached(alloc, graph, row_at(graph, procedure))?;
         if is_marked(&marks, procedure) {
             return Ok(Err(procedure));
         }
-        levels.push(1 + count_marks(&marks))?;
+        ranks.push(1 + count_marks(&marks))?;
     }
-    Ok(Ok(levels))
+    Ok(Ok(ranks))
 }
 
-/// A level for each procedure, above those of all that it calls, or the first procedure that reaches itself. It takes time
+/// A rank for each procedure, above those of all that it calls, or the first procedure that reaches itself. It takes time
 /// in proportion to the procedures and calls where none does, and at most that for each procedure where one does.
-pub fn levels_or_cycle(
+pub fn ranks_or_cycle(
     alloc: Global,
     graph: &[Vec<usize>],
 ) -> Result<Result<Vec<usize>, usize>, AllocError>
-    ensures levels { IfOk result (λ found. IfOk found (λ levels. AreLevels levels.items (rows graph.now))) }
-    ensures length { IfOk result (λ found. IfOk found (λ levels. length levels.items ≡ length graph.now)) }
-    ensures none { IfOk result (λ found. IfOk found (λ levels. (q : ℕ) → ¬ IsOnCycle (rows graph.now) q)) }
+    ensures ranks { IfOk result (λ found. IfOk found (λ ranks. AreRanks ranks.items (rows graph.now))) }
+    ensures length { IfOk result (λ found. IfOk found (λ ranks. length ranks.items ≡ length graph.now)) }
+    ensures none { IfOk result (λ found. IfOk found (λ ranks. (q : ℕ) → ¬ IsOnCycle (rows graph.now) q)) }
     ensures cycle { IfOk result (λ found. IfErr found (λ p. IsOnCycle (rows graph.now) p)) }
     ensures first { IfOk result (λ found. IfErr found (λ p. (q : ℕ) → q < p → ¬ IsOnCycle (rows graph.now) q)) }
     ensures within { IfOk result (λ found. IfErr found (λ p. p < length graph.now)) }
 {
-    let levels = levels_for(alloc, graph)?;
-    if levels.len() == graph.len() && are_levels(&levels, graph) {
-        return Ok(Ok(levels));
+    let ranks = ranks_for(alloc, graph)?;
+    if ranks.len() == graph.len() && are_ranks(&ranks, graph) {
+        return Ok(Ok(ranks));
     }
-    search_levels(alloc, graph)
+    search_ranks(alloc, graph)
 }

@@ -2,7 +2,7 @@
 
 ghost use Rattle.std.specs.Prelude.{◌≡◌, ◌∷◌, [], ◌++◌, IfOk, OnOk, map};
 ghost use Rattle.plm_decl.specs.ResolvedView as resolved;
-ghost use Rattle.plm_type.specs.Inner.Typer.{variables, noted, noted_after, targets_said, targets_after, number_by, targets_by, call_by, index_by, step_by, assignment_by, return_by, statement_by, statements_by};
+ghost use Rattle.plm_type.specs.Inner.Typer.{variables, noted, noted_after, targets_said, targets_after, number_by, targets_by, call_by, index_by, step_by, assignment_by, return_by, range_of, range_by, condition_of, condition_by, statement_by, statements_by};
 ghost use Rattle.plm_type.specs.Rest as rest;
 ghost use Rattle.plm_type.specs.Statements as spec;
 ghost use Rattle.plm_type.specs.View as view;
@@ -84,9 +84,10 @@ impl Condition {
     }
 }
 
-/// The values of an iterative DO: the first, the bound and the step.
+/// The index of an iterative DO and its values: the first, the bound and the step.
 #[derive(Drop)]
 struct Range {
+    index: Scalar,
     from: Expression,
     bound: Expression,
     step: Expression,
@@ -172,10 +173,10 @@ fn assignment(mut targets: Vec<Target>, value: Expression) -> Statement
 
 impl Typer<'_> {
     /// The variable that a name stands for.
-    fn variable_meant(&self, meaning: Binding) -> Option<Variable>
-        ensures { result ≡ spec.variable_meant (variables self.now) meaning }
+    fn variable_meant(&self, binding: Binding) -> Option<Variable>
+        ensures { result ≡ spec.variable_meant (variables self.now) binding }
     {
-        match meaning {
+        match binding {
             Binding::Variable(variable) => self.variable(variable),
             _ => None,
         }
@@ -274,12 +275,12 @@ impl Typer<'_> {
         &self,
         place: Position,
         name: Position,
-        meaning: Binding,
+        binding: Binding,
         faults: &mut Vec<Found>,
     ) -> Result<Scalar, AllocError>
-        ensures { IfOk result (λ r. noted (view.scalar_of r) faults.new.items ≡ noted_after faults.old.items (index_by self.now place name meaning)) }
+        ensures { IfOk result (λ r. noted (view.scalar_of r) faults.new.items ≡ noted_after faults.old.items (index_by self.now place name binding)) }
     {
-        let variable = self.variable_meant(meaning);
+        let variable = self.variable_meant(binding);
         self.note_unless(is_index(variable), Number::E401, place, faults)?;
         self.note_unless(may_be_assigned(variable), Number::E403, name, faults)?;
         Ok(index_for(variable))
@@ -300,24 +301,27 @@ impl Typer<'_> {
         }
     }
 
-    /// The first value of an iterative DO, its bound and its step.
+    /// An iterative DO with its index, up to its statements.
     fn range(
         &self,
         place: Position,
+        index: Scalar,
         from: &plm_decl::Expression,
         to: &plm_decl::Expression,
         by: &Option<plm_decl::Expression>,
         faults: &mut Vec<Found>,
     ) -> Result<Range, AllocError>
-        ensures from { IfOk result (λ r. view.expression_of r.from ≡ (number_by self.now place (resolved.expression_of from.now)).tree) }
-        ensures bound { IfOk result (λ r. view.expression_of r.bound ≡ (number_by self.now place (resolved.expression_of to.now)).tree) }
-        ensures step { IfOk result (λ r. view.expression_of r.step ≡ (step_by self.now place (resolved.step_of by.now)).tree) }
-        ensures faults { OnOk result (faults.new.items ≡ faults.old.items ++ ((number_by self.now place (resolved.expression_of from.now)).faults ++ ((number_by self.now place (resolved.expression_of to.now)).faults ++ (step_by self.now place (resolved.step_of by.now)).faults))) }
+        ensures { IfOk result (λ r. noted (range_of r) faults.new.items ≡ noted_after faults.old.items (range_by self.now place (view.scalar_of index) (resolved.expression_of from.now) (resolved.expression_of to.now) (resolved.step_of by.now))) }
     {
         let from = self.number_in(place, from, faults)?;
         let bound = self.number_in(place, to, faults)?;
         let step = self.step(place, by, faults)?;
-        Ok(Range { from, bound, step })
+        Ok(Range {
+            index,
+            from,
+            bound,
+            step,
+        })
     }
 
     /// CALL as a statement: a value is dropped.
@@ -395,8 +399,8 @@ impl Typer<'_> {
             }
             Resolved::Iterate(place, name, index, from, to, by, body) => {
                 let index = self.index(*place, *name, *index, faults)?;
-                let range = self.range(*place, from, to, by, faults)?;
-                self.rounds(around, index, range, body, faults)
+                let range = self.range(*place, index, from, to, by, faults)?;
+                self.rounds(around, range, body, faults)
             }
         }
     }
@@ -411,9 +415,7 @@ impl Typer<'_> {
         test: &plm_decl::Expression,
         faults: &mut Vec<Found>,
     ) -> Result<Condition, AllocError>
-        ensures test { IfOk result (λ r. view.expression_of r.test ≡ (number_by self.now place (resolved.expression_of test.now)).tree) }
-        ensures then { IfOk result (λ r. view.statements_of r.then.items ≡ (spec.one (statement_by self.now around (resolved.statement_of then.now))).tree) }
-        ensures faults { OnOk result (faults.new.items ≡ faults.old.items ++ ((number_by self.now place (resolved.expression_of test.now)).faults ++ (statement_by self.now around (resolved.statement_of then.now)).faults)) }
+        ensures { IfOk result (λ r. noted (condition_of r) faults.new.items ≡ noted_after faults.old.items (condition_by self.now around place (resolved.expression_of test.now) (resolved.statement_of then.now))) }
     {
         let test = self.number_in(place, test, faults)?;
         let then = self.arm(around, then, faults)?;
@@ -482,19 +484,23 @@ impl Typer<'_> {
         Ok(Statement::Case(value, cases))
     }
 
-    /// An iterative DO with an index and values that are typed.
+    /// An iterative DO with its index and values, and its statements.
     #[cycle(statement)]
     fn rounds(
         &self,
         around: Around,
-        index: Scalar,
         range: Range,
         body: &[Resolved],
         faults: &mut Vec<Found>,
     ) -> Result<Statement, AllocError>
-        ensures { IfOk result (λ r. noted (view.statement_of r) faults.new.items ≡ noted_after faults.old.items (spec.iteration (noted (view.scalar_of index) []) (noted (view.expression_of range.from) []) (noted (view.expression_of range.bound) []) (noted (view.expression_of range.step) []) (statements_by self.now around (resolved.statements_of body.now)))) }
+        ensures { IfOk result (λ r. noted (view.statement_of r) faults.new.items ≡ noted_after faults.old.items (spec.iteration (noted (view.scalar_of range.index) []) (noted (view.expression_of range.from) []) (noted (view.expression_of range.bound) []) (noted (view.expression_of range.step) []) (statements_by self.now around (resolved.statements_of body.now)))) }
     {
-        let Range { from, bound, step } = range;
+        let Range {
+            index,
+            from,
+            bound,
+            step,
+        } = range;
         let body = self.statements(around, body, faults)?;
         Ok(Statement::Iterate(
             from,

@@ -70,7 +70,7 @@ module _ (R : Type 0) (next : R → Action Access R) (code : ℕ → Option (Ins
   looser_meets n f g j r (Does (Halt c)) le h = h
   looser_meets n f g j r (Does Over) le h =
       elim is_main as (λ b. Meets Access answers R next Context (offer code find words entry main handler) limit 1 b (Fl n) f j r (Does Over) → Meets Access answers R next Context (offer code find words entry main handler) limit 1 b (Fl n) g j r (Does Over)) [ true ↦ λ x. x | false ↦ λ x. x ] h
-  looser_meets n f g j r (Does (Bad file line)) le h = h
+  looser_meets n f g j r (Does (Bad module_index line)) le h = h
   looser_meets n f g j r (Arms c) le h = arms is_main j h
     where
       Ms : Bool → ℕ → ℕ → Type 0

@@ -34,7 +34,7 @@ goes_on (Enable d) h = tt
 goes_on (Disable d) h = tt
 goes_on (Halt d) h = tt
 goes_on Over h = h refl
-goes_on (Bad file line) h = tt
+goes_on (Bad module_index line) h = tt
 
 stays_off : (a : Action Access Context) → ((d : Context) → a ≡ Enable d → ⊥) → ((d : Context) → a ≡ Halt d → ⊥) → Allowed false a
 stays_off (Silent d) h k = tt
@@ -43,7 +43,7 @@ stays_off (Enable d) h k = h d refl
 stays_off (Disable d) h k = tt
 stays_off (Halt d) h k = k d refl
 stays_off Over h k = tt
-stays_off (Bad file line) h k = tt
+stays_off (Bad module_index line) h k = tt
 
 module _ (names : Names) (c : Code) (x : Image) (is : IsImageOf names c x) (lowered : IsLowered names c) (allowed : RunsAreAllowed names) (within : NoRunPasses c (2 * x.main) (2 * (3 + x.handler))) where
   -- an action of the image is one of the program's code

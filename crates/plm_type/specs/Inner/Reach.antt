@@ -1,4 +1,4 @@
--- The searches of the code, and its levels.
+-- The searches of the code, and its ranks.
 use Rattle.std.specs.Prelude.{◌≡◌, ℕ, ◌+◌, ◌<◌, List, [], ◌∷◌, Bool, true, false, not, ◌⊎◌, length, slice_get, slice_index_or, map, count_by, cond, ◌||◌, ◌↔◌, Contains}
 use Rattle.std.specs.Global.{Vec}
 use Rattle.plm_type.specs.Reach.{Graph, row_of, Leads}
@@ -6,9 +6,9 @@ use Rattle.plm_type.specs.Reach.{Graph, row_of, Leads}
 abbrev pub rows : List (Vec ℕ) → Graph
 rows g = map (λ v. v.items) g
 
--- each procedure stands above those that it calls; levels are counted from 1
-abbrev pub AreLevels : List ℕ → Graph → Type 0
-AreLevels levels g = (p q : ℕ) → Contains (row_of (slice_get g p)) q → slice_index_or levels q 0 < slice_index_or levels p 0
+-- each procedure stands above those that it calls; ranks are counted from 1
+abbrev pub AreRanks : List ℕ → Graph → Type 0
+AreRanks ranks g = (p q : ℕ) → Contains (row_of (slice_get g p)) q → slice_index_or ranks q 0 < slice_index_or ranks p 0
 
 abbrev pub IsMarked : List Bool → ℕ → Type 0
 IsMarked marks k = slice_index_or marks k false ≡ true

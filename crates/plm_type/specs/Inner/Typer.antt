@@ -1,5 +1,5 @@
 -- What is known while statements are typed, and what the code has said so far.
-use Rattle.std.specs.Prelude.{ℕ, List, ◌++◌, map, Option}
+use Rattle.std.specs.Prelude.{ℕ, List, [], ◌++◌, map, Option}
 use Rattle.plm_syntax.specs.declared.tree.Position.{Position}
 use Rattle.plm_decl.specs.declared.builtin.Builtin.{Builtin}
 use Rattle.plm_decl.specs.declared.resolved.Binding.{Binding}
@@ -16,12 +16,14 @@ use Rattle.plm_type.specs.declared.references.Parts as declared_parts
 use Rattle.plm_type.specs.declared.program.Expression.{Expression}
 use Rattle.plm_type.specs.declared.program.Subscript.{Subscript}
 use Rattle.plm_type.specs.declared.statements.TypedTargets as declared_targets
+use Rattle.plm_type.specs.declared.statements.Condition as declared_condition
+use Rattle.plm_type.specs.declared.statements.Range as declared_range
 use Rattle.plm_type.specs.declared.statements.Around.{Around}
 use Rattle.plm_type.specs.Rest as rest
 use Rattle.plm_type.specs.Typer.{Typed, TypedTarget, TypedTargets, TypedList, Parts, Noted}
 use Rattle.plm_type.specs.Expressions as spec
 use Rattle.plm_type.specs.Statements as statements
-use Rattle.plm_type.specs.View.{expression_of, expressions_of, target_of}
+use Rattle.plm_type.specs.View.{expression_of, expressions_of, target_of, scalar_of, statements_of}
 
 abbrev pub variables : Typer → List Variable
 variables t = t.names.now.variables.items
@@ -88,6 +90,14 @@ targets_said xs noted = record { trees = map target_of xs.trees.items; types = x
 abbrev pub noted : {A : Type 0} → A → List Found → Noted A
 noted tree faults = record { tree = tree; faults = faults }
 
+-- IF without ELSE
+abbrev pub condition_of : declared_condition.Condition → rest.Statement
+condition_of c = rest.If (expression_of c.test) (statements_of c.then.items) rest.End
+
+-- an iterative DO without a statement
+abbrev pub range_of : declared_range.Range → rest.Statement
+range_of r = rest.Iterate (expression_of r.from) (rest.Count (scalar_of r.index) (expression_of r.bound) (expression_of r.step) rest.End)
+
 -- ---- the definition, with what is known
 
 abbrev pub typed_by : Typer → ExpressionR → Typed
@@ -145,3 +155,9 @@ statement_by t around s = statements.typed_statement (variables t) (procedures t
 
 abbrev pub statements_by : Typer → Around → StatementsR → Noted rest.Statements
 statements_by t around ss = statements.typed_statements (variables t) (procedures t) (sizes t) t.module around ss
+
+abbrev pub condition_by : Typer → Around → Position → ExpressionR → StatementR → Noted rest.Statement
+condition_by t around p e s = statements.conditional (number_by t p e) (statement_by t around s)
+
+abbrev pub range_by : Typer → Position → rest.Scalar → (from to : ExpressionR) → (by : Option ExpressionR) → Noted rest.Statement
+range_by t p i a b s = statements.iteration (noted i []) (number_by t p a) (number_by t p b) (step_by t p s) (noted rest.End [])

@@ -20,7 +20,7 @@ use Rattle.plm_type.proofs.checking.check.Goals as goal
 pub order_of-requires : goal.order_of-requires
 order_of-requires c =
     let made = c.in_ok-procedures.procedures.items in
-    ap length c.deref-2.ensures.value ∙ sym (length-map made view.procedure_of) ∙ ap length c.in_ok-procedures.ensures.tree
+    ap length c.deref-2.ensures.value ∙ sym (length-map made view.procedure_of) ∙ ap length (λ j. (c.in_ok-procedures.ensures j).tree)
     ∙ length-map (map procedure_of c.args.names.procedures.items) _ ∙ length-map c.args.names.procedures.items procedure_of
 
 pub returns-in-Some-clause-refused : goal.returns-in-Some-clause-refused
@@ -29,11 +29,11 @@ returns-in-Some-clause-refused c =
     let vs = names.variables.items in
     let ps = map procedure_of names.procedures.items in
     let l = statements.of_locations vs ps (sizes_of names) (map declared_location_of names.locations.items) in
-    let p = statements.of_procedures vs ps (sizes_of names) ps in
-    let m = statements.of_main vs ps (sizes_of names) (main_of names.main) in
+    let p = (statements.typed_procedures vs ps (sizes_of names) ps).faults in
+    let m = (statements.typed_main vs ps (sizes_of names) (main_of names.main)).faults in
     let extra = c.in_ok-interrupt_faults.ensures in
     let typed = (λ j. (c.in_ok-main.ensures j).faults)
-    ∙ ap (λ (x : List Found). x ++ m) (c.in_ok-procedures.ensures.faults ∙ ap (λ (x : List Found). x ++ p) (c.in_ok-locations.ensures ∙ ap (λ (x : List Found). x ++ l) c.new-faults.ensures.items))
+    ∙ ap (λ (x : List Found). x ++ m) ((λ j. (c.in_ok-procedures.ensures j).faults) ∙ ap (λ (x : List Found). x ++ p) (c.in_ok-locations.ensures ∙ ap (λ (x : List Found). x ++ l) c.new-faults.ensures.items))
     ∙ append_assoc l p m in
     let all : c.deref.result.now ≡ faults names ++ extra.0 = c.deref.ensures.value ∙ extra.2 ∙ ap (λ (x : List Found). x ++ extra.0) typed in
     subst (λ (f : Fault). spec.IsRefusal f names) (sym c.fault.ensures)
@@ -45,14 +45,14 @@ returns-in-Err-clause-refused c =
     let vs = names.variables.items in
     let ps = map procedure_of names.procedures.items in
     let l = statements.of_locations vs ps (sizes_of names) (map declared_location_of names.locations.items) in
-    let p = statements.of_procedures vs ps (sizes_of names) ps in
-    let m = statements.of_main vs ps (sizes_of names) (main_of names.main) in
+    let p = (statements.typed_procedures vs ps (sizes_of names) ps).faults in
+    let m = (statements.typed_main vs ps (sizes_of names) (main_of names.main)).faults in
     let extra = c.in_ok-interrupt_faults.ensures in
     let typed = (λ j. (c.in_ok-main.ensures j).faults)
-    ∙ ap (λ (x : List Found). x ++ m) (c.in_ok-procedures.ensures.faults ∙ ap (λ (x : List Found). x ++ p) (c.in_ok-locations.ensures ∙ ap (λ (x : List Found). x ++ l) c.new-faults.ensures.items))
+    ∙ ap (λ (x : List Found). x ++ m) ((λ j. (c.in_ok-procedures.ensures j).faults) ∙ ap (λ (x : List Found). x ++ p) (c.in_ok-locations.ensures ∙ ap (λ (x : List Found). x ++ l) c.new-faults.ensures.items))
     ∙ append_assoc l p m in
     let all : c.deref.result.now ≡ faults names ++ extra.0 = c.deref.ensures.value ∙ extra.2 ∙ ap (λ (x : List Found). x ++ extra.0) typed in
-    let made = ap (map view.procedure_of) c.deref-2.ensures.value ∙ c.in_ok-procedures.ensures.tree in
+    let made = ap (map view.procedure_of) c.deref-2.ensures.value ∙ (λ j. (c.in_ok-procedures.ensures j).tree) in
     let none = sym all ∙ subst (λ (o : Option Found). IfNone o (c.deref.result.now ≡ [])) c.in_default.is c.least.ensures.none in
     let cycle = subst (λ (r : Result (Vec ℕ) Found). IfErr r (λ f. spec.IsRecursion (map view.procedure_of c.deref-2.result.now) names f)) c.in-Err.is c.in_ok-order.ensures.cycle in
     subst (λ (f : Fault). spec.IsRefusal f names) (sym c.fault-in-Err.ensures)
@@ -64,21 +64,21 @@ invariant_of-result c =
     let vs = names.variables.items in
     let ps = map procedure_of names.procedures.items in
     let l = statements.of_locations vs ps (sizes_of names) (map declared_location_of names.locations.items) in
-    let p = statements.of_procedures vs ps (sizes_of names) ps in
-    let m = statements.of_main vs ps (sizes_of names) (main_of names.main) in
+    let p = (statements.typed_procedures vs ps (sizes_of names) ps).faults in
+    let m = (statements.typed_main vs ps (sizes_of names) (main_of names.main)).faults in
     let extra = c.in_ok-interrupt_faults.ensures in
     let typed = (λ j. (c.in_ok-main.ensures j).faults)
-    ∙ ap (λ (x : List Found). x ++ m) (c.in_ok-procedures.ensures.faults ∙ ap (λ (x : List Found). x ++ p) (c.in_ok-locations.ensures ∙ ap (λ (x : List Found). x ++ l) c.new-faults.ensures.items))
+    ∙ ap (λ (x : List Found). x ++ m) ((λ j. (c.in_ok-procedures.ensures j).faults) ∙ ap (λ (x : List Found). x ++ p) (c.in_ok-locations.ensures ∙ ap (λ (x : List Found). x ++ l) c.new-faults.ensures.items))
     ∙ append_assoc l p m in
     let all : c.deref.result.now ≡ faults names ++ extra.0 = c.deref.ensures.value ∙ extra.2 ∙ ap (λ (x : List Found). x ++ extra.0) typed in
     let parts = none_of_both (faults names) extra.0 (sym all ∙ subst (λ (o : Option Found). IfNone o (c.deref.result.now ≡ [])) c.in_default.is c.least.ensures.none) in
     let none = subst (AreInterruptFaults names) parts.1 extra.1 in
-    let made = ap (map view.procedure_of) c.deref-2.ensures.value ∙ c.in_ok-procedures.ensures.tree in
+    let made = ap (map view.procedure_of) c.deref-2.ensures.value ∙ (λ j. (c.in_ok-procedures.ensures j).tree) in
     let order = subst (λ (qs : List Procedure). IsOrder c.in-Ok.order.items (graph_of qs)) made
     (subst (λ (r : Result (Vec ℕ) Found). IfOk r (λ o. IsOrder o.items (graph_of (map view.procedure_of c.deref-2.result.now)))) c.in-Ok.is c.in_ok-order.ensures.order) in
     record {
       main_is = (λ j. (c.in_ok-main.ensures j).tree);
-      procedures_are = c.in_ok-procedures.ensures.tree;
+      procedures_are = (λ j. (c.in_ok-procedures.ensures j).tree);
       no_fault = parts.0;
       lets_nothing_in = lets_nothing_in names none;
       none_misused = none_misused names none;
@@ -96,20 +96,20 @@ returns-in-Ok-clause-typed c =
     let vs = names.variables.items in
     let ps = map procedure_of names.procedures.items in
     let l = statements.of_locations vs ps (sizes_of names) (map declared_location_of names.locations.items) in
-    let p = statements.of_procedures vs ps (sizes_of names) ps in
-    let m = statements.of_main vs ps (sizes_of names) (main_of names.main) in
+    let p = (statements.typed_procedures vs ps (sizes_of names) ps).faults in
+    let m = (statements.typed_main vs ps (sizes_of names) (main_of names.main)).faults in
     let extra = c.in_ok-interrupt_faults.ensures in
     let typed = (λ j. (c.in_ok-main.ensures j).faults)
-    ∙ ap (λ (x : List Found). x ++ m) (c.in_ok-procedures.ensures.faults ∙ ap (λ (x : List Found). x ++ p) (c.in_ok-locations.ensures ∙ ap (λ (x : List Found). x ++ l) c.new-faults.ensures.items))
+    ∙ ap (λ (x : List Found). x ++ m) ((λ j. (c.in_ok-procedures.ensures j).faults) ∙ ap (λ (x : List Found). x ++ p) (c.in_ok-locations.ensures ∙ ap (λ (x : List Found). x ++ l) c.new-faults.ensures.items))
     ∙ append_assoc l p m in
     let all : c.deref.result.now ≡ faults names ++ extra.0 = c.deref.ensures.value ∙ extra.2 ∙ ap (λ (x : List Found). x ++ extra.0) typed in
     let parts = none_of_both (faults names) extra.0 (sym all ∙ subst (λ (o : Option Found). IfNone o (c.deref.result.now ≡ [])) c.in_default.is c.least.ensures.none) in
     let none = subst (AreInterruptFaults names) parts.1 extra.1 in
-    let made = ap (map view.procedure_of) c.deref-2.ensures.value ∙ c.in_ok-procedures.ensures.tree in
+    let made = ap (map view.procedure_of) c.deref-2.ensures.value ∙ (λ j. (c.in_ok-procedures.ensures j).tree) in
     record {
       kept = refl;
       main = (λ j. (c.in_ok-main.ensures j).tree);
-      procedures = c.in_ok-procedures.ensures.tree;
+      procedures = (λ j. (c.in_ok-procedures.ensures j).tree);
       no_fault = parts.0;
       lets_nothing_in = lets_nothing_in names none;
       none_misused = none_misused names none;

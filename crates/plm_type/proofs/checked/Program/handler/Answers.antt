@@ -1,9 +1,10 @@
 use Rattle.std.proofs.Common.{◌≡◌, ◌+◌, cond, List, Option, Some, length, drop, map, slice_get, option_map, refl, sym, ap, ◌∙◌}
 use Rattle.std.proofs.lemmas.Option.{slice_get-map, slice_get_read}
 use Rattle.plm_decl.specs.declared.names.Procedure.{Procedure}
-use Rattle.plm_decl.specs.Names.{procedure_of}
+use Rattle.plm_decl.specs.Names.{ProcedureR, procedure_of}
 use Rattle.plm_decl.specs.Placement.{sizes_of}
-use Rattle.plm_type.specs.Statements.{body_for, procedure_for}
+use Rattle.plm_type.specs.Rest as rest
+use Rattle.plm_type.specs.Statements.{typed_body, typed_procedure}
 use Rattle.plm_type.specs.Programs.{declared_procedures, handler_among}
 use Rattle.plm_type.specs.Inner.Checked.{body_at}
 use Rattle.plm_type.specs.View as view
@@ -17,7 +18,7 @@ returns-then-handles c =
     let vs = names.variables.items in
     let ps = declared_procedures names in
     let sizes = sizes_of names in
-    let made = procedure_for vs ps sizes in
+    let made : ProcedureR → rest.Procedure = λ p. (typed_procedure vs ps sizes p).tree in
     let ys = c.deref-procedure-items.result.now in
     let i = c.loop-number.number in
     let x = c.procedure-item.result in
@@ -31,6 +32,6 @@ returns-then-handles c =
     ∙ (λ j. body_at (slice_get (view.procedures_of (c.deref.ensures.value j)) i))
     ∙ (λ j. body_at (slice_get (self.procedures_are j) i))
     ∙ ap body_at declared
-    ∙ sym (ap (λ b. cond b (body_for vs ps sizes (procedure_of x)) later) (sym c.handles.ensures ∙ c.if-handles.true))
+    ∙ sym (ap (λ b. cond b (typed_body vs ps sizes (procedure_of x)).tree later) (sym c.handles.ensures ∙ c.if-handles.true))
     ∙ ap (λ (l : List Procedure). handler_among vs ps sizes c.args.vector (map procedure_of l)) (sym (drop_at ys i x c.loop-number-test.true c.procedure-item.is))
     ∙ c.loop-number.invariant

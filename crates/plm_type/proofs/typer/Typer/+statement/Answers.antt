@@ -1,4 +1,4 @@
-use Rattle.std.proofs.Common.{◌+◌, ◌++◌, List, drop, append_assoc, sym, ap, ◌∙◌}
+use Rattle.std.proofs.Common.{◌+◌, [], ◌++◌, List, drop, append_assoc, sym, ap, ◌∙◌}
 use Rattle.std.proofs.lemmas.List.{append-nil, drop_all}
 use Rattle.std.specs.Global.{Box}
 use Rattle.plm_decl.specs.declared.found.Found.{Found}
@@ -9,12 +9,23 @@ use Rattle.plm_type.proofs.ResolvedTrees as rows
 use Rattle.plm_type.specs.declared.program.Statement.{Statement}
 use Rattle.plm_type.specs.Rest as rest
 use Rattle.plm_type.specs.Inner.Typer.{noted, noted_after, number_by, index_by, step_by, statement_by, statements_by}
+use Rattle.plm_type.specs.Typer.{Noted}
 use Rattle.plm_type.specs.Statements as spec
 use Rattle.plm_type.specs.View as view
 use Rattle.plm_type.proofs.Rows.{statement_row}
 use Rattle.plm_type.proofs.Said.{noted_moved}
 use Rattle.plm_type.proofs.Lists.{statements_at, statements_before, statements_pushed, statements_all, noted_before}
 use Rattle.plm_type.proofs.typer.Typer.+statement.Goals as goal
+
+-- with what stands after ELSE
+abbrev with_other : rest.Statement → rest.Statements → rest.Statement
+with_other (rest.If e ss ts) others = rest.If e ss others
+with_other s others = s
+
+-- with its statements
+abbrev with_body : rest.Statement → rest.Statements → rest.Statement
+with_body (rest.Iterate a (rest.Count x b s ss)) body = rest.Iterate a (rest.Count x b s body)
+with_body s body = s
 
 -- ---- what each kind of statement is handed to
 
@@ -24,8 +35,9 @@ statement-returns-in_ok-condition-in-If t c =
     let did = c.in_ok-condition-in-If.ensures in
     let of = IfR at.place (resolved.expression_of at.test) in
     let is = (λ j. of (resolved.statement_of (c.deref-in-If.ensures j))) ∙ sym (ap resolved.statement_of at.is) in
-    let tree = c.with_else.ensures ∙ (λ j. rest.If (did.test j) (did.then j) (view.statements_of (c.new.ensures.items j))) in
-    (λ j. noted (tree j) (did.faults j)) ∙ ap (λ (s : StatementR). noted_after c.args.faults.now.items (statement_by c.args.self.now c.args.around s)) is
+    let made = c.in_ok-condition-in-If.condition in
+    let tree = c.with_else.ensures ∙ (λ j. rest.If (view.expression_of made.test) (view.statements_of made.then.items) (view.statements_of (c.new.ensures.items j))) ∙ (λ j. (did j).tree) in
+    (λ j. noted (tree j) (did j).faults) ∙ ap (λ (s : StatementR). noted_after c.args.faults.now.items (statement_by c.args.self.now c.args.around s)) is
 
 pub statement-returns-in_ok-condition-in-IfElse : goal.statement-returns-in_ok-condition-in-IfElse
 statement-returns-in_ok-condition-in-IfElse t c =
@@ -39,7 +51,7 @@ statement-returns-in_ok-condition-in-IfElse t c =
     let test = number_by self at.place (resolved.expression_of at.test) in
     let then = statement_by self around (resolved.statement_of c.deref-in-IfElse.result.now) in
     let other = statement_by self around (resolved.statement_of c.deref-in-IfElse-2.result.now) in
-    let path = (λ j. noted (rest.If (did.test j) (did.then j) (spec.one other).tree) (did.faults j ++ other.faults))
+    let path = ap (λ (x : Noted rest.Statement). noted (with_other x.tree (spec.one other).tree) (x.faults ++ other.faults)) did
     ∙ ap (noted (spec.alternative test then other).tree) (append_assoc old (test.faults ++ then.faults) other.faults ∙ ap (λ (l : List Found). old ++ l) (append_assoc test.faults then.faults other.faults))
     ∙ ap (λ (s : StatementR). noted_after old (statement_by self around s)) is in
     noted_moved view.statement_of c.choice.result c.choice.new.faults.items path c.choice.ensures
@@ -83,15 +95,24 @@ statement-returns-in_ok-range-in-Iterate t c =
     let b = number_by self at.place (resolved.expression_of at.to) in
     let s = step_by self at.place (resolved.step_of at.by) in
     let all = statements_by self around (resolved.statements_of c.deref-in-Iterate.result.now) in
-    let before = range.faults ∙ (λ j. (index j).faults ++ (a.faults ++ (b.faults ++ s.faults))) in
-    let faults = ap (λ (l : List Found). l ++ all.faults) before
+    let faults = ap (λ (l : List Found). ((old ++ i.faults) ++ (a.faults ++ (b.faults ++ l))) ++ all.faults) (append-nil s.faults)
     ∙ append_assoc (old ++ i.faults) (a.faults ++ (b.faults ++ s.faults)) all.faults ∙ append_assoc old i.faults ((a.faults ++ (b.faults ++ s.faults)) ++ all.faults)
     ∙ ap (λ (l : List Found). old ++ (i.faults ++ l)) (append_assoc a.faults (b.faults ++ s.faults) all.faults ∙ ap (λ (l : List Found). a.faults ++ l) (append_assoc b.faults s.faults all.faults)) in
-    let path = (λ j. noted (rest.Iterate (range.from j) (rest.Count (index j).tree (range.bound j) (range.step j) all.tree)) (faults j))
+    let path = ap (λ (x : Noted rest.Statement). noted (with_body x.tree all.tree) (x.faults ++ all.faults)) range
+    ∙ (λ j. noted (rest.Iterate a.tree (rest.Count (index j).tree b.tree s.tree all.tree)) (((index j).faults ++ (a.faults ++ (b.faults ++ (s.faults ++ [])))) ++ all.faults))
+    ∙ ap (noted (rest.Iterate a.tree (rest.Count i.tree b.tree s.tree all.tree))) faults
     ∙ ap (λ (x : StatementR). noted_after old (statement_by self around x)) is in
     noted_moved view.statement_of c.rounds.result c.rounds.new.faults.items path c.rounds.ensures
 
 -- ---- the kinds that hold statements
+
+pub condition-returns : goal.condition-returns
+condition-returns t c =
+    let test = c.in_ok-test.ensures in
+    let arm = c.in_ok-then.ensures in
+    let only = statement_by c.args.self.now c.args.around (resolved.statement_of c.args.then.now) in
+    let faults = (λ j. (arm j).faults) ∙ (λ j. (test j).faults ++ only.faults) ∙ append_assoc c.args.faults.now.items _ only.faults in
+    λ j. noted (rest.If (test j).tree (arm j).tree rest.End) (faults j)
 
 pub block-returns : goal.block-returns
 block-returns t c =
@@ -121,7 +142,7 @@ pub rounds-returns : goal.rounds-returns
 rounds-returns t c =
     let r = c.args.range in
     let did = c.in_ok-body.ensures in
-    let count = rest.Count (view.scalar_of c.args.index) (view.expression_of r.bound) (view.expression_of r.step) in
+    let count = rest.Count (view.scalar_of r.index) (view.expression_of r.bound) (view.expression_of r.step) in
     let tree = statement_row c.in_ok-body.body ∙ (λ j. (did j).tree) in
     λ j. noted (rest.Iterate (view.expression_of r.from) (count (tree j))) (did j).faults
 

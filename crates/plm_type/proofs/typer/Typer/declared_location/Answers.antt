@@ -9,4 +9,4 @@ pub returns : goal.returns
 returns c =
     let made = c.of_module.ensures in
     (λ j. (c.in_ok-location.ensures j).faults)
-    ∙ (λ j. c.args.faults.now.items ++ (location (made.names j).variables.items (map procedure_of (made.names j).procedures.items) (sizes_of (made.names j)) (made.module j) (resolved.location_of c.args.declared.now.location)).faults)
+    ∙ (λ j. c.args.faults.now.items ++ (location (made.names j).variables.items (map procedure_of (made.names j).procedures.items) (sizes_of (made.names j)) (made.index j) (resolved.location_of c.args.declared.now.location)).faults)
