@@ -1,18 +1,14 @@
 //! Declarations of variables.
 
-ghost use Rattle.std.specs.Prelude.{◌≡◌, ◌+◌, ◌*◌, IfOk, OnOk, map, length};
+ghost use Rattle.std.specs.Prelude.{◌≡◌, ◌+◌, ◌*◌, IfOk, OnOk, map};
 ghost use Rattle.plm_syntax.specs.View.{name_of, base_of, location_of, variable_of, declared_of, dimension_of, type_of, attributes_of, element_of, value_of};
-ghost use Rattle.word86.specs.declared.number.Number.TheVariants.{E302};
-ghost use Rattle.plm_decl.specs.declared.names.Item.TheVariants as item;
 ghost use Rattle.plm_decl.specs.Inner.Scope.{frames_of};
-ghost use Rattle.plm_decl.specs.Scope.{found_in, is_fresh, with_name};
+ghost use Rattle.plm_decl.specs.Scope.{found_in};
 ghost use Rattle.plm_decl.specs.Inner.Resolver.{known_of};
-ghost use Rattle.plm_decl.specs.Resolver.{note_unless};
 ghost use Rattle.plm_decl.specs.Regions.{size_at};
 ghost use Rattle.plm_decl.specs.ResolvedView as view;
-ghost use Rattle.plm_decl.specs.Shape.{size_of_shape};
 ghost use Rattle.plm_decl.specs.Elements as spec;
-ghost use Rattle.plm_decl.specs.Inner.Elements.{with_variables};
+ghost use Rattle.plm_decl.specs.Inner.Elements.{entered, variable_put, variable_then, with_variables};
 ghost use Rattle.plm_decl.specs.Fill as fills;
 ghost use Rattle.plm_decl.specs.Inner.Fill.{filling_of};
 
@@ -544,8 +540,7 @@ impl Resolver {
         linkage: Linkage,
         item: Item,
     ) -> Result<(), AllocError>
-        ensures names { OnOk result (frames_of scope.new ≡ with_name name.items item (frames_of scope.old)) }
-        ensures known { OnOk result (known_of self.new ≡ note_unless (is_fresh name.items (frames_of scope.old)) E302 place (spec.linked (frames_of scope.old) linkage name.items item (known_of self.old))) }
+        ensures { OnOk result ((frames_of scope.new, known_of self.new) ≡ entered place name.items linkage item (frames_of scope.old) (known_of self.old)) }
     {
         self.link(scope, linkage, &name, item)?;
         let is_fresh = scope.declare(name, item)?;
@@ -576,8 +571,7 @@ impl Resolver {
         traits: Traits,
         region: Region,
     ) -> Result<Item, AllocError>
-        ensures item { IfOk result (λ i. i ≡ item.Variable (length (known_of self.old).variables)) }
-        ensures known { OnOk result (known_of self.new ≡ spec.with_variable (spec.variable_in traits place region (known_of self.old)) (known_of self.old)) }
+        ensures { IfOk result (λ i. (i, known_of self.new) ≡ variable_put traits place region (known_of self.old)) }
     {
         let item = Item::Variable(self.variables.len());
         let Shape {
@@ -605,8 +599,7 @@ impl Resolver {
         traits: Traits,
         site: Site,
     ) -> Result<Site, AllocError>
-        ensures site { IfOk result (λ s. s ≡ spec.site_after site (size_of_shape traits.shape)) }
-        ensures known { OnOk result ((frames_of scope.new, known_of self.new) ≡ spec.declared_variable (variable_of variable.now) traits site (frames_of scope.old) (known_of self.old)) }
+        ensures { IfOk result (λ s. (s, frames_of scope.new, known_of self.new) ≡ variable_then (variable_of variable.now) traits site (frames_of scope.old) (known_of self.old)) }
     {
         let place = variable.name.place;
         let key = normal(self.alloc, variable.name.text)?;
