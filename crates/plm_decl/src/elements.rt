@@ -1,6 +1,6 @@
 //! Declarations of variables.
 
-ghost use Rattle.std.specs.Prelude.{◌≡◌, ◌+◌, ◌*◌, IfOk, OnOk, map};
+ghost use Rattle.std.specs.Prelude.{◌≡◌, ◌+◌, ◌*◌, IfOk, OnOk, Some, map};
 ghost use Rattle.plm_syntax.specs.View.{name_of, base_of, location_of, variable_of, declared_of, dimension_of, type_of, attributes_of, element_of, value_of};
 ghost use Rattle.plm_decl.specs.Inner.Scope.{frames_of};
 ghost use Rattle.plm_decl.specs.Scope.{found_in};
@@ -44,9 +44,9 @@ enum Site {
     Ram(usize, u64),
     /// Onto the screen, this many bytes after its first.
     Screen(u64),
-    /// It takes no bytes.
+    /// Nowhere: it is EXTERNAL, or the location of its AT is faulty itself.
     Nowhere,
-    /// AT names no such place.
+    /// AT names a place where no name may lie.
     Outside,
 }
 
@@ -265,6 +265,27 @@ fn site_within(region: Region, distance: Option<u64>) -> Site
     }
 }
 
+/// The place this many bytes after the first of a variable whose AT names no place: none either.
+fn unplaced_site(distance: Option<u64>) -> Site
+    ensures { result ≡ spec.unplaced_site distance }
+{
+    match distance {
+        Some(_) => Site::Nowhere,
+        None => Site::Outside,
+    }
+}
+
+/// Whether AT of a name of this linkage names no place. An EXTERNAL name goes nowhere too, without AT.
+fn names_no_place(linkage: Linkage, site: Site) -> bool
+    ensures { result ≡ spec.names_no_place linkage site }
+{
+    match (linkage, site) {
+        (Linkage::External, _) => false,
+        (_, Site::Nowhere) => true,
+        _ => false,
+    }
+}
+
 impl Resolver {
     /// How many bytes after the first of its variable a reference lies, where its subscripts are numbers.
     pub fn distance(&self, reference: &Reference) -> Option<u64>
@@ -279,16 +300,35 @@ impl Resolver {
         Some(element.saturating_mul(stride).saturating_add(inside))
     }
 
-    /// The place in a RAM object that a location names. One that is faulty itself (E301, or E401 for its shape) places nothing.
+    /// Whether AT of this variable names no place.
+    fn is_unplaced(&self, variable: usize) -> bool
+        ensures { result ≡ spec.is_unplaced (known_of self.now) variable }
+    {
+        self.unplaced.contains(&variable)
+    }
+
+    /// The place in a RAM object that a location of this variable names.
+    fn variable_site(&self, number: usize, variable: &Variable, reference: &Reference) -> Site
+        ensures { result ≡ spec.variable_site (spec.is_unplaced (known_of self.now) number) (Some variable.now) (view.expressions_of reference.now.subscripts.items) (view.selector_of reference.now.selector) (spec.distance (known_of self.now) (view.reference_of reference.now)) }
+    {
+        let distance = self.distance(reference);
+        if !has_shape(variable, &reference.subscripts, &reference.selector) {
+            Site::Nowhere
+        } else if self.is_unplaced(number) {
+            unplaced_site(distance)
+        } else {
+            site_within(variable.region, distance)
+        }
+    }
+
+    /// The place in a RAM object that a location names. One that is faulty itself (E301, or E401 for its shape) places
+    /// nothing, and so does one in a variable that such a location placed nowhere.
     fn site_of(&self, reference: &Reference) -> Site
         ensures { result ≡ spec.site_of (known_of self.now) (view.reference_of reference.now) }
     {
         match reference.binding {
             Binding::Variable(number) => match self.variables.get(number) {
-                Some(variable)
-                    if !has_shape(variable, &reference.subscripts, &reference.selector) =>
-                    Site::Nowhere,
-                Some(variable) => site_within(variable.region, self.distance(reference)),
+                Some(variable) => self.variable_site(number, variable, reference),
                 None => Site::Outside,
             },
             Binding::Procedure(_) | Binding::Builtin(_) => Site::Outside,
@@ -591,6 +631,16 @@ impl Resolver {
         Ok(item)
     }
 
+    /// Keeps that AT of the variable of this number names no place, where it does.
+    fn put_unplaced(&mut self, unplaced: bool, variable: usize) -> Result<(), AllocError>
+        ensures { OnOk result (known_of self.new ≡ spec.with_unplaced unplaced variable (known_of self.old)) }
+    {
+        if unplaced {
+            self.unplaced.push(variable)?;
+        }
+        Ok(())
+    }
+
     /// Declares a variable, and answers where the next name goes.
     fn variable(
         &mut self,
@@ -602,10 +652,12 @@ impl Resolver {
         ensures { IfOk result (λ s. (s, frames_of scope.new, known_of self.new) ≡ variable_then (variable_of variable.now) traits site (frames_of scope.old) (known_of self.old)) }
     {
         let place = variable.name.place;
+        let number = self.variables.len();
         let key = normal(self.alloc, variable.name.text)?;
         let region = self.variable_region(scope, variable, &key, traits, site)?;
         let item = self.put_variable(place, traits, region)?;
         self.enter(scope, place, key, traits.linkage, item)?;
+        self.put_unplaced(names_no_place(traits.linkage, site), number)?;
         Ok(site.after(traits.shape.size()))
     }
 
