@@ -23,6 +23,7 @@ pub mod Initial
 pub mod Ranges
 pub mod BlockNames
 pub mod DeclaredAgain
+pub mod OwnNames
 pub mod Laws
 pub mod Regions
 pub mod Inner
