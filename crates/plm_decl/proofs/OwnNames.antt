@@ -44,7 +44,7 @@ use Rattle.plm_decl.specs.Expressions.{structure_meant, member_of_structure, mem
 use Rattle.plm_decl.specs.Datum.{is_byte, character_datum}
 use Rattle.plm_decl.specs.Shape.{member_names, member_count, member_scalar, number_of_elements, with_member_name, with_member_names, with_members, structure_for, form_for, elements_filled, dimension_for, shape_for, scalar_at, size_of_shape}
 use Rattle.plm_decl.specs.Elements.{start, location_site, at_site, first_site, base_for, with_screen_name, own_region, region_for, with_public, linked, linkage_for, declared, with_variable, variable_in, region_of_variable, with_unplaced, variable_declared, declared_variable, declared_variables, declared_list, element_values, has_values, is_placed, place_of_variable, site_after}
-use Rattle.plm_decl.specs.Fill.{location_in, datum_for, FillingR, given_at, given_in, put_datum, too_many, put_at, put_value, past_at, unless_past, put_characters, put_single, filled_with, filled_from, filled_element, traits_for, declared_at, declared_names, element}
+use Rattle.plm_decl.specs.Fill.{location_in, datum_for, FillingR, given_at, given_in, put_datum, too_many, name_at, put_at, put_value, past_at, unless_past, put_characters, put_single, filled_with, filled_from, filled_element, traits_for, declared_at, declared_names, element}
 use Rattle.plm_decl.specs.Stray.{is_external_linkage}
 use Rattle.plm_decl.specs.Statements.{targets_from, step_for, last_name, block_path, with_elements, linkage_of, is_handled, note_handler, header, with_header, declared_procedure, in_place_of, parameter_is, with_parameter, parameter_for, parameters_from, completed_at, statement, basic, statements as read_statements, block, with_items, with_item}
 use Rattle.plm_decl.specs.Joins.{region_joined, entry_joined, joined, agree, external_joined, externals_joined, have_room, program_fault, modules_joined, has_statements, with_main, at_module, with_module, modules_from, known_from}
@@ -266,13 +266,13 @@ put_characters_still f c [] k = still k
 put_characters_still f c (x ∷ xs) k =
     let d = character_datum (scalar_at k f.shape.form c.scalar) x in
     let r = put_value f c d k in
-    still_then (put_at_still f c (slice_get f.names c.name) d k) (put_characters_still f r.0 xs r.1)
+    still_then (put_at_still f c (name_at f c k) d k) (put_characters_still f r.0 xs r.1)
 
 put_single_still : (frames : List Frame) (f : FillingR) (c : Cursor) (v : ValueT) (k : Known) → Still k (put_single frames f c v k).1
 put_single_still frames f c v k =
     let s = scalar_at k f.shape.form c.scalar in
     let d = datum_for frames s v k in
-    still_then (datum_still frames s v k) (put_at_still f c (slice_get f.names c.name) d.0 d.1)
+    still_then (datum_still frames s v k) (put_at_still f c (name_at f c d.1) d.0 d.1)
 
 either_cursor : (b : Bool) (k : Known) (x y : Cursor × Known) → Still k x.1 → Still k y.1 → Still k (cond b x y).1
 either_cursor true k x y p q = p
@@ -282,7 +282,7 @@ filled_with_still : (frames : List Frame) (f : FillingR) (c : Cursor) (v : Value
 filled_with_still frames f c (NumeralV n) k = put_single_still frames f c (NumeralV n) k
 filled_with_still frames f c (NegativeV n) k = put_single_still frames f c (NegativeV n) k
 filled_with_still frames f c (TextV s) k =
-    either_cursor (is_byte (scalar_at k f.shape.form c.scalar)) k _ _ (still_then (past_still f (slice_get f.names c.name) k) (put_characters_still f c (string_characters s.text) (unless_past f c k)))
+    either_cursor (is_byte (scalar_at k f.shape.form c.scalar)) k _ _ (still_then (past_still f (name_at f c k) k) (put_characters_still f c (string_characters s.text) (unless_past f c k)))
     (put_single_still frames f c (TextV s) k)
 filled_with_still frames f c (LocationV l) k = put_single_still frames f c (LocationV l) k
 
