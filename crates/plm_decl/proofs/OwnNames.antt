@@ -6,7 +6,7 @@ use Rattle.std.specs.Option.{option_map_or}
 use Rattle.std.proofs.lemmas.List.{append-nil, append_assoc, map-append, length-append, length-set}
 use Rattle.std.proofs.lemmas.List.Kept.{AllPairs-from_increasing}
 use Rattle.word86.specs.declared.number.Number.{Number}
-use Rattle.word86.specs.declared.number.Number.TheVariants.{E301, E302, E303, E304, E305, E307, E308, E310}
+use Rattle.word86.specs.declared.number.Number.TheVariants.{E301, E302, E303, E304, E305, E308}
 use Rattle.plm_token.specs.Names.{normal}
 use Rattle.plm_token.specs.Strings.{string_characters}
 use Rattle.plm_syntax.specs.declared.tree.Position.{Position}
@@ -31,7 +31,6 @@ use Rattle.plm_decl.specs.declared.elements.Site.TheVariants as site
 use Rattle.plm_decl.specs.declared.elements.Traits.{Traits}
 use Rattle.plm_decl.specs.declared.fill.Cursor.{Cursor}
 use Rattle.plm_decl.specs.Layout.{StructureR, counted, scalar_of, no_fields, is_dimension}
-use Rattle.plm_decl.specs.Found.{precedes}
 use Rattle.plm_decl.specs.Spelling.{name_after, constants_after}
 use Rattle.plm_decl.specs.Scope.{Entries, Frame, frame, path_in, is_external, is_fresh, found_in, found_here}
 use Rattle.plm_decl.specs.Resolver.{Known, ExternalR, note, note_unless, note_whole, nothing_known}
@@ -49,7 +48,7 @@ use Rattle.plm_decl.specs.Stray.{is_external_linkage}
 use Rattle.plm_decl.specs.Statements.{targets_from, step_for, last_name, block_path, with_elements, linkage_of, is_handled, note_handler, header, with_header, declared_procedure, in_place_of, parameter_is, with_parameter, parameter_for, parameters_from, completed_at, statement, basic, statements as read_statements, block, with_items, with_item}
 use Rattle.plm_decl.specs.Joins.{region_joined, entry_joined, joined, agree, external_joined, externals_joined, have_room, program_fault, modules_joined, has_statements, with_main, at_module, with_module, modules_from, known_from}
 use Rattle.plm_decl.specs.Modules.{AreNames}
-use Rattle.plm_decl.specs.OwnNames.{own_name, own_among, is_own, own_in_element, own_in_elements, own_in_block, own_in_items, own_in_item, own_in_statements, own_in_statement, own_in_basic, own_in_module, own_from, own_names, where_declared, marked, HaveObjects}
+use Rattle.plm_decl.specs.OwnNames.{own_name, own_among, is_own, own_in_element, own_in_elements, own_in_block, own_in_items, own_in_item, own_in_statements, own_in_statement, own_in_basic, own_in_module, own_from, where_declared, marked, HaveObjects}
 use Rattle.plm_decl.proofs.Objects.{last_got, external_stays}
 
 -- ---- what declares nothing
