@@ -119,7 +119,7 @@ fn undeclared_names(rt: HostRuntime) {
     }
 }
 
-static DECLARATIONS: [(&[u8], Outcome); 69] = [
+static DECLARATIONS: [(&[u8], Outcome); 74] = [
     (
         b"M: DO; DECLARE A (0) BYTE AT (0B8FA0H); ; END M;",
         Some((0, 1, Number::E303)),
@@ -167,6 +167,26 @@ static DECLARATIONS: [(&[u8], Outcome); 69] = [
     (
         b"M: DO; DECLARE S STRUCTURE (X BYTE), A (2) BYTE AT (@S.X(0)); ; END M;",
         None,
+    ),
+    (
+        b"M: DO; DECLARE V BYTE, A BYTE AT (@V(0)), B BYTE AT (@A); ; END M;",
+        None,
+    ),
+    (
+        b"M: DO; DECLARE V BYTE, (A, B) BYTE AT (.V.X), C (2) WORD AT (@B), D BYTE AT (.C(7)); ; END M;",
+        None,
+    ),
+    (
+        b"M: DO; DECLARE (I, V) BYTE, A (2) BYTE AT (@V(0)),\nB BYTE AT (@A(I)); ; END M;",
+        Some((0, 2, Number::E303)),
+    ),
+    (
+        b"M: DO; DECLARE V BYTE, X BYTE EXTERNAL, A BYTE AT (@V(0)),\nB BYTE AT (@X); ; END M;",
+        Some((0, 2, Number::E303)),
+    ),
+    (
+        b"M: DO; P: PROCEDURE (A, B) EXTERNAL; DECLARE A BYTE,\nB BYTE AT (@A); END P; ; END M;",
+        Some((0, 2, Number::E303)),
     ),
     (
         b"M: DO; DECLARE S (2) STRUCTURE (X BYTE), A (3) BYTE AT (@S.X); ; END M;",
@@ -527,7 +547,7 @@ fn faults_of_programs(rt: HostRuntime) {
 }
 
 /// Faults of names that only types tell: the line of an E401.
-static SHAPES: [(&[u8], u32); 6] = [
+static SHAPES: [(&[u8], u32); 8] = [
     (
         b"M: DO; P: PROCEDURE (A); A:\nPROCEDURE; END A; END P; ; END M;",
         1,
@@ -550,6 +570,14 @@ static SHAPES: [(&[u8], u32); 6] = [
     ),
     (
         b"M: DO; DECLARE S STRUCTURE (X BYTE), A (2) BYTE AT (@\nS.X(0)); ; END M;",
+        2,
+    ),
+    (
+        b"M: DO; DECLARE V BYTE, A BYTE AT (@\nV(0)), B BYTE AT (@A); ; END M;",
+        2,
+    ),
+    (
+        b"M: DO; DECLARE V BYTE, (A, B) BYTE AT (.\nV.X), C (2) WORD AT (@B), D BYTE AT (.C(7)); ; END M;",
         2,
     ),
 ];

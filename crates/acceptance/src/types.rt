@@ -200,6 +200,34 @@ fn pointers(rt: HostRuntime) {
     are_typed(&rt, rt.alloc(), ROWS);
 }
 
+/// A name means what the innermost block declares: only its type there makes the fault.
+#[test]
+fn innermost_declarations(rt: HostRuntime) {
+    const ROWS: &[(&[u8], Outcome)] = &[
+        (
+            b"M: DO; DECLARE A BYTE; DO; DECLARE A POINTER;\nA = 1; END; END M;",
+            Some((0, 2, Number::E401)),
+        ),
+        (
+            b"M: DO; DECLARE A POINTER; DO; DECLARE A BYTE; A = 1; END; END M;",
+            None,
+        ),
+        (
+            b"M: DO; DECLARE A BYTE; DO; DECLARE A POINTER; ; END; A = 1; END M;",
+            None,
+        ),
+        (
+            b"M: DO; DECLARE A POINTER; P: PROCEDURE (A); DECLARE A BYTE; A = 1; END P; CALL P(1); END M;",
+            None,
+        ),
+        (
+            b"M: DO; DECLARE A BYTE; P: PROCEDURE (A); DECLARE A POINTER;\nA = 1; END P; ; END M;",
+            Some((0, 2, Number::E401)),
+        ),
+    ];
+    are_typed(&rt, rt.alloc(), ROWS);
+}
+
 #[test]
 fn shapes(rt: HostRuntime) {
     const ROWS: &[(&[u8], Outcome)] = &[

@@ -302,8 +302,9 @@ variable_notes f outer before frames (VariableOf n base) t s k none e =
     let r = region_of_variable frames n base t s k in
     let i = item.Variable (length r.1.variables) in
     let v = variable_in t n.place r.0 r.1 in
-    quiet_first (quiet_then (region_of_quiet frames n base t s k) (quiet_then (variable_quiet v r.1) (linked_quiet frames t.linkage (normal n.text) i (with_variable v r.1))))
-    (declared_notes f outer before frames n i _ none e)
+    let a = quiet_first (quiet_then (region_of_quiet frames n base t s k) (quiet_then (variable_quiet v r.1) (linked_quiet frames t.linkage (normal n.text) i (with_variable v r.1))))
+    (declared_notes f outer before frames n i _ none e) in
+    record { same_module = a.same_module; are_noted = a.are_noted; same_whole = a.same_whole }
 
 variables_note : (f : Frame) (outer : List Frame) (before : List NameT) (frames : List Frame) (vs : List VariableT) (t : Traits) (s : Site) (k : Known)
     → f.names ≡ [] → Enters f outer before frames → Notes (places_again before (names_of_variables vs)) k (declared_variables vs t s frames k).2

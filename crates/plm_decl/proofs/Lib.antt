@@ -12,6 +12,7 @@ pub mod Procedures
 pub mod Kept
 pub mod BlockNames
 pub mod Objects
+pub mod OwnNames
 pub mod Places
 pub mod Once
 pub mod DeclaredAgain

@@ -98,7 +98,7 @@ linked_same frames linkage.None name i k = record { variables = refl; objects = 
 linked_same frames linkage.Public name i k = unless_same (is_external frames) k _ (public_same name i (found_in name k.publics) k)
 linked_same frames linkage.External name i k = unless_same (is_external frames) k _ (record { variables = refl; objects = refl })
 
-external_stays : (name : List ℕ) (i : Item) (frames : List Frame) → is_external (with_name name i frames) ≡ is_external frames
+pub external_stays : (name : List ℕ) (i : Item) (frames : List Frame) → is_external (with_name name i frames) ≡ is_external frames
 external_stays name i [] = refl
 external_stays name i (frame ∷ outer) = refl
 
@@ -132,7 +132,8 @@ unfolding owned
 one_own n t frames k e =
     let is : own_region frames (normal n.text) (size_of_shape t.shape) k ≡ owned frames (normal n.text) (size_of_shape t.shape) k =
     ap (λ (b : Bool). cond b (region.Nowhere, k) (owned frames (normal n.text) (size_of_shape t.shape) k)) e in
-    subst (λ (r : Region × Known). OneMore k (variable_declared n t r frames).1) (sym is) (one_owned n t frames k)
+    let one = subst (λ (r : Region × Known). OneMore k (variable_declared n t r frames).1) (sym is) (one_owned n t frames k) in
+    record { object = one.object; regions = one.regions; objects = one.objects }
 
 pub own_objects : (vs : List VariableT) (t : Traits) (frames : List Frame) (k : Known)
     → is_external frames ≡ false → list_all has_no_base vs ≡ true

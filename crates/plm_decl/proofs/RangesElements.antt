@@ -26,7 +26,7 @@ use Rattle.plm_decl.specs.Uses.{used}
 use Rattle.plm_decl.specs.Resolved.{ReferenceR', Use, ExpressionsR, SelectorR}
 use Rattle.plm_decl.specs.Expressions.{reference}
 use Rattle.plm_decl.specs.Shape.{size_of_shape}
-use Rattle.plm_decl.specs.Elements.{site_after, site_within, has_shape, variable_site, site_of, location_site, at_site, first_site, based_region, base_for, with_screen_name, region_for, with_public, with_external, linked, declared, with_variable, variable_in, region_of_variable, variable_declared, declared_variable, declared_variables}
+use Rattle.plm_decl.specs.Elements.{site_after, site_within, has_shape, is_unplaced, unplaced_site, variable_site, site_of, location_site, at_site, first_site, based_region, base_for, with_screen_name, region_for, with_public, with_external, linked, declared, with_variable, variable_in, region_of_variable, variable_declared, declared_variable, declared_variables}
 use Rattle.plm_decl.specs.Ranges.{Counts, form_within, region_within, variable_within, binding_within}
 use Rattle.plm_decl.specs.Inner.Ranges.{Within, item_within}
 use Rattle.plm_decl.specs.Names.{ObjectR}
@@ -64,13 +64,19 @@ shaped_site : (c : Counts) (b : Bool) (s : Site) → site_is_within c s ≡ true
 shaped_site c true s h = h
 shaped_site c false s h = refl
 
-meant_site : (c : Counts) (v : Option Variable) (es : ExpressionsR) (s : SelectorR) (d : Option ℕ) → maybe (variable_within c) v ≡ true → site_is_within c (variable_site v es s d) ≡ true
-meant_site c None es s d h = refl
-meant_site c (Some v) es s d h =
-    shaped_site c (has_shape v es s) (site_within v.region d) (inside_within c v.region d (right (form_within c v.form) (region_within c v.region) h))
+placed_site : (c : Counts) (unplaced : Bool) (r : Region) (d : Option ℕ) → region_within c r ≡ true → site_is_within c (cond unplaced (unplaced_site d) (site_within r d)) ≡ true
+placed_site c true r None h = refl
+placed_site c true r (Some d) h = refl
+placed_site c false r d h = inside_within c r d h
+
+meant_site : (c : Counts) (unplaced : Bool) (v : Option Variable) (es : ExpressionsR) (s : SelectorR) (d : Option ℕ)
+    → maybe (variable_within c) v ≡ true → site_is_within c (variable_site unplaced v es s d) ≡ true
+meant_site c unplaced None es s d h = refl
+meant_site c unplaced (Some v) es s d h =
+    shaped_site c (has_shape v es s) (cond unplaced (unplaced_site d) (site_within v.region d)) (placed_site c unplaced v.region d (right (form_within c v.form) (region_within c v.region) h))
 
 site_of_within : (c : Counts) (k : Known) (x : ReferenceR') → Within c k → site_is_within c (site_of k x) ≡ true
-site_of_within c k (Use p (binding.Variable n) es s) w = meant_site c (slice_get k.variables n) es s _ (got (variable_within c) k.variables n w.0)
+site_of_within c k (Use p (binding.Variable n) es s) w = meant_site c (is_unplaced k n) (slice_get k.variables n) es s _ (got (variable_within c) k.variables n w.0)
 site_of_within c k (Use p (binding.Procedure q) es s) w = refl
 site_of_within c k (Use p (binding.Builtin b) es s) w = refl
 site_of_within c k (Use p binding.Nothing es s) w = refl

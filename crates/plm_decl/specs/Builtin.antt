@@ -1,4 +1,4 @@
--- The built-in procedures.
+-- The names of the built-in procedures, which are not reserved: a declared name of the same spelling hides one.
 use Rattle.std.specs.Prelude.{ℕ, List, [], ◌∷◌, find, bytes_eq, codes, Option}
 use Rattle.plm_decl.specs.declared.builtin.Builtin.{Builtin}
 use Rattle.plm_decl.specs.declared.builtin.Builtin.TheVariants.{Length, Last, Size, Low, High, Double, ShiftLeft, ShiftRight, RotateLeft, RotateRight, Input, InputWord, Output, OutputWord}

@@ -1,6 +1,7 @@
 -- Declarations of variables.
-use Rattle.std.specs.Prelude.{ℕ, ◌+◌, ◌*◌, ◌-◌, List, [], ◌∷◌, ◌++◌, length, slice_get, Bool, true, false, not, cond, ◌&&◌, ◌||◌, nat_le, is_some, Option, Some, None}
+use Rattle.std.specs.Prelude.{ℕ, ◌+◌, ◌*◌, ◌-◌, List, [], ◌∷◌, ◌++◌, length, slice_get, Bool, true, false, not, cond, ◌&&◌, ◌||◌, nat_eq, nat_le, is_some, Option, Some, None}
 use Rattle.plm_decl.specs.Lists.{bind}
+use Rattle.std.specs.List.{list_any}
 use Rattle.std.specs.Option.{option_map_or}
 use Rattle.word86.specs.declared.number.Number.{Number}
 use Rattle.word86.specs.declared.number.Number.TheVariants.{E302, E303, E304, E307}
@@ -101,14 +102,24 @@ takes_member (form.Structure n) (member_at p (Some m) e) = is_some m.dimension
 abbrev pub has_shape : Variable → ExpressionsR → SelectorR → Bool
 has_shape v es s = takes_subscripts v.dimension es && takes_member v.form s
 
-abbrev pub variable_site : Option Variable → ExpressionsR → SelectorR → Option ℕ → Site
-variable_site None es s d = site.Outside
-variable_site (Some v) es s d = cond (has_shape v es s) (site_within v.region d) site.Nowhere
+-- whether AT of this variable names no place
+abbrev pub is_unplaced : Known → ℕ → Bool
+is_unplaced k n = list_any (λ m. nat_eq m n) k.unplaced
+
+-- in a variable whose AT names no place there is none either, as far as subscripts are numbers
+abbrev pub unplaced_site : Option ℕ → Site
+unplaced_site (Some d) = site.Nowhere
+unplaced_site None = site.Outside
+
+abbrev pub variable_site : Bool → Option Variable → ExpressionsR → SelectorR → Option ℕ → Site
+variable_site unplaced None es s d = site.Outside
+variable_site unplaced (Some v) es s d = cond (has_shape v es s) (cond unplaced (unplaced_site d) (site_within v.region d)) site.Nowhere
 
 -- AT a variable: into the RAM object in which it lies, if it is not based and not EXTERNAL, and subscripts are numbers.
--- A reference that names nothing, or is not of its variable's shape, is a fault of its own and places nothing.
+-- A reference that names nothing, or is not of its variable's shape, is a fault of its own and places nothing; nor does a
+-- reference to a variable that is placed so.
 abbrev pub site_of : Known → ReferenceR' → Site
-site_of k (Use p (binding.Variable n) es s) = variable_site (slice_get k.variables n) es s (distance k (Use p (binding.Variable n) es s))
+site_of k (Use p (binding.Variable n) es s) = variable_site (is_unplaced k n) (slice_get k.variables n) es s (distance k (Use p (binding.Variable n) es s))
 site_of k (Use p (binding.Procedure q) es s) = site.Outside
 site_of k (Use p (binding.Builtin b) es s) = site.Outside
 site_of k (Use p binding.Nothing es s) = site.Nowhere
@@ -238,8 +249,26 @@ variable_declared n t r frames =
     let i = item.Variable (length r.1.variables) in
     declared n i frames (linked frames t.linkage (normal n.text) i (with_variable (variable_in t n.place r.0 r.1) r.1))
 
+abbrev pub is_nowhere : Site → Bool
+is_nowhere site.Own = false
+is_nowhere (site.Ram object offset) = false
+is_nowhere (site.Screen offset) = false
+is_nowhere site.Nowhere = true
+is_nowhere site.Outside = false
+
+-- an EXTERNAL name goes nowhere too, without AT
+abbrev pub names_no_place : Linkage → Site → Bool
+names_no_place linkage.None s = is_nowhere s
+names_no_place linkage.Public s = is_nowhere s
+names_no_place linkage.External s = false
+
+abbrev pub with_unplaced : Bool → ℕ → Known → Known
+with_unplaced unplaced n k = record k { unplaced = cond unplaced (k.unplaced ++ n ∷ []) k.unplaced }
+
 abbrev pub declared_variable : VariableT → Traits → Site → List Frame → Known → List Frame × Known
-declared_variable (VariableOf n base) t s frames k = variable_declared n t (region_of_variable frames n base t s k) frames
+declared_variable (VariableOf n base) t s frames k =
+    let r = variable_declared n t (region_of_variable frames n base t s k) frames in
+    (r.0, with_unplaced (names_no_place t.linkage s) (length k.variables) r.1)
 
 -- the names of an element, one after another, and where the next would go
 abbrev pub declared_variables : List VariableT → Traits → Site → List Frame → Known → Site × List Frame × Known

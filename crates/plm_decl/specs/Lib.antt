@@ -24,6 +24,7 @@ pub mod Values
 pub mod Ranges
 pub mod BlockNames
 pub mod DeclaredAgain
+pub mod OwnNames
 pub mod Laws
 pub mod Regions
 pub mod Inner

@@ -27,6 +27,8 @@ pub record Known : Type 0 where
   pub locations : List DeclaredLocationR
   pub publics : Entries
   pub externals : List ExternalR
+  -- the variables, by number, whose AT names no place
+  pub unplaced : List ℕ
   pub mains : List MainR
   -- the faults of declarations and names, and those of the whole program
   pub faults : List Found
@@ -45,6 +47,7 @@ nothing_known = record {
   locations = [];
   publics = [];
   externals = [];
+  unplaced = [];
   mains = [];
   faults = [];
   whole = [];

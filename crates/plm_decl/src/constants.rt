@@ -1,12 +1,13 @@
 //! Constant bytes in expressions and values.
 
-ghost use Rattle.std.specs.Prelude.{◌≡◌, ◌++◌, IfOk, OnOk, map, length};
+ghost use Rattle.std.specs.Prelude.{◌≡◌, ◌++◌, IfOk, OnOk, map};
 ghost use Rattle.plm_token.specs.Strings.{string_characters};
 ghost use Rattle.plm_syntax.specs.View.{value_of};
 ghost use Rattle.plm_decl.specs.declared.names.Datum.TheVariants as datum;
 ghost use Rattle.plm_decl.specs.Inner.Scope.{frames_of};
 ghost use Rattle.plm_decl.specs.Inner.Resolver.{known_of};
-ghost use Rattle.plm_decl.specs.Expressions.{is_constant, constant_data, all_constant_data, are_constants, with_constants, constant_bytes};
+ghost use Rattle.plm_decl.specs.Expressions.{is_constant, constant_data, all_constant_data, are_constants, constant_bytes};
+ghost use Rattle.plm_decl.specs.Inner.Expressions.{constants_put};
 
 use crate::datum::number_datum;
 use crate::layout::ScalarType;
@@ -69,8 +70,7 @@ impl Resolver {
 
     /// Makes an object of these bytes, and answers its number.
     fn put_constants(&mut self, scope: &Scope<'_>, bytes: Vec<Datum>) -> Result<usize, AllocError>
-        ensures object { IfOk result (λ o. o ≡ length (known_of self.old).objects) }
-        ensures known { OnOk result (known_of self.new ≡ with_constants (frames_of scope.now) bytes.items (known_of self.old)) }
+        ensures { IfOk result (λ o. (o, known_of self.new) ≡ constants_put (frames_of scope.now) bytes.items (known_of self.old)) }
     {
         self.constants = next(self.constants);
         let path = constants_path(self.alloc, scope.path(), self.constants)?;

@@ -1,18 +1,14 @@
 //! Declarations of variables.
 
-ghost use Rattle.std.specs.Prelude.{◌≡◌, ◌+◌, ◌*◌, IfOk, OnOk, map, length};
+ghost use Rattle.std.specs.Prelude.{◌≡◌, ◌+◌, ◌*◌, IfOk, OnOk, Some, map};
 ghost use Rattle.plm_syntax.specs.View.{name_of, base_of, location_of, variable_of, declared_of, dimension_of, type_of, attributes_of, element_of, value_of};
-ghost use Rattle.word86.specs.declared.number.Number.TheVariants.{E302};
-ghost use Rattle.plm_decl.specs.declared.names.Item.TheVariants as item;
 ghost use Rattle.plm_decl.specs.Inner.Scope.{frames_of};
-ghost use Rattle.plm_decl.specs.Scope.{found_in, is_fresh, with_name};
+ghost use Rattle.plm_decl.specs.Scope.{found_in};
 ghost use Rattle.plm_decl.specs.Inner.Resolver.{known_of};
-ghost use Rattle.plm_decl.specs.Resolver.{note_unless};
 ghost use Rattle.plm_decl.specs.Regions.{size_at};
 ghost use Rattle.plm_decl.specs.ResolvedView as view;
-ghost use Rattle.plm_decl.specs.Shape.{size_of_shape};
 ghost use Rattle.plm_decl.specs.Elements as spec;
-ghost use Rattle.plm_decl.specs.Inner.Elements.{with_variables};
+ghost use Rattle.plm_decl.specs.Inner.Elements.{entered, variable_put, variable_then, with_variables};
 ghost use Rattle.plm_decl.specs.Fill as fills;
 ghost use Rattle.plm_decl.specs.Inner.Fill.{filling_of};
 
@@ -48,9 +44,9 @@ enum Site {
     Ram(usize, u64),
     /// Onto the screen, this many bytes after its first.
     Screen(u64),
-    /// It takes no bytes.
+    /// Nowhere: it is EXTERNAL, or the location of its AT is faulty itself.
     Nowhere,
-    /// AT names no such place.
+    /// AT names a place where no name may lie.
     Outside,
 }
 
@@ -269,6 +265,27 @@ fn site_within(region: Region, distance: Option<u64>) -> Site
     }
 }
 
+/// The place this many bytes after the first of a variable whose AT names no place: none either.
+fn unplaced_site(distance: Option<u64>) -> Site
+    ensures { result ≡ spec.unplaced_site distance }
+{
+    match distance {
+        Some(_) => Site::Nowhere,
+        None => Site::Outside,
+    }
+}
+
+/// Whether AT of a name of this linkage names no place. An EXTERNAL name goes nowhere too, without AT.
+fn names_no_place(linkage: Linkage, site: Site) -> bool
+    ensures { result ≡ spec.names_no_place linkage site }
+{
+    match (linkage, site) {
+        (Linkage::External, _) => false,
+        (_, Site::Nowhere) => true,
+        _ => false,
+    }
+}
+
 impl Resolver {
     /// How many bytes after the first of its variable a reference lies, where its subscripts are numbers.
     pub fn distance(&self, reference: &Reference) -> Option<u64>
@@ -283,16 +300,35 @@ impl Resolver {
         Some(element.saturating_mul(stride).saturating_add(inside))
     }
 
-    /// The place in a RAM object that a location names. One that is faulty itself (E301, or E401 for its shape) places nothing.
+    /// Whether AT of this variable names no place.
+    fn is_unplaced(&self, variable: usize) -> bool
+        ensures { result ≡ spec.is_unplaced (known_of self.now) variable }
+    {
+        self.unplaced.contains(&variable)
+    }
+
+    /// The place in a RAM object that a location of this variable names.
+    fn variable_site(&self, number: usize, variable: &Variable, reference: &Reference) -> Site
+        ensures { result ≡ spec.variable_site (spec.is_unplaced (known_of self.now) number) (Some variable.now) (view.expressions_of reference.now.subscripts.items) (view.selector_of reference.now.selector) (spec.distance (known_of self.now) (view.reference_of reference.now)) }
+    {
+        let distance = self.distance(reference);
+        if !has_shape(variable, &reference.subscripts, &reference.selector) {
+            Site::Nowhere
+        } else if self.is_unplaced(number) {
+            unplaced_site(distance)
+        } else {
+            site_within(variable.region, distance)
+        }
+    }
+
+    /// The place in a RAM object that a location names. One that is faulty itself (E301, or E401 for its shape) places
+    /// nothing, and so does one in a variable that such a location placed nowhere.
     fn site_of(&self, reference: &Reference) -> Site
         ensures { result ≡ spec.site_of (known_of self.now) (view.reference_of reference.now) }
     {
         match reference.binding {
             Binding::Variable(number) => match self.variables.get(number) {
-                Some(variable)
-                    if !has_shape(variable, &reference.subscripts, &reference.selector) =>
-                    Site::Nowhere,
-                Some(variable) => site_within(variable.region, self.distance(reference)),
+                Some(variable) => self.variable_site(number, variable, reference),
                 None => Site::Outside,
             },
             Binding::Procedure(_) | Binding::Builtin(_) => Site::Outside,
@@ -544,8 +580,7 @@ impl Resolver {
         linkage: Linkage,
         item: Item,
     ) -> Result<(), AllocError>
-        ensures names { OnOk result (frames_of scope.new ≡ with_name name.items item (frames_of scope.old)) }
-        ensures known { OnOk result (known_of self.new ≡ note_unless (is_fresh name.items (frames_of scope.old)) E302 place (spec.linked (frames_of scope.old) linkage name.items item (known_of self.old))) }
+        ensures { OnOk result ((frames_of scope.new, known_of self.new) ≡ entered place name.items linkage item (frames_of scope.old) (known_of self.old)) }
     {
         self.link(scope, linkage, &name, item)?;
         let is_fresh = scope.declare(name, item)?;
@@ -576,8 +611,7 @@ impl Resolver {
         traits: Traits,
         region: Region,
     ) -> Result<Item, AllocError>
-        ensures item { IfOk result (λ i. i ≡ item.Variable (length (known_of self.old).variables)) }
-        ensures known { OnOk result (known_of self.new ≡ spec.with_variable (spec.variable_in traits place region (known_of self.old)) (known_of self.old)) }
+        ensures { IfOk result (λ i. (i, known_of self.new) ≡ variable_put traits place region (known_of self.old)) }
     {
         let item = Item::Variable(self.variables.len());
         let Shape {
@@ -597,6 +631,16 @@ impl Resolver {
         Ok(item)
     }
 
+    /// Keeps that AT of the variable of this number names no place, where it does.
+    fn put_unplaced(&mut self, unplaced: bool, variable: usize) -> Result<(), AllocError>
+        ensures { OnOk result (known_of self.new ≡ spec.with_unplaced unplaced variable (known_of self.old)) }
+    {
+        if unplaced {
+            self.unplaced.push(variable)?;
+        }
+        Ok(())
+    }
+
     /// Declares a variable, and answers where the next name goes.
     fn variable(
         &mut self,
@@ -605,14 +649,15 @@ impl Resolver {
         traits: Traits,
         site: Site,
     ) -> Result<Site, AllocError>
-        ensures site { IfOk result (λ s. s ≡ spec.site_after site (size_of_shape traits.shape)) }
-        ensures known { OnOk result ((frames_of scope.new, known_of self.new) ≡ spec.declared_variable (variable_of variable.now) traits site (frames_of scope.old) (known_of self.old)) }
+        ensures { IfOk result (λ s. (s, frames_of scope.new, known_of self.new) ≡ variable_then (variable_of variable.now) traits site (frames_of scope.old) (known_of self.old)) }
     {
         let place = variable.name.place;
+        let number = self.variables.len();
         let key = normal(self.alloc, variable.name.text)?;
         let region = self.variable_region(scope, variable, &key, traits, site)?;
         let item = self.put_variable(place, traits, region)?;
         self.enter(scope, place, key, traits.linkage, item)?;
+        self.put_unplaced(names_no_place(traits.linkage, site), number)?;
         Ok(site.after(traits.shape.size()))
     }
 

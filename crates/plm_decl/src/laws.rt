@@ -1,6 +1,7 @@
 //! Laws that tie what is read step by step to the tree of a block. They compute nothing.
 
 ghost use Rattle.plm_decl.specs.Laws.{ConstantsFill, DeclaredIsFound, DeclaresOnce, HaveOwnObjects, InitialBytesFit, InitialValuesFit, InnermostMeans, ListsOnce, MembersOnce, NothingElseTwice, StandsInside, StandsOutside};
+ghost use Rattle.plm_decl.specs.OwnNames.{OwnNamesHaveObjects};
 
 /// The law of second declarations: after some items of a block, some elements of a DECLARE and some names of an element, the
 /// next name that is declared there is a fault (E302) exactly where one of those before it has its normal form. The same
@@ -29,9 +30,11 @@ pub fn constants_fill_their_object()
 {}
 
 /// The law of own objects: names of an element without AT, that are not based and stand in no EXTERNAL procedure, have one
-/// object each, in their order. These are new ones, after all that there were, so no two such names have one object.
+/// object each, in their order. These are new ones, after all that there were. So all through a program such names, where
+/// they are not EXTERNAL themselves, have objects whose numbers rise: no two of them have one object.
 pub fn names_have_own_objects()
-    ensures { HaveOwnObjects }
+    ensures element { HaveOwnObjects }
+    ensures program { OwnNamesHaveObjects }
 {}
 
 /// The law of initial values: in modules whose objects have room in RAM, the initial values of each object have room in it. So

@@ -41,6 +41,7 @@ impl Resolver {
             locations: Vec::new(alloc),
             publics: Table::new(alloc),
             externals: Vec::new(alloc),
+            unplaced: Vec::new(alloc),
             mains: Vec::new(alloc),
             faults: Vec::new(alloc),
             whole: Vec::new(alloc),

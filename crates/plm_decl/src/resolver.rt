@@ -36,6 +36,8 @@ pub struct Resolver {
     pub locations: Vec<DeclaredLocation>,
     pub publics: Table,
     pub externals: Vec<External>,
+    /// The variables, by number, whose AT names no place.
+    pub unplaced: Vec<usize>,
     pub mains: Vec<Main>,
     /// The faults of declarations and names, and those of the whole program.
     pub faults: Vec<Found>,

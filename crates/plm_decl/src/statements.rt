@@ -15,7 +15,7 @@ ghost use Rattle.plm_decl.specs.Layout.{scalar_of};
 ghost use Rattle.plm_decl.specs.Resolved as resolved;
 ghost use Rattle.plm_decl.specs.ResolvedView as view;
 ghost use Rattle.plm_decl.specs.Statements as spec;
-ghost use Rattle.plm_decl.specs.Inner.Statements.{header_for, procedure_declared, finished, bounds_of, bounds_for, iterated, with_alternative};
+ghost use Rattle.plm_decl.specs.Inner.Statements.{procedure_put, procedure_declared, parameter_listed, finished, bounds_of, bounds_for, iterated, with_alternative};
 
 use crate::found::Found;
 use crate::layout::{Form, ScalarType};
@@ -444,8 +444,7 @@ impl Resolver {
         resolver: &mut Resolver,
         path: Vec<u8>,
     ) -> Result<usize, AllocError>
-        ensures number { IfOk result (λ n. n ≡ length (known_of resolver.old).procedures) }
-        ensures known { OnOk result (known_of resolver.new ≡ spec.with_header (header_for path.items procedure.now (known_of resolver.old)) (known_of resolver.old)) }
+        ensures { IfOk result (λ n. (n, known_of resolver.new) ≡ procedure_put path.items procedure.now (known_of resolver.old)) }
     {
         let SyntaxProcedure {
             name,
@@ -478,8 +477,7 @@ impl Resolver {
         scope: &mut Scope<'_>,
         procedure: &SyntaxProcedure<'_>,
     ) -> Result<usize, AllocError>
-        ensures number { IfOk result (λ n. n ≡ length (known_of self.old).procedures) }
-        ensures known { OnOk result ((frames_of scope.new, known_of self.new) ≡ procedure_declared (frames_of scope.old) procedure.now (known_of self.old)) }
+        ensures { IfOk result (λ n. (n, frames_of scope.new, known_of self.new) ≡ procedure_declared (frames_of scope.old) procedure.now (known_of self.old)) }
     {
         let SyntaxProcedure { name, linkage, .. } = procedure;
         let path = self.path_of(scope, name)?;
@@ -513,8 +511,7 @@ impl Resolver {
         listed: &mut Table,
         parameters: &mut Vec<usize>,
     ) -> Result<(), AllocError>
-        ensures listed { OnOk result (entries_of listed.new ≡ spec.with_parameter (name_of name.now) (entries_of listed.old)) }
-        ensures known { OnOk result ((parameters.new.items, known_of self.new) ≡ spec.parameter_for (frames_of inside.now) (entries_of listed.old) parameters.old.items (name_of name.now) (known_of self.old)) }
+        ensures { OnOk result ((entries_of listed.new, parameters.new.items, known_of self.new) ≡ parameter_listed (frames_of inside.now) (entries_of listed.old) parameters.old.items (name_of name.now) (known_of self.old)) }
     {
         let key = normal(self.alloc, name.text)?;
         let declared = inside.here(&key);

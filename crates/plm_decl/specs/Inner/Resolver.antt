@@ -23,6 +23,7 @@ known_of r = record {
   locations = map declared_location_of r.locations.items;
   publics = entries_of r.publics;
   externals = map external_of r.externals.items;
+  unplaced = r.unplaced.items;
   mains = map main_of r.mains.items;
   faults = r.faults.items;
   whole = r.whole.items;

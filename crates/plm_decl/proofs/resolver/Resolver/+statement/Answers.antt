@@ -15,7 +15,7 @@ use Rattle.plm_decl.specs.Scope.{Frame, frame, path_in, is_external}
 use Rattle.plm_decl.specs.Inner.Scope.{frames_of}
 use Rattle.plm_decl.specs.Spelling.{name_after}
 use Rattle.plm_decl.specs.Stray.{is_external_linkage}
-use Rattle.plm_decl.specs.Inner.Statements.{header_for, procedure_declared, finished, bounds_of, bounds_for, iterated, with_alternative}
+use Rattle.plm_decl.specs.Inner.Statements.{name_for, header_for, finished, bounds_of, bounds_for, iterated, with_alternative}
 use Rattle.plm_token.specs.Names.{normal}
 use Rattle.plm_decl.specs.Resolver.{Known}
 use Rattle.plm_decl.specs.Inner.Resolver.{known_of}
@@ -220,7 +220,7 @@ in_order into read finish number n begun at inside done e0 e1 e2 e3 =
 
 -- a procedure's name and header, by its parts
 declared_is : (frames : List Frame) (p : Procedure) (k : Known)
-    → procedure_declared frames p k
+    → declared_procedure frames (name_for p) (header_for (name_after (path_in frames) (normal (name_for p).text)) p k) k
     ≡ declared_procedure frames (tree.name_of (out-Procedure p).name) (header_laid (name_after (path_in frames) (normal (tree.name_of (out-Procedure p).name).text)) p k) k
 declared_is frames p k =
     let n = tree.name_of (out-Procedure p).name in
@@ -237,7 +237,7 @@ procedure-returns t c =
     let ns = map tree.name_of o.parameters.items in
     let path = name_after (path_in frames) (normal n.text) in
     let header = c.in_ok-number.ensures in
-    let begun = header.known ∙ declared_is frames p k in
+    let begun = (λ j. ((header j).1, (header j).2)) ∙ declared_is frames p k in
     let external = is_external_linkage o.linkage || is_external frames in
     let outer = frames_of c.header.new.scope in
     let behind = frames_of c.block.new.scope in
@@ -249,7 +249,7 @@ procedure-returns t c =
     (λ (i : ℕ) (l : List Frame) (ss : StatementsR) (x : Known). finished i l ns ss x)
     c.in_ok-number.number (length k.procedures) (outer, known_of c.header.new.self) (declared_procedure frames n (header_laid path p k) k)
     (frames_of c.inside-inside.result) (body, behind, q)
-    header.number begun
+    (λ j. (header j).0) begun
     (c.inside-inside.ensures ∙ (λ j. frame (c.in_ok-path.ensures j) (c.takes_no_room-is_external.ensures j) ∷ outer))
     c.in_ok-body.ensures
     ∙ procedure_read_is frames p k in
