@@ -1,4 +1,4 @@
-//! What stands behind DECLARE: elements, variables, types and attributes; and lists of names, of parameters too.
+//! What stands after DECLARE: elements, variables, types and attributes; and lists of names, of parameters too.
 
 ghost use Rattle.std.specs.Prelude.{◌≡◌, ◌∷◌, ◌++◌, [], ℕ, Bool, false, None};
 ghost use Rattle.plm_syntax.specs.Terminal.{NameT};
