@@ -5,7 +5,7 @@ use Rattle.std.proofs.lemmas.Bool.Decides.{nat_tests}
 use Rattle.std.proofs.Math.Nat.{mod-mod}
 use Rattle.pit8253.specs.declared.mode.Waveform.{Waveform}
 use Rattle.pit8253.specs.declared.calls.Call.TheVariants as call
-use Rattle.pit8253.specs.declared.calls.Reply.TheVariants.{Byte, Level}
+use Rattle.pit8253.specs.declared.calls.Reply.TheVariants.{Byte, Signal}
 use Rattle.pit8253.specs.Progress.{Progress, Still, Once, Again, Alike, SamePhase, SameOnce, next_of}
 use Rattle.pit8253.specs.Timer.{Counter, Timer, AlikeCounters, AlikeTimers, rose, timer_written, timer_read, timer_answer, timer_gated, timer_out, timer_pulses}
 use Rattle.pit8253.specs.Calls.{NoCallTells}
@@ -122,7 +122,7 @@ pulses_times law j = times (timer_pulses j) (law.kept (call.Pulse j))
 same_byte : (m n : ℕ) → Byte m ≡ Byte n → m ≡ n
 same_byte m n e = cc
 
-same_level : (m n : Bool) → Level m ≡ Level n → m ≡ n
+same_level : (m n : Bool) → Signal m ≡ Signal n → m ≡ n
 same_level m n e = cc
 
 pub out_same : NoCallTells → (n : ℕ) (t : Timer) → timer_out n t ≡ timer_out n (settled_timer t)
