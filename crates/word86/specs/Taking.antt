@@ -23,7 +23,7 @@ Writes old new before after text r = MatchResult r
     (λ _. Appends old new text × (after ≡ before))
     (λ _. Cut old new text × Rises before after)
 
--- how many of these bytes a sink with this room takes at a time, which has taken so much and takes no more than `step` in a call
+-- how many of these bytes one call takes: the sink has `room` bytes of room, has taken `taken`, and takes at most `step` in a call
 abbrev pub portion : (room step taken : ℕ) → List ℕ → ℕ
 portion room step taken bytes = min (min (length bytes) step) (room - taken)
 
