@@ -1,6 +1,5 @@
 //! The parts of a program, and of its sections: the bytes are from the manual's table.
 
-use crate::expect::Expect;
 use crate::lowering::program_of;
 use icode::Code;
 use lower::lower;
@@ -34,7 +33,6 @@ pub(crate) fn section_of(alloc: Global, code: &Code, section: usize) -> Result<V
 /// serves a vector saves AX where it changes that, and nothing else. Main is used up at once, and halts.
 #[test]
 fn sections_are_in_order(rt: HostRuntime) -> Result<(), Fail> {
-    let mut expect = Expect::new(&rt);
     let alloc = rt.alloc();
     let code = two_modules(alloc)?;
     // PUSH AX; MOV AX,5; OUT 0E0H,AL; POP AX; IRET
@@ -42,17 +40,17 @@ fn sections_are_in_order(rt: HostRuntime) -> Result<(), Fail> {
     // STI; HLT; JMP back
     let main = [0xFB, 0xF4, 0xEB, 0xFC];
     let parts = select(alloc, &code)?;
-    expect.same(parts.len(), 4);
-    expect.holds(is_part(&parts[0], Entry::Vector(8), &handler));
-    expect.holds(is_part(&parts[1], Entry::Vector(9), &[0xCF]));
-    expect.holds(is_part(&parts[2], Entry::Main, &main));
-    expect.holds(is_part(&parts[3], Entry::Unserved, &[0xCF]));
+    assert_eq!(rt; parts.len(), 4);
+    assert!(rt; is_part(&parts[0], Entry::Vector(8), &handler));
+    assert!(rt; is_part(&parts[1], Entry::Vector(9), &[0xCF]));
+    assert!(rt; is_part(&parts[2], Entry::Main, &main));
+    assert!(rt; is_part(&parts[3], Entry::Unserved, &[0xCF]));
     let first = section_of(alloc, &code, 0)?;
-    expect.same(first.len(), 2);
-    expect.holds(is_part(&first[0], Entry::Vector(8), &handler));
-    expect.holds(is_part(&first[1], Entry::Vector(9), &[0xCF]));
+    assert_eq!(rt; first.len(), 2);
+    assert!(rt; is_part(&first[0], Entry::Vector(8), &handler));
+    assert!(rt; is_part(&first[1], Entry::Vector(9), &[0xCF]));
     let second = section_of(alloc, &code, 1)?;
-    expect.same(second.len(), 1);
-    expect.holds(is_part(&second[0], Entry::Main, &main));
+    assert_eq!(rt; second.len(), 1);
+    assert!(rt; is_part(&second[0], Entry::Main, &main));
     Ok(())
 }

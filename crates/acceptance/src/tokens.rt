@@ -374,13 +374,12 @@ fn long_sources(rt: HostRuntime) -> Result<(), Fault> {
 
 #[test]
 fn literals(rt: HostRuntime) -> Result<(), Fault> {
-    let mut expect = Expect::new(&rt);
     let alloc = rt.alloc();
     let tokens = scan_literal(alloc, b"WHILE /* it''s */ 1", 7)?;
-    expect.same(tokens.len(), 2);
-    expect.holds(is(&tokens[0], Kind::Reserved(Keyword::While), b"WHILE"));
-    expect.holds(is(&tokens[1], Kind::Numeral(1), b"1"));
-    expect.holds(scan_literal(alloc, b"", 1)?.is_empty());
+    assert_eq!(rt; tokens.len(), 2);
+    assert!(rt; is(&tokens[0], Kind::Reserved(Keyword::While), b"WHILE"));
+    assert!(rt; is(&tokens[1], Kind::Numeral(1), b"1"));
+    assert!(rt; scan_literal(alloc, b"", 1)?.is_empty());
     Ok(())
 }
 
