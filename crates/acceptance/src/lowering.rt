@@ -3,7 +3,7 @@
 
 use crate::expect::Expect;
 use crate::meaning::{run, run_of};
-use icode::{Code, Instruction, Layout, Machine, Routine, Step, Stop};
+use icode::{Code, Instruction, Machine, RamObjects, Routine, Step, Stop};
 use lower::lower;
 use plm_decl::{Datum, Names, Placement, resolve};
 use plm_syntax::parse;
@@ -122,13 +122,13 @@ fn accesses_of(
     for object in &names.objects {
         sizes.push(object.size)?;
     }
-    let layout = Layout {
+    let ram_objects = RamObjects {
         offsets,
         sizes: &sizes,
     };
     let mut store = first_store(alloc, names)?;
     let mut accesses = Vec::new(alloc);
-    let mut machine = Machine::new(alloc, code, layout);
+    let mut machine = Machine::new(alloc, code, ram_objects);
     let mut halted: u32 = 0;
     for _ in 0..4000u32 {
         let access = machine.access();

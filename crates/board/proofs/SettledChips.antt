@@ -17,7 +17,7 @@ use Rattle.ppi_kbd.specs.declared.ports.Ports.{Ports}
 use Rattle.ppi_kbd.specs.Device.{device_of}
 use Rattle.ppi_kbd.specs.Interface as ppi
 use Rattle.ppi_kbd.specs.Keyboard as keys
-use Rattle.ppi_kbd.specs.Chips.{ChipState, raised, retimed, typed, driven, clear_line, device_value, device_read, device_written, next_port, value, reading, writing, comes, acknowledged, byte_value}
+use Rattle.ppi_kbd.specs.Chips.{ChipState, raised, retimed, typed, driven, clear_line, device_value, device_read, device_written, next_port, value, reading, writing, occurs, acknowledged, byte_value}
 use Rattle.ppi_kbd.specs.Ports.{Shows}
 use Rattle.board.specs.Inner.Settled.{settled_timer, settled, chips_of}
 use Rattle.board.proofs.Settling.{timer_same, timer_alike, timer_settled, written_times, read_times, gated_times, pulses_times, out_same, answer_same, rose_settled}
@@ -95,11 +95,11 @@ port_value_same law Word port c =
 
 -- ---- events and acknowledgements
 
-pub comes_settles : NoCallTells → (e : Event) → Settles (comes e)
-comes_settles law (Tick j) c =
+pub occurs_settles : NoCallTells → (e : Event) → Settles (occurs e)
+occurs_settles law (Tick j) c =
     ap (chips_at c (raised (pit.rose j c.timer.zero) 0 c.interrupts) c.interface c.keyboard) (pulses_times law j c.timer)
     ∙ ap (λ b. chips_at c (raised b 0 c.interrupts) c.interface c.keyboard (settled_timer (pit.timer_pulses j (settled_timer c.timer)))) (rose_settled law j c.timer)
-comes_settles law (Key code) c = settled_twice (typed (clear_line c) (keys.pressed code c.keyboard) c)
+occurs_settles law (Key code) c = settled_twice (typed (clear_line c) (keys.pressed code c.keyboard) c)
 
 pub acknowledged_settles : Settles acknowledged
 acknowledged_settles c = settled_twice (acknowledged c)

@@ -4,10 +4,10 @@ use Rattle.std.specs.Prelude.{map}
 use Rattle.std.proofs.KnownBytes.{Appends-trans, Appends-nil}
 use Rattle.word86.specs.declared.label.Label.{Label}
 use Rattle.word86.specs.declared.event.Event.{Event}
-use Rattle.word86.specs.Events.{event_label}
+use Rattle.word86.specs.Event.{event_label}
 use Rattle.listing_map.specs.Lines.{label_line}
 use Rattle.board.specs.Trace.{lines}
-use Rattle.word86.specs.Taking.{Appends, Cut, Rises, Writes}
+use Rattle.word86.specs.Sink.{Appends, Cut, Rises, Writes}
 
 -- a beginning of the first text is one of both
 pub cut_longer : (a b : Option (List ℕ)) (s t : List ℕ) → Cut a b s → Cut a b (s ++ t)

@@ -62,14 +62,14 @@ module _ {P : Type 0} (c : Chips P) where
     port_value = λ w width port. c.value w.chips width port;
     port_in = λ w width port. with_chips_of w (c.reading w.chips width port);
     port_out = λ w width port value. with_chips_of w (c.writing w.chips width port value);
-    line = λ w. c.line w.chips;
+    int_line = λ w. c.int_line w.chips;
     vector = λ w. c.vector w.chips;
     acknowledge = λ w. with_chips_of w (c.acknowledge w.chips);
   }
 
   -- an event reaches the chips alone
-  abbrev pub comes : Event → World P → World P
-  comes e w = with_chips_of w (c.comes e w.chips)
+  abbrev pub occurs : Event → World P → World P
+  occurs e w = with_chips_of w (c.occurs e w.chips)
 
 -- RAM and screen of their sizes, and this ROM
 pub record Whole {P : Type 0} (rom : List ℕ) (w : World P) : Type 0 where

@@ -3,11 +3,11 @@
 ghost use Rattle.std.specs.Prelude.{◌≡◌, ◌++◌, [], true, false, length, map, IfOk, IfErr, Err};
 ghost use Rattle.word86.specs.declared.fault.Fault.TheVariants.{Memory, At};
 ghost use Rattle.word86.specs.declared.number.Number.TheVariants.{E705};
-ghost use Rattle.word86.specs.Events.{event_label};
+ghost use Rattle.word86.specs.Event.{event_label};
 ghost use Rattle.ppi_kbd.specs.Chips.{ChipState, reset};
 ghost use Rattle.ppi_kbd.specs.BoardChips.{board_chips};
-ghost use Rattle.board.specs.World.{World, board_model, comes};
-ghost use Rattle.board.specs.Machine.{all_come, power_on as powered_on};
+ghost use Rattle.board.specs.World.{World, board_model, occurs};
+ghost use Rattle.board.specs.Machine.{all_occur, power_on as powered_on};
 ghost use Rattle.board.specs.Machine.{Board as State, turn, turn_kind};
 ghost use Rattle.board.specs.Rom.{is_rom_length};
 ghost use Rattle.board.specs.Inner.Settled.{settled_chips};
@@ -43,11 +43,11 @@ fn is_rom_length(length: usize) -> bool
 }
 
 #[inline(always)]
-fn all_come(attached: &mut Attached, events: &[Event])
-    ensures { world_of attached.new ≡ all_come (board_model settled_chips) (comes settled_chips) events.now (world_of attached.old) }
+fn all_occur(attached: &mut Attached, events: &[Event])
+    ensures { world_of attached.new ≡ all_occur (board_model settled_chips) (occurs settled_chips) events.now (world_of attached.old) }
 {
     for event in events {
-        chips::comes(&mut attached.ports, *event);
+        chips::occurs(&mut attached.ports, *event);
     }
 }
 
@@ -84,9 +84,9 @@ impl Board {
     ///
     /// The labels of the answer are the processor's; those of the events are the events handed in.
     pub fn turn(&mut self, events: &[Event]) -> Turn
-        ensures state { (b : State (World ChipState)) → Shows self.old b → Shows self.new (turn (board_model board_chips) (comes board_chips) events.now b).0 }
-        ensures labels { (b : State (World ChipState)) → Shows self.old b → map event_label events.now ++ result.labels.items ≡ (turn (board_model board_chips) (comes board_chips) events.now b).1 }
-        ensures kind { (b : State (World ChipState)) → Shows self.old b → result.kind ≡ turn_kind (board_model board_chips) (comes board_chips) events.now b }
+        ensures state { (b : State (World ChipState)) → Shows self.old b → Shows self.new (turn (board_model board_chips) (occurs board_chips) events.now b).0 }
+        ensures labels { (b : State (World ChipState)) → Shows self.old b → map event_label events.now ++ result.labels.items ≡ (turn (board_model board_chips) (occurs board_chips) events.now b).1 }
+        ensures kind { (b : State (World ChipState)) → Shows self.old b → result.kind ≡ turn_kind (board_model board_chips) (occurs board_chips) events.now b }
     {
         let mut labels = ArrayVec::new();
         let kind = self.turn_leaving_labels(events, &mut labels);
@@ -101,13 +101,13 @@ impl Board {
         labels: &mut ArrayVec<Label, 4>,
     ) -> Kind
         requires { labels.old.items ≡ [] }
-        ensures state { (b : State (World ChipState)) → Shows self.old b → Shows self.new (turn (board_model board_chips) (comes board_chips) events.now b).0 }
-        ensures labels { (b : State (World ChipState)) → Shows self.old b → map event_label events.now ++ labels.new.items ≡ (turn (board_model board_chips) (comes board_chips) events.now b).1 }
-        ensures kind { (b : State (World ChipState)) → Shows self.old b → result ≡ turn_kind (board_model board_chips) (comes board_chips) events.now b }
+        ensures state { (b : State (World ChipState)) → Shows self.old b → Shows self.new (turn (board_model board_chips) (occurs board_chips) events.now b).0 }
+        ensures labels { (b : State (World ChipState)) → Shows self.old b → map event_label events.now ++ labels.new.items ≡ (turn (board_model board_chips) (occurs board_chips) events.now b).1 }
+        ensures kind { (b : State (World ChipState)) → Shows self.old b → result ≡ turn_kind (board_model board_chips) (occurs board_chips) events.now b }
     {
         alike_law();
         let attached = &mut self.attached;
-        all_come(attached, events);
+        all_occur(attached, events);
         self.cpu
             .turn_leaving_labels(attached, &mut self.cache, labels)
     }

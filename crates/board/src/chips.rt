@@ -29,7 +29,7 @@ pub(crate) fn write_port(ports: &mut Ports, width: Width, port: u16, value: u16)
 
 /// Whether INT is up.
 pub(crate) fn int_line(ports: &Ports) -> bool
-    ensures { result ≡ settled_chips.line (chips_of ports.now) }
+    ensures { result ≡ settled_chips.int_line (chips_of ports.now) }
 {
     ports.int_line()
 }
@@ -47,8 +47,8 @@ pub(crate) fn acknowledge(ports: &mut Ports) -> u8
 }
 
 /// An event comes from outside.
-pub(crate) fn comes(ports: &mut Ports, event: Event)
-    ensures { chips_of ports.new ≡ settled_chips.comes event (chips_of ports.old) }
+pub(crate) fn occurs(ports: &mut Ports, event: Event)
+    ensures { chips_of ports.new ≡ settled_chips.occurs event (chips_of ports.old) }
 {
-    ports.comes(event);
+    ports.occurs(event);
 }

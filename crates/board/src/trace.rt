@@ -2,8 +2,8 @@
 
 ghost use Rattle.std.specs.Prelude.{◌≡◌, ◌++◌, map};
 ghost use Rattle.std.specs.List.{flat_map};
-ghost use Rattle.word86.specs.Taking.{Writes};
-ghost use Rattle.word86.specs.Events.{event_label};
+ghost use Rattle.word86.specs.Sink.{Writes};
+ghost use Rattle.word86.specs.Event.{event_label};
 ghost use Rattle.board.specs.Trace.{lines, closing};
 
 use cpu8086::Kind;

@@ -1,6 +1,6 @@
 pub mod BusModel
 pub mod Machine
-pub mod Operands
+pub mod Operand
 pub mod Control
 pub mod Arithmetic
 pub mod Moves

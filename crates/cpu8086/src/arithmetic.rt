@@ -5,7 +5,7 @@ ghost use Rattle.word86.specs.Access.{values};
 ghost use Rattle.i86_table.specs.Arithmetic.{is_comparison};
 ghost use Rattle.arrayvec.specs.ArrayVec.{array_vec_len};
 ghost use Rattle.cpu8086.specs.Machine.{machine};
-ghost use Rattle.cpu8086.specs.Operands.{bytes, located, in_memory, held};
+ghost use Rattle.cpu8086.specs.Operand.{bytes, located, in_memory, held};
 ghost use Rattle.cpu8086.specs.Arithmetic.{computed, computed_at, register_computed, register_changed, changed_in_place, tested_place, shift_count, shifted_place, multiplied_byte, multiplied_word, divided_byte, divided_word};
 
 use crate::bus::Bus;

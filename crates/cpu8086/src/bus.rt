@@ -90,7 +90,7 @@ pub trait Bus {
 
     /// Whether an interrupt is requested.
     fn int_line(&self) -> bool
-        ensures { result ≡ model.line (world self.now) };
+        ensures { result ≡ model.int_line (world self.now) };
 
     /// Acknowledges the interrupt that is requested, and answers its vector.
     fn acknowledge(&mut self) -> u8

@@ -1,7 +1,7 @@
 //! Instructions that change where the processor goes on.
 
 ghost use Rattle.std.specs.Prelude.{◌≡◌, ◌<◌, ◌≤◌};
-ghost use Rattle.i86_table.specs.Conditions.{holds};
+ghost use Rattle.i86_table.specs.Condition.{holds};
 ghost use Rattle.i86_table.specs.State.{with_ip};
 ghost use Rattle.arrayvec.specs.ArrayVec.{array_vec_len};
 ghost use Rattle.cpu8086.specs.Machine.{machine};

@@ -4,7 +4,7 @@ ghost use Rattle.std.specs.Prelude.{◌≡◌, ◌<◌, ◌≤◌, ◌+◌};
 ghost use Rattle.word86.specs.Access.{values};
 ghost use Rattle.arrayvec.specs.ArrayVec.{array_vec_len};
 ghost use Rattle.cpu8086.specs.Machine.{machine};
-ghost use Rattle.cpu8086.specs.Operands.{Bank, bytes, words, located, in_memory, held, put, source, mask};
+ghost use Rattle.cpu8086.specs.Operand.{Bank, bytes, words, located, in_memory, held, put, source, mask};
 
 use crate::bus::Bus;
 use crate::memory::{Labels, load, store};

@@ -5,8 +5,8 @@ use Rattle.std.proofs.lemmas.Option.{none-some}
 use Rattle.word86.specs.declared.width.Width.{Width}
 use Rattle.word86.specs.Access.{Access, Where}
 use Rattle.word86.specs.Action.{Action, Silent, Touch, Enable, Disable, Halt, Over, Bad}
-use Rattle.word86.specs.Operators.{unary_value, binary_value}
-use Rattle.word86.specs.Places.{bytes, held}
+use Rattle.word86.specs.Operation.{unary_value, binary_value}
+use Rattle.word86.specs.Place.{bytes, held}
 use Rattle.icode.specs.declared.instruction.Instruction.{Instruction}
 use Rattle.icode.specs.declared.instruction.Instruction.TheVariants as op
 use Rattle.icode.specs.declared.instruction.Test.{Test}
@@ -17,7 +17,7 @@ use Rattle.icode.specs.declared.code.Position.{Position}
 use Rattle.icode.specs.declared.code.Word.{Word}
 use Rattle.icode.specs.declared.code.Word.TheVariants.{Value, Return}
 use Rattle.icode.specs.Machine.{Context, At, is_odd, stands, address, found, operated, computed, value_in, value_on_top, with_value, loaded, stored, dropped, finished, switched, left, jumped, run, run_at, does}
-use Rattle.icode.specs.Levels.{popped, after, behind, height, target, IsLevelled}
+use Rattle.icode.specs.Heights.{popped, after, behind, height, target, HasHeights}
 use Rattle.icode.specs.Counted.{Calls, IsPath, words_along, IsDepth}
 use Rattle.icode.specs.Runs.{Leads, Comes}
 
@@ -53,7 +53,7 @@ height_next h (suc k) (y ∷ all) x e = height_next (after y h) k all x e
 pub next_height : (k : ℕ) (all : List Instruction) (x : Instruction) → slice_get all k ≡ Some x → height all (k + 1) ≡ after x (height all k)
 next_height k all x e = let one : k + 1 ≡ suc k = omega arith in ap (λ n. height all n) one ∙ height_next 0 k all x e
 
-module _ (offsets sizes : List ℕ) (code : Routine → List Instruction) (levelled : (r : Routine) → IsLevelled (code r)) (nowhere : code Nowhere ≡ []) (begin : Routine) (most : ℕ) (depth : IsDepth code begin most) where
+module _ (offsets sizes : List ℕ) (code : Routine → List Instruction) (has_heights : (r : Routine) → HasHeights (code r)) (nowhere : code Nowhere ≡ []) (begin : Routine) (most : ℕ) (depth : IsDepth code begin most) where
   -- k values of the routine that runs, and below them the words of those that called it
   abbrev pub Shape : ℕ → List Position → List Word → Type 0
   Shape zero [] [] = Unit {0}
@@ -155,7 +155,7 @@ module _ (offsets sizes : List ℕ) (code : Routine → List Instruction) (level
   switches : (o : Option Instruction) (r : Routine) (p b a : ℕ) (ps : List Position) (ws : List Word) → slice_get (code r) b ≡ o → p ≡ b + 1 → IsPath code begin ps r → Shape 0 ps ws → Each Ok (switched o r p a ws)
   switches (Some (op.Case m)) r p b a ps ws e ep path h =
       let e' : p + m ≡ b + 1 + m = ap (λ n. n + m) ep in
-      to r (p + m) a 0 ps ws path (ap (λ n. height (code r) n) e' ∙ ((levelled r).flat b (b + 1 + m) (op.Case m) e refl).1) h
+      to r (p + m) a 0 ps ws path (ap (λ n. height (code r) n) e' ∙ ((has_heights r).flat b (b + 1 + m) (op.Case m) e refl).1) h
   switches _ r p b a ps ws e ep path h = tt
 
   chooses : (c : Bool) (o : Option Instruction) (r : Routine) (p b a q : ℕ) (ps : List Position) (ws : List Word) → slice_get (code r) b ≡ o → p ≡ b + 1 → IsPath code begin ps r → height (code r) q ≡ 0 → Shape 0 ps ws
@@ -186,7 +186,7 @@ module _ (offsets sizes : List ℕ) (code : Routine → List Instruction) (level
   step (Some (op.Pick n)) r p a ps ws e path h = picks (value_in (slice_get ws n)) (λ v. At r (p + 1) v ws) (λ v. to r (p + 1) v _ ps ws path (next_height p (code r) (op.Pick n) e) h)
   step (Some (op.Drop n)) r p a ps ws e path h =
       let k = height (code r) p in
-      let parts : k ≡ n + (k - n) = omega (arith, (levelled r).drops p n e) in
+      let parts : k ≡ n + (k - n) = omega (arith, (has_heights r).drops p n e) in
       drops (nat_le n (length ws)) (At r (p + 1) a (drop n ws)) (to r (p + 1) a (k - n) ps (drop n ws) path (next_height p (code r) (op.Drop n) e) (without n k (k - n) ps ws parts h))
   step (Some (op.Unary o width)) r p a ps ws e path h = to r (p + 1) (unary_value o width a) _ ps ws path (next_height p (code r) (op.Unary o width) e) h
   step (Some (op.Binary o width)) r p a ps [] e path h = tt
@@ -213,21 +213,21 @@ module _ (offsets sizes : List ℕ) (code : Routine → List Instruction) (level
   step (Some (op.Receive width)) r p a ps ws e path h = λ v. to r (p + 1) v _ ps ws path (next_height p (code r) (op.Receive width) e) h
   step (Some (op.ReceiveFrom width port)) r p a ps ws e path h = λ v. to r (p + 1) v _ ps ws path (next_height p (code r) (op.ReceiveFrom width port) e) h
   step (Some (op.Ahead n)) r p a ps ws e path h =
-      let f = (levelled r).flat p (p + 1 + n) (op.Ahead n) e refl in
+      let f = (has_heights r).flat p (p + 1 + n) (op.Ahead n) e refl in
       let level : height (code r) p ≡ 0 = sym (next_height p (code r) (op.Ahead n) e) ∙ f.0 in
       to r (p + 1 + n) a 0 ps ws path f.1 (subst (λ k. Shape k ps ws) level h)
   step (Some (op.AheadUnless t n)) r p a ps ws e path h =
-      let f = (levelled r).flat p (p + 1 + n) (op.AheadUnless t n) e refl in
+      let f = (has_heights r).flat p (p + 1 + n) (op.AheadUnless t n) e refl in
       jumps t r (p + 1) (p + 1 + n) a (height (code r) p) ps ws path (sym (next_height p (code r) (op.AheadUnless t n) e) ∙ f.0) f.0 f.1 h
   step (Some (op.Back n)) r p a ps ws e path h =
-      let f = (levelled r).flat p (p + 1 - n) (op.Back n) e refl in
+      let f = (has_heights r).flat p (p + 1 - n) (op.Back n) e refl in
       let level : height (code r) p ≡ 0 = sym (next_height p (code r) (op.Back n) e) ∙ f.0 in
       to r (p + 1 - n) a 0 ps ws path f.1 (subst (λ k. Shape k ps ws) level h)
   step (Some (op.BackUnless t n)) r p a ps ws e path h =
-      let f = (levelled r).flat p (p + 1 - n) (op.BackUnless t n) e refl in
+      let f = (has_heights r).flat p (p + 1 - n) (op.BackUnless t n) e refl in
       jumps t r (p + 1) (p + 1 - n) a (height (code r) p) ps ws path (sym (next_height p (code r) (op.BackUnless t n) e) ∙ f.0) f.0 f.1 h
   step (Some (op.Switch n)) r p a ps ws e path h =
-      let f = (levelled r).flat p (p + 1 + n) (op.Switch n) e refl in
+      let f = (has_heights r).flat p (p + 1 + n) (op.Switch n) e refl in
       let level : height (code r) p ≡ 0 = sym (next_height p (code r) (op.Switch n) e) ∙ f.0 in
       let place : p + 1 + suc a ≡ p + 1 + a + 1 = omega arith in
       chooses (nat_lt a n) (slice_get (code r) (p + 1 + a)) r (p + 1 + suc a) (p + 1 + a) a (p + 1 + n) ps ws refl place path f.1 (subst (λ k. Shape k ps ws) level h)

@@ -9,10 +9,10 @@ use Rattle.icode.specs.declared.code.Routine.TheVariants.{Procedure}
 use Rattle.icode.specs.declared.code.Position.{Position}
 use Rattle.icode.specs.declared.registers.Registers.{Registers}
 use Rattle.icode.specs.Registers.{none, joined, changes}
-use Rattle.icode.specs.Levels.{behind, height}
+use Rattle.icode.specs.Heights.{behind, height}
 use Rattle.icode.specs.Counted.{Calls, IsPath, words_along, IsDepth, HasAll, IsChanged}
 use Rattle.frames.specs.declared.need.Need.{Need}
-use Rattle.frames.specs.Inner.Needs.{nothing, need}
+use Rattle.frames.specs.Inner.Need.{nothing, need}
 use Rattle.frames.proofs.Registers.{joined_none, has_self, has_through}
 use Rattle.frames.proofs.Needing as needing
 

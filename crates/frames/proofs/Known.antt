@@ -10,9 +10,9 @@ use Rattle.icode.specs.declared.code.Routine.{Routine}
 use Rattle.icode.specs.declared.code.Routine.TheVariants.{Procedure}
 use Rattle.icode.specs.declared.code.Code.{Code}
 use Rattle.icode.specs.Code.{code_of}
-use Rattle.icode.specs.Levels.{instructions_of, place_in}
+use Rattle.icode.specs.Heights.{instructions_of, place_in}
 use Rattle.frames.specs.declared.need.Need.{Need}
-use Rattle.frames.specs.Inner.Needs.{nothing, need, need_or, need_at, AreKnown}
+use Rattle.frames.specs.Inner.Need.{nothing, need, need_or, need_at, AreKnown}
 use Rattle.frames.proofs.Needing.{some_is, same_need, few}
 
 at_same : (t : List Need) (p : ℕ) (n : Need) → p < length t → need_at (slice_set t p n) p ≡ n

@@ -8,7 +8,7 @@ use Rattle.icode.specs.declared.code.Routine.TheVariants.{Main}
 use Rattle.icode.specs.declared.registers.Registers.{Registers}
 use Rattle.icode.specs.Code.{code_of}
 use Rattle.icode.specs.Counted.{IsPath, words_along, IsDepth, one_if, number_of}
-use Rattle.icode.specs.Levels.{height}
+use Rattle.icode.specs.Heights.{height}
 use Rattle.frames.specs.Limits.{words_of, StackIsBounded, SmallProgramsFit}
 
 one_few : (b : Bool) → one_if b ≤ 1

@@ -7,10 +7,10 @@ use Rattle.std.proofs.lemmas.Option.{none-some}
 use Rattle.icode.specs.declared.instruction.Instruction.{Instruction}
 use Rattle.icode.specs.declared.instruction.Instruction.TheVariants as op
 use Rattle.icode.specs.declared.registers.Registers.{Registers}
-use Rattle.icode.specs.Levels.{after, behind}
+use Rattle.icode.specs.Heights.{after, behind}
 use Rattle.icode.specs.Registers.{none, joined, changes}
 use Rattle.frames.specs.declared.need.Need.{Need}
-use Rattle.frames.specs.Inner.Needs.{nothing, both, met, need}
+use Rattle.frames.specs.Inner.Need.{nothing, both, met, need}
 use Rattle.frames.proofs.Registers.{joined_parts, joined_none, has_left, has_right, has_self, has_through, has_both}
 
 pub some_is : {A : Type 0} (x y : A) → Some x ≡ Some y → x ≡ y

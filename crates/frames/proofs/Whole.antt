@@ -16,13 +16,13 @@ use Rattle.icode.specs.declared.code.Code.{Code}
 use Rattle.icode.specs.declared.registers.Registers.{Registers}
 use Rattle.icode.specs.Code.{code_of, is_number, procedure_or_none, serving}
 use Rattle.icode.specs.Counted.{IsDepth, IsChanged, number_of, HasVector, IsHandler, IsRoom, IsCounted}
-use Rattle.icode.specs.Levels.{height, target, place_in, IsLevelled}
+use Rattle.icode.specs.Heights.{height, target, place_in, HasHeights}
 use Rattle.icode.specs.Machine.{At, does}
 use Rattle.icode.specs.Registers.{none, joined, changes}
 use Rattle.icode.specs.Runs.{Comes}
 use Rattle.frames.specs.declared.need.Need.{Need}
 use Rattle.frames.specs.Counting.{NoRunPasses, AreSaved}
-use Rattle.frames.specs.Inner.Needs.{need, need_at, room_of, largest_room, AreKnown}
+use Rattle.frames.specs.Inner.Need.{need, need_at, room_of, largest_room, AreKnown}
 use Rattle.frames.proofs.Needing.{some_is}
 use Rattle.frames.proofs.Registers.{joined_other}
 use Rattle.frames.proofs.Depths as depths
@@ -111,11 +111,11 @@ module _ (c : Code) where
   unserved_flat zero t x e f = absurd (none-some t (ap (λ y. target y 1) (some_is op.Finish x e) ∙ f))
   unserved_flat (suc k) t x e f = absurd (none-some x e)
 
-  levelled : (r : Routine) → IsLevelled (code_of c r)
-  levelled Main = c.main_levelled
-  levelled (Procedure p) = c.levelled p
-  levelled Unserved = record { drops = unserved_drops; flat = unserved_flat }
-  levelled Nowhere = record { drops = λ k n e. absurd (none-some (op.Drop n) e); flat = λ k t x e f. absurd (none-some x e) }
+  has_heights : (r : Routine) → HasHeights (code_of c r)
+  has_heights Main = c.main_has_heights
+  has_heights (Procedure p) = c.has_heights p
+  has_heights Unserved = record { drops = unserved_drops; flat = unserved_flat }
+  has_heights Nowhere = record { drops = λ k n e. absurd (none-some (op.Drop n) e); flat = λ k t x e f. absurd (none-some x e) }
 
 module _ (c : Code) (t : List Need) (size : length t ≡ length c.procedures.items) (all : AreKnown c t (length c.order.items)) where
   abbrev of : Routine → Need
@@ -178,12 +178,12 @@ module _ (c : Code) (t : List Need) (size : length t ≡ length c.procedures.ite
       subst HasVector (sym p.1) (numbered p.0.vector v p.2)
 
   changes_by : (offsets sizes : List ℕ) (begin : Routine) (g : Registers) (r : Routine) (k b : ℕ) (ws : List Word) (x : Instruction) → IsChanged (code_of c) begin g → slice_get (code_of c r) k ≡ Some x
-      → bounded.Ok offsets sizes (code_of c) (levelled c) refl begin (of begin).words (is_depth begin) (At r k b ws) → joined g (changes x) ≡ g
+      → bounded.Ok offsets sizes (code_of c) (has_heights c) refl begin (of begin).words (is_depth begin) (At r k b ws) → joined g (changes x) ≡ g
   changes_by offsets sizes begin g r k b ws x d e (inl s) = d.all s.0 r k x s.1 e
   changes_by offsets sizes begin g r k b ws x d e (inr s) = absurd (none-some x (ap (λ q. slice_get (code_of c q) k) (sym s.0) ∙ e))
 
   few : (offsets sizes : List ℕ) (begin : Routine) (n a : ℕ) (r : Routine) (k b : ℕ) (ws : List Word) → Comes (does offsets sizes (code_of c)) (At begin 0 a []) n (At r k b ws) → length ws ≤ (of begin).words
-  few offsets sizes begin = bounded.bounded offsets sizes (code_of c) (levelled c) refl begin (of begin).words (is_depth begin)
+  few offsets sizes begin = bounded.bounded offsets sizes (code_of c) (has_heights c) refl begin (of begin).words (is_depth begin)
 
   pub no_run : (main handler : ℕ) → main ≡ 2 * (of Main).words → handler ≡ 2 * most → NoRunPasses c main handler
   no_run main handler em eh =
@@ -194,7 +194,7 @@ module _ (c : Code) (t : List Need) (size : length t ≡ length c.procedures.ite
             let saved : number_of g ≡ number_of (of begin).registers = ap number_of (one_changed (code_of c) begin g (of begin).registers d (is_changed begin)) in
             omega (arith, eh, saved, few offsets sizes begin n a r k b ws e, small_room begin (served v (position (λ p. is_number p.vector v) c.procedures.items) refl)));
         of_registers = λ offsets sizes v n a g r k b ws x d e f.
-            changes_by offsets sizes (serving c v) g r k b ws x d f (bounded.comes_ok offsets sizes (code_of c) (levelled c) refl (serving c v) (of (serving c v)).words (is_depth (serving c v)) n a (At r k b ws) e);
+            changes_by offsets sizes (serving c v) g r k b ws x d f (bounded.comes_ok offsets sizes (code_of c) (has_heights c) refl (serving c v) (of (serving c v)).words (is_depth (serving c v)) n a (At r k b ws) e);
       }
 
   pub are_saved : (gs : List Registers) → gs ≡ map (λ n. n.registers) t → AreSaved c gs

@@ -1,1 +1,1 @@
-pub mod Needs
+pub mod Need

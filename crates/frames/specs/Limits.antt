@@ -6,7 +6,7 @@ use Rattle.icode.specs.declared.code.Routine.TheVariants.{Main}
 use Rattle.icode.specs.declared.code.Code.{Code}
 use Rattle.icode.specs.Code.{code_of}
 use Rattle.icode.specs.Counted.{IsPath, IsHandler, IsCounted}
-use Rattle.icode.specs.Levels.{height}
+use Rattle.icode.specs.Heights.{height}
 use Rattle.frames.specs.Counting.{IsPastRoom}
 
 -- Nowhere has a routine pushed more than this number of words; a path of calls from main has at most main_calls calls, and one from

@@ -4,7 +4,7 @@ ghost use Rattle.std.specs.Prelude.{◌≡◌, ℕ, ◌+◌, ◌*◌, ◌^◌, �
 ghost use Rattle.word86.specs.declared.fault.Fault.TheVariants.{Memory};
 ghost use Rattle.icode.specs.Counted.{one_if, number_of, IsCounted};
 ghost use Rattle.frames.specs.Counting.{NoRunPasses, IsRefusal, AreSaved};
-ghost use Rattle.frames.specs.Inner.Needs.{need_at, room_of, largest_room, AreKnown};
+ghost use Rattle.frames.specs.Inner.Need.{need_at, room_of, largest_room, AreKnown};
 
 use crate::need::{Need, keep};
 use icode::{Code, Registers, Routine};

@@ -1,7 +1,7 @@
 //! What a routine needs with all that it calls.
 
 ghost use Rattle.std.specs.Prelude.{◌≡◌, ◌+◌, ◌^◌, ◌<◌, ℕ, slice_set};
-ghost use Rattle.icode.specs.Levels.{after, popped};
+ghost use Rattle.icode.specs.Heights.{after, popped};
 
 use icode::{Instruction, Registers, Test};
 
@@ -23,7 +23,7 @@ pub(crate) fn keep(needs: &mut Vec<Need>, procedure: usize, need: Need)
 }
 
 impl Need {
-    ghost use Rattle.frames.specs.Inner.Needs.{nothing, both, met, need, need_at};
+    ghost use Rattle.frames.specs.Inner.Need.{nothing, both, met, need, need_at};
 
     /// Of what there is not.
     pub(crate) fn nothing() -> Need

@@ -15,7 +15,7 @@ use Rattle.i86_code.specs.declared.form.Prefixes.TheVariants as prefixes
 use Rattle.i86_code.specs.declared.form.RegisterOrMemory.{RegisterOrMemory}
 use Rattle.i86_code.specs.declared.form.Opcode.{Opcode}
 use Rattle.i86_code.specs.declared.form.Form.{Form}
-use Rattle.i86_code.specs.Opcodes.{opcode_at, field_kind_of}
+use Rattle.i86_code.specs.Opcode.{opcode_at, field_kind_of}
 use Rattle.i86_code.specs.Forms.{word_bytes, place_bytes, field_bytes, kind_of_fields, FieldsFit, prefix_code, prefix_bytes, form_bytes, IsForm, opcode_byte}
 use Rattle.i86_code.specs.Reading.{segment_at, word_at, byte_at, place_at, fields_at, test_then, group_then, prefixes_at, repeat_then, override_then, opcode_then, after_repeat, body_at, form_at, Read, then_read, then_place}
 use Rattle.i86_code.specs.Coding.{AreBytes}

@@ -27,7 +27,7 @@ use Rattle.i86_code.specs.declared.form.FieldKind.TheVariants as kinds
 use Rattle.i86_code.specs.declared.form.Prefixes.{Prefixes}
 use Rattle.i86_code.specs.declared.form.RegisterOrMemory.{RegisterOrMemory}
 use Rattle.i86_code.specs.declared.form.Form.{Form}
-use Rattle.i86_code.specs.Opcodes.{byte_register_at, word_register_at, field_kind_of}
+use Rattle.i86_code.specs.Opcode.{byte_register_at, word_register_at, field_kind_of}
 use Rattle.i86_code.specs.Forms.{FieldsFit, form_bytes, prefix_bytes, place_bytes, word_bytes, opcode_byte}
 use Rattle.i86_code.specs.Instructions.{usual_segment, direct, byte_operand, word_operand, to_register, addressed_instruction, word_instruction, instruction_from}
 use Rattle.i86_code.specs.Ranges.{AddressFits}

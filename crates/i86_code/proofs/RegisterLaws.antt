@@ -5,7 +5,7 @@ use Rattle.i86_table.specs.declared.registers.Register8.TheVariants.{Al, Cl, Dl,
 use Rattle.i86_table.specs.declared.registers.Register16.{Register16}
 use Rattle.i86_table.specs.declared.registers.Register16.TheVariants.{Ax, Cx, Dx, Bx, Sp, Bp, Si, Di}
 use Rattle.i86_table.specs.Numbers.{byte_register_code, word_register_code}
-use Rattle.i86_code.specs.Opcodes.{byte_register_at, word_register_at}
+use Rattle.i86_code.specs.Opcode.{byte_register_at, word_register_at}
 
 pub byte_again : (r : Register8) → byte_register_at (byte_register_code r) ≡ r
 byte_again Al = refl

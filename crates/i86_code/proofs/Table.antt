@@ -11,7 +11,7 @@ use Rattle.i86_table.specs.declared.registers.Segment.TheVariants as segments
 use Rattle.i86_table.specs.declared.registers.LoadableSegment.TheVariants as loadables
 use Rattle.i86_code.specs.declared.form.Opcode.{Opcode}
 use Rattle.i86_code.specs.declared.form.Opcode.TheVariants as op
-use Rattle.i86_code.specs.Opcodes.{opcode_at, opcode_below_40, opcode_below_80, opcode_below_90, opcode_below_a0, opcode_below_c0, opcode_below_e0, opcode_below_f0, opcode_from_f0}
+use Rattle.i86_code.specs.Opcode.{opcode_at, opcode_below_40, opcode_below_80, opcode_below_90, opcode_below_a0, opcode_below_c0, opcode_below_e0, opcode_below_f0, opcode_from_f0}
 use Rattle.i86_code.specs.Forms.{opcode_byte}
 
 -- a test of every number below n

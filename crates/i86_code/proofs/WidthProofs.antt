@@ -24,7 +24,7 @@ use Rattle.i86_code.specs.declared.form.Prefixes.{Prefixes}
 use Rattle.i86_code.specs.declared.form.RegisterOrMemory.{RegisterOrMemory}
 use Rattle.i86_code.specs.declared.form.Form.{Form}
 use Rattle.i86_code.specs.Forms.{FieldsFit}
-use Rattle.i86_code.specs.Opcodes.{byte_register_at, word_register_at, loadable_at}
+use Rattle.i86_code.specs.Opcode.{byte_register_at, word_register_at, loadable_at}
 use Rattle.i86_code.specs.Instructions.{byte_operand, word_operand, to_register, exchanged_byte, exchanged_word, exchanged_accumulator, load_address, move_to_segment, shift_at, shift_then, byte_step, word_step, byte_unary, word_unary, is_short, repeats, is_string, addressed_instruction, addressed_byte_instruction, addressed_word_instruction, plain_instruction, byte_instruction, word_instruction, two_words_instruction, unary_instruction, test_byte_instruction, test_word_instruction, instruction_from, instruction_of}
 use Rattle.i86_code.specs.Widths.{DecodedHasWidths}
 use Rattle.i86_code.proofs.DecodedProofs.{is_decoded_spells}

@@ -43,7 +43,7 @@ use Rattle.i86_table.specs.Numbers.{byte_register_code, word_register_code, segm
 use Rattle.i86_table.specs.State.{loadable}
 use Rattle.i86_table.specs.Arithmetic.{sign_extended}
 use Rattle.i86_table.specs.Pairs.{word_pair}
-use Rattle.i86_table.specs.PairLaws.{BytePairLaws, WordPairLaws}
+use Rattle.i86_table.specs.PairLaw.{BytePairLaws, WordPairLaws}
 use Rattle.i86_code.specs.declared.form.Opcode.{Opcode}
 use Rattle.i86_code.specs.declared.form.Opcode.TheVariants as op
 use Rattle.i86_code.specs.declared.form.FieldKind.TheVariants as kinds
@@ -54,7 +54,7 @@ use Rattle.i86_code.specs.declared.form.Prefixes.TheVariants as prefixes
 use Rattle.i86_code.specs.declared.form.RegisterOrMemory.{RegisterOrMemory}
 use Rattle.i86_code.specs.declared.form.RegisterOrMemory.TheVariants.{Register, Indirect, Near, Far}
 use Rattle.i86_code.specs.declared.form.Form.{Form}
-use Rattle.i86_code.specs.Opcodes.{operation_at, byte_register_at, word_register_at, field_kind_of}
+use Rattle.i86_code.specs.Opcode.{operation_at, byte_register_at, word_register_at, field_kind_of}
 use Rattle.i86_code.specs.Forms.{kind_of_fields, FieldsFit, IsPlace, base_code, operation_code}
 use Rattle.i86_code.specs.Instructions.{segment_under, repeats, usual_segment, based, direct, operand, byte_operand, word_operand, to_register, exchanged_byte, exchanged_word, load_address, shift_at, shift_then, addressed_instruction, byte_unary, word_unary, is_short, addressed_byte_instruction, addressed_word_instruction, exchanged_accumulator, plain_instruction, byte_instruction, word_instruction, instruction_from, instruction_of}
 use Rattle.i86_code.specs.Ranges.{AddressFits, RmOperandFits, OperandsFit, MaskFits, PortFits, InstrFits}

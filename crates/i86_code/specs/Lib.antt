@@ -1,4 +1,4 @@
-pub mod Opcodes
+pub mod Opcode
 pub mod Reading
 pub mod Instructions
 pub mod Decoding

@@ -2,7 +2,7 @@
 
 ghost use Rattle.std.specs.Prelude.{◌≡◌, ◌<◌, ℕ};
 ghost use Rattle.i86_table.specs.Numbers.{byte_register_code, word_register_code, segment_code};
-ghost use Rattle.i86_code.specs.Opcodes.{operation_at, condition_at, byte_register_at, word_register_at, segment_at, loadable_at, width_at};
+ghost use Rattle.i86_code.specs.Opcode.{operation_at, condition_at, byte_register_at, word_register_at, segment_at, loadable_at, width_at};
 ghost use Rattle.i86_code.specs.Forms.{operation_code, condition_code, width_code};
 
 use i86_table::{AluOperation, Condition, LoadableSegment, Register8, Register16, Segment};

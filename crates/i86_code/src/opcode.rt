@@ -1,7 +1,7 @@
 //! What each opcode byte says, and the byte that says it: of 256 bytes those of the table, each with the fields that come after it.
 
 ghost use Rattle.std.specs.Prelude.{◌≡◌, ◌<◌, ◌≤◌};
-ghost use Rattle.i86_code.specs.Opcodes.{opcode_at, opcode_below_40, opcode_below_80, opcode_below_90, opcode_below_a0, opcode_below_c0, opcode_below_e0, opcode_below_f0, opcode_from_f0, push_segment_at, pop_segment_at, field_kind_of};
+ghost use Rattle.i86_code.specs.Opcode.{opcode_at, opcode_below_40, opcode_below_80, opcode_below_90, opcode_below_a0, opcode_below_c0, opcode_below_e0, opcode_below_f0, opcode_from_f0, push_segment_at, pop_segment_at, field_kind_of};
 ghost use Rattle.i86_code.specs.Forms.{opcode_byte};
 
 use crate::form::{FieldKind, Opcode};

@@ -11,7 +11,7 @@ use Rattle.i86_table.specs.declared.instruction.Port.{Port}
 use Rattle.i86_table.specs.declared.instruction.Port.TheVariants as ports
 use Rattle.i86_table.specs.State.{word_of, byte_of, with_word, with_byte, offset_of, port_of}
 use Rattle.i86_table.specs.Contexts.{Working, all_registers, is_sp, word_in, byte_in, set_word, set_byte, offset_in, port_in}
-use Rattle.i86_table.specs.ContextLaws.{ContextRegisters}
+use Rattle.i86_table.specs.ContextLaw.{ContextRegisters}
 
 words_set : (p : ℕ) (g : Working) (sp : ℕ) (r : Register16) (v : ℕ) → is_sp r ≡ false → with_word (all_registers p g sp) r v ≡ all_registers p (set_word g r v) sp
 words_set p g sp Ax v e = refl

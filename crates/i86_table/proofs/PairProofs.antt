@@ -9,7 +9,7 @@ use Rattle.i86_table.specs.declared.pairs.BytePair.{BytePair}
 use Rattle.i86_table.specs.declared.pairs.WordPair.{WordPair}
 use Rattle.i86_table.specs.Numbers.{byte_register_code, word_register_code}
 use Rattle.std.proofs.lemmas.Bool.{le-leb}
-use Rattle.i86_table.specs.PairLaws.{BytePairLaws, WordPairLaws}
+use Rattle.i86_table.specs.PairLaw.{BytePairLaws, WordPairLaws}
 use Rattle.i86_table.specs.Pairs.{byte_pair, byte_pair_by, word_pair, word_pair_by}
 
 abbrev byte_made : (a b : Register8) → byte_register_code a ≤ byte_register_code b → BytePair

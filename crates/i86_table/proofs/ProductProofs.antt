@@ -13,7 +13,7 @@ use Rattle.i86_table.specs.declared.outcome.Division.{Division}
 use Rattle.i86_table.specs.declared.flags.Flags.{Flags}
 use Rattle.word86.specs.Access.{values}
 use Rattle.i86_table.specs.Arithmetic.{same, has, magnitude, is_negative, with_sign, carry_and_overflow, multiplied, divided}
-use Rattle.i86_table.specs.ArithmeticLaws.{signed, in_range, ProductLaws, IsQuotient, QuotientLaws}
+use Rattle.i86_table.specs.ArithmeticLaw.{signed, in_range, ProductLaws, IsQuotient, QuotientLaws}
 use Rattle.i86_table.proofs.FlagLists.{has_put}
 
 -- ---- a number by its sign and its absolute value

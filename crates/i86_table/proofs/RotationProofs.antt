@@ -10,7 +10,7 @@ use Rattle.i86_table.specs.declared.instruction.ShiftOperation.TheVariants.{Rol,
 use Rattle.i86_table.specs.declared.flags.Flags.{Flags}
 use Rattle.word86.specs.Access.{values}
 use Rattle.i86_table.specs.Arithmetic.{half_of, sign, has, is_carry, moved, moved_once, shifted}
-use Rattle.i86_table.specs.ArithmeticLaws.{RotationLaws}
+use Rattle.i86_table.specs.ArithmeticLaw.{RotationLaws}
 use Rattle.i86_table.proofs.ShiftProofs.{value_is, carry_is}
 
 -- a number below s, turned by the power of two p

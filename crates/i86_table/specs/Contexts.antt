@@ -33,7 +33,7 @@ use Rattle.i86_table.specs.declared.instruction.AluOperation.TheVariants.{Add}
 use Rattle.i86_table.specs.declared.instruction.Instr.{Instr}
 use Rattle.i86_table.specs.declared.instruction.Instr.TheVariants as i
 use Rattle.i86_table.specs.State.{word_of, byte_of, with_word, with_byte, offset_of, port_of}
-use Rattle.i86_table.specs.Conditions.{holds}
+use Rattle.i86_table.specs.Condition.{holds}
 use Rattle.i86_table.specs.Arithmetic.{is_comparison, without_trap_and_interrupts, operated, tested, changed, shifted, multiplied, divided, with_flag, flag_bit, sign_extended, sign_word}
 
 -- the registers that a context has for itself: all but SP, IP and the segments

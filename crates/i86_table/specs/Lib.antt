@@ -2,13 +2,13 @@ pub mod Registers
 pub mod Numbers
 pub mod State
 pub mod Arithmetic
-pub mod Conditions
+pub mod Condition
 pub mod FlagLaws
-pub mod ArithmeticLaws
+pub mod ArithmeticLaw
 pub mod Pairs
-pub mod PairLaws
+pub mod PairLaw
 pub mod Contexts
-pub mod ContextLaws
+pub mod ContextLaw
 pub mod Widths
 pub mod Words
 pub mod Open

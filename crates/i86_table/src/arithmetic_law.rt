@@ -1,7 +1,7 @@
 //! Laws of the arithmetic, in terms of numbers with sign, powers of two, quotients and remainders.
 
 ghost use Rattle.i86_table.specs.FlagLaws.{ArithmeticLeavesControl};
-ghost use Rattle.i86_table.specs.ArithmeticLaws.{OverflowLaws, ShiftLaws, RotationLaws, ProductLaws, QuotientLaws};
+ghost use Rattle.i86_table.specs.ArithmeticLaw.{OverflowLaws, ShiftLaws, RotationLaws, ProductLaws, QuotientLaws};
 
 /// The law that OF is set exactly where a result with sign leaves the range of its width.
 pub fn overflow_laws()

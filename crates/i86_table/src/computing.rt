@@ -3,7 +3,7 @@
 ghost use Rattle.std.specs.Prelude.{◌≡◌, ◌<◌, ◌*◌};
 ghost use Rattle.word86.specs.Access.{values};
 ghost use Rattle.i86_table.specs.Arithmetic.{operated, tested, changed, shifted, multiplied, has, with_flag};
-ghost use Rattle.i86_table.specs.Conditions.{holds};
+ghost use Rattle.i86_table.specs.Condition.{holds};
 ghost use Rattle.i86_table.specs.State.{with_flags};
 
 use crate::flags::Flags;

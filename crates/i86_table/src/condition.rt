@@ -1,7 +1,7 @@
 //! When each conditional jump is taken, and which one is taken where it is not.
 
 ghost use Rattle.std.specs.Prelude.{◌≡◌};
-ghost use Rattle.i86_table.specs.Conditions.{holds, inverse, InverseHolds};
+ghost use Rattle.i86_table.specs.Condition.{holds, inverse, InverseHolds};
 
 use crate::instruction::Condition;
 use crate::late_flags::LateFlags;

@@ -5,7 +5,7 @@ use Rattle.icode.specs.declared.instruction.Instruction.TheVariants.{Finish}
 use Rattle.icode.specs.declared.code.Routine.{Routine}
 use Rattle.icode.specs.declared.code.Routine.TheVariants.{Main, Procedure, Unserved, Nowhere}
 use Rattle.icode.specs.declared.code.Code.{Code}
-use Rattle.icode.specs.Levels.{instructions_of}
+use Rattle.icode.specs.Heights.{instructions_of}
 
 abbrev pub code_of : Code → Routine → List Instruction
 code_of c Main = c.main.items

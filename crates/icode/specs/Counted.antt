@@ -9,7 +9,7 @@ use Rattle.icode.specs.declared.code.Routine.TheVariants.{Main, Procedure, Unser
 use Rattle.icode.specs.declared.code.Code.{Code}
 use Rattle.icode.specs.declared.registers.Registers.{Registers}
 use Rattle.icode.specs.Code.{code_of}
-use Rattle.icode.specs.Levels.{height}
+use Rattle.icode.specs.Heights.{height}
 use Rattle.icode.specs.Registers.{joined, changes}
 
 module _ (code : Routine → List Instruction) where

@@ -1,6 +1,6 @@
 pub mod Code
 pub mod Counted
-pub mod Levels
+pub mod Heights
 pub mod Machine
 pub mod Made
 pub mod Registers

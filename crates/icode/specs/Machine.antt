@@ -10,8 +10,8 @@ use Rattle.word86.specs.Access.{Access, Read, Write, Input, Output, Where}
 use Rattle.word86.specs.Access as access
 use Rattle.word86.specs.Action.{Action, Silent, Touch, Enable, Disable, Halt, Over, Bad}
 use Rattle.word86.specs.Arithmetic.{low}
-use Rattle.word86.specs.Operators.{unary_value, binary_value}
-use Rattle.word86.specs.Places.{bytes, covers, held, screen_begins, screen_size}
+use Rattle.word86.specs.Operation.{unary_value, binary_value}
+use Rattle.word86.specs.Place.{bytes, covers, held, screen_begins, screen_size}
 use Rattle.icode.specs.declared.instruction.Instruction.{Instruction}
 use Rattle.icode.specs.declared.instruction.Instruction.TheVariants as op
 use Rattle.icode.specs.declared.instruction.Relation.{Relation}

@@ -4,7 +4,7 @@ use Rattle.icode.specs.declared.instruction.Instruction.{Instruction}
 use Rattle.icode.specs.declared.instruction.Instruction.TheVariants as op
 use Rattle.icode.specs.declared.instruction.Test.{Test}
 use Rattle.icode.specs.declared.instruction.Test.TheVariants as test
-use Rattle.icode.specs.Levels.{target}
+use Rattle.icode.specs.Heights.{target}
 
 -- the constant in an instruction, or 0
 abbrev pub asked_constant : Test → ℕ

@@ -2,7 +2,7 @@
 use Rattle.std.specs.Prelude.{◌≡◌, ◌%◌, ℕ, List, reverse, Option, Some, None, Result, IfOk, IfErr}
 use Rattle.word86.specs.Access.{Access, answers}
 use Rattle.word86.specs.Action.{Action, Silent, Touch, Enable, Disable, Halt, Over, Bad}
-use Rattle.word86.specs.Places.{access_of}
+use Rattle.word86.specs.Place.{access_of}
 use Rattle.icode.specs.declared.code.Word.{Word}
 use Rattle.icode.specs.declared.machine.Context as declared_context
 use Rattle.icode.specs.declared.machine.Machine.{Machine}
@@ -22,7 +22,7 @@ shown c = At c.position.routine c.position.index c.accumulator (words_of c)
 
 -- what the machine does next
 abbrev pub action_of : Machine → Action Access Context
-action_of m = does m.layout.offsets.now m.layout.sizes.now (code_of m.code.now) (shown m.context)
+action_of m = does m.ram_objects.offsets.now m.ram_objects.sizes.now (code_of m.code.now) (shown m.context)
 
 -- the access that an action makes
 abbrev pub access_in : Action Access Context → Option Access

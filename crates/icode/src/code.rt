@@ -1,7 +1,7 @@
 //! Code, and the places in it.
 
 ghost use Rattle.std.specs.Prelude.{◌≡◌, ℕ, slice_get, position};
-ghost use Rattle.icode.specs.Levels.{IsLevelled, AreOrdered, instructions_of};
+ghost use Rattle.icode.specs.Heights.{HasHeights, AreOrdered, instructions_of};
 ghost use Rattle.icode.specs.Made.{IsMade};
 
 use crate::instruction::Instruction;
@@ -49,8 +49,8 @@ pub struct Code {
     pub procedures: Vec<Procedure>,
     /// The procedures' numbers, each after those that it calls.
     pub order: Vec<usize>,
-    pub ghost main_levelled: { IsLevelled main.items },
-    pub ghost levelled: { (p : ℕ) → IsLevelled (instructions_of (slice_get procedures.items p)) },
+    pub ghost main_has_heights: { HasHeights main.items },
+    pub ghost has_heights: { (p : ℕ) → HasHeights (instructions_of (slice_get procedures.items p)) },
     pub ghost main_made: { IsMade main.items },
     pub ghost made: { (p : ℕ) → IsMade (instructions_of (slice_get procedures.items p)) },
     pub ghost ordered: { AreOrdered order.items procedures.items },

@@ -3,12 +3,12 @@
 
 mod code;
 mod instruction;
-mod layout;
 mod machine;
+mod ram_objects;
 mod registers;
 
 pub use code::{Code, Position, Procedure, Routine, Word};
 pub use instruction::{Instruction, Relation, Test};
-pub use layout::Layout;
 pub use machine::{Machine, Step, Stop};
+pub use ram_objects::RamObjects;
 pub use registers::{Registers, is_direct};

@@ -5,8 +5,8 @@ ghost use Rattle.std.specs.Option.{option_map};
 ghost use Rattle.word86.specs.Access.{Output, Input};
 ghost use Rattle.word86.specs.Action.{Silent, Touch};
 ghost use Rattle.word86.specs.Arithmetic.{low};
-ghost use Rattle.word86.specs.Operators.{binary_value};
-ghost use Rattle.word86.specs.Places.{where_of, access_of};
+ghost use Rattle.word86.specs.Operation.{binary_value};
+ghost use Rattle.word86.specs.Place.{where_of, access_of};
 ghost use Rattle.icode.specs.declared.code.Routine.TheVariants.{Procedure};
 ghost use Rattle.icode.specs.declared.code.Routine.TheVariants as routine;
 ghost use Rattle.icode.specs.declared.code.Word.TheVariants.{Return};
@@ -18,7 +18,7 @@ ghost use Rattle.icode.specs.Inner.Parts.{is_plain, is_outward};
 
 use crate::code::{Code, Position, Routine, Word};
 use crate::instruction::{Instruction, Relation, Test};
-use crate::layout::Layout;
+use crate::ram_objects::RamObjects;
 use std::alloc::Global;
 use word86::{Access, BinaryOperation, Place, Width};
 
@@ -58,7 +58,7 @@ struct Context {
 #[derive(Drop)]
 pub struct Machine<'a> {
     code: &'a Code,
-    layout: Layout<'a>,
+    ram_objects: RamObjects<'a>,
     context: Context,
 }
 
@@ -83,11 +83,11 @@ fn written(width: Width, place: Option<Place>, value: u16) -> Option<Access>
 }
 
 // The read that a test makes.
-fn read_by(layout: Layout<'_>, test: Test) -> Option<Access>
-    ensures { (routine : Routine) (next target accumulator : ℕ) (words : List Word) → option_map access_of result ≡ access_in (jumped layout.entry.offsets.now layout.entry.sizes.now test routine next target accumulator words) }
+fn read_by(ram_objects: RamObjects<'_>, test: Test) -> Option<Access>
+    ensures { (routine : Routine) (next target accumulator : ℕ) (words : List Word) → option_map access_of result ≡ access_in (jumped ram_objects.entry.offsets.now ram_objects.entry.sizes.now test routine next target accumulator words) }
 {
     match test {
-        Test::Plain(_, width, place) => read(width, layout.reached(width, place, 0)),
+        Test::Plain(_, width, place) => read(width, ram_objects.reached(width, place, 0)),
         _ => None,
     }
 }
@@ -403,13 +403,13 @@ impl Context {
     // To the target unless a test holds.
     fn jump(
         &mut self,
-        layout: Layout<'_>,
+        ram_objects: RamObjects<'_>,
         test: Test,
         next: usize,
         target: usize,
         answer: u16,
     ) -> Result<Step, Stop>
-        ensures { Does (jumped layout.entry.offsets.now layout.entry.sizes.now test self.old.position.routine next target self.old.accumulator (words_of self.old)) answer self.old self.new result }
+        ensures { Does (jumped ram_objects.entry.offsets.now ram_objects.entry.sizes.now test self.old.position.routine next target self.old.accumulator (words_of self.old)) answer self.old self.new result }
     {
         let value = self.accumulator;
         match test {
@@ -418,7 +418,7 @@ impl Context {
                 Ok(self.branch(relation.stands(value, right), next, target))
             }
             Test::Plain(relation, width, place) => {
-                let Some(place) = layout.reached(width, place, 0) else {
+                let Some(place) = ram_objects.reached(width, place, 0) else {
                     return Err(Stop::Bad);
                 };
                 let right = width.low(u32::from(answer));
@@ -459,24 +459,30 @@ impl Context {
     }
 
     // The access that an instruction makes.
-    fn access(&self, layout: Layout<'_>, instruction: Instruction) -> Option<Access>
-        ensures { (all : List Instruction) (next : ℕ) → option_map access_of result ≡ access_in (run layout.entry.offsets.now layout.entry.sizes.now all instruction self.now.position.routine next self.now.accumulator (words_of self.now)) }
+    fn access(&self, ram_objects: RamObjects<'_>, instruction: Instruction) -> Option<Access>
+        ensures { (all : List Instruction) (next : ℕ) → option_map access_of result ≡ access_in (run ram_objects.entry.offsets.now ram_objects.entry.sizes.now all instruction self.now.position.routine next self.now.accumulator (words_of self.now)) }
     {
         let value = self.accumulator;
         match instruction {
-            Instruction::Load(width, place) => read(width, layout.reached(width, place, 0)),
-            Instruction::LoadAt(width, place) => read(width, layout.reached(width, place, value)),
-            Instruction::LoadThere(width) => read(width, layout.held(width, value)),
+            Instruction::Load(width, place) => read(width, ram_objects.reached(width, place, 0)),
+            Instruction::LoadAt(width, place) => read(
+                width,
+                ram_objects.reached(width, place, value),
+            ),
+            Instruction::LoadThere(width) => read(width, ram_objects.held(width, value)),
             Instruction::BinaryPlain(_, _, width, place) => {
-                read(width, layout.reached(width, place, 0))
+                read(width, ram_objects.reached(width, place, 0))
             }
             Instruction::Store(width, place) => {
-                written(width, layout.reached(width, place, 0), value)
+                written(width, ram_objects.reached(width, place, 0), value)
             }
             Instruction::StoreAt(width, place) => {
-                self.written_top(width, layout.reached(width, place, value))
+                self.written_top(width, ram_objects.reached(width, place, value))
             }
-            Instruction::StoreThere(width) => self.written_top(width, layout.held(width, value)),
+            Instruction::StoreThere(width) => self.written_top(
+                width,
+                ram_objects.held(width, value),
+            ),
             Instruction::Send(width) => match self.value_on_top() {
                 None => None,
                 Some(top) => Some(Access::Output(width, value, width.low(u32::from(top)))),
@@ -487,8 +493,8 @@ impl Context {
             }
             Instruction::Receive(width) => Some(Access::Input(width, value)),
             Instruction::ReceiveFrom(width, port) => Some(Access::Input(width, port)),
-            Instruction::AheadUnless(test, _) => read_by(layout, test),
-            Instruction::BackUnless(test, _) => read_by(layout, test),
+            Instruction::AheadUnless(test, _) => read_by(ram_objects, test),
+            Instruction::BackUnless(test, _) => read_by(ram_objects, test),
             _ => None,
         }
     }
@@ -506,19 +512,19 @@ impl Context {
     // What an instruction does, where the next one has this index: those that only compute.
     fn make(
         &mut self,
-        layout: Layout<'_>,
+        ram_objects: RamObjects<'_>,
         all: &[Instruction],
         instruction: Instruction,
         next: usize,
         answer: u16,
     ) -> Result<Step, Stop>
-        ensures { Does (run layout.entry.offsets.now layout.entry.sizes.now all.now instruction self.old.position.routine next self.old.accumulator (words_of self.old)) answer self.old self.new result }
+        ensures { Does (run ram_objects.entry.offsets.now ram_objects.entry.sizes.now all.now instruction self.old.position.routine next self.old.accumulator (words_of self.old)) answer self.old self.new result }
     {
         let value = self.accumulator;
         match instruction {
             Instruction::Constant(constant) => Ok(self.go_on(next, constant)),
-            Instruction::Locate(place) => Ok(self.go_on(next, layout.address(place, 0))),
-            Instruction::LocateAt(place) => Ok(self.go_on(next, layout.address(place, value))),
+            Instruction::Locate(place) => Ok(self.go_on(next, ram_objects.address(place, 0))),
+            Instruction::LocateAt(place) => Ok(self.go_on(next, ram_objects.address(place, value))),
             Instruction::Push => self.push(next, Word::Value(value), answer),
             Instruction::Pick(above) => self.operate(next, self.picked(above), answer),
             Instruction::Drop(count) => self.discard(next, count, answer),
@@ -541,58 +547,68 @@ impl Context {
                 self.go_on(next, value);
                 Ok(Step::Halt)
             }
-            _ => self.make_outward(layout, all, instruction, next, answer),
+            _ => self.make_outward(ram_objects, all, instruction, next, answer),
         }
     }
 
     // Those with an access that is no test's.
     fn make_outward(
         &mut self,
-        layout: Layout<'_>,
+        ram_objects: RamObjects<'_>,
         all: &[Instruction],
         instruction: Instruction,
         next: usize,
         answer: u16,
     ) -> Result<Step, Stop>
         requires { is_plain instruction ≡ false }
-        ensures { Does (run layout.entry.offsets.now layout.entry.sizes.now all.now instruction self.old.position.routine next self.old.accumulator (words_of self.old)) answer self.old self.new result }
+        ensures { Does (run ram_objects.entry.offsets.now ram_objects.entry.sizes.now all.now instruction self.old.position.routine next self.old.accumulator (words_of self.old)) answer self.old self.new result }
     {
         let value = self.accumulator;
         match instruction {
             Instruction::Load(width, place) => {
-                self.load(next, width, layout.reached(width, place, 0), answer)
+                self.load(next, width, ram_objects.reached(width, place, 0), answer)
             }
             Instruction::LoadAt(width, place) => {
-                self.load(next, width, layout.reached(width, place, value), answer)
+                self.load(
+                    next,
+                    width,
+                    ram_objects.reached(width, place, value),
+                    answer,
+                )
             }
             Instruction::LoadThere(width) => {
-                self.load(next, width, layout.held(width, value), answer)
+                self.load(next, width, ram_objects.held(width, value), answer)
             }
             Instruction::BinaryPlain(operation, width, read, place) => {
-                let found = layout.reached(read, place, 0);
+                let found = ram_objects.reached(read, place, 0);
                 self.apply_read(next, operation, width, read, found, answer)
             }
             Instruction::Store(width, place) => {
-                self.store(next, width, layout.reached(width, place, 0), answer)
+                self.store(next, width, ram_objects.reached(width, place, 0), answer)
             }
             Instruction::StoreAt(width, place) => {
-                self.store_top(next, width, layout.reached(width, place, value), answer)
+                self.store_top(
+                    next,
+                    width,
+                    ram_objects.reached(width, place, value),
+                    answer,
+                )
             }
             Instruction::StoreThere(width) => {
-                self.store_top(next, width, layout.held(width, value), answer)
+                self.store_top(next, width, ram_objects.held(width, value), answer)
             }
             Instruction::Send(width) => self.send(next, width, answer),
             Instruction::SendTo(width, port) => self.send_to(next, width, port, answer),
             Instruction::Receive(width) => self.receive(next, width, value, answer),
             Instruction::ReceiveFrom(width, port) => self.receive(next, width, port, answer),
-            _ => self.make_jump(layout, all, instruction, next, answer),
+            _ => self.make_jump(ram_objects, all, instruction, next, answer),
         }
     }
 
     // Those that do not only go on at the next one. A case is no instruction of its own.
     fn make_jump(
         &mut self,
-        layout: Layout<'_>,
+        ram_objects: RamObjects<'_>,
         all: &[Instruction],
         instruction: Instruction,
         next: usize,
@@ -600,19 +616,19 @@ impl Context {
     ) -> Result<Step, Stop>
         requires plain { is_plain instruction ≡ false }
         requires outward { is_outward instruction ≡ false }
-        ensures { Does (run layout.entry.offsets.now layout.entry.sizes.now all.now instruction self.old.position.routine next self.old.accumulator (words_of self.old)) answer self.old self.new result }
+        ensures { Does (run ram_objects.entry.offsets.now ram_objects.entry.sizes.now all.now instruction self.old.position.routine next self.old.accumulator (words_of self.old)) answer self.old self.new result }
     {
         match instruction {
             Instruction::Ahead(count) => self.ahead(next, count, answer),
             Instruction::AheadUnless(test, count) => match next.checked_add(count) {
                 None => Err(Stop::Memory),
-                Some(target) => self.jump(layout, test, next, target, answer),
+                Some(target) => self.jump(ram_objects, test, next, target, answer),
             },
             Instruction::Back(count) => {
                 Ok(self.go_on(next.saturating_sub(count), self.accumulator))
             }
             Instruction::BackUnless(test, count) => {
-                self.jump(layout, test, next, next.saturating_sub(count), answer)
+                self.jump(ram_objects, test, next, next.saturating_sub(count), answer)
             }
             Instruction::Switch(count) => self.choose(all, next, count, answer),
             Instruction::Invoke(procedure) => self.invoke(next, procedure, answer),
@@ -631,14 +647,14 @@ impl Context {
 
 impl<'a> Machine<'a> {
     /// Main's first place, with no words on the stack, over objects that lie so.
-    pub fn new(alloc: Global, code: &'a Code, layout: Layout<'a>) -> Machine<'a>
+    pub fn new(alloc: Global, code: &'a Code, ram_objects: RamObjects<'a>) -> Machine<'a>
         ensures context { shown result.context ≡ At routine.Main 0 0 [] }
         ensures code { result.code ≡ code.entry }
-        ensures layout { result.layout ≡ layout.entry }
+        ensures ram_objects { result.ram_objects ≡ ram_objects.entry }
     {
         Machine {
             code,
-            layout,
+            ram_objects,
             context: Context {
                 position: Position {
                     routine: Routine::Main,
@@ -657,7 +673,7 @@ impl<'a> Machine<'a> {
         let Position { routine, index } = self.context.position;
         match self.code.instructions(routine).get(index) {
             None => None,
-            Some(instruction) => self.context.access(self.layout, *instruction),
+            Some(instruction) => self.context.access(self.ram_objects, *instruction),
         }
     }
 
@@ -670,7 +686,7 @@ impl<'a> Machine<'a> {
     pub fn step(&mut self, answer: u16) -> Result<Step, Stop>
         ensures does { Does (action_of self.old) answer self.old.context self.new.context result }
         ensures code { self.new.code ≡ self.old.code }
-        ensures layout { self.new.layout ≡ self.old.layout }
+        ensures ram_objects { self.new.ram_objects ≡ self.old.ram_objects }
     {
         let Position { routine, index } = self.context.position;
         let all = self.code.instructions(routine);
@@ -678,7 +694,7 @@ impl<'a> Machine<'a> {
             None => Err(Stop::Bad),
             Some(instruction) => {
                 self.context
-                    .make(self.layout, all, *instruction, index + 1, answer)
+                    .make(self.ram_objects, all, *instruction, index + 1, answer)
             }
         }
     }

@@ -1,7 +1,7 @@
 -- One text after another.
 use Rattle.std.proofs.Common.{◌≡◌, ◌∙◌, ◌++◌, [], ℕ, List, Option, Result, Ok, Err, ap, sym, refl, subst, append-nil, append_assoc}
 use Rattle.std.proofs.KnownBytes.{Appends-trans, Appends-nil}
-use Rattle.word86.specs.Taking.{Appends, Cut, Rises, Writes}
+use Rattle.word86.specs.Sink.{Appends, Cut, Rises, Writes}
 
 -- a beginning of the first text is one of both
 pub cut_longer : (a b : Option (List ℕ)) (s t : List ℕ) → Cut a b s → Cut a b (s ++ t)

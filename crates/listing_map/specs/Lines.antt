@@ -1,6 +1,6 @@
 -- The lines that users see: each line of a trace, from `IN pppp vv` to `END n` and `OPCODE aaaaa`, and the line of a fault.
 use Rattle.std.specs.Prelude.{ℕ, List, [], ◌∷◌, ◌++◌, ◌+◌, ◌/◌, ◌%◌, if◌then◌else◌, nat_lt, codes, decimal}
-use Rattle.word86.specs.Numbers.{number_text}
+use Rattle.word86.specs.Number.{number_text}
 use Rattle.word86.specs.declared.number.Number.{Number}
 use Rattle.word86.specs.declared.label.Label.{Label}
 use Rattle.word86.specs.declared.label.Label.TheVariants.{In, InW, Out, OutW, Scr, ScrW, Ack, Tick, Key}

@@ -2,7 +2,7 @@
 use Rattle.std.specs.Prelude.{ℕ, ◌+◌, ◌-◌, Bool, false, ◌&&◌, ◌==◌, if◌then◌else◌, List, [], ◌∷◌, ◌++◌, length, take, codes, decimal}
 use Rattle.std.specs.List.{flat_map}
 use Rattle.plm_type.specs.declared.sharing.Warning.{Warning}
-use Rattle.word86.specs.Numbers.{number_text}
+use Rattle.word86.specs.Number.{number_text}
 use Rattle.word86.specs.declared.number.Number.TheVariants.{W1}
 use Rattle.listing_map.specs.Lines.{line_end}
 

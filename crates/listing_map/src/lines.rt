@@ -1,7 +1,7 @@
 //! The lines of a trace, and of a fault or a warning.
 
 ghost use Rattle.std.specs.Prelude.{◌≡◌, ◌∷◌, [], IfErr};
-ghost use Rattle.word86.specs.Taking.{Writes};
+ghost use Rattle.word86.specs.Sink.{Writes};
 ghost use Rattle.word86.specs.declared.fault.Fault.TheVariants.{At};
 ghost use Rattle.word86.specs.declared.number.Number.TheVariants.{E704};
 ghost use Rattle.listing_map.specs.Lines.{byte_line, word_line, short_line, decimal_line, label_line, end_line, opcode_line, bad_line, located_line};

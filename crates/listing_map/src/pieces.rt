@@ -1,7 +1,7 @@
 //! One piece of a text after another. A text that could not be written whole was taken as far as a beginning of it.
 
 ghost use Rattle.std.specs.Prelude.{◌≡◌, ◌++◌};
-ghost use Rattle.word86.specs.Taking.{Writes};
+ghost use Rattle.word86.specs.Sink.{Writes};
 
 use word86::{Sink, SinkFault, put_all};
 

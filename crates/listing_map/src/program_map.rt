@@ -2,7 +2,7 @@
 
 ghost use Rattle.std.specs.Prelude.{◌≡◌, ◌<◌, ◌++◌, codes, length, slice_index, slice_range, option_copied, IfErr};
 ghost use Rattle.std.specs.List.{concat};
-ghost use Rattle.word86.specs.Taking.{Writes};
+ghost use Rattle.word86.specs.Sink.{Writes};
 ghost use Rattle.word86.specs.declared.fault.Fault.TheVariants.{At};
 ghost use Rattle.word86.specs.declared.number.Number.TheVariants.{E704};
 ghost use Rattle.plm_decl.specs.Names.{procedure_of};

@@ -2,7 +2,7 @@
 
 ghost use Rattle.std.specs.Prelude.{◌≡◌, ◌+◌, ◌<◌, ◌≤◌, false, ℕ, List, [], ◌∷◌, ◌++◌, length, if◌then◌else◌, ◌==◌, IfOk, IfErr};
 ghost use Rattle.std.specs.List.{All};
-ghost use Rattle.word86.specs.Taking.{Writes};
+ghost use Rattle.word86.specs.Sink.{Writes};
 ghost use Rattle.word86.specs.declared.fault.Fault.TheVariants.{At};
 ghost use Rattle.word86.specs.declared.number.Number.TheVariants.{E704};
 ghost use Rattle.listing_map.specs.SourceListing.{lines_of, numbered_line, warning_line, warning_lines, listing_text};

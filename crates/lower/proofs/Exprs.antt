@@ -12,8 +12,8 @@ use Rattle.word86.specs.declared.place.Place.TheVariants as places
 use Rattle.word86.specs.Access.{Read, Write, Where}
 use Rattle.word86.specs.Action.{Silent, map_action}
 use Rattle.word86.specs.Arithmetic.{low}
-use Rattle.word86.specs.Operators.{unary_value, binary_value}
-use Rattle.word86.specs.Places.{bytes, held}
+use Rattle.word86.specs.Operation.{unary_value, binary_value}
+use Rattle.word86.specs.Place.{bytes, held}
 use Rattle.plm_type.specs.Rest.{Anchor, InObject, OnScreen, Behind, There, Expression, Constant, Plain, Variable, Location, Unary, Binary, Embedded, Input, Call, Value, Passing, Running, Expressions, NoMore, More, Reference, Refer, Subscripts, NoSubscripts, Subscript, Target, ToVariable, Procedure, Rest}
 use Rattle.plm_type.specs.Places.{placed}
 use Rattle.plm_type.specs.Next.{and_value, values_of, operated, read_at, next_variable, next_location, address_of, next_reference}

@@ -6,7 +6,7 @@ use Rattle.std.specs.Prelude.{take, drop}
 use Rattle.icode.specs.declared.instruction.Instruction.{Instruction}
 use Rattle.icode.specs.declared.instruction.Instruction.TheVariants as op
 use Rattle.icode.specs.declared.instruction.Test.{Test}
-use Rattle.icode.specs.Levels.{after, behind, popped}
+use Rattle.icode.specs.Heights.{after, behind, popped}
 use Rattle.icode.specs.Made.{asked_constant, is_case}
 use Rattle.plm_type.specs.Rest.{Scalar}
 use Rattle.lower.specs.Code.{Operand, Number, Name, Computed, next_round, add_pushed, over, failing, choosing, all_of, entries, switching, exit_before, place_of}

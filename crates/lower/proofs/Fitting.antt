@@ -6,7 +6,7 @@ use Rattle.plm_type.specs.Rest.{Expression, Loop, Count, Statement, Empty, Assig
 use Rattle.icode.specs.declared.instruction.Instruction.{Instruction}
 use Rattle.icode.specs.declared.instruction.Instruction.TheVariants as op
 use Rattle.icode.specs.declared.instruction.Relation.TheVariants as relation
-use Rattle.icode.specs.Levels.{behind}
+use Rattle.icode.specs.Heights.{behind}
 use Rattle.lower.specs.Code.{Kind, OfMain, Called, Giving, Serving, operand_of, place_of, beside, stands_to, test_of, expression_code, targets_code, condition_code, returning, narrowed, next_round, are_silent, over, all_of, switching, exit_before, statement_code, statements_code, cases_code}
 use Rattle.lower.specs.Well.{MayReturn, IsStatement, AreStatements}
 use Rattle.lower.proofs.Heights.{Keeps, expression_keeps, dropped_keeps, targets_keep}

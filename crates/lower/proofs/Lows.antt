@@ -35,7 +35,7 @@ use Rattle.plm_type.specs.Programs.{declared_procedures, main_tree, procedures_o
 use Rattle.icode.specs.declared.code.Routine.{Routine}
 use Rattle.icode.specs.declared.code.Routine.TheVariants as routine
 use Rattle.icode.specs.declared.instruction.Instruction.TheVariants.{Finish}
-use Rattle.icode.specs.Levels.{height}
+use Rattle.icode.specs.Heights.{height}
 use Rattle.lower.proofs.Typed.{tree_of, trees_of, selector_trees, value_of, location_of, target_of, types_of, measured_value, argument_value, reference_value, target_trees, called, step_for, statement_for, statements_for, body_for, procedure_for}
 use Rattle.lower.specs.Code.{OfMain, kind_of, are_giving, serves, procedure_code}
 use Rattle.lower.specs.Lowered.{vectors_of, program_code}

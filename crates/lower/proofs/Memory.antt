@@ -4,7 +4,7 @@ use Rattle.std.specs.Prelude.{if◌then◌else◌, slice_index}
 use Rattle.word86.specs.declared.width.Width.{Width}
 use Rattle.word86.specs.declared.width.Width.TheVariants as widths
 use Rattle.word86.specs.Access.{Where, In, Screen}
-use Rattle.word86.specs.Places.{bytes, covers, held, screen_begins, screen_size}
+use Rattle.word86.specs.Place.{bytes, covers, held, screen_begins, screen_size}
 use Rattle.plm_type.specs.Rest.{Anchor, InObject, OnScreen, Behind, There, Refer, NoSubscripts}
 use Rattle.plm_type.specs.Places.{placed}
 use Rattle.plm_type.specs.Next.{address_of}

@@ -2,7 +2,7 @@
 use Rattle.std.proofs.Common.{◌≡◌, ℕ, zero, suc, ◌+◌, ◌-◌, ◌<◌, ◌≤◌, Bool, true, false, List, [], ◌∷◌, length, Some, refl, ap, ◌∙◌, arith}
 use Rattle.std.specs.Prelude.{if◌then◌else◌, slice_index}
 use Rattle.word86.specs.Access.{In}
-use Rattle.word86.specs.Places.{covers, held}
+use Rattle.word86.specs.Place.{covers, held}
 use Rattle.plm_decl.specs.Placement.{IsPlacement}
 use Rattle.lower.proofs.Memory.{covered, of_covered}
 

@@ -25,7 +25,7 @@ use Rattle.icode.specs.declared.code.Procedure as code
 use Rattle.icode.specs.declared.code.Routine.{Routine}
 use Rattle.icode.specs.declared.code.Routine.TheVariants as routine
 use Rattle.icode.specs.Code.{code_of}
-use Rattle.icode.specs.Levels.{AreOrdered, instructions_of, place_in}
+use Rattle.icode.specs.Heights.{AreOrdered, instructions_of, place_in}
 use Rattle.lower.specs.Code.{Kind, OfMain, routine_code, kind_of, are_giving, has_vector, serves, procedure_code}
 use Rattle.lower.specs.Lowered.{IsLowered, vector_of, vectors_of, last_module, program_code}
 use Rattle.lower.specs.Checked.{IsSound}

@@ -12,7 +12,7 @@ use Rattle.icode.specs.declared.instruction.Instruction.{Instruction}
 use Rattle.icode.specs.declared.instruction.Instruction.TheVariants as op
 use Rattle.icode.specs.declared.code.Routine.{Routine}
 use Rattle.icode.specs.declared.code.Routine.TheVariants as routine
-use Rattle.icode.specs.Levels.{after, behind, height, target, IsLevelled}
+use Rattle.icode.specs.Heights.{after, behind, height, target, HasHeights}
 use Rattle.icode.specs.Made.{constant_in, cases_of, is_case, IsMade}
 use Rattle.lower.specs.Code.{Kind, OfMain, Called, Giving, Serving, kind_of, gives, are_giving, serves, ending, statements_code, routine_code, procedure_code, code}
 use Rattle.lower.specs.Well.{AreStatements}
@@ -82,8 +82,8 @@ module _ (MayCall : ℕ → Type 0) (Enables Finishes : Type 0) where
     at : (k : ℕ) (x : Instruction) → slice_get all k ≡ Some x → Fit MayCall Enables Finishes (Lands all) k (height all k) x (drop (suc k) all)
     at k x e = subst (λ q. Fit MayCall Enables Finishes (Lands all) q (height all k) x (drop (suc k) all)) (omega arith) (fit_at MayCall Enables Finishes (Lands all) 0 0 k all x f e)
 
-    pub levelled : IsLevelled all
-    levelled = record {
+    pub has_heights : HasHeights all
+    has_heights = record {
       drops = λ k n e. at k (op.Drop n) e;
       flat = λ k t x e j.
           let l = jump_fits (Lands all) x k (height all k) t (drop (suc k) all) (at k x e) j in

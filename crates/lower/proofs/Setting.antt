@@ -2,7 +2,7 @@
 -- may come with one instruction.
 use Rattle.std.specs.Prelude.{◌≡◌, ℕ, ◌+◌, ◌≤◌, List, Some, slice_index}
 use Rattle.word86.specs.Access.{In}
-use Rattle.word86.specs.Places.{held}
+use Rattle.word86.specs.Place.{held}
 use Rattle.plm_type.specs.Rest.{Procedure}
 use Rattle.icode.specs.declared.instruction.Instruction.{Instruction}
 use Rattle.icode.specs.declared.code.Routine.{Routine}

@@ -6,7 +6,7 @@ use Rattle.word86.specs.declared.operation.BinaryOperation.{BinaryOperation}
 use Rattle.word86.specs.declared.operation.BinaryOperation.TheVariants as binary
 use Rattle.word86.specs.Access.{Read}
 use Rattle.word86.specs.Action.{Silent, Touch, map_action}
-use Rattle.word86.specs.Operators.{truth, binary_value}
+use Rattle.word86.specs.Operation.{truth, binary_value}
 use Rattle.plm_type.specs.Rest.{Expression, Constant, Plain, Variable, Location, Unary, Binary, Embedded, Input, Call, Value, Passing, Running, Statements, Rest}
 use Rattle.plm_type.specs.Next.{is_odd, operated}
 use Rattle.icode.specs.declared.instruction.Instruction.TheVariants as op

@@ -3,7 +3,7 @@ use Rattle.std.proofs.Common.{◌≡◌, ℕ, suc, ◌+◌, ◌≤◌, ◌++◌,
 use Rattle.word86.specs.declared.width.Width.{Width}
 use Rattle.word86.specs.declared.width.Width.TheVariants as widths
 use Rattle.word86.specs.declared.operation.BinaryOperation.TheVariants as binary
-use Rattle.word86.specs.Places.{where_of}
+use Rattle.word86.specs.Place.{where_of}
 use Rattle.word86.specs.declared.place.Place.{Place}
 use Rattle.word86.specs.declared.place.Place.TheVariants as places
 use Rattle.plm_type.specs.declared.program.Operation.{Operation}
@@ -23,7 +23,7 @@ pub same_place : (p : Place) → place_of (where_of p) ≡ p
 same_place (places.Ram k i) = refl
 same_place (places.Screen i) = refl
 
--- operators of one level: the left operand's code, then theirs
+-- operators of one precedence: the left operand's code, then theirs
 pub chain_coded : (ps : List Procedure) (e : Expression) (os : List Operation) → expression_code ps (chained e os) ≡ expression_code ps e ++ chain_code ps os
 chain_coded ps e [] = sym (append-nil (expression_code ps e))
 chain_coded ps e (o ∷ os) = chain_coded ps _ os ∙ append_assoc (expression_code ps e) (operation_code ps o) (chain_code ps os)

@@ -10,7 +10,7 @@ use Rattle.word86.specs.declared.operation.BinaryOperation.{BinaryOperation}
 use Rattle.word86.specs.declared.operation.BinaryOperation.TheVariants as binary
 use Rattle.word86.specs.Access.{values}
 use Rattle.word86.specs.Arithmetic.{low}
-use Rattle.word86.specs.Operators.{truth, unary_value, binary_value, quotient, remainder}
+use Rattle.word86.specs.Operation.{truth, unary_value, binary_value, quotient, remainder}
 
 pub low_small : (w : Width) (v : ℕ) → low w v < 65536
 low_small widths.Byte v = omega arith

@@ -4,8 +4,8 @@ use Rattle.std.specs.Prelude.{drop, nat_le, nat_lt, length, if◌then◌else◌}
 use Rattle.word86.specs.declared.width.Width.{Width}
 use Rattle.word86.specs.Access.{Access, Where}
 use Rattle.word86.specs.Action.{Action, Silent, Touch, Enable, Disable, Halt, Over, Bad}
-use Rattle.word86.specs.Operators.{binary_value}
-use Rattle.word86.specs.Places.{bytes, held}
+use Rattle.word86.specs.Operation.{binary_value}
+use Rattle.word86.specs.Place.{bytes, held}
 use Rattle.icode.specs.declared.instruction.Instruction.{Instruction}
 use Rattle.icode.specs.declared.instruction.Instruction.TheVariants as op
 use Rattle.icode.specs.declared.instruction.Test.{Test}

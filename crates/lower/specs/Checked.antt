@@ -10,7 +10,7 @@ use Rattle.plm_type.specs.Reach.{row_of}
 use Rattle.icode.specs.declared.instruction.Instruction.TheVariants.{Invoke}
 use Rattle.icode.specs.declared.code.Routine.{Routine}
 use Rattle.icode.specs.declared.code.Routine.TheVariants as routine
-use Rattle.icode.specs.Levels.{IsLevelled}
+use Rattle.icode.specs.Heights.{HasHeights}
 use Rattle.icode.specs.Made.{IsMade}
 use Rattle.lower.specs.Code.{serves}
 use Rattle.lower.specs.Lowered.{vectors_of, program_code}
@@ -26,7 +26,7 @@ CheckedLaw = (program : Program) (names : Names) → AreTyped program names → 
 
 -- Code of well-formed trees: heights can be told, jumps lead to instructions, main and a procedure call those that their trees call, and none that serves an interrupt is called.
 pub record IsSound (names : Names) : Type 0 where
-  pub levelled : (r : Routine) → IsLevelled (program_code names r)
+  pub has_heights : (r : Routine) → HasHeights (program_code names r)
   pub made : (r : Routine) → IsMade (program_code names r)
   pub calls : (p q k : ℕ) → slice_get (program_code names (routine.Procedure p)) k ≡ Some (Invoke q) → Contains (row_of (slice_get (graph_of (procedures_of names)) p)) q
   pub main_calls : (q k : ℕ) → slice_get (program_code names routine.Main) k ≡ Some (Invoke q) → Contains (statements_calls (main_tree names)) q

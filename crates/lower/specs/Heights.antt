@@ -3,7 +3,7 @@ use Rattle.std.specs.Prelude.{ℕ, ◌≤◌}
 use Rattle.plm_decl.specs.declared.names.Names.{Names}
 use Rattle.plm_type.specs.Leaves.{most_leaves}
 use Rattle.icode.specs.declared.code.Routine.{Routine}
-use Rattle.icode.specs.Levels.{height}
+use Rattle.icode.specs.Heights.{height}
 use Rattle.lower.specs.Lowered.{program_code}
 
 -- nowhere more than a statement of the program has constants and references

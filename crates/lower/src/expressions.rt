@@ -2,7 +2,7 @@
 
 ghost use Rattle.std.specs.Prelude.{◌≡◌, ◌++◌, ◌∷◌, ◌%◌, [], map, slice_get, OnOk, IsOkUnless};
 ghost use Rattle.plm_type.specs.View.{scalar_of, anchor_of, expression_of, expressions_of, reference_of, subscripts_of, target_of, targets_of, procedures_of};
-ghost use Rattle.word86.specs.Places.{where_of};
+ghost use Rattle.word86.specs.Place.{where_of};
 ghost use Rattle.plm_type.specs.Rest.{Call};
 ghost use Rattle.plm_type.specs.Next.{parameters_of};
 ghost use Rattle.lower.specs.Code.{anchor_place, scaled, moved, based, reading, locating, writing, receiving, sending, passing, expression_code, subscripts_code, pushed_code, target_code, targets_code, operand_of, alone, beside, calling, dropped_code};

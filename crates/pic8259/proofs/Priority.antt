@@ -4,7 +4,7 @@ use Rattle.std.specs.Prelude.{if◌then◌else◌, is_some, unwrap_or}
 use Rattle.std.specs.List.{list_all, range_with_len}
 use Rattle.std.proofs.lemmas.Bool.Decides.{nat_tests}
 use Rattle.pic8259.specs.Levels.{has, level_at, rank, highest, IsHighest}
-use Rattle.pic8259.specs.Controller.{Controller, is_above, is_wanted, pending, MayInterrupt, IsNext, line, vector, taken, acknowledged}
+use Rattle.pic8259.specs.Controller.{Controller, is_above, is_wanted, pending, MayInterrupt, IsNext, int_line, vector, taken, acknowledged}
 
 -- n levels in the order of priority, from a place on
 abbrev pub places : ℕ → ℕ → ℕ → List ℕ
@@ -343,15 +343,15 @@ some_up : (o : Option ℕ) → (o ≡ None → ⊥) → is_some o ≡ true
 some_up None f = absurd (f refl)
 some_up (Some k) f = refl
 
-pub line_up : (s : Controller) (k : ℕ) → s.lowest < 8 → s.mode_8086 ≡ true → MayInterrupt s k → line s ≡ true
+pub line_up : (s : Controller) (k : ℕ) → s.lowest < 8 → s.mode_8086 ≡ true → MayInterrupt s k → int_line s ≡ true
 line_up s k below mode h = and_both s.mode_8086 (is_some (pending s)) mode (some_up (pending s) (not_none s k below h))
 
-pub line_mode : (s : Controller) → line s ≡ true → s.mode_8086 ≡ true
+pub line_mode : (s : Controller) → int_line s ≡ true → s.mode_8086 ≡ true
 line_mode s h = and_left s.mode_8086 (is_some (pending s)) h
 
 level_taken : (o : Option ℕ) (s : Controller) → s.lowest < 8 → pending s ≡ o → is_some o ≡ true → (k : ℕ) × IsNext s k × (vector s ≡ s.base + k) × (acknowledged s ≡ taken (Some k) s)
 level_taken None s below e up = absurd (clash (sym up))
 level_taken (Some k) s below e up = (k, pending_is_next s k below e, ap (λ (o : Option ℕ). s.base + unwrap_or o 0) e, ap (λ (o : Option ℕ). taken o s) e)
 
-pub line_level : (s : Controller) → s.lowest < 8 → line s ≡ true → (k : ℕ) × IsNext s k × (vector s ≡ s.base + k) × (acknowledged s ≡ taken (Some k) s)
+pub line_level : (s : Controller) → s.lowest < 8 → int_line s ≡ true → (k : ℕ) × IsNext s k × (vector s ≡ s.base + k) × (acknowledged s ≡ taken (Some k) s)
 line_level s below h = level_taken (pending s) s below refl (and_right s.mode_8086 (is_some (pending s)) h)

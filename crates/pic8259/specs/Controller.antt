@@ -54,8 +54,8 @@ pub record IsNext (s : Controller) (k : ℕ) : Type 0 where
   pub highest : (j : ℕ) → j < 8 → has s.requested j ≡ true → has s.masked j ≡ false → rank s.lowest k ≤ rank s.lowest j
 
 -- INT
-abbrev pub line : Controller → Bool
-line s = s.mode_8086 && is_some (pending s)
+abbrev pub int_line : Controller → Bool
+int_line s = s.mode_8086 && is_some (pending s)
 
 -- the vector of an acknowledgement
 abbrev pub vector : Controller → ℕ

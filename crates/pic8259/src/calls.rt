@@ -2,7 +2,7 @@
 
 ghost use Rattle.std.specs.Prelude.{◌≡◌, ℕ, ◌<◌, ◌+◌, Bool, true, false, ◌==◌, not, ◌&&◌, ◌||◌, Some, None, length};
 ghost use Rattle.pic8259.specs.Levels.{has, with_level, without_level, rank, highest, IsHighest};
-ghost use Rattle.pic8259.specs.Controller.{Controller, reset, pending, MayInterrupt, IsNext, line, vector, acknowledged, taken};
+ghost use Rattle.pic8259.specs.Controller.{Controller, reset, pending, MayInterrupt, IsNext, int_line, vector, acknowledged, taken};
 ghost use Rattle.pic8259.specs.Pic.{controller_of};
 ghost use Rattle.pic8259.specs.Calls.{after, after_one, reply_of, replies_of};
 
@@ -95,7 +95,7 @@ pub fn next_law()
 /// The law of INT: it is up exactly where, in 8086 mode, some requested, unmasked level has higher priority than every level in
 /// service. An acknowledgement then takes the highest such level, and its vector is that level's.
 pub fn line_law()
-    ensures up { (s : Controller) (k : ℕ) → s.lowest < 8 → s.mode_8086 ≡ true → MayInterrupt s k → line s ≡ true }
-    ensures mode { (s : Controller) → line s ≡ true → s.mode_8086 ≡ true }
-    ensures level { (s : Controller) → s.lowest < 8 → line s ≡ true → (k : ℕ) × IsNext s k × (vector s ≡ s.base + k) × (acknowledged s ≡ taken (Some k) s) }
+    ensures up { (s : Controller) (k : ℕ) → s.lowest < 8 → s.mode_8086 ≡ true → MayInterrupt s k → int_line s ≡ true }
+    ensures mode { (s : Controller) → int_line s ≡ true → s.mode_8086 ≡ true }
+    ensures level { (s : Controller) → s.lowest < 8 → int_line s ≡ true → (k : ℕ) × IsNext s k × (vector s ≡ s.base + k) × (acknowledged s ≡ taken (Some k) s) }
 {}

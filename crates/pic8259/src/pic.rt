@@ -22,7 +22,7 @@ pub struct Pic {
 }
 
 impl Pic {
-    ghost use Rattle.pic8259.specs.Controller.{reset, pulsed, line, vector, acknowledged, written, answer};
+    ghost use Rattle.pic8259.specs.Controller.{reset, pulsed, int_line, vector, acknowledged, written, answer};
     ghost use Rattle.pic8259.specs.Pic.{controller_of};
 
     /// The chip at reset: nothing requested, in service, masked or awaited, and not in 8086 mode, so that INT is down.
@@ -73,7 +73,7 @@ impl Pic {
 
     /// Whether INT is up: in 8086 mode, while a requested, unmasked level stands above every level in service.
     pub fn int_line(&self) -> bool
-        ensures { result ≡ line (controller_of self.now) }
+        ensures { result ≡ int_line (controller_of self.now) }
     {
         self.registers.is_8086_mode() && self.next.is_some()
     }
@@ -81,7 +81,7 @@ impl Pic {
     /// Takes the highest such level and answers its vector. The request ends, and the level is in service unless the end of
     /// interrupt is automatic.
     pub fn acknowledge(&mut self) -> u8
-        requires { line (controller_of self.old) ≡ true }
+        requires { int_line (controller_of self.old) ≡ true }
         ensures state { controller_of self.new ≡ acknowledged (controller_of self.old) }
         ensures vector { result ≡ vector (controller_of self.old) }
     {

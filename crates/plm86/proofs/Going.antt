@@ -6,7 +6,7 @@ use Rattle.std.proofs.lemmas.Grind.{flat_map-append}
 use Rattle.std.proofs.KnownBytes.{Appends-trans, Appends-nil}
 use Rattle.word86.specs.declared.event.Event.{Event}
 use Rattle.word86.specs.declared.label.Label.{Label}
-use Rattle.word86.specs.Taking.{Appends, Cut, Rises}
+use Rattle.word86.specs.Sink.{Appends, Cut, Rises}
 use Rattle.listing_map.specs.Lines.{label_line, end_line}
 use Rattle.word86.specs.declared.power_on.PowerOn.{PowerOn}
 use Rattle.ppi_kbd.specs.Chips.{ChipState, reset}

@@ -3,14 +3,14 @@ use Rattle.std.specs.Prelude.{ℕ, zero, suc, Bool, true, false, ◌≡◌, ◌+
 use Rattle.word86.specs.declared.event.Event.{Event}
 use Rattle.word86.specs.declared.label.Label.{Label}
 use Rattle.word86.specs.Access.{Access}
-use Rattle.word86.specs.Events.{event_label}
+use Rattle.word86.specs.Event.{event_label}
 use Rattle.word86.specs.Chips.{Chips}
 use Rattle.word86.specs.Action.{Shared, Action}
 use Rattle.plm_meaning.specs.System.{Choice, System, State, first_state, steps, FitsTurns, HasNoBad, KeepsPace, joined}
 use Rattle.plm_meaning.specs.Store.{Store, shared}
 use Rattle.cpu8086.specs.BusModel.{BusModel}
 use Rattle.cpu8086.specs.Machine.{loaded_word}
-use Rattle.board.specs.World.{World, board_model, comes}
+use Rattle.board.specs.World.{World, board_model, occurs}
 use Rattle.board.specs.Machine.{Board, turn, outputs, final, power_on}
 
 -- What stands throughout a run: the ROM's bytes; the place in segment 0F000H to which each vector leads; and how many bytes main has
@@ -33,39 +33,39 @@ abbrev pub is_serving : {S R : Type 0} → System S R → Bool
 is_serving (State main None on halted w silents switches) = false
 is_serving (State main (Some h) on halted w silents switches) = true
 
--- Main's level is where the stack pointer is while main runs, and where it was when the interrupt procedure that runs was entered. It
+-- `main_sp` is where the stack pointer is while main runs, and where it was when the interrupt procedure that runs was entered. It
 -- is at most main's bytes below the top of the stack, 0FFFEH, and an interrupt procedure goes at most its own bytes below it.
-abbrev pub IsBounded : (main handler level : ℕ) → (serving : Bool) → (sp : ℕ) → Type 0
-IsBounded main handler level false sp = (0xFFFE ≤ level + main) × (sp ≡ level)
-IsBounded main handler level true sp = (0xFFFE ≤ level + main) × (level ≤ sp + handler)
+abbrev pub IsBounded : (main handler main_sp : ℕ) → (serving : Bool) → (sp : ℕ) → Type 0
+IsBounded main handler main_sp false sp = (0xFFFE ≤ main_sp + main) × (sp ≡ main_sp)
+IsBounded main handler main_sp true sp = (0xFFFE ≤ main_sp + main) × (main_sp ≤ sp + handler)
 
 module _ {P : Type 0} (c : Chips P) where
   abbrev pub board_turn : List Event → Board (World P) → Board (World P) × List Label
-  board_turn es b = turn (board_model c) (comes c) es b
+  board_turn es b = turn (board_model c) (occurs c) es b
 
   -- ROM and vectors are as they were, and the stack pointer is in its bounds and in the stack's room
-  pub record Stands (x : Firmware) (level : ℕ) (serving : Bool) (b : Board (World P)) : Type 0 where
+  pub record Stands (x : Firmware) (main_sp : ℕ) (serving : Bool) (b : Board (World P)) : Type 0 where
     pub rom : b.world.rom ≡ x.rom
     pub vectors : Vectors (board_model c) x.entry b.world
-    pub bounded : IsBounded x.main x.handler level serving b.cpu.registers.sp
+    pub bounded : IsBounded x.main x.handler main_sp serving b.cpu.registers.sp
     pub from_top : b.cpu.registers.sp ≤ 0xFFFE
     pub in_room : 0xF000 ≤ b.cpu.registers.sp
 
 -- ---- a run
 
-module _ (sh : Shared) (R : Type 0) (next : R → Action sh.Access R) (body : ℕ → R) (M : Type 0) (turns : List sh.Event → M → M × List sh.Label) (Standing : (level : ℕ) → (serving : Bool) → M → Type 0) where
-  -- The machine stands now and after each turn that comes, as the run is by then: its pieces lead from state to state. Main's level
+module _ (sh : Shared) (R : Type 0) (next : R → Action sh.Access R) (body : ℕ → R) (M : Type 0) (turns : List sh.Event → M → M × List sh.Label) (Standing : (main_sp : ℕ) → (serving : Bool) → M → Type 0) where
+  -- The machine stands now and after each turn that comes, as the run is by then: its pieces lead from state to state. `main_sp`
   -- stays as long as an interrupt procedure runs.
-  abbrev pub Upholds : (due : List (List sh.Event)) → M → (pieces : List (List (Choice sh.Event))) → System sh.State R → (level : ℕ) → Type 0
-  Upholds [] m pieces s level = Standing level (is_serving s) m
-  Upholds (es ∷ due) m [] s level = ⊥
-  Upholds (es ∷ due) m (cs ∷ pieces) s level =
-      Standing level (is_serving s) m × (t : System sh.State R) × (steps sh R next body cs s ≡ Some (t, (turns es m).1))
-      × (later : ℕ) × (is_serving t ≡ true → later ≡ level) × Upholds due (turns es m).0 pieces t later
+  abbrev pub Upholds : (due : List (List sh.Event)) → M → (pieces : List (List (Choice sh.Event))) → System sh.State R → (main_sp : ℕ) → Type 0
+  Upholds [] m pieces s main_sp = Standing main_sp (is_serving s) m
+  Upholds (es ∷ due) m [] s main_sp = ⊥
+  Upholds (es ∷ due) m (cs ∷ pieces) s main_sp =
+      Standing main_sp (is_serving s) m × (t : System sh.State R) × (steps sh R next body cs s ≡ Some (t, (turns es m).1))
+      × (later : ℕ) × (is_serving t ≡ true → later ≡ main_sp) × Upholds due (turns es m).0 pieces t later
 
   -- the same from the end of a start-up of start_turns turns on
   abbrev pub UpholdsAfter : (start_turns : ℕ) → (due : List (List sh.Event)) → M → (pieces : List (List (Choice sh.Event))) → System sh.State R → Type 0
-  UpholdsAfter zero due m pieces s = (level : ℕ) × Upholds due m pieces s level
+  UpholdsAfter zero due m pieces s = (main_sp : ℕ) × Upholds due m pieces s main_sp
   UpholdsAfter (suc k) [] m pieces s = Unit {0}
   UpholdsAfter (suc k) (es ∷ due) m [] s = ⊥
   UpholdsAfter (suc k) (es ∷ due) m (cs ∷ pieces) s =
@@ -73,7 +73,7 @@ module _ (sh : Shared) (R : Type 0) (next : R → Action sh.Access R) (body : �
 
 -- There is an allowed run of the program, cut into a piece for each turn: its labels turn by turn are those of the machine. From the
 -- end of start-up on it makes a step in every 64 turns, and what shall stand stands.
-pub record Behaves (sh : Shared) (R : Type 0) (next : R → Action sh.Access R) (first : R) (body : ℕ → R) (state : sh.State) (M : Type 0) (turns : List sh.Event → M → M × List sh.Label) (reset : M) (Standing : (level : ℕ) → (serving : Bool) → M → Type 0) (start_turns : ℕ) (due : List (List sh.Event)) : Type 0 where
+pub record Behaves (sh : Shared) (R : Type 0) (next : R → Action sh.Access R) (first : R) (body : ℕ → R) (state : sh.State) (M : Type 0) (turns : List sh.Event → M → M × List sh.Label) (reset : M) (Standing : (main_sp : ℕ) → (serving : Bool) → M → Type 0) (start_turns : ℕ) (due : List (List sh.Event)) : Type 0 where
   pub pieces : List (List (Choice sh.Event))
   pub fits : FitsTurns sh R next body (outputs turns due reset) pieces (first_state first state)
   pub pace : KeepsPace 64 (drop start_turns pieces)

@@ -2,7 +2,7 @@
 use Rattle.std.specs.Prelude.{ℕ, zero, suc, ◌≡◌, List, [], ◌∷◌, ◌++◌, map, Option, Some, Result, Ok, Err}
 use Rattle.word86.specs.declared.event.Event.{Event}
 use Rattle.word86.specs.declared.label.Label.{Label}
-use Rattle.word86.specs.Taking.{Cut, Rises}
+use Rattle.word86.specs.Sink.{Cut, Rises}
 use Rattle.word86.specs.declared.fault.Fault.{Fault}
 use Rattle.word86.specs.declared.fault.Fault.TheVariants.{Memory, At}
 use Rattle.word86.specs.declared.number.Number.TheVariants.{E704}

@@ -5,7 +5,7 @@ ghost use Rattle.word86.specs.declared.event.Event.{Event};
 ghost use Rattle.word86.specs.declared.label.Label.{Label};
 ghost use Rattle.word86.specs.declared.fault.Fault.TheVariants as fault;
 ghost use Rattle.word86.specs.declared.number.Number.TheVariants.{E704};
-ghost use Rattle.word86.specs.Taking.{Appends, Cut, Rises, Writes};
+ghost use Rattle.word86.specs.Sink.{Appends, Cut, Rises, Writes};
 ghost use Rattle.ppi_kbd.specs.Chips.{ChipState};
 ghost use Rattle.ppi_kbd.specs.Ports.{Shows};
 ghost use Rattle.plm_decl.specs.declared.names.Names.{Names};
@@ -110,7 +110,7 @@ fn take_turn<S: Sink>(
         (Ended whole old (S.taken sink.new) before (S.failures sink.new)) }
 {
     for event in events {
-        advance(meaning, &[Choice::Event(*event)], sink)?;
+        advance(meaning, &[Choice::Occurs(*event)], sink)?;
     }
     advance(meaning, &ONE_STEP, sink)
 }

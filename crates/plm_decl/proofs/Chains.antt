@@ -1,4 +1,4 @@
--- Operators of one level lean left.
+-- Operators of one precedence lean left.
 use Rattle.std.proofs.Common.{◌≡◌, List, [], ◌∷◌, None, false, length, cond, nat_eq, refl, sym, ap, ◌∙◌, arith}
 use Rattle.std.specs.Global.{Vec}
 use Rattle.std.proofs.lemmas.Bool.Decides.{nat_tests}

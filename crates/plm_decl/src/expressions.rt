@@ -98,7 +98,7 @@ impl Resolver {
         Ok(Box::new(self.alloc, expression)?)
     }
 
-    /// Operators of one level, whatever stands to their left.
+    /// Operators of one precedence, whatever stands to their left.
     #[cycle(expression)]
     fn operations(
         &mut self,

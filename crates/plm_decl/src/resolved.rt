@@ -33,7 +33,7 @@ pub enum Expression {
     /// `( x := e )`, with the place of the parenthesis.
     Embedded(Position, Reference, Box<Expression>),
     Unary(Position, UnaryOperator, Box<Expression>),
-    /// `a + b - c`: operators of one level from left to right. They lean left, as `(a + b) - c` does.
+    /// `a + b - c`: operators of one precedence from left to right. They lean left, as `(a + b) - c` does.
     Chain {
         first: Box<Expression>,
         others: Vec<Operation>,

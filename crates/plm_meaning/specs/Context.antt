@@ -3,7 +3,7 @@ use Rattle.std.specs.Prelude.{ℕ, List, [], ◌∷◌, map, drop}
 use Rattle.plm_type.specs.Rest.{Anchor, InObject, OnScreen, Behind, There, Scalar, Expression, Constant, Plain, Variable, Location, Unary, Binary, Embedded, Call, Value, Passing, Running, Expressions, NoMore, More, Reference, Refer, Subscripts, NoSubscripts, Subscript, Target, ToPlain, ToVariable, ToPort, Targets, Only, Also, Loop, Count, Statement, Empty, Assign, Evaluate, Return, ReturnValue, Enabling, Disabling, Halting, If, Block, While, Case, Iterate, Leaving, Round, Comparing, Stepping, Adding, Storing, Ending, Statements, End, Then, Returned, Procedure}
 use Rattle.plm_type.specs.Rest as rest
 use Rattle.plm_type.specs.Next.{value_of, behind, evaluated, indexed, step_of, bound_of}
-use Rattle.word86.specs.Places.{where_of}
+use Rattle.word86.specs.Place.{where_of}
 use Rattle.plm_type.specs.View.{scalar_of, anchor_of, expression_of, expressions_of, subscripts_of, chained, target_of, targets_of, statement_of, statements_of, loop_of}
 use Rattle.plm_meaning.specs.declared.access.Origin.{Origin}
 use Rattle.plm_meaning.specs.declared.access.Origin.TheVariants as origin

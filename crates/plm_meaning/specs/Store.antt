@@ -6,7 +6,7 @@ use Rattle.word86.specs.declared.width.Width.TheVariants as widths
 use Rattle.word86.specs.declared.event.Event.{Event}
 use Rattle.word86.specs.declared.label.Label.{Label}
 use Rattle.word86.specs.declared.label.Label.TheVariants as labels
-use Rattle.word86.specs.Events.{event_label}
+use Rattle.word86.specs.Event.{event_label}
 use Rattle.word86.specs.Access.{Access, In, Screen, Read, Write, Input, Output, values, answers}
 use Rattle.word86.specs.Chips.{Chips}
 use Rattle.word86.specs.Action.{Shared}
@@ -86,9 +86,9 @@ module _ {P : Type 0} (c : Chips P) where
     touch = touch;
     answers = answers;
     small = small_answers;
-    line = λ s. c.line s.chips;
+    int_line = λ s. c.int_line s.chips;
     vector = λ s. c.vector s.chips;
     acknowledge = λ s. (with_chips (c.acknowledge s.chips) s, labels.Ack (c.vector s.chips) ∷ []);
-    comes = λ e s. with_chips (c.comes e s.chips) s;
-    came = event_label;
+    occurs = λ e s. with_chips (c.occurs e s.chips) s;
+    event_label = event_label;
   }

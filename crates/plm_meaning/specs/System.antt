@@ -38,7 +38,7 @@ labelled labels (Some x) = Some (x.0, labels ++ x.1)
 -- an interrupt can be taken: they are on, none runs, and one is asked for
 abbrev pub pending : (sh : Shared) → {R : Type 0} → Option R → Bool → sh.State → Bool
 pending sh (Some h) on w = false
-pending sh None on w = on && sh.line w
+pending sh None on w = on && sh.int_line w
 
 -- a count begins again unless an interrupt can be taken
 abbrev pub kept_if : Bool → ℕ → ℕ
@@ -86,7 +86,7 @@ module _ (sh : Shared) (R : Type 0) (next : R → Action sh.Access R) (body : �
   -- a step and its labels, where it can be made
   abbrev pub step : Choice sh.Event → System sh.State R → Option (System sh.State R × List sh.Label)
   step Program (State main handler on halted w silents switches) = program_step main handler on halted w silents switches
-  step (Occurs e) (State main handler on halted w silents switches) = Some (settled sh (State main handler on halted (sh.comes e w) silents switches), sh.came e ∷ [])
+  step (Occurs e) (State main handler on halted w silents switches) = Some (settled sh (State main handler on halted (sh.occurs e w) silents switches), sh.event_label e ∷ [])
   step Enter (State main handler on halted w silents switches) = enter_step (pending sh handler on w) main w
   step Leave (State main (Some h) on halted w silents switches) = leave_step (next h) main halted w
   step Leave (State main None on halted w silents switches) = None

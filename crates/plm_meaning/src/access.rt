@@ -1,7 +1,7 @@
 //! Where a reference's bytes lie.
 
 ghost use Rattle.std.specs.Prelude.{◌≡◌, Some, slice_index, option_map};
-ghost use Rattle.word86.specs.Places.{bytes, covers, held, where_of};
+ghost use Rattle.word86.specs.Place.{bytes, covers, held, where_of};
 ghost use Rattle.plm_type.specs.Places.{placed, anchored};
 ghost use Rattle.plm_type.specs.Next.{address_at};
 ghost use Rattle.plm_meaning.specs.Context.{origin_of};

@@ -2,7 +2,7 @@
 
 ghost use Rattle.std.specs.Prelude.{◌≡◌, map, Some, option_map, slice_get, slice_index};
 ghost use Rattle.plm_type.specs.Next.{parameters_of, body_of, address_at};
-ghost use Rattle.word86.specs.Places.{where_of};
+ghost use Rattle.word86.specs.Place.{where_of};
 ghost use Rattle.plm_type.specs.Places.{placed, anchored};
 ghost use Rattle.plm_type.specs.Programs.{main_tree, handler_tree};
 ghost use Rattle.plm_type.specs.View.{scalar_of, statements_of};

@@ -34,8 +34,8 @@ use word86::{Event, Fault, Label, PowerOn};
 pub enum Choice {
     /// A step of the interrupt procedure that runs, else of main.
     Program,
-    /// An event from outside.
-    Event(Event),
+    /// An event occurs outside.
+    Occurs(Event),
     /// An interrupt is acknowledged, and its procedure begins.
     Enter,
     /// The interrupt procedure is used up, and main goes on.
@@ -139,7 +139,7 @@ impl<'a> Meaning<'a> {
     {
         match choice {
             Choice::Program => self.program_step(),
-            Choice::Event(event) => Ok(self.event(event)),
+            Choice::Occurs(event) => Ok(self.event(event)),
             Choice::Enter => self.enter(),
             Choice::Leave => self.leave(),
             Choice::Idle => self.idle(),
@@ -170,7 +170,7 @@ impl<'a> Meaning<'a> {
         ensures made { Made self.old self.new (Occurs event) result.label }
         ensures run { self.new.around ≡ self.old.around }
     {
-        self.store.ports.comes(event);
+        self.store.ports.occurs(event);
         self.settle_counts();
         Step {
             label: Some(event.label()),

@@ -2,7 +2,7 @@
 //! stands in its place afterwards.
 
 ghost use Rattle.std.specs.Prelude.{◌≡◌, ℕ, List, ◌+◌, ◌<◌, Bool, if◌then◌else◌, nat_lt, Some, None, map, slice_get, drop, length};
-ghost use Rattle.word86.specs.Places.{where_of};
+ghost use Rattle.word86.specs.Place.{where_of};
 ghost use Rattle.word86.specs.Access.{Write, Access as Accessed, values};
 ghost use Rattle.word86.specs.Action.{Touch, Over, map_action, Silent as Quiet};
 ghost use Rattle.word86.specs.Arithmetic.{low};

@@ -2,7 +2,7 @@
 
 ghost use Rattle.std.specs.Prelude.{◌≡◌, ◌%◌, ◌<◌, slice_index, slice_set};
 ghost use Rattle.word86.specs.Access.{Read, Write, values};
-ghost use Rattle.word86.specs.Places.{where_of, access_of};
+ghost use Rattle.word86.specs.Place.{where_of, access_of};
 ghost use Rattle.ppi_kbd.specs.Chips.{ChipState, value as port_value, reading, writing};
 ghost use Rattle.ppi_kbd.specs.Ports.{Shows};
 ghost use Rattle.ppi_kbd.specs.BoardChips.{board_chips};

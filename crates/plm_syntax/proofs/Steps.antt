@@ -75,7 +75,7 @@ ruled_otherwise (Keep b f) r' a s s' v t (Some p) h = ap (λ (x : List Symbol). 
 
 -- ---- what may follow
 
--- how tightly a token binds what stands before it: "(" and "." of a reference, operators by their level, all else not at all
+-- how tightly a token binds what stands before it: "(" and "." of a reference, operators by their precedence, all else not at all
 abbrev pub binds_as : Option BinaryOperator → Terminal → ℕ
 binds_as (Some o) t = precedence_of o
 binds_as None t = cond (is_sign mark.LeftParenthesis t) 0 (cond (is_sign mark.Period t) 1 8)
@@ -83,7 +83,7 @@ binds_as None t = cond (is_sign mark.LeftParenthesis t) 0 (cond (is_sign mark.Pe
 abbrev pub binds : Terminal → ℕ
 binds t = binds_as (operator_of t) t
 
--- the next token binds nothing of level n or tighter
+-- the next token binds nothing of precedence n or tighter
 pub data Stops (n : ℕ) : List Leaf → Type 0 where
   stops : {l : Leaf} {ls : List Leaf} → n < binds l.terminal → Stops n (l ∷ ls)
 

@@ -1,4 +1,4 @@
--- Which trees are well formed: operators stand at their precedence, equal levels lean left, lists that cannot be empty are not, ELSE stands at
+-- Which trees are well formed: operators stand at their precedence, equal precedences lean left, lists that cannot be empty are not, ELSE stands at
 -- the nearest IF, and the name after END is the block's last label.
 use Rattle.std.specs.Prelude.{◌≡◌, ℕ, ◌≤◌, ◌<◌, Bool, true, false, Option, Some, None}
 use Rattle.plm_syntax.specs.declared.tree.UnaryOperator.{UnaryOperator}

@@ -1,4 +1,4 @@
-//! Binary operators and their levels.
+//! Binary operators and their precedences.
 
 ghost use Rattle.std.specs.Prelude.{◌≡◌, ℕ, List, nat_eq};
 ghost use Rattle.plm_syntax.specs.declared.tree.Position.{Position as SomePlace};
@@ -11,7 +11,7 @@ use crate::cursor::Cursor;
 use crate::tree::{BinaryOperator, Position};
 use plm_token::{Keyword, Kind, Mark};
 
-/// The levels of binary operators, the tightest first.
+/// The precedences of binary operators, the tightest first.
 #[derive(Clone, Copy)]
 pub(crate) enum Precedence {
     Products,

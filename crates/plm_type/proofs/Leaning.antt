@@ -1,4 +1,4 @@
--- Operators of one level, one after the other, are the tree that leans left.
+-- Operators of one precedence, one after the other, are the tree that leans left.
 use Rattle.std.proofs.Common.{◌≡◌, ℕ, List, [], ◌∷◌, length, arith, refl, ap, ◌∙◌}
 use Rattle.plm_syntax.specs.declared.tree.Position.{Position}
 use Rattle.plm_syntax.specs.declared.tree.BinaryOperator.{BinaryOperator}

@@ -6,7 +6,7 @@ use Rattle.std.proofs.lemmas.List.{append-nil}
 use Rattle.std.proofs.Math.Nat.{min-le_left, min-le_right, le-min}
 use Rattle.word86.specs.declared.place.Place.{Place}
 use Rattle.word86.specs.declared.width.Width.{Width}
-use Rattle.word86.specs.Places.{where_of}
+use Rattle.word86.specs.Place.{where_of}
 use Rattle.word86.specs.declared.operation.BinaryOperation.{BinaryOperation}
 use Rattle.plm_type.specs.declared.program.Expression.{Expression}
 use Rattle.plm_type.specs.declared.program.Operation.{Operation}

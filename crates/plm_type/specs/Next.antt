@@ -9,7 +9,7 @@ use Rattle.word86.specs.declared.operation.BinaryOperation.{BinaryOperation}
 use Rattle.word86.specs.Access.{Access, Read, Write, Input, Output, values, Where}
 use Rattle.word86.specs.Action.{Action, Silent, Touch, Enable, Disable, Halt, Over, Bad, map_action}
 use Rattle.word86.specs.Arithmetic.{low}
-use Rattle.word86.specs.Operators.{unary_value, binary_value}
+use Rattle.word86.specs.Operation.{unary_value, binary_value}
 use Rattle.plm_type.specs.Rest.{Anchor, InObject, OnScreen, Behind, There, Scalar, Expression, Constant, Plain, Variable, Location, Unary, Binary, Embedded, Call, Value, Passing, Running, Expressions, NoMore, More, Reference, Refer, Subscripts, NoSubscripts, Subscript, Target, ToPlain, ToVariable, ToPort, Targets, Only, Also, Loop, Count, Statement, Empty, Assign, Evaluate, Return, ReturnValue, Enabling, Disabling, Halting, If, Block, While, Case, Iterate, Leaving, Round, Comparing, Stepping, Adding, Storing, Ending, Statements, End, Then, Returned, Procedure, Rest, Main, Handler}
 use Rattle.plm_type.specs.Rest as rest
 use Rattle.plm_type.specs.Places.{anchored, placed}

@@ -2,7 +2,7 @@
 use Rattle.std.specs.Prelude.{ℕ, ◌+◌, ◌-◌, if◌then◌else◌, List, slice_index, Option, Some, None}
 use Rattle.word86.specs.declared.width.Width.{Width}
 use Rattle.word86.specs.Access.{Where, In, Screen}
-use Rattle.word86.specs.Places.{bytes, covers, held, screen_begins}
+use Rattle.word86.specs.Place.{bytes, covers, held, screen_begins}
 use Rattle.plm_type.specs.Rest.{Anchor, InObject, OnScreen, Behind, There}
 
 module _ (offsets sizes : List ℕ) where

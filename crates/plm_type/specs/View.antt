@@ -1,7 +1,7 @@
 -- The Rust trees of a program as plain ones.
 use Rattle.std.specs.Prelude.{List, [], ◌∷◌, map}
 use Rattle.std.specs.Global.{Box}
-use Rattle.word86.specs.Places.{where_of}
+use Rattle.word86.specs.Place.{where_of}
 use Rattle.plm_type.specs.declared.program.Scalar as declared_scalar
 use Rattle.plm_type.specs.declared.program.Anchor as declared_anchor
 use Rattle.plm_type.specs.declared.program.Anchor.TheVariants as anchor
@@ -41,7 +41,7 @@ abbrev mutual
   expression_of (expression.Input' width p e) = Input width (expression_of e)
   expression_of (expression.Call' p shape es) = Call p (expressions_in es)
 
-  -- equal levels go from left to right
+  -- equal precedences go from left to right
   pub chained_in : {m : _} → Expression → Row_of-Operation m → Expression
   chained_in left end_of-Operation = left
   chained_in left (more_of-Operation l o width e os) = chained_in (Binary l.module l.line o width left (expression_of e)) os

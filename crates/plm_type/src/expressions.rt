@@ -234,7 +234,7 @@ impl Typer<'_> {
         }
     }
 
-    /// Operators of one level with their right operands, after a left operand that begins at the place `first`.
+    /// Operators of one precedence with their right operands, after a left operand that begins at the place `first`.
     #[cycle(expression)]
     fn operations(
         &self,

@@ -28,7 +28,7 @@ pub enum Anchor {
     Based(Place),
 }
 
-/// An expression. Operands of one level are a list, however many they are.
+/// An expression. Operands of one precedence are a list, however many they are.
 #[derive(Drop)]
 #[cycle(program)]
 pub enum Expression {

@@ -2,7 +2,7 @@
 //! where that lies.
 
 ghost use Rattle.std.specs.Prelude.{◌≡◌, ◌+◌, nat_le, option_map};
-ghost use Rattle.word86.specs.Places.{where_of};
+ghost use Rattle.word86.specs.Place.{where_of};
 ghost use Rattle.plm_decl.specs.Layout as layout;
 ghost use Rattle.plm_decl.specs.ResolvedView.{selector_of};
 ghost use Rattle.plm_type.specs.Shapes as spec;

@@ -6,7 +6,7 @@ use Rattle.word86.specs.declared.width.Width.{Width}
 use Rattle.word86.specs.declared.width.Width.TheVariants.{Byte, Word}
 use Rattle.word86.specs.Access.{values}
 use Rattle.word86.specs.Chips.{Chips}
-use Rattle.ppi_kbd.specs.Chips.{ChipState, device_value, byte_value, next_port, value, reading, writing, line, vector, acknowledged, comes}
+use Rattle.ppi_kbd.specs.Chips.{ChipState, device_value, byte_value, next_port, value, reading, writing, int_line, vector, acknowledged, occurs}
 use Rattle.ppi_kbd.specs.Device.{device_of}
 use Rattle.pic8259.specs.Controller as pic
 
@@ -25,10 +25,10 @@ board_chips = record {
   value = value;
   reading = reading;
   writing = writing;
-  line = line;
+  int_line = int_line;
   vector = vector;
   acknowledge = acknowledged;
-  comes = comes;
+  occurs = occurs;
   value_fits = value_fits;
   vector_fits = vector_fits;
 }

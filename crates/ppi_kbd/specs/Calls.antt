@@ -5,7 +5,7 @@ use Rattle.ppi_kbd.specs.declared.calls.Call.{Call}
 use Rattle.ppi_kbd.specs.declared.calls.Call.TheVariants.{Read, ReadWord, Write, WriteWord, Comes, Line, Acknowledge}
 use Rattle.ppi_kbd.specs.declared.calls.Reply.{Reply}
 use Rattle.ppi_kbd.specs.declared.calls.Reply.TheVariants.{Nothing, Byte, Word, Signal}
-use Rattle.ppi_kbd.specs.Chips.{ChipState, value, reading, writing, comes, line, vector, acknowledged}
+use Rattle.ppi_kbd.specs.Chips.{ChipState, value, reading, writing, occurs, int_line, vector, acknowledged}
 
 -- the chips after one call
 abbrev pub after_one : Call → ChipState → ChipState
@@ -13,9 +13,9 @@ after_one (Read port) c = reading c width.Byte port
 after_one (ReadWord port) c = reading c width.Word port
 after_one (Write port v) c = writing c width.Byte port v
 after_one (WriteWord port v) c = writing c width.Word port v
-after_one (Comes event) c = comes event c
+after_one (Comes event) c = occurs event c
 after_one Line c = c
-after_one Acknowledge c = if line c then acknowledged c else c
+after_one Acknowledge c = if int_line c then acknowledged c else c
 
 -- what one call answers
 abbrev pub reply_of : Call → ChipState → Reply
@@ -24,8 +24,8 @@ reply_of (ReadWord port) c = Word (value c width.Word port)
 reply_of (Write port v) c = Nothing
 reply_of (WriteWord port v) c = Nothing
 reply_of (Comes event) c = Nothing
-reply_of Line c = Signal (line c)
-reply_of Acknowledge c = if line c then Byte (vector c) else Nothing
+reply_of Line c = Signal (int_line c)
+reply_of Acknowledge c = if int_line c then Byte (vector c) else Nothing
 
 -- what a list of calls answers, call by call
 abbrev pub replies_of : List Call → ChipState → List Reply

@@ -85,13 +85,13 @@ writing c Byte port v = device_written (device_of port) v c
 writing c Word port v = device_written (device_of (next_port port)) (v / 256) (device_written (device_of port) (v % 256) c)
 
 -- an event comes: k pulses on every channel of the timer, or a code of the keyboard
-abbrev pub comes : Event → ChipState → ChipState
-comes (Tick k) c = record c { timer = pit.timer_pulses k c.timer; interrupts = raised (pit.rose k c.timer.zero) 0 c.interrupts }
-comes (Key code) c = typed (clear_line c) (keys.pressed code c.keyboard) c
+abbrev pub occurs : Event → ChipState → ChipState
+occurs (Tick k) c = record c { timer = pit.timer_pulses k c.timer; interrupts = raised (pit.rose k c.timer.zero) 0 c.interrupts }
+occurs (Key code) c = typed (clear_line c) (keys.pressed code c.keyboard) c
 
 -- INT, and an acknowledgement with its vector
-abbrev pub line : ChipState → Bool
-line c = pic.line c.interrupts
+abbrev pub int_line : ChipState → Bool
+int_line c = pic.int_line c.interrupts
 
 abbrev pub vector : ChipState → ℕ
 vector c = pic.vector c.interrupts % 256

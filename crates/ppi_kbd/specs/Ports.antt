@@ -29,5 +29,5 @@ pub record Shows (p : Ports) (c : ChipState) : Type 0 where
   pub keyboard : keyboard_of p.keyboard ≡ c.keyboard
 
 -- INT is up
-abbrev pub int_line : Ports → Bool
-int_line p = pic.line (controller_of p.pic)
+abbrev pub is_up : Ports → Bool
+is_up p = pic.int_line (controller_of p.pic)

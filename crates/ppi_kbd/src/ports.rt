@@ -2,7 +2,7 @@
 
 ghost use Rattle.std.specs.Prelude.{◌≡◌, Bool, true};
 ghost use Rattle.word86.specs.declared.width.Width.TheVariants.{Byte, Word};
-ghost use Rattle.ppi_kbd.specs.Chips.{ChipState, reset, value, reading, writing, comes, line, vector, acknowledged};
+ghost use Rattle.ppi_kbd.specs.Chips.{ChipState, reset, value, reading, writing, occurs, int_line, vector, acknowledged};
 
 use crate::device::{Device, device_at};
 use crate::keyboard::Keyboard;
@@ -29,7 +29,7 @@ pub struct Ports {
 }
 
 impl Ports {
-    ghost use Rattle.ppi_kbd.specs.Ports.{Shows, int_line};
+    ghost use Rattle.ppi_kbd.specs.Ports.{Shows, is_up};
     ghost use Rattle.ppi_kbd.specs.Chips.{typed, driven, device_written, clear_line};
     ghost use Rattle.ppi_kbd.specs.Ports.{keyboard_of, interface_of};
 
@@ -118,8 +118,8 @@ impl Ports {
     }
 
     /// An event from outside: pulses on every channel of the timer, or a code of the keyboard.
-    pub fn comes(&mut self, event: Event)
-        ensures { (c : ChipState) → Shows self.old c → Shows self.new (comes event c) }
+    pub fn occurs(&mut self, event: Event)
+        ensures { (c : ChipState) → Shows self.old c → Shows self.new (occurs event c) }
     {
         match event {
             Event::Tick(k) => {
@@ -136,15 +136,15 @@ impl Ports {
 
     /// Whether INT is up.
     pub fn int_line(&self) -> bool
-        ensures up { result ≡ int_line self.now }
-        ensures line { (c : ChipState) → Shows self.now c → result ≡ line c }
+        ensures up { result ≡ is_up self.now }
+        ensures int_line { (c : ChipState) → Shows self.now c → result ≡ int_line c }
     {
         self.pic.int_line()
     }
 
     /// Acknowledges the interrupt that INT asks for and answers its vector. It may be called while INT is up alone.
     pub fn acknowledge(&mut self) -> u8
-        requires { int_line self.old ≡ true }
+        requires { is_up self.old ≡ true }
         ensures state { (c : ChipState) → Shows self.old c → Shows self.new (acknowledged c) }
         ensures vector { (c : ChipState) → Shows self.old c → result ≡ vector c }
     {

@@ -12,7 +12,7 @@ use Rattle.word86.specs.declared.operation.BinaryOperation.TheVariants as binary
 use Rattle.word86.specs.declared.operation.UnaryOperation.{UnaryOperation}
 use Rattle.word86.specs.declared.operation.UnaryOperation.TheVariants as unary
 use Rattle.word86.specs.Arithmetic.{low, rotated, rotated_left, rotated_right}
-use Rattle.word86.specs.Operators.{truth, quotient, remainder, unary_value, binary_value}
+use Rattle.word86.specs.Operation.{truth, quotient, remainder, unary_value, binary_value}
 use Rattle.word86.specs.Action.{Silent}
 use Rattle.word86.specs.Following.{Does}
 use Rattle.i86_table.specs.declared.registers.Register16.{Register16}

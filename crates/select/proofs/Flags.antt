@@ -9,7 +9,7 @@ use Rattle.word86.specs.declared.width.Width.TheVariants as widths
 use Rattle.i86_table.specs.declared.flags.Flags.{Flags}
 use Rattle.i86_table.specs.declared.instruction.AluOperation.TheVariants.{Cmp}
 use Rattle.i86_table.specs.Arithmetic.{has, with_result, subtracted, combined, tested, number_of, operated}
-use Rattle.i86_table.specs.Conditions.{holds}
+use Rattle.i86_table.specs.Condition.{holds}
 use Rattle.icode.specs.declared.instruction.Relation.{Relation}
 use Rattle.icode.specs.declared.instruction.Relation.TheVariants as relation
 use Rattle.icode.specs.Machine.{stands}

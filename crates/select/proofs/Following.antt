@@ -16,9 +16,9 @@ use Rattle.word86.specs.Access.{Access, Where, Read, Write, Input, Output, answe
 use Rattle.word86.specs.Action.{Action, Silent, Touch, Enable, Disable, Halt, Over, Bad, IsBad}
 use Rattle.word86.specs.Following.{Does}
 use Rattle.word86.specs.Arithmetic.{low}
-use Rattle.word86.specs.Operators.{unary_value, binary_value}
-use Rattle.word86.specs.Places.{held}
-use Rattle.word86.specs.Places as word_places
+use Rattle.word86.specs.Operation.{unary_value, binary_value}
+use Rattle.word86.specs.Place.{held}
+use Rattle.word86.specs.Place as word_places
 use Rattle.i86_table.specs.declared.registers.Register16.TheVariants.{Ax, Bx, Cx, Dx, Bp, Sp}
 use Rattle.i86_table.specs.declared.registers.Register8.TheVariants.{Al, Ah, Cl, Ch}
 use Rattle.i86_table.specs.declared.registers.Segment.TheVariants as segments
@@ -39,7 +39,7 @@ use Rattle.i86_table.specs.declared.flags.Flags as flags_type
 use Rattle.i86_table.specs.declared.open.Use.TheVariants.{Operate}
 use Rattle.i86_table.specs.declared.open.Open.TheVariants as opens
 use Rattle.i86_table.specs.Open.{closed}
-use Rattle.i86_table.specs.Conditions.{holds}
+use Rattle.i86_table.specs.Condition.{holds}
 use Rattle.i86_table.specs.Arithmetic.{has, with_flag, flag_bit, tested, operated, shifted}
 use Rattle.i86_table.specs.Arithmetic as i86_arithmetic
 use Rattle.i86_table.specs.Contexts.{Context, Own, Working, Given, further, set_word, set_byte, set_flags, word_result, alu_word, room, bytes, place_in, in_object, reads, writes, pushes, refused, offered, input_gives, output_takes, top_of, stack_pointer, takes, silently}

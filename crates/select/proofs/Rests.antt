@@ -1,7 +1,7 @@
 -- The laws of arithmetic and of pairs that selection rests on.
 use Rattle.i86_table.specs.FlagLaws.{SetFlagHolds, OtherFlagsStay}
-use Rattle.i86_table.specs.ArithmeticLaws.{ShiftLaws, RotationLaws}
-use Rattle.i86_table.specs.PairLaws.{WordPairLaws}
+use Rattle.i86_table.specs.ArithmeticLaw.{ShiftLaws, RotationLaws}
+use Rattle.i86_table.specs.PairLaw.{WordPairLaws}
 
 pub record Laws : Type 0 where
   pub same : SetFlagHolds

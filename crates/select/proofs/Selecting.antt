@@ -12,7 +12,7 @@ use Rattle.icode.specs.declared.instruction.Instruction.TheVariants as op
 use Rattle.icode.specs.declared.registers.Registers.{Registers}
 use Rattle.icode.specs.Code.{code_of}
 use Rattle.icode.specs.Counted.{IsChanged, IsHandler, HasVector}
-use Rattle.icode.specs.Levels.{target}
+use Rattle.icode.specs.Heights.{target}
 use Rattle.icode.specs.Made.{IsMade, constant_in, cases_of, is_case}
 use Rattle.icode.specs.Registers.{none}
 use Rattle.frames.specs.Counting.{AreSaved}

@@ -17,7 +17,7 @@ use Rattle.icode.specs.declared.instruction.Instruction.TheVariants as op
 use Rattle.icode.specs.declared.instruction.Test.{Test}
 use Rattle.icode.specs.declared.instruction.Test.TheVariants as test
 use Rattle.icode.specs.declared.registers.Registers.{Registers}
-use Rattle.icode.specs.Levels.{target}
+use Rattle.icode.specs.Heights.{target}
 use Rattle.icode.specs.Made.{IsMade}
 use Rattle.icode.specs.Registers.{is_direct}
 use Rattle.select.specs.declared.part.Step.{Step}

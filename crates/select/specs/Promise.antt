@@ -3,7 +3,7 @@ use Rattle.std.specs.Prelude.{◌≡◌, ℕ, ◌+◌, ◌<◌, ◌≤◌, Bool,
 use Rattle.word86.specs.Access.{Access, answers}
 use Rattle.word86.specs.Action.{Action, Enable, Halt, Over}
 use Rattle.word86.specs.Following.{Follows}
-use Rattle.word86.specs.Places.{held}
+use Rattle.word86.specs.Place.{held}
 use Rattle.i86_table.specs.declared.instruction.Instr.{Instr}
 use Rattle.i86_table.specs.Contexts.{Context, Own, Working, in_object, offer, start}
 use Rattle.i86_table.specs.Words.{AreWords, HasWords}

@@ -14,12 +14,12 @@ pub record Shared : Type 1 where
   pub answers : Access → ℕ
   pub small : (a : Access) (w : State) → (touch a w).0 < answers a
   -- the interrupt line, its vector, and what an acknowledgement leaves and shows
-  pub line : State → Bool
+  pub int_line : State → Bool
   pub vector : State → ℕ
   pub acknowledge : State → State × List Label
   -- what an event leaves and shows
-  pub comes : Event → State → State
-  pub came : Event → Label
+  pub occurs : Event → State → State
+  pub event_label : Event → Label
 
 pub data Action (A R : Type 0) : Type 0 where
   Silent : R → Action A R

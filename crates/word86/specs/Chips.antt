@@ -10,11 +10,11 @@ pub record Chips (P : Type 0) : Type 0 where
   pub reading : P → Width → ℕ → P
   pub writing : P → Width → ℕ → ℕ → P
   -- whether an interrupt is asked for, its vector, and what its acknowledgement leaves
-  pub line : P → Bool
+  pub int_line : P → Bool
   pub vector : P → ℕ
   pub acknowledge : P → P
   -- an event from outside
-  pub comes : Event → P → P
+  pub occurs : Event → P → P
   -- values and vectors have their widths
   pub value_fits : (p : P) (width : Width) (port : ℕ) → value p width port < values width
   pub vector_fits : (p : P) → vector p < 256

@@ -1,11 +1,11 @@
-pub mod Numbers
+pub mod Number
 pub mod Access
 pub mod Chips
 pub mod Action
 pub mod Following
 pub mod Arithmetic
 pub mod Bytes
-pub mod Taking
-pub mod Events
-pub mod Operators
-pub mod Places
+pub mod Sink
+pub mod Event
+pub mod Operation
+pub mod Place

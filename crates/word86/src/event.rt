@@ -1,7 +1,7 @@
 //! What reaches the board from outside.
 
 ghost use Rattle.std.specs.Prelude.{◌≡◌};
-ghost use Rattle.word86.specs.Events.{event_label};
+ghost use Rattle.word86.specs.Event.{event_label};
 
 use crate::label::Label;
 

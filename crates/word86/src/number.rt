@@ -1,7 +1,7 @@
 //! The numbers of faults, and their words.
 
 ghost use Rattle.std.specs.Prelude.{◌≡◌};
-ghost use Rattle.word86.specs.Numbers.{number_text};
+ghost use Rattle.word86.specs.Number.{number_text};
 
 /// The number of a fault, or of the one warning: E1xx in a text's bytes, E2xx in its grammar, E3xx in its names, E4xx in
 /// its types, E5xx and E6xx where the program has no room, E7xx in a run.

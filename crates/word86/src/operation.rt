@@ -2,7 +2,7 @@
 //! wraps to its width).
 
 ghost use Rattle.std.specs.Prelude.{◌≡◌};
-ghost use Rattle.word86.specs.Operators.{truth, unary_value, binary_value, quotient, remainder};
+ghost use Rattle.word86.specs.Operation.{truth, unary_value, binary_value, quotient, remainder};
 
 use crate::arithmetic::{rol, ror, shl, shr};
 use crate::width::Width;

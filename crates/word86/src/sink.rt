@@ -1,7 +1,7 @@
 //! What takes the bytes of a text.
 
 ghost use Rattle.std.specs.Prelude.{◌≡◌, ◌≤◌, ℕ, List, [], Option, None, IfOk, Some, length, vec_len, vec_capacity};
-ghost use Rattle.word86.specs.Taking.{Appends, CountsPut, Cut, Rises, TakesPortion, WriteAppends, Writes, portion};
+ghost use Rattle.word86.specs.Sink.{Appends, CountsPut, Cut, Rises, TakesPortion, WriteAppends, Writes, portion};
 
 use std::alloc::{AllocError, Global};
 use std::io;

@@ -1,4 +1,4 @@
--- The code of operators of one level, where the left operand is in the accumulator, and of targets.
+-- The code of operators of one precedence, where the left operand is in the accumulator, and of targets.
 use Rattle.std.specs.Prelude.{List, [], ◌∷◌, ◌++◌}
 use Rattle.plm_type.specs.declared.program.Operation.{Operation}
 use Rattle.plm_type.specs.declared.program.Target as declared_target

@@ -17,7 +17,7 @@ use Rattle.icode.specs.declared.code.Routine.TheVariants.{Main, Procedure, Unser
 use Rattle.icode.specs.declared.code.Code.{Code}
 use Rattle.icode.specs.Code.{code_of}
 use Rattle.icode.specs.Counted.{IsPath, HasVector, IsHandler}
-use Rattle.icode.specs.Levels.{height}
+use Rattle.icode.specs.Heights.{height}
 use Rattle.frames.specs.Counting.{IsPastRoom}
 use Rattle.frames.specs.Limits.{IsLimited, SmallProgramsFit}
 use Rattle.lower.specs.Checked.{IsSound}

@@ -3,7 +3,7 @@ use Rattle.std.proofs.Common.{◌≡◌, ℕ, suc, ◌+◌, ◌-◌, ◌≤◌, 
 use Rattle.std.specs.Prelude.{nat_le, ◌&&◌, if◌then◌else◌, slice_index}
 use Rattle.std.proofs.lemmas.Bool.{leb-true}
 use Rattle.word86.specs.Access.{In}
-use Rattle.word86.specs.Places.{covers, held}
+use Rattle.word86.specs.Place.{covers, held}
 use Rattle.i86_table.specs.Contexts.{in_object}
 use Rattle.plm86.specs.Relation.{Finds}
 use Rattle.plm86.specs.Inner.Assembled.{find_from}

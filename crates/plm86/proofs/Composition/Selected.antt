@@ -12,7 +12,7 @@ use Rattle.icode.specs.declared.code.Code.{Code}
 use Rattle.icode.specs.declared.registers.Registers.{Registers}
 use Rattle.icode.specs.Code.{code_of, is_number, procedure_or_none}
 use Rattle.icode.specs.Counted.{IsHandler, HasVector}
-use Rattle.icode.specs.Levels.{instructions_of}
+use Rattle.icode.specs.Heights.{instructions_of}
 use Rattle.icode.specs.Registers.{none}
 use Rattle.plm_decl.specs.declared.names.Names.{Names}
 use Rattle.plm_decl.specs.Placement.{sizes_of}

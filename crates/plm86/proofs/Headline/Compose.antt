@@ -70,12 +70,12 @@ module _ (sh : Shared) where
     one c s s1 l e = ap (λ (o : Out). and_then o (λ x. labelled x.1 (Some (x.0, [])))) e ∙ ap (λ k. Some (s1, k)) (append-nil l)
 
     -- where no interrupt can be taken main is free to go on
-    free : (r : R) (on : Bool) (w : sh.State) (i j : ℕ) (a : Action sh.Access R) → (on && sh.line w) ≡ false → next r ≡ a → step sh R next body Program (State r None on false w i j) ≡ and_then (perform sh a w) (λ x. Some (settled sh (State x.0 None (on_after a on) (halted_after a) x.1 0 0), x.2))
+    free : (r : R) (on : Bool) (w : sh.State) (i j : ℕ) (a : Action sh.Access R) → (on && sh.int_line w) ≡ false → next r ≡ a → step sh R next body Program (State r None on false w i j) ≡ and_then (perform sh a w) (λ x. Some (settled sh (State x.0 None (on_after a on) (halted_after a) x.1 0 0), x.2))
     free r on w i j a e ea =
         ap (λ b. and_then (counted b (next r) i j) (λ n. and_then (perform sh (next r) w) (λ x. Some (settled sh (State x.0 None (on_after (next r) on) (halted_after (next r)) x.1 n.0 n.1), x.2)))) e
         ∙ ap (λ a. and_then (perform sh a w) (λ x. Some (settled sh (State x.0 None (on_after a on) (halted_after a) x.1 0 0), x.2))) ea
 
-    quiet_step : (r q : R) (on : Bool) (w : sh.State) (i j : ℕ) → (on && sh.line w) ≡ false → next r ≡ Silent q → step sh R next body Program (State r None on false w i j) ≡ Some (settled sh (State q None on false w 0 0), [])
+    quiet_step : (r q : R) (on : Bool) (w : sh.State) (i j : ℕ) → (on && sh.int_line w) ≡ false → next r ≡ Silent q → step sh R next body Program (State r None on false w i j) ≡ Some (settled sh (State q None on false w 0 0), [])
     quiet_step r q on w i j e eq = free r on w i j (Silent q) e eq
 
   module _ (R : Type 0) (next : R → Action sh.Access R) (body : ℕ → R) (C : Type 0) (offer : C → Offer sh.Access C) (start : ℕ → C → C) (limit most : ℕ) where
@@ -83,15 +83,15 @@ module _ (sh : Shared) where
     cons c cs s s1 s2 l1 l2 e1 e2 = ap (λ (o : Option (System sh.State R × List sh.Label)). and_then o (λ x. labelled x.1 (steps sh R next body cs x.0))) e1 ∙ ap (labelled l1) e2
 
     -- silent steps of main, where no interrupt can be taken
-    quietly : (m : ℕ) (r q : R) (on : Bool) (w : sh.State) → (on && sh.line w) ≡ false → Quiet sh.Access sh.answers R next m r q → steps sh R next body (programs m) (State r None on false w 0 0) ≡ Some (State q None on false w 0 0, [])
+    quietly : (m : ℕ) (r q : R) (on : Bool) (w : sh.State) → (on && sh.int_line w) ≡ false → Quiet sh.Access sh.answers R next m r q → steps sh R next body (programs m) (State r None on false w 0 0) ≡ Some (State q None on false w 0 0, [])
     quietly zero r q on w e h = ap (λ z. Some (State z None on false w 0 0, [])) h
     quietly (suc m) r q on w e h =
-        let zero_left : settled sh (State h.0 None on false w 0 0) ≡ State h.0 None on false w 0 0 = ap (λ z. State h.0 None on false w z z) (kept_zero (on && sh.line w)) in
+        let zero_left : settled sh (State h.0 None on false w 0 0) ≡ State h.0 None on false w 0 0 = ap (λ z. State h.0 None on false w z z) (kept_zero (on && sh.int_line w)) in
         cons Program (programs m) (State r None on false w 0 0) (State h.0 None on false w 0 0) (State q None on false w 0 0) [] []
         (quiet_step R next body r h.0 on w 0 0 e h.1 ∙ ap (λ s. Some (s, [])) zero_left) (quietly m h.0 q on w e h.2)
 
     -- silent steps and then an action
-    stepped : (m : ℕ) (r q : R) (on : Bool) (w : sh.State) (a : Action sh.Access R) (x : R × sh.State × List sh.Label) → (on && sh.line w) ≡ false → Quiet sh.Access sh.answers R next m r q → next q ≡ a → perform sh a w ≡ Some x → steps sh R next body (programs m ++ Program ∷ []) (State r None on false w 0 0) ≡ Some (settled sh (State x.0 None (on_after a on) (halted_after a) x.1 0 0), x.2)
+    stepped : (m : ℕ) (r q : R) (on : Bool) (w : sh.State) (a : Action sh.Access R) (x : R × sh.State × List sh.Label) → (on && sh.int_line w) ≡ false → Quiet sh.Access sh.answers R next m r q → next q ≡ a → perform sh a w ≡ Some x → steps sh R next body (programs m ++ Program ∷ []) (State r None on false w 0 0) ≡ Some (settled sh (State x.0 None (on_after a on) (halted_after a) x.1 0 0), x.2)
     stepped m r q on w a x e h ea ep =
         join R next body (programs m) (Program ∷ []) (State r None on false w 0 0) (State q None on false w 0 0) (settled sh (State x.0 None (on_after a on) (halted_after a) x.1 0 0)) [] x.2 (quietly m r q on w e h)
         (one R next body Program (State q None on false w 0 0) (settled sh (State x.0 None (on_after a on) (halted_after a) x.1 0 0)) x.2
@@ -140,9 +140,9 @@ module _ (sh : Shared) where
     paid_paced f (suc m) g p = inl refl
 
     -- an instruction of main
-    main_runs : (n f : ℕ) (r q : R) (c : C) (on : Bool) (w : sh.State) (k m : ℕ) (o : Offer sh.Access C) → f ≤ limit → n ≤ k → (on && sh.line w) ≡ false → Quiet sh.Access sh.answers R next m r q → Meets sh.Access sh.answers R next C offer limit most true (Follows sh.Access sh.answers R next C offer limit most true k) f m q o → Piece c (State r None on false w 0 0) (execute sh C offer start o on w) n f
+    main_runs : (n f : ℕ) (r q : R) (c : C) (on : Bool) (w : sh.State) (k m : ℕ) (o : Offer sh.Access C) → f ≤ limit → n ≤ k → (on && sh.int_line w) ≡ false → Quiet sh.Access sh.answers R next m r q → Meets sh.Access sh.answers R next C offer limit most true (Follows sh.Access sh.answers R next C offer limit most true k) f m q o → Piece c (State r None on false w 0 0) (execute sh C offer start o on w) n f
     main_runs n f r q c on w k m (Does (Silent d)) lf le e h s =
-        record { choices = programs m; labels = []; then_at = Plain q d on false w 0 0; left = s.0; run = quietly m r q on w e h ∙ ap (λ z. Some (State q None on false w z z, [])) (sym (kept_zero (on && sh.line w))); machine = refl; good = (k, le, s.2); kept = tt; within = paid_within f m s.0 lf s.1; paced = paid_paced f m s.0 s.1 }
+        record { choices = programs m; labels = []; then_at = Plain q d on false w 0 0; left = s.0; run = quietly m r q on w e h ∙ ap (λ z. Some (State q None on false w z z, [])) (sym (kept_zero (on && sh.int_line w))); machine = refl; good = (k, le, s.2); kept = tt; within = paid_within f m s.0 lf s.1; paced = paid_paced f m s.0 s.1 }
     main_runs n f r q c on w k m (Does (Touch a d)) lf le e h s =
         let v = (sh.touch a w).0 in
         record { choices = programs m ++ Program ∷ []; labels = (sh.touch a w).2; then_at = Plain (s.0 v) (d v) on false (sh.touch a w).1 0 0; left = limit; run = stepped m r q on w (Touch a s.0) (s.0 v, (sh.touch a w).1, (sh.touch a w).2) e h s.1 refl; machine = refl; good = (k, le, s.2 v (sh.small a w)); kept = tt; within = omega arith; paced = inl (some_program sh.Event m) }
@@ -166,7 +166,7 @@ module _ (sh : Shared) where
     -- the instruction after STI
     ready_runs : (n f : ℕ) (r : R) (c : C) (on : Bool) (w : sh.State) (k : ℕ) (o : Offer sh.Access C) → n ≤ k → Switch sh.Access sh.answers R next C offer limit most (Follows sh.Access sh.answers R next C offer limit most true k limit) r o → Piece c (State r None on false w 0 0) (execute sh C offer start o true w) n f
     ready_runs n f r c on w k (Does (Enable d)) le s =
-        let p = (on && sh.line w) in
+        let p = (on && sh.int_line w) in
         record {
           choices = Program ∷ [];
           labels = [];
@@ -182,7 +182,7 @@ module _ (sh : Shared) where
           paced = inl refl;
         }
     ready_runs n f r c on w k (Does (Halt d)) le s =
-        let p = (on && sh.line w) in
+        let p = (on && sh.int_line w) in
         record {
           choices = Program ∷ [];
           labels = [];
@@ -241,7 +241,7 @@ module _ (sh : Shared) where
           left = g;
           run = join R next body (programs m) (Leave ∷ []) (State r (Some h) false false w 0 0) (State r (Some q) false false w 0 0) (settled sh (State r None true false w 0 0)) [] [] (served_quietly m r h q w e)
               (one R next body Leave (State r (Some q) false false w 0 0) (settled sh (State r None true false w 0 0)) []
-              (ap (λ a. leave_step sh R next body a r false w) s ∙ ap (λ z. Some (State r None true false w z z, [])) (sym (kept_zero (sh.line w)))));
+              (ap (λ a. leave_step sh R next body a r false w) s ∙ ap (λ z. Some (State r None true false w z z, [])) (sym (kept_zero (sh.int_line w)))));
           machine = refl;
           good = (k, lk, main);
           kept = tt;
@@ -259,14 +259,14 @@ module _ (sh : Shared) where
       abbrev pub IsSafe : System sh.State R → Type 0
       IsSafe s = (cs : List (Choice sh.Event)) (t : System sh.State R) → steps sh R next body cs s ≡ Some (t, []) → BadIsNext sh R next body t → ⊥
 
-      main_follows : (n f : ℕ) (r : R) (c : C) (on : Bool) (w : sh.State) (k : ℕ) → f ≤ limit → suc n ≤ k → (on && sh.line w) ≡ false → IsSafe (State r None on false w 0 0) → Follows sh.Access sh.answers R next C offer limit most true k f r c → Piece c (State r None on false w 0 0) (execute sh C offer start (offer c) on w) n f
+      main_follows : (n f : ℕ) (r : R) (c : C) (on : Bool) (w : sh.State) (k : ℕ) → f ≤ limit → suc n ≤ k → (on && sh.int_line w) ≡ false → IsSafe (State r None on false w 0 0) → Follows sh.Access sh.answers R next C offer limit most true k f r c → Piece c (State r None on false w 0 0) (execute sh C offer start (offer c) on w) n f
       main_follows n f r c on w zero lf le e safe s = absurd (omega (arith, le))
       main_follows n f r c on w (suc k) lf le e safe s = ⊎_elim
           (λ bad. absurd (safe (programs s.0) (State s.1 None on false w 0 0) (quietly s.0 r s.1 on w e s.2) (e, bad)))
           (λ meets. main_runs n f r s.1 c on w k s.0 (offer c) lf (omega (arith, le)) e s.2 meets)
           s.3
 
-      plain_acts : (n f : ℕ) (r : R) (c : C) (on halted : Bool) (w : sh.State) (i j k : ℕ) (p : Bool) → Fit c → f ≤ limit → suc n ≤ k → (on && sh.line w) ≡ p → IsSafe (State r None on halted w (kept_if p i) (kept_if p j)) → Follows sh.Access sh.answers R next C offer limit most true k f r c → Piece c (State r None on halted w (kept_if p i) (kept_if p j)) (alone sh C offer start p c on halted w) n f
+      plain_acts : (n f : ℕ) (r : R) (c : C) (on halted : Bool) (w : sh.State) (i j k : ℕ) (p : Bool) → Fit c → f ≤ limit → suc n ≤ k → (on && sh.int_line w) ≡ p → IsSafe (State r None on halted w (kept_if p i) (kept_if p j)) → Follows sh.Access sh.answers R next C offer limit most true k f r c → Piece c (State r None on halted w (kept_if p i) (kept_if p j)) (alone sh C offer start p c on halted w) n f
       plain_acts n f r c on halted w i j k true fit lf le e safe s =
           let v = sh.vector w in
           record {
@@ -288,7 +288,7 @@ module _ (sh : Shared) where
             then_at = Plain r c on true w 0 0;
             left = f;
             run = one R next body Idle (State r None on true w 0 0) (settled sh (State r None on true w 0 0)) []
-                (ap (λ b. if b then None else Some (State r None on true w 0 0, [])) e ∙ ap (λ z. Some (State r None on true w z z, [])) (sym (kept_zero (on && sh.line w))));
+                (ap (λ b. if b then None else Some (State r None on true w 0 0, [])) e ∙ ap (λ z. Some (State r None on true w z z, [])) (sym (kept_zero (on && sh.int_line w))));
             machine = refl;
             good = (k, omega (arith, le), s);
             kept = tt;
@@ -305,38 +305,38 @@ module _ (sh : Shared) where
           s.3
 
       acts : (n f : ℕ) (x : Joint sh.State R C) → Fit (main_in (duo x)) → f ≤ limit → Good (suc n) f x → IsSafe (sys x) → Piece (main_in (duo x)) (sys x) (act sh C offer start (duo x)) n f
-      acts n f (Plain r c on halted w i j) fit lf g safe = plain_acts n f r c on halted w i j g.0 (on && sh.line w) fit lf g.1 refl safe g.2
+      acts n f (Plain r c on halted w i j) fit lf g safe = plain_acts n f r c on halted w i j g.0 (on && sh.int_line w) fit lf g.1 refl safe g.2
       acts n f (Ready r c on w) fit lf g safe = ready_runs n f r c on w g.0 (offer c) (omega (arith, g.1)) g.2
       acts n f (Served r c h d w) fit lf g safe = handler_follows n f r c h d w g.0 g.2 g.5 lf g.1 g.3 g.4 g.6 safe g.7
 
       happen : List sh.Event → Joint sh.State R C → Joint sh.State R C
       happen [] x = x
-      happen (e ∷ es) (Plain r c on halted w i j) = happen es (Plain r c on halted (sh.comes e w) (kept_if (on && sh.line w) i) (kept_if (on && sh.line w) j))
-      happen (e ∷ es) (Ready r c on w) = happen es (Ready r c on (sh.comes e w))
-      happen (e ∷ es) (Served r c h d w) = happen es (Served r c h d (sh.comes e w))
+      happen (e ∷ es) (Plain r c on halted w i j) = happen es (Plain r c on halted (sh.occurs e w) (kept_if (on && sh.int_line w) i) (kept_if (on && sh.int_line w) j))
+      happen (e ∷ es) (Ready r c on w) = happen es (Ready r c on (sh.occurs e w))
+      happen (e ∷ es) (Served r c h d w) = happen es (Served r c h d (sh.occurs e w))
 
-      happens : (es : List sh.Event) (x : Joint sh.State R C) → steps sh R next body (map Occurs es) (sys x) ≡ Some (sys (happen es x), map sh.came es)
+      happens : (es : List sh.Event) (x : Joint sh.State R C) → steps sh R next body (map Occurs es) (sys x) ≡ Some (sys (happen es x), map sh.event_label es)
       unfolding happen
       happens [] x = refl
       happens (e ∷ es) (Plain r c on halted w i j) =
-          let y : Joint sh.State R C = Plain r c on halted (sh.comes e w) (kept_if (on && sh.line w) i) (kept_if (on && sh.line w) j) in
-          cons (Occurs e) (map Occurs es) (sys (Plain r c on halted w i j)) (sys y) (sys (happen es y)) (sh.came e ∷ []) (map sh.came es) refl (happens es y)
+          let y : Joint sh.State R C = Plain r c on halted (sh.occurs e w) (kept_if (on && sh.int_line w) i) (kept_if (on && sh.int_line w) j) in
+          cons (Occurs e) (map Occurs es) (sys (Plain r c on halted w i j)) (sys y) (sys (happen es y)) (sh.event_label e ∷ []) (map sh.event_label es) refl (happens es y)
       happens (e ∷ es) (Ready r c on w) =
-          let y : Joint sh.State R C = Ready r c on (sh.comes e w) in
-          cons (Occurs e) (map Occurs es) (sys (Ready r c on w)) (sys y) (sys (happen es y)) (sh.came e ∷ []) (map sh.came es)
-          (ap (λ z. Some (State r None on false (sh.comes e w) z z, sh.came e ∷ [])) (kept_zero (on && sh.line (sh.comes e w)))) (happens es y)
+          let y : Joint sh.State R C = Ready r c on (sh.occurs e w) in
+          cons (Occurs e) (map Occurs es) (sys (Ready r c on w)) (sys y) (sys (happen es y)) (sh.event_label e ∷ []) (map sh.event_label es)
+          (ap (λ z. Some (State r None on false (sh.occurs e w) z z, sh.event_label e ∷ [])) (kept_zero (on && sh.int_line (sh.occurs e w)))) (happens es y)
       happens (e ∷ es) (Served r c h d w) =
-          let y : Joint sh.State R C = Served r c h d (sh.comes e w) in
-          cons (Occurs e) (map Occurs es) (sys (Served r c h d w)) (sys y) (sys (happen es y)) (sh.came e ∷ []) (map sh.came es) refl (happens es y)
+          let y : Joint sh.State R C = Served r c h d (sh.occurs e w) in
+          cons (Occurs e) (map Occurs es) (sys (Served r c h d w)) (sys y) (sys (happen es y)) (sh.event_label e ∷ []) (map sh.event_label es) refl (happens es y)
 
       happen_duo : (es : List sh.Event) (x : Joint sh.State R C) → duo (happen es x) ≡ duo_after_events sh es (duo x)
       unfolding happen
       happen_duo [] (Plain r c on halted w i j) = refl
       happen_duo [] (Ready r c on w) = refl
       happen_duo [] (Served r c h d w) = refl
-      happen_duo (e ∷ es) (Plain r c on halted w i j) = happen_duo es (Plain r c on halted (sh.comes e w) (kept_if (on && sh.line w) i) (kept_if (on && sh.line w) j))
-      happen_duo (e ∷ es) (Ready r c on w) = happen_duo es (Ready r c on (sh.comes e w))
-      happen_duo (e ∷ es) (Served r c h d w) = happen_duo es (Served r c h d (sh.comes e w))
+      happen_duo (e ∷ es) (Plain r c on halted w i j) = happen_duo es (Plain r c on halted (sh.occurs e w) (kept_if (on && sh.int_line w) i) (kept_if (on && sh.int_line w) j))
+      happen_duo (e ∷ es) (Ready r c on w) = happen_duo es (Ready r c on (sh.occurs e w))
+      happen_duo (e ∷ es) (Served r c h d w) = happen_duo es (Served r c h d (sh.occurs e w))
 
       happen_main : (es : List sh.Event) (x : Joint sh.State R C) → main_in (duo (happen es x)) ≡ main_in (duo x)
       happen_main es x = ap main_in (happen_duo es x) ∙ later_main es (duo x)
@@ -349,9 +349,9 @@ module _ (sh : Shared) where
       happen_good : (n f : ℕ) (es : List sh.Event) (x : Joint sh.State R C) → Good n f x → Good n f (happen es x)
       unfolding happen
       happen_good n f [] x g = g
-      happen_good n f (e ∷ es) (Plain r c on halted w i j) g = happen_good n f es (Plain r c on halted (sh.comes e w) (kept_if (on && sh.line w) i) (kept_if (on && sh.line w) j)) g
-      happen_good n f (e ∷ es) (Ready r c on w) g = happen_good n f es (Ready r c on (sh.comes e w)) g
-      happen_good n f (e ∷ es) (Served r c h d w) g = happen_good n f es (Served r c h d (sh.comes e w)) g
+      happen_good n f (e ∷ es) (Plain r c on halted w i j) g = happen_good n f es (Plain r c on halted (sh.occurs e w) (kept_if (on && sh.int_line w) i) (kept_if (on && sh.int_line w) j)) g
+      happen_good n f (e ∷ es) (Ready r c on w) g = happen_good n f es (Ready r c on (sh.occurs e w)) g
+      happen_good n f (e ∷ es) (Served r c h d w) g = happen_good n f es (Served r c h d (sh.occurs e w)) g
 
       some_after : (es : List sh.Event) (cs : List (Choice sh.Event)) → some_step (map Occurs es ++ cs) ≡ some_step cs
       some_after [] cs = refl
@@ -359,8 +359,8 @@ module _ (sh : Shared) where
 
       -- a machine whose turns are those of the two contexts
       module _ (M : Type 0) (turn : List sh.Event → M → M × List sh.Label) (Stands : M → Duo sh.State C → Type 0)
-          (begins : (es : List sh.Event) (b : M) → (ls : List sh.Label) × ((turn es b).1 ≡ map sh.came es ++ ls))
-          (lifts : (es : List sh.Event) (b : M) (d e : Duo sh.State C) (ls : List sh.Label) → Stands b d → act sh C offer start (duo_after_events sh es d) ≡ Some (e, ls) → ((turn es b).1 ≡ map sh.came es ++ ls) × Stands (turn es b).0 e)
+          (begins : (es : List sh.Event) (b : M) → (ls : List sh.Label) × ((turn es b).1 ≡ map sh.event_label es ++ ls))
+          (lifts : (es : List sh.Event) (b : M) (d e : Duo sh.State C) (ls : List sh.Label) → Stands b d → act sh C offer start (duo_after_events sh es d) ≡ Some (e, ls) → ((turn es b).1 ≡ map sh.event_label es ++ ls) × Stands (turn es b).0 e)
           (fits : (b : M) (d : Duo sh.State C) → Stands b d → Fit (main_in d))
           (Standing : (level : ℕ) → (serving : Bool) → M → Type 0) (level : C → ℕ)
           (shows : (b : M) (d : Duo sh.State C) → Stands b d → Standing (level (main_in d)) (has_handler d) b) where
@@ -385,7 +385,7 @@ module _ (sh : Shared) where
               choices = map Occurs es ++ p.choices;
               then_at = p.then_at;
               left = p.left;
-              run = join R next body (map Occurs es) p.choices (sys x) (sys y) (sys p.then_at) (map sh.came es) p.labels (happens es x) p.run ∙ ap (λ ls. Some (sys p.then_at, ls)) (sym up.0);
+              run = join R next body (map Occurs es) p.choices (sys x) (sys y) (sys p.then_at) (map sh.event_label es) p.labels (happens es x) p.run ∙ ap (λ ls. Some (sys p.then_at, ls)) (sym up.0);
               machine = up.1;
               good = p.good;
               kept = subst (λ c. IsKept c p.then_at) (happen_main es x) p.kept;
@@ -452,9 +452,9 @@ module _ (sh : Shared) where
             let l1 = (turn es b).1 in
             let start_of = begins es b in
             let others = joined (outputs turn schedule b1) in
-            let here : IsSafe (sys (happen es x)) = λ cs t e bad. safe (map Occurs es ++ cs) t (map sh.came es ++ []) (start_of.0 ++ others)
-            (join R next body (map Occurs es) cs (sys x) (sys (happen es x)) t (map sh.came es) [] (happens es x) e)
-            (ap (λ k. k ++ (start_of.0 ++ others)) (append-nil (map sh.came es)) ∙ sym (append_assoc (map sh.came es) start_of.0 others) ∙ ap (λ k. k ++ others) (sym start_of.1)) bad in
+            let here : IsSafe (sys (happen es x)) = λ cs t e bad. safe (map Occurs es ++ cs) t (map sh.event_label es ++ []) (start_of.0 ++ others)
+            (join R next body (map Occurs es) cs (sys x) (sys (happen es x)) t (map sh.event_label es) [] (happens es x) e)
+            (ap (λ k. k ++ (start_of.0 ++ others)) (append-nil (map sh.event_label es)) ∙ sym (append_assoc (map sh.event_label es) start_of.0 others) ∙ ap (λ k. k ++ others) (sym start_of.1)) bad in
             let t = turns (length schedule) f b x es st lf g here in
             let later : HasNoBad sh R next body others (sys t.then_at) = λ cs u k more e same bad. safe (t.choices ++ cs) u (l1 ++ k) more
             (join R next body t.choices cs (sys x) (sys t.then_at) u l1 k t.run e)
@@ -487,6 +487,6 @@ module _ (sh : Shared) where
             let rest = booted k schedule f b1 r u n Begins from (omega (arith, le)) lf one.1 later in
             (map Occurs es ∷ rest.0, (State r None false false u 0 0, events, rest.1), rest.2, (State r None false false u 0 0, events, rest.3))
           where
-            idle_events : (es : List sh.Event) (r : R) (w : sh.State) → steps sh R next body (map Occurs es) (State r None false false w 0 0) ≡ Some (State r None false false (after_events sh es w) 0 0, map sh.came es)
+            idle_events : (es : List sh.Event) (r : R) (w : sh.State) → steps sh R next body (map Occurs es) (State r None false false w 0 0) ≡ Some (State r None false false (after_events sh es w) 0 0, map sh.event_label es)
             idle_events [] r w = refl
-            idle_events (e ∷ es) r w = cons (Occurs e) (map Occurs es) (State r None false false w 0 0) (State r None false false (sh.comes e w) 0 0) (State r None false false (after_events sh es (sh.comes e w)) 0 0) (sh.came e ∷ []) (map sh.came es) refl (idle_events es r (sh.comes e w))
+            idle_events (e ∷ es) r w = cons (Occurs e) (map Occurs es) (State r None false false w 0 0) (State r None false false (sh.occurs e w) 0 0) (State r None false false (after_events sh es (sh.occurs e w)) 0 0) (sh.event_label e ∷ []) (map sh.event_label es) refl (idle_events es r (sh.occurs e w))

@@ -22,7 +22,7 @@ use Rattle.plm86.proofs.Headline.FromRom.{at_the_end, boots_from}
 
 module _ (sh : Shared) {M : Type 0} (turn : List sh.Event → M → M × List sh.Label) (Begins : M → sh.State → Type 0) where
   -- the labels of a start-up's turns are those of their events
-  labels_are : (k : ℕ) (b : M) (w : sh.State) → Boots sh turn Begins k b w → (due : List (List sh.Event)) → take k (outputs turn due b) ≡ map (map sh.came) (take k due)
+  labels_are : (k : ℕ) (b : M) (w : sh.State) → Boots sh turn Begins k b w → (due : List (List sh.Event)) → take k (outputs turn due b) ≡ map (map sh.event_label) (take k due)
   labels_are zero b w h due = refl
   labels_are (suc k) b w h [] = refl
   labels_are (suc k) b w h (es ∷ due) = let t = h es in ap₂ (λ x y. x ∷ y) t.0 (labels_are k (turn es b).0 (after_events sh es w) t.1 due)

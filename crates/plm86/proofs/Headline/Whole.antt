@@ -2,14 +2,14 @@
 use Rattle.std.proofs.Common.{◌≡◌, suc, ◌+◌, ◌*◌, true, false, List, [], ◌++◌, map, length, drop, Some, None, refl, arith}
 use Rattle.word86.specs.declared.event.Event.{Event}
 use Rattle.word86.specs.declared.label.Label.{Label}
-use Rattle.word86.specs.Events.{event_label}
+use Rattle.word86.specs.Event.{event_label}
 use Rattle.word86.specs.Access.{Access, answers}
 use Rattle.word86.specs.Following.{Follows}
 use Rattle.plm_meaning.specs.Store.{Store, shared}
 use Rattle.i86_table.specs.Contexts.{Context, Own}
 use Rattle.i86_table.specs.Words.{HasWords, KeepsWords}
 use Rattle.i86_code.specs.Widths.{DecodedHasWidths}
-use Rattle.board.specs.World.{World, Whole, board_model, comes}
+use Rattle.board.specs.World.{World, Whole, board_model, occurs}
 use Rattle.plm86.specs.Inner.BoardLaws.{LawsBelow}
 use Rattle.plm86.specs.Inner.Duo.{Duo, Alone, duo_after_events, act, main_in, has_handler}
 use Rattle.board.specs.Machine.{Board}
@@ -24,7 +24,7 @@ use Rattle.plm86.proofs.Machine.Lift.{Single}
 
 -- the board and its contexts in step, and words in main's
 abbrev InStep : {P : Type 0} → LawsBelow → (x : Assembly) → IsSound x → Rattle.word86.specs.Chips.Chips P → Board (World P) → Duo (Store P) Context → Type 0
-InStep below x sound c b d = Lift.Stands (board_model c) c (λ w. w.chips) (Whole x.rom) (of_board below c x.rom) (comes c) (events_law c x.rom) x.code x.find x.words x.entry x.main x.handler x.placed x.size sound.is_placed sound.finds sound.enough b d × HasWords (main_in d)
+InStep below x sound c b d = Lift.Stands (board_model c) c (λ w. w.chips) (Whole x.rom) (of_board below c x.rom) (occurs c) (events_law c x.rom) x.code x.find x.words x.entry x.main x.handler x.placed x.size sound.is_placed sound.finds sound.enough b d × HasWords (main_in d)
 
 -- a turn keeps them so
 stays_in_step : {P : Type 0} (below : LawsBelow) (c : Rattle.word86.specs.Chips.Chips P) (x : Assembly) (sound : IsSound x) → DecodedHasWidths → KeepsWords → (es : List Event) (b : Board (World P)) (d e : Duo (Store P) Context) (ls : List Label) → InStep below x sound c b d
@@ -33,8 +33,8 @@ stays_in_step below c x sound widths keeps es b d e ls st out =
     let m = board_model c in
     let laws = of_board below c x.rom in
     let events = events_law c x.rom in
-    let fine = Lift.memory_of m c (λ w. w.chips) (Whole x.rom) laws (comes c) events x.code x.find x.words x.entry x.main x.handler x.placed x.size sound.is_placed sound.finds sound.enough b d st.0 in
-    let up = Lift.lifts m c (λ w. w.chips) (Whole x.rom) laws (comes c) events x.code x.find x.words x.entry x.main x.handler x.placed x.size sound.is_placed sound.finds sound.enough es b d e ls st.0 out in
+    let fine = Lift.memory_of m c (λ w. w.chips) (Whole x.rom) laws (occurs c) events x.code x.find x.words x.entry x.main x.handler x.placed x.size sound.is_placed sound.finds sound.enough b d st.0 in
+    let up = Lift.lifts m c (λ w. w.chips) (Whole x.rom) laws (occurs c) events x.code x.find x.words x.entry x.main x.handler x.placed x.size sound.is_placed sound.finds sound.enough es b d e ls st.0 out in
     let leads = keeps x.code x.find x.words x.entry x.main x.handler (code_widths m widths x.code b.world fine.1.spelled) in
     (up.0, (up.1, main_has c (offers_of x) (starts_of x) leads es d e ls st.1 out))
 
@@ -49,7 +49,7 @@ from_instructions below widths keeps P R c x sound next first body limit most co
     let t = board_turn c in
     let n = length due in
     let lifts = stays_in_step below c x sound widths keeps in
-    let begins = Lift.begins m c (λ w. w.chips) (Whole x.rom) laws (comes c) events x.code x.find x.words x.entry x.main x.handler x.placed x.size sound.is_placed sound.finds sound.enough in
+    let begins = Lift.begins m c (λ w. w.chips) (Whole x.rom) laws (occurs c) events x.code x.find x.words x.entry x.main x.handler x.placed x.size sound.is_placed sound.finds sound.enough in
     let in_step : (b : Board (World P)) (v : Store P) → Begins c x b v → (d : Context) × InStep below x sound c b (Alone d false false v) × Follows Access answers R next Context o limit most true n limit first d =
     λ b v h. (
       Own x.main_at h.registers [] false None,
@@ -59,8 +59,8 @@ from_instructions below widths keeps P R c x sound next first body limit most co
     let fits : (b : Board (World P)) (d : Duo (Store P) Context) → InStep below x sound c b d → HasWords (main_in d) = λ b d st. st.1 in
     let shows : (b : Board (World P)) (d : Duo (Store P) Context) → InStep below x sound c b d → Stands c (firmware_of x) (Lift.level_of (main_in d)) (has_handler d) b =
     λ b d st.
-    let bounds = Lift.bounded m c (λ w. w.chips) (Whole x.rom) laws (comes c) events x.code x.find x.words x.entry x.main x.handler x.placed x.size sound.is_placed sound.finds sound.enough b d st.0 in
-    let fine = Lift.memory_of m c (λ w. w.chips) (Whole x.rom) laws (comes c) events x.code x.find x.words x.entry x.main x.handler x.placed x.size sound.is_placed sound.finds sound.enough b d st.0 in
+    let bounds = Lift.bounded m c (λ w. w.chips) (Whole x.rom) laws (occurs c) events x.code x.find x.words x.entry x.main x.handler x.placed x.size sound.is_placed sound.finds sound.enough b d st.0 in
+    let fine = Lift.memory_of m c (λ w. w.chips) (Whole x.rom) laws (occurs c) events x.code x.find x.words x.entry x.main x.handler x.placed x.size sound.is_placed sound.finds sound.enough b d st.0 in
     record { rom = fine.1.whole.same_rom; vectors = fine.1.vectors; bounded = bounds.0; from_top = bounds.1; in_room = bounds.2 } in
     let w = Compose.booted sh R next body Context o s limit most HasWords compiled.serves (Board (World P)) t (InStep below x sound c) begins lifts fits (Stands c (firmware_of x)) Lift.level_of shows
     start_turns due limit reset first state n (Begins c x) in_step (omega arith) (omega arith) boots safe in

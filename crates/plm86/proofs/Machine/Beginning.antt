@@ -4,7 +4,7 @@ use Rattle.word86.specs.Chips.{Chips}
 use Rattle.plm_meaning.specs.Store.{Store, with_chips}
 use Rattle.i86_table.specs.Contexts.{Working, all_registers}
 use Rattle.cpu8086.specs.Machine.{physical, next_offset, loaded_byte, loaded_word}
-use Rattle.board.specs.World.{World, board_model, comes, Whole}
+use Rattle.board.specs.World.{World, board_model, occurs, Whole}
 use Rattle.board.specs.Machine.{Board}
 use Rattle.plm86.specs.Inner.BoardLaws.{LawsBelow}
 use Rattle.plm86.specs.Relation.{FlagsAre}
@@ -20,7 +20,7 @@ word_of_halves v h = omega (arith, h)
 
 module _ {P : Type 0} (below : LawsBelow) (c : Chips P) (x : Assembly) (sound : IsSound x) (rom_size : length x.rom ≤ 65536) (tables : WordsInRom x.rom x.words) where
   pub main_begins : (s : Store P) (f : ℕ → ℕ) (g : Working) → AreWords g → FlagsAre false g.flags → HoldsStore x s f → (d : Board (World P)) (p : P)
-      → Boot (board_model c) c (λ w. w.chips) (Whole x.rom) (of_board below c x.rom) (comes c) (events_law c x.rom) x.code (all_registers x.main_at g 0xFFFE) f d p → Begins c x d (with_chips p s)
+      → Boot (board_model c) c (λ w. w.chips) (Whole x.rom) (of_board below c x.rom) (occurs c) (events_law c x.rom) x.code (all_registers x.main_at g 0xFFFE) f d p → Begins c x d (with_chips p s)
   unfolding loaded_word loaded_byte
   main_begins s f g small off ready d p b =
       let m = board_model c in

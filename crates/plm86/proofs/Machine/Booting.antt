@@ -4,7 +4,7 @@ use Rattle.word86.specs.declared.event.Event.{Event}
 use Rattle.word86.specs.declared.width.Width.TheVariants as widths
 use Rattle.word86.specs.Chips.{Chips}
 use Rattle.plm_meaning.specs.Store.{Store}
-use Rattle.word86.specs.Events.{event_label}
+use Rattle.word86.specs.Event.{event_label}
 use Rattle.i86_table.specs.declared.registers.Regs.{Regs}
 use Rattle.i86_table.specs.declared.registers.Register16.{Register16}
 use Rattle.i86_table.specs.declared.registers.Register16.TheVariants.{Ax, Cx, Dx, Sp, Si, Di}
@@ -25,7 +25,7 @@ use Rattle.cpu8086.specs.Moves.{moved, moved_to_segment}
 use Rattle.cpu8086.specs.Effect.{effect}
 use Rattle.cpu8086.specs.Turn.{reset_cpu, phase_after, fetched}
 use Rattle.plm86.specs.Inner.BoardLaws.{OfBoard, Events}
-use Rattle.board.specs.Machine.{Board, all_come, goes}
+use Rattle.board.specs.Machine.{Board, all_occur, goes}
 use Rattle.plm86.specs.Relation.{FlagsAre}
 use Rattle.layout_link.specs.Startup.{load_word, put_word, put_byte, Stands, Act, PutWord, PutByte, Copy, HasAct, HasActs, turns_of, turns_of_all, HasStartUp, start_up_turns}
 use Rattle.plm86.specs.Startup.{word_put, byte_put, with_vectors, copied, after_act, after_acts}
@@ -54,18 +54,18 @@ abbrev pub reset_registers : Regs
 reset_registers = reset_cpu.registers
 
 module _ {W P : Type 0} (m : BusModel W) (c : Chips P) (chips : W → P) (Whole : W → Type 0) (laws : OfBoard m c chips Whole)
-    (comes : Event → W → W) (events : Events m c chips Whole comes) (code : ℕ → Option (Instr × ℕ)) (Begins : Board W → Store P → Type 0) where
+    (occurs : Event → W → W) (events : Events m c chips Whole occurs) (code : ℕ → Option (Instr × ℕ)) (Begins : Board W → Store P → Type 0) where
   abbrev Boots : Regs → (ℕ → ℕ) → Board W → P → Type 0
-  Boots r f b p = Boot m c chips Whole laws comes events code r f b p
+  Boots r f b p = Boot m c chips Whole laws occurs events code r f b p
 
   abbrev To : ℕ → (Board W → P → Type 0) → (Board W → P → Type 0) → Type 0
-  To k S T = Leads m c chips Whole laws comes events code Begins k S T
+  To k S T = Leads m c chips Whole laws occurs events code Begins k S T
 
   abbrev Has : (ℕ → ℕ) → P → W → Type 0
-  Has f p w = Known m c chips Whole laws comes events code f p w
+  Has f p w = Known m c chips Whole laws occurs events code f p w
 
   abbrev chain : (k l : ℕ) (S T U : Board W → P → Type 0) → To k S T → To l T U → To (k + l) S U
-  chain k l S T U f g = then_leads m c chips Whole laws comes events code Begins k l S T U f g
+  chain k l S T U f g = then_leads m c chips Whole laws occurs events code Begins k l S T U f g
 
   -- ---- single instructions
 
@@ -79,7 +79,7 @@ module _ {W P : Type 0} (m : BusModel W) (c : Chips P) (chips : W → P) (Whole 
   steps_to r f n q g here there cs off phase at st does =
       let same : further r.ip st.0 ≡ there = ap (λ z. further z st.0) at ∙ st.2 in
       subst (λ z. To 1 (Boots r f) (Boots (q z) g)) same
-      (steps_by m c chips Whole laws comes events code Begins r f n st.0 (q (further r.ip st.0)) g cs off phase (ap code at ∙ st.1) (does (further r.ip st.0)))
+      (steps_by m c chips Whole laws occurs events code Begins r f n st.0 (q (further r.ip st.0)) g cs off phase (ap code at ∙ st.1) (does (further r.ip st.0)))
 
   loads : (r : Regs) (f : ℕ → ℕ) (register : Register16) (v here there : ℕ) → r.cs ≡ 0xF000 → has r.flags 512 ≡ false → r.ip ≡ here → Stands code here (load_word register v) there → To 1 (Boots r f) (Boots (with_word (record r { ip = there }) register v) f)
   unfolding effect moved
@@ -102,8 +102,8 @@ module _ {W P : Type 0} (m : BusModel W) (c : Chips P) (chips : W → P) (Whole 
   puts_word r f a v here there e h at st = steps_to r f (put_word a v) (λ ip. record r { ip = ip }) (word_put a v f) here there e.cs e.flags.on_is refl at st
       (λ ip p w k. (
         m.store w (store_at widths.Word a v),
-        ap (λ d. stored_at m widths.Word d a v (behind r ip w)) e.ds ∙ low_word m c chips Whole laws comes events code Begins (record r { ip = ip }) a v w h,
-        world_stored m c chips Whole laws comes events code Begins f p w widths.Word a v (omega (arith, h)) k,
+        ap (λ d. stored_at m widths.Word d a v (behind r ip w)) e.ds ∙ low_word m c chips Whole laws occurs events code Begins (record r { ip = ip }) a v w h,
+        world_stored m c chips Whole laws occurs events code Begins f p w widths.Word a v (omega (arith, h)) k,
       ))
 
   puts_byte : (r : Regs) (f : ℕ → ℕ) (a v here there : ℕ) → IsEarly r → a + 1 < 65536 → r.ip ≡ here → Stands code here (put_byte a v) there → To 1 (Boots r f) (Boots (record r { ip = there }) (byte_put a v f))
@@ -111,8 +111,8 @@ module _ {W P : Type 0} (m : BusModel W) (c : Chips P) (chips : W → P) (Whole 
   puts_byte r f a v here there e h at st = steps_to r f (put_byte a v) (λ ip. record r { ip = ip }) (byte_put a v f) here there e.cs e.flags.on_is refl at st
       (λ ip p w k. (
         m.store w (store_at widths.Byte a v),
-        ap (λ d. stored_at m widths.Byte d a v (behind r ip w)) e.ds ∙ low_byte m c chips Whole laws comes events code Begins (record r { ip = ip }) a v w (omega (arith, h)),
-        world_stored m c chips Whole laws comes events code Begins f p w widths.Byte a v (omega (arith, h)) k,
+        ap (λ d. stored_at m widths.Byte d a v (behind r ip w)) e.ds ∙ low_byte m c chips Whole laws occurs events code Begins (record r { ip = ip }) a v w (omega (arith, h)),
+        world_stored m c chips Whole laws occurs events code Begins f p w widths.Byte a v (omega (arith, h)) k,
       ))
 
   -- ---- acts
@@ -145,7 +145,7 @@ module _ {W P : Type 0} (m : BusModel W) (c : Chips P) (chips : W → P) (Whole 
       let s1 : To 1 (Boots r f) (Boots r1 f) = loads r f Si from here p e.cs e.flags.on_is at h.6 in
       let s2 : To 1 (Boots r1 f) (Boots r2 f) = loads r1 f Di to p q e.cs e.flags.on_is refl h.7 in
       let s3 : To 1 (Boots r2 f) (Boots r3 f) = loads r2 f Cx (suc more) q l e.cs e.flags.on_is refl h.8 in
-      let s4 : To (suc more) (Boots r3 f) (Boots r4 (copied (suc more) from to f)) = copies m c chips Whole laws comes events code Begins r e.cs e.es e.flags e.up more from to l f h.9 h.3 h.4 h.5 in
+      let s4 : To (suc more) (Boots r3 f) (Boots r4 (copied (suc more) from to f)) = copies m c chips Whole laws occurs events code Begins r e.cs e.es e.flags e.up more from to l f h.9 h.3 h.4 h.5 in
       let s12 = chain 1 1 (Boots r f) (Boots r1 f) (Boots r2 f) s1 s2 in
       let s123 = chain 2 1 (Boots r f) (Boots r2 f) (Boots r3 f) s12 s3 in
       let all = chain 3 (suc more) (Boots r f) (Boots r3 f) (Boots r4 (copied (suc more) from to f)) s123 s4 in
@@ -153,7 +153,7 @@ module _ {W P : Type 0} (m : BusModel W) (c : Chips P) (chips : W → P) (Whole 
       (to_early (3 + suc more) (Boots r f) r4 (copied (suc more) from to f) (record { cs = e.cs; ds = e.ds; es = e.es; flags = e.flags; up = e.up; words = record { ax = e.words.ax; cx = omega arith; dx = e.words.dx; bx = e.words.bx; bp = e.words.bp; si = h.3; di = h.4 } }) all))
 
   acts_run : (acts : List Act) (here there : ℕ) (f : ℕ → ℕ) → HasActs code here acts there → To (turns_of_all acts) (Early here f) (Early there (after_acts acts f))
-  acts_run [] here there f h = subst (λ z. To 0 (Early here f) (Early z f)) h (none m c chips Whole laws comes events code Begins (Early here f))
+  acts_run [] here there f h = subst (λ z. To 0 (Early here f) (Early z f)) h (none m c chips Whole laws occurs events code Begins (Early here f))
   acts_run (act ∷ acts) here there f h =
       chain (turns_of act) (turns_of_all acts) (Early here f) (Early h.0 (after_act act f)) (Early there (after_acts acts (after_act act f)))
       (act_runs act here h.0 f h.1) (acts_run acts h.0 there (after_act act f) h.2)
@@ -170,14 +170,14 @@ module _ {W P : Type 0} (m : BusModel W) (c : Chips P) (chips : W → P) (Whole 
   jumps_far f begin length here =
       let r = reset_registers in
       let q : Regs = record reset_registers { cs = 0xF000; ip = begin } in
-      one m c chips Whole laws comes events code Begins (Boots r f) (Boots q f) (λ es b p h.
-      let v = all_come m comes es b.world in
-      let k = world_later m c chips Whole laws comes events code f es p b.world h.world in
+      one m c chips Whole laws occurs events code Begins (Boots r f) (Boots q f) (λ es b p h.
+      let v = all_occur m occurs es b.world in
+      let k = world_later m c chips Whole laws occurs events code f es p b.world h.world in
       let spelled : decoded (fetched m v 0xFFFF 0) ≡ Some (i.JumpFar begin 0xF000, length) = ap decoded (same_bytes v) ∙ k.spelled.spelled 0xFFF0 (i.JumpFar begin 0xF000, length) here in
       let done : Machine W = record { registers = q; world = v; labels = [] } in
-      let gone : goes m comes (record { cpu = b.cpu; world = v }) ≡ Startup.after m c chips Whole laws comes events done =
-      ap (λ z. goes m comes (record { cpu = z; world = v })) h.is ∙ boot_turn m c chips Whole laws comes events r v (i.JumpFar begin 0xF000) length refl refl spelled in
-      (ap (λ z. map event_label es ++ z.1) gone ∙ append-nil (map event_label es), subst (λ z. Boots q f z.0 (chips_later m c chips Whole laws comes events es p)) (sym gone) (record { is = refl; world = k })))
+      let gone : goes m occurs (record { cpu = b.cpu; world = v }) ≡ Startup.after m c chips Whole laws occurs events done =
+      ap (λ z. goes m occurs (record { cpu = z; world = v })) h.is ∙ boot_turn m c chips Whole laws occurs events r v (i.JumpFar begin 0xF000) length refl refl spelled in
+      (ap (λ z. map event_label es ++ z.1) gone ∙ append-nil (map event_label es), subst (λ z. Boots q f z.0 (chips_later m c chips Whole laws occurs events es p)) (sym gone) (record { is = refl; world = k })))
 
   module _ (entry : ℕ) (acts : List Act) (main_at : ℕ) (x : HasStartUp code entry acts main_at) where
     -- main's registers at its beginning, with these flags
@@ -188,7 +188,7 @@ module _ {W P : Type 0} (m : BusModel W) (c : Chips P) (chips : W → P) (Whole 
       pub boot : Boots (all_registers main_at registers 0xFFFE) f b p
 
     -- the loop's registers, from the reset on
-    to_loop : (f : ℕ → ℕ) → To 3 (Boots reset_registers f) (Somewhere m c chips Whole laws comes events code Begins entry 0 x.loop f)
+    to_loop : (f : ℕ → ℕ) → To 3 (Boots reset_registers f) (Somewhere m c chips Whole laws occurs events code Begins entry 0 x.loop f)
     to_loop f =
         let r0 : Regs = record reset_registers { cs = 0xF000; ip = x.begin } in
         let r1 : Regs = record r0 { ip = x.second; ax = entry } in
@@ -201,7 +201,7 @@ module _ {W P : Type 0} (m : BusModel W) (c : Chips P) (chips : W → P) (Whole 
         λ j b s at rest. all j b s at (λ d p t. rest d p (record { 0 = 0 }, record { on_is = refl; known = refl }, t))
 
     -- CLD after the loop
-    to_acts : (g : ℕ → ℕ) → To 1 (Somewhere m c chips Whole laws comes events code Begins entry 1024 (x.loop + 14) g) (Early x.acting g)
+    to_acts : (g : ℕ → ℕ) → To 1 (Somewhere m c chips Whole laws occurs events code Begins entry 1024 (x.loop + 14) g) (Early x.acting g)
     to_acts g j b s at rest =
         let fl = at.0 in
         let r : Regs = regs entry 1024 (x.loop + 14) fl in
@@ -242,9 +242,9 @@ module _ {W P : Type 0} (m : BusModel W) (c : Chips P) (chips : W → P) (Whole 
         let g = with_vectors entry 0 256 f in
         let h = after_acts acts g in
         let n = turns_of_all acts in
-        let L : (ℕ → ℕ) → Board W → P → Type 0 = Somewhere m c chips Whole laws comes events code Begins entry 0 x.loop in
-        let D : (ℕ → ℕ) → Board W → P → Type 0 = Somewhere m c chips Whole laws comes events code Begins entry 1024 (x.loop + 14) in
-        let vectors : To 1280 (L f) (D g) = Vectors.sets_vectors m c chips Whole laws comes events code Begins x.loop x.back x.sets_vectors entry f in
+        let L : (ℕ → ℕ) → Board W → P → Type 0 = Somewhere m c chips Whole laws occurs events code Begins entry 0 x.loop in
+        let D : (ℕ → ℕ) → Board W → P → Type 0 = Somewhere m c chips Whole laws occurs events code Begins entry 1024 (x.loop + 14) in
+        let vectors : To 1280 (L f) (D g) = Vectors.sets_vectors m c chips Whole laws occurs events code Begins x.loop x.back x.sets_vectors entry f in
         let t1 = chain 3 1280 (Boots reset_registers f) (L f) (D g) (to_loop f) vectors in
         let t2 = chain 1283 1 (Boots reset_registers f) (D g) (Early x.acting g) t1 (to_acts g) in
         let t3 = chain 1284 n (Boots reset_registers f) (Early x.acting g) (Early x.acted h) t2 (acts_run acts x.acting x.acted g x.has_acts) in

@@ -29,12 +29,12 @@ abbrev pub copying : Regs → (cx si di ip : ℕ) → Regs
 copying r cx si di ip = record r { cx = cx; si = si; di = di; ip = ip }
 
 module _ {W P : Type 0} (m : BusModel W) (c : Chips P) (chips : W → P) (Whole : W → Type 0) (laws : OfBoard m c chips Whole)
-    (comes : Event → W → W) (events : Events m c chips Whole comes) (code : ℕ → Option (Instr × ℕ)) (Begins : Board W → Store P → Type 0) where
+    (occurs : Event → W → W) (events : Events m c chips Whole occurs) (code : ℕ → Option (Instr × ℕ)) (Begins : Board W → Store P → Type 0) where
   abbrev Boots : Regs → (ℕ → ℕ) → Board W → P → Type 0
-  Boots r f b p = Boot m c chips Whole laws comes events code r f b p
+  Boots r f b p = Boot m c chips Whole laws occurs events code r f b p
 
   abbrev To : ℕ → (Board W → P → Type 0) → (Board W → P → Type 0) → Type 0
-  To k S T = Leads m c chips Whole laws comes events code Begins k S T
+  To k S T = Leads m c chips Whole laws occurs events code Begins k S T
 
   pub low_byte : (r : Regs) (off v : ℕ) (w : W) → off < 65536 → stored_at m widths.Byte 0 off v (record { registers = r; world = w; labels = [] }) ≡ record { registers = r; world = m.store w (stores.Byte off v); labels = [] }
   unfolding stored_access
@@ -43,8 +43,8 @@ module _ {W P : Type 0} (m : BusModel W) (c : Chips P) (chips : W → P) (Whole 
       ∙ ap (λ o. record { registers = r; world = m.store w (stores.Byte off v); labels = labels_of o }) (Memory.no_byte_label m c chips Whole laws w off v (omega (arith, h)))
 
   -- one repetition
-  unit_is : (r : Regs) (n si di l : ℕ) (f : ℕ → ℕ) (p : P) (w : W) → r.cs ≡ 0xF000 → r.es ≡ 0 → has r.flags 1024 ≡ false → suc n < 65536 → si + 1 < 65536 → di + 1 < 65536 → l + 3 < 65536 → Known m c chips Whole laws comes events code f p w
-      → (u : W) × (effect m rep_movsb l (record { registers = copying r (suc n) si di ((l + 3) % 65536); world = w; labels = [] }) ≡ record { registers = copying r n (suc si) (suc di) (if n == 0 then l + 3 else l); world = u; labels = [] }) × Known m c chips Whole laws comes events code (byte_put di (f (0xF0000 + si) % 256) f) p u
+  unit_is : (r : Regs) (n si di l : ℕ) (f : ℕ → ℕ) (p : P) (w : W) → r.cs ≡ 0xF000 → r.es ≡ 0 → has r.flags 1024 ≡ false → suc n < 65536 → si + 1 < 65536 → di + 1 < 65536 → l + 3 < 65536 → Known m c chips Whole laws occurs events code f p w
+      → (u : W) × (effect m rep_movsb l (record { registers = copying r (suc n) si di ((l + 3) % 65536); world = w; labels = [] }) ≡ record { registers = copying r n (suc si) (suc di) (if n == 0 then l + 3 else l); world = u; labels = [] }) × Known m c chips Whole laws occurs events code (byte_put di (f (0xF0000 + si) % 256) f) p u
   unfolding effect string_moved unit_moved loaded_byte
   unit_is r n si di l f p w cs es up hn hs hd hl k =
       let v = f (0xF0000 + si) % 256 in
@@ -68,7 +68,7 @@ module _ {W P : Type 0} (m : BusModel W) (c : Chips P) (chips : W → P) (Whole 
             ∙ ap (λ (t : Bool). made ((suc n + 65535) % 65536) ((si + (if t then 65535 else 1)) % 65536) ((di + (if t then 65535 else 1)) % 65536) ((l + 3) % 65536)) up
             ∙ ap₂ (λ a b. made a ((si + 1) % 65536) ((di + 1) % 65536) b) left past
             ∙ ap₂ (λ a b. made n a b (l + 3)) si1 di1,
-        world_stored m c chips Whole laws comes events code Begins f p w widths.Byte di v (omega (arith, hd)) k,
+        world_stored m c chips Whole laws occurs events code Begins f p w widths.Byte di v (omega (arith, hd)) k,
       )
 
   -- n bytes in n turns
@@ -78,7 +78,7 @@ module _ {W P : Type 0} (m : BusModel W) (c : Chips P) (chips : W → P) (Whole 
   copies r cs es off up zero si di l f here hs hd hl =
       let g : ℕ → ℕ = byte_put di (f (0xF0000 + si) % 256) f in
       let s1 : To 1 (Boots (copying r 1 si di l) f) (Boots (copying r 0 (suc si) (suc di) (l + 3)) g) =
-      steps_by m c chips Whole laws comes events code Begins (copying r 1 si di l) f rep_movsb 3 (copying r 0 (suc si) (suc di) (l + 3)) g cs off.on_is refl here (λ p w. unit_is r 0 si di l f p w cs es up (omega (arith, hs)) (omega (arith, hs)) (omega (arith, hd)) hl) in
+      steps_by m c chips Whole laws occurs events code Begins (copying r 1 si di l) f rep_movsb 3 (copying r 0 (suc si) (suc di) (l + 3)) g cs off.on_is refl here (λ p w. unit_is r 0 si di l f p w cs es up (omega (arith, hs)) (omega (arith, hs)) (omega (arith, hd)) hl) in
       let e1 : suc si ≡ si + 1 = omega arith in
       let e2 : suc di ≡ di + 1 = omega arith in
       subst₂ (λ a b. To 1 (Boots (copying r 1 si di l) f) (Boots (copying r 0 a b (l + 3)) g)) e1 e2 s1
@@ -86,11 +86,11 @@ module _ {W P : Type 0} (m : BusModel W) (c : Chips P) (chips : W → P) (Whole 
       let g : ℕ → ℕ = byte_put di (f (0xF0000 + si) % 256) f in
       let h : ℕ → ℕ = copied (suc k) (suc si) (suc di) g in
       let s1 : To 1 (Boots (copying r (suc (suc k)) si di l) f) (Boots (copying r (suc k) (suc si) (suc di) l) g) =
-      steps_by m c chips Whole laws comes events code Begins (copying r (suc (suc k)) si di l) f rep_movsb 3 (copying r (suc k) (suc si) (suc di) l) g cs off.on_is refl here
+      steps_by m c chips Whole laws occurs events code Begins (copying r (suc (suc k)) si di l) f rep_movsb 3 (copying r (suc k) (suc si) (suc di) l) g cs off.on_is refl here
       (λ p w z. let t = unit_is r (suc k) si di l f p w cs es up (omega (arith, hs)) (omega (arith, hs)) (omega (arith, hd)) hl z in
       (t.0, t.1 ∙ ap (λ (b : Bool). record { registers = copying r (suc k) (suc si) (suc di) (if b then l + 3 else l); world = t.0; labels = [] }) (ne_eqb (suc k) 0 (λ e. absurd (omega (arith, e)))), t.2)) in
       let rest = copies r cs es off up k (suc si) (suc di) l g here (omega (arith, hs)) (omega (arith, hd)) hl in
-      let both = then_leads m c chips Whole laws comes events code Begins 1 (suc k) (Boots (copying r (suc (suc k)) si di l) f) (Boots (copying r (suc k) (suc si) (suc di) l) g) (Boots (copying r 0 (suc si + suc k) (suc di + suc k) (l + 3)) h) s1 rest in
+      let both = then_leads m c chips Whole laws occurs events code Begins 1 (suc k) (Boots (copying r (suc (suc k)) si di l) f) (Boots (copying r (suc k) (suc si) (suc di) l) g) (Boots (copying r 0 (suc si + suc k) (suc di + suc k) (l + 3)) h) s1 rest in
       let turns : 1 + suc k ≡ suc (suc k) = omega arith in
       let e1 : suc si + suc k ≡ si + suc (suc k) = omega arith in
       let e2 : suc di + suc k ≡ di + suc (suc k) = omega arith in

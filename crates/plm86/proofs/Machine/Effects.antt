@@ -37,7 +37,7 @@ use Rattle.i86_table.specs.declared.instruction.Condition.{Condition}
 use Rattle.i86_table.specs.declared.instruction.Instr.{Instr}
 use Rattle.i86_table.specs.declared.instruction.Instr.TheVariants as i
 use Rattle.i86_table.specs.State.{segment_of, word_of, byte_of, with_word, with_byte, offset_of}
-use Rattle.i86_table.specs.Conditions.{holds}
+use Rattle.i86_table.specs.Condition.{holds}
 use Rattle.i86_table.specs.Arithmetic.{operated, tested, changed, shifted, multiplied, divided, added, with_flag, flag_bit, sign_extended, sign_word, is_comparison}
 use Rattle.i86_table.specs.Contexts.{Working, Given, all_registers, is_sp, is_stack, top_of, stack_pointer, stack_word, takes, moved_word, stack_offer, jump_offer, word_in, byte_in, set_word, set_byte, set_flags, offset_in, port_in, count_in, Context, Own, room, bytes, further, in_object, on_screen, alu_word, alu_byte, word_result, byte_result, word_product, byte_product, word_quotient, byte_quotient, word_mask, byte_mask, masks_sp, input_gives, output_takes, refused, unless, silently, reads, writes, divides, place_in, place_of, offered}
 use Rattle.cpu8086.specs.declared.bus.Store.TheVariants as stores

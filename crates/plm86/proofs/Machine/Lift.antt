@@ -12,7 +12,7 @@ use Rattle.word86.specs.Chips.{Chips}
 use Rattle.word86.specs.Action.{Shared, Silent, Touch, Enable, Disable, Halt, Over, Bad}
 use Rattle.word86.specs.Following.{Offer, Does, Arms}
 use Rattle.plm_meaning.specs.Store.{Store, touch, with_chips, shared}
-use Rattle.word86.specs.Events.{event_label}
+use Rattle.word86.specs.Event.{event_label}
 use Rattle.i86_table.specs.declared.registers.Regs.{Regs}
 use Rattle.i86_table.specs.declared.instruction.Instr.{Instr}
 use Rattle.i86_table.specs.declared.instruction.Instr.TheVariants as i
@@ -33,7 +33,7 @@ use Rattle.plm86.specs.Inner.BoardLaws.{OfBoard, Events}
 use Rattle.plm86.specs.Inner.Duo.{Duo, Alone, Armed, Serving, duo_after_events, execute, serve, alone, act, main_in, has_handler}
 use Rattle.plm86.specs.Headline.{IsBounded}
 use Rattle.plm86.specs.Boots.{after_events}
-use Rattle.board.specs.Machine.{Board, all_come, goes, turn}
+use Rattle.board.specs.Machine.{Board, all_occur, goes, turn}
 use Rattle.plm86.specs.Relation.{Fine, Placed, Finds, FlagsAre}
 use Rattle.plm86.specs.Inner.Stacks.{Stacked, Stack}
 use Rattle.plm86.proofs.Machine.Memory
@@ -69,7 +69,7 @@ iret_or i.InterruptReturn = inr refl
 iret_or _ = inl tt
 
 module _ {W P : Type 0} (m : BusModel W) (c : Chips P) (chips : W → P) (Whole : W → Type 0) (laws : OfBoard m c chips Whole)
-    (comes : Event → W → W) (events : Events m c chips Whole comes)
+    (occurs : Event → W → W) (events : Events m c chips Whole occurs)
     (code : ℕ → Option (Instr × ℕ)) (find : ℕ → ℕ → Option (ℕ × ℕ)) (words : ℕ → Option ℕ) (entry : ℕ → ℕ) (main handler : ℕ) (placed size : ℕ → ℕ) (is_placed : Placed placed size) (finds : Finds find placed size)
     (enough : main + 3 + handler ≤ 2047) where
   abbrev F : Store P → W → Type 0
@@ -197,9 +197,9 @@ module _ {W P : Type 0} (m : BusModel W) (c : Chips P) (chips : W → P) (Whole 
 
   -- the turn of the instruction at the place, where nothing is acknowledged
   abbrev Goes : ℕ → Working → ℕ → W → Phase → Type 0
-  Goes p g sp w phase = (z : Instr × ℕ) → decoded (fetched m w 0xF000 p) ≡ Some z → goes m comes (at_place p g sp w phase) ≡ after z.0 (effect m z.0 p (behind p z.1 g sp w))
+  Goes p g sp w phase = (z : Instr × ℕ) → decoded (fetched m w 0xF000 p) ≡ Some z → goes m occurs (at_place p g sp w phase) ≡ after z.0 (effect m z.0 p (behind p z.1 g sp w))
 
-  running : (p : ℕ) (g : Working) (sp : ℕ) (w : W) → (has g.flags 512 && m.line w) ≡ false → Goes p g sp w Running
+  running : (p : ℕ) (g : Working) (sp : ℕ) (w : W) → (has g.flags 512 && m.int_line w) ≡ false → Goes p g sp w Running
   unfolding goes turn_of
   running p g sp w none z spelled =
       let cpu = cpu_at (all_registers p g sp) Running in
@@ -209,7 +209,7 @@ module _ {W P : Type 0} (m : BusModel W) (c : Chips P) (chips : W → P) (Whole 
   unfolding goes turn_of
   after_sti p g sp w z spelled = instruction_is p g sp w AfterSti z spelled
 
-  waiting : (p : ℕ) (g : Working) (sp : ℕ) (w : W) → (has g.flags 512 && m.line w) ≡ false → goes m comes (at_place p g sp w Halted) ≡ (at_place p g sp w Halted, [])
+  waiting : (p : ℕ) (g : Working) (sp : ℕ) (w : W) → (has g.flags 512 && m.int_line w) ≡ false → goes m occurs (at_place p g sp w Halted) ≡ (at_place p g sp w Halted, [])
   unfolding goes turn_of
   waiting p g sp w none =
       let cpu = cpu_at (all_registers p g sp) Halted in
@@ -251,7 +251,7 @@ module _ {W P : Type 0} (m : BusModel W) (c : Chips P) (chips : W → P) (Whole 
       (λ e. subst (λ n. Lifted (execute Sh Context off beg (offered find words main handler n q g st a None) on s) (after n (effect m n p (record { registers = all_registers q g sp; world = w; labels = [] })))) (sym e) tt)
       (iret_or n)
 
-  main_goes : (z : Option (Instr × ℕ)) (phase : Phase) (p : ℕ) (g : Working) (st : List ℕ) (sp : ℕ) (w : W) (a on : Bool) (s : Store P) → code p ≡ z → Goes p g sp w phase → (a ≡ true → on ≡ true) → Stack m w sp st [] main → F s w → FlagsAre on g.flags → Lifted (execute Sh Context off beg (offered_at code find words entry main handler z p g st a None) on s) (goes m comes (at_place p g sp w phase))
+  main_goes : (z : Option (Instr × ℕ)) (phase : Phase) (p : ℕ) (g : Working) (st : List ℕ) (sp : ℕ) (w : W) (a on : Bool) (s : Store P) → code p ≡ z → Goes p g sp w phase → (a ≡ true → on ≡ true) → Stack m w sp st [] main → F s w → FlagsAre on g.flags → Lifted (execute Sh Context off beg (offered_at code find words entry main handler z p g st a None) on s) (goes m occurs (at_place p g sp w phase))
   main_goes None phase p g st sp w a on s e go sti stack fine flags = tt
   main_goes (Some z) phase p g st sp w a on s e go sti stack fine flags =
       subst (λ b. Lifted (execute Sh Context off beg (offered find words main handler z.0 ((p + z.1) % 65536) g st a None) on s) b) (sym (go z (fine.spelled.spelled p z e)))
@@ -292,7 +292,7 @@ module _ {W P : Type 0} (m : BusModel W) (c : Chips P) (chips : W → P) (Whole 
       (iret_goes p0 g0 st0 lt fl (gives_back g0 g st) p q g st sp w s refl stack fine))
       (iret_or n)
 
-  handler_goes : (z : Option (Instr × ℕ)) (p0 : ℕ) (g0 : Working) (st0 : List ℕ) → Waits p0 st0 → FlagsAre true g0.flags → (p : ℕ) (g : Working) (st : List ℕ) (sp : ℕ) (w : W) (s : Store P) → code p ≡ z → Goes p g sp w Running → Stack m w sp st (frame p0 g0 st0) handler → F s w → FlagsAre false g.flags → Lifted (serve Sh Context off beg (offered_at code find words entry main handler z p g st false (Some (saved g0 st0))) (Own p0 g0 st0 false None) s) (goes m comes (at_place p g sp w Running))
+  handler_goes : (z : Option (Instr × ℕ)) (p0 : ℕ) (g0 : Working) (st0 : List ℕ) → Waits p0 st0 → FlagsAre true g0.flags → (p : ℕ) (g : Working) (st : List ℕ) (sp : ℕ) (w : W) (s : Store P) → code p ≡ z → Goes p g sp w Running → Stack m w sp st (frame p0 g0 st0) handler → F s w → FlagsAre false g.flags → Lifted (serve Sh Context off beg (offered_at code find words entry main handler z p g st false (Some (saved g0 st0))) (Own p0 g0 st0 false None) s) (goes m occurs (at_place p g sp w Running))
   handler_goes None p0 g0 st0 lt fl p g st sp w s e go stack fine flags = tt
   handler_goes (Some z) p0 g0 st0 lt fl p g st sp w s e go stack fine flags =
       subst (λ b. Lifted (serve Sh Context off beg (offered find words main handler z.0 ((p + z.1) % 65536) g st false (Some (saved g0 st0))) (Own p0 g0 st0 false None) s) b) (sym (go z (fine.spelled.spelled p z e)))
@@ -359,39 +359,39 @@ module _ {W P : Type 0} (m : BusModel W) (c : Chips P) (chips : W → P) (Whole 
       ) in
       subst (λ y. Lifted (Some (Serving (Own p g st false None) (Own (entry (c.vector s.chips)) g1 [] false (Some (saved g st))) s0, labels.Ack (c.vector s.chips) ∷ [])) (made y)) (sym all) done
 
-  going_to_ack : (p : ℕ) (g : Working) (sp : ℕ) (w : W) (h : Bool) → (has g.flags 512 && m.line w) ≡ true → goes m comes (at_place p g sp w (waits_if h)) ≡ out_of (acknowledging m (cpu_at (all_registers p g sp) (waits_if h)) w)
+  going_to_ack : (p : ℕ) (g : Working) (sp : ℕ) (w : W) (h : Bool) → (has g.flags 512 && m.int_line w) ≡ true → goes m occurs (at_place p g sp w (waits_if h)) ≡ out_of (acknowledging m (cpu_at (all_registers p g sp) (waits_if h)) w)
   unfolding goes turn_of
   going_to_ack p g sp w true takes = ap (λ b. out_of (if b then acknowledging m (cpu_at (all_registers p g sp) Halted) w else still m Halted (cpu_at (all_registers p g sp) Halted) w kinds.Wait)) takes
   going_to_ack p g sp w false takes = ap (λ b. out_of (if b then acknowledging m (cpu_at (all_registers p g sp) Running) w else instruction_turn m (cpu_at (all_registers p g sp) Running) w)) takes
 
   -- an acknowledgement is taken where the contexts take one
-  takes_is : (g : Working) (w : W) (s : Store P) (on : Bool) → F s w → FlagsAre on g.flags → (has g.flags 512 && m.line w) ≡ (on && c.line s.chips)
-  takes_is g w s on fine flags = ap₂ (λ x y. x && y) flags.on_is (laws.line w ∙ ap c.line fine.chips_are)
+  takes_is : (g : Working) (w : W) (s : Store P) (on : Bool) → F s w → FlagsAre on g.flags → (has g.flags 512 && m.int_line w) ≡ (on && c.int_line s.chips)
+  takes_is g w s on fine flags = ap₂ (λ x y. x && y) flags.on_is (laws.int_line w ∙ ap c.int_line fine.chips_are)
 
   on_if_taken : (on line : Bool) → (on && line) ≡ true → on ≡ true
   on_if_taken true line e = refl
   on_if_taken false line e = e
 
-  single_goes : (b h : Bool) (p : ℕ) (hp : p < 65536) (g : Working) (st : List ℕ) (sp : ℕ) (w : W) (on : Bool) (s : Store P) → (on && (c.line s.chips)) ≡ b → Stack m w sp st [] main → F s w → FlagsAre on g.flags → Lifted (alone Sh Context off beg b (Own p g st false None) on h s) (goes m comes (at_place p g sp w (waits_if h)))
+  single_goes : (b h : Bool) (p : ℕ) (hp : p < 65536) (g : Working) (st : List ℕ) (sp : ℕ) (w : W) (on : Bool) (s : Store P) → (on && (c.int_line s.chips)) ≡ b → Stack m w sp st [] main → F s w → FlagsAre on g.flags → Lifted (alone Sh Context off beg b (Own p g st false None) on h s) (goes m occurs (at_place p g sp w (waits_if h)))
   single_goes true h p hp g st sp w on s e stack fine flags =
       subst (λ o. Lifted (Some (Serving (Own p g st false None) (beg (c.vector s.chips) (Own p g st false None)) (with_chips (c.acknowledge s.chips) s), labels.Ack (c.vector s.chips) ∷ [])) o) (sym (going_to_ack p g sp w h (takes_is g w s on fine flags ∙ e)))
-      (ack_goes p hp g st sp w s h stack fine (subst (λ x. FlagsAre x g.flags) (on_if_taken on (c.line s.chips) e) flags))
+      (ack_goes p hp g st sp w s h stack fine (subst (λ x. FlagsAre x g.flags) (on_if_taken on (c.int_line s.chips) e) flags))
   single_goes false true p hp g st sp w on s e stack fine flags =
       subst (λ o. Lifted (Some (Alone (Own p g st false None) on true s, [])) o) (sym (waiting p g sp w (takes_is g w s on fine flags ∙ e)))
       (refl, record { pair = Single p g st on true s; is = refl; fits = record { sp = sp; is = refl; stack = stack; fine = fine; flags = flags; low = hp } })
   single_goes false false p hp g st sp w on s e stack fine flags =
       main_goes (code p) Running p g st sp w false on s refl (running p g sp w (takes_is g w s on fine flags ∙ e)) (λ f. absurd (true≢false (sym f))) stack fine flags
 
-  placed_goes : (y : Pair (Store P)) (b : Board W) → Fits y b → Lifted (act Sh Context off beg (contexts y)) (goes m comes b)
+  placed_goes : (y : Pair (Store P)) (b : Board W) → Fits y b → Lifted (act Sh Context off beg (contexts y)) (goes m occurs b)
   placed_goes (Single p g st on h s) b k =
-      subst (λ x. Lifted (alone Sh Context off beg ((on && (c.line s.chips))) (Own p g st false None) on h s) (goes m comes (record { cpu = x; world = b.world }))) (sym k.is)
-      (single_goes ((on && (c.line s.chips))) h p k.low g st k.sp b.world on s refl k.stack k.fine k.flags)
+      subst (λ x. Lifted (alone Sh Context off beg ((on && (c.int_line s.chips))) (Own p g st false None) on h s) (goes m occurs (record { cpu = x; world = b.world }))) (sym k.is)
+      (single_goes ((on && (c.int_line s.chips))) h p k.low g st k.sp b.world on s refl k.stack k.fine k.flags)
   placed_goes (Primed p g st s) b k =
-      subst (λ x. Lifted (execute Sh Context off beg (off (Own p g st true None)) true s) (goes m comes (record { cpu = x; world = b.world }))) (sym k.is)
+      subst (λ x. Lifted (execute Sh Context off beg (off (Own p g st true None)) true s) (goes m occurs (record { cpu = x; world = b.world }))) (sym k.is)
       (main_goes (code p) AfterSti p g st k.sp b.world true true s refl (after_sti p g k.sp b.world) (λ e. refl) k.stack k.fine k.flags)
   placed_goes (Twofold p g st p0 g0 st0 s) b k =
-      subst (λ x. Lifted (serve Sh Context off beg (off (Own p g st false (Some (saved g0 st0)))) (Own p0 g0 st0 false None) s) (goes m comes (record { cpu = x; world = b.world }))) (sym k.0.is)
-      (handler_goes (code p) p0 g0 st0 k.1 k.2 p g st k.0.sp b.world s refl (running p g k.0.sp b.world (ap (λ y. y && m.line b.world) k.0.flags.on_is)) k.0.stack k.0.fine k.0.flags)
+      subst (λ x. Lifted (serve Sh Context off beg (off (Own p g st false (Some (saved g0 st0)))) (Own p0 g0 st0 false None) s) (goes m occurs (record { cpu = x; world = b.world }))) (sym k.0.is)
+      (handler_goes (code p) p0 g0 st0 k.1 k.2 p g st k.0.sp b.world s refl (running p g k.0.sp b.world (ap (λ y. y && m.int_line b.world) k.0.flags.on_is)) k.0.stack k.0.fine k.0.flags)
 
   -- events
   later : List Event → Pair (Store P) → Pair (Store P)
@@ -405,41 +405,41 @@ module _ {W P : Type 0} (m : BusModel W) (c : Chips P) (chips : W → P) (Whole 
   later_contexts es (Primed p g st s) = refl
   later_contexts es (Twofold p g st p0 g0 st0 s) = refl
 
-  all_come_keep : (es : List Event) (w : W) (a : ℕ) → m.load (all_come m comes es w) a ≡ m.load w a
+  all_come_keep : (es : List Event) (w : W) (a : ℕ) → m.load (all_occur m occurs es w) a ≡ m.load w a
   all_come_keep [] w a = refl
-  all_come_keep (e ∷ es) w a = all_come_keep es (comes e w) a ∙ events.keeps e w a
+  all_come_keep (e ∷ es) w a = all_come_keep es (occurs e w) a ∙ events.keeps e w a
 
-  all_come_fine : (es : List Event) (s : Store P) (w : W) → F s w → F (after_events Sh es s) (all_come m comes es w)
+  all_come_fine : (es : List Event) (s : Store P) (w : W) → F s w → F (after_events Sh es s) (all_occur m occurs es w)
   all_come_fine [] s w f = f
-  all_come_fine (e ∷ es) s w f = all_come_fine es (with_chips (c.comes e s.chips) s) (comes e w)
-      (Memory.fine_chips m c chips Whole laws code words entry placed size is_placed s w (comes e w) (c.comes e s.chips) (events.keeps e w) (events.stays e w f.whole) (events.chips_are e w ∙ ap (c.comes e) f.chips_are) f)
+  all_come_fine (e ∷ es) s w f = all_come_fine es (with_chips (c.occurs e s.chips) s) (occurs e w)
+      (Memory.fine_chips m c chips Whole laws code words entry placed size is_placed s w (occurs e w) (c.occurs e s.chips) (events.keeps e w) (events.stays e w f.whole) (events.chips_are e w ∙ ap (c.occurs e) f.chips_are) f)
 
-  later_run : (es : List Event) (b : Board W) (p : ℕ) (g : Working) (st base : List ℕ) (o : Option Given) (s : Store P) (on : Bool) (phase : Phase) → Run b p g st base o s on phase → Run (record { cpu = b.cpu; world = all_come m comes es b.world }) p g st base o (after_events Sh es s) on phase
+  later_run : (es : List Event) (b : Board W) (p : ℕ) (g : Working) (st base : List ℕ) (o : Option Given) (s : Store P) (on : Bool) (phase : Phase) → Run b p g st base o s on phase → Run (record { cpu = b.cpu; world = all_occur m occurs es b.world }) p g st base o (after_events Sh es s) on phase
   later_run es b p g st base o s on phase k = record {
     sp = k.sp;
     is = k.is;
-    stack = Memory.stack_chips m c chips Whole laws code words entry placed size is_placed b.world (all_come m comes es b.world) k.sp st base (room main handler o) (all_come_keep es b.world) k.stack;
+    stack = Memory.stack_chips m c chips Whole laws code words entry placed size is_placed b.world (all_occur m occurs es b.world) k.sp st base (room main handler o) (all_come_keep es b.world) k.stack;
     fine = all_come_fine es s b.world k.fine;
     flags = k.flags;
     low = k.low;
   }
 
-  later_fits : (es : List Event) (y : Pair (Store P)) (b : Board W) → Fits y b → Fits (later es y) (record { cpu = b.cpu; world = all_come m comes es b.world })
+  later_fits : (es : List Event) (y : Pair (Store P)) (b : Board W) → Fits y b → Fits (later es y) (record { cpu = b.cpu; world = all_occur m occurs es b.world })
   unfolding later
   later_fits es (Single p g st on h s) b k = later_run es b p g st [] None s on (waits_if h) k
   later_fits es (Primed p g st s) b k = later_run es b p g st [] None s true AfterSti k
   later_fits es (Twofold p g st p0 g0 st0 s) b k = (later_run es b p g st (frame p0 g0 st0) (Some (saved g0 st0)) s false Running k.0, k.1, k.2)
 
-  pub lifts : (es : List Event) (b : Board W) (d e : Duo (Store P) Context) (ls : List Label) → Stands b d → act Sh Context off beg (duo_after_events Sh es d) ≡ Some (e, ls) → ((turn m comes es b).1 ≡ map event_label es ++ ls) × Stands (turn m comes es b).0 e
+  pub lifts : (es : List Event) (b : Board W) (d e : Duo (Store P) Context) (ls : List Label) → Stands b d → act Sh Context off beg (duo_after_events Sh es d) ≡ Some (e, ls) → ((turn m occurs es b).1 ≡ map event_label es ++ ls) × Stands (turn m occurs es b).0 e
   lifts es b d e ls st goes_to =
-      let b1 : Board W = record { cpu = b.cpu; world = all_come m comes es b.world } in
+      let b1 : Board W = record { cpu = b.cpu; world = all_occur m occurs es b.world } in
       let same : contexts (later es st.pair) ≡ duo_after_events Sh es d = later_contexts es st.pair ∙ ap (duo_after_events Sh es) (sym st.is) in
-      let one : Lifted (act Sh Context off beg (duo_after_events Sh es d)) (goes m comes b1) = subst (λ z. Lifted (act Sh Context off beg z) (goes m comes b1)) same (placed_goes (later es st.pair) b1 (later_fits es st.pair b st.fits)) in
-      let two : Lifted (Some (e, ls)) (goes m comes b1) = subst (λ o. Lifted o (goes m comes b1)) goes_to one in
+      let one : Lifted (act Sh Context off beg (duo_after_events Sh es d)) (goes m occurs b1) = subst (λ z. Lifted (act Sh Context off beg z) (goes m occurs b1)) same (placed_goes (later es st.pair) b1 (later_fits es st.pair b st.fits)) in
+      let two : Lifted (Some (e, ls)) (goes m occurs b1) = subst (λ o. Lifted o (goes m occurs b1)) goes_to one in
       (ap (λ l. map event_label es ++ l) two.0, two.1)
 
-  pub begins : (es : List Event) (b : Board W) → (ls : List Label) × ((turn m comes es b).1 ≡ map event_label es ++ ls)
-  begins es b = ((goes m comes (record { cpu = b.cpu; world = all_come m comes es b.world })).1, refl)
+  pub begins : (es : List Event) (b : Board W) → (ls : List Label) × ((turn m occurs es b).1 ≡ map event_label es ++ ls)
+  begins es b = ((goes m occurs (record { cpu = b.cpu; world = all_occur m occurs es b.world })).1, refl)
 
   -- the stack pointer stays in its bounds
   abbrev InBounds : Duo (Store P) Context → ℕ → Type 0

@@ -3,7 +3,7 @@ use Rattle.std.specs.Prelude.{ℕ, Bool, true, false, ◌≡◌, ◌+◌, ◌<�
 use Rattle.std.proofs.Common.{◌∙◌, ap, arith}
 use Rattle.std.proofs.lemmas.Bool.{lt-ltb, le-leb, le-ltb}
 use Rattle.word86.specs.Chips.{Chips}
-use Rattle.board.specs.World.{Whole, lies_in, board_model, screen_at, comes}
+use Rattle.board.specs.World.{Whole, lies_in, board_model, screen_at, occurs}
 use Rattle.plm86.specs.Inner.BoardLaws.{LawsBelow, OfBoard, Events}
 
 pub within_true : (base : ℕ) (l : List ℕ) (a n : ℕ) → length l ≡ n → base ≤ a → a < base + n → lies_in base l a ≡ true
@@ -38,11 +38,11 @@ of_board below c rom = record {
   out_chips = λ w width port value. refl;
   ack_chips = λ w. refl;
   value = λ w width port. refl;
-  line = λ w. refl;
+  int_line = λ w. refl;
   vector = λ w. refl;
 }
 
-pub events_law : {P : Type 0} (c : Chips P) (rom : List ℕ) → Events (board_model c) c (λ w. w.chips) (Whole rom) (comes c)
+pub events_law : {P : Type 0} (c : Chips P) (rom : List ℕ) → Events (board_model c) c (λ w. w.chips) (Whole rom) (occurs c)
 events_law c rom = record {
   keeps = λ e w a. refl;
   chips_are = λ e w. refl;

@@ -6,7 +6,7 @@ use Rattle.word86.specs.declared.label.Label.{Label}
 use Rattle.word86.specs.Chips.{Chips}
 use Rattle.word86.specs.Action.{Shared}
 use Rattle.plm_meaning.specs.Store.{Store, with_chips, shared}
-use Rattle.word86.specs.Events.{event_label}
+use Rattle.word86.specs.Event.{event_label}
 use Rattle.i86_table.specs.declared.registers.Regs.{Regs}
 use Rattle.i86_table.specs.declared.instruction.Instr.{Instr}
 use Rattle.i86_table.specs.Arithmetic.{has}
@@ -19,12 +19,12 @@ use Rattle.cpu8086.specs.Effect.{effect}
 use Rattle.cpu8086.specs.Turn.{turn_of, doing, fetched, phase_after, instruction_turn, decoded_turn, acknowledging}
 use Rattle.plm86.specs.Inner.BoardLaws.{OfBoard, Events}
 use Rattle.plm86.specs.Boots.{after_events, Boots}
-use Rattle.board.specs.Machine.{Board, all_come, goes, turn}
+use Rattle.board.specs.Machine.{Board, all_occur, goes, turn}
 use Rattle.plm86.specs.Relation.{Spelled}
 use Rattle.plm86.proofs.Machine.Memory
 
 module _ {W P : Type 0} (m : BusModel W) (c : Chips P) (chips : W → P) (Whole : W → Type 0) (laws : OfBoard m c chips Whole)
-    (comes : Event → W → W) (events : Events m c chips Whole comes) where
+    (occurs : Event → W → W) (events : Events m c chips Whole occurs) where
   abbrev Sh : Shared
   Sh = shared c
 
@@ -52,64 +52,64 @@ module _ {W P : Type 0} (m : BusModel W) (c : Chips P) (chips : W → P) (Whole 
 
   pub chips_later : List Event → P → P
   chips_later [] p = p
-  chips_later (e ∷ es) p = chips_later es (c.comes e p)
+  chips_later (e ∷ es) p = chips_later es (c.occurs e p)
 
-  pub world_later : (code : ℕ → Option (Instr × ℕ)) (f : ℕ → ℕ) (es : List Event) (p : P) (w : W) → Known code f p w → Known code f (chips_later es p) (all_come m comes es w)
+  pub world_later : (code : ℕ → Option (Instr × ℕ)) (f : ℕ → ℕ) (es : List Event) (p : P) (w : W) → Known code f p w → Known code f (chips_later es p) (all_occur m occurs es w)
   unfolding chips_later
   world_later code f [] p w k = k
-  world_later code f (e ∷ es) p w k = world_later code f es (c.comes e p) (comes e w) (record {
+  world_later code f (e ∷ es) p w k = world_later code f es (c.occurs e p) (occurs e w) (record {
     whole = events.stays e w k.whole;
-    spelled = Memory.spelled_kept m c chips Whole laws code w (comes e w) (λ a le lt. events.keeps e w a) k.spelled;
+    spelled = Memory.spelled_kept m c chips Whole laws code w (occurs e w) (λ a le lt. events.keeps e w a) k.spelled;
     memory = λ a lt. events.keeps e w a ∙ k.memory a lt;
-    chips_are = events.chips_are e w ∙ ap (c.comes e) k.chips_are;
+    chips_are = events.chips_are e w ∙ ap (c.occurs e) k.chips_are;
   })
 
   occur_is : (es : List Event) (s : Store P) → after_events Sh es s ≡ with_chips (chips_later es s.chips) s
   unfolding chips_later
   occur_is [] s = refl
-  occur_is (e ∷ es) s = occur_is es (with_chips (c.comes e s.chips) s)
+  occur_is (e ∷ es) s = occur_is es (with_chips (c.occurs e s.chips) s)
 
   -- one turn of the processor with interrupts off
-  pub boot_turn : (r : Regs) (w : W) (n : Instr) (len : ℕ) → has r.flags 512 ≡ false → phase_after n ≡ Running → decoded (fetched m w r.cs r.ip) ≡ Some (n, len) → goes m comes (record { cpu = cpu_at r; world = w }) ≡ after (effect m n r.ip (record { registers = record r { ip = (r.ip + len) % 65536 }; world = w; labels = [] }))
+  pub boot_turn : (r : Regs) (w : W) (n : Instr) (len : ℕ) → has r.flags 512 ≡ false → phase_after n ≡ Running → decoded (fetched m w r.cs r.ip) ≡ Some (n, len) → goes m occurs (record { cpu = cpu_at r; world = w }) ≡ after (effect m n r.ip (record { registers = record r { ip = (r.ip + len) % 65536 }; world = w; labels = [] }))
   unfolding goes turn_of instruction_turn doing
   boot_turn r w n len off phase spelled =
       let out : Rattle.cpu8086.specs.Turn.Outcome W → Board W × List Label = λ u. (record { cpu = u.cpu; world = u.world }, u.labels) in
       let x = effect m n r.ip (record { registers = record r { ip = (r.ip + len) % 65536 }; world = w; labels = [] }) in
-      ap (λ b. out (if b then acknowledging m (cpu_at r) w else instruction_turn m (cpu_at r) w)) (ap (λ y. y && m.line w) off)
+      ap (λ b. out (if b then acknowledging m (cpu_at r) w else instruction_turn m (cpu_at r) w)) (ap (λ y. y && m.int_line w) off)
       ∙ ap (λ y. out (decoded_turn m y (cpu_at r) w)) spelled
       ∙ ap (λ h. (record { cpu = record { registers = x.registers; phase = h }; world = x.world }, x.labels)) phase
 
   module _ (code : ℕ → Option (Instr × ℕ)) (Begins : Board W → Store P → Type 0) where
     -- k turns lead from the one to the other
     abbrev pub Leads : ℕ → (Board W → P → Type 0) → (Board W → P → Type 0) → Type 0
-    Leads k S T = (j : ℕ) (b : Board W) (s : Store P) → S b s.chips → ((d : Board W) (p : P) → T d p → Boots Sh (turn m comes) Begins j d (with_chips p s)) → Boots Sh (turn m comes) Begins (k + j) b s
+    Leads k S T = (j : ℕ) (b : Board W) (s : Store P) → S b s.chips → ((d : Board W) (p : P) → T d p → Boots Sh (turn m occurs) Begins j d (with_chips p s)) → Boots Sh (turn m occurs) Begins (k + j) b s
 
     pub none : (S : Board W → P → Type 0) → Leads 0 S S
-    none S j b s h k = subst (λ n. Boots Sh (turn m comes) Begins n b s) (omega arith) (k b s.chips h)
+    none S j b s h k = subst (λ n. Boots Sh (turn m occurs) Begins n b s) (omega arith) (k b s.chips h)
 
     pub then_leads : (k l : ℕ) (S T U : Board W → P → Type 0) → Leads k S T → Leads l T U → Leads (k + l) S U
-    then_leads k l S T U f g j b s h rest = subst (λ n. Boots Sh (turn m comes) Begins n b s) (omega arith) (f (l + j) b s h (λ d p t. g j d (with_chips p s) t rest))
+    then_leads k l S T U f g j b s h rest = subst (λ n. Boots Sh (turn m occurs) Begins n b s) (omega arith) (f (l + j) b s h (λ d p t. g j d (with_chips p s) t rest))
 
-    one_more : (S T : Board W → P → Type 0) → ((es : List Event) (b : Board W) (p : P) → S b p → ((turn m comes es b).1 ≡ map event_label es) × T (turn m comes es b).0 (chips_later es p)) → (j : ℕ) (b : Board W) (s : Store P) → S b s.chips → ((d : Board W) (p : P) → T d p → Boots Sh (turn m comes) Begins j d (with_chips p s)) → Boots Sh (turn m comes) Begins (suc j) b s
+    one_more : (S T : Board W → P → Type 0) → ((es : List Event) (b : Board W) (p : P) → S b p → ((turn m occurs es b).1 ≡ map event_label es) × T (turn m occurs es b).0 (chips_later es p)) → (j : ℕ) (b : Board W) (s : Store P) → S b s.chips → ((d : Board W) (p : P) → T d p → Boots Sh (turn m occurs) Begins j d (with_chips p s)) → Boots Sh (turn m occurs) Begins (suc j) b s
     one_more S T step j b s h rest es = let t = step es b s.chips h in
-        (t.0, subst (λ z. Boots Sh (turn m comes) Begins j (turn m comes es b).0 z) (sym (occur_is es s)) (rest (turn m comes es b).0 (chips_later es s.chips) t.1))
+        (t.0, subst (λ z. Boots Sh (turn m occurs) Begins j (turn m occurs es b).0 z) (sym (occur_is es s)) (rest (turn m occurs es b).0 (chips_later es s.chips) t.1))
 
-    pub one : (S T : Board W → P → Type 0) → ((es : List Event) (b : Board W) (p : P) → S b p → ((turn m comes es b).1 ≡ map event_label es) × T (turn m comes es b).0 (chips_later es p)) → Leads 1 S T
-    one S T step j b s h rest = let e : suc j ≡ 1 + j = omega arith in subst (λ n. Boots Sh (turn m comes) Begins n b s) e (one_more S T step j b s h rest)
+    pub one : (S T : Board W → P → Type 0) → ((es : List Event) (b : Board W) (p : P) → S b p → ((turn m occurs es b).1 ≡ map event_label es) × T (turn m occurs es b).0 (chips_later es p)) → Leads 1 S T
+    one S T step j b s h rest = let e : suc j ≡ 1 + j = omega arith in subst (λ n. Boots Sh (turn m occurs) Begins n b s) e (one_more S T step j b s h rest)
 
     -- an instruction without a label
     pub steps_by : (r : Regs) (f : ℕ → ℕ) (n : Instr) (len : ℕ) (q : Regs) (g : ℕ → ℕ) → r.cs ≡ 0xF000 → has r.flags 512 ≡ false → phase_after n ≡ Running → code r.ip ≡ Some (n, len)
         → ((p : P) (w : W) → Known code f p w → (u : W) × (effect m n r.ip (record { registers = record r { ip = (r.ip + len) % 65536 }; world = w; labels = [] }) ≡ record { registers = q; world = u; labels = [] }) × Known code g p u)
         → Leads 1 (Boot code r f) (Boot code q g)
     steps_by r f n len q g at off phase here does = one (Boot code r f) (Boot code q g) (λ es b p h.
-        let v = all_come m comes es b.world in
+        let v = all_occur m occurs es b.world in
         let k = world_later code f es p b.world h.world in
         let t = does (chips_later es p) v k in
         let spelled : decoded (fetched m v r.cs r.ip) ≡ Some (n, len) = subst (λ z. decoded (fetched m v z r.ip) ≡ Some (n, len)) (sym at) (k.spelled.spelled r.ip (n, len) here) in
-        let gone : goes m comes (record { cpu = b.cpu; world = v }) ≡ after (record { registers = q; world = t.0; labels = [] }) =
-        ap (λ z. goes m comes (record { cpu = z; world = v })) h.is ∙ boot_turn r v n len off phase spelled ∙ ap after t.1 in
+        let gone : goes m occurs (record { cpu = b.cpu; world = v }) ≡ after (record { registers = q; world = t.0; labels = [] }) =
+        ap (λ z. goes m occurs (record { cpu = z; world = v })) h.is ∙ boot_turn r v n len off phase spelled ∙ ap after t.1 in
         (ap (λ z. map event_label es ++ z.1) gone ∙ append-nil (map event_label es), subst (λ z. Boot code q g z.0 (chips_later es p)) (sym gone) (record { is = refl; world = t.2 })))
 
     -- a start-up of k turns
-    pub boots_by : (k : ℕ) (S T : Board W → P → Type 0) (b : Board W) (s : Store P) → Leads k S T → ((d : Board W) (p : P) → T d p → Begins d (with_chips p s)) → S b s.chips → Boots Sh (turn m comes) Begins k b s
-    boots_by k S T b s f last h = let e : k + 0 ≡ k = omega arith in subst (λ n. Boots Sh (turn m comes) Begins n b s) e (f 0 b s h last)
+    pub boots_by : (k : ℕ) (S T : Board W → P → Type 0) (b : Board W) (s : Store P) → Leads k S T → ((d : Board W) (p : P) → T d p → Begins d (with_chips p s)) → S b s.chips → Boots Sh (turn m occurs) Begins k b s
+    boots_by k S T b s f last h = let e : k + 0 ≡ k = omega arith in subst (λ n. Boots Sh (turn m occurs) Begins n b s) e (f 0 b s h last)

@@ -49,15 +49,15 @@ abbrev pub regs : ℕ → ℕ → ℕ → Flags → Regs
 regs ax bx ip fl = record { ax = ax; cx = 0; dx = 0xF000; bx = bx; sp = 0; bp = 0; si = 0; di = 0; es = 0; cs = 0xF000; ss = 0; ds = 0; ip = ip; flags = fl }
 
 module _ {W P : Type 0} (m : BusModel W) (c : Chips P) (chips : W → P) (Whole : W → Type 0) (laws : OfBoard m c chips Whole)
-    (comes : Event → W → W) (events : Events m c chips Whole comes) (code : ℕ → Option (Instr × ℕ)) (Begins : Board W → Store P → Type 0) where
+    (occurs : Event → W → W) (events : Events m c chips Whole occurs) (code : ℕ → Option (Instr × ℕ)) (Begins : Board W → Store P → Type 0) where
   abbrev Boots : Regs → (ℕ → ℕ) → Board W → P → Type 0
-  Boots r f b p = Boot m c chips Whole laws comes events code r f b p
+  Boots r f b p = Boot m c chips Whole laws occurs events code r f b p
 
   abbrev To : ℕ → (Board W → P → Type 0) → (Board W → P → Type 0) → Type 0
-  To k S T = Leads m c chips Whole laws comes events code Begins k S T
+  To k S T = Leads m c chips Whole laws occurs events code Begins k S T
 
   abbrev Has : (ℕ → ℕ) → P → W → Type 0
-  Has f p w = Known m c chips Whole laws comes events code f p w
+  Has f p w = Known m c chips Whole laws occurs events code f p w
 
   -- a store to RAM
   pub world_stored : (f : ℕ → ℕ) (p : P) (w : W) (width : _) (a v : ℕ) → a + bytes width ≤ 0x20000 → Has f p w → Has (λ b. stored (store_at width a v) b (f b)) p (m.store w (store_at width a v))
@@ -77,7 +77,7 @@ module _ {W P : Type 0} (m : BusModel W) (c : Chips P) (chips : W → P) (Whole 
   pub step : (r : Regs) (f : ℕ → ℕ) (n : Instr) (len : ℕ) (q : Regs) (g : ℕ → ℕ) → r.cs ≡ 0xF000 → has r.flags 512 ≡ false → phase_after n ≡ Running → code r.ip ≡ Some (n, len)
       → ((p : P) (w : W) → Has f p w → (u : W) × (effect m n r.ip (record { registers = record r { ip = (r.ip + len) % 65536 }; world = w; labels = [] }) ≡ record { registers = q; world = u; labels = [] }) × Has g p u)
       → To 1 (Boots r f) (Boots q g)
-  step r f n len q g at off phase here does = steps_by m c chips Whole laws comes events code Begins r f n len q g at off phase here does
+  step r f n len q g at off phase here does = steps_by m c chips Whole laws occurs events code Begins r f n len q g at off phase here does
 
   -- MOV [BX],AX and MOV [BX+2],DX
   first_is : (ax bx l : ℕ) (fl : Flags) (f : ℕ → ℕ) (p : P) (w : W) → bx + 1 < 65536 → l + 2 < 65536 → Has f p w → (u : W) × (effect m low_half l (record { registers = regs ax bx ((l + 2) % 65536) fl; world = w; labels = [] }) ≡ record { registers = regs ax bx (l + 2) fl; world = u; labels = [] }) × Has (word_put bx ax f) p u
@@ -137,9 +137,9 @@ module _ {W P : Type 0} (m : BusModel W) (c : Chips P) (chips : W → P) (Whole 
         let s2 = step (regs ax bx (l + 2) fl) f1 high_half 3 (regs ax bx (l + 2 + 3) fl) f2 refl ok.on_is refl loop.second (λ p w. second_is ax bx (l + 2) fl f1 p w (omega (arith, h)) (omega (arith, loop.fits))) in
         let s3 = step (regs ax bx (l + 2 + 3) fl) f2 (i.AluWord Add (Immediate (places.Register Bx) 4)) 3 (regs ax (bx + 4) (l + 2 + 3 + 3) fl1) f2 refl ok.on_is refl (ap code (omega arith) ∙ loop.third) (λ p w. third_is ax bx (l + 2 + 3) fl f2 p w (omega (arith, h)) (omega (arith, loop.fits))) in
         let s4 = step (regs ax (bx + 4) (l + 2 + 3 + 3) fl1) f2 (i.AluWord Cmp (Immediate (places.Register Bx) 1024)) 4 (regs ax (bx + 4) (l + 2 + 3 + 3 + 4) fl2) f2 refl ok1.on_is refl (ap code (omega arith) ∙ loop.fourth) (λ p w. fourth_is ax (bx + 4) (l + 2 + 3 + 3) fl1 f2 p w (omega (arith, loop.fits))) in
-        let two = then_leads m c chips Whole laws comes events code Begins 1 1 (Boots (regs ax bx l fl) f) (Boots (regs ax bx (l + 2) fl) f1) (Boots (regs ax bx (l + 2 + 3) fl) f2) s1 s2 in
-        let three = then_leads m c chips Whole laws comes events code Begins 2 1 (Boots (regs ax bx l fl) f) (Boots (regs ax bx (l + 2 + 3) fl) f2) (Boots (regs ax (bx + 4) (l + 2 + 3 + 3) fl1) f2) two s3 in
-        let all = then_leads m c chips Whole laws comes events code Begins 3 1 (Boots (regs ax bx l fl) f) (Boots (regs ax (bx + 4) (l + 2 + 3 + 3) fl1) f2) (Boots (regs ax (bx + 4) (l + 2 + 3 + 3 + 4) fl2) f2) three s4 in
+        let two = then_leads m c chips Whole laws occurs events code Begins 1 1 (Boots (regs ax bx l fl) f) (Boots (regs ax bx (l + 2) fl) f1) (Boots (regs ax bx (l + 2 + 3) fl) f2) s1 s2 in
+        let three = then_leads m c chips Whole laws occurs events code Begins 2 1 (Boots (regs ax bx l fl) f) (Boots (regs ax bx (l + 2 + 3) fl) f2) (Boots (regs ax (bx + 4) (l + 2 + 3 + 3) fl1) f2) two s3 in
+        let all = then_leads m c chips Whole laws occurs events code Begins 3 1 (Boots (regs ax bx l fl) f) (Boots (regs ax (bx + 4) (l + 2 + 3 + 3) fl1) f2) (Boots (regs ax (bx + 4) (l + 2 + 3 + 3 + 4) fl2) f2) three s4 in
         let here : l + 2 + 3 + 3 + 4 ≡ l + 12 = omega arith in
         subst (λ z. To 4 (Boots (regs ax bx l fl) f) (Boots (regs ax (bx + 4) z fl2) f2)) here all
 
@@ -159,7 +159,7 @@ module _ {W P : Type 0} (m : BusModel W) (c : Chips P) (chips : W → P) (Whole 
         let fl2 = (operated Cmp widths.Word bx 1024 fl1).flags in
         let ok2 : FlagsAre false fl2 = operated_keeps laws.below Cmp widths.Word bx 1024 false fl1 (operated_keeps laws.below Add widths.Word (4 * k) 4 false fl at.1) in
         let s5 = step (regs ax bx (l + 12) fl2) f2 (i.JumpIf conditions.NotEqual back) 2 (regs ax bx (further (l + 12 + 2) (sign_extended back)) fl2) f2 refl ok2.on_is refl loop.fifth (λ p w. fifth_on ax bx (l + 12) back fl2 f2 p w (omega (arith, loop.fits)) (again_at fl1 bx (omega (arith, h)))) in
-        let all = then_leads m c chips Whole laws comes events code Begins 4 1 (Boots (regs ax (4 * k) l fl) f) (Boots (regs ax bx (l + 12) fl2) f2) (Boots (regs ax bx (further (l + 12 + 2) (sign_extended back)) fl2) f2) (four k f fl (omega (arith, h)) at.1) s5 in
+        let all = then_leads m c chips Whole laws occurs events code Begins 4 1 (Boots (regs ax (4 * k) l fl) f) (Boots (regs ax bx (l + 12) fl2) f2) (Boots (regs ax bx (further (l + 12 + 2) (sign_extended back)) fl2) f2) (four k f fl (omega (arith, h)) at.1) s5 in
         let to : further (l + 12 + 2) (sign_extended back) ≡ l = ap (λ z. further z (sign_extended back)) (omega arith) ∙ loop.again in
         let next : bx ≡ 4 * suc k = omega arith in
         all j b s at.2 (λ d p t. rest d p (fl2, ok2, subst (λ z. Boots (regs ax z l fl2) f2 d p) next (subst (λ z. Boots (regs ax bx z fl2) f2 d p) to t)))
@@ -174,7 +174,7 @@ module _ {W P : Type 0} (m : BusModel W) (c : Chips P) (chips : W → P) (Whole 
         let fl2 = (operated Cmp widths.Word bx 1024 fl1).flags in
         let ok2 : FlagsAre false fl2 = operated_keeps laws.below Cmp widths.Word bx 1024 false fl1 (operated_keeps laws.below Add widths.Word (4 * 255) 4 false fl at.1) in
         let s5 = step (regs ax bx (l + 12) fl2) f2 (i.JumpIf conditions.NotEqual back) 2 (regs ax bx (l + 12 + 2) fl2) f2 refl ok2.on_is refl loop.fifth (λ p w. fifth_off ax bx (l + 12) back fl2 f2 p w (omega (arith, loop.fits)) (done_at fl1 bx (omega arith))) in
-        let all = then_leads m c chips Whole laws comes events code Begins 4 1 (Boots (regs ax (4 * 255) l fl) f) (Boots (regs ax bx (l + 12) fl2) f2) (Boots (regs ax bx (l + 12 + 2) fl2) f2) (four 255 f fl (omega arith) at.1) s5 in
+        let all = then_leads m c chips Whole laws occurs events code Begins 4 1 (Boots (regs ax (4 * 255) l fl) f) (Boots (regs ax bx (l + 12) fl2) f2) (Boots (regs ax bx (l + 12 + 2) fl2) f2) (four 255 f fl (omega arith) at.1) s5 in
         let to : l + 12 + 2 ≡ l + 14 = omega arith in
         let next : bx ≡ 1024 = omega arith in
         all j b s at.2 (λ d p t. rest d p (fl2, ok2, subst (λ z. Boots (regs ax z (l + 14) fl2) f2 d p) next (subst (λ z. Boots (regs ax bx z fl2) f2 d p) to t)))
@@ -189,7 +189,7 @@ module _ {W P : Type 0} (m : BusModel W) (c : Chips P) (chips : W → P) (Whole 
         let f2 = word_put (4 * k + 2) 0xF000 (word_put (4 * k) ax f) in
         let more : 5 + 5 * suc i ≡ 5 * suc (suc i) = omega arith in
         subst (λ n. To n (Somewhere ax (4 * k) l f) (Somewhere ax 1024 (l + 14) (with_vectors ax (suc k) (suc i) f2))) more
-        (then_leads m c chips Whole laws comes events code Begins 5 (5 * suc i) (Somewhere ax (4 * k) l f) (Somewhere ax (4 * suc k) l f2) (Somewhere ax 1024 (l + 14) (with_vectors ax (suc k) (suc i) f2))
+        (then_leads m c chips Whole laws occurs events code Begins 5 (5 * suc i) (Somewhere ax (4 * k) l f) (Somewhere ax (4 * suc k) l f2) (Somewhere ax 1024 (l + 14) (with_vectors ax (suc k) (suc i) f2))
         (round k f (omega (arith, e))) (loops i (suc k) f2 (omega (arith, e))))
 
     -- all 256 vectors are set in 1,280 turns

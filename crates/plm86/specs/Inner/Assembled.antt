@@ -1,7 +1,7 @@
 -- A program put together: its code, its parts and its ROM, and the image that selection speaks of.
 use Rattle.std.specs.Prelude.{ℕ, zero, suc, ◌+◌, ◌-◌, ◌<◌, ◌≤◌, Bool, true, false, if◌then◌else◌, List, [], ◌∷◌, length, Option, Some, None, position, slice_index}
 use Rattle.std.specs.Option.{option_map_or}
-use Rattle.word86.specs.Places.{covers}
+use Rattle.word86.specs.Place.{covers}
 use Rattle.icode.specs.declared.code.Routine.{Routine}
 use Rattle.icode.specs.declared.code.Routine.TheVariants.{Main, Procedure, Unserved, Nowhere}
 use Rattle.icode.specs.declared.code.Code.{Code}

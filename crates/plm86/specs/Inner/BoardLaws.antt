@@ -5,7 +5,7 @@ use Rattle.word86.specs.declared.event.Event.{Event}
 use Rattle.word86.specs.Chips.{Chips}
 use Rattle.cpu8086.specs.declared.bus.Store.{Store}
 use Rattle.cpu8086.specs.BusModel.{BusModel, LoadAfterStore, PortsKeepMemory}
-use Rattle.i86_table.specs.ContextLaws.{ContextRegisters}
+use Rattle.i86_table.specs.ContextLaw.{ContextRegisters}
 use Rattle.i86_table.specs.FlagLaws.{SetFlagHolds, OtherFlagsStay, SetFlagIsAlone, ArithmeticLeavesControl}
 use Rattle.board.specs.World.{shown_store}
 use Rattle.board.specs.MemoryLaws.{MemoryLaws}
@@ -38,11 +38,11 @@ pub record OfBoard {W : Type 0} {P : Type 0} (m : BusModel W) (c : Chips P) (chi
   pub out_chips : (w : W) (width : Width) (port value : ℕ) → chips (m.port_out w width port value) ≡ c.writing (chips w) width port value
   pub ack_chips : (w : W) → chips (m.acknowledge w) ≡ c.acknowledge (chips w)
   pub value : (w : W) (width : Width) (port : ℕ) → m.port_value w width port ≡ c.value (chips w) width port
-  pub line : (w : W) → m.line w ≡ c.line (chips w)
+  pub int_line : (w : W) → m.int_line w ≡ c.int_line (chips w)
   pub vector : (w : W) → m.vector w ≡ c.vector (chips w)
 
 -- an event changes the chips alone
-pub record Events {W P : Type 0} (m : BusModel W) (c : Chips P) (chips : W → P) (Whole : W → Type 0) (comes : Event → W → W) : Type 0 where
-  pub keeps : (e : Event) (w : W) (a : ℕ) → m.load (comes e w) a ≡ m.load w a
-  pub chips_are : (e : Event) (w : W) → chips (comes e w) ≡ c.comes e (chips w)
-  pub stays : (e : Event) (w : W) → Whole w → Whole (comes e w)
+pub record Events {W P : Type 0} (m : BusModel W) (c : Chips P) (chips : W → P) (Whole : W → Type 0) (occurs : Event → W → W) : Type 0 where
+  pub keeps : (e : Event) (w : W) (a : ℕ) → m.load (occurs e w) a ≡ m.load w a
+  pub chips_are : (e : Event) (w : W) → chips (occurs e w) ≡ c.occurs e (chips w)
+  pub stays : (e : Event) (w : W) → Whole w → Whole (occurs e w)

@@ -43,7 +43,7 @@ module _ (sh : Shared) (C : Type 0) (offer : C → Offer sh.Access C) (start : (
 
   -- an acknowledgement where one can be taken, else a wait or an instruction; none where the contexts may not go on
   abbrev pub act : Duo sh.State C → Option (Duo sh.State C × List sh.Label)
-  act (Alone c on halted w) = alone (on && sh.line w) c on halted w
+  act (Alone c on halted w) = alone (on && sh.int_line w) c on halted w
   act (Armed c w) = execute (offer c) true w
   act (Serving c h w) = serve (offer h) c w
 

@@ -2,7 +2,7 @@
 use Rattle.std.specs.Prelude.{ℕ, ◌≡◌, ◌++◌, List, [], map, Option}
 use Rattle.word86.specs.declared.event.Event.{Event}
 use Rattle.word86.specs.declared.label.Label.{Label}
-use Rattle.word86.specs.Taking.{Appends, Cut, Rises}
+use Rattle.word86.specs.Sink.{Appends, Cut, Rises}
 use Rattle.ppi_kbd.specs.Chips.{ChipState}
 use Rattle.ppi_kbd.specs.Ports.{Shows}
 use Rattle.plm_decl.specs.declared.names.Names.{Names}

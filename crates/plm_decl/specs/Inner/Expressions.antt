@@ -1,4 +1,4 @@
--- Operators of one level, from the Rust tree; and the object of constant bytes.
+-- Operators of one precedence, from the Rust tree; and the object of constant bytes.
 use Rattle.std.specs.Prelude.{ℕ, List, [], ◌∷◌, length}
 use Rattle.plm_syntax.specs.declared.tree.Operation.{Operation}
 use Rattle.plm_syntax.specs.View.{expression_of}

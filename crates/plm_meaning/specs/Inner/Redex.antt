@@ -1,7 +1,7 @@
 -- The steps of the code as actions on parts.
 use Rattle.std.specs.Prelude.{◌≡◌, ℕ, ◌+◌, ◌<◌, List, [], ◌∷◌, map, drop, None, slice_get}
 use Rattle.word86.specs.Access.{Access, Read, Write, Input, Output, values}
-use Rattle.word86.specs.Places.{access_of}
+use Rattle.word86.specs.Place.{access_of}
 use Rattle.word86.specs.Action.{Action, Silent, Touch, Enable, Disable, Halt, Over, Bad, map_action}
 use Rattle.plm_type.specs.Rest.{There, Value, Passing, Refer, NoSubscripts, Assign, Round, Comparing, Adding, Ending, Statements, End, Then, Returned, Procedure}
 use Rattle.plm_type.specs.Next.{parameters_of, bound_of, returned, next_expression, next_statements}

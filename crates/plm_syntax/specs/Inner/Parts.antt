@@ -106,11 +106,11 @@ reference_read n v = ExpressionR (ReferenceE (ReferenceOf n no_expressions no_me
 abbrev pub nothing_read : List Value → List Value
 nothing_read v = v
 
--- operands of a level, joined by its operators
+-- operands of one precedence, joined by its operators
 abbrev pub joined : Precedence → List Symbol → List Symbol
 joined l s = operand l ++ (Want (MoreG l) ∷ s)
 
--- the operators of all levels after a primary
+-- the operators of all precedences after a primary
 abbrev pub all_precedences : List Symbol → List Symbol
 all_precedences s = Want (MoreG Products) ∷ Want (MoreG Sums) ∷ Want (MoreG Relations) ∷ Want (MoreG Conjunctions) ∷ Want (MoreG Disjunctions) ∷ s
 

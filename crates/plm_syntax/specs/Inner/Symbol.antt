@@ -55,7 +55,7 @@ pub data Goal : Type 0 where
   PrimaryG : Goal
   SignedG : Goal
   NegationG : Goal
-  -- the operators of a level, and their right operands
+  -- the operators of one precedence, and their right operands
   MoreG : Precedence → Goal
   -- after "(" of an expression, and after the reference there
   InsideG : Position → Goal

@@ -1,4 +1,4 @@
--- Operators of one level with their right operands, after a left operand.
+-- Operators of one precedence with their right operands, after a left operand.
 use Rattle.std.specs.Prelude.{ℕ, List, [], ◌∷◌}
 use Rattle.plm_syntax.specs.declared.tree.Position.{Position}
 use Rattle.plm_decl.specs.declared.names.Variable.{Variable}

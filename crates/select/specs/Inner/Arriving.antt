@@ -4,7 +4,7 @@ use Rattle.word86.specs.Action.{Silent}
 use Rattle.word86.specs.Following.{Does}
 use Rattle.i86_table.specs.declared.instruction.Instr.{Instr}
 use Rattle.i86_table.specs.declared.instruction.Condition.{Condition}
-use Rattle.i86_table.specs.Conditions.{holds}
+use Rattle.i86_table.specs.Condition.{holds}
 use Rattle.i86_table.specs.Contexts.{Context, Own, Working, Given, offer}
 use Rattle.select.specs.declared.part.Step.TheVariants.{Goto, GotoIf}
 use Rattle.select.specs.Linked.{Stands}

@@ -1,6 +1,6 @@
 use Rattle.std.proofs.Common.{drop}
 use Rattle.std.specs.Prelude.{map}
-use Rattle.word86.specs.Events.{event_label}
+use Rattle.word86.specs.Event.{event_label}
 use Rattle.board.specs.Trace.{lines}
 use Rattle.board.proofs.Writing.{Took}
 use Rattle.board.proofs.trace.put_events.Given as goal

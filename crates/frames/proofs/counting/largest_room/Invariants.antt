@@ -1,5 +1,5 @@
 use Rattle.std.proofs.Common.{◌≡◌, drop, max}
-use Rattle.frames.specs.Inner.Needs.{need_at, largest_room}
+use Rattle.frames.specs.Inner.Need.{need_at, largest_room}
 use Rattle.frames.proofs.counting.largest_room.Given as goal
 
 -- the largest so far, and what is left, is all

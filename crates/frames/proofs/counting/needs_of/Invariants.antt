@@ -1,5 +1,5 @@
 use Rattle.std.proofs.Common.{◌≡◌, ◌≤◌, ◌*◌, ℕ, length}
-use Rattle.frames.specs.Inner.Needs.{need_at, AreKnown}
+use Rattle.frames.specs.Inner.Need.{need_at, AreKnown}
 use Rattle.frames.proofs.counting.needs_of.Given as goal
 
 -- the procedures before this place in the order are known

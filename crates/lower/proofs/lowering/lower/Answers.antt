@@ -2,7 +2,7 @@ use Rattle.std.proofs.Common.{◌++◌, ◌∙◌, refl, ap, sym, subst}
 use Rattle.plm_type.specs.Programs.{procedures_of}
 use Rattle.plm_type.specs.Calls.{graph_of}
 use Rattle.plm_type.specs.Order.{IsOrder}
-use Rattle.icode.specs.Levels.{IsLevelled}
+use Rattle.icode.specs.Heights.{HasHeights}
 use Rattle.icode.specs.Made.{IsMade}
 use Rattle.icode.specs.declared.code.Routine.TheVariants as routine
 use Rattle.lower.proofs.Numbers.{numbers_fit}
@@ -12,24 +12,24 @@ use Rattle.lower.proofs.lowering.lower.Goals as goal
 pub all-requires : goal.all-requires
 all-requires c = numbers_fit c.names-names.result.now c.names-names.ensures.typed.no_fault
 
-pub invariant_of-result-clause-main_levelled : goal.invariant_of-result-clause-main_levelled
-invariant_of-result-clause-main_levelled c =
+pub invariant_of-result-clause-main_has_heights : goal.invariant_of-result-clause-main_has_heights
+invariant_of-result-clause-main_has_heights c =
     let program = c.args.program.now in
     let names = c.names-names.result.now in
     let typed = c.names-names.ensures.typed in
     let sound = c.checked_code_is_sound.ensures names (c.checked_trees_are_well_formed.ensures program names typed) in
     let is = main_lowered program names typed c.procedures-procedures.result.now c.procedures-procedures.ensures c.main.result.now c.main.ensures c.in_ok-main.main.items c.in_ok-main.ensures.code in
-    subst IsLevelled (sym is) (sound.levelled routine.Main)
+    subst HasHeights (sym is) (sound.has_heights routine.Main)
 
-pub invariant_of-result-clause-levelled : goal.invariant_of-result-clause-levelled
-invariant_of-result-clause-levelled c p =
+pub invariant_of-result-clause-has_heights : goal.invariant_of-result-clause-has_heights
+invariant_of-result-clause-has_heights c p =
     let program = c.args.program.now in
     let names = c.names-names.result.now in
     let typed = c.names-names.ensures.typed in
     let sound = c.checked_code_is_sound.ensures names (c.checked_trees_are_well_formed.ensures program names typed) in
     let qs = c.in_ok-procedures.procedures.items in
     let are = names_lowered program names typed c.procedures-procedures.result.now c.procedures-procedures.ensures qs c.in_ok-procedures.ensures.code in
-    subst IsLevelled (sym (procedure_codes names qs are p)) (sound.levelled (routine.Procedure p))
+    subst HasHeights (sym (procedure_codes names qs are p)) (sound.has_heights (routine.Procedure p))
 
 pub invariant_of-result-clause-main_made : goal.invariant_of-result-clause-main_made
 invariant_of-result-clause-main_made c =

@@ -1,5 +1,5 @@
 use Rattle.std.proofs.Common.{◌≡◌, sym, subst, refl, rules}
-use Rattle.word86.specs.Taking.{Appends, Cut, Rises}
+use Rattle.word86.specs.Sink.{Appends, Cut, Rises}
 use Rattle.listing_map.specs.Lines.{end_line}
 use Rattle.board.specs.Run.{due_of}
 use Rattle.plm86.specs.Mean.{meant, run_text, IsCutShort}

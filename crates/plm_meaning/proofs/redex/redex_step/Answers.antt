@@ -4,7 +4,7 @@ use Rattle.word86.specs.Action.{Touch, map_action}
 use Rattle.word86.specs.Arithmetic.{low}
 use Rattle.plm_type.specs.Rest as rest
 use Rattle.plm_type.specs.Rest.{Refer, NoSubscripts, Value}
-use Rattle.word86.specs.Places.{where_of}
+use Rattle.word86.specs.Place.{where_of}
 use Rattle.plm_meaning.specs.Context.{Expr, redex_part}
 use Rattle.plm_meaning.specs.Inner.Redex.{action_of, next_part, procedures_in, stored, value_in}
 use Rattle.plm_meaning.proofs.Steps as steps

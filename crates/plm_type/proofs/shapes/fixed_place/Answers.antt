@@ -1,6 +1,6 @@
 use Rattle.std.proofs.Common.{Some, None, cond, option_map, sym, ap, ◌∙◌}
 use Rattle.word86.specs.Access.{In, Screen}
-use Rattle.word86.specs.Places.{where_of}
+use Rattle.word86.specs.Place.{where_of}
 use Rattle.plm_type.specs.declared.program.Expression.TheViews.{out-Reference}
 use Rattle.plm_type.specs.declared.program.Anchor.TheVariants as anchor
 use Rattle.plm_type.specs.View.{anchor_of}

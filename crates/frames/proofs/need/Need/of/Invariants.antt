@@ -1,5 +1,5 @@
 use Rattle.std.proofs.Common.{◌≡◌, ◌≤◌, drop}
-use Rattle.frames.specs.Inner.Needs.{both, need, need_at}
+use Rattle.frames.specs.Inner.Need.{both, need, need_at}
 use Rattle.frames.proofs.need.Need.of.Given as goal
 
 -- so far, and what is left, is all

@@ -7,16 +7,16 @@ pub returns-in-StoreAt : goal.returns-in-StoreAt
 returns-in-StoreAt c all next =
     let self = c.args.self.now in
     let after : ℕ → Context = λ v. At self.position.routine next v (drop 1 (words_of self)) in
-    let layout = c.args.layout in
+    let ram_objects = c.args.ram_objects in
     c.written_top.ensures after
     ∙ ap (λ place. access_in (with_value (value_on_top (words_of self)) (λ v. stored c.in-StoreAt.width place v (after v)))) c.reached-in-StoreAt.ensures
-    ∙ sym (ap (λ i. access_in (run layout.offsets.now layout.sizes.now all i self.position.routine next self.accumulator (words_of self))) c.in-StoreAt.is)
+    ∙ sym (ap (λ i. access_in (run ram_objects.offsets.now ram_objects.sizes.now all i self.position.routine next self.accumulator (words_of self))) c.in-StoreAt.is)
 
 pub returns-in-StoreThere : goal.returns-in-StoreThere
 returns-in-StoreThere c all next =
     let self = c.args.self.now in
     let after : ℕ → Context = λ v. At self.position.routine next v (drop 1 (words_of self)) in
-    let layout = c.args.layout in
+    let ram_objects = c.args.ram_objects in
     c.written_top-in-StoreThere.ensures after
     ∙ ap (λ place. access_in (with_value (value_on_top (words_of self)) (λ v. stored c.in-StoreThere.width place v (after v)))) c.held-in-StoreThere.ensures
-    ∙ sym (ap (λ i. access_in (run layout.offsets.now layout.sizes.now all i self.position.routine next self.accumulator (words_of self))) c.in-StoreThere.is)
+    ∙ sym (ap (λ i. access_in (run ram_objects.offsets.now ram_objects.sizes.now all i self.position.routine next self.accumulator (words_of self))) c.in-StoreThere.is)

@@ -1,6 +1,6 @@
 use Rattle.std.proofs.Common.{◌≡◌, ℕ, List, [], ◌∷◌, length, map, drop, sym, ◌∙◌, refl, arith, length-drop, None}
 use Rattle.plm_decl.specs.declared.names.Object.{Object}
-use Rattle.word86.specs.Places.{held}
+use Rattle.word86.specs.Place.{held}
 use Rattle.plm_meaning.proofs.access.PlacedObjects.held.Goals as goal
 
 -- where no object is left

@@ -1,5 +1,5 @@
 use Rattle.std.proofs.Common.{◌≡◌, drop, map}
-use Rattle.word86.specs.Places.{held}
+use Rattle.word86.specs.Place.{held}
 use Rattle.plm_meaning.specs.Inner.Redex.{sizes_in}
 use Rattle.plm_meaning.proofs.access.PlacedObjects.held.Given as goal
 

@@ -1,7 +1,7 @@
 use Rattle.std.proofs.Common.{◌<◌, length, sym, ap, ◌∙◌, arith}
 use Rattle.word86.specs.Access.{Write}
 use Rattle.ppi_kbd.specs.BoardChips.{board_chips}
-use Rattle.word86.specs.Places.{where_of}
+use Rattle.word86.specs.Place.{where_of}
 use Rattle.plm_meaning.specs.Store.{touch, with_objects}
 use Rattle.plm_meaning.specs.Shown.{store_of}
 use Rattle.plm_meaning.proofs.Objects.{object_stored}

@@ -100,7 +100,7 @@ expression-returns-in_ok-left-in-Chain t c =
     ∙ leaned_after (variables self) (procedures self) (sizes self) self.module old e os.items in
     spoken self old c.operations.result c.operations.new.faults.items is (typed_moved c.operations.result c.operations.new.faults.items path c.operations.ensures)
 
--- ---- operators of one level, one by one
+-- ---- operators of one precedence, one by one
 
 pub operations-loop-operation-preserved : goal.operations-loop-operation-preserved
 operations-loop-operation-preserved t c =

@@ -7,7 +7,7 @@ use Rattle.icode.specs.declared.code.Procedure as declared
 use Rattle.icode.specs.declared.code.Code.{Code}
 use Rattle.icode.specs.Code.{code_of}
 use Rattle.icode.specs.Counted.{number_of}
-use Rattle.icode.specs.Levels.{after, place_in}
+use Rattle.icode.specs.Heights.{after, place_in}
 use Rattle.icode.specs.Registers.{none, joined, changes}
 use Rattle.frames.specs.declared.need.Need.{Need}
 

@@ -1,6 +1,6 @@
 use Rattle.std.proofs.Common.{◌≡◌, ℕ, List, [], ◌∷◌, length, drop, sym, ◌∙◌, refl, arith, length-drop, None}
-use Rattle.word86.specs.Places.{bytes, held}
-use Rattle.icode.proofs.layout.Layout.held.Goals as goal
+use Rattle.word86.specs.Place.{bytes, held}
+use Rattle.icode.proofs.ram_objects.RamObjects.held.Goals as goal
 
 -- where no object is left
 held_nothing : (k : ℕ) (os sizes : List ℕ) (a n : ℕ) → length sizes ≡ 0 → held k os sizes a n ≡ None

@@ -1,14 +1,14 @@
 //! Where the RAM objects lie, and what lies at an address.
 
 ghost use Rattle.std.specs.Prelude.{◌≡◌, slice_index, option_map};
-ghost use Rattle.word86.specs.Places.{bytes, covers, held, where_of};
+ghost use Rattle.word86.specs.Place.{bytes, covers, held, where_of};
 ghost use Rattle.icode.specs.Machine.{address, found};
 
 use word86::{Place, Width};
 
 /// The RAM objects' offsets in their segment, and their sizes in bytes.
 #[derive(Clone, Copy)]
-pub struct Layout<'a> {
+pub struct RamObjects<'a> {
     pub offsets: &'a [u16],
     pub sizes: &'a [u64],
 }
@@ -31,7 +31,7 @@ fn covers(first: u16, size: u64, address: u16, count: u64) -> bool
         && u128::from(address) + u128::from(count) <= u128::from(first) + u128::from(size)
 }
 
-impl Layout<'_> {
+impl RamObjects<'_> {
     // The offset of a RAM object: 0 where there is no such object.
     fn offset(self, object: usize) -> u16
         ensures { result ≡ slice_index self.entry.offsets.now object }

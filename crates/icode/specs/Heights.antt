@@ -43,7 +43,7 @@ target (op.Case n) p = Some (p + n)
 target _ p = None
 
 -- The heights are the same along every run.
-pub record IsLevelled (all : List Instruction) : Type 0 where
+pub record HasHeights (all : List Instruction) : Type 0 where
   -- a Drop takes no more values than the routine has pushed; others that find no value are Bad
   pub drops : (k n : ℕ) → slice_get all k ≡ Some (op.Drop n) → n ≤ height all k
   -- no value is pushed after a jump, and none where it leads

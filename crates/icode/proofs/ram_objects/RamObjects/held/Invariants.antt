@@ -1,6 +1,6 @@
 use Rattle.std.proofs.Common.{◌≡◌, drop}
-use Rattle.word86.specs.Places.{bytes, held}
-use Rattle.icode.proofs.layout.Layout.held.Given as goal
+use Rattle.word86.specs.Place.{bytes, held}
+use Rattle.icode.proofs.ram_objects.RamObjects.held.Given as goal
 
 -- the object is among those that are left
 abbrev pub invariant-loop-k : goal.invariant-loop-k
