@@ -7,3 +7,4 @@ pub mod Moves
 pub mod Strings
 pub mod Effect
 pub mod Turn
+pub mod Inner

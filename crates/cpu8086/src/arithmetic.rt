@@ -6,7 +6,8 @@ ghost use Rattle.i86_table.specs.Arithmetic.{is_comparison};
 ghost use Rattle.arrayvec.specs.ArrayVec.{array_vec_len};
 ghost use Rattle.cpu8086.specs.Machine.{machine};
 ghost use Rattle.cpu8086.specs.Operand.{bytes, located, in_memory, held};
-ghost use Rattle.cpu8086.specs.Arithmetic.{computed, computed_at, register_computed, register_changed, changed_in_place, tested_place, shift_count, shifted_place, multiplied_byte, multiplied_word, divided_byte, divided_word};
+ghost use Rattle.cpu8086.specs.Inner.Arithmetic.{register_computed, register_changed};
+ghost use Rattle.cpu8086.specs.Arithmetic.{computed, computed_at, changed_in_place, tested_place, shift_count, shifted_place, multiplied_byte, multiplied_word, divided_byte, divided_word};
 
 use crate::bus::Bus;
 use crate::control::interrupt;
@@ -108,7 +109,7 @@ fn compute_place<R: Operand, B: Bus>(
     }
 }
 
-#[tactic(auto, unfolding(crate::specs::Arithmetic::register_computed))]
+#[tactic(auto, unfolding(crate::specs::Inner::Arithmetic::register_computed))]
 #[inline(always)]
 fn compute_register<R: Operand>(
     registers: &mut Regs,

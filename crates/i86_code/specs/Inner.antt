@@ -1,1 +1,2 @@
 pub mod OpenForms
+pub mod Reading

@@ -1,7 +1,8 @@
 //! Reading a form from the front of bytes.
 
 ghost use Rattle.std.specs.Prelude.{◌≡◌, ◌<◌, option_map, true, List, ℕ};
-ghost use Rattle.i86_code.specs.Reading.{base_at, byte_at, word_at, place_at, test_then, is_addressed, fields_at, segment_at, prefixes_at, form_at};
+ghost use Rattle.i86_code.specs.Reading.{base_at, byte_at, word_at, place_at, test_then, fields_at, segment_at, prefixes_at, form_at};
+ghost use Rattle.i86_code.specs.Inner.Reading.{is_addressed};
 
 use crate::form::{FieldKind, Fields, Form, Opcode, Prefixes, RegisterOrMemory};
 use byteorder::{ByteOrder, LittleEndian};

@@ -2,7 +2,8 @@
 
 ghost use Rattle.std.specs.Prelude.{◌≡◌, ◌<◌, ◌+◌, ◌*◌, ◌/◌, ◌%◌};
 ghost use Rattle.i86_table.specs.Numbers.{byte_register_code, word_register_code, segment_code};
-ghost use Rattle.i86_table.specs.State.{word_of, with_word, byte_of, with_byte, segment_of, with_segment, loadable, whole, is_low, cleared, with_code_segment, with_ip, with_flags};
+ghost use Rattle.i86_table.specs.State.{word_of, with_word, byte_of, with_byte, segment_of, with_segment, loadable, whole, cleared, with_code_segment, with_ip, with_flags};
+ghost use Rattle.i86_table.specs.Inner.RegisterFile.{is_low};
 
 use crate::flags::Flags;
 use crate::late_flags::LateFlags;

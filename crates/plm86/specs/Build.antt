@@ -44,11 +44,6 @@ IsFirst faults Memory = ⊤
 IsFirst [] (At k line number) = ⊥
 IsFirst (f ∷ fs) (At k line number) = f ≡ At k line number
 
--- the first of these faults is answered where there is one
-abbrev pub Says : {A : Type 0} → List Fault → Result A Fault → Type 0
-Says faults (Ok value) = faults ≡ []
-Says faults (Err f) = IsFirst faults f
-
 -- faults count modules in 32 bits
 abbrev pub module_number : ℕ → ℕ
 module_number k = min k 4294967295

@@ -7,3 +7,4 @@ pub mod Parsed
 pub mod Built
 pub mod Meaning
 pub mod Stacks
+pub mod Layers

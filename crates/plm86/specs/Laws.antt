@@ -12,7 +12,7 @@ use Rattle.cpu8086.specs.declared.cpu.Phase.TheVariants.{Running}
 use Rattle.board.specs.World.{World, Whole, board_model, memory_byte, screen_at}
 use Rattle.board.specs.Machine.{Board, power_on}
 use Rattle.plm86.specs.Boots.{Boots}
-use Rattle.plm86.specs.Headline.{Firmware, RunsProgram, RomIsCorrect, StartsQuietly, board_turn}
+use Rattle.plm86.specs.Headline.{Firmware, RomIsCorrect, StartsQuietly, board_turn}
 use Rattle.plm86.specs.Relation.{Fine, Placed, Finds, FlagsAre}
 use Rattle.layout_link.specs.Rom.{CodeInRom, WordsInRom}
 use Rattle.layout_link.specs.Startup.{Act, PutWord, PutByte, Copy, HasStartUp, start_up_turns}
@@ -80,8 +80,8 @@ module _ {P : Type 0} (c : Chips P) where
     pub fine : Fine (board_model c) (λ w. w.chips) (Whole x.rom) x.code x.words x.entry x.placed x.size s b.world
 
   -- start-up takes start_turns turns from here, makes no label but those of events, and leaves this store
-  abbrev pub StartsUp : Assembly → (start_turns : ℕ) → Board (World P) → Store P → Type 0
-  StartsUp x start_turns reset state = Boots (shared c) (board_turn c) (Begins x) start_turns reset state
+  abbrev pub BootsUp : Assembly → (start_turns : ℕ) → Board (World P) → Store P → Type 0
+  BootsUp x start_turns reset state = Boots (shared c) (board_turn c) (Begins x) start_turns reset state
 
 -- the byte that the board has at an address when the power comes on
 abbrev pub power_on_memory : (rom ram screen : List ℕ) → ℕ → ℕ
@@ -98,16 +98,6 @@ pub record HoldsStore {P : Type 0} (x : Assembly) (s : Store P) (memory : ℕ �
 
 -- ---- from the layers to the board
 
--- where instructions follow the rests
-abbrev pub FromInstructions : Type 0 → Type 0 → Type 0
-FromInstructions P R =
-    (c : Chips P) (x : Assembly) → IsSound x
-    → (next : R → Action Access R) (first : R) (body : ℕ → R) (limit most : ℕ)
-    → Compiled x R next (λ g. first) (λ vector interrupted. body vector) limit most
-    → limit < 64
-    → (start_turns : ℕ) (reset : Board (World P)) (state : Store P) → StartsUp c x start_turns reset state
-    → RunsProgram c (firmware_of x) R next first body start_turns reset state
-
 -- where the intermediate code tracks the rests, the instructions follow the intermediate code, and start-up leads from each
 -- power-on memory to main's beginning
 abbrev pub FromLayers : Type 0 → Type 0 → Type 0 → Type 0
@@ -118,7 +108,7 @@ FromLayers P R I =
     → Compiled x I does begin procedure k2 m2
     → k1 * suc k2 + k2 < 64
     → (start_turns : ℕ) (chips : P) (first_store : (ram screen : List ℕ) → Store P)
-    → ((ram screen : List ℕ) → length ram ≡ 0x20000 → length screen ≡ 4000 → StartsUp c x start_turns (power_on x.rom ram screen chips) (first_store ram screen))
+    → ((ram screen : List ℕ) → length ram ≡ 0x20000 → length screen ≡ 4000 → BootsUp c x start_turns (power_on x.rom ram screen chips) (first_store ram screen))
     → RomIsCorrect c (firmware_of x) R next first body start_turns chips first_store
 
 -- The ROM has the code and its tables; the code has a start-up, which leaves the vectors and the program's first store; the intermediate code

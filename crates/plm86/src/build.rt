@@ -5,7 +5,8 @@ ghost use Rattle.plm_token.specs.Scanner.{lexemes};
 ghost use Rattle.plm_syntax.specs.View.{module_of};
 ghost use Rattle.board.specs.Run.{due_of};
 ghost use Rattle.plm86.specs.BuildAndRun.{HasRun, HasNotRun};
-ghost use Rattle.plm86.specs.Build.{text_of, module_number, in_module, Says, scan_faults, tokens_of, AreTyped, IsBuilt, RefusesTexts, Refuses};
+ghost use Rattle.plm86.specs.Build.{text_of, module_number, in_module, scan_faults, tokens_of, AreTyped, IsBuilt, RefusesTexts, Refuses};
+ghost use Rattle.plm86.specs.Inner.Parsed.{Says};
 ghost use Rattle.plm86.specs.Inner.Parsed.{ParsesAll};
 ghost use Rattle.plm86.specs.Inner.Built.{IsBuiltWith};
 

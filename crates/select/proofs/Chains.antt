@@ -14,7 +14,8 @@ use Rattle.select.specs.declared.part.Step.{Step}
 use Rattle.select.specs.declared.part.Step.TheVariants.{Plain}
 use Rattle.select.specs.Parts.{target_of}
 use Rattle.select.specs.Linked.{StandsAt, Stands, AllStand}
-use Rattle.select.specs.Rows.{on_place, segment_of}
+use Rattle.select.specs.Rows.{on_place}
+use Rattle.select.specs.Inner.Rows.{segment_of}
 
 module _ (code : ℕ → Option (Instr × ℕ)) (words : ℕ → Option ℕ) (offsets places : List ℕ) (at : ℕ → ℕ) where
   -- these steps stand from one place to another

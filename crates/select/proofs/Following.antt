@@ -60,7 +60,8 @@ use Rattle.select.specs.declared.part.Step.{Step}
 use Rattle.select.specs.declared.part.Step.TheVariants.{Plain, GotoIf}
 use Rattle.select.specs.Linked.{Stands}
 use Rattle.select.specs.Rows
-use Rattle.select.specs.Rows.{load_number, accumulator_gets, exchange, copy, clear_byte, clear_high, push, pop, alu, alu_number, core, narrow, narrow_right, then_narrow, narrow_sum, loads, loads_right, stores, spot, segment_of, row, first_of, plain, direct, by_constant, by_read, left_from_stack, fails, registers_of, given_back}
+use Rattle.select.specs.Rows.{load_number, accumulator_gets, exchange, copy, clear_byte, clear_high, push, pop, alu, alu_number, core, narrow, narrow_right, then_narrow, narrow_sum, loads, loads_right, stores, spot, row, first_of, plain, direct, by_constant, by_read, left_from_stack, fails, registers_of, given_back}
+use Rattle.select.specs.Inner.Rows.{segment_of}
 use Rattle.icode.specs.Made.{constant_in}
 use Rattle.icode.specs.Runs.{Leads, Comes}
 use Rattle.select.specs.Promise.{Allowed, Counted, Image, IsSelected, next_of, place_of}

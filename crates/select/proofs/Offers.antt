@@ -14,7 +14,8 @@ use Rattle.i86_table.specs.declared.open.Open.TheVariants as opens
 use Rattle.i86_table.specs.declared.instruction.AluOperation.{AluOperation}
 use Rattle.i86_table.specs.Open.{closed, spot_address}
 use Rattle.i86_table.specs.Contexts.{Own, Working, Given, set_byte, set_word, input_gives, output_takes, alu_word, offset_in, place_in, bytes, reads, writes, offered}
-use Rattle.select.specs.Rows.{loads, loads_right, stores, spot, segment_of}
+use Rattle.select.specs.Rows.{loads, loads_right, stores, spot}
+use Rattle.select.specs.Inner.Rows.{segment_of}
 
 abbrev pub right_gives : Width → Working → ℕ → Working
 right_gives widths.Byte g v = set_byte g Cl v

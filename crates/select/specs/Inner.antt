@@ -3,3 +3,4 @@ pub mod Assembly
 pub mod Arriving
 pub mod Numbering
 pub mod Selecting
+pub mod Rows

@@ -264,10 +264,6 @@ loads_right width = access Load Cl Cx width None
 abbrev pub stores : Width → Option Base → Segment → Open
 stores = access Store Al Ax
 
-abbrev pub segment_of : Place → Segment
-segment_of (place.Ram k x) = segments.Ds
-segment_of (place.Screen x) = segments.Es
-
 -- an instruction on a place, in the data's segment or in the screen's: an object's offset is added when the parts are placed
 abbrev pub placed : Place → (ram screen : Open) → Step
 placed (place.Ram k n) ram screen = Refer ram n Offset k

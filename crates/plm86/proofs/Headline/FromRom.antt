@@ -12,7 +12,7 @@ use Rattle.plm86.specs.Boots.{Boots}
 use Rattle.plm86.specs.Headline.{board_turn}
 use Rattle.plm86.specs.Inner.BoardLaws.{LawsBelow}
 use Rattle.plm86.specs.Relation.{FlagsAre}
-use Rattle.plm86.specs.Laws.{Assembly, IsSound, Begins, StartsUp, FromRom, HoldsStore, power_on_memory}
+use Rattle.plm86.specs.Laws.{Assembly, IsSound, Begins, BootsUp, FromRom, HoldsStore, power_on_memory}
 use Rattle.layout_link.specs.Rom.{CodeInRom, WordsInRom}
 use Rattle.layout_link.specs.Startup.{Act, HasStartUp, start_up_turns}
 use Rattle.plm86.specs.Startup.{with_vectors, after_acts}
@@ -51,7 +51,7 @@ module _ (below : LawsBelow) (only : IsOneForm) (short : IsShort) where
       (λ d p t. begins t.registers t.words t.flags d p t.boot) at_reset
 
   module _ (widths : DecodedHasWidths) (keeps : KeepsWords) where
-    starts_up : {P : Type 0} (c : Chips P) (x : Assembly) (sound : IsSound x) → CodeInRom x.rom x.code → WordsInRom x.rom x.words → (entry : ℕ) (acts : List Act) → HasStartUp x.code entry acts x.main_at → (ram screen : List ℕ) → length ram ≡ 0x20000 → length screen ≡ 4000 → (s : Store P) → HoldsStore x s (at_the_end x.rom entry acts ram screen) → (chips : P) → s.chips ≡ chips → StartsUp c x (start_up_turns acts) (power_on x.rom ram screen chips) s
+    starts_up : {P : Type 0} (c : Chips P) (x : Assembly) (sound : IsSound x) → CodeInRom x.rom x.code → WordsInRom x.rom x.words → (entry : ℕ) (acts : List Act) → HasStartUp x.code entry acts x.main_at → (ram screen : List ℕ) → length ram ≡ 0x20000 → length screen ≡ 4000 → (s : Store P) → HoldsStore x s (at_the_end x.rom entry acts ram screen) → (chips : P) → s.chips ≡ chips → BootsUp c x (start_up_turns acts) (power_on x.rom ram screen chips) s
     starts_up c x sound in_rom tables entry acts start ram screen ram_size screen_size s holds chips same =
         boots_from c x in_rom entry acts start ram screen ram_size screen_size s chips same (Begins c x)
         (λ g words flags d p b. main_begins below c x sound in_rom.size tables s (at_the_end x.rom entry acts ram screen) g words flags holds d p b)

@@ -14,7 +14,8 @@ use Rattle.plm86.specs.Inner.BoardLaws.{LawsBelow}
 use Rattle.plm86.specs.Inner.Duo.{Duo, Alone, duo_after_events, act, main_in, has_handler}
 use Rattle.board.specs.Machine.{Board}
 use Rattle.plm86.specs.Headline.{Stands, board_turn}
-use Rattle.plm86.specs.Laws.{Assembly, IsSound, FromInstructions, FromLayers, Begins, Compiled, offers_of, main_of, starts_of, firmware_of}
+use Rattle.plm86.specs.Laws.{Assembly, IsSound, FromLayers, Begins, Compiled, offers_of, main_of, starts_of, firmware_of}
+use Rattle.plm86.specs.Inner.Layers.{FromInstructions}
 use Rattle.plm86.proofs.Headline.Joining
 use Rattle.plm86.proofs.Machine.Regions.{of_board, events_law}
 use Rattle.plm86.proofs.Headline.Compose
