@@ -36,7 +36,7 @@ fn pop_segment(byte: u8) -> Option<Opcode>
 }
 
 /// The opcode of a byte below 40H: arithmetic, and segment registers on the stack.
-#[tactic(auto, unfolding(crate::specs::Opcodes::opcode_below_40))]
+#[tactic(auto, unfolding(crate::specs::Opcode::opcode_below_40))]
 fn below_40(byte: u8) -> Option<Opcode>
     requires { byte < 0x40 }
     ensures { result ≡ opcode_below_40 byte }
@@ -51,7 +51,7 @@ fn below_40(byte: u8) -> Option<Opcode>
 }
 
 /// The opcode of a byte from 40H to 7FH: INC, DEC, PUSH, POP of word registers, and conditional jumps.
-#[tactic(auto, unfolding(crate::specs::Opcodes::opcode_below_80))]
+#[tactic(auto, unfolding(crate::specs::Opcode::opcode_below_80))]
 fn below_80(byte: u8) -> Option<Opcode>
     requires low { 0x40 ≤ byte }
     requires high { byte < 0x80 }
@@ -68,7 +68,7 @@ fn below_80(byte: u8) -> Option<Opcode>
 }
 
 /// The opcode of a byte from 80H to 8FH: arithmetic with numbers, TEST, XCHG, MOV, LEA, POP.
-#[tactic(auto, unfolding(crate::specs::Opcodes::opcode_below_90))]
+#[tactic(auto, unfolding(crate::specs::Opcode::opcode_below_90))]
 fn below_90(byte: u8) -> Option<Opcode>
     requires low { 0x80 ≤ byte }
     requires high { byte < 0x90 }
@@ -90,7 +90,7 @@ fn below_90(byte: u8) -> Option<Opcode>
 }
 
 /// The opcode of a byte from 90H to 9FH: XCHG with AX, CBW, CWD, PUSHF, POPF.
-#[tactic(auto, unfolding(crate::specs::Opcodes::opcode_below_a0))]
+#[tactic(auto, unfolding(crate::specs::Opcode::opcode_below_a0))]
 fn below_a0(byte: u8) -> Option<Opcode>
     requires low { 0x90 ≤ byte }
     ensures { result ≡ opcode_below_a0 byte }
@@ -106,7 +106,7 @@ fn below_a0(byte: u8) -> Option<Opcode>
 }
 
 /// The opcode of a byte from 0A0H to 0BFH: MOV and TEST of the accumulator, strings, MOV of numbers to registers.
-#[tactic(auto, unfolding(crate::specs::Opcodes::opcode_below_c0))]
+#[tactic(auto, unfolding(crate::specs::Opcode::opcode_below_c0))]
 fn below_c0(byte: u8) -> Option<Opcode>
     requires low { 0xA0 ≤ byte }
     requires high { byte < 0xC0 }
@@ -126,7 +126,7 @@ fn below_c0(byte: u8) -> Option<Opcode>
 }
 
 /// The opcode of a byte from 0C0H to 0DFH: RET, MOV of numbers, IRET, shifts.
-#[tactic(auto, unfolding(crate::specs::Opcodes::opcode_below_e0))]
+#[tactic(auto, unfolding(crate::specs::Opcode::opcode_below_e0))]
 fn below_e0(byte: u8) -> Option<Opcode>
     ensures { result ≡ opcode_below_e0 byte }
 {
@@ -142,7 +142,7 @@ fn below_e0(byte: u8) -> Option<Opcode>
 }
 
 /// The opcode of a byte from 0E0H to 0EFH: LOOP, JCXZ, ports, CALL, JMP.
-#[tactic(auto, unfolding(crate::specs::Opcodes::opcode_below_f0))]
+#[tactic(auto, unfolding(crate::specs::Opcode::opcode_below_f0))]
 fn below_f0(byte: u8) -> Option<Opcode>
     requires low { 0xE0 ≤ byte }
     requires high { byte < 0xF0 }
@@ -164,7 +164,7 @@ fn below_f0(byte: u8) -> Option<Opcode>
 }
 
 /// The opcode of a byte from 0F0H on: HLT, flags, and the two groups.
-#[tactic(auto, unfolding(crate::specs::Opcodes::opcode_from_f0))]
+#[tactic(auto, unfolding(crate::specs::Opcode::opcode_from_f0))]
 fn from_f0(byte: u8) -> Option<Opcode>
     requires { 0xF0 ≤ byte }
     ensures { result ≡ opcode_from_f0 byte }
@@ -186,7 +186,7 @@ fn from_f0(byte: u8) -> Option<Opcode>
 
 impl Opcode {
     /// The opcode that a byte is.
-    #[tactic(auto, unfolding(crate::specs::Opcodes::opcode_at))]
+    #[tactic(auto, unfolding(crate::specs::Opcode::opcode_at))]
     pub fn at(byte: u8) -> Option<Opcode>
         ensures { result ≡ opcode_at byte }
     {
