@@ -13,7 +13,7 @@ use Rattle.plm_type.specs.Next.{next}
 use Rattle.plm_type.specs.Programs.{procedures_of, handler_rest}
 use Rattle.plm_meaning.specs.Meaning.{first_of, leads}
 use Rattle.plm_meaning.specs.Store.{Store, shared}
-use Rattle.plm_meaning.specs.System.{Choice, Program, Occurs, Enter, Leave, Idle, System, State, Taken, Makes, BadAt, Refused, step, steps, taken_of, bad_next, bad_place, unless, pending, and_then, labelled, BadIsNext}
+use Rattle.plm_meaning.specs.System.{Choice, Program, Occurs, Enter, Leave, Idle, System, State, Taken, Makes, BadAt, Refused, step, steps, taken_of, bad_next, bad_place, unless, is_interrupted, and_then, labelled, BadIsNext}
 use Rattle.plm86.specs.Mean.{Mid, unless_refused, behind, goes_on, first_allowed, run_of, choices_from, meant, IsAllowed, MeanLaw}
 use Rattle.plm86.specs.declared.mean.MeanEnd.{MeanEnd}
 use Rattle.plm86.specs.declared.mean.MeanEnd.TheVariants as ends
@@ -99,7 +99,7 @@ module _ (sh : Shared) (R : Type 0) (next : R â†’ Action sh.Access R) (body : â„
   bad_is_next Program (State main (Some h) on halted w i j) b e = place_bad (next h) b e
   bad_is_next Program (State main None on true w i j) b e = absurd cc
   bad_is_next Program (State main None on false w i j) b e =
-      let x = unless_bad (pending sh {R = R} None on w) (bad_place (next main)) b e in
+      let x = unless_bad (is_interrupted sh {R = R} None on w) (bad_place (next main)) b e in
       (x.0, place_bad (next main) b x.1)
   bad_is_next (Occurs v) s b e = absurd cc
   bad_is_next Enter s b e = absurd cc

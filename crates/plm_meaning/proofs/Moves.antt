@@ -1,7 +1,7 @@
 -- What a choice of the program leads to, by the action of the context that runs.
 use Rattle.std.proofs.Common.{◌≡◌, ℕ, Bool, true, false, List, Option, Some, None, refl, ap, sym, ◌∙◌}
 use Rattle.word86.specs.Action.{Shared, Action, Silent, Touch, Enable, Disable, Halt, Over, Bad, map_action, perform, on_after, halted_after}
-use Rattle.plm_meaning.specs.System.{Program, System, State, Taken, Makes, and_then, pending, settled, counted, unless, bad_place, taken_of, taken}
+use Rattle.plm_meaning.specs.System.{Program, System, State, Taken, Makes, and_then, is_interrupted, settled, counted, unless, bad_place, taken_of, taken}
 
 -- ---- actions under a function
 
@@ -57,16 +57,16 @@ module _ (sh : Shared) (T : Type 0) (next : T → Action sh.Access T) (body : �
   abbrev main_by : (on : Bool) → sh.State → (s w : ℕ) → Action sh.Access T → Taken sh.State T sh.Label
   main_by on v s w a =
       taken_of
-      (and_then (counted (pending sh {R = T} None on v) a s w) (λ n.
+      (and_then (counted (is_interrupted sh {R = T} None on v) a s w) (λ n.
       and_then (perform sh a v) (λ x.
       Some (settled sh (State x.0 None (on_after a on) (halted_after a) x.1 n.0 n.1), x.2))))
-      (unless (pending sh {R = T} None on v) (bad_place a))
+      (unless (is_interrupted sh {R = T} None on v) (bad_place a))
 
   main_makes : (main : T) (on : Bool) (v : sh.State) (s w : ℕ) (a : Action sh.Access R) (n : ℕ × ℕ) (r : R) (v' : sh.State) (ls : List sh.Label)
-      → next main ≡ map_action f a → counted (pending sh {R = T} None on v) a s w ≡ Some n → perform sh a v ≡ Some (r, v', ls)
+      → next main ≡ map_action f a → counted (is_interrupted sh {R = T} None on v) a s w ≡ Some n → perform sh a v ≡ Some (r, v', ls)
       → lead (State main None on false v s w) ≡ Makes (settled sh (State (f r) None (on_after a on) (halted_after a) v' n.0 n.1)) ls
   main_makes main on v s w a n r v' ls e c p =
-      let can = pending sh {R = T} None on v in
+      let can = is_interrupted sh {R = T} None on v in
       ap (main_by on v s w) e
       ∙ (λ j. taken_of
       (and_then ((counted_map f can a s w ∙ c) j) (λ m.
@@ -76,10 +76,10 @@ module _ (sh : Shared) (T : Type 0) (next : T → Action sh.Access T) (body : �
 
   -- the same, where the state is known by equations
   pub main_goes : (main : T) (handler : Option T) (on halted : Bool) (v : sh.State) (s w : ℕ) (can : Bool) (a : Action sh.Access R) (n : ℕ × ℕ) (r : R) (v' : sh.State) (ls : List sh.Label) (on' halted' : Bool) (new : System sh.State T)
-      → handler ≡ None → halted ≡ false → can ≡ pending sh handler on v → next main ≡ map_action f a → counted can a s w ≡ Some n → perform sh a v ≡ Some (r, v', ls)
+      → handler ≡ None → halted ≡ false → can ≡ is_interrupted sh handler on v → next main ≡ map_action f a → counted can a s w ≡ Some n → perform sh a v ≡ Some (r, v', ls)
       → on' ≡ on_after a on → halted' ≡ halted_after a → new ≡ settled sh (State (f r) handler on' halted' v' n.0 n.1)
       → lead (State main handler on halted v s w) ≡ Makes new ls
   main_goes main handler on halted v s w can a n r v' ls on' halted' new none off can_is e c p on_is halted_is new_is =
       (λ j. lead (State main (none j) on (off j) v s w))
-      ∙ main_makes main on v s w a n r v' ls e (ap (λ b. counted b a s w) (sym (can_is ∙ ap (λ h. pending sh h on v) none)) ∙ c) p
+      ∙ main_makes main on v s w a n r v' ls e (ap (λ b. counted b a s w) (sym (can_is ∙ ap (λ h. is_interrupted sh h on v) none)) ∙ c) p
       ∙ ap (λ t. Makes t ls) (sym (new_is ∙ (λ j. settled sh (State (f r) (none j) (on_is j) (halted_is j) v' n.0 n.1))))

@@ -36,9 +36,9 @@ labelled labels (Some x) = Some (x.0, labels ++ x.1)
 -- ---- promptness
 
 -- an interrupt can be taken: they are on, none runs, and one is asked for
-abbrev pub pending : (sh : Shared) → {R : Type 0} → Option R → Bool → sh.State → Bool
-pending sh (Some h) on w = false
-pending sh None on w = on && sh.int_line w
+abbrev pub is_interrupted : (sh : Shared) → {R : Type 0} → Option R → Bool → sh.State → Bool
+is_interrupted sh (Some h) on w = false
+is_interrupted sh None on w = on && sh.int_line w
 
 -- a count begins again unless an interrupt can be taken
 abbrev pub kept_if : Bool → ℕ → ℕ
@@ -47,7 +47,7 @@ kept_if false count = 0
 
 abbrev pub settled : (sh : Shared) → {R : Type 0} → System sh.State R → System sh.State R
 settled sh (State main handler on halted w silents switches) =
-    let can = pending sh handler on w in
+    let can = is_interrupted sh handler on w in
     State main handler on halted w (kept_if can silents) (kept_if can switches)
 
 -- The counts after a step of main. Where an interrupt can be taken it comes after at most 8 silent steps and at most one ENABLE
@@ -67,7 +67,7 @@ module _ (sh : Shared) (R : Type 0) (next : R → Action sh.Access R) (body : �
       and_then (perform sh (next h) w) (λ x. Some (settled sh (State main (Some x.0) (on_after (next h) on) halted x.1 0 0), x.2))
   program_step main None on true w silents switches = None
   program_step main None on false w silents switches =
-      and_then (counted (pending sh {R = R} None on w) (next main) silents switches) (λ n.
+      and_then (counted (is_interrupted sh {R = R} None on w) (next main) silents switches) (λ n.
       and_then (perform sh (next main) w) (λ x.
       Some (settled sh (State x.0 None (on_after (next main) on) (halted_after (next main)) x.1 n.0 n.1), x.2)))
 
@@ -87,11 +87,11 @@ module _ (sh : Shared) (R : Type 0) (next : R → Action sh.Access R) (body : �
   abbrev pub step : Choice sh.Event → System sh.State R → Option (System sh.State R × List sh.Label)
   step Program (State main handler on halted w silents switches) = program_step main handler on halted w silents switches
   step (Occurs e) (State main handler on halted w silents switches) = Some (settled sh (State main handler on halted (sh.occurs e w) silents switches), sh.event_label e ∷ [])
-  step Enter (State main handler on halted w silents switches) = enter_step (pending sh handler on w) main w
+  step Enter (State main handler on halted w silents switches) = enter_step (is_interrupted sh handler on w) main w
   step Leave (State main (Some h) on halted w silents switches) = leave_step (next h) main halted w
   step Leave (State main None on halted w silents switches) = None
   step Idle (State main None on true w silents switches) =
-      if pending sh {R = R} None on w then None else Some (State main None on true w silents switches, [])
+      if is_interrupted sh {R = R} None on w then None else Some (State main None on true w silents switches, [])
   step Idle (State main None on false w silents switches) = None
   step Idle (State main (Some h) on halted w silents switches) = None
 
@@ -104,7 +104,7 @@ module _ (sh : Shared) (R : Type 0) (next : R → Action sh.Access R) (body : �
   abbrev pub BadIsNext : System sh.State R → Type 0
   BadIsNext (State main (Some h) on halted w silents switches) = IsBad (next h)
   BadIsNext (State main None on true w silents switches) = ⊥
-  BadIsNext (State main None on false w silents switches) = (pending sh {R = R} None on w ≡ false) × IsBad (next main)
+  BadIsNext (State main None on false w silents switches) = (is_interrupted sh {R = R} None on w ≡ false) × IsBad (next main)
 
 -- ---- what a choice leads to
 
@@ -132,7 +132,7 @@ module _ (sh : Shared) (R : Type 0) (next : R → Action sh.Access R) (body : �
   abbrev pub bad_next : Choice sh.Event → System sh.State R → Option (ℕ × ℕ)
   bad_next Program (State main (Some h) on halted w silents switches) = bad_place (next h)
   bad_next Program (State main None on true w silents switches) = None
-  bad_next Program (State main None on false w silents switches) = unless (pending sh {R = R} None on w) (bad_place (next main))
+  bad_next Program (State main None on false w silents switches) = unless (is_interrupted sh {R = R} None on w) (bad_place (next main))
   bad_next _ s = None
 
   abbrev pub taken : Choice sh.Event → System sh.State R → Taken sh.State R sh.Label

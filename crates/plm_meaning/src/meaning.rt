@@ -148,7 +148,7 @@ impl<'a> Meaning<'a> {
 
     // Whether an interrupt can be taken.
     fn is_pending(&self) -> bool
-        ensures pending { (p : ChipState) → Shows self.now.store.ports p → result ≡ can_enter self.now p }
+        ensures is_interrupted { (p : ChipState) → Shows self.now.store.ports p → result ≡ can_enter self.now p }
         ensures up { result ≡ true → int_line self.now.store.ports ≡ true }
     {
         self.handler.is_none() && self.on && self.store.ports.int_line()

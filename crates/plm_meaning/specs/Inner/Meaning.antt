@@ -16,14 +16,14 @@ use Rattle.plm_meaning.specs.declared.redex.Action as declared_action
 use Rattle.plm_meaning.specs.declared.redex.Action.TheVariants as action
 use Rattle.plm_meaning.specs.declared.store.Store as declared_store
 use Rattle.plm_meaning.specs.Store.{shared}
-use Rattle.plm_meaning.specs.System.{pending}
+use Rattle.plm_meaning.specs.System.{is_interrupted}
 use Rattle.plm_meaning.specs.Context.{todo_of}
 use Rattle.plm_meaning.specs.Inner.Redex.{context_action}
 use Rattle.plm_meaning.specs.Shown.{store_of, labels_of}
 
 -- an interrupt can be taken
 abbrev pub can_enter : Meaning → ChipState → Bool
-can_enter m p = pending (shared board_chips) {R = Rest} (option_map (λ h. Handler (todo_of h)) m.handler) m.on (store_of m.store p)
+can_enter m p = is_interrupted (shared board_chips) {R = Rest} (option_map (λ h. Handler (todo_of h)) m.handler) m.on (store_of m.store p)
 
 -- ---- an action of a context
 
