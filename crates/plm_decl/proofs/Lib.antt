@@ -14,6 +14,7 @@ pub mod BlockNames
 pub mod Objects
 pub mod OwnNames
 pub mod Places
+pub mod ByPlaces
 pub mod Once
 pub mod DeclaredAgain
 pub mod Lying

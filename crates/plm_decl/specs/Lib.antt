@@ -26,5 +26,6 @@ pub mod BlockNames
 pub mod DeclaredAgain
 pub mod OwnNames
 pub mod Laws
+pub mod ByPlaces
 pub mod Regions
 pub mod Inner

@@ -1,5 +1,6 @@
 //! Laws that tie what is read step by step to the tree of a block. They compute nothing.
 
+ghost use Rattle.plm_decl.specs.ByPlaces.{ReadByPlaces};
 ghost use Rattle.plm_decl.specs.Laws.{ConstantsFill, DeclaredIsFound, DeclaresOnce, HaveOwnObjects, InitialBytesFit, InitialValuesFit, InnermostMeans, ListsOnce, MembersOnce, NothingElseTwice, StandsInside, StandsOutside};
 ghost use Rattle.plm_decl.specs.OwnNames.{OwnNamesHaveObjects};
 
@@ -16,12 +17,16 @@ pub fn declared_once()
 
 /// The law of scopes: after some items of a block a name stands for what the block declares, if one of them declares it, and
 /// else for what it stands for in the blocks around. So at any place in any blocks a name means what the innermost block that
-/// declares it before the place declares.
+/// declares it before the place declares. And a program is read so: at each place in its trees names are looked up in the scope
+/// that the blocks around the place make of what stands before it in them. So a name that is used in a statement, an expression,
+/// a CALL or a declaration, at any depth of blocks and procedures, stands for what the innermost block that declares it before
+/// its use declares. An AT is read before the names of its element.
 pub fn innermost_counts()
     ensures inside { StandsInside }
     ensures outside { StandsOutside }
     ensures means { InnermostMeans }
     ensures found { DeclaredIsFound }
+    ensures program { ReadByPlaces }
 {}
 
 /// The law of constant bytes: the object that `@( .. )` or `.( .. )` makes has as many bytes as its values fill.
