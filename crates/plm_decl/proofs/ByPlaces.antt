@@ -21,7 +21,7 @@ use Rattle.plm_decl.specs.Stray.{is_external_linkage}
 use Rattle.plm_decl.specs.Statements.{step_for, last_name, block_path, with_elements, linkage_of, header, declared_procedure, parameters_from, completed, statement, basic, statements as read_statements, block, with_items, with_item}
 use Rattle.plm_decl.specs.Joins.{has_statements, with_main, at_module, with_module, modules_from, known_from}
 use Rattle.plm_decl.specs.Laws.{Before, scope_at}
-use Rattle.plm_decl.specs.ByPlaces.{opened, within, behind_items, behind_item, variables_in, names_at, names_in, element_in, elements_in, statement_in, basic_in, statements_in, block_in, items_in, item_in, module_in, modules_in, known_by_places}
+use Rattle.plm_decl.specs.ByPlaces.{opened, within, after_items, after_item, variables_in, names_at, names_in, element_in, elements_in, statement_in, basic_in, statements_in, block_in, items_in, item_in, module_in, modules_in, known_by_places}
 
 -- ---- declarations
 
@@ -44,22 +44,22 @@ among_items b around = record b { elements = []; variables = [] } ∷ around
 abbrev among_elements : Before → List Before → List Before
 among_elements b around = record b { variables = [] } ∷ around
 
--- behind these elements, and behind these names
-abbrev after_elements : Before → List Before → Known → List ElementT → List Before
-after_elements b around start before = within (λ c. record c { elements = before; known_at_elements = start }) (among_items b around)
+-- after these elements, and after these names
+abbrev past_elements : Before → List Before → Known → List ElementT → List Before
+past_elements b around start before = within (λ c. record c { elements = before; known_at_elements = start }) (among_items b around)
 
-abbrev after_names : Before → List Before → Traits → Site → Known → List VariableT → List Before
-after_names b around t s start before = within (λ c. record c { variables = before; traits = t; site = s; known_at_variables = start }) (among_elements b around)
+abbrev past_names : Before → List Before → Traits → Site → Known → List VariableT → List Before
+past_names b around t s start before = within (λ c. record c { variables = before; traits = t; site = s; known_at_variables = start }) (among_elements b around)
 
 variables_read : (b : Before) (around : List Before) (t : Traits) (s : Site) (start : Known) (before vs : List VariableT)
     → (let r = declared_variables before t s (scope_at (among_elements b around)) start in
-    let q = variables_in (after_names b around t s start before) vs t r.0 r.2 in
+    let q = variables_in (past_names b around t s start before) vs t r.0 r.2 in
     let u = declared_variables vs t r.0 r.1 r.2 in
     ◌≡◌ {A = List Frame × Known} (scope_at q.0, q.1) (u.1, u.2))
 variables_read b around t s start before [] = refl
 variables_read b around t s start before (v ∷ vs) =
     let more = variables_then before v t s (scope_at (among_elements b around)) start in
-    ap (λ (x : Site × List Frame × Known). let q = variables_in (after_names b around t s start (before ++ v ∷ [])) vs t x.0 x.2 in (scope_at q.0, q.1)) (sym more)
+    ap (λ (x : Site × List Frame × Known). let q = variables_in (past_names b around t s start (before ++ v ∷ [])) vs t x.0 x.2 in (scope_at q.0, q.1)) (sym more)
     ∙ variables_read b around t s start (before ++ v ∷ []) vs
     ∙ ap (λ (x : Site × List Frame × Known). let u = declared_variables vs t x.0 x.1 x.2 in (u.1, u.2)) more
 
@@ -82,12 +82,12 @@ element_read b around (VariableElement d n t a) k = listed_read b around (declar
 
 elements_read : (b : Before) (around : List Before) (start : Known) (before es : List ElementT)
     → (let r = with_elements before (scope_at (among_items b around)) start in
-    elements_in (after_elements b around start before) es r.1 ≡ (with_elements es r.0 r.1).1)
+    elements_in (past_elements b around start before) es r.1 ≡ (with_elements es r.0 r.1).1)
 elements_read b around start before [] = refl
 elements_read b around start before (e ∷ es) =
     let r = with_elements before (scope_at (among_items b around)) start in
     let more = elements_then before e (scope_at (among_items b around)) start in
-    let after = after_elements b around start (before ++ e ∷ []) in
+    let after = past_elements b around start (before ++ e ∷ []) in
     ap (λ (q : Known). elements_in after es q) (element_read (record b { elements = before; known_at_elements = start }) around e r.1)
     ∙ ap (λ (x : List Frame × Known). elements_in after es x.1) (sym more)
     ∙ elements_read b around start (before ++ e ∷ []) es
@@ -95,9 +95,9 @@ elements_read b around start before (e ∷ es) =
 
 -- ---- statements and blocks
 
--- behind these items
-abbrev after_items : List ℕ → Bool → List Before → Known → ItemsT → List Before
-after_items path external around k is = behind_items is (opened path external k ∷ around)
+-- after these items
+abbrev past_items : List ℕ → Bool → List Before → Known → ItemsT → List Before
+past_items path external around k is = after_items is (opened path external k ∷ around)
 
 mutual
   statement_read : (blocks : List Before) (s : StatementT) (k : Known) → statement_in blocks s k ≡ statement (scope_at blocks) s k
@@ -142,7 +142,7 @@ mutual
   block_read : (path : List ℕ) (external : Bool) (around : List Before) (b : BlockT) (k : Known)
       → (let q = block_in (opened path external k ∷ around) b k in (q.0, scope_at q.1, q.2)) ≡ block (frame path external ∷ scope_at around) b k
   block_read path external around (BlockOf is ss) k =
-      let blocks = after_items path external around k is in
+      let blocks = past_items path external around k is in
       ap (λ (q : Known). let r = statements_in blocks ss q in (r.0, scope_at blocks, r.1)) (items_read path external around is k)
       ∙ ap (λ (r : StatementsR × Known). (r.0, scope_at blocks, r.1)) (statements_read blocks ss (with_items (frame path external ∷ scope_at around) is k).1)
 
@@ -150,11 +150,11 @@ mutual
       → items_in (opened path external k ∷ around) is k ≡ (with_items (frame path external ∷ scope_at around) is k).1
   items_read path external around no_items k = refl
   items_read path external around (items is i) k =
-      ap (λ (q : Known). item_in (after_items path external around k is) i q) (items_read path external around is k) ∙ item_read path external around is i k
+      ap (λ (q : Known). item_in (past_items path external around k is) i q) (items_read path external around is k) ∙ item_read path external around is i k
 
   item_read : (path : List ℕ) (external : Bool) (around : List Before) (is : ItemsT) (i : ItemT) (k : Known)
       → (let r = with_items (frame path external ∷ scope_at around) is k in
-      item_in (after_items path external around k is) i r.1 ≡ (with_item r.0 i r.1).1)
+      item_in (past_items path external around k is) i r.1 ≡ (with_item r.0 i r.1).1)
   item_read path external around is (DeclareI p es) k =
       elements_read (record (opened path external k) { items = is }) around (with_items (frame path external ∷ scope_at around) is k).1 [] (element_list es)
   item_read path external around is (ProcedureI n ps s i l b e) k =
@@ -162,7 +162,7 @@ mutual
       let p = header (name_after (path_in m.0) (normal n.text)) n (name_list ps) s i (linkage_of l) b m.1 in
       let r = declared_procedure m.0 n p m.1 in
       ap (λ (q : StatementsR × List Frame × Known). let u = parameters_from q.1 [] [] (name_list ps) q.2 in completed p.entry u.0 q.0 u.1)
-      (block_read p.path (is_external_linkage p.linkage || is_external m.0) (behind_item (ProcedureI n ps s i l b e) (after_items path external around k is)) b r.1)
+      (block_read p.path (is_external_linkage p.linkage || is_external m.0) (after_item (ProcedureI n ps s i l b e) (past_items path external around k is)) b r.1)
 
 -- ---- programs
 

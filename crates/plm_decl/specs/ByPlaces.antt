@@ -49,35 +49,35 @@ abbrev pub within : (Before → Before) → List Before → List Before
 within change [] = []
 within change (b ∷ around) = change b ∷ around
 
-abbrev pub behind_items : ItemsT → List Before → List Before
-behind_items is blocks = within (λ b. record b { items = is }) blocks
+abbrev pub after_items : ItemsT → List Before → List Before
+after_items is blocks = within (λ b. record b { items = is }) blocks
 
-abbrev pub behind_item : ItemT → List Before → List Before
-behind_item i blocks = within (λ b. record b { items = items b.items i }) blocks
+abbrev pub after_item : ItemT → List Before → List Before
+after_item i blocks = within (λ b. record b { items = items b.items i }) blocks
 
 -- in a DECLARE that begins when this much is known
 abbrev pub in_declare : Known → List Before → List Before
 in_declare k blocks = within (λ b. record b { elements = []; known_at_elements = k }) blocks
 
-abbrev pub behind_element : ElementT → List Before → List Before
-behind_element e blocks = within (λ b. record b { elements = b.elements ++ e ∷ [] }) blocks
+abbrev pub after_element : ElementT → List Before → List Before
+after_element e blocks = within (λ b. record b { elements = b.elements ++ e ∷ [] }) blocks
 
 -- among the names of an element that have these traits, the first of which goes to this site when this much is known
 abbrev pub in_element : Traits → Site → Known → List Before → List Before
 in_element t s k blocks = within (λ b. record b { variables = []; traits = t; site = s; known_at_variables = k }) blocks
 
-abbrev pub behind_variable : VariableT → List Before → List Before
-behind_variable v blocks = within (λ b. record b { variables = b.variables ++ v ∷ [] }) blocks
+abbrev pub after_variable : VariableT → List Before → List Before
+after_variable v blocks = within (λ b. record b { variables = b.variables ++ v ∷ [] }) blocks
 
 -- ---- declarations
 
--- a base is looked up at the place of its name; with the place behind the last name
+-- a base is looked up at the place of its name; with the place after the last name
 abbrev pub variables_in : List Before → List VariableT → Traits → Site → Known → List Before × Known
 variables_in blocks [] t s k = (blocks, k)
 variables_in blocks (v ∷ vs) t s k =
-    variables_in (behind_variable v blocks) vs t (site_after s (size_of_shape t.shape)) (declared_variable v t s (scope_at blocks) k).1
+    variables_in (after_variable v blocks) vs t (site_after s (size_of_shape t.shape)) (declared_variable v t s (scope_at blocks) k).1
 
--- AT is read before the names of its element, values behind them
+-- AT is read before the names of its element, values after them
 abbrev pub names_at : List Before → Position → List VariableT → DimensionT → TypeT → AttributesT → Known → Known
 names_at blocks place vs d t a k =
     let s = first_site (scope_at blocks) a k in
@@ -95,7 +95,7 @@ element_in blocks (VariableElement d n t a) k = names_in blocks (declared_list d
 
 abbrev pub elements_in : List Before → List ElementT → Known → Known
 elements_in blocks [] k = k
-elements_in blocks (e ∷ es) k = elements_in (behind_element e blocks) es (element_in blocks e k)
+elements_in blocks (e ∷ es) k = elements_in (after_element e blocks) es (element_in blocks e k)
 
 -- ---- statements and blocks
 
@@ -121,22 +121,22 @@ abbrev mutual
   statements_in blocks tree.no_statements k = (no_statements, k)
   statements_in blocks (tree.statements ss s) k = let r = statements_in blocks ss k in let q = statement_in blocks s r.1 in (and_statement r.0 q.0, q.1)
 
-  -- a block's statements stand behind its items; with the place at its end
+  -- a block's statements stand after its items; with the place at its end
   pub block_in : List Before → BlockT → Known → StatementsR × List Before × Known
-  block_in blocks (BlockOf is ss) k = let q = statements_in (behind_items is blocks) ss (items_in blocks is k) in (q.0, behind_items is blocks, q.1)
+  block_in blocks (BlockOf is ss) k = let q = statements_in (after_items is blocks) ss (items_in blocks is k) in (q.0, after_items is blocks, q.1)
 
   pub items_in : List Before → ItemsT → Known → Known
   items_in blocks no_items k = k
-  items_in blocks (items is i) k = item_in (behind_items is blocks) i (items_in blocks is k)
+  items_in blocks (items is i) k = item_in (after_items is blocks) i (items_in blocks is k)
 
-  -- a procedure's block stands behind its own name in the block around it
+  -- a procedure's block stands after its own name in the block around it
   pub item_in : List Before → ItemT → Known → Known
   item_in blocks (DeclareI p es) k = elements_in (in_declare k blocks) (element_list es) k
   item_in blocks (ProcedureI n ps s i l b e) k =
       let p = header (name_after (path_in (scope_at blocks)) (normal n.text)) n (name_list ps) s i (linkage_of l) b k in
       let r = declared_procedure (scope_at blocks) n p k in
       let inside = opened p.path (is_external_linkage p.linkage || is_external (scope_at blocks)) r.1 in
-      let q = block_in (inside ∷ behind_item (ProcedureI n ps s i l b e) blocks) b r.1 in
+      let q = block_in (inside ∷ after_item (ProcedureI n ps s i l b e) blocks) b r.1 in
       let u = parameters_from (scope_at q.1) [] [] (name_list ps) q.2 in
       completed p.entry u.0 q.0 u.1
 

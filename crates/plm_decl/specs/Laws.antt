@@ -94,9 +94,9 @@ names_before b = names_of_items b.items ++ (names_of_elements b.elements ++ name
 abbrev pub scope_at : List Before → List Frame
 scope_at [] = []
 scope_at (b ∷ around) =
-    let behind_items = (with_items (frame b.path b.external ∷ scope_at around) b.items b.known).0 in
-    let behind_elements = (with_elements b.elements behind_items b.known_at_elements).0 in
-    (declared_variables b.variables b.traits b.site behind_elements b.known_at_variables).1
+    let after_items = (with_items (frame b.path b.external ∷ scope_at around) b.items b.known).0 in
+    let after_elements = (with_elements b.elements after_items b.known_at_elements).0 in
+    (declared_variables b.variables b.traits b.site after_elements b.known_at_variables).1
 
 -- the innermost of these blocks that declares a name before the place, with those around it
 abbrev pub declaring : List ℕ → List Before → List Before
