@@ -6,7 +6,7 @@ ghost use Rattle.word86.specs.Action.{on_after, halted_after};
 ghost use Rattle.word86.specs.declared.fault.Fault.TheVariants as fault;
 ghost use Rattle.ppi_kbd.specs.BoardChips.{board_chips};
 ghost use Rattle.ppi_kbd.specs.Chips.{ChipState};
-ghost use Rattle.ppi_kbd.specs.Ports.{Shows, int_line};
+ghost use Rattle.ppi_kbd.specs.Ports.{Shows, is_up};
 ghost use Rattle.plm_decl.specs.Placement as placed;
 ghost use Rattle.plm_decl.specs.Placement.{IsPlacement};
 ghost use Rattle.plm_type.specs.Rest.{Procedure as Blocks};
@@ -147,9 +147,9 @@ impl<'a> Meaning<'a> {
     }
 
     // Whether an interrupt can be taken.
-    fn is_pending(&self) -> bool
+    fn is_interrupted(&self) -> bool
         ensures is_interrupted { (p : ChipState) → Shows self.now.store.ports p → result ≡ can_enter self.now p }
-        ensures up { result ≡ true → int_line self.now.store.ports ≡ true }
+        ensures up { result ≡ true → is_up self.now.store.ports ≡ true }
     {
         self.handler.is_none() && self.on && self.store.ports.int_line()
     }
@@ -160,7 +160,7 @@ impl<'a> Meaning<'a> {
         ensures ports { self.new.store.ports ≡ self.old.store.ports }
         ensures around { self.new.around ≡ self.old.around }
     {
-        if !self.is_pending() {
+        if !self.is_interrupted() {
             self.silents = 0;
             self.switches = 0;
         }
@@ -182,7 +182,7 @@ impl<'a> Meaning<'a> {
         ensures stopped { IfErr result (λ e. Stopped self.old self.new Enter e) }
         ensures run { self.new.around ≡ self.old.around }
     {
-        if !self.is_pending() {
+        if !self.is_interrupted() {
             return Err(Stop::NotAllowed);
         }
         let vector = self.store.ports.acknowledge();
@@ -229,7 +229,7 @@ impl<'a> Meaning<'a> {
         ensures stopped { IfErr result (λ e. Stopped self.old self.new Idle e) }
         ensures run { self.new.around ≡ self.old.around }
     {
-        if self.handler.is_none() && self.halted && !self.is_pending() {
+        if self.handler.is_none() && self.halted && !self.is_interrupted() {
             Ok(QUIET)
         } else {
             Err(Stop::NotAllowed)
@@ -280,7 +280,7 @@ impl<'a> Meaning<'a> {
         settle(self.alloc, &mut self.main)?;
         let next = main_action(&self.main, self.around);
         let Some((silents, switches)) = counted(
-            self.is_pending(),
+            self.is_interrupted(),
             &next,
             self.silents,
             self.switches,

@@ -27,13 +27,13 @@ returns-clause-made c p shown =
       subst (λ ports. Shows ports made.0) (sym c.settle_counts.ensures.ports) made.1,
       moves.main_goes (shared board_chips) Rest (next (offsets_of s) (sizes_of s) ps) (handler_rest (names_of s)) Main
           (Main (todo_of m.main)) (option_map (λ h. Handler (todo_of h)) m.handler) m.on m.halted (store_of m.store p) m.silents m.switches
-          c.is_pending.result (context_action s k next_is) (c.in-Some.silents, c.in-Some.switches)
+          c.is_interrupted.result (context_action s k next_is) (c.in-Some.silents, c.in-Some.switches)
           (todo_of c.perform.new.context) (store_of c.perform.new.store made.0) (labels_of c.in_ok-label.label)
           c.is_on_after-on.result c.is_halted_after-halted.result (state_of c.settle_counts.new.self made.0)
           (ap (option_map (λ h. Handler (todo_of h))) c.requires) c.if-self.false
-          (c.is_pending.ensures.is_interrupted p shown)
+          (c.is_interrupted.ensures.is_interrupted p shown)
           (ap (λ t. next (offsets_of s) (sizes_of s) ps (Main t)) (sym c.in_ok-settle.ensures.rest) ∙ c.main_action-next.ensures.action)
-          (moves.counted_map put c.is_pending.result act m.silents m.switches ∙ sym (c.counted.ensures ps k.focus) ∙ c.in-Some.is)
+          (moves.counted_map put c.is_interrupted.result act m.silents m.switches ∙ sym (c.counted.ensures ps k.focus) ∙ c.in-Some.is)
           made.2
           (c.is_on_after-on.ensures ps k.focus ∙ sym (moves.on_map put act m.on))
           (c.is_halted_after-halted.ensures ps k.focus ∙ sym (moves.halted_map put act))
