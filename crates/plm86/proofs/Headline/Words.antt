@@ -78,7 +78,7 @@ module _ {P : Type 0} (c : Chips P) (offer : Context → Offer Access Context) (
   stands_alone false on false d s h = runs (offer d) on s (leads d h)
 
   acts : (x : Duo (Store P) Context) → HasWords (main_in x) → MainHas (act Sh Context offer start x)
-  acts (Alone d on halted s) h = stands_alone (on && Sh.line s) on halted d s h
+  acts (Alone d on halted s) h = stands_alone (on && Sh.int_line s) on halted d s h
   acts (Armed d s) h = runs (offer d) true s (leads d h)
   acts (Serving d e s) h = serves (offer e) d s h
 
