@@ -37,7 +37,7 @@ test_bus = record {
   port_value = λ w width port. 0x5A5A;
   port_in = λ w width port. w;
   port_out = λ w width port value. w;
-  line = λ w. is_some w.1;
+  int_line = λ w. is_some w.1;
   vector = λ w. unwrap_or w.1 0;
   acknowledge = λ w. (w.0, None);
 }
