@@ -1,57 +1,10 @@
 //! The reserved words.
 
-ghost use Rattle.std.specs.Prelude.{◌≡◌, find, bytes_eq};
+ghost use Rattle.std.specs.Prelude.{◌≡◌, ◌∷◌, ℕ, List, find, bytes_eq};
 ghost use Rattle.plm_token.specs.Names.{normal, spelling, keyword_of};
 
-use crate::letters::spells;
+use crate::letters::{Letters, spells};
 use crate::token::Keyword;
-
-static KEYWORDS: [Keyword; 44] = [
-    Keyword::Address,
-    Keyword::And,
-    Keyword::At,
-    Keyword::Based,
-    Keyword::By,
-    Keyword::Byte,
-    Keyword::Call,
-    Keyword::Case,
-    Keyword::Data,
-    Keyword::Declare,
-    Keyword::Disable,
-    Keyword::Do,
-    Keyword::Dword,
-    Keyword::Else,
-    Keyword::Enable,
-    Keyword::End,
-    Keyword::External,
-    Keyword::Go,
-    Keyword::Goto,
-    Keyword::Halt,
-    Keyword::If,
-    Keyword::Initial,
-    Keyword::Integer,
-    Keyword::Interrupt,
-    Keyword::Label,
-    Keyword::Literally,
-    Keyword::Minus,
-    Keyword::Mod,
-    Keyword::Not,
-    Keyword::Or,
-    Keyword::Plus,
-    Keyword::Pointer,
-    Keyword::Procedure,
-    Keyword::Public,
-    Keyword::Real,
-    Keyword::Reentrant,
-    Keyword::Return,
-    Keyword::Selector,
-    Keyword::Structure,
-    Keyword::Then,
-    Keyword::To,
-    Keyword::While,
-    Keyword::Word,
-    Keyword::Xor,
-];
 
 /// A reserved word in normal form.
 fn spelling(keyword: Keyword) -> &'static [u8]
@@ -105,12 +58,63 @@ fn spelling(keyword: Keyword) -> &'static [u8]
     }
 }
 
+/// The reserved words that begin with this letter.
+fn beginning_with(letter: u8) -> &'static [Keyword]
+    ensures { (rest : List ℕ) → keyword_of (letter ∷ rest) ≡ find (λ k. bytes_eq (letter ∷ rest) (spelling k)) result.now }
+{
+    match letter {
+        b'A' => &[Keyword::Address, Keyword::And, Keyword::At],
+        b'B' => &[Keyword::Based, Keyword::By, Keyword::Byte],
+        b'C' => &[Keyword::Call, Keyword::Case],
+        b'D' => &[
+            Keyword::Data,
+            Keyword::Declare,
+            Keyword::Disable,
+            Keyword::Do,
+            Keyword::Dword,
+        ],
+        b'E' => &[
+            Keyword::Else,
+            Keyword::Enable,
+            Keyword::End,
+            Keyword::External,
+        ],
+        b'G' => &[Keyword::Go, Keyword::Goto],
+        b'H' => &[Keyword::Halt],
+        b'I' => &[
+            Keyword::If,
+            Keyword::Initial,
+            Keyword::Integer,
+            Keyword::Interrupt,
+        ],
+        b'L' => &[Keyword::Label, Keyword::Literally],
+        b'M' => &[Keyword::Minus, Keyword::Mod],
+        b'N' => &[Keyword::Not],
+        b'O' => &[Keyword::Or],
+        b'P' => &[
+            Keyword::Plus,
+            Keyword::Pointer,
+            Keyword::Procedure,
+            Keyword::Public,
+        ],
+        b'R' => &[Keyword::Real, Keyword::Reentrant, Keyword::Return],
+        b'S' => &[Keyword::Selector, Keyword::Structure],
+        b'T' => &[Keyword::Then, Keyword::To],
+        b'W' => &[Keyword::While, Keyword::Word],
+        b'X' => &[Keyword::Xor],
+        _ => &[],
+    }
+}
+
 /// The reserved word that a name is, if it is one.
 #[tactic(auto, unfolding(crate::specs::Names::keyword_of))]
 pub fn keyword(name: &[u8]) -> Option<Keyword>
     ensures { result ≡ keyword_of (normal name.now) }
 {
-    keyword_among(name, &KEYWORDS)
+    match Letters::new(name).next() {
+        Some(first) => keyword_among(name, beginning_with(first)),
+        None => None,
+    }
 }
 
 /// The first of some reserved words that a name is, if it is one.
