@@ -37,7 +37,7 @@ mutual
 
   pub leads_location : {L : List LiteralText} {S : List ℕ} (x0 y0 : ℕ) (x1 : LocationT) → Leads (location put_leaf x0 x1) (location (at L) y0 x1) L S L S
   leads_location d d' (LocationOf p f x) = join (one (leaf_at (form_sign f) p) 0 (calm_form f)) (leads_reference 0 0 d d' x)
-  leads_location d d' (ConstantsOf p f vs) = join (one (leaf_at (form_sign f) p) 0 (calm_form f)) (join (one (leaf (Sign mark.LeftParenthesis)) 0 refl) (join (leads_value_list d d' vs) (one (leaf (Sign mark.RightParenthesis)) 0 refl)))
+  leads_location d d' (ConstantsOf p f vs) = join (one (leaf_at (form_sign f) p) 0 (calm_form f)) (join (one (leaf (Sign mark.LeftParenthesis)) (suc d) refl) (join (leads_value_list (suc d) (suc d') vs) (one (leaf (Sign mark.RightParenthesis)) 0 refl)))
 
   pub leads_value : {L : List LiteralText} {S : List ℕ} (x0 y0 : ℕ) (x1 : ValueT) → Leads (value put_leaf x0 x1) (value (at L) y0 x1) L S L S
   leads_value d d' (NumeralV n) = one (leaf (Numeral n)) 0 refl

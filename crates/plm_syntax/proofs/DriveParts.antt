@@ -101,7 +101,7 @@ abbrev pub DrivesLocated : LocationT → Type 0
 DrivesLocated (LocationOf p f x) = (s : List Symbol) (v : List Value) (ls : List Leaf) (r : Trace) → Stops 1 ls → trace s (ExpressionR (LocationE (LocationOf p f x)) ∷ v) ls ≡ r
     → trace (Want (LocatedG p f) ∷ s) v (reference put_leaf 0 (depth s) x ls) ≡ reference put_then 0 (depth s) x r
 DrivesLocated (ConstantsOf p f vs) = (s : List Symbol) (v : List Value) (ls : List Leaf) (r : Trace) → Stops 1 ls → trace s (ExpressionR (LocationE (ConstantsOf p f vs)) ∷ v) ls ≡ r
-    → trace (Want (LocatedG p f) ∷ s) v (leaf (Sign mark.LeftParenthesis) ∷ value_list put_leaf (depth s) vs (leaf (Sign mark.RightParenthesis) ∷ ls)) ≡ Then 0 (value_list put_then (depth s) vs (Then 0 r))
+    → trace (Want (LocatedG p f) ∷ s) v (leaf (Sign mark.LeftParenthesis) ∷ value_list put_leaf (suc (depth s)) vs (leaf (Sign mark.RightParenthesis) ∷ ls)) ≡ Then (suc (depth s)) (value_list put_then (suc (depth s)) vs (Then 0 r))
 
 abbrev pub DrivesValue : ValueT → Type 0
 DrivesValue w = (s : List Symbol) (v : List Value) (ls : List Leaf) (r : Trace) → Stops 1 ls → trace s (ValueR w ∷ v) ls ≡ r → trace (Want ValueG ∷ s) v (value put_leaf (depth s) w ls) ≡ value put_then (depth s) w r
@@ -141,7 +141,7 @@ pub located_reference : (p : Position) (f : LocationForm) (n : NameT) (es : Expr
 located_reference p f n es m h = λ s v ls r q k. ap (Then 0) (h.begun n (Do (locate p f) ∷ s) v ls _ q (did (locate p f) s _ _ q refl ∙ k))
 
 pub located_values : (p : Position) (f : LocationForm) (ws : ValuesT) → DrivesValues ws → DrivesLocated (ConstantsOf p f ws)
-located_values p f ws h = λ s v ls r q k. ap (Then 0) (h (Do (locate_values p f) ∷ s) v ls _ (did (locate_values p f) s _ _ q refl ∙ k))
+located_values p f ws h = λ s v ls r q k. ap (Then (suc (depth s))) (h (Leave ∷ Do (locate_values p f) ∷ s) v ls _ (left (Do (locate_values p f) ∷ s) _ q ∙ did (locate_values p f) s _ _ q refl ∙ k))
 
 pub location_primary : (l : LocationT) → DrivesLocated l → ReadsE a_primary bare (LocationE l) 1
 location_primary (LocationOf p Pointer x) h = λ s v ls r q k. ap (Then 0) (h s v ls r q k)

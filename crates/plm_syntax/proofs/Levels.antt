@@ -66,7 +66,7 @@ mutual
 
   pub levels_location : (x0 : ℕ) (x1 : LocationT) → Levelled (location put_then x0 x1) (location put_level x0 x1)
   levels_location d (LocationOf p f x) = join (one (leaf_at (form_sign f) p) 0) (levels_reference 0 d x)
-  levels_location d (ConstantsOf p f vs) = join (one (leaf_at (form_sign f) p) 0) (join (one (leaf (Sign mark.LeftParenthesis)) 0) (join (levels_value_list d vs) (one (leaf (Sign mark.RightParenthesis)) 0)))
+  levels_location d (ConstantsOf p f vs) = join (one (leaf_at (form_sign f) p) 0) (join (one (leaf (Sign mark.LeftParenthesis)) (suc d)) (join (levels_value_list (suc d) vs) (one (leaf (Sign mark.RightParenthesis)) 0)))
 
   pub levels_value : (x0 : ℕ) (x1 : ValueT) → Levelled (value put_then x0 x1) (value put_level x0 x1)
   levels_value d (NumeralV n) = one (leaf (Numeral n)) 0

@@ -86,7 +86,7 @@ located_refused p f (Name n) g h = absurd cc
 located_refused p f (Numeral n) g h = refl
 located_refused p f (Text n) g h = refl
 located_refused p f (Key n) g h = refl
-located_refused p f (Sign n) g h = ap (λ (x : Bool). cond x (Take false (a_value_list (Do (locate_values p f) ∷ []))) Refused) g
+located_refused p f (Sign n) g h = ap (λ (x : Bool). cond x (Take true (a_value_list (Leave ∷ Do (locate_values p f) ∷ []))) Refused) g
 located_refused p f Finish g h = refl
 
 pub more_subscripts_refused : (t : Terminal) → is_sign mark.Comma t ≡ false → is_sign mark.RightParenthesis t ≡ false → more_subscripts t ≡ Refused

@@ -232,7 +232,7 @@ located_says p f d K (Text n) = tt
 located_says p f d K (Key n) = tt
 located_says p f d K Finish = tt
 located_says p f d K (Sign m) = on_sign (Means (LocatedG p f) d K) d K mark.LeftParenthesis (Sign m) _ Refused
-    (λ ls w. let g = values_of d K ls (Do (locate_values p f) ∷ []) w in record { part = ConstantsOf p f g.part; rest = g.rest; ok = g.ok; is = ap (λ (y : List Leaf). leaf_at (form_sign f) p ∷ leaf (Sign mark.LeftParenthesis) ∷ y) g.is; goes = g.goes })
+    (λ ls w. let g = values_of d K ls (Leave ∷ Do (locate_values p f) ∷ []) w in record { part = ConstantsOf p f g.part; rest = g.rest; ok = g.ok; is = ap (λ (y : List Leaf). leaf_at (form_sign f) p ∷ leaf (Sign mark.LeftParenthesis) ∷ y) g.is; goes = g.goes })
     (λ h. tt)
 
 pub value_says : (d : ℕ) (K : List Leaf → Type 0) (t : Terminal) → Says (Means ValueG d K) d K t (value_rule t)

@@ -97,7 +97,7 @@ module _ {A : Type 0} (put : Leaf → ℕ → A → A) where
 
     pub location : ℕ → LocationT → A → A
     location d (LocationOf p f x) r = put (leaf_at (form_sign f) p) 0 (reference 0 d x r)
-    location d (ConstantsOf p f vs) r = put (leaf_at (form_sign f) p) 0 (sign mark.LeftParenthesis (value_list d vs (sign mark.RightParenthesis r)))
+    location d (ConstantsOf p f vs) r = put (leaf_at (form_sign f) p) 0 (put (leaf (Sign mark.LeftParenthesis)) (suc d) (value_list (suc d) vs (sign mark.RightParenthesis r)))
 
     pub value : ℕ → ValueT → A → A
     value d (NumeralV n) r = tok (Numeral n) r

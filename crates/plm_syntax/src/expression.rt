@@ -371,7 +371,7 @@ fn selector<'t, 'a>(
     Ok((Selector::Element(name, subscript), rest))
 }
 
-/// A location after its `@` or `.`.
+/// A location after its `@` or `.`: the parenthesis of a list opens a level.
 #[cycle(expression)]
 pub(crate) fn location<'t, 'a>(
     alloc: Global,
@@ -384,7 +384,7 @@ pub(crate) fn location<'t, 'a>(
     ensures within { Within result cursor.entry }
 {
     if let Some((_, inner)) = cursor.mark(Mark::LeftParenthesis) {
-        let (constants, rest) = values(alloc, room, inner)?;
+        let (constants, rest) = values(alloc, inner.level_down(room)?, inner)?;
         return Ok((Location::Constants(place, form, constants), rest));
     }
     let (name, behind) = cursor.expect_name()?;

@@ -178,7 +178,7 @@ a_value_list s = push (ValuesR no_values) ∷ Want ValueG ∷ Do add_value ∷ W
 
 abbrev pub located : Position → LocationForm → Terminal → Rule
 located p f (Name n) = Take false (reference_begun n (Do (locate p f) ∷ []))
-located p f t = cond (is_sign mark.LeftParenthesis t) (Take false (a_value_list (Do (locate_values p f) ∷ []))) Refused
+located p f t = cond (is_sign mark.LeftParenthesis t) (Take true (a_value_list (Leave ∷ Do (locate_values p f) ∷ []))) Refused
 
 abbrev pub value_rule : Terminal → Rule
 value_rule (Numeral n) = Take false (push (ValueR (NumeralV n)) ∷ [])

@@ -48,10 +48,23 @@ behind_reference-returns-clause-leads t c = λ s v d. reference_goes c.args.plac
     ∙ boxes read_expression (Do (make_parenthesised c.args.place) ∷ s) v c.closing.result (Ok (c.in_ok-inside.inside, c.in_ok-inside.rest)) (run 64 (all_precedences (closing c.args.place ++ s)) (read_expression (expression.Reference c.args.first) v) (ahead c.args.cursor)) c.in_ok-inside.ensures (closes read_expression mark.RightParenthesis (Do (make_parenthesised c.args.place) ∷ s) v c.climb-begun.result c.closing.result (run 64 (all_precedences (closing c.args.place ++ s)) (read_expression (expression.Reference c.args.first) v) (ahead c.args.cursor)) c.closing.ensures (c.climb-begun.ensures.leads (closing c.args.place ++ s) v d))
     ∙ quiet c.in_ok-inside.rest (Do (make_parenthesised c.args.place) ∷ s) s (read_boxed c.in_ok-inside.inside v) (ExpressionR (ParenthesisedE c.args.place (expression_of c.in_ok-inside.inside.value)) ∷ v) (λ t q. refl)
 
+pub location-returns-in_err-level_down-clause-leads : goal.location-returns-in_err-level_down-clause-leads
+location-returns-in_err-level_down-clause-leads t c = λ s v d. failed read_location s v c.from_residual.result c.in_err-level_down.field-0.0 c.from_residual.ensures.1
+    (taken (Want (LocatedG c.args.place c.args.form) ∷ s) v c.in-Some.ensures
+    ∙ too_deep (depth s) c.args.room c.in-Some.inner (run 64 (a_value_list (Leave ∷ Do (locate_values c.args.place c.args.form) ∷ s)) v (ahead c.in-Some.inner)) d c.in_err-level_down.ensures.0)
+    (depth_failure c.in_err-level_down.field-0.0 c.in-Some.inner c.in_err-level_down.ensures.1 refl)
+
+pub location-returns-in_err-constants-clause-leads : goal.location-returns-in_err-constants-clause-leads
+location-returns-in_err-constants-clause-leads t c = λ s v d. failed read_location s v c.from_residual-in_err-constants.result c.in_err-constants.field-0.0 c.from_residual-in_err-constants.ensures.1
+    (taken (Want (LocatedG c.args.place c.args.form) ∷ s) v c.in-Some.ensures
+    ∙ entered (depth s) c.args.room c.in_ok-level_down.field-0 (length (ahead c.in-Some.inner)) (run 64 (a_value_list (Leave ∷ Do (locate_values c.args.place c.args.form) ∷ s)) v (ahead c.in-Some.inner)) d c.in_ok-level_down.ensures)
+    (c.in_err-constants.ensures.leads (Leave ∷ Do (locate_values c.args.place c.args.form) ∷ s) v (deeper (depth s) c.args.room c.in_ok-level_down.field-0 d c.in_ok-level_down.ensures))
+
 pub location-returns-in-Some-clause-leads : goal.location-returns-in-Some-clause-leads
 location-returns-in-Some-clause-leads t c = λ s v d. taken (Want (LocatedG c.args.place c.args.form) ∷ s) v c.in-Some.ensures
-    ∙ c.in_ok-constants.ensures.leads (Do (locate_values c.args.place c.args.form) ∷ s) v d
-    ∙ quiet c.in_ok-constants.rest (Do (locate_values c.args.place c.args.form) ∷ s) s (read_values c.in_ok-constants.constants.items v) (ExpressionR (LocationE (ConstantsOf c.args.place c.args.form (values_of c.in_ok-constants.constants.items))) ∷ v) (λ t q. refl)
+    ∙ entered (depth s) c.args.room c.in_ok-level_down.field-0 (length (ahead c.in-Some.inner)) (run 64 (a_value_list (Leave ∷ Do (locate_values c.args.place c.args.form) ∷ s)) v (ahead c.in-Some.inner)) d c.in_ok-level_down.ensures
+    ∙ c.in_ok-constants.ensures.leads (Leave ∷ Do (locate_values c.args.place c.args.form) ∷ s) v (deeper (depth s) c.args.room c.in_ok-level_down.field-0 d c.in_ok-level_down.ensures)
+    ∙ quiet c.in_ok-constants.rest (Leave ∷ Do (locate_values c.args.place c.args.form) ∷ s) s (read_values c.in_ok-constants.constants.items v) (ExpressionR (LocationE (ConstantsOf c.args.place c.args.form (values_of c.in_ok-constants.constants.items))) ∷ v) (λ t q. refl)
     ∙ seen s v c.in_ok-constants.rest (ap LocationE (constants_laid c.args.place c.args.form c.in_ok-constants.constants))
 
 pub location-returns-in_err-name-clause-leads : goal.location-returns-in_err-name-clause-leads
