@@ -337,6 +337,52 @@ fn levels(rt: HostRuntime) -> Result<(), Fault> {
     Ok(())
 }
 
+/// Lists of values in one another: each opens a level at its parenthesis, wherever the outermost stands. The parenthesis of the list of this number is on
+/// the line after it. LENGTH's own parenthesis is a level beside the module's.
+#[test]
+fn levels_of_lists(rt: HostRuntime) -> Result<(), Fault> {
+    let alloc = rt.alloc();
+    let places: [(&[u8], &[u8], usize, u32); 5] = [
+        (b"M: DO; A = ", b"; END;", 63, 65),
+        (b"M: DO; DECLARE A POINTER INITIAL (", b"); END;", 63, 65),
+        (b"M: DO; DECLARE A POINTER DATA (", b"); END;", 63, 65),
+        (b"M: DO; DECLARE A BYTE AT (", b"); END;", 63, 65),
+        (b"M: DO; A = LENGTH(", b"); END;", 62, 64),
+    ];
+    for (before, after, most, line) in places {
+        for lists in 62..65 {
+            let text = repeated(alloc, before, b"@\n(", lists, b"1", b")", after)?;
+            let wanted = if lists <= most {
+                Fine
+            } else {
+                Refused(Number::E203, line)
+            };
+            assert_eq!(&rt; parsed(alloc, &text), wanted, "in {before:?}, {lists}");
+        }
+    }
+    Ok(())
+}
+
+/// Lists beside other levels: 61 of another kind leave room for one list in one list, and what is closed leaves its room to what comes after it.
+#[test]
+fn levels_beside_lists(rt: HostRuntime) -> Result<(), Fault> {
+    let alloc = rt.alloc();
+    const ROWS: &[(&[u8], Outcome)] = &[
+        (b"@(1, .('X'), @(-2), .B(3)) + @(@(4), 5)", Fine),
+        (b"@(1,\n.B(C, .(4)))", Refused(Number::E203, 2)),
+        (b"@(1,\n.(-2,\n@(3)))", Refused(Number::E203, 3)),
+        (
+            b"@(1, .(2),\n.B(3)) + @(.(4), .(\n.(5)))",
+            Refused(Number::E203, 3),
+        ),
+    ];
+    for (innermost, wanted) in ROWS {
+        let text = repeated(alloc, b"M: DO; A = ", b"(", 61, innermost, b")", b"; END;")?;
+        assert_eq!(&rt; parsed(alloc, &text), *wanted, "in {innermost:?}");
+    }
+    Ok(())
+}
+
 /// Groups, arms and an expression, 64 levels in all, and one sign more.
 #[test]
 fn levels_of_all_kinds(rt: HostRuntime) -> Result<(), Fault> {
