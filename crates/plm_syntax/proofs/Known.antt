@@ -1,53 +1,37 @@
 -- What is remembered of the literals of the open blocks.
-use Rattle.std.proofs.Common.{◌≡◌, ◌∙◌, ◌≢◌, ℕ, zero, suc, ◌+◌, ◌-◌, ◌<◌, ◌≤◌, max, List, [], ◌∷◌, ◌++◌, Bool, true, false, not, cond, ◌&&◌, Option, Some, None, IfSome, length, map, set, fold, take, drop, option_map, find, get_or, ap, refl, sym, subst, arith}
-use Rattle.std.specs.Prelude.{nat_lt, position}
+use Rattle.std.proofs.Common.{◌≡◌, ◌∙◌, ◌≢◌, ℕ, zero, suc, ◌+◌, ◌-◌, ◌<◌, ◌≤◌, max, min, List, [], ◌∷◌, ◌++◌, Bool, true, false, cond, ◌&&◌, Option, Some, None, IfSome, length, map, set, fold, take, drop, option_map, get_or, ap, refl, sym, subst, arith}
+use Rattle.std.specs.Prelude.{nat_lt}
+use Rattle.std.specs.Bool.{then_some}
 use Rattle.std.specs.Bool.{if◌then◌else◌}
-use Rattle.std.specs.List.{All, slice_get, slice_range, position_or_len}
-use Rattle.std.proofs.Math.Nat.{le-max_left, le-max_right, min-le_left}
+use Rattle.std.specs.List.{All, slice_get, slice_range}
+use Rattle.std.proofs.Math.Nat.{le-max_left, le-max_right, max-le, min-le_left, min-le_right}
 use Rattle.std.proofs.Math.Seq.{drop-cons}
-use Rattle.std.proofs.lemmas.Bool.{ltb-false}
-use Rattle.std.proofs.lemmas.Option.{slice_get_past, slice_get-map, slice_get_read, slice_get_within, IfSome_then}
+use Rattle.std.proofs.lemmas.Bool.{ltb-true}
+use Rattle.std.proofs.lemmas.Option.{slice_get-map, slice_get_read, slice_get_within, IfSome_then}
 use Rattle.std.proofs.lemmas.List.{map-append, length-map, length-take, drop-map, drop_all, append-nil, append_assoc, append_cancel_right, take-append-drop, take-append-le, take-map, take_all}
 use Rattle.std.proofs.lemmas.List.Elements.{All-set, All-take, All-push}
 use Rattle.std.proofs.lemmas.List.Sums.{fold-append}
-use Rattle.std.proofs.lemmas.List.Folds.{find_at, list_all-append, drop_split}
+use Rattle.std.proofs.lemmas.List.Folds.{list_all-append, drop_split}
 use Rattle.word86.specs.declared.number.Number.{Number}
 use Rattle.word86.specs.declared.number.Number.TheVariants.{E202}
-use Rattle.plm_token.specs.Names.{names_equal}
 use Rattle.plm_token.specs.Scanner.{Lexeme}
 use Rattle.plm_token.specs.Literals.{Symbol, on_line}
-use Rattle.plm_token.specs.declared.token.Token.{Token}
+use Rattle.plm_syntax.specs.declared.named_token.NamedToken.{NamedToken}
+use Rattle.plm_syntax.specs.declared.literals.Gap.{Gap}
 use Rattle.plm_syntax.specs.declared.open_blocks.Literal.{Literal}
 use Rattle.plm_syntax.specs.declared.open_blocks.Quiet.{Quiet}
 use Rattle.plm_syntax.specs.declared.open_blocks.QuietRun.{QuietRun}
 use Rattle.plm_syntax.specs.declared.open_blocks.KnownRun.{KnownRun}
 use Rattle.plm_syntax.specs.Literals.{LiteralText, Blocks, Out, opens, is_keyword, is_semicolon, opened, closed, ends_block, or_else, by_literal, literal_for, put, stop_at, symbol_out, text_out}
-use Rattle.plm_syntax.specs.Inner.OpenBlocks.{symbol, literal_text, literal_at, text_of, text_at, is_quiet, is_quiet_text, is_quiet_in, is_quiet_between, is_quiet_run, IsQuietBy, both_quiet, named_quiet, quiet_with, joined, newest_of, IsKnown}
+use Rattle.plm_syntax.specs.Inner.OpenBlocks.{named_symbol, IsSameName, literal_text, text_of, text_at, is_quiet, is_quiet_text, IsQuietBy, both_quiet, named_quiet, quiet_with, joined, IsQuietOn, IsQuietRun, newest_of, IsKnown}
+use Rattle.plm_syntax.specs.Inner.Literals.{IsGap, gap_behind}
 use Rattle.plm_syntax.proofs.Replaced.{some_at}
-use Rattle.plm_syntax.proofs.Quiet.{and_both, take_fewer, text_with_more, nothing_comes, one_beside, named_by}
+use Rattle.plm_syntax.proofs.Quiet.{and_first, and_second, and_both, take_fewer, text_with_more, text_beside, quiet_same, nothing_comes, one_beside, named_by}
 
 -- ---- a literal by its number
 
-pub text_is : (literals : List Literal) (i : ℕ) (l : Literal) → i < length literals → l ≡ get_or literals i l → text_at (map literal_text literals) i ≡ map symbol l.text.now
+pub text_is : (literals : List Literal) (i : ℕ) (l : Literal) → i < length literals → l ≡ get_or literals i l → text_at (map literal_text literals) i ≡ map named_symbol l.text.now.tokens.items
 text_is literals i l lt e = ap text_of (slice_get-map literal_text literals i ∙ ap (option_map literal_text) (slice_get_read literals (length literals) i l refl lt e))
-
-position_mapped : (name : List ℕ) (literals : List Literal) → position_or_len (λ l. names_equal l.name name) (map literal_text literals) ≡ position_or_len (λ l. names_equal l.name.now name) literals
-position_mapped name [] = refl
-position_mapped name (l ∷ ls) = ap (λ (n : ℕ). cond (not (names_equal l.name.now name)) (1 + n) 0) (position_mapped name ls)
-
-pub place_named : (name : List ℕ) (literals : List Literal) → literal_at (map literal_text literals) (position (λ l. names_equal l.name.now name) literals) ≡ find (λ l. names_equal l.name name) (map literal_text literals)
-place_named name literals = by_place (position_or_len (λ l. names_equal l.name.now name) literals) (position_mapped name literals)
-  where
-    by_place : (n : ℕ) → position_or_len (λ l. names_equal l.name name) (map literal_text literals) ≡ n
-        → literal_at (map literal_text literals) (cond (nat_lt n (length literals)) (Some n) None) ≡ find (λ l. names_equal l.name name) (map literal_text literals)
-    by_place n e = by_test (nat_lt n (length literals)) refl
-      where
-        found : find (λ l. names_equal l.name name) (map literal_text literals) ≡ slice_get (map literal_text literals) n
-        found = find_at (λ l. names_equal l.name name) (map literal_text literals) ∙ ap (slice_get (map literal_text literals)) e
-
-        by_test : (b : Bool) → nat_lt n (length literals) ≡ b → literal_at (map literal_text literals) (cond b (Some n) None) ≡ find (λ l. names_equal l.name name) (map literal_text literals)
-        by_test true t = sym found
-        by_test false t = sym (found ∙ slice_get_past (map literal_text literals) n (omega (arith, ltb-false n (length literals) t, length-map literals literal_text)))
 
 -- ---- runs
 
@@ -82,68 +66,159 @@ some_number x y e = cc e
 first_index : {A : Type 0} (xs : List A) (n i : ℕ) (x : A) → slice_get (take n xs) i ≡ Some x → i < n
 first_index xs n i x e = omega (arith, slice_get_within (take n xs) i x e, length-take n xs, min-le_left n (length xs))
 
--- what is known of a run is that nothing comes of its tokens
-pub run_needs : (depth : ℕ) (literals : List LiteralText) (r : QuietRun) (i at : ℕ) (text : List Symbol) → r.quiet.depth ≤ depth → r.literal ≡ i → r.from ≡ at
-    → ((l : LiteralText) → slice_get literals i ≡ Some l → l.text ≡ text) → is_quiet_run literals r ≡ true → IsQuietBy depth r.quiet literals (slice_range text at r.to)
-run_needs depth literals r i at text within here start same h = by_found (slice_get first i) refl placed
-  where
-    first : List LiteralText
-    first = take r.quiet.rests_on literals
+-- the first so many literals are the first of more
+first_more : (n m : ℕ) (xs more : List LiteralText) → n ≤ m → take m xs ++ more ≡ take n xs ++ (drop n (take m xs) ++ more)
+first_more n m xs more le =
+    ap (λ (ys : List LiteralText). ys ++ more) (sym (take-append-drop n (take m xs)) ∙ ap (λ (ys : List LiteralText). ys ++ drop n (take m xs)) (take_fewer n m xs le))
+    ∙ append_assoc (take n xs) (drop n (take m xs)) more
 
-    placed : is_quiet_between r.quiet.depth first i at r.to ≡ true
-    placed = ap (λ (j : ℕ). is_quiet_between r.quiet.depth first j at r.to) (sym here) ∙ ap (λ (a : ℕ). is_quiet_between r.quiet.depth first r.literal a r.to) (sym start) ∙ h
+more_there : (n m i : ℕ) (xs : List LiteralText) → n ≤ m → i < length (take n xs) → i < length (take m xs)
+more_there n m i xs le lt = omega (arith, lt, ap length (take_fewer n m xs le), length-take n (take m xs), min-le_right n (length (take m xs)))
 
-    by_found : (found : Option LiteralText) → slice_get first i ≡ found → is_quiet_in r.quiet.depth first at r.to found ≡ true → IsQuietBy depth r.quiet literals (slice_range text at r.to)
-    by_found None e k = absurd (cc k)
-    by_found (Some l) e k = record {
-      within = within;
-      quiet = ap (λ (ss : List Symbol). is_quiet_text r.quiet.depth first (slice_range ss at r.to)) (sym (same l (first_there literals r.quiet.rests_on i l e))) ∙ k;
+text_there : (n m i : ℕ) (xs : List LiteralText) → n ≤ m → i < length (take n xs) → text_at (take m xs) i ≡ text_at (take n xs) i
+text_there n m i xs le lt =
+    let found = some_at (take n xs) i lt in
+    let inside : i < m = omega (arith, le, first_index xs n i found.0 found.1) in
+    ap text_of (first_within xs i m found.0 inside (first_there xs n i found.0 found.1) ∙ sym found.1)
+
+-- ---- ranges of a text
+
+range_quiet : (d : ℕ) (ls : List LiteralText) (text : List Symbol) (f g t : ℕ) → f ≤ g → g ≤ t
+    → is_quiet_text d ls (slice_range text f t) ≡ (is_quiet_text d ls (slice_range text f g) && is_quiet_text d ls (slice_range text g t))
+range_quiet d ls text f g t le le' = ap (is_quiet_text d ls) (range_joined text f g t le le') ∙ list_all-append (is_quiet d ls) (slice_range text f g) (slice_range text g t)
+
+pub quiet_begin : (d : ℕ) (ls : List LiteralText) (text : List Symbol) (f g t : ℕ) → f ≤ g → g ≤ t → is_quiet_text d ls (slice_range text f t) ≡ true → is_quiet_text d ls (slice_range text f g) ≡ true
+quiet_begin d ls text f g t le le' h = and_first (is_quiet_text d ls (slice_range text f g)) (is_quiet_text d ls (slice_range text g t)) (sym (range_quiet d ls text f g t le le') ∙ h)
+
+pub quiet_end : (d : ℕ) (ls : List LiteralText) (text : List Symbol) (f g t : ℕ) → f ≤ g → g ≤ t → is_quiet_text d ls (slice_range text f t) ≡ true → is_quiet_text d ls (slice_range text g t) ≡ true
+quiet_end d ls text f g t le le' h = and_second (is_quiet_text d ls (slice_range text f g)) (is_quiet_text d ls (slice_range text g t)) (sym (range_quiet d ls text f g t le le') ∙ h)
+
+pub quiet_both : (d : ℕ) (ls : List LiteralText) (text : List Symbol) (f g t : ℕ) → f ≤ g → g ≤ t → is_quiet_text d ls (slice_range text f g) ≡ true → is_quiet_text d ls (slice_range text g t) ≡ true
+    → is_quiet_text d ls (slice_range text f t) ≡ true
+quiet_both d ls text f g t le le' h k = range_quiet d ls text f g t le le' ∙ and_both (is_quiet_text d ls (slice_range text f g)) (is_quiet_text d ls (slice_range text g t)) h k
+
+-- what goes on from a token on goes on from an earlier one
+on_from : (d : ℕ) (ls : List LiteralText) (text : List Symbol) (s since from to : ℕ) → s ≤ since → since ≤ from → from ≤ to → IsQuietOn d ls text since from to → IsQuietOn d ls text s from to
+on_from d ls text s since from to le order some on start =
+    quiet_both d ls text s since to le (omega (arith, order, some)) (quiet_begin d ls text s since from le order start) (on (quiet_end d ls text s since from le order start))
+
+-- ---- a literal and its tokens, as the code has them
+
+pub literal_there : (literals : List Literal) (i : ℕ) (l : Literal) → slice_get literals i ≡ Some l → slice_get (map literal_text literals) i ≡ Some (literal_text l)
+literal_there literals i l e = slice_get-map literal_text literals i ∙ ap (option_map literal_text) e
+
+pub token_there : (xs ys : List NamedToken) (p : ℕ) (t : NamedToken) → xs ≡ ys → true ≡ nat_lt p (length xs) → t ≡ get_or xs p t → slice_get (map named_symbol ys) p ≡ Some (named_symbol t)
+token_there xs ys p t same lt e =
+    let inside : p < length xs = ltb-true p (length xs) (sym lt) in
+    slice_get-map named_symbol ys p ∙ ap (option_map named_symbol) (ap (λ (zs : List NamedToken). slice_get zs p) (sym same) ∙ slice_get_read xs (length xs) p t refl inside e)
+
+-- ---- runs of quiet tokens
+
+-- a run says the same of more literals
+run_among : (literals more : List LiteralText) (r : QuietRun) (n depth : ℕ) → r.quiet.rests_on ≤ n → r.quiet.depth ≤ depth → IsQuietRun literals r
+    → IsQuietOn depth (take n literals ++ more) (text_at (take n literals) r.literal) r.since r.from r.to
+run_among literals more r n depth le deeper h =
+    subst (λ (ls : List LiteralText). IsQuietOn depth ls (text_at (take n literals) r.literal) r.since r.from r.to) (sym (first_more r.quiet.rests_on n literals more le))
+    (subst (λ (text : List Symbol). IsQuietOn depth (take r.quiet.rests_on literals ++ (drop r.quiet.rests_on (take n literals) ++ more)) text r.since r.from r.to)
+    (sym (text_there r.quiet.rests_on n r.literal literals le h.there))
+    (h.quiet depth (drop r.quiet.rests_on (take n literals) ++ more) deeper))
+
+run_same : (xs ys : List LiteralText) (r : QuietRun) → take r.quiet.rests_on xs ≡ take r.quiet.rests_on ys → IsQuietRun ys r → IsQuietRun xs r
+run_same xs ys r e h = record {
+  there = subst (λ (ls : List LiteralText). r.literal < length ls) (sym e) h.there;
+  order = h.order;
+  quiet = λ depth more deeper. subst (λ (ls : List LiteralText). IsQuietOn depth (ls ++ more) (text_at ls r.literal) r.since r.from r.to) (sym e) (h.quiet depth more deeper);
+}
+
+-- behind a gap, a run that is known makes the gap longer
+pub gap_longer : (depth : ℕ) (literals : List LiteralText) (r : QuietRun) (i since at : ℕ) (text : List Symbol) (gap : Quiet) → r.quiet.depth ≤ depth → r.literal ≡ i → r.from ≡ at → r.from < r.to → since ≤ r.since
+    → ((l : LiteralText) → slice_get literals i ≡ Some l → l.text ≡ text) → IsQuietRun literals r → IsQuietBy depth gap literals (slice_range text since at)
+    → IsQuietBy depth (both_quiet gap r.quiet) literals (slice_range text since r.to)
+gap_longer depth literals r i since at text gap within here start some behind same h k =
+    let d : ℕ = max gap.depth r.quiet.depth in
+    let n : ℕ = max gap.rests_on r.quiet.rests_on in
+    let found = some_at (take r.quiet.rests_on literals) r.literal h.there in
+    let own : text_at (take n literals) r.literal ≡ text
+    = text_there r.quiet.rests_on n r.literal literals (le-max_right gap.rests_on r.quiet.rests_on) h.there
+    ∙ ap text_of found.1
+    ∙ same found.0 (ap (slice_get literals) (sym here) ∙ first_there literals r.quiet.rests_on r.literal found.0 found.1) in
+    let before : is_quiet_text d (take n literals) (slice_range text since r.from) ≡ true
+    = ap (λ (a : ℕ). is_quiet_text d (take n literals) (slice_range text since a)) start
+    ∙ text_with_more gap.depth d gap.rests_on n literals (slice_range text since at) (le-max_left gap.depth r.quiet.depth) (le-max_left gap.rests_on r.quiet.rests_on) k.quiet in
+    let on : IsQuietOn d (take n literals) text r.since r.from r.to
+    = subst (λ (ls : List LiteralText). IsQuietOn d ls text r.since r.from r.to) (append-nil (take n literals))
+    (subst (λ (ss : List Symbol). IsQuietOn d (take n literals ++ []) ss r.since r.from r.to) own
+    (run_among literals [] r n d (le-max_right gap.rests_on r.quiet.rests_on) (le-max_right gap.depth r.quiet.depth) h)) in
+    record {
+      within = max-le k.within within;
+      quiet = on_from d (take n literals) text since r.since r.from r.to behind h.order (omega (arith, some)) on before;
     }
 
 -- a run of tokens of which nothing was seen to come
 pub run_seen : (literals : List LiteralText) (i from to : ℕ) (q : Quiet) → i < length literals
     → ((l : LiteralText) → slice_get literals i ≡ Some l → is_quiet_text q.depth (take q.rests_on literals) (slice_range l.text from to) ≡ true)
-    → is_quiet_run literals (record { literal = i; from = from; to = to; quiet = quiet_with i q }) ≡ true
+    → IsQuietRun literals (record { literal = i; since = from; from = from; to = to; quiet = quiet_with i q })
 run_seen literals i from to q lt h =
     let n : ℕ = max q.rests_on (i + 1) in
     let after : i + 1 ≤ n = le-max_right q.rests_on (i + 1) in
-    let there = some_at literals i lt in
-    ap (is_quiet_in q.depth (take n literals) from to) (first_within literals i n there.0 (omega (arith, after)) there.1)
-    ∙ text_with_more q.depth q.depth q.rests_on n literals (slice_range there.0.text from to) (omega arith) (le-max_left q.rests_on (i + 1)) (h there.0 there.1)
+    let found = some_at literals i lt in
+    let there : slice_get (take n literals) i ≡ Some found.0 = first_within literals i n found.0 (omega (arith, after)) found.1 in
+    let seen : is_quiet_text q.depth (take n literals) (slice_range found.0.text from to) ≡ true
+    = text_with_more q.depth q.depth q.rests_on n literals (slice_range found.0.text from to) (omega arith) (le-max_left q.rests_on (i + 1)) (h found.0 found.1) in
+    record {
+      there = slice_get_within (take n literals) i found.0 there;
+      order = omega arith;
+      quiet = λ depth more deeper start. ap (λ (x : Option LiteralText). is_quiet_text depth (take n literals ++ more) (slice_range (text_of x) from to)) there
+          ∙ text_beside q.depth depth (take n literals) more (slice_range found.0.text from to) deeper seen;
+    }
 
-between_joined : (d e n m : ℕ) (literals : List LiteralText) (i f g t : ℕ) → f ≤ g → g ≤ t → is_quiet_between d (take n literals) i f g ≡ true → is_quiet_between e (take m literals) i g t ≡ true
-    → is_quiet_between (max d e) (take (max n m) literals) i f t ≡ true
-between_joined d e n m literals i f g t le le' h k = by_found (slice_get (take n literals) i) refl h (slice_get (take m literals) i) refl k
+one_of : {A : Type 0} (xs : List A) (at : ℕ) (x : A) → slice_get xs at ≡ Some x → slice_range xs at (at + 1) ≡ x ∷ []
+one_of [] at x e = absurd (cc e)
+one_of {A = A} (y ∷ ys) zero x e = ap (λ (z : A). z ∷ []) (some_same y x e)
+one_of {A = A} (y ∷ ys) (suc at) x e =
+    let one : suc at + 1 - suc at ≡ at + 1 - at = omega arith in
+    ap (λ (n : ℕ). take n (drop at ys)) one ∙ one_of ys at x e
+
+-- a run of one token, whose name stands before it
+pub run_again : (literals : List LiteralText) (i earlier at : ℕ) (l : LiteralText) (a b : Symbol) → slice_get literals i ≡ Some l → earlier < at → slice_get l.text earlier ≡ Some a → slice_get l.text at ≡ Some b → IsSameName a b
+    → IsQuietRun literals (record { literal = i; since = earlier; from = at; to = at + 1; quiet = quiet_with i (record { depth = 0; rests_on = 0 }) })
+run_again literals i earlier at l a b found before first second same =
+    let n : ℕ = max 0 (i + 1) in
+    let after : i + 1 ≤ n = le-max_right 0 (i + 1) in
+    let there : slice_get (take n literals) i ≡ Some l = first_within literals i n l (omega (arith, after)) found in
+    record {
+      there = slice_get_within (take n literals) i l there;
+      order = omega (arith, before);
+      quiet = λ depth more deeper. subst (λ (x : Option LiteralText). IsQuietOn depth (take n literals ++ more) (text_of x) earlier at (at + 1)) (sym there) (on depth (take n literals ++ more));
+    }
   where
-    all : List LiteralText
-    all = take (max n m) literals
-
-    by_found : (x : Option LiteralText) → slice_get (take n literals) i ≡ x → is_quiet_in d (take n literals) f g x ≡ true
-        → (y : Option LiteralText) → slice_get (take m literals) i ≡ y → is_quiet_in e (take m literals) g t y ≡ true → is_quiet_between (max d e) all i f t ≡ true
-    by_found None p u y r v = absurd (cc u)
-    by_found (Some a) p u None r v = absurd (cc v)
-    by_found (Some a) p u (Some b) r v =
-        let there : slice_get literals i ≡ Some a = first_there literals n i a p in
-        let one : b ≡ a = some_same b a (sym (first_there literals m i b r) ∙ there) in
-        let within : i < max n m = omega (arith, first_index literals n i a p, le-max_left n m) in
-        let early : is_quiet_text (max d e) all (slice_range a.text f g) ≡ true
-        = text_with_more d (max d e) n (max n m) literals (slice_range a.text f g) (le-max_left d e) (le-max_left n m) u in
-        let late : is_quiet_text (max d e) all (slice_range a.text g t) ≡ true
-        = text_with_more e (max d e) m (max n m) literals (slice_range a.text g t) (le-max_right d e) (le-max_right n m)
-        (ap (λ (l : LiteralText). is_quiet_text e (take m literals) (slice_range l.text g t)) (sym one) ∙ v) in
-        ap (is_quiet_in (max d e) all f t) (first_within literals i (max n m) a within there)
-        ∙ ap (is_quiet_text (max d e) all) (range_joined a.text f g t le le')
-        ∙ list_all-append (is_quiet (max d e) all) (slice_range a.text f g) (slice_range a.text g t)
-        ∙ and_both (is_quiet_text (max d e) all (slice_range a.text f g)) (is_quiet_text (max d e) all (slice_range a.text g t)) early late
+    on : (depth : ℕ) (ls : List LiteralText) → IsQuietOn depth ls l.text earlier at (at + 1)
+    on depth ls start =
+        let one : is_quiet_text depth ls (slice_range l.text earlier (earlier + 1)) ≡ true = quiet_begin depth ls l.text earlier (earlier + 1) at (omega arith) (omega (arith, before)) start in
+        let this : is_quiet depth ls a ≡ true = and_first (is_quiet depth ls a) true (sym (ap (is_quiet_text depth ls) (one_of l.text earlier a first)) ∙ one) in
+        let that : is_quiet_text depth ls (slice_range l.text at (at + 1)) ≡ true
+        = ap (is_quiet_text depth ls) (one_of l.text at b second) ∙ and_both (is_quiet depth ls b) true (sym (quiet_same depth ls a b same) ∙ this) refl in
+        quiet_both depth ls l.text earlier at (at + 1) (omega (arith, before)) (omega arith) start that
 
 -- two runs, one behind the other
-pub runs_joined : (literals : List LiteralText) (a b : QuietRun) → a.literal ≡ b.literal → a.to ≡ b.from → a.from ≤ a.to → b.from ≤ b.to → is_quiet_run literals a ≡ true → is_quiet_run literals b ≡ true
-    → is_quiet_run literals (record { literal = b.literal; from = a.from; to = b.to; quiet = both_quiet a.quiet b.quiet }) ≡ true
+pub runs_joined : (literals : List LiteralText) (a b : QuietRun) → a.literal ≡ b.literal → a.to ≡ b.from → a.from ≤ a.to → b.from ≤ b.to → IsQuietRun literals a → IsQuietRun literals b
+    → IsQuietRun literals (record { literal = b.literal; since = min a.since b.since; from = a.from; to = b.to; quiet = both_quiet a.quiet b.quiet })
 runs_joined literals a b one next le le' h k =
-    between_joined a.quiet.depth b.quiet.depth a.quiet.rests_on b.quiet.rests_on literals b.literal a.from b.from b.to (omega (arith, le, next)) le'
-    (ap (λ (t : ℕ). is_quiet_between a.quiet.depth (take a.quiet.rests_on literals) b.literal a.from t) (sym next)
-    ∙ ap (λ (i : ℕ). is_quiet_between a.quiet.depth (take a.quiet.rests_on literals) i a.from a.to) (sym one) ∙ h)
-    k
+    let n : ℕ = max a.quiet.rests_on b.quiet.rests_on in record {
+      there = more_there b.quiet.rests_on n b.literal literals (le-max_right a.quiet.rests_on b.quiet.rests_on) k.there;
+      order = omega (arith, h.order, min-le_left a.since b.since);
+      quiet = λ depth more deeper start.
+          let ls : List LiteralText = take n literals ++ more in
+          let text : List Symbol = text_at (take n literals) b.literal in
+          let s : ℕ = min a.since b.since in
+          let early : IsQuietOn depth ls text a.since a.from a.to
+          = subst (λ (i : ℕ). IsQuietOn depth ls (text_at (take n literals) i) a.since a.from a.to) one
+          (run_among literals more a n depth (le-max_left a.quiet.rests_on b.quiet.rests_on) (omega (arith, deeper, le-max_left a.quiet.depth b.quiet.depth)) h) in
+          let late : IsQuietOn depth ls text b.since b.from b.to
+          = run_among literals more b n depth (le-max_right a.quiet.rests_on b.quiet.rests_on) (omega (arith, deeper, le-max_right a.quiet.depth b.quiet.depth)) k in
+          let half : is_quiet_text depth ls (slice_range text s a.to) ≡ true = on_from depth ls text s a.since a.from a.to (min-le_left a.since b.since) h.order le early start in
+          on_from depth ls text s b.since b.from b.to (min-le_right a.since b.since) k.order le' late (ap (λ (t : ℕ). is_quiet_text depth ls (slice_range text s t)) (sym next) ∙ half);
+    }
 
 -- ---- literals go, and none comes
 
@@ -200,45 +275,55 @@ kept depth line text before after i l e h =
 
 -- ---- a text put out token by token
 
-pub the_literal : (literals : List Literal) (i : ℕ) (l : Literal) → i < length literals → l ≡ get_or literals i l → (t : LiteralText) → slice_get (map literal_text literals) i ≡ Some t → t.text ≡ map symbol l.text.now
+pub the_literal : (literals : List Literal) (i : ℕ) (l : Literal) → i < length literals → l ≡ get_or literals i l → (t : LiteralText) → slice_get (map literal_text literals) i ≡ Some t
+    → t.text ≡ map named_symbol l.text.now.tokens.items
 the_literal literals i l lt e t h =
     let found : slice_get (map literal_text literals) i ≡ Some (literal_text l) = slice_get-map literal_text literals i ∙ ap (option_map literal_text) (slice_get_read literals (length literals) i l refl lt e) in
     let same : Some t ≡ Some (literal_text l) = sym h ∙ found in
     ap text_of same
 
 -- one of the tokens
-pub one_token : (text : List Token) (at : ℕ) (d : Token) → at < length text → slice_range (map symbol text) at (at + 1) ≡ symbol (get_or text at d) ∷ []
-one_token text at d lt =
+pub one_token : (text : List NamedToken) (at : ℕ) (d : NamedToken) → at < length text → d ≡ get_or text at d → slice_range (map named_symbol text) at (at + 1) ≡ named_symbol d ∷ []
+one_token text at d lt is =
     let one : at + 1 - at ≡ 1 = omega arith in
-    ap (λ (n : ℕ). take n (drop at (map symbol text))) one
-    ∙ ap (λ (ss : List Symbol). take 1 ss) (drop-map symbol at text ∙ ap (map symbol) (drop-cons text at d lt))
+    ap (λ (n : ℕ). take n (drop at (map named_symbol text))) one
+    ∙ ap (λ (ss : List Symbol). take 1 ss) (drop-map named_symbol at text ∙ ap (map named_symbol) (drop-cons text at d lt))
+    ∙ ap (λ (t : NamedToken). named_symbol t ∷ []) (sym is)
 
 -- what comes of one token, as what comes of a text of one
-pub token_out : (depth line : ℕ) (text : List Token) (at : ℕ) (d : Token) (o next : Out) → at < length text → next ≡ symbol_out depth line (symbol (get_or text at d)) o
-    → next ≡ text_out depth line (slice_range (map symbol text) at (at + 1)) o
-token_out depth line text at d o next lt e = e ∙ ap (λ (ss : List Symbol). text_out depth line ss o) (sym (one_token text at d lt))
+pub token_out : (depth line : ℕ) (text : List NamedToken) (at : ℕ) (d : NamedToken) (o next : Out) → at < length text → d ≡ get_or text at d → next ≡ symbol_out depth line (named_symbol d) o
+    → next ≡ text_out depth line (slice_range (map named_symbol text) at (at + 1)) o
+token_out depth line text at d o next lt is e = e ∙ ap (λ (ss : List Symbol). text_out depth line ss o) (sym (one_token text at d lt is))
 
-pub token_needs : (depth : ℕ) (text : List Token) (at : ℕ) (d : Token) (literals : List LiteralText) (quiet : Option Quiet) → at < length text → IfSome quiet (λ q. IsQuietBy depth q literals (symbol (get_or text at d) ∷ []))
-    → IfSome quiet (λ q. IsQuietBy depth q literals (slice_range (map symbol text) at (at + 1)))
-token_needs depth text at d literals quiet lt h = IfSome_then quiet h (λ q k. subst (IsQuietBy depth q literals) (sym (one_token text at d lt)) k)
+-- what a gap needs that goes on over one token
+pub token_needs : (depth : ℕ) (text : List NamedToken) (at : ℕ) (d : NamedToken) (literals : List LiteralText) (gap : Gap) (quiet : Option Quiet) → at < length text → d ≡ get_or text at d → IsGap depth literals (map named_symbol text) at gap
+    → IfSome quiet (λ q. IsQuietBy depth q literals (named_symbol d ∷ []))
+    → IfSome (joined (Some gap.quiet) quiet) (λ q. IsQuietBy depth q literals (slice_range (map named_symbol text) gap.since (at + 1)))
+token_needs depth text at d literals gap None lt is behind h = h
+token_needs depth text at d literals gap (Some q) lt is behind h =
+    let more : at ≤ at + 1 = omega arith in
+    subst (IsQuietBy depth (both_quiet gap.quiet q) literals) (sym (range_joined (map named_symbol text) gap.since at (at + 1) behind.order more))
+    (one_beside depth gap.quiet q literals (slice_range (map named_symbol text) gap.since at) (slice_range (map named_symbol text) at (at + 1)) behind.quiet
+    (subst (IsQuietBy depth q literals) (sym (one_token text at d lt is)) h))
 
 -- what is learned of a token of which nothing came
-pub token_learned : (depth line : ℕ) (text : List Token) (i at : ℕ) (d : Token) (o next : Out) (quiet : Option Quiet) → at < length text → ((l : LiteralText) → slice_get o.blocks.literals i ≡ Some l → l.text ≡ map symbol text)
-    → next ≡ symbol_out depth line (symbol (get_or text at d)) o → IfSome quiet (λ q. IsQuietBy depth q o.blocks.literals (symbol (get_or text at d) ∷ []))
+pub token_learned : (depth line : ℕ) (text : List NamedToken) (i at : ℕ) (d : NamedToken) (o next : Out) (quiet : Option Quiet) → at < length text → d ≡ get_or text at d
+    → ((l : LiteralText) → slice_get o.blocks.literals i ≡ Some l → l.text ≡ map named_symbol text)
+    → next ≡ symbol_out depth line (named_symbol d) o → IfSome quiet (λ q. IsQuietBy depth q o.blocks.literals (named_symbol d ∷ []))
     → IfSome quiet (λ q. (l : LiteralText) → slice_get next.blocks.literals i ≡ Some l → is_quiet_text q.depth (take q.rests_on next.blocks.literals) (slice_range l.text at (at + 1)) ≡ true)
-token_learned depth line text i at d o next quiet lt same e h = IfSome_then quiet h (λ q k l found.
-    let still : next ≡ o = e ∙ nothing_comes depth line q (symbol (get_or text at d) ∷ []) o k in
+token_learned depth line text i at d o next quiet lt is same e h = IfSome_then quiet h (λ q k l found.
+    let still : next ≡ o = e ∙ nothing_comes depth line q (named_symbol d ∷ []) o k in
     let there : slice_get o.blocks.literals i ≡ Some l = ap (λ (p : Out). slice_get p.blocks.literals i) (sym still) ∙ found in
     ap (λ (p : Out). is_quiet_text q.depth (take q.rests_on p.blocks.literals) (slice_range l.text at (at + 1))) still
     ∙ ap (λ (ss : List Symbol). is_quiet_text q.depth (take q.rests_on o.blocks.literals) (slice_range ss at (at + 1))) (same l there)
-    ∙ ap (is_quiet_text q.depth (take q.rests_on o.blocks.literals)) (one_token text at d lt)
+    ∙ ap (is_quiet_text q.depth (take q.rests_on o.blocks.literals)) (one_token text at d lt is)
     ∙ k.quiet)
 
 pub learned_run : (literals : List LiteralText) (i from to : ℕ) (quiet : Option Quiet) (q r : Quiet) → quiet ≡ Some q → r ≡ quiet_with i q → i < length literals
     → IfSome quiet (λ q. (l : LiteralText) → slice_get literals i ≡ Some l → is_quiet_text q.depth (take q.rests_on literals) (slice_range l.text from to) ≡ true)
-    → is_quiet_run literals (record { literal = i; from = from; to = to; quiet = r }) ≡ true
+    → IsQuietRun literals (record { literal = i; since = from; from = from; to = to; quiet = r })
 learned_run literals i from to quiet q r is with lt h =
-    subst (λ (r : Quiet). is_quiet_run literals (record { literal = i; from = from; to = to; quiet = r }) ≡ true) (sym with)
+    subst (λ (r : Quiet). IsQuietRun literals (record { literal = i; since = from; from = from; to = to; quiet = r })) (sym with)
     (run_seen literals i from to q lt
     (subst (λ (x : Option Quiet). IfSome x (λ q. (l : LiteralText) → slice_get literals i ≡ Some l → is_quiet_text q.depth (take q.rests_on literals) (slice_range l.text from to) ≡ true)) is h))
 
@@ -250,31 +335,46 @@ needs_named depth literals i s (Some q) more at lt h =
     let there = some_at literals i lt in
     named_by depth q literals i s there.0 more there.1 (sym at ∙ there.1) (subst (λ (found : Option LiteralText). IsQuietBy (depth - 1) q literals (text_of found)) there.1 h)
 
--- What is still to be put out, the text as long as the literal is there, and what the tokens before rest on if nothing came of them.
-pub record Putting (depth line : ℕ) (text : List Symbol) (i at : ℕ) (quiet : Option Quiet) (first o : Out) : Type 0 where
+-- What is still to be put out, the text as long as the literal is there, the gap before, and that nothing came so far if the gap begins with the text.
+pub record Putting (depth line : ℕ) (text : List Symbol) (i at : ℕ) (gap : Gap) (first o : Out) : Type 0 where
   pub rest : text_out depth line text first ≡ text_out depth line (drop at text) o
   pub same : (t : LiteralText) → slice_get o.blocks.literals i ≡ Some t → t.text ≡ text
-  pub calm : IfSome quiet (λ q. (o ≡ first) × IsQuietBy depth q first.blocks.literals (slice_range text 0 at))
+  pub behind : IsGap depth o.blocks.literals text at gap
+  pub calm : gap.since ≡ 0 → o ≡ first
+
+-- a gap of no tokens
+gap_begins : (depth : ℕ) (literals : List LiteralText) (text : List Symbol) (at : ℕ) → IsGap depth literals text at (record { since = at; quiet = record { depth = 0; rests_on = 0 } })
+gap_begins depth literals text at =
+    let none : at - at ≡ 0 = omega arith in
+    record { order = omega arith; quiet = record { within = omega arith; quiet = ap (λ (n : ℕ). is_quiet_text 0 (take 0 literals) (take n (drop at text))) none } }
 
 pub put_first : (depth line : ℕ) (text : List Symbol) (i : ℕ) (first : Out) → ((t : LiteralText) → slice_get first.blocks.literals i ≡ Some t → t.text ≡ text)
-    → Putting depth line text i 0 (Some (record { depth = 0; rests_on = 0 })) first first
-put_first depth line text i first same = record { rest = refl; same = same; calm = (refl, record { within = omega arith; quiet = refl }) }
+    → Putting depth line text i 0 (record { since = 0; quiet = record { depth = 0; rests_on = 0 } }) first first
+put_first depth line text i first same = record { rest = refl; same = same; behind = gap_begins depth first.blocks.literals text 0; calm = λ none. refl }
 
-calm_joined : (depth line : ℕ) (text : List Symbol) (at to : ℕ) (first o next : Out) → at ≤ to → next ≡ text_out depth line (slice_range text at to) o → (before needs : Option Quiet)
-    → IfSome before (λ q. (o ≡ first) × IsQuietBy depth q first.blocks.literals (slice_range text 0 at)) → IfSome needs (λ q. IsQuietBy depth q o.blocks.literals (slice_range text at to))
-    → IfSome (joined before needs) (λ q. (next ≡ first) × IsQuietBy depth q first.blocks.literals (slice_range text 0 to))
-calm_joined depth line text at to first o next le e None needs h k = h
-calm_joined depth line text at to first o next le e (Some a) None h k = k
-calm_joined depth line text at to first o next le e (Some a) (Some b) h k =
-    let still : next ≡ o = e ∙ nothing_comes depth line b (slice_range text at to) o k in (
-      still ∙ h.0,
-      subst (IsQuietBy depth (both_quiet a b) first.blocks.literals) (sym (range_joined text 0 at to (omega arith) le))
-          (one_beside depth a b first.blocks.literals (slice_range text 0 at) (slice_range text at to) h.1 (subst (λ (q : Out). IsQuietBy depth b q.blocks.literals (slice_range text at to)) h.0 k)),
-    )
+-- nothing comes of the last tokens of a gap
+pub nothing_behind : (depth line : ℕ) (text : List Symbol) (since at to : ℕ) (q : Quiet) (o : Out) → since ≤ at → at ≤ to → IsQuietBy depth q o.blocks.literals (slice_range text since to)
+    → text_out depth line (slice_range text at to) o ≡ o
+nothing_behind depth line text since at to q o le le' h =
+    nothing_comes depth line q (slice_range text at to) o (record { within = h.within; quiet = quiet_end q.depth (take q.rests_on o.blocks.literals) text since at to le le' h.quiet })
 
-pub put_on : (depth line : ℕ) (text : List Symbol) (i at to : ℕ) (before needs : Option Quiet) (first o next : Out) → Putting depth line text i at before first o → at < to
-    → next ≡ text_out depth line (slice_range text at to) o → IfSome needs (λ q. IsQuietBy depth q o.blocks.literals (slice_range text at to)) → Putting depth line text i to (joined before needs) first next
-put_on depth line text i at to before needs first o next p lt e k =
+gap_on : (depth line : ℕ) (text : List Symbol) (at to : ℕ) (gap : Gap) (quiet : Option Quiet) (o next : Out) → at < to → IsGap depth o.blocks.literals text at gap → next ≡ text_out depth line (slice_range text at to) o
+    → IfSome quiet (λ q. IsQuietBy depth q o.blocks.literals (slice_range text gap.since to)) → IsGap depth next.blocks.literals text to (gap_behind gap to quiet)
+gap_on depth line text at to gap None o next lt behind e k = gap_begins depth next.blocks.literals text to
+gap_on depth line text at to gap (Some q) o next lt behind e k =
+    let still : next ≡ o = e ∙ nothing_behind depth line text gap.since at to q o behind.order (omega (arith, lt)) k in record {
+      order = omega (arith, behind.order, lt);
+      quiet = subst (λ (p : Out). IsQuietBy depth q p.blocks.literals (slice_range text gap.since to)) (sym still) k;
+    }
+
+calm_on : (depth line : ℕ) (text : List Symbol) (at to : ℕ) (gap : Gap) (quiet : Option Quiet) (first o next : Out) → at < to → gap.since ≤ at → next ≡ text_out depth line (slice_range text at to) o
+    → IfSome quiet (λ q. IsQuietBy depth q o.blocks.literals (slice_range text gap.since to)) → (gap.since ≡ 0 → o ≡ first) → (gap_behind gap to quiet).since ≡ 0 → next ≡ first
+calm_on depth line text at to gap None first o next lt order e k calm none = absurd (omega (arith, lt, none))
+calm_on depth line text at to gap (Some q) first o next lt order e k calm none = e ∙ nothing_behind depth line text gap.since at to q o order (omega (arith, lt)) k ∙ calm none
+
+pub put_on : (depth line : ℕ) (text : List Symbol) (i at to : ℕ) (gap : Gap) (quiet : Option Quiet) (first o next : Out) → Putting depth line text i at gap first o → at < to
+    → next ≡ text_out depth line (slice_range text at to) o → IfSome quiet (λ q. IsQuietBy depth q o.blocks.literals (slice_range text gap.since to)) → Putting depth line text i to (gap_behind gap to quiet) first next
+put_on depth line text i at to gap quiet first o next p lt e k =
     let le : at ≤ to = omega (arith, lt) in record {
       rest =
           p.rest
@@ -282,27 +382,33 @@ put_on depth line text i at to before needs first o next p lt e k =
           ∙ fold-append (λ q x. symbol_out depth line x q) o (slice_range text at to) (drop to text)
           ∙ ap (λ (q : Out). text_out depth line (drop to text) q) (sym e);
       same = λ t h. p.same t (kept depth line (slice_range text at to) o next i t e h);
-      calm = calm_joined depth line text at to first o next le e before needs p.calm k;
+      behind = gap_on depth line text at to gap quiet o next lt p.behind e k;
+      calm = calm_on depth line text at to gap quiet first o next lt p.behind.order e k p.calm;
     }
 
-pub put_over : (depth line : ℕ) (text : List Symbol) (i at : ℕ) (quiet : Option Quiet) (first o : Out) → Putting depth line text i at quiet first o → length text ≤ at → o ≡ text_out depth line text first
-put_over depth line text i at quiet first o p le = sym (p.rest ∙ ap (λ (ts : List Symbol). text_out depth line ts o) (drop_all at text le))
+pub put_over : (depth line : ℕ) (text : List Symbol) (i at : ℕ) (gap : Gap) (first o : Out) → Putting depth line text i at gap first o → length text ≤ at → o ≡ text_out depth line text first
+put_over depth line text i at gap first o p le = sym (p.rest ∙ ap (λ (ts : List Symbol). text_out depth line ts o) (drop_all at text le))
 
-pub quiet_over : (depth line : ℕ) (text : List Symbol) (i at : ℕ) (quiet : Option Quiet) (first o : Out) → Putting depth line text i at quiet first o → length text ≤ at
-    → IfSome quiet (λ q. IsQuietBy depth q first.blocks.literals text)
-quiet_over depth line text i at quiet first o p le =
+pub quiet_over : (depth line : ℕ) (text : List Symbol) (i at : ℕ) (gap : Gap) (first o : Out) (whole : Bool) → Putting depth line text i at gap first o → length text ≤ at → (whole ≡ true → gap.since ≡ 0)
+    → IfSome (then_some whole gap.quiet) (λ q. IsQuietBy depth q first.blocks.literals text)
+quiet_over depth line text i at gap first o false p le is = tt
+quiet_over depth line text i at gap first o true p le is =
+    let none : gap.since ≡ 0 = is refl in
     let all : at - 0 ≡ at = omega arith in
-    IfSome_then quiet p.calm (λ q h. subst (IsQuietBy depth q first.blocks.literals) (ap (λ (n : ℕ). take n text) all ∙ take_all at text le) h.1)
+    subst (λ (q : Out). IsQuietBy depth gap.quiet q.blocks.literals text) (p.calm none)
+    (subst (IsQuietBy depth gap.quiet o.blocks.literals)
+    (ap (λ (f : ℕ). slice_range text f at) none ∙ ap (λ (n : ℕ). take n text) all ∙ take_all at text le)
+    p.behind.quiet)
 
 -- ---- what stays known where literals are declared and go
 
 -- a run that is set in the place of another
-pub known_set : (literals : List Literal) (declared : ℕ) (runs : List KnownRun) (i : ℕ) (k : KnownRun) → All (IsKnown literals declared) runs → k.serial < declared → is_quiet_run (map literal_text literals) k.run ≡ true
+pub known_set : (literals : List Literal) (declared : ℕ) (runs : List KnownRun) (i : ℕ) (k : KnownRun) → All (IsKnown literals declared) runs → k.serial < declared → IsQuietRun (map literal_text literals) k.run
     → All (IsKnown literals declared) (set runs i k)
 known_set literals declared runs i k h lt quiet = All-set (IsKnown literals declared) runs i k (λ _. (lt, λ _. quiet)) h
 
 abbrev pub unknown : KnownRun
-unknown = record { run = record { literal = 0; from = 0; to = 0; quiet = record { depth = 0; rests_on = 0 } }; serial = 0 }
+unknown = record { run = record { literal = 0; since = 0; from = 0; to = 0; quiet = record { depth = 0; rests_on = 0 } }; serial = 0 }
 
 -- one more place, of which nothing is known
 pub known_more : (literals : List Literal) (declared : ℕ) (runs : List KnownRun) (k : KnownRun) → k.run.from ≡ k.run.to → All (λ k. IsKnown literals declared k) runs → All (λ k. IsKnown literals declared k) (runs ++ k ∷ [])
@@ -328,7 +434,7 @@ known_beside literals l declared more k new le h some =
       by_count k.run.quiet.rests_on refl,
     )
   where
-    by_count : (n : ℕ) → k.run.quiet.rests_on ≡ n → newest_of (literals ++ l ∷ []) n ≡ Some k.serial → is_quiet_run (map literal_text (literals ++ l ∷ [])) k.run ≡ true
+    by_count : (n : ℕ) → k.run.quiet.rests_on ≡ n → newest_of (literals ++ l ∷ []) n ≡ Some k.serial → IsQuietRun (map literal_text (literals ++ l ∷ [])) k.run
     by_count zero e there = absurd (cc there)
     by_count (suc n) e there =
         let found = newest_grown literals l n k.serial (omega (arith, (h some).0, new)) there in
@@ -338,7 +444,7 @@ known_beside literals l declared more k new le h some =
         ∙ ap (take (suc n)) (map-append literal_text literals (l ∷ []))
         ∙ take-append-le (suc n) (map literal_text literals) (literal_text l ∷ []) within
         ∙ ap (λ (c : ℕ). take c (map literal_text literals)) (sym e) in
-        ap (λ (ls : List LiteralText). is_quiet_between k.run.quiet.depth ls k.run.literal k.run.from k.run.to) firsts ∙ (h some).1 (ap (newest_of literals) e ∙ found.0)
+        run_same (map literal_text (literals ++ l ∷ [])) (map literal_text literals) k.run firsts ((h some).1 (ap (newest_of literals) e ∙ found.0))
 
 -- once a literal is declared
 pub known_declared : (literals : List Literal) (l : Literal) (declared more : ℕ) (runs : List KnownRun) → l.serial ≡ declared → declared ≤ more → All (IsKnown literals declared) runs → All (IsKnown (literals ++ l ∷ []) more) runs
@@ -352,19 +458,18 @@ known_declared_so true literals l runs h = known_declared literals l l.serial l.
 known_among : (literals : List Literal) (n declared : ℕ) (k : KnownRun) → IsKnown literals declared k → IsKnown (take n literals) declared k
 known_among literals n declared k h some = ((h some).0, by_count k.run.quiet.rests_on refl)
   where
-    by_count : (c : ℕ) → k.run.quiet.rests_on ≡ c → newest_of (take n literals) c ≡ Some k.serial → is_quiet_run (map literal_text (take n literals)) k.run ≡ true
+    by_count : (c : ℕ) → k.run.quiet.rests_on ≡ c → newest_of (take n literals) c ≡ Some k.serial → IsQuietRun (map literal_text (take n literals)) k.run
     by_count zero e there = absurd (cc there)
     by_count (suc c) e there = by_found (slice_get (take n literals) c) refl there
       where
-        by_found : (found : Option Literal) → slice_get (take n literals) c ≡ found → option_map (λ l. l.serial) found ≡ Some k.serial → is_quiet_run (map literal_text (take n literals)) k.run ≡ true
+        by_found : (found : Option Literal) → slice_get (take n literals) c ≡ found → option_map (λ l. l.serial) found ≡ Some k.serial → IsQuietRun (map literal_text (take n literals)) k.run
         by_found None p u = absurd (cc u)
         by_found (Some l) p u =
             let within : k.run.quiet.rests_on ≤ n = omega (arith, e, first_index literals n c l p) in
             let whole : slice_get literals c ≡ Some l = first_there literals n c l p in
             let firsts : take k.run.quiet.rests_on (map literal_text (take n literals)) ≡ take k.run.quiet.rests_on (map literal_text literals)
             = ap (take k.run.quiet.rests_on) (sym (take-map literal_text n literals)) ∙ take_fewer k.run.quiet.rests_on n (map literal_text literals) within in
-            ap (λ (ls : List LiteralText). is_quiet_between k.run.quiet.depth ls k.run.literal k.run.from k.run.to) firsts
-            ∙ (h some).1 (ap (newest_of literals) e ∙ ap (option_map (λ l. l.serial)) whole ∙ u)
+            run_same (map literal_text (take n literals)) (map literal_text literals) k.run firsts ((h some).1 (ap (newest_of literals) e ∙ ap (option_map (λ l. l.serial)) whole ∙ u))
 
 -- once literals and what is known of them go
 pub known_closed : (literals : List Literal) (n m declared : ℕ) (runs : List KnownRun) → All (IsKnown literals declared) runs → All (IsKnown (take n literals) declared) (take m runs)

@@ -26,6 +26,7 @@ pub mod TextEnd
 pub mod Bounded
 pub mod Answered
 pub mod Quiet
+pub mod Located
 pub mod Known
 pub mod Words
 pub mod CalmExpression

@@ -2,15 +2,16 @@
 use Rattle.std.proofs.Common.{◌≡◌, ◌∙◌, ◌≢◌, ℕ, zero, suc, ◌+◌, ◌-◌, ◌<◌, ◌≤◌, max, List, [], ◌∷◌, ◌++◌, take, drop, Bool, true, false, cond, ◌&&◌, Option, Some, None, find, fold, ap, refl, sym, arith}
 use Rattle.std.specs.List.{list_all, slice_get}
 use Rattle.std.specs.Option.{option_or}
+use Rattle.std.specs.Prelude.{bytes_eq}
 use Rattle.std.proofs.Math.Nat.{le-max_left, le-max_right, max-le}
 use Rattle.std.proofs.lemmas.List.{take-append-drop}
 use Rattle.std.proofs.lemmas.List.Folds.{find-append, list_all-append}
 use Rattle.word86.specs.declared.number.Number.{Number}
-use Rattle.plm_token.specs.Names.{names_equal}
+use Rattle.plm_token.specs.Names.{normal, names_equal}
 use Rattle.plm_token.specs.Literals.{Symbol, on_line}
 use Rattle.plm_syntax.specs.Literals.{LiteralText, Out, or_else, by_literal, literal_for, put, symbol_out, text_out, is_identifier}
 use Rattle.plm_syntax.specs.declared.open_blocks.Quiet.{Quiet}
-use Rattle.plm_syntax.specs.Inner.OpenBlocks.{each_quiet, is_quiet, is_quiet_text, IsQuietBy, both_quiet, named_quiet}
+use Rattle.plm_syntax.specs.Inner.OpenBlocks.{IsSameName, each_quiet, is_quiet, is_quiet_text, IsQuietBy, both_quiet, named_quiet}
 
 -- ---- tests of all tokens
 
@@ -122,6 +123,24 @@ text_with_more d e n m literals text deeper more h =
 pub text_among_all : (d e n : ℕ) (literals : List LiteralText) (text : List Symbol) → d ≤ e → is_quiet_text d (take n literals) text ≡ true → is_quiet_text e literals text ≡ true
 text_among_all d e n literals text deeper h =
     all_along (is_quiet d (take n literals)) (is_quiet e literals) (λ s k. quiet_with_more d e literals deeper s (quiet_among_first d n literals s k)) text h
+
+-- a text is quiet where there are more literals behind
+pub text_beside : (d e : ℕ) (literals more : List LiteralText) (text : List Symbol) → d ≤ e → is_quiet_text d literals text ≡ true → is_quiet_text e (literals ++ more) text ≡ true
+text_beside d e literals more text deeper h =
+    all_along (is_quiet d literals) (is_quiet e (literals ++ more)) (λ s k. quiet_among_more e literals more s (quiet_with_more d e literals deeper s k)) text h
+
+-- ---- two names that are one
+
+named_same : (literals : List LiteralText) (a b : Symbol) → IsSameName a b → literal_for literals a.kind a.text ≡ literal_for literals b.kind b.text
+unfolding names_equal
+named_same literals a b h =
+    ap (λ (x : Bool). cond x (find (λ l. names_equal l.name a.text) literals) None) (h.first ∙ sym h.second)
+    ∙ ap (λ (n : List ℕ). cond (is_identifier b.kind) (find (λ l. bytes_eq (normal l.name) n) literals) None) h.same
+
+pub quiet_same : (depth : ℕ) (literals : List LiteralText) (a b : Symbol) → IsSameName a b → is_quiet depth literals a ≡ is_quiet depth literals b
+unfolding is_quiet
+quiet_same zero literals a b h = refl
+quiet_same (suc depth) literals a b h = ap (each_quiet (is_quiet depth literals)) (named_same literals a b h)
 
 -- a text of which nothing comes changes nothing
 pub nothing_comes : (depth line : ℕ) (q : Quiet) (text : List Symbol) (o : Out) → IsQuietBy depth q o.blocks.literals text → text_out depth line text o ≡ o

@@ -4,11 +4,13 @@ ghost use Rattle.std.specs.Prelude.{◌≡◌, ◌<◌, [], ◌∷◌, true, Som
 ghost use Rattle.std.specs.List.{slice_get, slice_range};
 ghost use Rattle.word86.specs.declared.fault.Fault.TheVariants.{Memory};
 ghost use Rattle.plm_token.specs.Scanner.{lexeme, lexemes};
+ghost use Rattle.plm_token.specs.Literals.{on_line};
 ghost use Rattle.plm_syntax.specs.Literals.{LiteralText, ends, declares, is_keyword, is_string, over_limit, ends_block, declared_name, between, put, symbol_out, text_out, nothing_out, expanded};
-ghost use Rattle.plm_syntax.specs.Inner.OpenBlocks.{symbol, text_at, is_quiet_text, IsQuietBy, joined, named_quiet};
-ghost use Rattle.plm_syntax.specs.Inner.Literals.{out_of, text_view, text_for, with_text, source_view, put_with_text, out_with_text};
+ghost use Rattle.plm_syntax.specs.Inner.OpenBlocks.{named_symbol, text_at, is_quiet_text, IsQuietBy, joined, named_quiet};
+ghost use Rattle.plm_syntax.specs.Inner.Literals.{placed, out_of, text_view, text_for, with_text, source_view, put_with_text, out_with_text, IsGap, gap_behind};
 ghost use Rattle.plm_syntax.specs.Literals.{expansion_view, expansion_of};
 
+use crate::named_token::{LiteralTokens, NamedToken};
 use crate::open_blocks::{NOTHING, OpenBlocks, Quiet, QuietRun, is_identifier};
 use plm_token::{Keyword, Kind, Token, scan_literal};
 use std::alloc::Global;
@@ -20,13 +22,27 @@ const DEPTH: u8 = 8;
 /// The most tokens that a module may have once its literals are replaced.
 const TOKEN_LIMIT: usize = 65_535;
 
+/// A token that came out, and its line.
+#[derive(Clone, Copy)]
+pub struct Placed<'t, 'a> {
+    pub token: &'t NamedToken<'a>,
+    pub line: u32,
+}
+
+/// The last tokens of a literal's text of which nothing came: from which on, and what they rest on.
+#[derive(Clone, Copy)]
+pub struct Gap {
+    pub since: usize,
+    pub quiet: Quiet,
+}
+
 /// What came out so far: the tokens, the last two of them, and the fault and line where it stopped.
 #[derive(Drop)]
 pub struct Expander<'t, 'a> {
     pub tokens: Vec<Token<'a>>,
     pub blocks: OpenBlocks<'t, 'a>,
-    pub last: Option<Token<'a>>,
-    pub before: Option<Token<'a>>,
+    pub last: Option<Placed<'t, 'a>>,
+    pub before: Option<Placed<'t, 'a>>,
     pub stop: Option<(Number, u32)>,
 }
 
@@ -87,28 +103,46 @@ fn named(text: Option<Quiet>, literal: usize) -> Option<Quiet>
     }
 }
 
+/// The gap behind tokens of a literal's text, up to this one: it goes on if nothing came of them, or else begins there.
+fn gap_behind(gap: Gap, to: usize, quiet: Option<Quiet>) -> Gap
+    ensures { result ≡ gap_behind gap to quiet }
+{
+    match quiet {
+        Some(quiet) => Gap {
+            since: gap.since,
+            quiet,
+        },
+        None => Gap {
+            since: to,
+            quiet: NOTHING,
+        },
+    }
+}
+
 impl<'t, 'a> Expander<'t, 'a> {
     /// Whether a semicolon ends a block here: after END, or END and a name.
     fn ends_block(&self) -> bool
-        ensures { result ≡ ends_block (option_map lexeme self.now.last) (option_map lexeme self.now.before) }
+        ensures { result ≡ ends_block (option_map placed self.now.last) (option_map placed self.now.before) }
     {
         match (self.last, self.before) {
             (None, _) => false,
-            (Some(last), None) => is_end(last.kind),
+            (Some(last), None) => is_end(last.token.token.kind),
             (Some(last), Some(before)) => {
-                is_end(last.kind) || (is_identifier(last.kind) && is_end(before.kind))
+                let (last, before) = (last.token.token.kind, before.token.token.kind);
+                is_end(last) || (is_identifier(last) && is_end(before))
             }
         }
     }
 
     /// The name that a string declares here: after an identifier and LITERALLY.
-    fn declared_name(&self, kind: Kind) -> Option<&'a [u8]>
-        ensures { option_map (λ n. n.now) result ≡ declared_name kind (option_map lexeme self.now.last) (option_map lexeme self.now.before) }
+    fn declared_name(&self, kind: Kind) -> Option<&'t NamedToken<'a>>
+        ensures { option_map (λ n. n.now.token.text.now) result ≡ declared_name kind (option_map placed self.now.last) (option_map placed self.now.before) }
     {
         match (self.last, self.before) {
             (Some(last), Some(before)) => {
-                if is_string(kind) && is_literally(last.kind) && is_identifier(before.kind) {
-                    Some(before.text)
+                let (word, name) = (last.token.token.kind, before.token.token.kind);
+                if is_string(kind) && is_literally(word) && is_identifier(name) {
+                    Some(before.token)
                 } else {
                     None
                 }
@@ -117,17 +151,18 @@ impl<'t, 'a> Expander<'t, 'a> {
         }
     }
 
-    /// Puts one token out.
-    fn put(&mut self, token: Token<'a>) -> Result<(), Fault>
-        ensures ok { OnOk result (out_of self.new ≡ put (lexeme token.entry) (out_of self.old)) }
+    /// Puts one token out at a line.
+    fn put(&mut self, token: &'t NamedToken<'a>, line: u32) -> Result<(), Fault>
+        ensures ok { OnOk result (out_of self.new ≡ put (on_line line (named_symbol token.now)) (out_of self.old)) }
         ensures err { IfErr result (λ f. f ≡ Memory) }
     {
         let ending = self.ends_block();
-        self.blocks.step(token.kind, ending)?;
-        self.tokens.push(token)?;
+        let Token { kind, text, .. } = token.token;
+        self.blocks.step(kind, ending)?;
+        self.tokens.push(Token { kind, text, line })?;
         self.before = self.last;
-        self.last = Some(token);
-        self.stop = over_limit(self.tokens.len(), token.line);
+        self.last = Some(Placed { token, line });
+        self.stop = over_limit(self.tokens.len(), line);
         Ok(())
     }
 
@@ -135,21 +170,22 @@ impl<'t, 'a> Expander<'t, 'a> {
     /// it, the answer is what that rests on.
     #[cycle(replace)]
     #[tactic(auto, using(crate::proofs::Replaced::symbol_stopped, crate::proofs::Replaced::symbol_plain, crate::proofs::Replaced::symbol_deep, crate::proofs::Replaced::symbol_text))]
-    fn put_symbol(&mut self, token: Token<'a>, line: u32, depth: u8) -> Result<Option<Quiet>, Fault>
-        ensures ok { OnOk result (out_of self.new ≡ symbol_out depth line (symbol token.entry) (out_of self.old)) }
-        ensures quiet { IfOk result (λ r. IfSome r (λ q. IsQuietBy depth q (out_of self.old).blocks.literals (symbol token.entry ∷ []))) }
+    fn put_symbol(
+        &mut self,
+        token: &'t NamedToken<'a>,
+        line: u32,
+        depth: u8,
+    ) -> Result<Option<Quiet>, Fault>
+        ensures ok { OnOk result (out_of self.new ≡ symbol_out depth line (named_symbol token.now) (out_of self.old)) }
+        ensures quiet { IfOk result (λ r. IfSome r (λ q. IsQuietBy depth q (out_of self.old).blocks.literals (named_symbol token.now ∷ []))) }
         ensures err { IfErr result (λ f. f ≡ Memory) }
     {
         if self.stop.is_some() {
             return Ok(None);
         }
-        match self.blocks.literal(token.kind, token.text) {
+        match self.blocks.literal(token) {
             None => {
-                self.put(Token {
-                    kind: token.kind,
-                    text: token.text,
-                    line,
-                })?;
+                self.put(token, line)?;
                 Ok(None)
             }
             Some(index) => {
@@ -171,42 +207,47 @@ impl<'t, 'a> Expander<'t, 'a> {
         ensures quiet { IfOk result (λ r. IfSome r (λ q. IsQuietBy depth q (out_of self.old).blocks.literals (text_at (out_of self.old).blocks.literals index))) }
         ensures err { IfErr result (λ f. f ≡ Memory) }
     {
-        let text = self.blocks.literals[index].text;
-        let mut quiet = Some(NOTHING);
+        let text = self.blocks.literals[index].text.tokens.as_slice();
+        let mut gap = Gap {
+            since: 0,
+            quiet: NOTHING,
+        };
         let mut at = 0;
         while at < text.len() {
-            let (to, needs) = self.put_next(index, text, at, line, depth)?;
-            quiet = joined(quiet, needs);
+            let (to, quiet) = self.put_next(index, text, at, gap, line, depth)?;
+            gap = gap_behind(gap, to, quiet);
             at = to;
         }
-        Ok(quiet)
+        Ok((gap.since == 0).then_some(gap.quiet))
     }
 
-    /// Puts the next tokens of a literal's text out: those that are known to put nothing out, which are passed over, or else one. The answer
-    /// is up to where, and what they rest on if nothing came of them.
+    /// Puts the next tokens of a literal's text out: those that are known to put nothing out behind those of the gap, which are passed over, or
+    /// else one. The answer is up to where, and what they and the gap rest on if nothing came of them.
     #[cycle(replace)]
     fn put_next(
         &mut self,
         index: usize,
-        text: &'t [Token<'a>],
+        text: &'t [NamedToken<'a>],
         at: usize,
+        gap: Gap,
         line: u32,
         depth: u8,
     ) -> Result<(usize, Option<Quiet>), Fault>
         requires inside { at < length text.now }
-        requires same { (l : LiteralText) → slice_get (out_of self.old).blocks.literals index ≡ Some l → l.text ≡ map symbol text.now }
+        requires same { (l : LiteralText) → slice_get (out_of self.old).blocks.literals index ≡ Some l → l.text ≡ map named_symbol text.now }
+        requires gap { IsGap depth (out_of self.old).blocks.literals (map named_symbol text.now) at gap }
         ensures later { IfOk result (λ r. at < r.0) }
-        ensures ok { IfOk result (λ r. out_of self.new ≡ text_out depth line (slice_range (map symbol text.now) at r.0) (out_of self.old)) }
-        ensures quiet { IfOk result (λ r. IfSome r.1 (λ q. IsQuietBy depth q (out_of self.old).blocks.literals (slice_range (map symbol text.now) at r.0))) }
+        ensures ok { IfOk result (λ r. out_of self.new ≡ text_out depth line (slice_range (map named_symbol text.now) at r.0) (out_of self.old)) }
+        ensures quiet { IfOk result (λ r. IfSome r.1 (λ q. IsQuietBy depth q (out_of self.old).blocks.literals (slice_range (map named_symbol text.now) gap.since r.0))) }
         ensures err { IfErr result (λ f. f ≡ Memory) }
     {
-        if let Some(run) = self.blocks.quiet_from(index, at, depth) {
+        if let Some(run) = self.blocks.quiet_from(index, gap.since, at, depth) {
             self.blocks.learn(run);
-            return Ok((run.to, Some(run.quiet)));
+            return Ok((run.to, Some(gap.quiet.and(run.quiet))));
         }
-        let quiet = self.put_symbol(text[at], line, depth)?;
+        let quiet = self.put_symbol(&text[at], line, depth)?;
         self.learn(index, at, at + 1, quiet);
-        Ok((at + 1, quiet))
+        Ok((at + 1, joined(Some(gap.quiet), quiet)))
     }
 
     /// Remembers that tokens of a literal put nothing out, if so, where the literal is still there.
@@ -218,6 +259,7 @@ impl<'t, 'a> Expander<'t, 'a> {
             if literal < self.blocks.literals.len() {
                 self.blocks.learn(QuietRun {
                     literal,
+                    since: from,
                     from,
                     to,
                     quiet: needs.with(literal),
@@ -227,19 +269,20 @@ impl<'t, 'a> Expander<'t, 'a> {
     }
 
     /// Puts a token of the source out; a string may declare a literal, whose faults stand at it.
-    fn put_source(&mut self, token: Token<'a>, text: &'t Text<'a>) -> Result<(), Fault>
-        ensures ok { OnOk result (out_of self.new ≡ put_with_text (lexeme token.entry) (text_view text.now) (out_of self.old)) }
+    fn put_source(&mut self, token: &'t NamedToken<'a>, text: &'t Text<'a>) -> Result<(), Fault>
+        ensures ok { OnOk result (out_of self.new ≡ put_with_text (lexeme token.now.token) (text_view text.now) (out_of self.old)) }
         ensures err { IfErr result (λ f. f ≡ Memory) }
     {
-        let name = self.declared_name(token.kind);
-        self.put(token)?;
+        let line = token.token.line;
+        let name = self.declared_name(token.token.kind);
+        self.put(token, line)?;
         match name {
             None => Ok(()),
             Some(name) => match text {
                 Text::Absent => Ok(()),
-                Text::Tokens(tokens) => self.blocks.declare(name, tokens.as_slice()),
+                Text::Tokens(tokens) => self.blocks.declare(name, tokens),
                 Text::Faulty(number) => {
-                    self.stop = Some((*number, token.line));
+                    self.stop = Some((*number, line));
                     Ok(())
                 }
             },
@@ -254,11 +297,11 @@ impl<'t, 'a> Expander<'t, 'a> {
         if self.stop.is_some() {
             return Ok(());
         }
-        let token = source.token;
-        match self.blocks.literal(token.kind, token.text) {
+        let token = &source.token;
+        match self.blocks.literal(token) {
             None => self.put_source(token, &source.text),
             Some(index) => {
-                let _quiet = self.put_literal(index, token.line, DEPTH - 1)?;
+                let _quiet = self.put_literal(index, token.token.line, DEPTH - 1)?;
                 Ok(())
             }
         }
@@ -271,7 +314,7 @@ pub enum Text<'a> {
     /// No string.
     Absent,
     /// Its tokens.
-    Tokens(Vec<Token<'a>>),
+    Tokens(LiteralTokens<'a>),
     /// The least of its faults.
     Faulty(Number),
 }
@@ -279,7 +322,7 @@ pub enum Text<'a> {
 /// A token of the source, with the text that it is if it declares a literal.
 #[derive(Drop)]
 pub struct Source<'a> {
-    pub token: Token<'a>,
+    pub token: NamedToken<'a>,
     pub text: Text<'a>,
 }
 
@@ -299,7 +342,10 @@ fn text_of<'a>(alloc: Global, token: Token<'a>) -> Result<Text<'a>, Fault>
 {
     if is_string(token.kind) {
         match scan_literal(alloc, between(token.text), 0) {
-            Ok(tokens) => Ok(Text::Tokens(tokens)),
+            Ok(tokens) => {
+                let tokens = LiteralTokens::new(alloc, tokens.as_slice())?;
+                Ok(Text::Tokens(tokens))
+            }
             Err(Fault::Memory) => Err(Fault::Memory),
             Err(Fault::At(_, _, number)) => Ok(Text::Faulty(number)),
         }
@@ -315,10 +361,8 @@ fn prepare<'a>(alloc: Global, tokens: &[Token<'a>]) -> Result<Vec<Source<'a>>, F
     let mut sources = Vec::new(alloc);
     for token in tokens {
         let text = text_of(alloc, *token)?;
-        sources.push(Source {
-            token: *token,
-            text,
-        })?;
+        let token = NamedToken::new(alloc, *token)?;
+        sources.push(Source { token, text })?;
     }
     Ok(sources)
 }

@@ -1,22 +1,23 @@
 //! The open blocks, their literals, and what is known of the literals' texts as long as these are there.
 
-ghost use Rattle.std.specs.Prelude.{◌≡◌, ℕ, ◌<◌, ◌≤◌, List, true, length, map, position, OnOk, IfErr, IfSome};
+ghost use Rattle.std.specs.Prelude.{◌≡◌, ℕ, ◌+◌, ◌<◌, ◌≤◌, List, true, length, map, OnOk, IfErr, IfSome};
 ghost use Rattle.std.specs.List.{All};
 ghost use Rattle.word86.specs.declared.fault.Fault.TheVariants.{Memory};
-ghost use Rattle.plm_token.specs.Names.{names_equal};
 ghost use Rattle.plm_syntax.specs.declared.open_blocks.Literal.{Literal};
 ghost use Rattle.plm_syntax.specs.Literals.{opens, is_keyword, is_semicolon, is_identifier};
-ghost use Rattle.plm_syntax.specs.Inner.OpenBlocks.{literal_text, both_quiet, named_quiet, quiet_with, IsKnown};
+ghost use Rattle.plm_syntax.specs.Inner.OpenBlocks.{literal_text, both_quiet, named_quiet, quiet_with, named_symbol, IsSameName, place_in, ArePlaced, IsKnown};
 
-use plm_token::{Keyword, Kind, Mark, Token, same_name};
+use crate::named_token::{LiteralTokens, NamedToken};
+use plm_token::{Keyword, Kind, Mark};
 use std::alloc::Global;
+use std::collections::HashMap;
 use word86::Fault;
 
 /// A literal of an open block, its number among all that were declared, and where what is known of its tokens begins.
 #[derive(Clone, Copy)]
 pub struct Literal<'t, 'a> {
-    pub name: &'a [u8],
-    pub text: &'t [Token<'a>],
+    pub name: &'t NamedToken<'a>,
+    pub text: &'t LiteralTokens<'a>,
     pub serial: usize,
     pub first_run: usize,
 }
@@ -29,10 +30,12 @@ pub struct Quiet {
     pub rests_on: usize,
 }
 
-/// Tokens of a literal's text, from one up to another, that put nothing out.
+/// Tokens of a literal's text, from one up to another, that put nothing out wherever those before them do, from `since` on: such names as stand
+/// there already need nothing else. So the run is known still where one of these names is declared anew.
 #[derive(Clone, Copy)]
 pub struct QuietRun {
     pub literal: usize,
+    pub since: usize,
     pub from: usize,
     pub to: usize,
     pub quiet: Quiet,
@@ -48,14 +51,18 @@ pub struct KnownRun {
 /// The open blocks: their literals, the oldest first, and how many there were when each block began, the innermost last. Beside them what is
 /// known of the literals' texts, and how many literals were declared so far.
 ///
+/// `places` has the place of the first literal of each name. What it says of a name whose literal went is void, so that a block's end need not touch it.
+///
 /// A text's runs have lengths of 1, 2, 4 and so on, and begin at multiples of their lengths, as the halves of longer ones; each has its place between those of its halves.
 /// So where a literal goes, only the few runs around each name of it are known no more.
 #[derive(Drop)]
 pub struct OpenBlocks<'t, 'a> {
     pub literals: Vec<Literal<'t, 'a>>,
+    pub places: HashMap<&'t [u8], usize>,
     pub starts: Vec<usize>,
     pub runs: Vec<KnownRun>,
     pub declared: usize,
+    ghost placed: { ArePlaced literals.items (place_in places) },
     ghost known: { All (λ k. IsKnown literals.items declared k) runs.items },
 }
 
@@ -63,6 +70,7 @@ pub struct OpenBlocks<'t, 'a> {
 const UNKNOWN: KnownRun = KnownRun {
     run: QuietRun {
         literal: 0,
+        since: 0,
         from: 0,
         to: 0,
         quiet: NOTHING,
@@ -112,7 +120,7 @@ impl Quiet {
 }
 
 /// Places for what will be known of a text: two for each token.
-fn add_runs(runs: &mut Vec<KnownRun>, text: &[Token<'_>]) -> Result<(), Fault>
+fn add_runs(runs: &mut Vec<KnownRun>, text: &[NamedToken<'_>]) -> Result<(), Fault>
     ensures known { (literals : List Literal) (declared : ℕ) → All (λ k. IsKnown literals declared k) runs.old.items → All (λ k. IsKnown literals declared k) runs.new.items }
     ensures err { IfErr result (λ f. f ≡ Memory) }
 {
@@ -135,6 +143,15 @@ fn is_semicolon(kind: Kind) -> bool
     matches!(kind, Kind::Special(Mark::Semicolon))
 }
 
+/// Whether two tokens are identifiers of one name.
+fn has_same_name(a: &NamedToken<'_>, b: &NamedToken<'_>) -> bool
+    ensures { result ≡ true → IsSameName (named_symbol a.now) (named_symbol b.now) }
+{
+    is_identifier(a.token.kind)
+        && is_identifier(b.token.kind)
+        && a.name.as_slice() == b.name.as_slice()
+}
+
 pub(crate) fn is_identifier(kind: Kind) -> bool
     ensures { result ≡ is_identifier kind }
 {
@@ -143,7 +160,7 @@ pub(crate) fn is_identifier(kind: Kind) -> bool
 
 impl<'t, 'a> OpenBlocks<'t, 'a> {
     ghost use Rattle.plm_syntax.specs.Literals.{no_blocks, opened, closed, blocks_behind, with_literal, literal_for};
-    ghost use Rattle.plm_syntax.specs.Inner.OpenBlocks.{symbol, literal_at, is_quiet_run, newest_of};
+    ghost use Rattle.plm_syntax.specs.Inner.OpenBlocks.{literal_at, first_named, WillBePlaced, IsQuietRun, newest_of};
     ghost use Rattle.plm_syntax.specs.Inner.Literals.{blocks_of};
 
     /// No block, and no literal.
@@ -152,6 +169,7 @@ impl<'t, 'a> OpenBlocks<'t, 'a> {
     {
         OpenBlocks {
             literals: Vec::new(alloc),
+            places: HashMap::new(alloc),
             starts: Vec::new(alloc),
             runs: Vec::new(alloc),
             declared: 0,
@@ -159,24 +177,29 @@ impl<'t, 'a> OpenBlocks<'t, 'a> {
     }
 
     /// The number of the literal that a token names, if it names one.
-    pub(crate) fn literal(&self, kind: Kind, text: &[u8]) -> Option<usize>
-        ensures named { literal_at (blocks_of self.now).literals result ≡ literal_for (blocks_of self.now).literals kind text.now }
+    pub(crate) fn literal(&self, token: &NamedToken<'_>) -> Option<usize>
+        ensures named { literal_at (blocks_of self.now).literals result ≡ literal_for (blocks_of self.now).literals token.now.token.kind token.now.token.text.now }
         ensures inside { IfSome result (λ i. i < length self.now.literals.items) }
     {
-        if is_identifier(kind) {
-            self.named(text)
+        if is_identifier(token.token.kind) {
+            self.named(token.name.as_slice())
         } else {
             None
         }
     }
 
+    /// The number of the literal of this name, which is in normal form, if there is one.
     fn named(&self, name: &[u8]) -> Option<usize>
-        ensures named { result ≡ position (λ l. names_equal l.name.now name.now) self.now.literals.items }
+        ensures named { result ≡ first_named name.now self.now.literals.items }
         ensures inside { IfSome result (λ i. i < length self.now.literals.items) }
     {
-        self.literals
-            .iter()
-            .position(|literal| same_name(literal.name, name))
+        let place = *self.places.get(name)?;
+        let literal = self.literals.get(place)?;
+        if literal.name.name.as_slice() == name {
+            Some(place)
+        } else {
+            None
+        }
     }
 
     fn open(&mut self) -> Result<(), Fault>
@@ -199,18 +222,41 @@ impl<'t, 'a> OpenBlocks<'t, 'a> {
         }
     }
 
-    /// Declares a literal in the innermost block.
-    pub(crate) fn declare(&mut self, name: &'a [u8], text: &'t [Token<'a>]) -> Result<(), Fault>
-        ensures ok { OnOk result (blocks_of self.new ≡ with_literal (record { name = name.now; text = map symbol text.now }) (blocks_of self.old)) }
+    /// Makes the place of a literal known that is to be declared next, unless another has its name.
+    fn enter(&mut self, name: &'t [u8]) -> Result<(), Fault>
+        ensures entered { OnOk result (WillBePlaced name.now self.new.literals.items (place_in self.new.places)) }
+        ensures literals { self.new.literals ≡ self.old.literals }
+        ensures others { self.new.starts ≡ self.old.starts }
+        ensures runs { self.new.runs ≡ self.old.runs }
+        ensures declared { self.new.declared ≡ self.old.declared }
         ensures err { IfErr result (λ f. f ≡ Memory) }
     {
+        match self.named(name) {
+            None => {
+                self.places.insert(name, self.literals.len())?;
+                Ok(())
+            }
+            Some(_) => Ok(()),
+        }
+    }
+
+    /// Declares a literal in the innermost block.
+    pub(crate) fn declare(
+        &mut self,
+        name: &'t NamedToken<'a>,
+        text: &'t LiteralTokens<'a>,
+    ) -> Result<(), Fault>
+        ensures ok { OnOk result (blocks_of self.new ≡ with_literal (record { name = name.now.token.text.now; text = map named_symbol text.now.tokens.items }) (blocks_of self.old)) }
+        ensures err { IfErr result (λ f. f ≡ Memory) }
+    {
+        self.enter(name.name.as_slice())?;
         let literal = Literal {
             name,
             text,
             serial: self.declared,
             first_run: self.runs.len(),
         };
-        add_runs(&mut self.runs, text)?;
+        add_runs(&mut self.runs, text.tokens.as_slice())?;
         self.literals.push(literal)?;
         self.declared = self.declared.saturating_add(1);
         Ok(())
@@ -232,7 +278,7 @@ impl<'t, 'a> OpenBlocks<'t, 'a> {
 
     /// The run of these tokens of a literal, if it is known that they put nothing out.
     fn known(&self, literal: usize, from: usize, to: usize) -> Option<QuietRun>
-        ensures quiet { IfSome result (λ r. is_quiet_run (blocks_of self.now).literals r ≡ true) }
+        ensures quiet { IfSome result (IsQuietRun (blocks_of self.now).literals) }
         ensures place { IfSome result (λ r. (r.literal ≡ literal) × (r.from ≡ from) × (r.to ≡ to)) }
         ensures some { IfSome result (λ r. r.from < r.to) }
     {
@@ -246,20 +292,27 @@ impl<'t, 'a> OpenBlocks<'t, 'a> {
         }
     }
 
-    /// The longest run that is known of a literal's tokens from this one on, and needs no more than this depth.
-    pub(crate) fn quiet_from(&self, literal: usize, from: usize, depth: u8) -> Option<QuietRun>
-        ensures quiet { IfSome result (λ r. is_quiet_run (blocks_of self.now).literals r ≡ true) }
+    /// The longest run that is known of a literal's tokens from this one on, rests on none before `since`, and needs no more than this depth.
+    pub(crate) fn quiet_from(
+        &self,
+        literal: usize,
+        since: usize,
+        from: usize,
+        depth: u8,
+    ) -> Option<QuietRun>
+        ensures quiet { IfSome result (IsQuietRun (blocks_of self.now).literals) }
         ensures place { IfSome result (λ r. (r.literal ≡ literal) × (r.from ≡ from)) }
+        ensures behind { IfSome result (λ r. since ≤ r.since) }
         ensures some { IfSome result (λ r. r.from < r.to) }
         ensures within { IfSome result (λ r. r.quiet.depth ≤ depth) }
     {
-        let mut longest = None;
+        let mut longest = self.again(literal, since, from);
         let mut length = 1usize;
         for _ in 0..usize::BITS {
             let Some(run) = self.known(literal, from, from.saturating_add(length)) else {
                 return longest;
             };
-            if run.quiet.depth > depth {
+            if run.quiet.depth > depth || run.since < since {
                 return longest;
             }
             longest = Some(run);
@@ -268,9 +321,35 @@ impl<'t, 'a> OpenBlocks<'t, 'a> {
         longest
     }
 
+    /// The run of one token of a literal whose name stands before it, there or behind `since`.
+    fn again(&self, literal: usize, since: usize, from: usize) -> Option<QuietRun>
+        ensures quiet { IfSome result (IsQuietRun (blocks_of self.now).literals) }
+        ensures place { IfSome result (λ r. (r.literal ≡ literal) × (r.from ≡ from)) }
+        ensures behind { IfSome result (λ r. since ≤ r.since) }
+        ensures one { IfSome result (λ r. r.to ≡ r.from + 1) }
+        ensures within { IfSome result (λ r. r.quiet.depth ≡ 0) }
+    {
+        let text = self.literals.get(literal)?.text;
+        let earlier = *text.earlier.get(from)?;
+        if since <= earlier && earlier < from {
+            let before = text.tokens.get(earlier)?;
+            let token = text.tokens.get(from)?;
+            if has_same_name(before, token) {
+                return Some(QuietRun {
+                    literal,
+                    since: earlier,
+                    from,
+                    to: from + 1,
+                    quiet: NOTHING.with(literal),
+                });
+            }
+        }
+        None
+    }
+
     /// Remembers that tokens of a literal put nothing out, and what this says of longer runs of which they are the later half.
     pub(crate) fn learn(&mut self, run: QuietRun)
-        requires { is_quiet_run (blocks_of self.old).literals run ≡ true }
+        requires { IsQuietRun (blocks_of self.old).literals run }
         ensures { blocks_of self.new ≡ blocks_of self.old }
     {
         self.remember(run);
@@ -283,8 +362,8 @@ impl<'t, 'a> OpenBlocks<'t, 'a> {
 
     /// The run of which this one is the later half, if its earlier half is known.
     fn with_earlier_half(&self, run: QuietRun) -> Option<QuietRun>
-        requires { is_quiet_run (blocks_of self.now).literals run ≡ true }
-        ensures quiet { IfSome result (λ r. is_quiet_run (blocks_of self.now).literals r ≡ true) }
+        requires { IsQuietRun (blocks_of self.now).literals run }
+        ensures quiet { IfSome result (IsQuietRun (blocks_of self.now).literals) }
         ensures earlier { IfSome result (λ r. r.from < run.from) }
     {
         let length = run.to.checked_sub(run.from)?;
@@ -294,6 +373,7 @@ impl<'t, 'a> OpenBlocks<'t, 'a> {
         let earlier = self.known(run.literal, run.from.checked_sub(length)?, run.from)?;
         Some(QuietRun {
             literal: run.literal,
+            since: earlier.since.min(run.since),
             from: earlier.from,
             to: run.to,
             quiet: earlier.quiet.and(run.quiet),
@@ -302,7 +382,7 @@ impl<'t, 'a> OpenBlocks<'t, 'a> {
 
     /// Remembers that tokens of a literal put nothing out.
     fn remember(&mut self, run: QuietRun)
-        requires { is_quiet_run (blocks_of self.old).literals run ≡ true }
+        requires { IsQuietRun (blocks_of self.old).literals run }
         ensures { blocks_of self.new ≡ blocks_of self.old }
     {
         if let (Some(place), Some(serial)) = (

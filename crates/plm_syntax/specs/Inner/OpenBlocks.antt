@@ -1,20 +1,19 @@
 -- Tokens of literals that put nothing out, which are remembered so that each is read once.
-use Rattle.std.specs.Prelude.{◌≡◌, ℕ, zero, suc, ◌+◌, ◌<◌, ◌≤◌, List, [], map, take, max, Bool, true, false, Option, Some, None}
+use Rattle.std.specs.Prelude.{◌≡◌, ℕ, zero, suc, ◌+◌, ◌<◌, ◌≤◌, List, [], ◌∷◌, ◌++◌, length, map, take, max, Bool, true, false, cond, bytes_eq, Option, Some, None}
 use Rattle.std.specs.Option.{option_map}
 use Rattle.std.specs.List.{list_all, slice_get, slice_range}
-use Rattle.plm_token.specs.declared.token.Token.{Token}
+use Rattle.std.specs.HashMap.{HashMap, get_by}
+use denote.Ref.{Bor}
 use Rattle.plm_token.specs.Literals.{Symbol}
 use Rattle.plm_syntax.specs.declared.open_blocks.Literal.{Literal}
 use Rattle.plm_syntax.specs.declared.open_blocks.Quiet.{Quiet}
 use Rattle.plm_syntax.specs.declared.open_blocks.QuietRun.{QuietRun}
 use Rattle.plm_syntax.specs.declared.open_blocks.KnownRun.{KnownRun}
 use Rattle.plm_syntax.specs.Literals.{LiteralText, literal_for}
-
-abbrev pub symbol : Token → Symbol
-symbol t = record { kind = t.kind; text = t.text.now }
+pub use Rattle.plm_syntax.specs.Inner.NamedToken.{symbol, named_symbol, IsSameName}
 
 abbrev pub literal_text : Literal → LiteralText
-literal_text l = record { name = l.name.now; text = map symbol l.text.now }
+literal_text l = record { name = l.name.now.token.text.now; text = map named_symbol l.text.now.tokens.items }
 
 -- ---- one of the literals
 
@@ -28,6 +27,29 @@ text_of (Some l) = l.text
 
 abbrev pub text_at : List LiteralText → ℕ → List Symbol
 text_at literals i = text_of (slice_get literals i)
+
+-- ---- the first literal of each name
+
+-- whether a literal has a name, which is in normal form
+abbrev pub has_name : List ℕ → Literal → Bool
+has_name name l = bytes_eq l.name.now.name.items name
+
+-- the place of the first literal of a name
+abbrev pub first_named : List ℕ → List Literal → Option ℕ
+first_named name [] = None
+first_named name (l ∷ ls) = cond (has_name name l) (Some 0) (option_map (λ i. suc i) (first_named name ls))
+
+-- the place that a table has for a name
+abbrev pub place_in : {S : Type 0} → HashMap (Bor (List ℕ)) ℕ S → List ℕ → Option ℕ
+place_in places name = get_by (λ k. bytes_eq name k.now) places
+
+-- The place of the first literal of each name is the name's. What place a name of no literal has says nothing.
+abbrev pub ArePlaced : List Literal → (List ℕ → Option ℕ) → Type 0
+ArePlaced literals place_of = (name : List ℕ) (place : ℕ) → first_named name literals ≡ Some place → place_of name ≡ Some place
+
+-- the same once one more literal is there, which has this name
+abbrev pub WillBePlaced : List ℕ → List Literal → (List ℕ → Option ℕ) → Type 0
+WillBePlaced name literals place_of = (l : Literal) → l.name.now.name.items ≡ name → ArePlaced (literals ++ l ∷ []) place_of
 
 -- ---- texts that put nothing out
 
@@ -43,14 +65,6 @@ is_quiet (suc depth) literals s = each_quiet (λ x. is_quiet depth literals x) (
 
 abbrev pub is_quiet_text : ℕ → List LiteralText → List Symbol → Bool
 is_quiet_text depth literals text = list_all (λ s. is_quiet depth literals s) text
-
-abbrev pub is_quiet_in : ℕ → List LiteralText → ℕ → ℕ → Option LiteralText → Bool
-is_quiet_in depth literals from to None = false
-is_quiet_in depth literals from to (Some l) = is_quiet_text depth literals (slice_range l.text from to)
-
--- the same of tokens of a literal, by its number
-abbrev pub is_quiet_between : ℕ → List LiteralText → ℕ → ℕ → ℕ → Bool
-is_quiet_between depth literals i from to = is_quiet_in depth literals from to (slice_get literals i)
 
 -- ---- what such tokens need
 
@@ -79,8 +93,15 @@ joined (Some a) (Some b) = Some (both_quiet a b)
 
 -- ---- runs of such tokens
 
-abbrev pub is_quiet_run : List LiteralText → QuietRun → Bool
-is_quiet_run literals r = is_quiet_between r.quiet.depth (take r.quiet.rests_on literals) r.literal r.from r.to
+-- The tokens from one on put nothing out up to a third if they put nothing out up to a second.
+abbrev pub IsQuietOn : ℕ → List LiteralText → List Symbol → ℕ → ℕ → ℕ → Type 0
+IsQuietOn depth literals text since from to = is_quiet_text depth literals (slice_range text since from) ≡ true → is_quiet_text depth literals (slice_range text since to) ≡ true
+
+-- The run's tokens are so whatever literals there are after those that it rests on, of which its own is one.
+pub record IsQuietRun (literals : List LiteralText) (r : QuietRun) : Type 0 where
+  pub there : r.literal < length (take r.quiet.rests_on literals)
+  pub order : r.since ≤ r.from
+  pub quiet : (depth : ℕ) (more : List LiteralText) → r.quiet.depth ≤ depth → IsQuietOn depth (take r.quiet.rests_on literals ++ more) (text_at (take r.quiet.rests_on literals) r.literal) r.since r.from r.to
 
 -- the number, among all that were declared, of the newest of so many literals
 abbrev pub newest_of : List Literal → ℕ → Option ℕ
@@ -89,4 +110,4 @@ newest_of literals (suc n) = option_map (λ l. l.serial) (slice_get literals n)
 
 -- It is quiet as long as the newest of the literals that it rests on is there, which is one of those declared so far. (A run of no tokens says nothing.)
 abbrev pub IsKnown : List Literal → ℕ → KnownRun → Type 0
-IsKnown literals declared k = k.run.from < k.run.to → (k.serial < declared) × (newest_of literals k.run.quiet.rests_on ≡ Some k.serial → is_quiet_run (map literal_text literals) k.run ≡ true)
+IsKnown literals declared k = k.run.from < k.run.to → (k.serial < declared) × (newest_of literals k.run.quiet.rests_on ≡ Some k.serial → IsQuietRun (map literal_text literals) k.run)

@@ -2,7 +2,8 @@ use Rattle.std.proofs.Common.{List, take, sym, subst}
 use Rattle.std.specs.List.{All}
 use Rattle.plm_syntax.specs.declared.open_blocks.Literal.{Literal}
 use Rattle.plm_syntax.specs.declared.open_blocks.KnownRun.{KnownRun}
-use Rattle.plm_syntax.specs.Inner.OpenBlocks.{IsKnown}
+use Rattle.plm_syntax.specs.Inner.OpenBlocks.{place_in, ArePlaced, IsKnown}
+use Rattle.plm_syntax.proofs.Located.{placed_fewer}
 use Rattle.plm_syntax.proofs.Turned.{closed_turned}
 use Rattle.plm_syntax.proofs.Known.{known_closed}
 use Rattle.plm_syntax.proofs.open_blocks.OpenBlocks.close.Goals as goal
@@ -13,6 +14,8 @@ invariant_of-self c =
     let m = c.in-Some-get.literal.now.first_run in
     let declared = c.args.self.now.declared in
     record {
+      placed = subst (λ (literals : List Literal). ArePlaced literals (place_in c.args.self.now.places)) (sym c.truncate-in-Some-get.ensures.items)
+          (placed_fewer n c.args.self.now.literals.items (place_in c.args.self.now.places) c.args.self.now.placed);
       known = subst (λ (runs : List KnownRun). All (λ k. IsKnown c.truncate-in-Some-get.new.self.items declared k) runs) (sym c.truncate.ensures.items)
           (subst (λ (literals : List Literal). All (λ k. IsKnown literals declared k) (take m c.args.self.now.runs.items)) (sym c.truncate-in-Some-get.ensures.items)
           (known_closed c.args.self.now.literals.items n m declared c.args.self.now.runs.items c.args.self.now.known));

@@ -1,11 +1,13 @@
-use Rattle.std.proofs.Common.{◌∙◌, ap, sym, map, find, cond, Bool, None}
+use Rattle.std.proofs.Common.{◌∙◌, ℕ, List, ap, sym, map, find, cond, Bool, None}
 use Rattle.plm_token.specs.Names.{names_equal}
-use Rattle.plm_syntax.specs.Inner.OpenBlocks.{literal_text, literal_at}
-use Rattle.plm_syntax.proofs.Known.{place_named}
+use Rattle.plm_syntax.specs.Inner.OpenBlocks.{literal_text, literal_at, first_named}
+use Rattle.plm_syntax.proofs.Located.{text_found}
 use Rattle.plm_syntax.proofs.open_blocks.OpenBlocks.literal.Goals as goal
 
 pub returns-then-is_identifier-clause-named : goal.returns-then-is_identifier-clause-named
 returns-then-is_identifier-clause-named c =
-    ap (literal_at (map literal_text c.args.self.now.literals.items)) c.named.ensures.named
-    ∙ place_named c.args.text.now c.args.self.now.literals.items
-    ∙ ap (λ (b : Bool). cond b (find (λ l. names_equal l.name c.args.text.now) (map literal_text c.args.self.now.literals.items)) None) (sym c.if-is_identifier.true ∙ c.is_identifier.ensures)
+    let literals = c.args.self.now.literals.items in
+    let token = c.args.token.now in
+    ap (literal_at (map literal_text literals)) (c.named.ensures.named ∙ ap (λ (n : List ℕ). first_named n literals) (c.as_slice.ensures.value ∙ token.in_normal_form))
+    ∙ text_found token.token.text.now literals
+    ∙ ap (λ (b : Bool). cond b (find (λ l. names_equal l.name token.token.text.now) (map literal_text literals)) None) (sym c.if-is_identifier.true ∙ c.is_identifier.ensures)

@@ -1,0 +1,68 @@
+//! Tokens with their names in normal form, which is made once for each.
+
+ghost use Rattle.std.specs.Prelude.{◌≡◌, map, IfOk, IfErr};
+ghost use Rattle.word86.specs.declared.fault.Fault.TheVariants.{Memory};
+ghost use Rattle.plm_token.specs.Names.{normal};
+ghost use Rattle.plm_token.specs.Scanner.{lexeme};
+
+use plm_token::{Token, normal};
+use std::alloc::Global;
+use std::collections::HashMap;
+use word86::Fault;
+
+/// A token, and its text in capitals and without dollar signs.
+#[derive(Drop)]
+pub struct NamedToken<'a> {
+    pub token: Token<'a>,
+    pub name: Vec<u8>,
+    ghost in_normal_form: { name.items ≡ normal token.text.now },
+}
+
+/// The tokens of a literal's text, and for each the place of the one before it that has its name, or its own place if there is none.
+#[derive(Drop)]
+pub struct LiteralTokens<'a> {
+    pub tokens: Vec<NamedToken<'a>>,
+    pub earlier: Vec<usize>,
+}
+
+impl<'a> NamedToken<'a> {
+    /// A token with its name.
+    pub fn new(alloc: Global, token: Token<'a>) -> Result<Self, Fault>
+        ensures ok { IfOk result (λ t. lexeme t.token ≡ lexeme token.entry) }
+        ensures err { IfErr result (λ f. f ≡ Memory) }
+    {
+        let name = normal(alloc, token.text)?;
+        Ok(NamedToken { token, name })
+    }
+}
+
+impl<'a> LiteralTokens<'a> {
+    ghost use Rattle.plm_syntax.specs.Inner.NamedToken.{symbol, named_symbol};
+
+    /// The tokens of a literal's text with their names.
+    pub fn new(alloc: Global, text: &[Token<'a>]) -> Result<Self, Fault>
+        ensures ok { IfOk result (λ t. map named_symbol t.tokens.items ≡ map symbol text.now) }
+        ensures err { IfErr result (λ f. f ≡ Memory) }
+    {
+        let mut tokens = Vec::new(alloc);
+        for token in text {
+            let token = NamedToken::new(alloc, *token)?;
+            tokens.push(token)?;
+        }
+        let earlier = earlier_places(alloc, tokens.as_slice())?;
+        Ok(LiteralTokens { tokens, earlier })
+    }
+}
+
+/// For each token the place of the one before it that has its name, or its own place.
+fn earlier_places(alloc: Global, tokens: &[NamedToken<'_>]) -> Result<Vec<usize>, Fault>
+    ensures { IfErr result (λ f. f ≡ Memory) }
+{
+    let mut last: HashMap<&[u8], usize> = HashMap::new(alloc);
+    let mut places = Vec::new(alloc);
+    for (place, token) in tokens.iter().enumerate() {
+        let earlier = last.insert(token.name.as_slice(), place)?;
+        places.push(earlier.unwrap_or(place))?;
+    }
+    Ok(places)
+}
