@@ -27,6 +27,7 @@ pub mod Bounded
 pub mod Answered
 pub mod Quiet
 pub mod Located
+pub mod Written
 pub mod Known
 pub mod Words
 pub mod CalmExpression

@@ -10,7 +10,7 @@ use Rattle.std.proofs.lemmas.Option.{slice_get_read, slice_get_past}
 use Rattle.plm_token.specs.Names.{normal, names_equal}
 use Rattle.plm_syntax.specs.declared.open_blocks.Literal.{Literal}
 use Rattle.plm_syntax.specs.Literals.{LiteralText}
-use Rattle.plm_syntax.specs.Inner.OpenBlocks.{literal_text, literal_at, has_name, first_named, place_in, ArePlaced, WillBePlaced}
+use Rattle.plm_syntax.specs.Inner.OpenBlocks.{letters_of, literal_text, literal_at, has_name, first_named, place_in, ArePlaced, WillBePlaced}
 use Rattle.std.specs.HashMap.{HashMap}
 use Rattle.std.specs.Map.{lookup}
 use denote.Ref.{Bor}
@@ -206,7 +206,7 @@ either_way (Ok x) u v f g = f u
 either_way (Err e) u v f g = g v
 
 -- after a push, which may have failed
-pub placed_so : (b : Bool) (name : List ℕ) (ls : List Literal) (l : Literal) (place_of : List ℕ → Option ℕ) → ArePlaced ls place_of → WillBePlaced name ls place_of → l.name.now.name.items ≡ name
+pub placed_so : (b : Bool) (name : List ℕ) (ls : List Literal) (l : Literal) (place_of : List ℕ → Option ℕ) → ArePlaced ls place_of → WillBePlaced name ls place_of → letters_of l.name.now.name ≡ name
     → ArePlaced (if b then ls ++ l ∷ [] else ls) place_of
 placed_so false name ls l place_of placed more is = placed
 placed_so true name ls l place_of placed more is = more l is

@@ -6,6 +6,7 @@ pub mod Runs
 pub mod Parsed
 pub mod Parts
 pub mod Blocks
+pub mod Name
 pub mod NamedToken
 pub mod OpenBlocks
 pub mod Literals

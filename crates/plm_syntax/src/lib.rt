@@ -13,6 +13,7 @@ mod expression;
 mod failure;
 mod laws;
 mod literals;
+mod name;
 mod named_token;
 mod open_blocks;
 mod operator;

@@ -4,18 +4,20 @@ ghost use Rattle.std.specs.Prelude.{◌≡◌, map, IfOk, IfErr};
 ghost use Rattle.word86.specs.declared.fault.Fault.TheVariants.{Memory};
 ghost use Rattle.plm_token.specs.Names.{normal};
 ghost use Rattle.plm_token.specs.Scanner.{lexeme};
+ghost use Rattle.plm_syntax.specs.Inner.Name.{letters_of};
 
-use plm_token::{Token, normal};
+use crate::name::Name;
+use plm_token::Token;
 use std::alloc::Global;
 use std::collections::HashMap;
 use word86::Fault;
 
-/// A token, and its text in capitals and without dollar signs.
+/// A token, and its text in normal form.
 #[derive(Drop)]
 pub struct NamedToken<'a> {
     pub token: Token<'a>,
-    pub name: Vec<u8>,
-    ghost in_normal_form: { name.items ≡ normal token.text.now },
+    pub name: Name<'a>,
+    ghost in_normal_form: { letters_of name ≡ normal token.text.now },
 }
 
 /// The tokens of a literal's text, and for each the place of the one before it that has its name, or its own place if there is none.
@@ -31,7 +33,7 @@ impl<'a> NamedToken<'a> {
         ensures ok { IfOk result (λ t. lexeme t.token ≡ lexeme token.entry) }
         ensures err { IfErr result (λ f. f ≡ Memory) }
     {
-        let name = normal(alloc, token.text)?;
+        let name = Name::of(alloc, token.text)?;
         Ok(NamedToken { token, name })
     }
 }
@@ -61,7 +63,7 @@ fn earlier_places(alloc: Global, tokens: &[NamedToken<'_>]) -> Result<Vec<usize>
     let mut last: HashMap<&[u8], usize> = HashMap::new(alloc);
     let mut places = Vec::new(alloc);
     for (place, token) in tokens.iter().enumerate() {
-        let earlier = last.insert(token.name.as_slice(), place)?;
+        let earlier = last.insert(token.name.letters(), place)?;
         places.push(earlier.unwrap_or(place))?;
     }
     Ok(places)

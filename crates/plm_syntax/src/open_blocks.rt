@@ -149,7 +149,7 @@ fn has_same_name(a: &NamedToken<'_>, b: &NamedToken<'_>) -> bool
 {
     is_identifier(a.token.kind)
         && is_identifier(b.token.kind)
-        && a.name.as_slice() == b.name.as_slice()
+        && a.name.letters() == b.name.letters()
 }
 
 pub(crate) fn is_identifier(kind: Kind) -> bool
@@ -182,7 +182,7 @@ impl<'t, 'a> OpenBlocks<'t, 'a> {
         ensures inside { IfSome result (λ i. i < length self.now.literals.items) }
     {
         if is_identifier(token.token.kind) {
-            self.named(token.name.as_slice())
+            self.named(token.name.letters())
         } else {
             None
         }
@@ -195,7 +195,7 @@ impl<'t, 'a> OpenBlocks<'t, 'a> {
     {
         let place = *self.places.get(name)?;
         let literal = self.literals.get(place)?;
-        if literal.name.name.as_slice() == name {
+        if literal.name.name.letters() == name {
             Some(place)
         } else {
             None
@@ -249,7 +249,7 @@ impl<'t, 'a> OpenBlocks<'t, 'a> {
         ensures ok { OnOk result (blocks_of self.new ≡ with_literal (record { name = name.now.token.text.now; text = map named_symbol text.now.tokens.items }) (blocks_of self.old)) }
         ensures err { IfErr result (λ f. f ≡ Memory) }
     {
-        self.enter(name.name.as_slice())?;
+        self.enter(name.name.letters())?;
         let literal = Literal {
             name,
             text,

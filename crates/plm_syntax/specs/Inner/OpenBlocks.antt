@@ -11,6 +11,7 @@ use Rattle.plm_syntax.specs.declared.open_blocks.QuietRun.{QuietRun}
 use Rattle.plm_syntax.specs.declared.open_blocks.KnownRun.{KnownRun}
 use Rattle.plm_syntax.specs.Literals.{LiteralText, literal_for}
 pub use Rattle.plm_syntax.specs.Inner.NamedToken.{symbol, named_symbol, IsSameName}
+pub use Rattle.plm_syntax.specs.Inner.Name.{letters_of}
 
 abbrev pub literal_text : Literal → LiteralText
 literal_text l = record { name = l.name.now.token.text.now; text = map named_symbol l.text.now.tokens.items }
@@ -32,7 +33,7 @@ text_at literals i = text_of (slice_get literals i)
 
 -- whether a literal has a name, which is in normal form
 abbrev pub has_name : List ℕ → Literal → Bool
-has_name name l = bytes_eq l.name.now.name.items name
+has_name name l = bytes_eq (letters_of l.name.now.name) name
 
 -- the place of the first literal of a name
 abbrev pub first_named : List ℕ → List Literal → Option ℕ
@@ -49,7 +50,7 @@ ArePlaced literals place_of = (name : List ℕ) (place : ℕ) → first_named na
 
 -- the same once one more literal is there, which has this name
 abbrev pub WillBePlaced : List ℕ → List Literal → (List ℕ → Option ℕ) → Type 0
-WillBePlaced name literals place_of = (l : Literal) → l.name.now.name.items ≡ name → ArePlaced (literals ++ l ∷ []) place_of
+WillBePlaced name literals place_of = (l : Literal) → letters_of l.name.now.name ≡ name → ArePlaced (literals ++ l ∷ []) place_of
 
 -- ---- texts that put nothing out
 

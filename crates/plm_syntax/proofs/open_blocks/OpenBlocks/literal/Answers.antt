@@ -8,6 +8,6 @@ pub returns-then-is_identifier-clause-named : goal.returns-then-is_identifier-cl
 returns-then-is_identifier-clause-named c =
     let literals = c.args.self.now.literals.items in
     let token = c.args.token.now in
-    ap (literal_at (map literal_text literals)) (c.named.ensures.named ∙ ap (λ (n : List ℕ). first_named n literals) (c.as_slice.ensures.value ∙ token.in_normal_form))
+    ap (literal_at (map literal_text literals)) (c.named.ensures.named ∙ ap (λ (n : List ℕ). first_named n literals) (c.letters.ensures ∙ token.in_normal_form))
     ∙ text_found token.token.text.now literals
     ∙ ap (λ (b : Bool). cond b (find (λ l. names_equal l.name token.token.text.now) (map literal_text literals)) None) (sym c.if-is_identifier.true ∙ c.is_identifier.ensures)

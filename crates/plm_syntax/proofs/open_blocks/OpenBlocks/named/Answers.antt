@@ -14,7 +14,7 @@ returns-then-eq-clause-named c =
     named_there c.args.name.now c.args.self.now.literals.items (place_in c.args.self.now.places) c.in_ok-place.field-0.now l c.args.self.now.placed
     (sym c.in_ok-place.ensures.value)
     (read_there c.deref.result.now c.args.self.now.literals.items c.in_ok-place.field-0.now l c.deref.ensures.value h.0 h.1)
-    (ap (λ (xs : List ℕ). bytes_eq xs c.args.name.now) (sym c.as_slice.ensures.value) ∙ sym c.eq.ensures ∙ c.if-eq.true)
+    (ap (λ (xs : List ℕ). bytes_eq xs c.args.name.now) (sym c.letters.ensures) ∙ sym c.eq.ensures ∙ c.if-eq.true)
 
 pub returns-else-eq-clause-named : goal.returns-else-eq-clause-named
 returns-else-eq-clause-named c =
@@ -23,7 +23,7 @@ returns-else-eq-clause-named c =
     named_nowhere c.args.name.now c.args.self.now.literals.items (place_in c.args.self.now.places) c.args.self.now.placed
     (at_place c.args.name.now c.args.self.now.literals.items (place_in c.args.self.now.places) c.in_ok-place.field-0.now (Some l) (sym c.in_ok-place.ensures.value)
     (read_there c.deref.result.now c.args.self.now.literals.items c.in_ok-place.field-0.now l c.deref.ensures.value h.0 h.1)
-    (ap (λ (xs : List ℕ). bytes_eq xs c.args.name.now) (sym c.as_slice.ensures.value) ∙ sym c.eq.ensures ∙ c.if-eq.false))
+    (ap (λ (xs : List ℕ). bytes_eq xs c.args.name.now) (sym c.letters.ensures) ∙ sym c.eq.ensures ∙ c.if-eq.false))
 
 pub returns-in_err-literal-clause-named : goal.returns-in_err-literal-clause-named
 returns-in_err-literal-clause-named c =
