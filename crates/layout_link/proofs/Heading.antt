@@ -9,7 +9,7 @@ use Rattle.i86_code.specs.Forms.{opcode_byte}
 use Rattle.layout_link.specs.declared.tasks.Task.{Task}
 use Rattle.layout_link.specs.declared.tasks.Task.TheVariants as tasks
 use Rattle.layout_link.specs.Startup.{load_word, rep_movsb, Stands, HasAct, HasActs, HasStartUp, Copy}
-use Rattle.layout_link.specs.Tasks.{placed, bytes_of_task, bytes_of_tasks}
+use Rattle.layout_link.specs.Tasks.{placed, bytes_of_task, bytes_of_tasks, start_up_bytes}
 use Rattle.layout_link.specs.Inner.Bytes.{all_bytes, StandInOrder}
 use Rattle.layout_link.specs.Inner.Head.{TaskFits, TasksFit, to_entry, instructions_of, all_of, to_main, start_up}
 
@@ -49,7 +49,7 @@ tasks_long places from (t ∷ ts) =
     let more = tasks_long places from ts in
     long_append (instructions_of (placed places from t)) (all_of places from ts) ∙ omega (arith, one, more)
 
-entry_long : (entry : ℕ) → length (all_bytes (to_entry entry)) ≡ 21
+entry_long : (entry : ℕ) → length (all_bytes (to_entry entry)) ≡ 24
 unfolding form_of move_word_of alu_word_of based_form opcode_byte
 entry_long entry = refl
 
@@ -57,7 +57,7 @@ main_long : (distance : ℕ) → length (all_bytes (to_main distance)) ≡ 18
 unfolding form_of move_word_of opcode_byte
 main_long distance = refl
 
-pub start_up_long : (entry : ℕ) (places : List ℕ) (from : ℕ) (ts : List Task) (distance : ℕ) → length (all_bytes (start_up entry places from ts distance)) ≡ 39 + bytes_of_tasks ts
+pub start_up_long : (entry : ℕ) (places : List ℕ) (from : ℕ) (ts : List Task) (distance : ℕ) → length (all_bytes (start_up entry places from ts distance)) ≡ start_up_bytes ts
 start_up_long entry places from ts distance =
     let a = long_append (to_entry entry) (all_of places from ts ++ to_main distance) in
     let b = long_append (all_of places from ts) (to_main distance) in
@@ -119,27 +119,28 @@ module _ (code : ℕ → Option (Instr × ℕ)) where
 
   -- ---- the whole
 
-  pub starts_up : (base entry : ℕ) (places : List ℕ) (from : ℕ) (ts : List Task) (distance main_at : ℕ) → TasksFit from ts → base + 39 + bytes_of_tasks ts ≤ 0xFFF0
-      → (length : ℕ) × (code 0xFFF0 ≡ Some (i.JumpFar base 0xF000, length)) → further (base + 39 + bytes_of_tasks ts) distance ≡ main_at
+  pub starts_up : (base entry : ℕ) (places : List ℕ) (from : ℕ) (ts : List Task) (distance main_at : ℕ) → TasksFit from ts → base + start_up_bytes ts ≤ 0xFFF0
+      → (length : ℕ) × (code 0xFFF0 ≡ Some (i.JumpFar base 0xF000, length)) → further (base + start_up_bytes ts) distance ≡ main_at
       → StandInOrder code base (start_up entry places from ts distance) → HasStartUp code entry (map (placed places from) ts) main_at
   unfolding form_of move_byte_of move_word_of alu_byte_of alu_word_of based_form opcode_byte
   starts_up base entry places from ts distance main_at f le reset leads all =
       let s = in_front code base (to_entry entry) (all_of places from ts ++ to_main distance) all in
-      let rest : StandInOrder code (base + 21) (all_of places from ts ++ to_main distance) = behind code base (to_entry entry) (all_of places from ts ++ to_main distance) all in
-      let acts = in_front code (base + 21) (all_of places from ts) (to_main distance) rest in
+      let rest : StandInOrder code (base + 24) (all_of places from ts ++ to_main distance) = behind code base (to_entry entry) (all_of places from ts ++ to_main distance) all in
+      let acts = in_front code (base + 24) (all_of places from ts) (to_main distance) rest in
       let long = tasks_long places from ts in
       let n = bytes_of_tasks ts in
-      let e : base + 21 + length (all_bytes (all_of places from ts)) ≡ base + 21 + n = omega (arith, long) in
-      let z = subst (λ x. StandInOrder code x (to_main distance)) e (behind code (base + 21) (all_of places from ts) (to_main distance) rest) in
-      let q = base + 21 + n in
+      let e : base + 24 + length (all_bytes (all_of places from ts)) ≡ base + 24 + n = omega (arith, long) in
+      let z = subst (λ x. StandInOrder code x (to_main distance)) e (behind code (base + 24) (all_of places from ts) (to_main distance) rest) in
+      let q = base + 24 + n in
       let low : q + 18 ≤ 0xFFF0 = omega (arith, le) in
-      let lead : further (further (q + 15) 3) distance ≡ main_at = let same : further (q + 15) 3 ≡ base + 39 + n = omega (arith, le) in ap (λ x. further x distance) same ∙ leads in
+      let lead : further (further (q + 15) 3) distance ≡ main_at = let same : further (q + 15) 3 ≡ base + (42 + n) = omega (arith, le) in ap (λ x. further x distance) same ∙ leads in
       record {
         begin = base;
         second = base + 3;
-        loop = base + 6;
+        third = base + 6;
+        loop = base + 9;
         back = 242;
-        acting = base + 21;
+        acting = base + 24;
         acted = q;
         p1 = q + 3;
         p2 = q + 5;
@@ -151,17 +152,18 @@ module _ (code : ℕ → Option (Instr × ℕ)) where
         reset = reset;
         load_entry = stands base base (base + 3) 3 _ s.0 refl refl (omega (arith, le));
         load_segment = stands (base + 3) (base + 3) (base + 6) 3 _ s.1.0 refl (omega arith) (omega (arith, le));
+        load_first = stands (base + 3 + 3) (base + 6) (base + 9) 3 _ s.1.1.0 (omega arith) (omega arith) (omega (arith, le));
         sets_vectors = record {
           fits = omega (arith, le);
-          first = moved (base + 3 + 3) (base + 6) 2 _ s.1.1.0 (omega arith);
-          second = moved (base + 3 + 3 + 2) (base + 6 + 2) 3 _ s.1.1.1.0 (omega arith);
-          third = moved (base + 3 + 3 + 2 + 3) (base + 6 + 5) 3 _ s.1.1.1.1.0 (omega arith);
-          fourth = moved (base + 3 + 3 + 2 + 3 + 3) (base + 6 + 8) 4 _ s.1.1.1.1.1.0 (omega arith);
-          fifth = moved (base + 3 + 3 + 2 + 3 + 3 + 4) (base + 6 + 12) 2 _ s.1.1.1.1.1.1.0 (omega arith);
+          first = moved (base + 3 + 3 + 3) (base + 9) 2 _ s.1.1.1.0 (omega arith);
+          second = moved (base + 3 + 3 + 3 + 2) (base + 9 + 2) 3 _ s.1.1.1.1.0 (omega arith);
+          third = moved (base + 3 + 3 + 3 + 2 + 3) (base + 9 + 5) 3 _ s.1.1.1.1.1.0 (omega arith);
+          fourth = moved (base + 3 + 3 + 3 + 2 + 3 + 3) (base + 9 + 8) 4 _ s.1.1.1.1.1.1.0 (omega arith);
+          fifth = moved (base + 3 + 3 + 3 + 2 + 3 + 3 + 4) (base + 9 + 12) 2 _ s.1.1.1.1.1.1.1.0 (omega arith);
           again = omega (arith, le);
         };
-        clear = stands (base + 3 + 3 + 2 + 3 + 3 + 4 + 2) (base + 6 + 14) (base + 21) 1 _ s.1.1.1.1.1.1.1.0 (omega arith) (omega arith) (omega (arith, le));
-        has_acts = has_tasks places (base + 21) from ts f (omega (arith, le)) acts;
+        clear = stands (base + 3 + 3 + 3 + 2 + 3 + 3 + 4 + 2) (base + 9 + 14) (base + 24) 1 _ s.1.1.1.1.1.1.1.1.0 (omega arith) (omega arith) (omega (arith, le));
+        has_acts = has_tasks places (base + 24) from ts f (omega (arith, le)) acts;
         load_data = stands q q (q + 3) 3 _ z.0 refl refl (omega (arith, low));
         to_ds = stands (q + 3) (q + 3) (q + 5) 2 _ z.1.0 refl (omega arith) (omega (arith, low));
         to_ss = stands (q + 3 + 2) (q + 5) (q + 7) 2 _ z.1.1.0 (omega arith) (omega arith) (omega (arith, low));

@@ -13,7 +13,7 @@ use Rattle.layout_link.specs.declared.tasks.Task.{Task}
 use Rattle.layout_link.specs.Image.{bytes_in, base_of}
 use Rattle.layout_link.specs.Places.{total_of, places_from}
 use Rattle.layout_link.specs.Startup.{HasStartUp}
-use Rattle.layout_link.specs.Tasks.{placed, bytes_of_tasks, is_main, is_unserved}
+use Rattle.layout_link.specs.Tasks.{placed, start_up_bytes, is_main, is_unserved}
 use Rattle.layout_link.specs.Linker.{place_in}
 use Rattle.layout_link.specs.Inner.Bytes.{all_bytes, StandInOrder}
 use Rattle.layout_link.specs.Inner.Head.{TasksFit, start_up}
@@ -28,7 +28,7 @@ base_and_size Kib64 = refl
 pub begin_is : (s : RomSize) (bytes head n : ℕ) → bytes ≡ bytes_in s → head ≡ n → 65536 - bytes + head ≡ base_of s + n
 begin_is s bytes head n e f = ap₂ (λ x y. 65536 - x + y) e f
 
-pub code_long : (code : List Instr) (entry : ℕ) (places : List ℕ) (from : ℕ) (tasks : List Task) (distance : ℕ) → code ≡ start_up entry places from tasks distance → length (all_bytes code) ≡ 39 + bytes_of_tasks tasks
+pub code_long : (code : List Instr) (entry : ℕ) (places : List ℕ) (from : ℕ) (tasks : List Task) (distance : ℕ) → code ≡ start_up entry places from tasks distance → length (all_bytes code) ≡ start_up_bytes tasks
 code_long code entry places from tasks distance e = ap (λ l. length (all_bytes l)) e ∙ start_up_long entry places from tasks distance
 
 pub place_below : (from : ℕ) (ps : List Part) (k : ℕ) → get_or (places_from from ps) k 0 ≤ from + total_of ps
@@ -43,7 +43,7 @@ some_below f most h (Some k) = h k
 
 module _ (parts : List Part) (tasks : List Task) (base : ℕ) where
   abbrev begin : ℕ
-  begin = base + (39 + bytes_of_tasks tasks)
+  begin = base + start_up_bytes tasks
 
   abbrev places : List ℕ
   places = places_from begin parts
@@ -67,5 +67,5 @@ module _ (parts : List Part) (tasks : List Task) (base : ℕ) where
       ∙ ap₂ (λ x y. start_up (at is_unserved) x y tasks ((main + (65536 - b)) % 65536)) p f
       ∙ ap (λ x. start_up (at is_unserved) places end tasks x) d_is in
       let main_low : at is_main ≤ end = some_below (λ k. slice_index places k) end (place_below begin parts) (position (λ q. is_main q.entry) parts) in
-      let leads : further (base + 39 + bytes_of_tasks tasks) d ≡ at is_main = omega (arith, main_low, low) in
+      let leads : further (base + start_up_bytes tasks) d ≡ at is_main = omega (arith, main_low, low) in
       starts_up code base (at is_unserved) places end tasks d (at is_main) fit (omega (arith, low)) (5, reset) leads (subst (StandInOrder code base) is' stand)

@@ -11,7 +11,7 @@ use Rattle.layout_link.specs.Image.{base_of}
 use Rattle.layout_link.specs.Objects.{offsets_from}
 use Rattle.layout_link.specs.Places.{total_of, places_from}
 use Rattle.layout_link.specs.Startup.{Act}
-use Rattle.layout_link.specs.Tasks.{placed, bytes_of_tasks, vector_tasks}
+use Rattle.layout_link.specs.Tasks.{placed, start_up_bytes, vector_tasks}
 use Rattle.layout_link.specs.Initial.{data_tasks, copied_bytes}
 use Rattle.layout_link.specs.Rom.{rom_byte}
 
@@ -34,7 +34,7 @@ module _ (names : Names) where
 
     -- the bytes of start-up
     abbrev pub start_up_in : ℕ
-    start_up_in = 39 + bytes_of_tasks tasks_in
+    start_up_in = start_up_bytes tasks_in
 
     -- what a ROM has to hold: start-up, the parts, initial bytes, and what stands from the far jump of the reset on
     abbrev pub needed : ℕ

@@ -96,11 +96,12 @@ turns_of_all (act ∷ acts) = turns_of act + turns_of_all acts
 
 -- ---- the whole
 
--- The far jump at 0FFFF0H; MOV AX,entry; MOV DX,0F000H; the loop, where BX is 0 from the reset; CLD; the acts; MOV AX,0040H;
--- MOV DS,AX; MOV SS,AX; MOV AX,0B000H; MOV ES,AX; MOV SP,0FFFEH; JMP to main.
+-- The far jump at 0FFFF0H; MOV AX,entry; MOV DX,0F000H; MOV BX,0; the loop; CLD; the acts; MOV AX,0040H; MOV DS,AX; MOV SS,AX;
+-- MOV AX,0B000H; MOV ES,AX; MOV SP,0FFFEH; JMP to main. Each register that is read was loaded.
 pub record HasStartUp (code : (place : ℕ) → Option (Instr × ℕ)) (entry : ℕ) (acts : List Act) (main_at : ℕ) : Type 0 where
   pub begin : ℕ
   pub second : ℕ
+  pub third : ℕ
   pub loop : ℕ
   pub back : ℕ
   pub acting : ℕ
@@ -114,7 +115,8 @@ pub record HasStartUp (code : (place : ℕ) → Option (Instr × ℕ)) (entry : 
   pub distance : ℕ
   pub reset : (length : ℕ) × (code 0xFFF0 ≡ Some (i.JumpFar begin 0xF000, length))
   pub load_entry : Stands code begin (load_word Ax entry) second
-  pub load_segment : Stands code second (load_word Dx 0xF000) loop
+  pub load_segment : Stands code second (load_word Dx 0xF000) third
+  pub load_first : Stands code third (load_word Bx 0) loop
   pub sets_vectors : HasLoop code loop back
   pub clear : Stands code (loop + 14) i.ClearDirection acting
   pub has_acts : HasActs code acting acts acted
@@ -126,6 +128,9 @@ pub record HasStartUp (code : (place : ℕ) → Option (Instr × ℕ)) (entry : 
   pub load_stack : Stands code p5 (load_word Sp 0xFFFE) p6
   pub goes : (length : ℕ) × (code p6 ≡ Some (i.Jump distance, length)) × (further (further p6 length) distance ≡ main_at)
 
--- its turns
+-- its turns without acts: the far jump, three loads, five for each vector, and eight behind the loop
+abbrev pub turns_without_acts : ℕ
+turns_without_acts = 1292
+
 abbrev pub start_up_turns : List Act → ℕ
-start_up_turns acts = 1291 + turns_of_all acts
+start_up_turns acts = turns_without_acts + turns_of_all acts

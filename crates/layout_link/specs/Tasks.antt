@@ -25,6 +25,10 @@ abbrev pub bytes_of_tasks : List Task → ℕ
 bytes_of_tasks [] = 0
 bytes_of_tasks (t ∷ ts) = bytes_of_task t + bytes_of_tasks ts
 
+-- the bytes of start-up, of which 42 are for what it does whatever its tasks
+abbrev pub start_up_bytes : List Task → ℕ
+start_up_bytes ts = 42 + bytes_of_tasks ts
+
 -- ---- who is who
 
 abbrev pub is_main : Entry → Bool

@@ -5,8 +5,8 @@ ghost use Rattle.std.specs.Option.{option_map_or};
 ghost use Rattle.plm_decl.specs.Placement.{IsPlacement, sizes_of};
 ghost use Rattle.layout_link.specs.Image.{bytes_in, base_of};
 ghost use Rattle.layout_link.specs.Places.{total_of, places_from};
-ghost use Rattle.layout_link.specs.Startup.{HasStartUp, start_up_turns};
-ghost use Rattle.layout_link.specs.Tasks.{placed, bytes_of_tasks, is_main, is_unserved};
+ghost use Rattle.layout_link.specs.Startup.{HasStartUp, start_up_turns, turns_without_acts};
+ghost use Rattle.layout_link.specs.Tasks.{placed, bytes_of_tasks, start_up_bytes, is_main, is_unserved};
 ghost use Rattle.layout_link.specs.Initial.{HaveBytes, count_of};
 ghost use Rattle.layout_link.specs.Rom.{rom_byte, CodeInRom, WordsInRom, rom_code, rom_words};
 ghost use Rattle.layout_link.specs.Stand.{PartsStand};
@@ -28,7 +28,7 @@ use std::alloc::Global;
 use word86::{Fault, Number};
 
 /// The turns of start-up without its tasks.
-const TURNS: u32 = 1291;
+const TURNS: u32 = 1292;
 
 /// The room that the tasks leave.
 fn room_behind(tasks: &[Task], room: usize) -> Option<usize>
@@ -43,9 +43,9 @@ fn room_behind(tasks: &[Task], room: usize) -> Option<usize>
 
 /// The bytes of start-up, if it, the parts and the initial bytes, `initial` in number, fit a ROM; E601 exactly if they do not.
 fn head_of(tasks: &[Task], parts: &[Part], initial: usize, size: RomSize) -> Result<usize, Fault>
-    ensures head { IfOk result (λ head. head ≡ 39 + bytes_of_tasks tasks.now) }
-    ensures fits { OnOk result (39 + bytes_of_tasks tasks.now + total_of parts.now + initial + 16 ≤ bytes_in size) }
-    ensures full { IfErr result (λ e. (e ≡ Fault.At 0 1 Number.E601) × (bytes_in size < 39 + bytes_of_tasks tasks.now + total_of parts.now + initial + 16)) }
+    ensures head { IfOk result (λ head. head ≡ start_up_bytes tasks.now) }
+    ensures fits { OnOk result (start_up_bytes tasks.now + total_of parts.now + initial + 16 ≤ bytes_in size) }
+    ensures full { IfErr result (λ e. (e ≡ Fault.At 0 1 Number.E601) × (bytes_in size < start_up_bytes tasks.now + total_of parts.now + initial + 16)) }
 {
     let full = Fault::At(0, 1, Number::E601);
     let bytes = size.bytes();
@@ -71,7 +71,7 @@ fn turns_of(task: Task) -> u32
 /// The turns of start-up.
 fn start_turns(tasks: &[Task]) -> u32
     requires { turns_of_tasks tasks.now ≤ 100000 }
-    ensures { result ≡ 1291 + turns_of_tasks tasks.now }
+    ensures { result ≡ turns_without_acts + turns_of_tasks tasks.now }
 {
     let mut turns = TURNS;
     for task in tasks {
@@ -114,15 +114,15 @@ fn rom_with(
     size: RomSize,
 ) -> Result<Vec<u8>, Fault>
     requires { (from : ℕ) → from + length initial.now < 65536 → TasksFit from tasks.now }
-    ensures fits { OnOk result (39 + bytes_of_tasks tasks.now + total_of parts.now + length initial.now + 16 ≤ bytes_in size) }
-    ensures full { IfErr result (λ e. (e ≡ Fault.Memory) ⊎ ((e ≡ Fault.At 0 1 Number.E601) × (bytes_in size < 39 + bytes_of_tasks tasks.now + total_of parts.now + length initial.now + 16))) }
+    ensures fits { OnOk result (start_up_bytes tasks.now + total_of parts.now + length initial.now + 16 ≤ bytes_in size) }
+    ensures full { IfErr result (λ e. (e ≡ Fault.Memory) ⊎ ((e ≡ Fault.At 0 1 Number.E601) × (bytes_in size < start_up_bytes tasks.now + total_of parts.now + length initial.now + 16))) }
     ensures long { IfOk result (λ rom. length rom.items ≡ bytes_in size) }
     ensures code { IfOk result (λ rom. CodeInRom rom.items (rom_code rom.items)) }
     ensures words { IfOk result (λ rom. WordsInRom rom.items (rom_words rom.items)) }
-    ensures start_up { IfOk result (λ rom. let begin = base_of size + (39 + bytes_of_tasks tasks.now) in let places = places_from begin parts.now in
+    ensures start_up { IfOk result (λ rom. let begin = base_of size + start_up_bytes tasks.now in let places = places_from begin parts.now in
         HasStartUp (rom_code rom.items) (place_in places parts.now is_unserved) (map (placed places (begin + total_of parts.now)) tasks.now) (place_in places parts.now is_main)) }
-    ensures initial { IfOk result (λ rom. (i : ℕ) → i < length initial.now → rom_byte rom.items (base_of size + (39 + bytes_of_tasks tasks.now) + total_of parts.now + i) ≡ slice_index initial.now i) }
-    ensures parts { IfOk result (λ rom. PartsStand (rom_code rom.items) (rom_words rom.items) offsets.now (places_from (base_of size + (39 + bytes_of_tasks tasks.now)) parts.now) parts.now) }
+    ensures initial { IfOk result (λ rom. (i : ℕ) → i < length initial.now → rom_byte rom.items (base_of size + start_up_bytes tasks.now + total_of parts.now + i) ≡ slice_index initial.now i) }
+    ensures parts { IfOk result (λ rom. PartsStand (rom_code rom.items) (rom_words rom.items) offsets.now (places_from (base_of size + start_up_bytes tasks.now) parts.now) parts.now) }
 {
     let head = head_of(tasks, parts, initial.len(), size)?;
     let begin = (0x1_0000 - size.bytes() + head) as u16;

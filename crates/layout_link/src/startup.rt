@@ -17,7 +17,7 @@ use std::alloc::Global;
 use word86::{Fault, Width};
 
 /// The bytes of start-up without its tasks.
-pub(crate) const START_UP: usize = 39;
+pub(crate) const START_UP: usize = 42;
 
 /// MOV register,value.
 fn load(register: Register16, value: u16) -> Instr
@@ -73,14 +73,15 @@ fn rep_movsb() -> Instr
     }
 }
 
-/// Leads every vector to this entry, by a loop, where BX is 0 from the reset.
-fn to_entry(entry: u16) -> [Instr; 8]
+/// Leads every vector to this entry, by a loop over BX.
+fn to_entry(entry: u16) -> [Instr; 9]
     ensures { result ≡ to_entry entry }
 {
     let bx = RmOperand::Register(Register16::Bx);
     [
         load(Register16::Ax, entry),
         load(Register16::Dx, 0xF000),
+        load(Register16::Bx, 0),
         Instr::MoveWord(Operands::FromRegister(RmOperand::Memory(at_bx(0)), Register16::Ax)),
         Instr::MoveWord(Operands::FromRegister(RmOperand::Memory(at_bx(2)), Register16::Dx)),
         Instr::AluWord(AluOperation::Add, Operands::Immediate(bx, 4)),

@@ -16,7 +16,7 @@ use Rattle.layout_link.specs.Tasks.{placed}
 -- all vectors get this entry
 abbrev pub to_entry : (entry : ℕ) → List Instr
 to_entry entry =
-    load_word Ax entry ∷ load_word Dx 0xF000
+    load_word Ax entry ∷ load_word Dx 0xF000 ∷ load_word Bx 0
     ∷ low_half ∷ high_half ∷ i.AluWord Add (Immediate (places.Register Bx) 4) ∷ i.AluWord Cmp (Immediate (places.Register Bx) 1024) ∷ i.JumpIf conditions.NotEqual 242
     ∷ i.ClearDirection ∷ []
 

@@ -1,4 +1,4 @@
--- What does not fit into a ROM is a large program: it takes at most 46 bytes a node, its initial bytes, and 76.
+-- What does not fit into a ROM is a large program: it takes at most 46 bytes a node, its initial bytes, and 79.
 use Rattle.std.proofs.Common.{◌≡◌, ℕ, zero, suc, ◌+◌, ◌*◌, ◌<◌, ◌≤◌, ◌⊎◌, inl, inr, List, [], ◌∷◌, length, refl, sym, ap, ◌∙◌, arith}
 use Rattle.std.specs.List.{sum_by}
 use Rattle.std.proofs.lemmas.Bool.{cases_lt}
@@ -42,7 +42,7 @@ module _ (names : Names) (c : Code) (lowered : IsLowered names c) where
 
   module _ (parts : List Part) (are : AreParts c parts) (room : HasRoom names) (fit : ProgramsHaveRoom) where
     -- six bytes a procedure for its vector and five for its registers are left of the twelve
-    pub needed_few : needed names parts ≤ 46 * nodes_of names + initial_size names + 76
+    pub needed_few : needed names parts ≤ 46 * nodes_of names + initial_size names + 79
     needed_few =
         let offsets = offsets_in names in
         let tasks_are = bytes_append (vector_tasks parts 0 256) (data_tasks offsets names.variables.items 0 0 0 names.objects.items) in
@@ -53,7 +53,7 @@ module _ (names : Names) (c : Code) (lowered : IsLowered names c) where
         omega (arith, tasks_are, vectors_room c parts are, objects, total_is parts, fit c parts are, main_is, below, rooms, how_many, room.main, room.procedures)
 
 -- of each KiB 736 bytes are for 16 nodes, and 256 for initial bytes
-large : (kib nodes initial bytes : ℕ) → 8 ≤ kib → bytes ≤ 46 * nodes + initial + 76 → 1024 * kib < bytes → (16 * kib < nodes) ⊎ (1024 * kib < 4 * initial)
+large : (kib nodes initial bytes : ℕ) → 8 ≤ kib → bytes ≤ 46 * nodes + initial + 79 → 1024 * kib < bytes → (16 * kib < nodes) ⊎ (1024 * kib < 4 * initial)
 large kib nodes initial bytes some few lt = elim (cases_lt (16 * kib) nodes) [
   | inl more ↦ inl more
   | inr le ↦ inr (omega (arith, some, few, lt, le))

@@ -5,8 +5,8 @@ use Rattle.plm_decl.specs.Placement.{IsPlacement, sizes_of}
 use Rattle.layout_link.specs.Image.{base_of}
 use Rattle.layout_link.specs.Objects.{offsets_from}
 use Rattle.layout_link.specs.Places.{total_of, places_from}
-use Rattle.layout_link.specs.Startup.{HasStartUp}
-use Rattle.layout_link.specs.Tasks.{placed, bytes_of_tasks, is_main, is_unserved}
+use Rattle.layout_link.specs.Startup.{HasStartUp, turns_without_acts}
+use Rattle.layout_link.specs.Tasks.{placed, bytes_of_tasks, start_up_bytes, is_main, is_unserved}
 use Rattle.layout_link.specs.Initial.{HaveBytes, copied_bytes}
 use Rattle.layout_link.specs.Rom.{rom_byte, rom_code, rom_words}
 use Rattle.layout_link.specs.Stand.{PartsStand}
@@ -56,8 +56,8 @@ returns-clause-start_up c =
     let tasks = c.deref-6.ensures.value ∙ tasks_are names parts c.deref-3.result.now c.in_ok-tasks.tasks.items c.initial.new.tasks.items offsets vectors c.in_ok-bytes.ensures.tasks in
     along
     (λ ps ts bs.
-    HasStartUp (rom_code c.in_ok-rom.rom.items) (place_in (places_from (base + (39 + bytes_of_tasks ts)) ps) ps is_unserved)
-    (map (placed (places_from (base + (39 + bytes_of_tasks ts)) ps) (base + (39 + bytes_of_tasks ts) + total_of ps)) ts) (place_in (places_from (base + (39 + bytes_of_tasks ts)) ps) ps is_main))
+    HasStartUp (rom_code c.in_ok-rom.rom.items) (place_in (places_from (base + start_up_bytes ts) ps) ps is_unserved)
+    (map (placed (places_from (base + start_up_bytes ts) ps) (base + start_up_bytes ts + total_of ps)) ts) (place_in (places_from (base + start_up_bytes ts) ps) ps is_main))
     c.deref-4.result.now parts c.deref-6.result.now (tasks_in names parts) c.deref-7.result.now c.deref-7.result.now c.deref-4.ensures.value tasks refl c.in_ok-rom.ensures.start_up
 
 pub returns-clause-initial : goal.returns-clause-initial
@@ -69,7 +69,7 @@ returns-clause-initial c =
     let vectors = vectors_are parts c.deref-2.result.now c.in_ok-tasks.tasks.items c.deref-2.ensures.value c.in_ok-tasks.ensures.tasks in
     let tasks = c.deref-6.ensures.value ∙ tasks_are names parts c.deref-3.result.now c.in_ok-tasks.tasks.items c.initial.new.tasks.items offsets vectors c.in_ok-bytes.ensures.tasks in
     let bytes = c.deref-7.ensures.value ∙ c.in_ok-bytes.ensures.bytes ∙ ap (λ b. copied_bytes b names.variables.items 0 names.objects.items) offsets in
-    along (λ ps ts bs. (k : ℕ) → k < length bs → rom_byte c.in_ok-rom.rom.items (base + (39 + bytes_of_tasks ts) + total_of ps + k) ≡ slice_index bs k)
+    along (λ ps ts bs. (k : ℕ) → k < length bs → rom_byte c.in_ok-rom.rom.items (base + start_up_bytes ts + total_of ps + k) ≡ slice_index bs k)
     c.deref-4.result.now parts c.deref-6.result.now (tasks_in names parts) c.deref-7.result.now (initial_in names) c.deref-4.ensures.value tasks bytes c.in_ok-rom.ensures.initial
 
 pub returns-clause-bytes : goal.returns-clause-bytes
@@ -86,8 +86,8 @@ returns-clause-turns c =
     let offsets = c.deref-3.ensures.value ∙ offsets_are names c.deref.result.now c.in_ok-offsets.offsets.items c.deref.ensures.value c.in_ok-offsets.ensures.offsets in
     let vectors = vectors_are parts c.deref-2.result.now c.in_ok-tasks.tasks.items c.deref-2.ensures.value c.in_ok-tasks.ensures.tasks in
     let tasks = c.deref-8.ensures.value ∙ tasks_are names parts c.deref-3.result.now c.in_ok-tasks.tasks.items c.initial.new.tasks.items offsets vectors c.in_ok-bytes.ensures.tasks in
-    c.start_turns.ensures ∙ ap (λ ts. 1291 + turns_of_tasks ts) tasks
-    ∙ ap (λ n. 1291 + n) (sym (all_turns (places_in names parts size) (base_of size + (39 + bytes_of_tasks (tasks_in names parts)) + total_of parts) (tasks_in names parts)))
+    c.start_turns.ensures ∙ ap (λ ts. turns_without_acts + turns_of_tasks ts) tasks
+    ∙ ap (λ n. turns_without_acts + n) (sym (all_turns (places_in names parts size) (base_of size + start_up_bytes (tasks_in names parts) + total_of parts) (tasks_in names parts)))
 
 pub returns-clause-few_turns : goal.returns-clause-few_turns
 returns-clause-few_turns c =
@@ -96,7 +96,7 @@ returns-clause-few_turns c =
     let offsets = c.deref-3.ensures.value ∙ offsets_are names c.deref.result.now c.in_ok-offsets.offsets.items c.deref.ensures.value c.in_ok-offsets.ensures.offsets in
     let vectors = vectors_are parts c.deref-2.result.now c.in_ok-tasks.tasks.items c.deref-2.ensures.value c.in_ok-tasks.ensures.tasks in
     let tasks = c.deref-8.ensures.value ∙ tasks_are names parts c.deref-3.result.now c.in_ok-tasks.tasks.items c.initial.new.tasks.items offsets vectors c.in_ok-bytes.ensures.tasks in
-    let same = c.start_turns.ensures ∙ ap (λ ts. 1291 + turns_of_tasks ts) tasks in
+    let same = c.start_turns.ensures ∙ ap (λ ts. turns_without_acts + turns_of_tasks ts) tasks in
     let few = (turns_few names c.initial_values_fit.ensures.bytes parts).0 in
     omega (arith, same, few)
 
@@ -110,7 +110,7 @@ returns-clause-parts c =
     let vectors = vectors_are parts c.deref-2.result.now c.in_ok-tasks.tasks.items c.deref-2.ensures.value c.in_ok-tasks.ensures.tasks in
     let tasks = c.deref-6.ensures.value ∙ tasks_are names parts c.deref-3.result.now c.in_ok-tasks.tasks.items c.initial.new.tasks.items offsets vectors c.in_ok-bytes.ensures.tasks in
     let there : c.deref-5.result.now ≡ offsets_in names = c.deref-5.ensures.value ∙ sym c.deref-3.ensures.value ∙ offsets in
-    along (λ ps ts bs. PartsStand (rom_code rom) (rom_words rom) bs (places_from (base + (39 + bytes_of_tasks ts)) ps) ps)
+    along (λ ps ts bs. PartsStand (rom_code rom) (rom_words rom) bs (places_from (base + start_up_bytes ts) ps) ps)
     c.deref-4.result.now parts c.deref-6.result.now (tasks_in names parts) c.deref-5.result.now (offsets_in names) c.deref-4.ensures.value tasks there c.in_ok-rom.ensures.parts
 
 pub returns-clause-within : goal.returns-clause-within
@@ -123,7 +123,7 @@ returns-clause-within c = λ part.
     let n = ap bytes_of_tasks tasks in
     let m = ap total_of c.deref-4.ensures.value in
     let fits = c.in_ok-rom.ensures.fits in
-    let low = place_below (base_of c.args.size + (39 + bytes_of_tasks (tasks_in names parts))) parts part in
+    let low = place_below (base_of c.args.size + start_up_bytes (tasks_in names parts)) parts part in
     let ends = base_and_size c.args.size in
     omega (arith, n, m, fits, low, ends)
 
