@@ -4,6 +4,7 @@ ghost use Rattle.std.specs.Prelude.{◌≡◌, ◌++◌, [], true, false, length
 ghost use Rattle.word86.specs.declared.fault.Fault.TheVariants.{Memory, At};
 ghost use Rattle.word86.specs.declared.number.Number.TheVariants.{E705};
 ghost use Rattle.word86.specs.Event.{event_label};
+ghost use Rattle.cpu8086.specs.Turn.{zeros};
 ghost use Rattle.ppi_kbd.specs.Chips.{ChipState, reset};
 ghost use Rattle.ppi_kbd.specs.BoardChips.{board_chips};
 ghost use Rattle.board.specs.World.{World, board_model, occurs};
@@ -52,12 +53,13 @@ fn all_occur(attached: &mut Attached, events: &[Event])
 }
 
 impl Board {
-    /// The board when the power comes on, with this ROM: the processor and the chips are at reset. The ROM has 8, 16, 32 or
-    /// 64 KiB, and E705 is the answer to any other length; else the one refusal is want of memory.
+    /// The board when the power comes on, with this ROM: the processor and the chips are at reset, and the general registers
+    /// hold 0. The ROM has 8, 16, 32 or 64 KiB, and E705 is the answer to any other length; else the one refusal is want of
+    /// memory.
     pub fn new(alloc: Global, rom: &[u8], power_on: PowerOn) -> Result<Board, Fault>
         ensures refused { is_rom_length (length rom.now) ≡ false → result ≡ Err (At 0 1 E705) }
         ensures taken { is_rom_length (length rom.now) ≡ true → IfErr result (λ e. e ≡ Memory) }
-        ensures reset { IfOk result (λ b. Shows b (powered_on rom.now power_on.ram.items power_on.screen.items reset)) }
+        ensures reset { IfOk result (λ b. Shows b (powered_on zeros rom.now power_on.ram.items power_on.screen.items reset)) }
     {
         if !is_rom_length(rom.len()) {
             return Err(Fault::At(0, 1, Number::E705));
