@@ -6,6 +6,7 @@ use Rattle.word86.specs.declared.fault.Fault.{Fault}
 use Rattle.word86.specs.declared.fault.Fault.TheVariants.{Memory, At}
 use Rattle.word86.specs.declared.number.Number.TheVariants.{E704}
 use Rattle.word86.specs.declared.power_on.PowerOn.{PowerOn}
+use Rattle.cpu8086.specs.Turn.{zeros}
 use Rattle.ppi_kbd.specs.Chips.{reset}
 use Rattle.board.specs.declared.board.Board.{Board}
 use Rattle.board.specs.declared.run.End.{End}
@@ -32,7 +33,7 @@ module _ (texts : List (List ℕ)) (size : RomSize) (memory : PowerOn) (due : �
 
   module _ (image : Image) (built : IsBuilt texts size image) (board : Board) (old new : Option (List ℕ)) (before after : ℕ) where
     abbrev RunIs : Result End Fault → Type 0
-    RunIs r = MatchResult r (Ran due stop (powered_on image.rom.items memory.ram.items memory.screen.items reset) board old new before after) (λ f. Broke due stop (powered_on image.rom.items memory.ram.items memory.screen.items reset) board old new before after)
+    RunIs r = MatchResult r (Ran due stop (powered_on zeros image.rom.items memory.ram.items memory.screen.items reset) board old new before after) (λ f. Broke due stop (powered_on zeros image.rom.items memory.ram.items memory.screen.items reset) board old new before after)
 
     pub has_run : (r : Result End Fault) → RunIs r → IfOk r (HasRun texts size memory due stop old new before after)
     has_run (Ok e) run = record { image = image; built = built; board = board; ran = run }

@@ -10,6 +10,7 @@ use Rattle.plm_meaning.specs.System.{Choice, System, State, first_state, steps, 
 use Rattle.plm_meaning.specs.Store.{Store, shared}
 use Rattle.cpu8086.specs.BusModel.{BusModel}
 use Rattle.cpu8086.specs.Machine.{loaded_word}
+use Rattle.cpu8086.specs.Turn.{General, HoldWords}
 use Rattle.board.specs.World.{World, board_model, occurs}
 use Rattle.board.specs.Machine.{Board, turn, outputs, final, power_on}
 
@@ -88,12 +89,12 @@ module _ {P : Type 0} (c : Chips P) (x : Firmware) (R : Type 0) (next : R → Ac
       → HasNoBad (shared c) R next body (joined (outputs (board_turn c) due reset)) (first_state first state)
       → Behaves (shared c) R next first body state (Board (World P)) (board_turn c) reset (Stands c x) start_turns due
 
-  -- For every power-on memory, and whatever events are due turn by turn: the ROM does what the program means. The program's
-  -- first store is told by the power-on memory.
+  -- For every power-on memory, whatever words the general registers hold then, and whatever events are due turn by turn: the ROM does
+  -- what the program means. The program's first store is told by the power-on memory.
   abbrev pub RomIsCorrect : (chips : P) → (first_store : (ram screen : List ℕ) → Store P) → Type 0
   RomIsCorrect chips first_store =
-      (ram screen : List ℕ) → length ram ≡ 0x20000 → length screen ≡ 4000
-      → RunsProgram (power_on x.rom ram screen chips) (first_store ram screen)
+      (general : General) (ram screen : List ℕ) → HoldWords general → length ram ≡ 0x20000 → length screen ≡ 4000
+      → RunsProgram (power_on general x.rom ram screen chips) (first_store ram screen)
 
 -- ---- start-up
 
@@ -105,6 +106,8 @@ module _ {P : Type 0} (c : Chips P) (start_turns : ℕ) (IsSet : (address : ℕ)
     pub keeps : (due : List (List Event)) → length due ≡ start_turns → (address : ℕ) → address < 0x20000 → ¬ IsSet address
         → slice_index (final (board_turn c) due reset).world.ram address ≡ slice_index reset.world.ram address
 
-  -- for every power-on memory
+  -- for every power-on memory, whatever words the general registers hold
   abbrev pub StartsQuietly : (rom : List ℕ) (chips : P) → Type 0
-  StartsQuietly rom chips = (ram screen : List ℕ) → length ram ≡ 0x20000 → length screen ≡ 4000 → QuietStart (power_on rom ram screen chips)
+  StartsQuietly rom chips =
+      (general : General) (ram screen : List ℕ) → HoldWords general → length ram ≡ 0x20000 → length screen ≡ 4000
+      → QuietStart (power_on general rom ram screen chips)

@@ -9,6 +9,7 @@ use Rattle.i86_table.specs.declared.instruction.Instr.{Instr}
 use Rattle.i86_table.specs.Contexts.{Context, Own, Working, all_registers, offer, start}
 use Rattle.i86_table.specs.Words.{AreWords, HasWords}
 use Rattle.cpu8086.specs.declared.cpu.Phase.TheVariants.{Running}
+use Rattle.cpu8086.specs.Turn.{General, HoldWords}
 use Rattle.board.specs.World.{World, Whole, board_model, memory_byte, screen_at}
 use Rattle.board.specs.Machine.{Board, power_on}
 use Rattle.plm86.specs.Boots.{Boots}
@@ -99,7 +100,7 @@ pub record HoldsStore {P : Type 0} (x : Assembly) (s : Store P) (memory : ℕ �
 -- ---- from the layers to the board
 
 -- where the intermediate code tracks the rests, the instructions follow the intermediate code, and start-up leads from each
--- power-on memory to main's beginning
+-- power-on memory and all words in the general registers to main's beginning
 abbrev pub FromLayers : Type 0 → Type 0 → Type 0 → Type 0
 FromLayers P R I =
     (c : Chips P) (x : Assembly) → IsSound x
@@ -108,7 +109,8 @@ FromLayers P R I =
     → Compiled x I does begin procedure k2 m2
     → k1 * suc k2 + k2 < 64
     → (start_turns : ℕ) (chips : P) (first_store : (ram screen : List ℕ) → Store P)
-    → ((ram screen : List ℕ) → length ram ≡ 0x20000 → length screen ≡ 4000 → BootsUp c x start_turns (power_on x.rom ram screen chips) (first_store ram screen))
+    → ((general : General) (ram screen : List ℕ) → HoldWords general → length ram ≡ 0x20000 → length screen ≡ 4000
+    → BootsUp c x start_turns (power_on general x.rom ram screen chips) (first_store ram screen))
     → RomIsCorrect c (firmware_of x) R next first body start_turns chips first_store
 
 -- The ROM has the code and its tables; the code has a start-up, which leaves the vectors and the program's first store; the intermediate code

@@ -31,9 +31,9 @@ pub(crate) fn laws_below()
 /// From the promises of the layers to what the board does.
 ///
 /// If the intermediate code tracks the program's rests, the instructions follow the intermediate code, and start-up leads from
-/// each power-on memory to main's first instruction, then, whatever events are due turn by turn, the board's labels are those
-/// of an allowed run of the program, interrupts included. From the end of start-up on that run makes a step in every 64 turns,
-/// ROM and vectors stand, and the stack pointer stays in its bounds.
+/// each power-on memory and all words in the general registers to main's first instruction, then, whatever events are due turn
+/// by turn, the board's labels are those of an allowed run of the program, interrupts included. From the end of start-up on that
+/// run makes a step in every 64 turns, ROM and vectors stand, and the stack pointer stays in its bounds.
 pub fn board_is_correct<L: Layers>()
     ensures { FromLayers L.Ports L.Rest L.Place }
 {

@@ -6,6 +6,7 @@ use Rattle.i86_code.specs.Coding.{IsOneForm, IsShort}
 use Rattle.i86_code.specs.Widths.{DecodedHasWidths}
 use Rattle.word86.specs.Chips.{Chips}
 use Rattle.plm_meaning.specs.Store.{Store, with_chips, shared}
+use Rattle.cpu8086.specs.Turn.{General, HoldWords}
 use Rattle.board.specs.World.{World, Whole, board_model, occurs}
 use Rattle.board.specs.Machine.{Board, power_on}
 use Rattle.plm86.specs.Boots.{Boots}
@@ -29,34 +30,34 @@ at_the_end rom entry acts ram screen = after_acts acts (with_vectors entry 0 256
 
 module _ (below : LawsBelow) (only : IsOneForm) (short : IsShort) where
   -- start-up leads from power-on to all that follows from main's registers and the memory when it ends
-  pub boots_from : {P : Type 0} (c : Chips P) (x : Assembly) → CodeInRom x.rom x.code → (entry : ℕ) (acts : List Act) → HasStartUp x.code entry acts x.main_at → (ram screen : List ℕ) → length ram ≡ 0x20000 → length screen ≡ 4000 → (s : Store P) (chips : P) → s.chips ≡ chips → (Begins : Board (World P) → Store P → Type 0)
+  pub boots_from : {P : Type 0} (c : Chips P) (x : Assembly) → CodeInRom x.rom x.code → (entry : ℕ) (acts : List Act) → HasStartUp x.code entry acts x.main_at → (general : General) (ram screen : List ℕ) → HoldWords general → length ram ≡ 0x20000 → length screen ≡ 4000 → (s : Store P) (chips : P) → s.chips ≡ chips → (Begins : Board (World P) → Store P → Type 0)
       → ((g : Working) → AreWords g → FlagsAre false g.flags → (d : Board (World P)) (p : P) → Boot (board_model c) c (λ w. w.chips) (Whole x.rom) (of_board below c x.rom) (occurs c) (events_law c x.rom) x.code (all_registers x.main_at g 0xFFFE) (at_the_end x.rom entry acts ram screen) d p → Begins d (with_chips p s))
-      → Boots (shared c) (board_turn c) Begins (start_up_turns acts) (power_on x.rom ram screen chips) s
-  boots_from {P} c x in_rom entry acts start ram screen ram_size screen_size s chips same Begins begins =
+      → Boots (shared c) (board_turn c) Begins (start_up_turns acts) (power_on general x.rom ram screen chips) s
+  boots_from {P} c x in_rom entry acts start general ram screen small ram_size screen_size s chips same Begins begins =
       let m = board_model c in
       let laws = of_board below c x.rom in
       let events = events_law c x.rom in
       let f = power_on_memory x.rom ram screen in
       let w : World P = record { ram = ram; screen = screen; rom = x.rom; chips = chips } in
       let whole : Whole x.rom w = record { ram = ram_size; screen = screen_size; same_rom = refl } in
-      let at_reset : Boot m c (λ w. w.chips) (Whole x.rom) laws (occurs c) events x.code reset_registers f (power_on x.rom ram screen chips) s.chips = record {
+      let at_reset : Boot m c (λ w. w.chips) (Whole x.rom) laws (occurs c) events x.code (reset_registers general) f (power_on general x.rom ram screen chips) s.chips = record {
         is = refl;
         world = record { whole = whole; spelled = spelled_by_rom c x.rom w whole only short x.code in_rom; memory = λ a lt. refl; chips_are = sym same };
       } in
       boots_by m c (λ w. w.chips) (Whole x.rom) laws (occurs c) events x.code Begins (start_up_turns acts)
-      (Boot m c (λ w. w.chips) (Whole x.rom) laws (occurs c) events x.code reset_registers f)
+      (Boot m c (λ w. w.chips) (Whole x.rom) laws (occurs c) events x.code (reset_registers general) f)
       (IsLate m c (λ w. w.chips) (Whole x.rom) laws (occurs c) events x.code Begins entry acts x.main_at start (at_the_end x.rom entry acts ram screen))
-      (power_on x.rom ram screen chips) s
-      (leads_to_main m c (λ w. w.chips) (Whole x.rom) laws (occurs c) events x.code Begins entry acts x.main_at start f)
+      (power_on general x.rom ram screen chips) s
+      (leads_to_main m c (λ w. w.chips) (Whole x.rom) laws (occurs c) events x.code Begins entry acts x.main_at start general small f)
       (λ d p t. begins t.registers t.words t.flags d p t.boot) at_reset
 
   module _ (widths : DecodedHasWidths) (keeps : KeepsWords) where
-    starts_up : {P : Type 0} (c : Chips P) (x : Assembly) (sound : IsSound x) → CodeInRom x.rom x.code → WordsInRom x.rom x.words → (entry : ℕ) (acts : List Act) → HasStartUp x.code entry acts x.main_at → (ram screen : List ℕ) → length ram ≡ 0x20000 → length screen ≡ 4000 → (s : Store P) → HoldsStore x s (at_the_end x.rom entry acts ram screen) → (chips : P) → s.chips ≡ chips → BootsUp c x (start_up_turns acts) (power_on x.rom ram screen chips) s
-    starts_up c x sound in_rom tables entry acts start ram screen ram_size screen_size s holds chips same =
-        boots_from c x in_rom entry acts start ram screen ram_size screen_size s chips same (Begins c x)
+    starts_up : {P : Type 0} (c : Chips P) (x : Assembly) (sound : IsSound x) → CodeInRom x.rom x.code → WordsInRom x.rom x.words → (entry : ℕ) (acts : List Act) → HasStartUp x.code entry acts x.main_at → (general : General) (ram screen : List ℕ) → HoldWords general → length ram ≡ 0x20000 → length screen ≡ 4000 → (s : Store P) → HoldsStore x s (at_the_end x.rom entry acts ram screen) → (chips : P) → s.chips ≡ chips → BootsUp c x (start_up_turns acts) (power_on general x.rom ram screen chips) s
+    starts_up c x sound in_rom tables entry acts start general ram screen small ram_size screen_size s holds chips same =
+        boots_from c x in_rom entry acts start general ram screen small ram_size screen_size s chips same (Begins c x)
         (λ g words flags d p b. main_begins below c x sound in_rom.size tables s (at_the_end x.rom entry acts ram screen) g words flags holds d p b)
 
     pub from_rom : (P R I : Type 0) → FromRom P R I
     from_rom P R I c x sound in_rom tables entry acts start next first body does begin procedure k1 m1 k2 m2 lowered compiled paced chips first_store leaves =
         from_layers below widths keeps P R I c x sound next first body does begin procedure k1 m1 k2 m2 lowered compiled paced (start_up_turns acts) chips first_store
-        (λ ram screen ram_size screen_size. let t = leaves ram screen ram_size screen_size in starts_up c x sound in_rom tables entry acts start ram screen ram_size screen_size (first_store ram screen) t.0 chips t.1)
+        (λ general ram screen small ram_size screen_size. let t = leaves ram screen ram_size screen_size in starts_up c x sound in_rom tables entry acts start general ram screen small ram_size screen_size (first_store ram screen) t.0 chips t.1)

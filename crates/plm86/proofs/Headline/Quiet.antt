@@ -80,13 +80,13 @@ module _ (below : LawsBelow) (only : IsOneForm) (short : IsShort) where
   pub quiet_by_memory : {P : Type 0} (c : Chips P) (x : Assembly) → CodeInRom x.rom x.code → (entry : ℕ) (acts : List Act) → HasStartUp x.code entry acts x.main_at → (chips : P) (IsSet : ℕ → Type 0)
       → ((ram screen : List ℕ) → length ram ≡ 0x20000 → length screen ≡ 4000 → (a : ℕ) → a < 0x20000 → ¬ IsSet a → after_acts acts (with_vectors entry 0 256 (power_on_memory x.rom ram screen)) a ≡ slice_index ram a)
       → StartsQuietly c (start_up_turns acts) IsSet x.rom chips
-  quiet_by_memory {P} c x in_rom entry acts start chips IsSet kept ram screen ram_size screen_size =
+  quiet_by_memory {P} c x in_rom entry acts start chips IsSet kept general ram screen small ram_size screen_size =
       let f = at_the_end x.rom entry acts ram screen in
       let n = start_up_turns acts in
-      let b = power_on x.rom ram screen chips in
+      let b = power_on general x.rom ram screen chips in
       let s : Store P = record { objects = []; screen = []; chips = chips } in
       let boots : Boots (shared c) (board_turn c) (Left c x.rom f) n b s =
-      boots_from below only short c x in_rom entry acts start ram screen ram_size screen_size s chips refl (Left c x.rom f) (λ g words flags d p h. (h.world.whole, h.world.memory)) in
+      boots_from below only short c x in_rom entry acts start general ram screen small ram_size screen_size s chips refl (Left c x.rom f) (λ g words flags d p h. (h.world.whole, h.world.memory)) in
       record {
         quiet = labels_are (shared c) (board_turn c) (Left c x.rom f) n b s boots;
         keeps = λ due turns a lt free.
@@ -102,6 +102,6 @@ module _ (below : LawsBelow) (only : IsOneForm) (short : IsShort) where
 
 -- a start that sets less sets no more
 pub quiet_wider : {P : Type 0} (c : Chips P) (n : ℕ) (IsSet IsSetMore : ℕ → Type 0) → ((a : ℕ) → IsSet a → IsSetMore a) → (rom : List ℕ) (chips : P) → StartsQuietly c n IsSet rom chips → StartsQuietly c n IsSetMore rom chips
-quiet_wider c n IsSet IsSetMore wider rom chips h ram screen ram_size screen_size =
-    let q = h ram screen ram_size screen_size in
+quiet_wider c n IsSet IsSetMore wider rom chips h general ram screen small ram_size screen_size =
+    let q = h general ram screen small ram_size screen_size in
     record { quiet = q.quiet; keeps = λ due turns a lt free. q.keeps due turns a lt (λ s. free (wider a s)) }

@@ -73,10 +73,10 @@ from_instructions below widths keeps P R c x sound next first body limit most co
     }
 
 pub from_layers : LawsBelow → DecodedHasWidths → KeepsWords → (P R I : Type 0) → FromLayers P R I
-from_layers below widths keeps P R I c x sound next first body does begin procedure k1 m1 k2 m2 lowered compiled paced start_turns chips first_store boots ram screen ram_size screen_size =
+from_layers below widths keeps P R I c x sound next first body does begin procedure k1 m1 k2 m2 lowered compiled paced start_turns chips first_store boots general ram screen small ram_size screen_size =
     let o = offers_of x in
     let both : Compiled x R next (λ g. first) (λ v d. body v) (k1 * suc k2 + k2) (suc m2 * m1) = record {
       follows = λ n g h. Joining.joins Access answers R next I does Context o k1 m1 k2 m2 true n (n * suc m2) k1 k2 first (begin g) (main_of x g) (omega arith) (omega arith) (omega arith) (lowered.tracks (n * suc m2) g) (compiled.follows n g h);
       serves = λ n v d h. Joining.joins Access answers R next I does Context o k1 m1 k2 m2 false n (n * suc m2) k1 k2 (body v) (procedure v d) (starts_of x v d) (omega arith) (omega arith) (omega arith) (lowered.bodies (n * suc m2) v d) (compiled.serves n v d h);
     } in
-    from_instructions below widths keeps P R c x sound next first body (k1 * suc k2 + k2) (suc m2 * m1) both paced start_turns _ _ (boots ram screen ram_size screen_size)
+    from_instructions below widths keeps P R c x sound next first body (k1 * suc k2 + k2) (suc m2 * m1) both paced start_turns _ _ (boots general ram screen small ram_size screen_size)

@@ -7,7 +7,7 @@ use Rattle.plm_meaning.specs.Store.{Store}
 use Rattle.word86.specs.Event.{event_label}
 use Rattle.i86_table.specs.declared.registers.Regs.{Regs}
 use Rattle.i86_table.specs.declared.registers.Register16.{Register16}
-use Rattle.i86_table.specs.declared.registers.Register16.TheVariants.{Ax, Cx, Dx, Sp, Si, Di}
+use Rattle.i86_table.specs.declared.registers.Register16.TheVariants.{Ax, Cx, Dx, Bx, Sp, Si, Di}
 use Rattle.i86_table.specs.declared.registers.LoadableSegment.{LoadableSegment}
 use Rattle.i86_table.specs.declared.registers.LoadableSegment.TheVariants as loadables
 use Rattle.i86_table.specs.declared.instruction.RmOperand.TheVariants as places
@@ -23,7 +23,7 @@ use Rattle.cpu8086.specs.BusModel.{BusModel}
 use Rattle.cpu8086.specs.Machine.{Machine, stored_at, loaded_byte}
 use Rattle.cpu8086.specs.Moves.{moved, moved_to_segment}
 use Rattle.cpu8086.specs.Effect.{effect}
-use Rattle.cpu8086.specs.Turn.{reset_cpu, phase_after, fetched}
+use Rattle.cpu8086.specs.Turn.{General, HoldWords, reset_with, phase_after, fetched}
 use Rattle.plm86.specs.Inner.BoardLaws.{OfBoard, Events}
 use Rattle.board.specs.Machine.{Board, all_occur, goes}
 use Rattle.plm86.specs.Relation.{FlagsAre}
@@ -34,7 +34,7 @@ use Rattle.plm86.proofs.Machine.FlagLaws.{direction_keeps}
 use Rattle.plm86.proofs.Machine.Startup
 use Rattle.plm86.proofs.Machine.Startup.{Known, Boot, Leads, steps_by, then_leads, none, one, chips_later, boot_turn, world_later}
 use Rattle.plm86.proofs.Machine.Vectors
-use Rattle.plm86.proofs.Machine.Vectors.{regs, Somewhere, low_word, world_stored}
+use Rattle.plm86.proofs.Machine.Vectors.{loop_registers, Somewhere, low_word, world_stored}
 use Rattle.plm86.proofs.Machine.Copying.{copying, low_byte, copies}
 
 -- AX is loaded again before main
@@ -50,8 +50,8 @@ pub record IsEarly (r : Regs) : Type 0 where
   pub up : has r.flags 1024 ≡ false
   pub words : AreWords (but_ax r)
 
-abbrev pub reset_registers : Regs
-reset_registers = reset_cpu.registers
+abbrev pub reset_registers : General → Regs
+reset_registers general = (reset_with general).registers
 
 module _ {W P : Type 0} (m : BusModel W) (c : Chips P) (chips : W → P) (Whole : W → Type 0) (laws : OfBoard m c chips Whole)
     (occurs : Event → W → W) (events : Events m c chips Whole occurs) (code : ℕ → Option (Instr × ℕ)) (Begins : Board W → Store P → Type 0) where
@@ -165,11 +165,11 @@ module _ {W P : Type 0} (m : BusModel W) (c : Chips P) (chips : W → P) (Whole 
   same_bytes w = refl
 
   -- the far jump at the processor's reset
-  jumps_far : (f : ℕ → ℕ) (begin length : ℕ) → code 0xFFF0 ≡ Some (i.JumpFar begin 0xF000, length) → To 1 (Boots reset_registers f) (Boots (record reset_registers { cs = 0xF000; ip = begin }) f)
+  jumps_far : (general : General) (f : ℕ → ℕ) (begin length : ℕ) → code 0xFFF0 ≡ Some (i.JumpFar begin 0xF000, length) → To 1 (Boots (reset_registers general) f) (Boots (record (reset_registers general) { cs = 0xF000; ip = begin }) f)
   unfolding effect
-  jumps_far f begin length here =
-      let r = reset_registers in
-      let q : Regs = record reset_registers { cs = 0xF000; ip = begin } in
+  jumps_far general f begin length here =
+      let r : Regs = reset_registers general in
+      let q : Regs = record r { cs = 0xF000; ip = begin } in
       one m c chips Whole laws occurs events code Begins (Boots r f) (Boots q f) (λ es b p h.
       let v = all_occur m occurs es b.world in
       let k = world_later m c chips Whole laws occurs events code f es p b.world h.world in
@@ -188,25 +188,29 @@ module _ {W P : Type 0} (m : BusModel W) (c : Chips P) (chips : W → P) (Whole 
       pub boot : Boots (all_registers main_at registers 0xFFFE) f b p
 
     -- the loop's registers, from the reset on
-    to_loop : (f : ℕ → ℕ) → To 3 (Boots reset_registers f) (Somewhere m c chips Whole laws occurs events code Begins entry 0 x.loop f)
-    to_loop f =
-        let r0 : Regs = record reset_registers { cs = 0xF000; ip = x.begin } in
+    to_loop : (general : General) (f : ℕ → ℕ) → To 4 (Boots (reset_registers general) f) (Somewhere m c chips Whole laws occurs events code Begins general entry 0 x.loop f)
+    to_loop general f =
+        let r : Regs = reset_registers general in
+        let r0 : Regs = record r { cs = 0xF000; ip = x.begin } in
         let r1 : Regs = record r0 { ip = x.second; ax = entry } in
-        let r2 : Regs = regs entry 0 x.loop (record { 0 = 0 }) in
-        let s1 = jumps_far f x.begin x.reset.0 x.reset.1 in
+        let r2 : Regs = record r1 { ip = x.third; dx = 0xF000 } in
+        let r3 : Regs = loop_registers general entry 0 x.loop (record { 0 = 0 }) in
+        let s1 = jumps_far general f x.begin x.reset.0 x.reset.1 in
         let s2 : To 1 (Boots r0 f) (Boots r1 f) = loads r0 f Ax entry x.begin x.second refl refl refl x.load_entry in
-        let s3 : To 1 (Boots r1 f) (Boots r2 f) = loads r1 f Dx 0xF000 x.second x.loop refl refl refl x.load_segment in
-        let s12 = chain 1 1 (Boots reset_registers f) (Boots r0 f) (Boots r1 f) s1 s2 in
-        let all = chain 2 1 (Boots reset_registers f) (Boots r1 f) (Boots r2 f) s12 s3 in
+        let s3 : To 1 (Boots r1 f) (Boots r2 f) = loads r1 f Dx 0xF000 x.second x.third refl refl refl x.load_segment in
+        let s4 : To 1 (Boots r2 f) (Boots r3 f) = loads r2 f Bx 0 x.third x.loop refl refl refl x.load_first in
+        let s12 = chain 1 1 (Boots r f) (Boots r0 f) (Boots r1 f) s1 s2 in
+        let s123 = chain 2 1 (Boots r f) (Boots r1 f) (Boots r2 f) s12 s3 in
+        let all = chain 3 1 (Boots r f) (Boots r2 f) (Boots r3 f) s123 s4 in
         λ j b s at rest. all j b s at (λ d p t. rest d p (record { 0 = 0 }, record { on_is = refl; known = refl }, t))
 
     -- CLD after the loop
-    to_acts : (g : ℕ → ℕ) → To 1 (Somewhere m c chips Whole laws occurs events code Begins entry 1024 (x.loop + 14) g) (Early x.acting g)
-    to_acts g j b s at rest =
+    to_acts : (general : General) → HoldWords general → (g : ℕ → ℕ) → To 1 (Somewhere m c chips Whole laws occurs events code Begins general entry 1024 (x.loop + 14) g) (Early x.acting g)
+    to_acts general small g j b s at rest =
         let fl = at.0 in
-        let r : Regs = regs entry 1024 (x.loop + 14) fl in
+        let r : Regs = loop_registers general entry 1024 (x.loop + 14) fl in
         let q : Regs = record r { ip = x.acting; flags = with_flag (flag_bit 1024) false fl } in
-        let early : IsEarly q = record { cs = refl; ds = refl; es = refl; flags = direction_keeps laws.below false false fl at.1; up = laws.below.set_flag 1024 false fl (omega arith) refl; words = record { ax = omega arith; cx = omega arith; dx = omega arith; bx = omega arith; bp = omega arith; si = omega arith; di = omega arith } } in
+        let early : IsEarly q = record { cs = refl; ds = refl; es = refl; flags = direction_keeps laws.below false false fl at.1; up = laws.below.set_flag 1024 false fl (omega arith) refl; words = record { ax = omega arith; cx = small.cx; dx = omega arith; bx = omega arith; bp = small.bp; si = small.si; di = small.di } } in
         clears r g (x.loop + 14) x.acting refl at.1.on_is refl x.clear j b s at.2 (λ d p t. rest d p (q, early, refl, t))
 
     -- segments, stack pointer, and the jump to main
@@ -237,17 +241,18 @@ module _ {W P : Type 0} (m : BusModel W) (c : Chips P) (chips : W → P) (Whole 
         λ j b s here rest. all j b s here (λ d p t. rest d p (record { registers = working r7; words = record { ax = omega arith; cx = e.words.cx; dx = e.words.dx; bx = e.words.bx; bp = e.words.bp; si = e.words.si; di = e.words.di }; flags = e.flags; boot = subst (λ z. Boots z g d p) same t })))
 
     -- all of start-up
-    pub leads_to_main : (f : ℕ → ℕ) → To (start_up_turns acts) (Boots reset_registers f) (IsLate (after_acts acts (with_vectors entry 0 256 f)))
-    leads_to_main f =
+    pub leads_to_main : (general : General) → HoldWords general → (f : ℕ → ℕ) → To (start_up_turns acts) (Boots (reset_registers general) f) (IsLate (after_acts acts (with_vectors entry 0 256 f)))
+    leads_to_main general small f =
+        let r : Regs = reset_registers general in
         let g = with_vectors entry 0 256 f in
         let h = after_acts acts g in
         let n = turns_of_all acts in
-        let L : (ℕ → ℕ) → Board W → P → Type 0 = Somewhere m c chips Whole laws occurs events code Begins entry 0 x.loop in
-        let D : (ℕ → ℕ) → Board W → P → Type 0 = Somewhere m c chips Whole laws occurs events code Begins entry 1024 (x.loop + 14) in
-        let vectors : To 1280 (L f) (D g) = Vectors.sets_vectors m c chips Whole laws occurs events code Begins x.loop x.back x.sets_vectors entry f in
-        let t1 = chain 3 1280 (Boots reset_registers f) (L f) (D g) (to_loop f) vectors in
-        let t2 = chain 1283 1 (Boots reset_registers f) (D g) (Early x.acting g) t1 (to_acts g) in
-        let t3 = chain 1284 n (Boots reset_registers f) (Early x.acting g) (Early x.acted h) t2 (acts_run acts x.acting x.acted g x.has_acts) in
-        let t4 = chain (1284 + n) 7 (Boots reset_registers f) (Early x.acted h) (IsLate h) t3 (to_main h) in
-        let turns : 1284 + n + 7 ≡ 1291 + n = omega arith in
-        subst (λ k. To k (Boots reset_registers f) (IsLate h)) turns t4
+        let L : (ℕ → ℕ) → Board W → P → Type 0 = Somewhere m c chips Whole laws occurs events code Begins general entry 0 x.loop in
+        let D : (ℕ → ℕ) → Board W → P → Type 0 = Somewhere m c chips Whole laws occurs events code Begins general entry 1024 (x.loop + 14) in
+        let vectors : To 1280 (L f) (D g) = Vectors.sets_vectors m c chips Whole laws occurs events code Begins general x.loop x.back x.sets_vectors entry f in
+        let t1 = chain 4 1280 (Boots r f) (L f) (D g) (to_loop general f) vectors in
+        let t2 = chain 1284 1 (Boots r f) (D g) (Early x.acting g) t1 (to_acts general small g) in
+        let t3 = chain 1285 n (Boots r f) (Early x.acting g) (Early x.acted h) t2 (acts_run acts x.acting x.acted g x.has_acts) in
+        let t4 = chain (1285 + n) 7 (Boots r f) (Early x.acted h) (IsLate h) t3 (to_main h) in
+        let turns : 1285 + n + 7 ≡ start_up_turns acts = omega arith in
+        subst (λ k. To k (Boots r f) (IsLate h)) turns t4

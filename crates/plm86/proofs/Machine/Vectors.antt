@@ -24,7 +24,7 @@ use Rattle.cpu8086.specs.Control.{jumped_if}
 use Rattle.cpu8086.specs.Arithmetic.{computed}
 use Rattle.cpu8086.specs.Moves.{moved}
 use Rattle.cpu8086.specs.Effect.{effect}
-use Rattle.cpu8086.specs.Turn.{phase_after}
+use Rattle.cpu8086.specs.Turn.{General, reset_with, phase_after}
 use Rattle.layout_link.specs.Startup.{low_half, high_half, HasLoop}
 use Rattle.plm86.specs.Startup.{word_put, with_vectors}
 use Rattle.plm86.specs.Inner.BoardLaws.{LawsBelow, OfBoard, Events}
@@ -45,8 +45,9 @@ sum_is : (a b : ℕ) (fl : Flags) → a + b < 65536 → (operated Add widths.Wor
 unfolding operated added
 sum_is a b fl h = omega (arith, h)
 
-abbrev pub regs : ℕ → ℕ → ℕ → Flags → Regs
-regs ax bx ip fl = record { ax = ax; cx = 0; dx = 0xF000; bx = bx; sp = 0; bp = 0; si = 0; di = 0; es = 0; cs = 0xF000; ss = 0; ds = 0; ip = ip; flags = fl }
+-- the registers that the loop leaves alone are as at the reset
+abbrev pub loop_registers : General → (ax bx ip : ℕ) → Flags → Regs
+loop_registers general ax bx ip fl = record (reset_with general).registers { ax = ax; dx = 0xF000; bx = bx; cs = 0xF000; ip = ip; flags = fl }
 
 module _ {W P : Type 0} (m : BusModel W) (c : Chips P) (chips : W → P) (Whole : W → Type 0) (laws : OfBoard m c chips Whole)
     (occurs : Event → W → W) (events : Events m c chips Whole occurs) (code : ℕ → Option (Instr × ℕ)) (Begins : Board W → Store P → Type 0) where
@@ -79,122 +80,126 @@ module _ {W P : Type 0} (m : BusModel W) (c : Chips P) (chips : W → P) (Whole 
       → To 1 (Boots r f) (Boots q g)
   step r f n len q g at off phase here does = steps_by m c chips Whole laws occurs events code Begins r f n len q g at off phase here does
 
-  -- MOV [BX],AX and MOV [BX+2],DX
-  first_is : (ax bx l : ℕ) (fl : Flags) (f : ℕ → ℕ) (p : P) (w : W) → bx + 1 < 65536 → l + 2 < 65536 → Has f p w → (u : W) × (effect m low_half l (record { registers = regs ax bx ((l + 2) % 65536) fl; world = w; labels = [] }) ≡ record { registers = regs ax bx (l + 2) fl; world = u; labels = [] }) × Has (word_put bx ax f) p u
-  unfolding effect moved
-  first_is ax bx l fl f p w h hl k = (
-    m.store w (store_at widths.Word bx ax),
-    ap₂ (λ a b. stored_at m widths.Word 0 a ax (record { registers = regs ax bx b fl; world = w; labels = [] })) (omega (arith, h)) (omega (arith, hl)) ∙ low_word (regs ax bx (l + 2) fl) bx ax w h,
-    world_stored f p w widths.Word bx ax (omega (arith, h)) k,
-  )
+  module _ (general : General) where
+    abbrev regs : (ax bx ip : ℕ) → Flags → Regs
+    regs ax bx ip fl = loop_registers general ax bx ip fl
 
-  second_is : (ax bx l : ℕ) (fl : Flags) (f : ℕ → ℕ) (p : P) (w : W) → bx + 3 < 65536 → l + 3 < 65536 → Has f p w → (u : W) × (effect m high_half l (record { registers = regs ax bx ((l + 3) % 65536) fl; world = w; labels = [] }) ≡ record { registers = regs ax bx (l + 3) fl; world = u; labels = [] }) × Has (word_put (bx + 2) 0xF000 f) p u
-  unfolding effect moved
-  second_is ax bx l fl f p w h hl k = (
-    m.store w (store_at widths.Word (bx + 2) 0xF000),
-    ap₂ (λ a b. stored_at m widths.Word 0 a 0xF000 (record { registers = regs ax bx b fl; world = w; labels = [] })) (omega (arith, h)) (omega (arith, hl)) ∙ low_word (regs ax bx (l + 3) fl) (bx + 2) 0xF000 w (omega (arith, h)),
-    world_stored f p w widths.Word (bx + 2) 0xF000 (omega (arith, h)) k,
-  )
+    -- MOV [BX],AX and MOV [BX+2],DX
+    first_is : (ax bx l : ℕ) (fl : Flags) (f : ℕ → ℕ) (p : P) (w : W) → bx + 1 < 65536 → l + 2 < 65536 → Has f p w → (u : W) × (effect m low_half l (record { registers = regs ax bx ((l + 2) % 65536) fl; world = w; labels = [] }) ≡ record { registers = regs ax bx (l + 2) fl; world = u; labels = [] }) × Has (word_put bx ax f) p u
+    unfolding effect moved
+    first_is ax bx l fl f p w h hl k = (
+      m.store w (store_at widths.Word bx ax),
+      ap₂ (λ a b. stored_at m widths.Word 0 a ax (record { registers = regs ax bx b fl; world = w; labels = [] })) (omega (arith, h)) (omega (arith, hl)) ∙ low_word (regs ax bx (l + 2) fl) bx ax w h,
+      world_stored f p w widths.Word bx ax (omega (arith, h)) k,
+    )
 
-  third_is : (ax bx l : ℕ) (fl : Flags) (f : ℕ → ℕ) (p : P) (w : W) → bx + 4 < 65536 → l + 3 < 65536 → Has f p w → (u : W) × (effect m (i.AluWord Add (Immediate (places.Register Bx) 4)) l (record { registers = regs ax bx ((l + 3) % 65536) fl; world = w; labels = [] }) ≡ record { registers = regs ax (bx + 4) (l + 3) (operated Add widths.Word bx 4 fl).flags; world = u; labels = [] }) × Has f p u
-  unfolding effect computed
-  third_is ax bx l fl f p w h hl k =
-      let value : (operated Add widths.Word bx 4 fl).value ≡ bx + 4 = sum_is bx 4 fl h in
-      let at : (l + 3) % 65536 ≡ l + 3 = omega (arith, hl) in
-      (w, ap₂ (λ a b. record { registers = regs ax a b (operated Add widths.Word bx 4 fl).flags; world = w; labels = [] }) value at, k)
+    second_is : (ax bx l : ℕ) (fl : Flags) (f : ℕ → ℕ) (p : P) (w : W) → bx + 3 < 65536 → l + 3 < 65536 → Has f p w → (u : W) × (effect m high_half l (record { registers = regs ax bx ((l + 3) % 65536) fl; world = w; labels = [] }) ≡ record { registers = regs ax bx (l + 3) fl; world = u; labels = [] }) × Has (word_put (bx + 2) 0xF000 f) p u
+    unfolding effect moved
+    second_is ax bx l fl f p w h hl k = (
+      m.store w (store_at widths.Word (bx + 2) 0xF000),
+      ap₂ (λ a b. stored_at m widths.Word 0 a 0xF000 (record { registers = regs ax bx b fl; world = w; labels = [] })) (omega (arith, h)) (omega (arith, hl)) ∙ low_word (regs ax bx (l + 3) fl) (bx + 2) 0xF000 w (omega (arith, h)),
+      world_stored f p w widths.Word (bx + 2) 0xF000 (omega (arith, h)) k,
+    )
 
-  fourth_is : (ax bx l : ℕ) (fl : Flags) (f : ℕ → ℕ) (p : P) (w : W) → l + 4 < 65536 → Has f p w → (u : W) × (effect m (i.AluWord Cmp (Immediate (places.Register Bx) 1024)) l (record { registers = regs ax bx ((l + 4) % 65536) fl; world = w; labels = [] }) ≡ record { registers = regs ax bx (l + 4) (operated Cmp widths.Word bx 1024 fl).flags; world = u; labels = [] }) × Has f p u
-  unfolding effect computed
-  fourth_is ax bx l fl f p w hl k = (w, ap (λ b. record { registers = regs ax bx b (operated Cmp widths.Word bx 1024 fl).flags; world = w; labels = [] }) (omega (arith, hl)), k)
+    third_is : (ax bx l : ℕ) (fl : Flags) (f : ℕ → ℕ) (p : P) (w : W) → bx + 4 < 65536 → l + 3 < 65536 → Has f p w → (u : W) × (effect m (i.AluWord Add (Immediate (places.Register Bx) 4)) l (record { registers = regs ax bx ((l + 3) % 65536) fl; world = w; labels = [] }) ≡ record { registers = regs ax (bx + 4) (l + 3) (operated Add widths.Word bx 4 fl).flags; world = u; labels = [] }) × Has f p u
+    unfolding effect computed
+    third_is ax bx l fl f p w h hl k =
+        let value : (operated Add widths.Word bx 4 fl).value ≡ bx + 4 = sum_is bx 4 fl h in
+        let at : (l + 3) % 65536 ≡ l + 3 = omega (arith, hl) in
+        (w, ap₂ (λ a b. record { registers = regs ax a b (operated Add widths.Word bx 4 fl).flags; world = w; labels = [] }) value at, k)
 
-  fifth_on : (ax bx l back : ℕ) (fl : Flags) (f : ℕ → ℕ) (p : P) (w : W) → l + 2 < 65536 → has fl 64 ≡ false → Has f p w → (u : W) × (effect m (i.JumpIf conditions.NotEqual back) l (record { registers = regs ax bx ((l + 2) % 65536) fl; world = w; labels = [] }) ≡ record { registers = regs ax bx (further (l + 2) (sign_extended back)) fl; world = u; labels = [] }) × Has f p u
-  unfolding effect
-  fifth_on ax bx l back fl f p w hl z k =
-      let x : ℕ → Machine W = λ b. record { registers = regs ax bx b fl; world = w; labels = [] } in
-      (w, ap (λ (t : Bool). record { registers = jumped_if (not t) back (regs ax bx ((l + 2) % 65536) fl); world = w; labels = [] }) z ∙ ap (λ b. x (further b (sign_extended back))) (omega (arith, hl)), k)
+    fourth_is : (ax bx l : ℕ) (fl : Flags) (f : ℕ → ℕ) (p : P) (w : W) → l + 4 < 65536 → Has f p w → (u : W) × (effect m (i.AluWord Cmp (Immediate (places.Register Bx) 1024)) l (record { registers = regs ax bx ((l + 4) % 65536) fl; world = w; labels = [] }) ≡ record { registers = regs ax bx (l + 4) (operated Cmp widths.Word bx 1024 fl).flags; world = u; labels = [] }) × Has f p u
+    unfolding effect computed
+    fourth_is ax bx l fl f p w hl k = (w, ap (λ b. record { registers = regs ax bx b (operated Cmp widths.Word bx 1024 fl).flags; world = w; labels = [] }) (omega (arith, hl)), k)
 
-  fifth_off : (ax bx l back : ℕ) (fl : Flags) (f : ℕ → ℕ) (p : P) (w : W) → l + 2 < 65536 → has fl 64 ≡ true → Has f p w → (u : W) × (effect m (i.JumpIf conditions.NotEqual back) l (record { registers = regs ax bx ((l + 2) % 65536) fl; world = w; labels = [] }) ≡ record { registers = regs ax bx (l + 2) fl; world = u; labels = [] }) × Has f p u
-  unfolding effect
-  fifth_off ax bx l back fl f p w hl z k =
-      let x : ℕ → Machine W = λ b. record { registers = regs ax bx b fl; world = w; labels = [] } in
-      (w, ap (λ (t : Bool). record { registers = jumped_if (not t) back (regs ax bx ((l + 2) % 65536) fl); world = w; labels = [] }) z ∙ ap x (omega (arith, hl)), k)
+    fifth_on : (ax bx l back : ℕ) (fl : Flags) (f : ℕ → ℕ) (p : P) (w : W) → l + 2 < 65536 → has fl 64 ≡ false → Has f p w → (u : W) × (effect m (i.JumpIf conditions.NotEqual back) l (record { registers = regs ax bx ((l + 2) % 65536) fl; world = w; labels = [] }) ≡ record { registers = regs ax bx (further (l + 2) (sign_extended back)) fl; world = u; labels = [] }) × Has f p u
+    unfolding effect
+    fifth_on ax bx l back fl f p w hl z k =
+        let x : ℕ → Machine W = λ b. record { registers = regs ax bx b fl; world = w; labels = [] } in
+        (w, ap (λ (t : Bool). record { registers = jumped_if (not t) back (regs ax bx ((l + 2) % 65536) fl); world = w; labels = [] }) z ∙ ap (λ b. x (further b (sign_extended back))) (omega (arith, hl)), k)
 
-  -- some flags, interrupts off
-  abbrev pub Somewhere : ℕ → ℕ → ℕ → (ℕ → ℕ) → Board W → P → Type 0
-  Somewhere ax bx ip f b p = (fl : Flags) × FlagsAre false fl × Boots (regs ax bx ip fl) f b p
+    fifth_off : (ax bx l back : ℕ) (fl : Flags) (f : ℕ → ℕ) (p : P) (w : W) → l + 2 < 65536 → has fl 64 ≡ true → Has f p w → (u : W) × (effect m (i.JumpIf conditions.NotEqual back) l (record { registers = regs ax bx ((l + 2) % 65536) fl; world = w; labels = [] }) ≡ record { registers = regs ax bx (l + 2) fl; world = u; labels = [] }) × Has f p u
+    unfolding effect
+    fifth_off ax bx l back fl f p w hl z k =
+        let x : ℕ → Machine W = λ b. record { registers = regs ax bx b fl; world = w; labels = [] } in
+        (w, ap (λ (t : Bool). record { registers = jumped_if (not t) back (regs ax bx ((l + 2) % 65536) fl); world = w; labels = [] }) z ∙ ap x (omega (arith, hl)), k)
 
-  module _ (l back : ℕ) (loop : HasLoop code l back) (ax : ℕ) where
-    four : (k : ℕ) (f : ℕ → ℕ) (fl : Flags) → k < 256 → FlagsAre false fl
-        → To 4 (Boots (regs ax (4 * k) l fl) f) (Boots (regs ax (4 * k + 4) (l + 12) (operated Cmp widths.Word (4 * k + 4) 1024 (operated Add widths.Word (4 * k) 4 fl).flags).flags) (word_put (4 * k + 2) 0xF000 (word_put (4 * k) ax f)))
-    four k f fl h ok =
-        let bx = 4 * k in
-        let f1 = word_put bx ax f in
-        let f2 = word_put (bx + 2) 0xF000 f1 in
-        let fl1 = (operated Add widths.Word bx 4 fl).flags in
-        let fl2 = (operated Cmp widths.Word (bx + 4) 1024 fl1).flags in
-        let ok1 = operated_keeps laws.below Add widths.Word bx 4 false fl ok in
-        let s1 = step (regs ax bx l fl) f low_half 2 (regs ax bx (l + 2) fl) f1 refl ok.on_is refl loop.first (λ p w. first_is ax bx l fl f p w (omega (arith, h)) (omega (arith, loop.fits))) in
-        let s2 = step (regs ax bx (l + 2) fl) f1 high_half 3 (regs ax bx (l + 2 + 3) fl) f2 refl ok.on_is refl loop.second (λ p w. second_is ax bx (l + 2) fl f1 p w (omega (arith, h)) (omega (arith, loop.fits))) in
-        let s3 = step (regs ax bx (l + 2 + 3) fl) f2 (i.AluWord Add (Immediate (places.Register Bx) 4)) 3 (regs ax (bx + 4) (l + 2 + 3 + 3) fl1) f2 refl ok.on_is refl (ap code (omega arith) ∙ loop.third) (λ p w. third_is ax bx (l + 2 + 3) fl f2 p w (omega (arith, h)) (omega (arith, loop.fits))) in
-        let s4 = step (regs ax (bx + 4) (l + 2 + 3 + 3) fl1) f2 (i.AluWord Cmp (Immediate (places.Register Bx) 1024)) 4 (regs ax (bx + 4) (l + 2 + 3 + 3 + 4) fl2) f2 refl ok1.on_is refl (ap code (omega arith) ∙ loop.fourth) (λ p w. fourth_is ax (bx + 4) (l + 2 + 3 + 3) fl1 f2 p w (omega (arith, loop.fits))) in
-        let two = then_leads m c chips Whole laws occurs events code Begins 1 1 (Boots (regs ax bx l fl) f) (Boots (regs ax bx (l + 2) fl) f1) (Boots (regs ax bx (l + 2 + 3) fl) f2) s1 s2 in
-        let three = then_leads m c chips Whole laws occurs events code Begins 2 1 (Boots (regs ax bx l fl) f) (Boots (regs ax bx (l + 2 + 3) fl) f2) (Boots (regs ax (bx + 4) (l + 2 + 3 + 3) fl1) f2) two s3 in
-        let all = then_leads m c chips Whole laws occurs events code Begins 3 1 (Boots (regs ax bx l fl) f) (Boots (regs ax (bx + 4) (l + 2 + 3 + 3) fl1) f2) (Boots (regs ax (bx + 4) (l + 2 + 3 + 3 + 4) fl2) f2) three s4 in
-        let here : l + 2 + 3 + 3 + 4 ≡ l + 12 = omega arith in
-        subst (λ z. To 4 (Boots (regs ax bx l fl) f) (Boots (regs ax (bx + 4) z fl2) f2)) here all
+    -- some flags, interrupts off
+    abbrev pub Somewhere : ℕ → ℕ → ℕ → (ℕ → ℕ) → Board W → P → Type 0
+    Somewhere ax bx ip f b p = (fl : Flags) × FlagsAre false fl × Boots (regs ax bx ip fl) f b p
 
-    again_at : (fl : Flags) (bx : ℕ) → bx < 1024 → has (operated Cmp widths.Word bx 1024 fl).flags 64 ≡ false
-    again_at fl bx h = compared laws.below bx 1024 fl ∙ ne_eqb ((bx + 65536 - (1024 + 0)) % 65536) 0 (λ e. absurd (omega (arith, e, h)))
+    module _ (l back : ℕ) (loop : HasLoop code l back) (ax : ℕ) where
+      four : (k : ℕ) (f : ℕ → ℕ) (fl : Flags) → k < 256 → FlagsAre false fl
+          → To 4 (Boots (regs ax (4 * k) l fl) f) (Boots (regs ax (4 * k + 4) (l + 12) (operated Cmp widths.Word (4 * k + 4) 1024 (operated Add widths.Word (4 * k) 4 fl).flags).flags) (word_put (4 * k + 2) 0xF000 (word_put (4 * k) ax f)))
+      four k f fl h ok =
+          let bx = 4 * k in
+          let f1 = word_put bx ax f in
+          let f2 = word_put (bx + 2) 0xF000 f1 in
+          let fl1 = (operated Add widths.Word bx 4 fl).flags in
+          let fl2 = (operated Cmp widths.Word (bx + 4) 1024 fl1).flags in
+          let ok1 = operated_keeps laws.below Add widths.Word bx 4 false fl ok in
+          let s1 = step (regs ax bx l fl) f low_half 2 (regs ax bx (l + 2) fl) f1 refl ok.on_is refl loop.first (λ p w. first_is ax bx l fl f p w (omega (arith, h)) (omega (arith, loop.fits))) in
+          let s2 = step (regs ax bx (l + 2) fl) f1 high_half 3 (regs ax bx (l + 2 + 3) fl) f2 refl ok.on_is refl loop.second (λ p w. second_is ax bx (l + 2) fl f1 p w (omega (arith, h)) (omega (arith, loop.fits))) in
+          let s3 = step (regs ax bx (l + 2 + 3) fl) f2 (i.AluWord Add (Immediate (places.Register Bx) 4)) 3 (regs ax (bx + 4) (l + 2 + 3 + 3) fl1) f2 refl ok.on_is refl (ap code (omega arith) ∙ loop.third) (λ p w. third_is ax bx (l + 2 + 3) fl f2 p w (omega (arith, h)) (omega (arith, loop.fits))) in
+          let s4 = step (regs ax (bx + 4) (l + 2 + 3 + 3) fl1) f2 (i.AluWord Cmp (Immediate (places.Register Bx) 1024)) 4 (regs ax (bx + 4) (l + 2 + 3 + 3 + 4) fl2) f2 refl ok1.on_is refl (ap code (omega arith) ∙ loop.fourth) (λ p w. fourth_is ax (bx + 4) (l + 2 + 3 + 3) fl1 f2 p w (omega (arith, loop.fits))) in
+          let two = then_leads m c chips Whole laws occurs events code Begins 1 1 (Boots (regs ax bx l fl) f) (Boots (regs ax bx (l + 2) fl) f1) (Boots (regs ax bx (l + 2 + 3) fl) f2) s1 s2 in
+          let three = then_leads m c chips Whole laws occurs events code Begins 2 1 (Boots (regs ax bx l fl) f) (Boots (regs ax bx (l + 2 + 3) fl) f2) (Boots (regs ax (bx + 4) (l + 2 + 3 + 3) fl1) f2) two s3 in
+          let all = then_leads m c chips Whole laws occurs events code Begins 3 1 (Boots (regs ax bx l fl) f) (Boots (regs ax (bx + 4) (l + 2 + 3 + 3) fl1) f2) (Boots (regs ax (bx + 4) (l + 2 + 3 + 3 + 4) fl2) f2) three s4 in
+          let here : l + 2 + 3 + 3 + 4 ≡ l + 12 = omega arith in
+          subst (λ z. To 4 (Boots (regs ax bx l fl) f) (Boots (regs ax (bx + 4) z fl2) f2)) here all
 
-    done_at : (fl : Flags) (bx : ℕ) → bx ≡ 1024 → has (operated Cmp widths.Word bx 1024 fl).flags 64 ≡ true
-    done_at fl bx h = compared laws.below bx 1024 fl ∙ eq-eqb ((bx + 65536 - (1024 + 0)) % 65536) 0 (omega (arith, h))
+      again_at : (fl : Flags) (bx : ℕ) → bx < 1024 → has (operated Cmp widths.Word bx 1024 fl).flags 64 ≡ false
+      again_at fl bx h = compared laws.below bx 1024 fl ∙ ne_eqb ((bx + 65536 - (1024 + 0)) % 65536) 0 (λ e. absurd (omega (arith, e, h)))
 
-    -- a round that goes on
-    round : (k : ℕ) (f : ℕ → ℕ) → k < 255 → To 5 (Somewhere ax (4 * k) l f) (Somewhere ax (4 * suc k) l (word_put (4 * k + 2) 0xF000 (word_put (4 * k) ax f)))
-    round k f h j b s at rest =
-        let fl = at.0 in
-        let bx = 4 * k + 4 in
-        let f2 = word_put (4 * k + 2) 0xF000 (word_put (4 * k) ax f) in
-        let fl1 = (operated Add widths.Word (4 * k) 4 fl).flags in
-        let fl2 = (operated Cmp widths.Word bx 1024 fl1).flags in
-        let ok2 : FlagsAre false fl2 = operated_keeps laws.below Cmp widths.Word bx 1024 false fl1 (operated_keeps laws.below Add widths.Word (4 * k) 4 false fl at.1) in
-        let s5 = step (regs ax bx (l + 12) fl2) f2 (i.JumpIf conditions.NotEqual back) 2 (regs ax bx (further (l + 12 + 2) (sign_extended back)) fl2) f2 refl ok2.on_is refl loop.fifth (λ p w. fifth_on ax bx (l + 12) back fl2 f2 p w (omega (arith, loop.fits)) (again_at fl1 bx (omega (arith, h)))) in
-        let all = then_leads m c chips Whole laws occurs events code Begins 4 1 (Boots (regs ax (4 * k) l fl) f) (Boots (regs ax bx (l + 12) fl2) f2) (Boots (regs ax bx (further (l + 12 + 2) (sign_extended back)) fl2) f2) (four k f fl (omega (arith, h)) at.1) s5 in
-        let to : further (l + 12 + 2) (sign_extended back) ≡ l = ap (λ z. further z (sign_extended back)) (omega arith) ∙ loop.again in
-        let next : bx ≡ 4 * suc k = omega arith in
-        all j b s at.2 (λ d p t. rest d p (fl2, ok2, subst (λ z. Boots (regs ax z l fl2) f2 d p) next (subst (λ z. Boots (regs ax bx z fl2) f2 d p) to t)))
+      done_at : (fl : Flags) (bx : ℕ) → bx ≡ 1024 → has (operated Cmp widths.Word bx 1024 fl).flags 64 ≡ true
+      done_at fl bx h = compared laws.below bx 1024 fl ∙ eq-eqb ((bx + 65536 - (1024 + 0)) % 65536) 0 (omega (arith, h))
 
-    -- the last one
-    last_round : (f : ℕ → ℕ) → To 5 (Somewhere ax (4 * 255) l f) (Somewhere ax 1024 (l + 14) (word_put (4 * 255 + 2) 0xF000 (word_put (4 * 255) ax f)))
-    last_round f j b s at rest =
-        let fl = at.0 in
-        let bx = 4 * 255 + 4 in
-        let f2 = word_put (4 * 255 + 2) 0xF000 (word_put (4 * 255) ax f) in
-        let fl1 = (operated Add widths.Word (4 * 255) 4 fl).flags in
-        let fl2 = (operated Cmp widths.Word bx 1024 fl1).flags in
-        let ok2 : FlagsAre false fl2 = operated_keeps laws.below Cmp widths.Word bx 1024 false fl1 (operated_keeps laws.below Add widths.Word (4 * 255) 4 false fl at.1) in
-        let s5 = step (regs ax bx (l + 12) fl2) f2 (i.JumpIf conditions.NotEqual back) 2 (regs ax bx (l + 12 + 2) fl2) f2 refl ok2.on_is refl loop.fifth (λ p w. fifth_off ax bx (l + 12) back fl2 f2 p w (omega (arith, loop.fits)) (done_at fl1 bx (omega arith))) in
-        let all = then_leads m c chips Whole laws occurs events code Begins 4 1 (Boots (regs ax (4 * 255) l fl) f) (Boots (regs ax bx (l + 12) fl2) f2) (Boots (regs ax bx (l + 12 + 2) fl2) f2) (four 255 f fl (omega arith) at.1) s5 in
-        let to : l + 12 + 2 ≡ l + 14 = omega arith in
-        let next : bx ≡ 1024 = omega arith in
-        all j b s at.2 (λ d p t. rest d p (fl2, ok2, subst (λ z. Boots (regs ax z (l + 14) fl2) f2 d p) next (subst (λ z. Boots (regs ax bx z fl2) f2 d p) to t)))
+      -- a round that goes on
+      round : (k : ℕ) (f : ℕ → ℕ) → k < 255 → To 5 (Somewhere ax (4 * k) l f) (Somewhere ax (4 * suc k) l (word_put (4 * k + 2) 0xF000 (word_put (4 * k) ax f)))
+      round k f h j b s at rest =
+          let fl = at.0 in
+          let bx = 4 * k + 4 in
+          let f2 = word_put (4 * k + 2) 0xF000 (word_put (4 * k) ax f) in
+          let fl1 = (operated Add widths.Word (4 * k) 4 fl).flags in
+          let fl2 = (operated Cmp widths.Word bx 1024 fl1).flags in
+          let ok2 : FlagsAre false fl2 = operated_keeps laws.below Cmp widths.Word bx 1024 false fl1 (operated_keeps laws.below Add widths.Word (4 * k) 4 false fl at.1) in
+          let s5 = step (regs ax bx (l + 12) fl2) f2 (i.JumpIf conditions.NotEqual back) 2 (regs ax bx (further (l + 12 + 2) (sign_extended back)) fl2) f2 refl ok2.on_is refl loop.fifth (λ p w. fifth_on ax bx (l + 12) back fl2 f2 p w (omega (arith, loop.fits)) (again_at fl1 bx (omega (arith, h)))) in
+          let all = then_leads m c chips Whole laws occurs events code Begins 4 1 (Boots (regs ax (4 * k) l fl) f) (Boots (regs ax bx (l + 12) fl2) f2) (Boots (regs ax bx (further (l + 12 + 2) (sign_extended back)) fl2) f2) (four k f fl (omega (arith, h)) at.1) s5 in
+          let to : further (l + 12 + 2) (sign_extended back) ≡ l = ap (λ z. further z (sign_extended back)) (omega arith) ∙ loop.again in
+          let next : bx ≡ 4 * suc k = omega arith in
+          all j b s at.2 (λ d p t. rest d p (fl2, ok2, subst (λ z. Boots (regs ax z l fl2) f2 d p) next (subst (λ z. Boots (regs ax bx z fl2) f2 d p) to t)))
 
-    -- i more vectors from the k-th on
-    loops : (i k : ℕ) (f : ℕ → ℕ) → k + suc i ≡ 256 → To (5 * suc i) (Somewhere ax (4 * k) l f) (Somewhere ax 1024 (l + 14) (with_vectors ax k (suc i) f))
-    unfolding with_vectors
-    loops zero k f e =
-        let last : k ≡ 255 = omega (arith, e) in
-        subst (λ z. To 5 (Somewhere ax (4 * z) l f) (Somewhere ax 1024 (l + 14) (word_put (4 * z + 2) 0xF000 (word_put (4 * z) ax f)))) (sym last) (last_round f)
-    loops (suc i) k f e =
-        let f2 = word_put (4 * k + 2) 0xF000 (word_put (4 * k) ax f) in
-        let more : 5 + 5 * suc i ≡ 5 * suc (suc i) = omega arith in
-        subst (λ n. To n (Somewhere ax (4 * k) l f) (Somewhere ax 1024 (l + 14) (with_vectors ax (suc k) (suc i) f2))) more
-        (then_leads m c chips Whole laws occurs events code Begins 5 (5 * suc i) (Somewhere ax (4 * k) l f) (Somewhere ax (4 * suc k) l f2) (Somewhere ax 1024 (l + 14) (with_vectors ax (suc k) (suc i) f2))
-        (round k f (omega (arith, e))) (loops i (suc k) f2 (omega (arith, e))))
+      -- the last one
+      last_round : (f : ℕ → ℕ) → To 5 (Somewhere ax (4 * 255) l f) (Somewhere ax 1024 (l + 14) (word_put (4 * 255 + 2) 0xF000 (word_put (4 * 255) ax f)))
+      last_round f j b s at rest =
+          let fl = at.0 in
+          let bx = 4 * 255 + 4 in
+          let f2 = word_put (4 * 255 + 2) 0xF000 (word_put (4 * 255) ax f) in
+          let fl1 = (operated Add widths.Word (4 * 255) 4 fl).flags in
+          let fl2 = (operated Cmp widths.Word bx 1024 fl1).flags in
+          let ok2 : FlagsAre false fl2 = operated_keeps laws.below Cmp widths.Word bx 1024 false fl1 (operated_keeps laws.below Add widths.Word (4 * 255) 4 false fl at.1) in
+          let s5 = step (regs ax bx (l + 12) fl2) f2 (i.JumpIf conditions.NotEqual back) 2 (regs ax bx (l + 12 + 2) fl2) f2 refl ok2.on_is refl loop.fifth (λ p w. fifth_off ax bx (l + 12) back fl2 f2 p w (omega (arith, loop.fits)) (done_at fl1 bx (omega arith))) in
+          let all = then_leads m c chips Whole laws occurs events code Begins 4 1 (Boots (regs ax (4 * 255) l fl) f) (Boots (regs ax bx (l + 12) fl2) f2) (Boots (regs ax bx (l + 12 + 2) fl2) f2) (four 255 f fl (omega arith) at.1) s5 in
+          let to : l + 12 + 2 ≡ l + 14 = omega arith in
+          let next : bx ≡ 1024 = omega arith in
+          all j b s at.2 (λ d p t. rest d p (fl2, ok2, subst (λ z. Boots (regs ax z (l + 14) fl2) f2 d p) next (subst (λ z. Boots (regs ax bx z fl2) f2 d p) to t)))
 
-    -- all 256 vectors are set in 1,280 turns
-    pub sets_vectors : (f : ℕ → ℕ) → To 1280 (Somewhere ax 0 l f) (Somewhere ax 1024 (l + 14) (with_vectors ax 0 256 f))
-    sets_vectors f = loops 255 0 f (omega arith)
+      -- i more vectors from the k-th on
+      loops : (i k : ℕ) (f : ℕ → ℕ) → k + suc i ≡ 256 → To (5 * suc i) (Somewhere ax (4 * k) l f) (Somewhere ax 1024 (l + 14) (with_vectors ax k (suc i) f))
+      unfolding with_vectors
+      loops zero k f e =
+          let last : k ≡ 255 = omega (arith, e) in
+          subst (λ z. To 5 (Somewhere ax (4 * z) l f) (Somewhere ax 1024 (l + 14) (word_put (4 * z + 2) 0xF000 (word_put (4 * z) ax f)))) (sym last) (last_round f)
+      loops (suc i) k f e =
+          let f2 = word_put (4 * k + 2) 0xF000 (word_put (4 * k) ax f) in
+          let more : 5 + 5 * suc i ≡ 5 * suc (suc i) = omega arith in
+          subst (λ n. To n (Somewhere ax (4 * k) l f) (Somewhere ax 1024 (l + 14) (with_vectors ax (suc k) (suc i) f2))) more
+          (then_leads m c chips Whole laws occurs events code Begins 5 (5 * suc i) (Somewhere ax (4 * k) l f) (Somewhere ax (4 * suc k) l f2) (Somewhere ax 1024 (l + 14) (with_vectors ax (suc k) (suc i) f2))
+          (round k f (omega (arith, e))) (loops i (suc k) f2 (omega (arith, e))))
+
+      -- all 256 vectors are set in 1,280 turns
+      pub sets_vectors : (f : ℕ → ℕ) → To 1280 (Somewhere ax 0 l f) (Somewhere ax 1024 (l + 14) (with_vectors ax 0 256 f))
+      sets_vectors f = loops 255 0 f (omega arith)
 
 -- what the loop leaves: below, as before; the vectors; above, as before
 stored_far : (at v a x : ℕ) → (a < at) ⊎ (at + 1 < a) → stored (store_at widths.Word at v) a x ≡ x

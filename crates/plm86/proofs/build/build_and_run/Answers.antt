@@ -1,5 +1,6 @@
 use Rattle.std.proofs.Common.{ap, subst, ◌∙◌, rules}
 use Rattle.std.specs.Prelude.{map, length}
+use Rattle.cpu8086.specs.Turn.{zeros}
 use Rattle.ppi_kbd.specs.Chips.{reset}
 use Rattle.board.specs.Machine.{power_on as powered_on}
 use Rattle.board.specs.Rom.{is_rom_length}
@@ -17,10 +18,10 @@ returns-in_err-board-clause-refused g c =
 
 pub returns-clause-ran : goal.returns-clause-ran
 returns-clause-ran g c =
-    let shown = subst (λ rom. Shows c.in_ok-board.board (powered_on rom c.args.power_on.ram.items c.args.power_on.screen.items reset)) c.deref.ensures.value c.in_ok-board.ensures.reset in
+    let shown = subst (λ rom. Shows c.in_ok-board.board (powered_on zeros rom c.args.power_on.ram.items c.args.power_on.screen.items reset)) c.deref.ensures.value c.in_ok-board.ensures.reset in
     has_run (map text_of c.args.sources.now) c.args.size c.args.power_on (due_of c.args.schedule.now) c.args.schedule.now.stop c.in_ok-image.image c.in_ok-image.ensures.built c.run.new.self _ _ _ _ c.run.result (c.run.ensures.run _ shown)
 
 pub returns-clause-refused : goal.returns-clause-refused
 returns-clause-refused g c =
-    let shown = subst (λ rom. Shows c.in_ok-board.board (powered_on rom c.args.power_on.ram.items c.args.power_on.screen.items reset)) c.deref.ensures.value c.in_ok-board.ensures.reset in
+    let shown = subst (λ rom. Shows c.in_ok-board.board (powered_on zeros rom c.args.power_on.ram.items c.args.power_on.screen.items reset)) c.deref.ensures.value c.in_ok-board.ensures.reset in
     has_not_run (map text_of c.args.sources.now) c.args.size c.args.power_on (due_of c.args.schedule.now) c.args.schedule.now.stop c.in_ok-image.image c.in_ok-image.ensures.built c.run.new.self _ _ _ _ c.run.result (c.run.ensures.run _ shown) c.run.ensures.fault
