@@ -11,4 +11,5 @@ pub mod CommandLine
 pub mod Order
 pub mod Input
 pub mod Status
+pub mod Target
 pub mod Inner

@@ -2,9 +2,10 @@
 
 use crate::build::Source;
 use crate::built::Built;
-use crate::files::write_file;
+use crate::outputs::{Outputs, refuse_losses};
 use crate::sources::{build_sources, read_texts, show_warnings, sources_of};
 use crate::stop::Stop;
+use crate::writing::Output;
 use layout_link::RomSize;
 use listing_map::{listing, map};
 use plm_type::{Warning, warnings};
@@ -12,30 +13,8 @@ use std::alloc::Global;
 use std::rt::Files;
 use word86::{Sink, WriterSink};
 
-/// The files that a build writes, in this order: the ROM's, and those of the listing and the map where they are wanted.
-#[derive(Debug, Clone, Copy)]
-pub(crate) struct Outputs<'a> {
-    pub rom: &'a str,
-    pub listing: Option<&'a str>,
-    pub map: Option<&'a str>,
-}
-
-impl<'a> Outputs<'a> {
-    /// The first of these files that is a source too, where there is one: to write it would lose the source.
-    fn over_a_source(self, sources: &[&'a str]) -> Option<&'a str> {
-        for output in [Some(self.rom), self.listing, self.map] {
-            if let Some(name) = output {
-                if sources.contains(&name) {
-                    return Some(name);
-                }
-            }
-        }
-        None
-    }
-}
-
-/// `build -r KIB -o ROM [-l LISTING] [-m MAP] SOURCE...`: no output may be a source. All sources are read first. Warnings
-/// are shown once nothing more can be refused, and then the files are written.
+/// `build -r KIB -o ROM [-l LISTING] [-m MAP] SOURCE...`: no output may be a source or another output. All sources are read first.
+/// Warnings are shown once nothing more can be refused, and then the files are written.
 pub(crate) fn build_rom<R: Files, S: Sink>(
     rt: &R,
     alloc: Global,
@@ -44,16 +23,14 @@ pub(crate) fn build_rom<R: Files, S: Sink>(
     names: &[&str],
     errors: &mut S,
 ) -> Result<u8, Stop> {
-    if let Some(name) = outputs.over_a_source(names) {
-        return Err(Stop::over_a_source(alloc, name)?);
-    }
+    refuse_losses(rt, alloc, outputs, names)?;
     let texts = read_texts(rt, alloc, names)?;
     let sources = sources_of(alloc, names, &texts)?;
     let built = build_sources(alloc, names, &sources, size)?;
     write_built(rt, alloc, outputs, &sources, &built, errors)
 }
 
-// Shows the warnings and writes the files. All texts are made before, so that want of memory leaves no file.
+// Shows the warnings and writes the files. All memory is taken before, so that want of it leaves no file.
 fn write_built<R: Files, S: Sink>(
     rt: &R,
     alloc: Global,
@@ -67,10 +44,13 @@ fn write_built<R: Files, S: Sink>(
     };
     let listing_text = text_of_listing(alloc, outputs.listing, sources, &given)?;
     let map_text = text_of_map(alloc, outputs.map, built)?;
+    let mut rom_file = Output::new(rt, alloc, outputs.rom)?;
+    let mut listing_file = wanted(rt, alloc, outputs.listing)?;
+    let mut map_file = wanted(rt, alloc, outputs.map)?;
     show_warnings(sources, &given, errors);
-    write_file(rt, alloc, outputs.rom, &built.image.rom)?;
-    write_wanted(rt, alloc, outputs.listing, &listing_text)?;
-    write_wanted(rt, alloc, outputs.map, &map_text)?;
+    rom_file.write(rt, alloc, &built.image.rom)?;
+    write_wanted(rt, alloc, &mut listing_file, &listing_text)?;
+    write_wanted(rt, alloc, &mut map_file, &map_text)?;
     Ok(0)
 }
 
@@ -117,15 +97,27 @@ fn text_of_map(alloc: Global, file: Option<&str>, built: &Built) -> Result<Vec<u
     Ok(text)
 }
 
+// The file of this name, where one is wanted.
+fn wanted<'a, R: Files>(
+    rt: &R,
+    alloc: Global,
+    name: Option<&'a str>,
+) -> Result<Option<Output<'a>>, Stop> {
+    match name {
+        Some(name) => Ok(Some(Output::new(rt, alloc, name)?)),
+        None => Ok(None),
+    }
+}
+
 // Writes the file, where one is wanted.
 fn write_wanted<R: Files>(
     rt: &R,
     alloc: Global,
-    file: Option<&str>,
+    file: &mut Option<Output<'_>>,
     text: &[u8],
 ) -> Result<(), Stop> {
     match file {
-        Some(name) => write_file(rt, alloc, name, text),
+        Some(file) => file.write(rt, alloc, text),
         None => Ok(()),
     }
 }

@@ -1,4 +1,4 @@
-//! The files that a command names.
+//! The files that a command reads, and what stops it at a file.
 
 use crate::input::{ReadFault, read_all};
 use crate::stop::Stop;
@@ -21,19 +21,6 @@ pub(crate) fn read_file<R: Files>(
         Ok(bytes) => Ok(bytes),
         Err(ReadFault::Memory) => Err(Stop::Memory),
         Err(ReadFault::Read) => Err(Stop::CannotRead(String::from_str(alloc, name)?)),
-    }
-}
-
-/// Writes a file whole.
-pub(crate) fn write_file<R: Files>(
-    rt: &R,
-    alloc: Global,
-    name: &str,
-    bytes: &[u8],
-) -> Result<(), Stop> {
-    match fs::write(rt, name, bytes) {
-        Ok(()) => Ok(()),
-        Err(_) => Err(Stop::CannotWrite(String::from_str(alloc, name)?)),
     }
 }
 

@@ -1,7 +1,8 @@
 //! What ends the program before its work is done, and what it says then.
 
+use crate::outputs::{Named, Part};
 use listing_map::fault_line;
-use std::alloc::{AllocError, Global};
+use std::alloc::{AllocError, AllocFailed, Global};
 use word86::{Number, Sink, put_all};
 
 /// Why the program stops early.
@@ -25,10 +26,39 @@ impl From<AllocError> for Stop {
     }
 }
 
+impl<T: Drop> From<AllocFailed<T>> for Stop {
+    fn from(_refused: AllocFailed<T>) -> Stop {
+        Stop::Memory
+    }
+}
+
 impl Stop {
-    /// The refusal of a command line by which a source of this name would be written over.
-    pub fn over_a_source(alloc: Global, name: &str) -> Result<Stop, AllocError> {
-        let text = format!(in alloc; "error: {name} is a source and would be written over\n")?;
+    /// The refusal of a build in which the second of these files would be lost by the first.
+    pub(crate) fn one_file(
+        alloc: Global,
+        written: Named<'_>,
+        lost: Named<'_>,
+    ) -> Result<Stop, AllocError> {
+        let (name, other) = (written.name, lost.name);
+        let (part, other_part) = (written.part.word(), lost.part.word());
+        let text = match lost.part {
+            Part::Source if name == other => {
+                format!(in alloc; "error: {name} is a source and would be written over\n")?
+            }
+            Part::Source => {
+                format!(in alloc;
+                    "error: {name} is the source {other} and would be written over\n"
+                )?
+            }
+            Part::Rom | Part::Listing | Part::Map if name == other => {
+                format!(in alloc; "error: {name} is named twice, as {part} and as {other_part}\n")?
+            }
+            Part::Rom | Part::Listing | Part::Map => {
+                format!(in alloc;
+                    "error: {name} and {other} are one file, named as {part} and as {other_part}\n"
+                )?
+            }
+        };
         Ok(Stop::Words(text))
     }
 
