@@ -1,5 +1,5 @@
 -- What start-up's tasks touch, and how many turns they take.
-use Rattle.std.proofs.Common.{◌≡◌, ℕ, zero, suc, ◌+◌, ◌-◌, ◌*◌, ◌<◌, ◌≤◌, ◌&&◌, Bool, true, false, List, [], ◌∷◌, ◌++◌, length, map, get_or, Option, Some, None, refl, sym, ap, subst, arith, length-append}
+use Rattle.std.proofs.Common.{◌≡◌, ℕ, zero, suc, ◌+◌, ◌-◌, ◌*◌, ◌<◌, ◌≤◌, ◌&&◌, Bool, true, false, List, [], ◌∷◌, ◌++◌, length, map, Option, Some, None, refl, sym, ap, subst, arith, length-append}
 use Rattle.std.specs.Prelude.{if◌then◌else◌, nat_lt, nat_le}
 use Rattle.std.proofs.lemmas.Bool.{leb-true, ltb-true}
 use Rattle.std.specs.List.{All, sum_by}
@@ -12,9 +12,10 @@ use Rattle.layout_link.specs.declared.tasks.Task.{Task}
 use Rattle.layout_link.specs.declared.tasks.Task.TheVariants as tasks
 use Rattle.layout_link.specs.Startup.{turns_of, turns_of_all}
 use Rattle.layout_link.specs.Tasks.{placed, serving, vector_task, vector_tasks}
-use Rattle.layout_link.specs.Initial.{puts, is_copied, object_tasks, copied, copies_with, object_bytes, data_tasks, copied_bytes, count_of}
+use Rattle.layout_link.specs.Initial.{Stretch, stretch, puts, is_copied, stretch_tasks, copied, copies_with, data_tasks, copied_bytes, count_of}
 use Rattle.layout_link.specs.Inner.Head.{TasksFit, turns_of_task, turns_of_tasks}
 use Rattle.layout_link.proofs.Heading.{fit_both}
+use Rattle.layout_link.proofs.Joining.{HasRoom, AreLow, total}
 
 -- ---- turns
 
@@ -52,16 +53,16 @@ both : (a b : Bool) → (a && b) ≡ true → (a ≡ true) × (b ≡ true)
 both true b e = (refl, e)
 both false b e = absurd cc
 
--- an object is copied, or not
+-- a stretch is copied, or not
 record Cases (copies : ℕ) (bytes : List ℕ) : Type 0 where
-  pub tasks_are : (at to : ℕ) → object_tasks at copies to bytes ≡ tasks.Copy at to (length bytes - 1) ∷ []
+  pub tasks_are : (at to : ℕ) → stretch_tasks at copies to bytes ≡ tasks.Copy at to (length bytes - 1) ∷ []
   pub copied_are : copied copies bytes ≡ bytes
   pub copies_are : copies_with copies bytes ≡ copies + 1
   pub few : copies < 840
   pub some : 5 ≤ length bytes
 
 record Others (copies : ℕ) (bytes : List ℕ) : Type 0 where
-  pub tasks_are : (at to : ℕ) → object_tasks at copies to bytes ≡ puts to bytes
+  pub tasks_are : (at to : ℕ) → stretch_tasks at copies to bytes ≡ puts to bytes
   pub copied_are : copied copies bytes ≡ []
   pub copies_are : copies_with copies bytes ≡ copies
 
@@ -86,11 +87,11 @@ module _ (P : ℕ → List ℕ → Type 0) where
             copies_are = ap (λ (c : Bool). if c then copies + 1 else copies) e;
           })
 
--- an object takes a turn at most for each byte, and three if it is copied
-object_turns : (at to copies : ℕ) (bytes : List ℕ) → copies ≤ 840
-    → (turns_of_tasks (object_tasks at copies to bytes) + 3 * copies ≤ length bytes + 3 * copies_with copies bytes) × (copies_with copies bytes ≤ 840)
-object_turns at to copies bytes le =
-    either (λ n b. (turns_of_tasks (object_tasks at n to b) + 3 * n ≤ length b + 3 * copies_with n b) × (copies_with n b ≤ 840)) copies bytes
+-- a stretch takes a turn at most for each byte, and three if it is copied
+stretch_turns : (at to copies : ℕ) (bytes : List ℕ) → copies ≤ 840
+    → (turns_of_tasks (stretch_tasks at copies to bytes) + 3 * copies ≤ length bytes + 3 * copies_with copies bytes) × (copies_with copies bytes ≤ 840)
+stretch_turns at to copies bytes le =
+    either (λ n b. (turns_of_tasks (stretch_tasks at n to b) + 3 * n ≤ length b + 3 * copies_with n b) × (copies_with n b ≤ 840)) copies bytes
     (λ c. let e = ap turns_of_tasks (c.tasks_are at to) in let n = c.copies_are in let some = c.some in let few = c.few in (omega (arith, e, n, some), omega (arith, n, few)))
     (λ o. let e = ap turns_of_tasks (o.tasks_are at to) in let n = o.copies_are in let p = puts_turns to bytes in (omega (arith, e, n, p), omega (arith, n, le)))
 
@@ -111,59 +112,42 @@ vectors_fit from parts v zero le = tt
 vectors_fit from parts v (suc n) le =
     fit_both from (vector_task v (serving parts v)) (vector_tasks parts (suc v) n) (vector_fits from v (serving parts v) (omega (arith, le))) (vectors_fit from parts (suc v) n (omega (arith, le)))
 
-object_fits : (from at to copies : ℕ) (bytes : List ℕ) → to + length bytes < 65536 → from + at + length (copied copies bytes) < 65536 → TasksFit from (object_tasks at copies to bytes)
-object_fits from at to copies bytes room lt =
-    either (λ n b. to + length b < 65536 → from + at + length (copied n b) < 65536 → TasksFit from (object_tasks at n to b)) copies bytes
+stretch_fits : (from at to copies : ℕ) (bytes : List ℕ) → to + length bytes < 65536 → from + at + length (copied copies bytes) < 65536 → TasksFit from (stretch_tasks at copies to bytes)
+stretch_fits from at to copies bytes room lt =
+    either (λ n b. to + length b < 65536 → from + at + length (copied n b) < 65536 → TasksFit from (stretch_tasks at n to b)) copies bytes
     (λ c r l. let e = ap length c.copied_are in let some = c.some in subst (TasksFit from) (sym (c.tasks_are at to)) ((omega (arith, l, e, some), omega (arith, r, some)), tt))
     (λ o r l. subst (TasksFit from) (sym (o.tasks_are at to)) (puts_fit from to bytes r))
     room lt
 
-module _ (offsets : List ℕ) (variables : List Variable) where
-  -- an object has room for its initial bytes
-  abbrev HasRoom : Object → Type 0
-  HasRoom o = length (object_bytes offsets variables o) ≤ o.size
+-- ---- all stretches
 
-  pub data_turns : (at copies k : ℕ) (os : List Object) → copies ≤ 840 → turns_of_tasks (data_tasks offsets variables at copies k os) + 3 * copies ≤ count_of offsets variables os + 2520
-  data_turns at copies k [] le = omega (arith, le)
-  data_turns at copies k (o ∷ os) le =
-      let b = object_bytes offsets variables o in
-      let to = 1024 + get_or offsets k 0 in
-      let more = data_tasks offsets variables (at + length (copied copies b)) (copies_with copies b) (k + 1) os in
-      let a = turns_append (object_tasks at copies to b) more in
-      let one = object_turns at to copies b le in
-      let rest = data_turns (at + length (copied copies b)) (copies_with copies b) (k + 1) os one.1 in
-      let first = one.0 in
-      omega (arith, a, first, rest)
+pub data_turns : (at copies : ℕ) (ss : List Stretch) → copies ≤ 840 → turns_of_tasks (data_tasks at copies ss) + 3 * copies ≤ total ss + 2520
+data_turns at copies [] le = omega (arith, le)
+data_turns at copies (stretch to bytes ∷ rest) le =
+    let a = turns_append (stretch_tasks at copies to bytes) (data_tasks (at + length (copied copies bytes)) (copies_with copies bytes) rest) in
+    let one = stretch_turns at to copies bytes le in
+    let others = data_turns (at + length (copied copies bytes)) (copies_with copies bytes) rest one.1 in
+    let first = one.0 in
+    omega (arith, a, first, others)
 
-  pub data_fit : (from at copies k : ℕ) (os : List Object) → All HasRoom os → from + at + length (copied_bytes offsets variables copies os) < 65536
-      → ((i : ℕ) → get_or offsets (k + i) 0 + get_or (map (λ o. o.size) os) i 0 ≤ 61440) → TasksFit from (data_tasks offsets variables at copies k os)
-  data_fit from at copies k [] fit lt room = tt
-  data_fit from at copies k (o ∷ os) fit lt room =
-      let b = object_bytes offsets variables o in
-      let to = 1024 + get_or offsets k 0 in
-      let here : k + 0 ≡ k = omega arith in
-      let r = room 0 in
-      let at_k = ap (λ n. get_or offsets n 0) here in
-      let all = length-append (copied copies b) (copied_bytes offsets variables (copies_with copies b) os) in
-      let rest_room : (i : ℕ) → get_or offsets (k + 1 + i) 0 + get_or (map (λ x. x.size) os) i 0 ≤ 61440 = λ i.
-      let e : k + suc i ≡ k + 1 + i = omega arith in
-      let p = ap (λ n. get_or offsets n 0) e in
-      let q = room (suc i) in
-      omega (arith, p, q) in
-      fit_both from (object_tasks at copies to b) (data_tasks offsets variables (at + length (copied copies b)) (copies_with copies b) (k + 1) os)
-      (object_fits from at to copies b (omega (arith, r, at_k, All-head HasRoom o os fit)) (omega (arith, lt, all)))
-      (data_fit from (at + length (copied copies b)) (copies_with copies b) (k + 1) os (All-tail HasRoom o os fit) (omega (arith, lt, all)) rest_room)
+pub data_fit : (from at copies : ℕ) (ss : List Stretch) → AreLow ss → from + at + length (copied_bytes copies ss) < 65536 → TasksFit from (data_tasks at copies ss)
+data_fit from at copies [] low lt = tt
+data_fit from at copies (stretch to bytes ∷ rest) low lt =
+    let all = length-append (copied copies bytes) (copied_bytes (copies_with copies bytes) rest) in
+    fit_both from (stretch_tasks at copies to bytes) (data_tasks (at + length (copied copies bytes)) (copies_with copies bytes) rest)
+    (stretch_fits from at to copies bytes low.0 (omega (arith, lt, all)))
+    (data_fit from (at + length (copied copies bytes)) (copies_with copies bytes) rest low.1 (omega (arith, lt, all)))
 
-  pub few_turns : (parts : List Part) (os : List Object) → turns_of_tasks (vector_tasks parts 0 256 ++ data_tasks offsets variables 0 0 0 os) ≤ 2776 + count_of offsets variables os
-  few_turns parts os =
-      let a = turns_append (vector_tasks parts 0 256) (data_tasks offsets variables 0 0 0 os) in
-      let v = vectors_turns parts 0 256 in
-      let d = data_turns 0 0 0 os (omega arith) in
-      omega (arith, a, v, d)
+pub few_turns : (parts : List Part) (ss : List Stretch) → turns_of_tasks (vector_tasks parts 0 256 ++ data_tasks 0 0 ss) ≤ 2776 + total ss
+few_turns parts ss =
+    let a = turns_append (vector_tasks parts 0 256) (data_tasks 0 0 ss) in
+    let v = vectors_turns parts 0 256 in
+    let d = data_turns 0 0 ss (omega arith) in
+    omega (arith, a, v, d)
 
-  -- no more bytes than the objects have
-  pub few_bytes : (os : List Object) → All HasRoom os → count_of offsets variables os ≤ sum_by (λ o. o.size) os
-  few_bytes [] fit = omega arith
-  few_bytes (o ∷ os) fit =
-      let h = few_bytes os (All-tail HasRoom o os fit) in
-      omega (arith, h, All-head HasRoom o os fit, sum_by-cons (λ x. x.size) o os)
+-- no more bytes than the objects have
+pub few_bytes : (offsets : List ℕ) (variables : List Variable) (os : List Object) → All (HasRoom offsets variables) os → count_of offsets variables os ≤ sum_by (λ o. o.size) os
+few_bytes offsets variables [] fit = omega arith
+few_bytes offsets variables (o ∷ os) fit =
+    let h = few_bytes offsets variables os (All-tail (HasRoom offsets variables) o os fit) in
+    omega (arith, h, All-head (HasRoom offsets variables) o os fit, sum_by-cons (λ x. x.size) o os)

@@ -7,6 +7,7 @@ pub mod Worded
 pub mod Tasking
 pub mod Placing
 pub mod Putting
+pub mod Joining
 pub mod Heading
 pub mod Fitting
 pub mod Imaging

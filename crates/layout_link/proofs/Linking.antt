@@ -8,12 +8,13 @@ use Rattle.select.specs.declared.part.Part.{Part}
 use Rattle.layout_link.specs.declared.tasks.Task.{Task}
 use Rattle.layout_link.specs.Objects.{offsets_from}
 use Rattle.layout_link.specs.Tasks.{vector_tasks}
-use Rattle.layout_link.specs.Initial.{data_tasks, count_of}
-use Rattle.layout_link.specs.Linker.{offsets_in, initial_in, tasks_in}
+use Rattle.layout_link.specs.Initial.{stretches, data_tasks, count_of}
+use Rattle.layout_link.specs.Linker.{offsets_in, stretches_in, initial_in, tasks_in}
 use Rattle.layout_link.specs.Inner.Head.{TasksFit, turns_of_tasks}
 use Rattle.layout_link.proofs.Placing.{below, is_placement, sum_sizes}
 use Rattle.layout_link.proofs.Heading.{fit_both}
 use Rattle.layout_link.proofs.Fitting.{vectors_fit, data_fit, few_turns, few_bytes}
+use Rattle.layout_link.proofs.Joining.{are_low, total_is}
 
 -- the same of three lists that are equal
 pub along : (P : List Part → List Task → List ℕ → Type 0) (ps ps' : List Part) (ts ts' : List Task) (bs bs' : List ℕ) → ps ≡ ps' → ts ≡ ts' → bs ≡ bs' → P ps ts bs → P ps' ts' bs'
@@ -27,8 +28,8 @@ module _ (names : Names) where
   offsets_are os offsets o e = e ∙ ap (λ l. offsets_from 2 (map (λ x. x.size) l)) o
 
   pub tasks_are : (parts : List Part) (offsets : List ℕ) (vectors ts : List Task) → offsets ≡ offsets_in names → vectors ≡ vector_tasks parts 0 256
-      → ts ≡ vectors ++ data_tasks offsets names.variables.items 0 0 0 names.objects.items → ts ≡ tasks_in names parts
-  tasks_are parts offsets vectors ts o v e = e ∙ ap₂ (λ a b. a ++ data_tasks b names.variables.items 0 0 0 names.objects.items) v o
+      → ts ≡ vectors ++ data_tasks 0 0 (stretches offsets names.variables.items 0 names.objects.items) → ts ≡ tasks_in names parts
+  tasks_are parts offsets vectors ts o v e = e ∙ ap₂ (λ a b. a ++ data_tasks 0 0 (stretches b names.variables.items 0 names.objects.items)) v o
 
   pub room : (k : ℕ) → get_or (offsets_in names) k 0 + get_or (sizes_of names) k 0 ≤ 61440
   room k = let b = below 2 (sizes_of names) k in let s = sum_sizes names.objects.items in let r = names.has_room in omega (arith, b, s, r)
@@ -40,12 +41,15 @@ module _ (names : Names) where
   tasks_fit law parts from lt =
       let os = names.objects.items in
       let vs = names.variables.items in
-      fit_both from (vector_tasks parts 0 256) (data_tasks (offsets_in names) vs 0 0 0 os) (vectors_fit from parts 0 256 (omega arith))
-      (data_fit (offsets_in names) vs from 0 0 0 os (law names (offsets_in names)) (omega (arith, lt)) (λ k. let e : 0 + k ≡ k = omega arith in let p = ap (λ n. get_or (offsets_in names) n 0) e in let r = room k in omega (arith, p, r)))
+      fit_both from (vector_tasks parts 0 256) (data_tasks 0 0 (stretches_in names)) (vectors_fit from parts 0 256 (omega arith))
+      (data_fit from 0 0 (stretches_in names)
+      (are_low (offsets_in names) vs 0 os (law names (offsets_in names)) (λ k. let e : 0 + k ≡ k = omega arith in let p = ap (λ n. get_or (offsets_in names) n 0) e in let r = room k in omega (arith, p, r)))
+      (omega (arith, lt)))
 
   pub turns_few : InitialBytesFit → (parts : List Part) → (turns_of_tasks (tasks_in names parts) ≤ 2776 + count_of (offsets_in names) names.variables.items names.objects.items) × (turns_of_tasks (tasks_in names parts) ≤ 100000)
   turns_few law parts =
-      let t = few_turns (offsets_in names) names.variables.items parts names.objects.items in
+      let few = few_turns parts (stretches_in names) in
+      let all = total_is (offsets_in names) names.variables.items 0 names.objects.items in
       let b = few_bytes (offsets_in names) names.variables.items names.objects.items (law names (offsets_in names)) in
       let r = names.has_room in
-      (t, omega (arith, t, b, r))
+      (omega (arith, few, all), omega (arith, few, all, b, r))

@@ -12,7 +12,7 @@ use Rattle.layout_link.specs.Objects.{offsets_from}
 use Rattle.layout_link.specs.Places.{total_of, places_from}
 use Rattle.layout_link.specs.Startup.{Act}
 use Rattle.layout_link.specs.Tasks.{placed, start_up_bytes, vector_tasks}
-use Rattle.layout_link.specs.Initial.{data_tasks, copied_bytes}
+use Rattle.layout_link.specs.Initial.{Stretch, stretches, data_tasks, copied_bytes}
 use Rattle.layout_link.specs.Rom.{rom_byte}
 
 -- where the first part with such an entry begins; 0 if there is none
@@ -24,13 +24,17 @@ module _ (names : Names) where
   abbrev pub offsets_in : List ℕ
   offsets_in = offsets_from 2 (sizes_of names)
 
-  -- the initial bytes that start-up copies from the ROM
+  -- the initial bytes, stretch by stretch
+  abbrev pub stretches_in : List Stretch
+  stretches_in = stretches offsets_in names.variables.items 0 names.objects.items
+
+  -- those that start-up copies from the ROM
   abbrev pub initial_in : List ℕ
-  initial_in = copied_bytes offsets_in names.variables.items 0 names.objects.items
+  initial_in = copied_bytes 0 stretches_in
 
   module _ (parts : List Part) where
     abbrev pub tasks_in : List Task
-    tasks_in = vector_tasks parts 0 256 ++ data_tasks offsets_in names.variables.items 0 0 0 names.objects.items
+    tasks_in = vector_tasks parts 0 256 ++ data_tasks 0 0 stretches_in
 
     -- the bytes of start-up
     abbrev pub start_up_in : ℕ

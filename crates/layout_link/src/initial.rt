@@ -1,9 +1,9 @@
 //! The bytes that the objects of a program have at start.
 
-ghost use Rattle.std.specs.Prelude.{◌≡◌, ◌+◌, ◌-◌, ◌<◌, ◌≤◌, ◌^◌, ◌++◌, ℕ, IfOk, OnOk, IsOkUnless, length, map, slice_get, slice_index};
+ghost use Rattle.std.specs.Prelude.{◌≡◌, ◌+◌, ◌-◌, ◌<◌, ◌≤◌, ◌^◌, ◌++◌, ℕ, List, IfOk, OnOk, IsOkUnless, length, map, slice_get, slice_index};
 ghost use Rattle.i86_code.specs.Coding.{AreBytes};
 ghost use Rattle.plm_decl.specs.Initial.{word, variable_address, datum_bytes, initial_bytes};
-ghost use Rattle.layout_link.specs.Initial.{puts, is_copied, object_tasks, copied, copies_with, object_bytes, HaveBytes, data_tasks, copied_bytes};
+ghost use Rattle.layout_link.specs.Initial.{Stretch, joined, puts, is_copied, stretch_tasks, copied, copies_with, object_bytes, HaveBytes, stretches, data_tasks, copied_bytes};
 
 use crate::tasks::Task;
 use crate::words::number_at;
@@ -14,7 +14,7 @@ use word86::Fault;
 /// The address of the data segment, 0040H.
 const DATA: u16 = 0x400;
 
-/// The objects that are copied at most.
+/// The stretches that are copied at most.
 const COPIES: usize = 840;
 
 /// Puts an address, modulo 65,536, low byte first.
@@ -106,14 +106,14 @@ fn put(tasks: &mut Vec<Task>, to: u16, bytes: &[u8]) -> Result<(), Fault>
     Ok(())
 }
 
-/// Whether an object with `count` bytes is copied, where `copies` objects are copied before it.
+/// Whether a stretch with `count` bytes is copied, where `copies` stretches are copied before it.
 fn is_copied(copies: usize, count: usize) -> bool
     ensures { result ≡ is_copied copies count }
 {
     copies < COPIES && count >= 5
 }
 
-/// One more object, with these bytes there. The answer is how many objects are copied with it.
+/// One more stretch, with these bytes there. The answer is how many stretches are copied with it.
 fn add(
     tasks: &mut Vec<Task>,
     bytes: &mut Vec<u8>,
@@ -122,7 +122,7 @@ fn add(
     first: &[u8],
 ) -> Result<usize, Fault>
     requires { to + length first.now < 65536 }
-    ensures tasks { OnOk result (tasks.new.items ≡ tasks.old.items ++ object_tasks (length bytes.old.items) copies to first.now) }
+    ensures tasks { OnOk result (tasks.new.items ≡ tasks.old.items ++ stretch_tasks (length bytes.old.items) copies to first.now) }
     ensures bytes { OnOk result (bytes.new.items ≡ bytes.old.items ++ copied copies first.now) }
     ensures copies { IfOk result (λ n. n ≡ copies_with copies first.now) }
     ensures memory { IsOkUnless result Fault.Memory }
@@ -140,6 +140,41 @@ fn add(
     Ok(copies + 1)
 }
 
+/// A stretch that may go on: bytes one after another, from this address on.
+#[derive(Drop)]
+struct OpenStretch {
+    to: u16,
+    bytes: Vec<u8>,
+}
+
+/// The initial bytes of one more object, which lie there: the stretch goes on with them where it ends there; else it is added, and they
+/// begin another one. The answer is how many stretches are copied.
+fn go_on(
+    tasks: &mut Vec<Task>,
+    bytes: &mut Vec<u8>,
+    copies: usize,
+    stretch: &mut OpenStretch,
+    to: u16,
+    first: &[u8],
+) -> Result<usize, Fault>
+    requires stretch { stretch.old.to + length stretch.old.bytes.items < 65536 }
+    requires first { to + length first.now < 65536 }
+    ensures tasks { IfOk result (λ n. (rest : List Stretch) → tasks.old.items ++ data_tasks (length bytes.old.items) copies (joined stretch.old.to stretch.old.bytes.items (joined to first.now rest)) ≡ tasks.new.items ++ data_tasks (length bytes.new.items) n (joined stretch.new.to stretch.new.bytes.items rest)) }
+    ensures bytes { IfOk result (λ n. (rest : List Stretch) → bytes.old.items ++ copied_bytes copies (joined stretch.old.to stretch.old.bytes.items (joined to first.now rest)) ≡ bytes.new.items ++ copied_bytes n (joined stretch.new.to stretch.new.bytes.items rest)) }
+    ensures within { OnOk result (stretch.new.to + length stretch.new.bytes.items < 65536) }
+    ensures memory { IsOkUnless result Fault.Memory }
+{
+    if usize::from(to) == usize::from(stretch.to) + stretch.bytes.len() {
+        stretch.bytes.extend_from_slice(first)?;
+        return Ok(copies);
+    }
+    let copies = add(tasks, bytes, copies, stretch.to, &stretch.bytes)?;
+    stretch.to = to;
+    stretch.bytes.clear();
+    stretch.bytes.extend_from_slice(first)?;
+    Ok(copies)
+}
+
 /// Adds what start-up does for the objects, which lie at these offsets; the answer is the bytes that it copies, one after another.
 pub(crate) fn initial(
     alloc: Global,
@@ -148,18 +183,23 @@ pub(crate) fn initial(
     tasks: &mut Vec<Task>,
 ) -> Result<Vec<u8>, Fault>
     requires { (k : ℕ) → slice_index offsets.now k + slice_index (map (λ o. o.size) names.now.objects.items) k ≤ 61440 }
-    ensures tasks { OnOk result (tasks.new.items ≡ tasks.old.items ++ data_tasks offsets.now names.now.variables.items 0 0 0 names.now.objects.items) }
-    ensures bytes { IfOk result (λ bytes. bytes.items ≡ copied_bytes offsets.now names.now.variables.items 0 names.now.objects.items) }
+    ensures tasks { OnOk result (tasks.new.items ≡ tasks.old.items ++ data_tasks 0 0 (stretches offsets.now names.now.variables.items 0 names.now.objects.items)) }
+    ensures bytes { IfOk result (λ bytes. bytes.items ≡ copied_bytes 0 (stretches offsets.now names.now.variables.items 0 names.now.objects.items)) }
     ensures small { OnOk result (HaveBytes offsets.now names.now.variables.items names.now.objects.items) }
     ensures memory { IsOkUnless result Fault.Memory }
 {
     initial_values_fit();
     let mut bytes = Vec::new(alloc);
     let mut copies = 0;
+    let mut stretch = OpenStretch {
+        to: DATA,
+        bytes: Vec::new(alloc),
+    };
     for (k, object) in names.objects.iter().enumerate() {
         let first = first_of(alloc, names, offsets, object)?;
         let to = DATA + number_at(offsets, k);
-        copies = add(tasks, &mut bytes, copies, to, &first)?;
+        copies = go_on(tasks, &mut bytes, copies, &mut stretch, to, &first)?;
     }
+    add(tasks, &mut bytes, copies, stretch.to, &stretch.bytes)?;
     Ok(bytes)
 }

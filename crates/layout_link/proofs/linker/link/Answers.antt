@@ -7,7 +7,7 @@ use Rattle.layout_link.specs.Objects.{offsets_from}
 use Rattle.layout_link.specs.Places.{total_of, places_from}
 use Rattle.layout_link.specs.Startup.{HasStartUp, turns_without_acts}
 use Rattle.layout_link.specs.Tasks.{placed, bytes_of_tasks, start_up_bytes, is_main, is_unserved}
-use Rattle.layout_link.specs.Initial.{HaveBytes, copied_bytes}
+use Rattle.layout_link.specs.Initial.{HaveBytes, stretches, copied_bytes}
 use Rattle.layout_link.specs.Rom.{rom_byte, rom_code, rom_words}
 use Rattle.layout_link.specs.Stand.{PartsStand}
 use Rattle.layout_link.specs.Linker.{offsets_in, initial_in, tasks_in, place_in, places_in}
@@ -32,7 +32,7 @@ rom_with-requires c =
     let offsets = c.deref-3.ensures.value ∙ offsets_are names c.deref.result.now c.in_ok-offsets.offsets.items c.deref.ensures.value c.in_ok-offsets.ensures.offsets in
     let vectors = vectors_are parts c.deref-2.result.now c.in_ok-tasks.tasks.items c.deref-2.ensures.value c.in_ok-tasks.ensures.tasks in
     let tasks = c.deref-6.ensures.value ∙ tasks_are names parts c.deref-3.result.now c.in_ok-tasks.tasks.items c.initial.new.tasks.items offsets vectors c.in_ok-bytes.ensures.tasks in
-    let bytes = c.deref-7.ensures.value ∙ c.in_ok-bytes.ensures.bytes ∙ ap (λ b. copied_bytes b names.variables.items 0 names.objects.items) offsets in
+    let bytes = c.deref-7.ensures.value ∙ c.in_ok-bytes.ensures.bytes ∙ ap (λ b. copied_bytes 0 (stretches b names.variables.items 0 names.objects.items)) offsets in
     along (λ ps ts bs. (from : ℕ) → from + length bs < 65536 → TasksFit from ts) parts parts (tasks_in names parts) c.deref-6.result.now (initial_in names) c.deref-7.result.now refl (sym tasks) (sym bytes) (tasks_fit names c.initial_values_fit.ensures.bytes parts)
 
 pub start_turns-requires : goal.start_turns-requires
@@ -68,7 +68,7 @@ returns-clause-initial c =
     let offsets = c.deref-3.ensures.value ∙ offsets_are names c.deref.result.now c.in_ok-offsets.offsets.items c.deref.ensures.value c.in_ok-offsets.ensures.offsets in
     let vectors = vectors_are parts c.deref-2.result.now c.in_ok-tasks.tasks.items c.deref-2.ensures.value c.in_ok-tasks.ensures.tasks in
     let tasks = c.deref-6.ensures.value ∙ tasks_are names parts c.deref-3.result.now c.in_ok-tasks.tasks.items c.initial.new.tasks.items offsets vectors c.in_ok-bytes.ensures.tasks in
-    let bytes = c.deref-7.ensures.value ∙ c.in_ok-bytes.ensures.bytes ∙ ap (λ b. copied_bytes b names.variables.items 0 names.objects.items) offsets in
+    let bytes = c.deref-7.ensures.value ∙ c.in_ok-bytes.ensures.bytes ∙ ap (λ b. copied_bytes 0 (stretches b names.variables.items 0 names.objects.items)) offsets in
     along (λ ps ts bs. (k : ℕ) → k < length bs → rom_byte c.in_ok-rom.rom.items (base + start_up_bytes ts + total_of ps + k) ≡ slice_index bs k)
     c.deref-4.result.now parts c.deref-6.result.now (tasks_in names parts) c.deref-7.result.now (initial_in names) c.deref-4.ensures.value tasks bytes c.in_ok-rom.ensures.initial
 
