@@ -46,7 +46,7 @@ impl<'a> LiteralTokens<'a> {
         ensures ok { IfOk result (λ t. map named_symbol t.tokens.items ≡ map symbol text.now) }
         ensures err { IfErr result (λ f. f ≡ Memory) }
     {
-        let mut tokens = Vec::new(alloc);
+        let mut tokens = Vec::with_capacity(alloc, text.len())?;
         for token in text {
             let token = NamedToken::new(alloc, *token)?;
             tokens.push(token)?;
@@ -61,7 +61,7 @@ fn earlier_places(alloc: Global, tokens: &[NamedToken<'_>]) -> Result<Vec<usize>
     ensures { IfErr result (λ f. f ≡ Memory) }
 {
     let mut last: HashMap<&[u8], usize> = HashMap::new(alloc);
-    let mut places = Vec::new(alloc);
+    let mut places = Vec::with_capacity(alloc, tokens.len())?;
     for (place, token) in tokens.iter().enumerate() {
         let earlier = last.insert(token.name.letters(), place)?;
         places.push(earlier.unwrap_or(place))?;

@@ -124,6 +124,7 @@ fn add_runs(runs: &mut Vec<KnownRun>, text: &[NamedToken<'_>]) -> Result<(), Fau
     ensures known { (literals : List Literal) (declared : ℕ) → All (λ k. IsKnown literals declared k) runs.old.items → All (λ k. IsKnown literals declared k) runs.new.items }
     ensures err { IfErr result (λ f. f ≡ Memory) }
 {
+    runs.reserve(text.len().saturating_mul(2))?;
     for _ in text {
         runs.push(UNKNOWN)?;
         runs.push(UNKNOWN)?;
