@@ -88,6 +88,7 @@ pub fn analyse(alloc: Global, sources: &[Source<'_>]) -> Result<Program, Fault>
     let scanned = scan_all(alloc, sources)?;
     let modules = parse_all(alloc, scanned)?;
     let names = resolve(alloc, &modules)?;
+    drop(modules);
     check(alloc, names)
 }
 

@@ -74,5 +74,6 @@ pub(crate) fn compile(alloc: Global, program: &Program, size: RomSize) -> Result
     let code = lower(alloc, program)?;
     let stack = count(alloc, &code)?;
     let parts = select(alloc, &code)?;
+    drop(code);
     assemble(alloc, parts, names, stack, size)
 }
