@@ -172,6 +172,34 @@ fn empty_names_among_others(rt: HostRuntime) -> Result<(), Fault> {
 }
 
 #[test]
+fn names_declared_anew(rt: HostRuntime) -> Result<(), Fault> {
+    let alloc = rt.alloc();
+    gives(
+        &rt,
+        alloc,
+        b"DO; DECLARE X LITERALLY 'Y Y 1 Y Z Y'; DO; DECLARE Y LITERALLY ''; X X END; DO; DECLARE Y LITERALLY '', Z LITERALLY 'Y'; X END; DO; DECLARE Z LITERALLY ''; X END; X",
+        b"DO; DECLARE X LITERALLY 'Y Y 1 Y Z Y'; DO; DECLARE Y LITERALLY ''; 1 Z 1 Z END; DO; DECLARE Y LITERALLY '', Z LITERALLY 'Y'; 1 END; DO; DECLARE Z LITERALLY ''; Y Y 1 Y Y END; Y Y 1 Y Z Y",
+        None,
+    )?;
+    // The first literal of one block has the place that the first of another had.
+    gives(
+        &rt,
+        alloc,
+        b"DO; DECLARE P LITERALLY '1'; P END; DECLARE Q LITERALLY '2'; P Q DO; DECLARE P LITERALLY '3'; Q P END; P",
+        b"DO; DECLARE P LITERALLY '1'; 1 END; DECLARE Q LITERALLY '2'; P 2 DO; DECLARE P LITERALLY '3'; 2 3 END; P",
+        None,
+    )?;
+    // Spelled otherwise.
+    gives(
+        &rt,
+        alloc,
+        b"DECLARE A$B LITERALLY 'c$d'; DECLARE CD LITERALLY 'e'; ab a$$b CD c$d",
+        b"DECLARE A$B LITERALLY 'c$d'; DECLARE CD LITERALLY 'e'; e e e e",
+        None,
+    )
+}
+
+#[test]
 fn many_tokens(rt: HostRuntime) -> Result<(), Fault> {
     let alloc = rt.alloc();
     let mut source = vec![in alloc; b';'; 65_535]?;
