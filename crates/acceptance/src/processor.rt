@@ -4,10 +4,11 @@ ghost use Rattle.std.specs.Prelude.{◌≡◌};
 ghost use Rattle.acceptance.specs.Inner.TestBus.{TestWorld, test_bus, put, load_after_store_law, ports_law};
 
 use crate::expect::Expect;
+use crate::linking::idle_rom;
 use arrayvec::ArrayVec;
 use bitflags::Flags as _;
 use cpu8086::{Bus, Cpu, DecodeCache, Kind, Phase, Store};
-use i86_table::{Flags, LoadableSegment, Register16, Segment};
+use i86_table::{Flags, LoadableSegment, Register16, Regs, Segment};
 use std::alloc::{AllocError, Global};
 use std::process::Abort;
 use std::test::Fail;
@@ -147,6 +148,22 @@ fn seen(cpu: &Cpu) -> [u16; 14] {
     ]
 }
 
+/// Puts a word into each general register.
+fn hold(registers: &mut Regs, word: u16) {
+    for register in [
+        Register16::Ax,
+        Register16::Cx,
+        Register16::Dx,
+        Register16::Bx,
+        Register16::Sp,
+        Register16::Bp,
+        Register16::Si,
+        Register16::Di,
+    ] {
+        registers.set_word(register, word);
+    }
+}
+
 /// 8 KiB ROMs, 0 but for the bytes from 0FFFF0H: what memory holds, these bytes, the turns, and where the processor stops.
 #[test]
 fn six_roms(rt: HostRuntime) -> Result<(), Fail> {
@@ -268,6 +285,37 @@ fn short_programs(rt: HostRuntime) -> Result<(), Fail> {
             *end,
             "{code:?}"
         );
+    }
+    Ok(())
+}
+
+/// A reset says nothing of the general registers: whatever they hold, start-up's 1,292 turns lead to main at 0E02AH, behind its 42
+/// bytes, and set all vectors to 0F000H:0E02DH, behind main's three. CX, BP, SI and DI are as they were; the last comparison was equal.
+#[test]
+fn starts_with_any_registers(rt: HostRuntime) -> Result<(), Fail> {
+    let mut expect = Expect::new(&rt);
+    let rom = idle_rom(rt.alloc())?;
+    for held in [0u16, 4, 1022, 0x5A5A, 0xFFFF] {
+        let mut bus = TestBus::filled(rt.alloc(), 0x5A)?;
+        bus.write(0xFE000, &rom);
+        let mut cpu = Cpu::reset();
+        hold(&mut cpu.registers, held);
+        expect.same(run(&mut cpu, &mut bus, 1292), None);
+        expect.same(
+            seen(&cpu),
+            [
+                0xB000, held, 0xF000, 1024, 0xFFFE, held, held, held, 0xB000, 0xF000, 0x40, 0x40,
+                0xE02A, 0x44,
+            ],
+        );
+        let vectors = bus.memory.get(..1024).unwrap_or(&[]);
+        expect.same(vectors.len(), 1024);
+        expect.holds(
+            vectors
+                .chunks(4)
+                .all(|vector| vector == [0x2D, 0xE0, 0x00, 0xF0].as_slice()),
+        );
+        expect.same(bus.load(1024), 0x5A);
     }
     Ok(())
 }
