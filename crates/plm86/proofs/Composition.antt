@@ -11,6 +11,7 @@ pub mod Standing
 pub mod Entries
 pub mod Selected
 pub mod Acting
+pub mod Stretches
 pub mod Storing
 pub mod PowerOn
 pub mod Opening

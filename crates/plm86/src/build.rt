@@ -113,7 +113,8 @@ pub(crate) fn build_program(
 /// Those of `analyse`; then the stack's room (E501, where main and an interrupt procedure take more than 4,094 bytes; never where the
 /// longest paths of calls of both have together at most 8 procedures and no statement has more than 32 constants and references); then
 /// the ROM's room (E601, never where the program has at most 16 nodes for each KiB and its initial bytes fill at most a quarter of the
-/// ROM; a node is a statement, procedure, operator, reference or constant, each value of INITIAL, DATA and location lists among them).
+/// ROM; a node is a statement, procedure, operator (`:=` among them), reference or constant (a string or a location list is one), and
+/// each stretch of RAM that initial values fill without a gap).
 pub fn build(alloc: Global, sources: &[Source<'_>], size: RomSize) -> Result<Image, Fault>
     ensures built { IfOk result (IsBuilt (map text_of sources.now) size) }
     ensures refused { IfErr result (Refuses (map text_of sources.now) size) }

@@ -1,6 +1,7 @@
--- How large a program is: its nodes, and the bytes that have values at start. A node is a statement, procedure, operator, reference or
--- constant, each value of INITIAL, DATA and location lists among them; a subscript or an argument is the node that its expression is.
-use Rattle.std.specs.Prelude.{ℕ, ◌+◌, Bool, false, cond, List, [], ◌∷◌, length, map, Option, Some, None}
+-- How large a program is: its nodes, and the bytes that have values at start. A node is a statement, procedure, operator (`:=` among them),
+-- reference or constant (a string or a location list is one), and each stretch of RAM that initial values fill without a gap; a subscript or
+-- an argument is the node that its expression is.
+use Rattle.std.specs.Prelude.{ℕ, ◌+◌, ◌==◌, ◌&&◌, ◌||◌, nat_lt, Bool, false, cond, List, [], ◌∷◌, map, Option, Some, None}
 use Rattle.plm_decl.specs.declared.names.Datum.{Datum}
 use Rattle.plm_decl.specs.declared.names.Datum.TheVariants as datum
 use Rattle.plm_decl.specs.declared.names.Names.{Names}
@@ -14,13 +15,17 @@ use Rattle.plm_type.specs.Typing.{is_measure, is_target}
 
 -- LENGTH, LAST and SIZE of a reference are constants
 abbrev pub is_constant : Binding → Bool
+is_constant (binding.Variable v) = false
+is_constant (binding.Procedure p) = false
 is_constant (binding.Builtin b) = is_measure b
-is_constant _ = false
+is_constant binding.Nothing = false
 
 -- OUTPUT and OUTWORD of a port
 abbrev pub is_port : Binding → Bool
+is_port (binding.Variable v) = false
+is_port (binding.Procedure p) = false
 is_port (binding.Builtin b) = is_target b
-is_port _ = false
+is_port binding.Nothing = false
 
 abbrev mutual
   pub expression_nodes : ExpressionR → ℕ
@@ -86,21 +91,6 @@ abbrev mutual
   statements_nodes no_statements = 0
   statements_nodes (statements s ss) = statement_nodes s + statements_nodes ss
 
--- ---- the program
-
-abbrev pub procedures_nodes : List ProcedureR → ℕ
-procedures_nodes [] = 0
-procedures_nodes (p ∷ ps) = 1 + statements_nodes p.body + procedures_nodes ps
-
--- the values that objects have at start
-abbrev pub values_nodes : List ObjectR → ℕ
-values_nodes [] = 0
-values_nodes (o ∷ os) = length o.initial + values_nodes os
-
-abbrev pub nodes_of : Names → ℕ
-nodes_of names =
-    values_nodes (map object_of names.objects.items) + procedures_nodes (map procedure_of names.procedures.items) + statements_nodes (main_of names.main).statements
-
 -- ---- initial bytes
 
 abbrev pub datum_size : Datum → ℕ
@@ -119,3 +109,28 @@ objects_size (o ∷ os) = data_size o.initial + objects_size os
 
 abbrev pub initial_size : Names → ℕ
 initial_size names = objects_size (map object_of names.objects.items)
+
+-- ---- the stretches of initial bytes, where objects lie one after another
+
+-- an object with initial values begins one, unless RAM is filled up to it
+abbrev pub begins : (filled : Bool) → ObjectR → ℕ
+begins filled o = cond (filled || data_size o.initial == 0) 0 1
+
+-- RAM is filled up to the end of an object whose bytes are all initial; one without bytes changes nothing
+abbrev pub is_filled : (before : Bool) → ObjectR → Bool
+is_filled before o = data_size o.initial == o.size && (before || nat_lt 0 o.size)
+
+-- those of some objects; `filled` is whether RAM is filled up to the first
+abbrev pub stretches_nodes : (filled : Bool) → List ObjectR → ℕ
+stretches_nodes filled [] = 0
+stretches_nodes filled (o ∷ os) = begins filled o + stretches_nodes (is_filled filled o) os
+
+-- ---- the program
+
+abbrev pub procedures_nodes : List ProcedureR → ℕ
+procedures_nodes [] = 0
+procedures_nodes (p ∷ ps) = 1 + statements_nodes p.body + procedures_nodes ps
+
+abbrev pub nodes_of : Names → ℕ
+nodes_of names =
+    stretches_nodes false (map object_of names.objects.items) + procedures_nodes (map procedure_of names.procedures.items) + statements_nodes (main_of names.main).statements

@@ -8,7 +8,7 @@ use Rattle.select.specs.declared.part.Part.{Part}
 use Rattle.layout_link.specs.declared.tasks.Task.{Task}
 use Rattle.layout_link.specs.declared.tasks.Task.TheVariants as tasks
 use Rattle.layout_link.specs.Tasks.{placed, serving, vector_task, vector_tasks}
-use Rattle.layout_link.specs.Initial.{puts, is_copied, object_tasks}
+use Rattle.layout_link.specs.Initial.{puts, is_copied, stretch_tasks}
 use Rattle.plm86.specs.Startup.{word_put, byte_put, after_acts}
 use Rattle.plm86.proofs.Machine.Copying.{byte_put_same, byte_put_other, word_put_low, word_put_high, word_put_other, copied_beside, copied_at}
 
@@ -75,7 +75,7 @@ module _ (places : List ℕ) (from : ℕ) where
               (ap (λ m. m (4 * k)) both ∙ set.0, ap (λ m. m (4 * k + 1)) both ∙ set.1)
         ]
 
-  -- ---- the bytes of one object
+  -- ---- the bytes of one stretch
 
   -- words put one after another leave what is beside them
   puts_beside : (to : ℕ) (bytes : List ℕ) (f : ℕ → ℕ) (a : ℕ) → (a < to) ⊎ (to + length bytes ≤ a) → done (puts to bytes) f a ≡ f a
@@ -108,19 +108,19 @@ module _ (places : List ℕ) (from : ℕ) where
   copied_some : (copies : ℕ) (bytes : List ℕ) → is_copied copies (length bytes) ≡ true → suc (length bytes - 1) ≡ length bytes
   copied_some copies bytes e = let some = leb-true 5 (length bytes) (and_parts (nat_lt copies 840) (nat_le 5 (length bytes)) e).1 in omega (arith, some)
 
-  -- the tasks of an object leave what is beside its bytes
-  pub object_beside : (at copies to : ℕ) (bytes : List ℕ) (f : ℕ → ℕ) (a : ℕ) → (a < to) ⊎ (to + length bytes ≤ a) → done (object_tasks at copies to bytes) f a ≡ f a
-  object_beside at copies to bytes f a h = by (is_copied copies (length bytes)) refl
+  -- the tasks of a stretch leave what is beside its bytes
+  pub stretch_beside : (at copies to : ℕ) (bytes : List ℕ) (f : ℕ → ℕ) (a : ℕ) → (a < to) ⊎ (to + length bytes ≤ a) → done (stretch_tasks at copies to bytes) f a ≡ f a
+  stretch_beside at copies to bytes f a h = by (is_copied copies (length bytes)) refl
     where
       by : (b : Bool) → is_copied copies (length bytes) ≡ b → done (if b then tasks.Copy at to (length bytes - 1) ∷ [] else puts to bytes) f a ≡ f a
       by true e = copied_beside (suc (length bytes - 1)) (from + at) to f a (let n = copied_some copies bytes e in ⊎_elim (λ lt. inl lt) (λ le. inr (omega (arith, le, n))) h)
       by false e = puts_beside to bytes f a h
 
   -- and put its bytes, where those that are copied lie in the ROM
-  pub object_set : (at copies to : ℕ) (bytes : List ℕ) (f : ℕ → ℕ) (i : ℕ) → AreBytes bytes → to + length bytes ≤ 0xF0000
+  pub stretch_set : (at copies to : ℕ) (bytes : List ℕ) (f : ℕ → ℕ) (i : ℕ) → AreBytes bytes → to + length bytes ≤ 0xF0000
       → (is_copied copies (length bytes) ≡ true → f (0xF0000 + (from + at + i)) ≡ slice_index bytes i)
-      → i < length bytes → done (object_tasks at copies to bytes) f (to + i) ≡ slice_index bytes i
-  object_set at copies to bytes f i are low there lt = by (is_copied copies (length bytes)) refl
+      → i < length bytes → done (stretch_tasks at copies to bytes) f (to + i) ≡ slice_index bytes i
+  stretch_set at copies to bytes f i are low there lt = by (is_copied copies (length bytes)) refl
     where
       by : (b : Bool) → is_copied copies (length bytes) ≡ b → done (if b then tasks.Copy at to (length bytes - 1) ∷ [] else puts to bytes) f (to + i) ≡ slice_index bytes i
       by true e =

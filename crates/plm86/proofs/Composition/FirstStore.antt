@@ -16,7 +16,7 @@ use Rattle.layout_link.specs.declared.image.RomSize.TheVariants as sizes
 use Rattle.layout_link.specs.Image.{bytes_in}
 use Rattle.layout_link.specs.Tasks.{serving, is_unserved, vector_tasks}
 use Rattle.layout_link.specs.Initial.{object_bytes, HaveBytes, data_tasks}
-use Rattle.layout_link.specs.Linker.{offsets_in, needed, places_in, place_of, initial_at, acts_in, InitialStands}
+use Rattle.layout_link.specs.Linker.{offsets_in, stretches_in, needed, places_in, place_of, initial_at, acts_in, InitialStands}
 use Rattle.board.specs.World.{screen_at}
 use Rattle.plm86.specs.Startup.{with_vectors, after_acts}
 use Rattle.plm86.specs.Laws.{Assembly, power_on_memory, HoldsStore}
@@ -68,14 +68,14 @@ module _ (names : Names) (parts : List Part) (size : RomSize) (rom ram screen : 
   served = done places (initial_at names parts size) (vector_tasks parts 0 256) looped
 
   abbrev filled : ℕ → ℕ
-  filled = done places (initial_at names parts size) (data_tasks (offsets_in names) names.variables.items 0 0 0 names.objects.items) served
+  filled = done places (initial_at names parts size) (data_tasks 0 0 (stretches_in names)) served
 
   -- what start-up leaves
   abbrev memory : ℕ → ℕ
   memory = after_acts (acts_in names parts size) looped
 
   memory_is : memory ≡ filled
-  memory_is = done_append places (initial_at names parts size) (vector_tasks parts 0 256) (data_tasks (offsets_in names) names.variables.items 0 0 0 names.objects.items) looped
+  memory_is = done_append places (initial_at names parts size) (vector_tasks parts 0 256) (data_tasks 0 0 (stretches_in names)) looped
 
   -- above the vectors, memory is as it was
   above : (a : ℕ) → 1024 ≤ a → served a ≡ powered a
@@ -87,7 +87,7 @@ module _ (names : Names) (parts : List Part) (size : RomSize) (rom ram screen : 
   all_else : (a : ℕ) → IsNoInitial names a → memory a ≡ served a
   all_else a h =
       ap (λ m. m a) memory_is
-      ∙ objects_beside (offsets_in names) names.variables.items places (initial_at names parts size) 0 0 0 names.objects.items served a
+      ∙ objects_beside places (initial_at names parts size) (offsets_in names) names.variables.items names.objects.items served a
       (λ j o e i lt at. let same : 0 + j ≡ j = omega arith in h j o e i lt (at ∙ ap (λ z. 1024 + offset z + i) same))
 
   -- an address of RAM that is neither a vector's nor an initial byte's
@@ -127,7 +127,7 @@ module _ (names : Names) (parts : List Part) (size : RomSize) (rom ram screen : 
     are_low j o e i lt = let same : j ≡ 0 + j = omega arith in subst (λ z. offset z + i < 0xF000) same (below j o e i (has_room j o e i lt))
 
     -- the bytes that are copied are in the ROM
-    are_in_rom : AreInRom (offsets_in names) names.variables.items places (initial_at names parts size) 0 0 names.objects.items served
+    are_in_rom : AreInRom places (initial_at names parts size) 0 0 (stretches_in names) served
     are_in_rom j lt =
         let place = initial_at names parts size + j in
         let small = rom_small size in
@@ -142,7 +142,7 @@ module _ (names : Names) (parts : List Part) (size : RomSize) (rom ram screen : 
         let same : k ≡ 0 + k = omega arith in
         let here : 1024 + (offset k + i) ≡ 1024 + offset k + i = omega arith in
         ap memory here ∙ ap (λ m. m (1024 + offset k + i)) memory_is ∙ ap (λ z. filled (1024 + offset z + i)) same
-        ∙ objects_set (offsets_in names) names.variables.items places (initial_at names parts size) 0 0 0 names.objects.items served have are_apart are_low are_in_rom k o e i lt
+        ∙ objects_set places (initial_at names parts size) (offsets_in names) names.variables.items names.objects.items served have are_apart are_low are_in_rom k o e i lt
 
     -- another byte of an object
     rest_kept : (k : ℕ) (o : Object) → slice_get names.objects.items k ≡ Some o → (i : ℕ) → length (initial o) ≤ i → i < o.size → memory (1024 + (offset k + i)) ≡ slice_index ram (0x400 + offset k + i)
