@@ -1,4 +1,4 @@
-use Rattle.std.proofs.Common.{◌≡◌, ◌∙◌, sym}
+use Rattle.std.proofs.Common.{◌∙◌, sym}
 use Rattle.plm_syntax.proofs.Written.{written_on, written_none}
 use Rattle.plm_syntax.proofs.name.is_as_written.Goals as goal
 

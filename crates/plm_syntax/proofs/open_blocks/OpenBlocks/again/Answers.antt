@@ -1,7 +1,5 @@
-use Rattle.std.proofs.Common.{◌≡◌, ◌∙◌, ℕ, ◌+◌, List, length, map, Option, Some, sym, ap, subst, arith}
+use Rattle.std.proofs.Common.{◌≡◌, ◌+◌, map, Some, sym, subst, arith}
 use Rattle.std.specs.List.{slice_get}
-use Rattle.plm_syntax.specs.declared.named_token.NamedToken.{NamedToken}
-use Rattle.plm_syntax.specs.declared.open_blocks.Literal.{Literal}
 use Rattle.plm_syntax.specs.declared.open_blocks.Quiet.{Quiet}
 use Rattle.plm_syntax.specs.Inner.OpenBlocks.{named_symbol, literal_text, IsQuietRun}
 use Rattle.plm_syntax.proofs.Known.{run_again, literal_there, token_there}

@@ -1,4 +1,4 @@
-use Rattle.std.proofs.Common.{◌≡◌, ◌∙◌, ℕ, List, length, Option, Some, None, sym, ap, arith}
+use Rattle.std.proofs.Common.{◌≡◌, ◌∙◌, length, Some, sym, arith}
 use Rattle.std.proofs.lemmas.Map.Text.{hash_map_updates_str}
 use Rattle.plm_syntax.specs.Inner.OpenBlocks.{place_in}
 use Rattle.plm_syntax.proofs.Located.{placed_pushed, placed_already, placed_still, either_way, entries_same, updated_at}

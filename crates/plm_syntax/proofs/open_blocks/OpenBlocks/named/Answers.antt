@@ -1,9 +1,7 @@
-use Rattle.std.proofs.Common.{◌≡◌, ◌∙◌, ℕ, List, length, true, false, Some, None, Option, cond, sym, ap, refl, arith, rules}
+use Rattle.std.proofs.Common.{◌∙◌, ℕ, List, length, Some, None, sym, ap, arith}
 use Rattle.std.specs.Prelude.{bytes_eq}
-use Rattle.std.specs.List.{slice_get}
 use Rattle.std.proofs.lemmas.Option.{slice_get_past}
-use Rattle.plm_syntax.specs.declared.open_blocks.Literal.{Literal}
-use Rattle.plm_syntax.specs.Inner.OpenBlocks.{place_in, has_name}
+use Rattle.plm_syntax.specs.Inner.OpenBlocks.{place_in}
 use Rattle.plm_syntax.proofs.Located.{named_there, named_nowhere, at_place, read_there}
 use Rattle.plm_syntax.proofs.open_blocks.OpenBlocks.named.Goals as goal
 

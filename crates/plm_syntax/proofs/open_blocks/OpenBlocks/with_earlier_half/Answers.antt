@@ -1,4 +1,4 @@
-use Rattle.std.proofs.Common.{◌≡◌, ℕ, min, map, sym, subst, arith}
+use Rattle.std.proofs.Common.{ℕ, min, map, sym, subst, arith}
 use Rattle.plm_syntax.specs.declared.open_blocks.Quiet.{Quiet}
 use Rattle.plm_syntax.specs.Inner.OpenBlocks.{literal_text, IsQuietRun}
 use Rattle.plm_syntax.proofs.Known.{runs_joined}
