@@ -1,5 +1,6 @@
 pub mod Apart
 pub mod Tables
+pub mod MemberRows
 pub mod ListViews
 pub mod ResolvedRows
 pub mod SyntaxRows

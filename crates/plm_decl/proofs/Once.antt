@@ -52,7 +52,7 @@ same_test true b f g = sym (f refl)
 same_test false true f g = g refl
 same_test false false f g = refl
 
-bytes_eq-sym : (a b : List ℕ) → bytes_eq a b ≡ bytes_eq b a
+pub bytes_eq-sym : (a b : List ℕ) → bytes_eq a b ≡ bytes_eq b a
 bytes_eq-sym a b =
     same_test (bytes_eq a b) (bytes_eq b a)
     (λ h. (bytes_eq-Decides b a).1 (sym ((bytes_eq-Decides a b).0 h)))

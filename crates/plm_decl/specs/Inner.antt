@@ -1,6 +1,7 @@
 pub mod Elements
 pub mod Expressions
 pub mod Fill
+pub mod Members
 pub mod Modules
 pub mod Ranges
 pub mod Regions

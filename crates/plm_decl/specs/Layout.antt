@@ -9,7 +9,7 @@ use Rattle.plm_decl.specs.declared.layout.ScalarType.{ScalarType}
 use Rattle.plm_decl.specs.declared.layout.ScalarType.TheVariants.{Byte, Word, Pointer}
 use Rattle.plm_decl.specs.declared.layout.Member.{Member}
 use Rattle.plm_decl.specs.declared.layout.Field.{Field}
-use Rattle.plm_decl.specs.declared.layout.Structure.{Structure}
+use Rattle.plm_decl.specs.declared.structure.Structure.{Structure}
 
 -- bytes and elements are counted up to 2^64 - 1, which no text of at most 65,535 tokens reaches
 abbrev pub counted : ℕ → ℕ

@@ -11,10 +11,11 @@ ghost use Rattle.plm_decl.specs.ResolvedView as view;
 ghost use Rattle.plm_decl.specs.Expressions as spec;
 ghost use Rattle.plm_decl.specs.Inner.Expressions.{chained};
 
-use crate::layout::{Form, Member, Structure};
+use crate::layout::{Form, Member};
 use crate::resolved::{Binding, Expression, Location, Operation, Reference, Selector};
 use crate::resolver::Resolver;
 use crate::scope::Scope;
+use crate::structure::Structure;
 use plm_syntax::Name;
 use plm_token::{normal, string_value};
 use std::alloc::AllocError;

@@ -1,7 +1,7 @@
 //! What the bytes of a variable are.
 
 ghost use Rattle.std.specs.Prelude.{◌≡◌};
-ghost use Rattle.plm_decl.specs.Layout.{scalar_of, width_of, size_of, structure_of, field_named};
+ghost use Rattle.plm_decl.specs.Layout.{scalar_of, width_of, size_of};
 
 use plm_syntax::Scalar;
 use word86::Width;
@@ -63,33 +63,9 @@ pub struct Field {
     pub member: Member,
 }
 
-/// The members of a structure, which stand without gaps.
-#[derive(Drop)]
-pub struct Structure {
-    pub fields: Vec<Field>,
-    /// How many bytes they have together.
-    pub size: u64,
-    /// How many scalars they have together.
-    pub scalars: u64,
-}
-
 /// What an element is: a scalar, or a structure by its number.
 #[derive(Debug, Clone, Copy, PartialEq, Eq)]
 pub enum Form {
     Scalar(ScalarType),
     Structure(usize),
-}
-
-impl Structure {
-    /// The member of this name in normal form.
-    pub fn member(&self, name: &[u8]) -> Option<Member>
-        ensures { result ≡ field_named name.now (structure_of self.now).fields }
-    {
-        for field in &self.fields {
-            if field.name.as_slice() == name {
-                return Some(field.member);
-            }
-        }
-        None
-    }
 }

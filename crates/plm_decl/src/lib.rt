@@ -12,6 +12,7 @@ pub mod found;
 mod joins;
 mod laws;
 mod layout;
+mod members;
 mod modules;
 mod names;
 mod placement;
@@ -22,6 +23,7 @@ mod shape;
 mod spelling;
 mod statements;
 mod stray;
+mod structure;
 mod table;
 
 pub use builtin::Builtin;
@@ -29,10 +31,11 @@ pub use laws::{
     constants_fill_their_object, declared_once, initial_values_fit, innermost_counts,
     names_have_own_objects,
 };
-pub use layout::{Field, Form, Member, ScalarType, Structure};
+pub use layout::{Field, Form, Member, ScalarType};
 pub use modules::resolve;
 pub use names::{
     Datum, DeclaredLocation, Item, Main, Names, Object, Procedure, Region, ScreenName, Variable,
 };
 pub use placement::Placement;
 pub use resolved::{Binding, Expression, Location, Operation, Reference, Selector, Statement};
+pub use structure::Structure;

@@ -8,8 +8,9 @@ ghost use Rattle.plm_decl.specs.Ranges.{names_within};
 ghost use Rattle.plm_decl.specs.Regions.{views_lie};
 ghost use Rattle.plm_decl.specs.Values.{values_fit};
 
-use crate::layout::{Form, ScalarType, Structure};
+use crate::layout::{Form, ScalarType};
 use crate::resolved::{Location, Statement};
+use crate::structure::Structure;
 use plm_syntax::{Linkage, Position};
 
 /// Where a variable's bytes lie.

@@ -10,10 +10,10 @@ ghost use Rattle.plm_decl.specs.Layout.{counted};
 
 use crate::builtin::Builtin;
 use crate::found::Found;
-use crate::layout::Structure;
 use crate::names::{DeclaredLocation, Item, Main, Object, Procedure, ScreenName, Variable};
 use crate::resolved::Binding;
 use crate::scope::Scope;
+use crate::structure::Structure;
 use crate::table::Table;
 use plm_syntax::{Name, Position};
 use plm_token::normal;

@@ -3,18 +3,20 @@
 ghost use Rattle.std.specs.Prelude.{◌≡◌, ◌+◌, ◌*◌, IfOk, OnOk, map, length, option_map, true, Some};
 ghost use Rattle.plm_syntax.specs.View.{name_of, counted as number_view, member_of, type_of, dimension_of, value_of};
 ghost use Rattle.plm_decl.specs.Lists.{member_list};
-ghost use Rattle.plm_decl.specs.Layout.{structure_of, counted, elements, is_dimension, scalar_in, with_field, has_field, scalar_of, no_fields};
+ghost use Rattle.plm_decl.specs.Layout.{structure_of, counted, elements, is_dimension, scalar_in, with_field, has_field, field_named, scalar_of, no_fields};
 ghost use Rattle.plm_decl.specs.Inner.Resolver.{known_of};
 ghost use Rattle.plm_decl.specs.Shape as shape;
 ghost use Rattle.plm_decl.specs.Inner.Shape.{names_of_member};
 
-use crate::layout::{Field, Form, Member, ScalarType, Structure};
+use crate::layout::{Field, Form, Member, ScalarType};
+use crate::members::MemberTable;
 use crate::resolver::Resolver;
+use crate::structure::Structure;
 use plm_syntax::{
     Dimension, Member as SyntaxMember, MemberNames, Name, Numeral, Position, Value, VariableType,
 };
 use plm_token::{normal, string_value};
-use std::alloc::AllocError;
+use std::alloc::{AllocError, Global};
 use std::slice;
 use word86::Number;
 
@@ -66,6 +68,25 @@ impl Shape {
 }
 
 impl Structure {
+    /// A structure without members.
+    pub(crate) fn new(alloc: Global) -> Structure
+        ensures { structure_of result ≡ no_fields }
+    {
+        Structure {
+            fields: Vec::new(alloc),
+            size: 0,
+            scalars: 0,
+            by_name: MemberTable::new(alloc),
+        }
+    }
+
+    /// The member of this name in normal form.
+    pub fn member(&self, name: &[u8]) -> Option<Member>
+        ensures { result ≡ field_named name.now (structure_of self.now).fields }
+    {
+        self.by_name.find(name)
+    }
+
     /// The scalar that stands this many scalars after the first.
     fn scalar_at(&self, position: u64) -> ScalarType
         ensures { result ≡ scalar_in (structure_of self.now).fields position }
@@ -90,18 +111,23 @@ impl Structure {
     ) -> Result<(), AllocError>
         ensures { OnOk result (structure_of self.new ≡ with_field name.items scalar dimension (structure_of self.old)) }
     {
-        let offset = self.size;
+        let member = Member {
+            scalar,
+            dimension,
+            offset: self.size,
+        };
+        let key = Vec::from_slice(*name.allocator(), name.as_slice())?;
+        self.fields.reserve(1)?;
+        self.by_name.add(key, member)?;
+        match self.fields.push(Field { name, member }) {
+            Ok(()) => {}
+            Err(_) => unreachable!(),
+        }
         let count = elements(dimension);
-        self.size = offset.saturating_add(count.saturating_mul(scalar.size()));
+        self.size = self
+            .size
+            .saturating_add(count.saturating_mul(scalar.size()));
         self.scalars = self.scalars.saturating_add(count);
-        self.fields.push(Field {
-            name,
-            member: Member {
-                scalar,
-                dimension,
-                offset,
-            },
-        })?;
         Ok(())
     }
 
@@ -109,12 +135,7 @@ impl Structure {
     fn has(&self, name: &[u8]) -> bool
         ensures { result ≡ has_field name.now (structure_of self.now).fields }
     {
-        for field in &self.fields {
-            if field.name.as_slice() == name {
-                return true;
-            }
-        }
-        false
+        self.member(name).is_some()
     }
 }
 
@@ -173,11 +194,7 @@ impl Resolver {
     ) -> Result<Structure, AllocError>
         ensures { IfOk result (λ s. (structure_of s, known_of self.new) ≡ shape.structure_for place (map member_of members.now) no_fields (known_of self.old)) }
     {
-        let mut structure = Structure {
-            fields: Vec::new(self.alloc),
-            size: 0,
-            scalars: 0,
-        };
+        let mut structure = Structure::new(self.alloc);
         for member in members {
             self.add_members(place, member, &mut structure)?;
         }
