@@ -4,6 +4,7 @@ ghost use Rattle.std.specs.Prelude.{◌≡◌, ◌++◌, [], true, false, length
 ghost use Rattle.word86.specs.declared.fault.Fault.TheVariants.{Memory, At};
 ghost use Rattle.word86.specs.declared.number.Number.TheVariants.{E705};
 ghost use Rattle.word86.specs.Event.{event_label};
+ghost use Rattle.cpu8086.specs.declared.cpu.Kind.TheVariants.{Wait};
 ghost use Rattle.cpu8086.specs.Turn.{zeros};
 ghost use Rattle.ppi_kbd.specs.Chips.{ChipState, reset};
 ghost use Rattle.ppi_kbd.specs.BoardChips.{board_chips};
@@ -106,6 +107,7 @@ impl Board {
         ensures state { (b : State (World ChipState)) → Shows self.old b → Shows self.new (turn (board_model board_chips) (occurs board_chips) events.now b).0 }
         ensures labels { (b : State (World ChipState)) → Shows self.old b → map event_label events.now ++ labels.new.items ≡ (turn (board_model board_chips) (occurs board_chips) events.now b).1 }
         ensures kind { (b : State (World ChipState)) → Shows self.old b → result ≡ turn_kind (board_model board_chips) (occurs board_chips) events.now b }
+        ensures wait { result ≡ Wait → labels.new.items ≡ [] }
     {
         alike_law();
         let attached = &mut self.attached;

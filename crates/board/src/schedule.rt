@@ -1,6 +1,6 @@
 //! Schedules: what comes from outside at which turn, and when the run stops.
 
-ghost use Rattle.std.specs.Prelude.{◌≡◌, ◌≢◌, ◌<◌, ℕ, [], IfOk, IfErr, Some};
+ghost use Rattle.std.specs.Prelude.{◌≡◌, ◌≢◌, ◌<◌, ◌≤◌, ℕ, [], IfOk, IfErr, Some};
 ghost use Rattle.word86.specs.declared.fault.Fault.TheVariants.{Memory};
 ghost use Rattle.board.specs.Timetable.{due_at};
 ghost use Rattle.board.specs.Schedule.{read_lines, IsRead, fault_of};
@@ -40,12 +40,15 @@ impl Schedule {
         self.timetable.due(turn)
     }
 
-    /// The first turn after this one that has events, or the greatest number: between the two no turn has any.
-    pub(crate) fn next_turn(&self, turn: u32) -> u32
-        ensures later { turn < 4294967295 → turn < result }
+    /// The first turn after this one that has events, or the stop where it comes first, found in logarithmic time: between the
+    /// two no turn has any.
+    pub fn next_pause(&self, turn: u32) -> u32
+        requires { turn < self.now.stop }
+        ensures later { turn < result }
+        ensures within { result ≤ self.now.stop }
         ensures quiet { (t : ℕ) → turn < t → t < result → due_at t self.now.timetable.turns.items self.now.timetable.events.items ≡ [] }
     {
-        self.timetable.next_turn(turn)
+        self.timetable.next_turn(turn).min(self.stop)
     }
 }
 
