@@ -3,3 +3,4 @@ pub mod Meaning
 pub mod Redex
 pub mod Shown
 pub mod Start
+pub mod Owners

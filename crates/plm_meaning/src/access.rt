@@ -1,14 +1,16 @@
 //! Where a reference's bytes lie.
 
-ghost use Rattle.std.specs.Prelude.{◌≡◌, Some, slice_index, option_map};
+ghost use Rattle.std.specs.Prelude.{◌≡◌, ◌<◌, Some, slice_index, option_map};
 ghost use Rattle.word86.specs.Place.{bytes, covers, held, where_of};
+ghost use Rattle.plm_decl.specs.Placement.{sizes_of};
 ghost use Rattle.plm_type.specs.Places.{placed, anchored};
 ghost use Rattle.plm_type.specs.Next.{address_at};
 ghost use Rattle.plm_meaning.specs.Context.{origin_of};
 ghost use Rattle.plm_meaning.specs.Inner.Redex.{sizes_in};
+ghost use Rattle.plm_meaning.specs.Inner.Owners.{AreOwners};
 
-use plm_decl::Object;
-use plm_type::Place;
+use plm_decl::{Object, Placement};
+use plm_type::{Place, Program};
 use word86::Width;
 
 /// Where a reference's bytes begin, once its base is read.
@@ -47,23 +49,18 @@ fn covers(first: u128, size: u64, address: u16, count: u64) -> bool
         && u128::from(address) + u128::from(count) <= first + u128::from(size)
 }
 
-impl PlacedObjects<'_> {
-    // The RAM object that holds all the bytes, and the index of the first.
-    fn held(self, address: u16, count: u64) -> Option<Place>
-        ensures { option_map where_of result ≡ held 0 self.entry.offsets.now (sizes_in self.entry) address count }
-    {
-        for (k, object) in self.objects.iter().enumerate() {
-            if self.offsets.len() <= k {
-                return None;
-            }
-            let offset = self.offsets[k];
-            if covers(u128::from(offset), object.size, address, count) {
-                return Some(Place::Ram(k, address - offset));
-            }
-        }
-        None
+/// The RAM objects of a program and their offsets.
+pub fn placed_objects<'a>(program: &'a Program, placement: &'a Placement) -> PlacedObjects<'a>
+    ensures offsets { result.offsets.now ≡ placement.now.offsets.items }
+    ensures sizes { sizes_in result ≡ sizes_of program.now.names }
+{
+    PlacedObjects {
+        offsets: placement.offsets(),
+        objects: &program.names().objects,
     }
+}
 
+impl PlacedObjects<'_> {
     /// The offset of a RAM object: 0 where there is no such object.
     pub fn offset(self, object: usize) -> u16
         ensures { result ≡ slice_index self.entry.offsets.now object }
@@ -71,6 +68,31 @@ impl PlacedObjects<'_> {
         match self.offsets.get(object) {
             None => 0,
             Some(offset) => *offset,
+        }
+    }
+
+    /// The size of a RAM object in bytes: 0 where there is no such object.
+    pub fn size(self, object: usize) -> u64
+        ensures { result ≡ slice_index (sizes_in self.entry) object }
+    {
+        match self.objects.get(object) {
+            None => 0,
+            Some(object) => object.size,
+        }
+    }
+
+    // The RAM object that holds all the bytes, and the index of the first: it is the owner of that byte.
+    fn held(self, owners: &[usize], address: u16, count: u64) -> Option<Place>
+        requires owners { AreOwners owners.now self.offsets.now (sizes_in self) }
+        requires some { 0 < count }
+        ensures { option_map where_of result ≡ held 0 self.entry.offsets.now (sizes_in self.entry) address count }
+    {
+        let owner = owners[usize::from(address)];
+        let offset = self.offset(owner);
+        if covers(u128::from(offset), self.size(owner), address, count) {
+            Some(Place::Ram(owner, address - offset))
+        } else {
+            None
         }
     }
 
@@ -112,7 +134,14 @@ impl PlacedObjects<'_> {
 
     /// The place of an access at an address: none where its bytes do not all lie in what the name declares, or for a based
     /// name in one RAM object.
-    pub fn place(self, width: Width, origin: Origin, address: u16) -> Option<Place>
+    pub fn place(
+        self,
+        owners: &[usize],
+        width: Width,
+        origin: Origin,
+        address: u16,
+    ) -> Option<Place>
+        requires { AreOwners owners.now self.offsets.now (sizes_in self) }
         ensures { option_map where_of result ≡ placed self.entry.offsets.now (sizes_in self.entry) width (origin_of origin) address }
     {
         match origin {
@@ -124,7 +153,7 @@ impl PlacedObjects<'_> {
                     None
                 }
             }
-            Origin::There(_) => self.held(address, bytes(width)),
+            Origin::There(_) => self.held(owners, address, bytes(width)),
         }
     }
 }

@@ -1,83 +1,39 @@
-//! What the steps of a program look up: what it declares, its procedures, and where its objects lie.
+//! What stands around the steps of a program: the program, and where its objects lie.
 
-ghost use Rattle.std.specs.Prelude.{◌≡◌, map, Some, option_map, slice_get, slice_index};
-ghost use Rattle.plm_type.specs.Next.{parameters_of, body_of, address_at};
-ghost use Rattle.word86.specs.Place.{where_of};
-ghost use Rattle.plm_type.specs.Places.{placed, anchored};
-ghost use Rattle.plm_type.specs.Programs.{main_tree, handler_tree};
-ghost use Rattle.plm_type.specs.View.{scalar_of, statements_of};
-ghost use Rattle.plm_meaning.specs.Context.{origin_of};
-ghost use Rattle.plm_meaning.specs.Around.{names_of};
-ghost use Rattle.plm_meaning.specs.Inner.Redex.{offsets_of, sizes_of, sizes_in, procedures_in};
+ghost use Rattle.std.specs.Prelude.{◌≡◌, IfOk};
+ghost use Rattle.plm_decl.specs.Placement.{IsPlacement, sizes_of};
+ghost use Rattle.plm_meaning.specs.Inner.Owners.{AreOwners};
 
-use crate::access::{Origin, PlacedObjects};
+use crate::access::placed_objects;
+use crate::owners::owners_of;
 use plm_decl::Placement;
-use plm_type::{Place, Program, Scalar, Statement};
-use word86::Width;
+use plm_type::Program;
+use std::alloc::{AllocError, Global};
 
-/// A program, and where its objects lie.
-#[derive(Clone, Copy)]
+/// A program, where its objects lie, and for each address the RAM object that has the byte there.
+#[derive(Drop)]
 pub struct Surroundings<'a> {
     pub program: &'a Program,
     pub placement: &'a Placement,
+    pub owners: Vec<usize>,
+    ghost owned: { AreOwners owners.items placement.now.offsets.items (sizes_of program.now.names) },
 }
 
 impl<'a> Surroundings<'a> {
-    // The RAM objects and their offsets.
-    fn objects(self) -> PlacedObjects<'a>
-        ensures offsets { result.offsets.now ≡ offsets_of self.entry }
-        ensures sizes { sizes_in result ≡ sizes_of self.entry }
+    /// The surroundings of a run: the owners of all bytes are found once.
+    pub fn new(
+        alloc: Global,
+        program: &'a Program,
+        placement: &'a Placement,
+    ) -> Result<Surroundings<'a>, AllocError>
+        requires { IsPlacement placement.now.offsets.items (sizes_of program.now.names) }
+        ensures { IfOk result (λ s. (s.program.now ≡ program.now) × (s.placement.now ≡ placement.now)) }
     {
-        PlacedObjects {
-            offsets: self.placement.offsets(),
-            objects: &self.program.names().objects,
-        }
-    }
-
-    /// The offset of a RAM object: 0 where there is no such object.
-    pub fn offset(self, object: usize) -> u16
-        ensures { result ≡ slice_index (offsets_of self.entry) object }
-    {
-        self.objects().offset(object)
-    }
-
-    /// The address of a reference whose bytes begin `offset` bytes after its origin, modulo 65,536.
-    pub fn address(self, origin: Origin, offset: u64) -> u16
-        ensures { Some result ≡ address_at (anchored (offsets_of self.entry) (sizes_of self.entry) (origin_of origin)) offset }
-    {
-        self.objects().address(origin, offset)
-    }
-
-    /// The place of an access at an address: none where its bytes do not all lie in what the name declares, or for a based
-    /// name in one RAM object.
-    pub fn place(self, width: Width, origin: Origin, address: u16) -> Option<Place>
-        ensures { option_map where_of result ≡ placed (offsets_of self.entry) (sizes_of self.entry) width (origin_of origin) address }
-    {
-        self.objects().place(width, origin, address)
-    }
-
-    /// The parameters and the body of a procedure: none where there is no such procedure.
-    pub fn procedure(self, number: usize) -> (&'a [Scalar], &'a [Box<Statement>])
-        ensures parameters { map scalar_of result.0.now ≡ parameters_of (slice_get (procedures_in self.entry) number) }
-        ensures body { statements_of result.1.now ≡ body_of (slice_get (procedures_in self.entry) number) }
-    {
-        match self.program.procedures().get(number) {
-            None => (&[], &[]),
-            Some(procedure) => (&procedure.parameters, &procedure.body),
-        }
-    }
-
-    /// What main does.
-    pub fn main(self) -> &'a [Box<Statement>]
-        ensures { statements_of result.now ≡ main_tree (names_of self.entry) }
-    {
-        self.program.main()
-    }
-
-    /// What the interrupt procedure of a vector does: nothing where there is none.
-    pub fn handler(self, vector: u8) -> &'a [Box<Statement>]
-        ensures { statements_of result.now ≡ handler_tree (names_of self.entry) vector }
-    {
-        self.program.handler(vector)
+        let owners = owners_of(alloc, placed_objects(program, placement))?;
+        Ok(Surroundings {
+            program,
+            placement,
+            owners,
+        })
     }
 }

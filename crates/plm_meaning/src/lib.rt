@@ -4,8 +4,10 @@
 mod access;
 mod around;
 mod context;
+mod lookup;
 mod meaning;
 mod opening;
+mod owners;
 mod redex;
 mod settle;
 mod start;

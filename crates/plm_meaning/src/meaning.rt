@@ -103,14 +103,15 @@ impl<'a> Meaning<'a> {
         ensures opens { IfOk result (λ m. Opens m program.now.names placement.now power) }
         ensures refused { IfErr result (λ f. f ≡ fault.Memory) }
     {
-        let around = Surroundings { program, placement };
+        let around = Surroundings::new(alloc, program, placement)?;
         let (ram, screen) = power.into_parts();
-        let objects = first_objects(alloc, around, &ram)?;
+        let objects = first_objects(alloc, &around, &ram)?;
+        let main = around.main();
         Ok(Meaning {
             alloc,
             around,
             main: Context {
-                focus: Focus::Statements(around.main()),
+                focus: Focus::Statements(main),
                 frames: Vec::new(alloc),
             },
             handler: None,
@@ -209,7 +210,7 @@ impl<'a> Meaning<'a> {
             Some(context) => {
                 settle(self.alloc, context)?;
                 matches!(
-                    next_action(context, self.around),
+                    next_action(context, &self.around),
                     Action::Ended | Action::Returned
                 )
             }
@@ -259,9 +260,9 @@ impl<'a> Meaning<'a> {
             Some(context) => context,
         };
         settle(self.alloc, context)?;
-        let next = handler_action(context, self.around);
+        let next = handler_action(context, &self.around);
         let on = is_on_after(&next, self.on);
-        let label = perform(context, &mut self.store, self.around, next)?;
+        let label = perform(context, &mut self.store, &self.around, next)?;
         self.on = on;
         self.silents = 0;
         self.switches = 0;
@@ -278,7 +279,7 @@ impl<'a> Meaning<'a> {
             return Err(Stop::NotAllowed);
         }
         settle(self.alloc, &mut self.main)?;
-        let next = main_action(&self.main, self.around);
+        let next = main_action(&self.main, &self.around);
         let Some((silents, switches)) = counted(
             self.is_interrupted(),
             &next,
@@ -289,7 +290,7 @@ impl<'a> Meaning<'a> {
         };
         let on = is_on_after(&next, self.on);
         let halted = is_halted_after(&next);
-        let label = perform(&mut self.main, &mut self.store, self.around, next)?;
+        let label = perform(&mut self.main, &mut self.store, &self.around, next)?;
         self.on = on;
         self.halted = halted;
         self.silents = silents;
@@ -336,11 +337,11 @@ fn is_halted_after(next: &Action<'_>) -> bool
 fn perform<'a>(
     context: &mut Context<'a>,
     store: &mut Store,
-    around: Surroundings<'a>,
+    around: &Surroundings<'a>,
     next: Action<'a>,
 ) -> Result<Option<Label>, Stop>
     requires { FitsIn next }
-    ensures made { IfOk result (λ l. Performed context.old store.old context.new store.new around.entry next.entry l) }
+    ensures made { IfOk result (λ l. Performed context.old store.old context.new store.new around.now next.entry l) }
     ensures stopped { IfErr result (λ e. (StopsAt e next.entry) × (context.new ≡ context.old) × (store.new ≡ store.old)) }
 {
     match next {

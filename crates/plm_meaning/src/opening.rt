@@ -47,8 +47,8 @@ fn put_word(bytes: &mut Vec<u8>, word: u128) -> Result<(), AllocError>
 
 impl Surroundings<'_> {
     // Where a variable lies in the data segment.
-    fn variable(self, variable: usize) -> u128
-        ensures address { result ≡ variable_address (offsets_of self.entry) (names_of self.entry).variables.items (slice_get (names_of self.entry).variables.items variable) }
+    fn variable(&self, variable: usize) -> u128
+        ensures address { result ≡ variable_address (offsets_of self.now) (names_of self.now).variables.items (slice_get (names_of self.now).variables.items variable) }
         ensures small { result < 2 ^ 65 }
     {
         match self.program.names().variables.get(variable) {
@@ -61,8 +61,8 @@ impl Surroundings<'_> {
     }
 
     // Puts the bytes of an initial value.
-    fn put_datum(self, bytes: &mut Vec<u8>, datum: Datum) -> Result<(), AllocError>
-        ensures { IfOk result (λ done. bytes.new.items ≡ bytes.old.items ++ datum_bytes (offsets_of self.entry) (names_of self.entry).variables.items datum) }
+    fn put_datum(&self, bytes: &mut Vec<u8>, datum: Datum) -> Result<(), AllocError>
+        ensures { IfOk result (λ done. bytes.new.items ≡ bytes.old.items ++ datum_bytes (offsets_of self.now) (names_of self.now).variables.items datum) }
     {
         match datum {
             Datum::Byte(byte) => {
@@ -80,13 +80,13 @@ impl Surroundings<'_> {
 
     // The bytes of an object: its initial ones, and after them those of RAM.
     fn object(
-        self,
+        &self,
         alloc: Global,
         ram: &[u8],
         offset: u16,
         object: &Object,
     ) -> Result<Vec<u8>, AllocError>
-        ensures { IfOk result (λ bytes. bytes.items ≡ object_at (offsets_of self.entry) (names_of self.entry).variables.items ram.now offset (object_of object.now)) }
+        ensures { IfOk result (λ bytes. bytes.items ≡ object_at (offsets_of self.now) (names_of self.now).variables.items ram.now offset (object_of object.now)) }
     {
         let mut bytes = Vec::new(alloc);
         for datum in &object.initial {
@@ -105,10 +105,10 @@ impl Surroundings<'_> {
 /// The objects' bytes when RAM holds these.
 pub fn first_objects(
     alloc: Global,
-    around: Surroundings<'_>,
+    around: &Surroundings<'_>,
     ram: &[u8],
 ) -> Result<Vec<Vec<u8>>, AllocError>
-    ensures { IfOk result (λ objects. map (λ bytes. bytes.items) objects.items ≡ objects_at (offsets_of around.entry) (names_of around.entry).variables.items ram.now (offsets_of around.entry) (map object_of (names_of around.entry).objects.items)) }
+    ensures { IfOk result (λ objects. map (λ bytes. bytes.items) objects.items ≡ objects_at (offsets_of around.now) (names_of around.now).variables.items ram.now (offsets_of around.now) (map object_of (names_of around.now).objects.items)) }
 {
     let objects = &around.program.names().objects;
     let mut bytes = Vec::new(alloc);

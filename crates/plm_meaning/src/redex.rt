@@ -110,13 +110,13 @@ fn is_odd(v: u16) -> bool
 
 // A reference whose address is known.
 fn refer<'a>(
-    around: Surroundings<'_>,
+    around: &Surroundings<'_>,
     purpose: Purpose<'a>,
     line: Line,
     origin: Origin,
     offset: u64,
 ) -> Action<'a>
-    ensures step { (f : Focus) → action_of (procedures_in around.entry) f result ≡ next_part around.entry (purposed purpose.entry (Refer line.module line.line (origin_of origin) offset NoSubscripts)) }
+    ensures step { (f : Focus) → action_of (procedures_in around.now) f result ≡ next_part around.now (purposed purpose.entry (Refer line.module line.line (origin_of origin) offset NoSubscripts)) }
     ensures going { IsStep result }
 {
     let address = around.address(origin, offset);
@@ -238,8 +238,8 @@ fn loop_step<'a>(phase: Phase, rounds: &'a Loop) -> Action<'a>
 }
 
 // The step of the part that is rewritten next.
-fn redex_step<'a>(around: Surroundings<'_>, redex: Redex<'a>) -> Action<'a>
-    ensures step { (f : Focus) → action_of (procedures_in around.entry) f result ≡ next_part around.entry (redex_part redex.entry) }
+fn redex_step<'a>(around: &Surroundings<'_>, redex: Redex<'a>) -> Action<'a>
+    ensures step { (f : Focus) → action_of (procedures_in around.now) f result ≡ next_part around.now (redex_part redex.entry) }
     ensures going { IsStep result }
 {
     match redex {
@@ -297,9 +297,9 @@ fn pass<'a>(
 
 /// What a settled context does next.
 #[tactic(auto, using(crate::proofs::Steps::whole_step))]
-pub fn next_action<'a>(context: &Context<'a>, around: Surroundings<'a>) -> Action<'a>
+pub fn next_action<'a>(context: &Context<'a>, around: &Surroundings<'a>) -> Action<'a>
     requires { IsSettled context.now.focus context.now.frames.items }
-    ensures action { map_action (todo_in context.now.frames.items) (action_of (procedures_in around.entry) context.now.focus result) ≡ next_statements (offsets_of around.entry) (sizes_of around.entry) (procedures_in around.entry) (todo_of context.now) }
+    ensures action { map_action (todo_in context.now.frames.items) (action_of (procedures_in around.now) context.now.focus result) ≡ next_statements (offsets_of around.now) (sizes_of around.now) (procedures_in around.now) (todo_of context.now) }
     ensures end { SaysEnd result (todo_of context.now) }
     ensures halts { HasHalted result context.now.frames.items }
     ensures fits { FitsIn result }
@@ -322,9 +322,9 @@ pub fn next_action<'a>(context: &Context<'a>, around: Surroundings<'a>) -> Actio
 }
 
 /// What main does next, once it is settled: at its end it halts again and again.
-pub fn main_action<'a>(context: &Context<'a>, around: Surroundings<'a>) -> Action<'a>
+pub fn main_action<'a>(context: &Context<'a>, around: &Surroundings<'a>) -> Action<'a>
     requires { IsSettled context.now.focus context.now.frames.items }
-    ensures action { next (offsets_of around.entry) (sizes_of around.entry) (procedures_in around.entry) (Main (todo_of context.now)) ≡ map_action Main (context_action around.entry context.now result) }
+    ensures action { next (offsets_of around.now) (sizes_of around.now) (procedures_in around.now) (Main (todo_of context.now)) ≡ map_action Main (context_action around.now context.now result) }
     ensures fits { FitsIn result }
 {
     match next_action(context, around) {
@@ -334,17 +334,17 @@ pub fn main_action<'a>(context: &Context<'a>, around: Surroundings<'a>) -> Actio
 }
 
 /// What an interrupt procedure does next, once it is settled: it is used up at its end, or by RETURN.
-pub fn handler_action<'a>(context: &Context<'a>, around: Surroundings<'a>) -> Action<'a>
+pub fn handler_action<'a>(context: &Context<'a>, around: &Surroundings<'a>) -> Action<'a>
     requires { IsSettled context.now.focus context.now.frames.items }
-    ensures action { next (offsets_of around.entry) (sizes_of around.entry) (procedures_in around.entry) (Handler (todo_of context.now)) ≡ map_action Handler (context_action around.entry context.now result) }
+    ensures action { next (offsets_of around.now) (sizes_of around.now) (procedures_in around.now) (Handler (todo_of context.now)) ≡ map_action Handler (context_action around.now context.now result) }
     ensures fits { FitsIn result }
 {
     next_action(context, around)
 }
 
 // A parameter has its value.
-fn passed<'a>(focus: Focus<'a>, around: Surroundings<'a>) -> Focus<'a>
-    ensures { part_of result ≡ passed_part (procedures_in around.entry) focus.entry }
+fn passed<'a>(focus: Focus<'a>, around: &Surroundings<'a>) -> Focus<'a>
+    ensures { part_of result ≡ passed_part (procedures_in around.now) focus.entry }
 {
     match focus {
         Focus::Call(p, values) => {
@@ -366,11 +366,11 @@ fn passed<'a>(focus: Focus<'a>, around: Surroundings<'a>) -> Focus<'a>
 // What the answer of an access leaves of a part.
 fn focus_after<'a>(
     focus: Focus<'a>,
-    around: Surroundings<'a>,
+    around: &Surroundings<'a>,
     after: After<'a>,
     answer: u16,
 ) -> Focus<'a>
-    ensures { part_of result ≡ after_part (procedures_in around.entry) focus.entry after.entry answer }
+    ensures { part_of result ≡ after_part (procedures_in around.now) focus.entry after.entry answer }
 {
     match after {
         After::Value => Focus::Value(answer),
@@ -392,11 +392,11 @@ fn focus_after<'a>(
 /// Goes on with the answer of an access.
 pub fn answered<'a>(
     context: &mut Context<'a>,
-    around: Surroundings<'a>,
+    around: &Surroundings<'a>,
     after: After<'a>,
     answer: u16,
 )
-    ensures { todo_of context.new ≡ todo_in context.old.frames.items (after_part (procedures_in around.entry) context.old.focus after.entry answer) }
+    ensures { todo_of context.new ≡ todo_in context.old.frames.items (after_part (procedures_in around.now) context.old.focus after.entry answer) }
 {
     let focus = mem::replace(&mut context.focus, Focus::Value(answer));
     context.focus = focus_after(focus, around, after, answer);

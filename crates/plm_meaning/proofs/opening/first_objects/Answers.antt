@@ -14,7 +14,7 @@ none_left offsets variables ram (o ∷ os) = refl
 
 pub returns-then-len-number : goal.returns-then-len-number
 returns-then-len-number c =
-    let a = c.args.around in
+    let a = c.args.around.now in
     let k = c.loop-number.number in
     let os = c.offsets-offset-items.result.now in
     let xs = c.names.result.now.objects in

@@ -6,4 +6,4 @@ use Rattle.plm_meaning.proofs.redex.answered.Goals as goal
 pub returns : goal.returns
 returns c =
     ap (todo_in c.args.context.now.frames.items)
-    (c.focus_after.ensures ∙ ap (λ f. after_part (procedures_in c.args.around) f c.args.after c.args.answer) c.replace-focus.ensures.value)
+    (c.focus_after.ensures ∙ ap (λ f. after_part (procedures_in c.args.around.now) f c.args.after c.args.answer) c.replace-focus.ensures.value)

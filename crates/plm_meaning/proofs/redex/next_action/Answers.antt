@@ -16,7 +16,7 @@ use Rattle.plm_meaning.proofs.redex.next_action.Goals as goal
 
 pub returns-in-Ready-clause-action : goal.returns-in-Ready-clause-action
 returns-in-Ready-clause-action c =
-    let s = c.args.around in
+    let s = c.args.around.now in
     let fs = c.args.context.now.frames.items in
     let f = c.args.context.now.focus in
     let r = c.in-Ready.redex in
@@ -25,7 +25,7 @@ returns-in-Ready-clause-action c =
 
 pub returns-in-Ready-clause-end : goal.returns-in-Ready-clause-end
 returns-in-Ready-clause-end c =
-    let s = c.args.around in
+    let s = c.args.around.now in
     let fs = c.args.context.now.frames.items in
     let r = c.in-Ready.redex in
     steps.says_end c.redex_step.result (todo_of c.args.context.now) c.redex_step.ensures.going
@@ -33,7 +33,7 @@ returns-in-Ready-clause-end c =
 
 pub returns-in-Call-clause-action : goal.returns-in-Call-clause-action
 returns-in-Call-clause-action c =
-    let s = c.args.around in
+    let s = c.args.around.now in
     let f = c.args.context.now.focus in
     let n = c.in-Call.p in
     let vs = c.in-Call.values.items in
@@ -50,11 +50,11 @@ returns-in-Call-clause-action c =
 pub returns-in-Call-clause-end : goal.returns-in-Call-clause-end
 returns-in-Call-clause-end c =
     steps.says_end c.pass.result (todo_of c.args.context.now) c.pass.ensures.going
-    (steps.focus_goes c.args.around c.args.context.now.frames.items c.args.context.now.focus (Expr (Call c.in-Call.p (given c.in-Call.values.items NoMore))) (ap part_of c.in-Call.is) refl)
+    (steps.focus_goes c.args.around.now c.args.context.now.frames.items c.args.context.now.focus (Expr (Call c.in-Call.p (given c.in-Call.values.items NoMore))) (ap part_of c.in-Call.is) refl)
 
 pub returns-in-Passing-clause-action : goal.returns-in-Passing-clause-action
 returns-in-Passing-clause-action c =
-    let s = c.args.around in
+    let s = c.args.around.now in
     let f = c.args.context.now.focus in
     let n = c.in-Passing.p in
     let k = c.in-Passing.done in
@@ -69,7 +69,7 @@ returns-in-Passing-clause-action c =
 pub returns-in-Passing-clause-end : goal.returns-in-Passing-clause-end
 returns-in-Passing-clause-end c =
     steps.says_end c.pass-in-Passing.result (todo_of c.args.context.now) c.pass-in-Passing.ensures.going
-    (steps.focus_goes c.args.around c.args.context.now.frames.items c.args.context.now.focus (Expr (Passing c.in-Passing.p (map scalar_of c.in-Passing.parameters.now) (drop c.in-Passing.done c.in-Passing.values.items))) (ap part_of c.in-Passing.is) refl)
+    (steps.focus_goes c.args.around.now c.args.context.now.frames.items c.args.context.now.focus (Expr (Passing c.in-Passing.p (map scalar_of c.in-Passing.parameters.now) (drop c.in-Passing.done c.in-Passing.values.items))) (ap part_of c.in-Passing.is) refl)
 
 pub returns-in-Ready-clause-fits : goal.returns-in-Ready-clause-fits
 returns-in-Ready-clause-fits c = steps.fits_in c.redex_step.result c.redex_step.ensures.going

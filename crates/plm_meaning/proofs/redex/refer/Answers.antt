@@ -11,7 +11,7 @@ use Rattle.plm_meaning.proofs.redex.refer.Goals as goal
 
 pub returns-in-None-place-clause-step : goal.returns-in-None-place-clause-step
 returns-in-None-place-clause-step c f =
-    let s = c.args.around in
+    let s = c.args.around.now in
     let l = c.args.line in
     let a = origin_of c.args.origin in
     let d = c.in-Store.destination in
@@ -23,7 +23,7 @@ returns-in-None-place-clause-step c f =
 
 pub returns-in-Some-place-clause-step : goal.returns-in-Some-place-clause-step
 returns-in-Some-place-clause-step c f =
-    let s = c.args.around in
+    let s = c.args.around.now in
     let l = c.args.line in
     let a = origin_of c.args.origin in
     let d = c.in-Store.destination in
