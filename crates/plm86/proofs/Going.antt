@@ -1,7 +1,7 @@
 -- A run of the meaning, one choice after another.
-use Rattle.std.proofs.Common.{◌≡◌, ℕ, zero, suc, ◌+◌, ◌-◌, ◌<◌, ◌≤◌, ◌++◌, List, [], ◌∷◌, Option, refl, sym, ap, ap₂, ◌∙◌, subst, append_assoc, append-nil, drop, drop-cons, get_or, length, arith}
+use Rattle.std.proofs.Common.{◌≡◌, ℕ, zero, suc, ◌+◌, ◌-◌, ◌<◌, ◌≤◌, ◌++◌, Bool, true, false, cond, List, [], ◌∷◌, Option, Some, None, refl, sym, ap, ap₂, ◌∙◌, subst, append_assoc, append-nil, drop, drop-cons, get_or, length, arith}
 use Rattle.std.proofs.lemmas.List.{drop_all}
-use Rattle.std.specs.Prelude.{map}
+use Rattle.std.specs.Prelude.{map, replicate}
 use Rattle.std.proofs.lemmas.Grind.{flat_map-append}
 use Rattle.std.proofs.KnownBytes.{Appends-trans, Appends-nil}
 use Rattle.word86.specs.declared.event.Event.{Event}
@@ -11,21 +11,21 @@ use Rattle.listing_map.specs.Lines.{label_line, end_line}
 use Rattle.word86.specs.declared.power_on.PowerOn.{PowerOn}
 use Rattle.ppi_kbd.specs.Chips.{ChipState, reset}
 use Rattle.ppi_kbd.specs.Ports.{Shows}
+use Rattle.ppi_kbd.specs.BoardChips.{board_chips}
 use Rattle.plm_decl.specs.declared.names.Names.{Names}
 use Rattle.plm_decl.specs.declared.placement.Placement.{Placement}
 use Rattle.plm_type.specs.Rest.{Rest}
 use Rattle.plm_meaning.specs.declared.meaning.Meaning.{Meaning}
-use Rattle.plm_meaning.specs.declared.meaning.Choice as declared_choice
 use Rattle.plm_meaning.specs.declared.meaning.Stop.TheVariants as stops
 use Rattle.plm_type.specs.declared.program.Line.{Line}
 use Rattle.plm_meaning.specs.Around.{names_of}
-use Rattle.plm_meaning.specs.Meaning.{choice_of, state_of, leads, leads_in, IsRunOf, Opens, Made, Stopped}
+use Rattle.plm_meaning.specs.Meaning.{state_of, leads, leads_in, IsRunOf, Opens, Made, Stopped}
 use Rattle.plm_meaning.specs.Shown.{labels_of}
-use Rattle.plm_meaning.specs.Store.{Store}
-use Rattle.plm_meaning.specs.System.{Choice, Occurs, Taken, Makes, BadAt, Refused}
+use Rattle.plm_meaning.specs.Store.{Store, shared}
+use Rattle.plm_meaning.specs.System.{Choice, Program, Occurs, Enter, Leave, Idle, State, Taken, Makes, BadAt, is_interrupted, taken_of}
 use Rattle.board.specs.Trace.{lines}
 use Rattle.plm86.specs.Mean.{Mid, one_step, turn_choices, choices_from, unless_refused, behind, goes_on, first_allowed, run_of, meant, last_line, run_text}
-use Rattle.plm86.specs.Inner.Meaning.{Far, Ended, Stops}
+use Rattle.plm86.specs.Inner.Meaning.{event_choices, IsIdle, Far, Ended, Stops}
 use Rattle.plm86.specs.declared.mean.MeanEnd.{MeanEnd}
 use Rattle.plm86.specs.declared.mean.MeanEnd.TheVariants as ends
 use Rattle.plm86.specs.declared.mean.Ending.{Ending}
@@ -53,6 +53,9 @@ module _ (names : Names) (placement : Placement) where
   leads_are : (m : Meaning) (c : Choice Event) (s : Mid) → IsRunOf m names placement → leads names placement c s ≡ leads_in m c s
   leads_are m c s r = ap₂ (λ (n : Names) (l : Placement). leads n l c s) (sym r.declares) (sym r.places)
 
+  abbrev makes_silently : Mid → Taken (Store ChipState) Rest Label
+  makes_silently s = Makes s []
+
   -- what comes by these choices leads from one run to the other, with this label
   abbrev pub GoesTo : (m n : Meaning) → List (Choice Event) → Option Label → ChipState → Type 0
   GoesTo m n cs l p = (q : ChipState) × Shows n.store.ports q × (first_allowed names placement cs (state_of m p) ≡ Makes (state_of n q) (labels_of l))
@@ -71,6 +74,12 @@ module _ (names : Names) (placement : Placement) where
 
   pub goes_behind : (m n k : Meaning) (c : Choice Event) (cs : List (Choice Event)) (l : Option Label) → Stopped m n c stops.NotAllowed → IsRunOf m names placement → (p : ChipState) → Shows m.store.ports p → GoesTo n k cs l p → GoesTo m k (c ∷ cs) l p
   goes_behind m n k c cs l stopped r p shows x = (x.0, x.1, gives_way m n c cs stopped r p shows ∙ x.2)
+
+  pub idle_behind : (m n : Meaning) (c : Choice Event) (cs : List (Choice Event)) → Stopped m n c stops.NotAllowed → n.around ≡ m.around → IsIdle n cs → IsRunOf m names placement → (p : ChipState) → Shows m.store.ports p
+      → first_allowed names placement (c ∷ cs) (state_of m p) ≡ Makes (state_of m p) []
+  idle_behind m n c cs stopped same idle r p shows =
+      let x = stopped p shows in
+      gives_way m n c cs stopped r p shows ∙ idle names placement (kept m n same r) p x.2 ∙ ap (λ (s : Mid). makes_silently s) x.1
 
   pub stops_behind : (m n : Meaning) (c : Choice Event) (cs : List (Choice Event)) (e : Ending) → Stopped m n c stops.NotAllowed → IsRunOf m names placement → (p : ChipState) → Shows m.store.ports p
       → Stops e (first_allowed names placement cs (state_of n p)) → Stops e (first_allowed names placement (c ∷ cs) (state_of m p))
@@ -122,53 +131,140 @@ module _ (names : Names) (placement : Placement) where
         ((lines x.done, lines more, sym (ap lines x.labels) ∙ lines-append x.done more, x.taken), x.same)
     far_ends endings.Broken s = absurd s
 
+-- ---- waiting
+
+module _ (names : Names) (placement : Placement) where
+  waits_or_not : (can : Bool) (s : Mid) → unless_refused (taken_of (cond can None (Some (s, []))) None) (Makes s []) ≡ Makes s []
+  waits_or_not true s = refl
+  waits_or_not false s = refl
+
+  -- where main waits nothing comes, as where nothing is allowed
+  idle_changes_nothing : (s : Mid) → first_allowed names placement (Idle ∷ []) s ≡ Makes s []
+  idle_changes_nothing (State main None on true w a b) = waits_or_not (is_interrupted (shared board_chips) {R = Rest} None on w) (State main None on true w a b)
+  idle_changes_nothing (State main None on false w a b) = refl
+  idle_changes_nothing (State main (Some h) on halted w a b) = refl
+
+  one_step_is : (s : Mid) → first_allowed names placement one_step s ≡ first_allowed names placement (Enter ∷ Program ∷ Leave ∷ []) s
+  one_step_is s =
+      let choose = leads names placement in
+      ap (λ (t : Taken (Store ChipState) Rest Label). unless_refused (choose Enter s) (unless_refused (choose Program s) (unless_refused (choose Leave s) t))) (idle_changes_nothing s)
+
+  -- where nothing comes in one turn, nothing does in all of them
+  idle_run : (count : ℕ) (left : List (List (Choice Event))) (s : Mid) → first_allowed names placement one_step s ≡ Makes s [] → run_of names placement (replicate count one_step ++ left) s ≡ run_of names placement left s
+  idle_run zero left s e = refl
+  idle_run (suc d) left s e =
+      ap (λ (t : Taken (Store ChipState) Rest Label). goes_on t (run_of names placement (replicate d one_step ++ left))) e ∙ idle_run d left s e
+
+module _ (names : Names) (placement : Placement) (whole : List Label × MeanEnd) (m : Meaning) (old a : Option (List ℕ)) (before f : ℕ) where
+  -- other choices that make the same run
+  far_same : (left other : List (List (Choice Event))) → (x : Far names placement whole left m old a before f)
+      → run_of names placement other (state_of m x.chips) ≡ run_of names placement left (state_of m x.chips) → Far names placement whole other m old a before f
+  far_same left other x e = record {
+    run = x.run;
+    chips = x.chips;
+    shows = x.shows;
+    done = x.done;
+    labels = ap (λ (r : List Label × MeanEnd). x.done ++ r.0) e ∙ x.labels;
+    ends = ap (λ (r : List Label × MeanEnd). r.1) e ∙ x.ends;
+    taken = x.taken;
+    same = x.same;
+  }
+
+  -- that main waits need not be tried
+  pub far_one_step : (left : List (List (Choice Event))) → Far names placement whole (one_step ∷ left) m old a before f → Far names placement whole ((Enter ∷ Program ∷ Leave ∷ []) ∷ left) m old a before f
+  far_one_step left x =
+      far_same (one_step ∷ left) ((Enter ∷ Program ∷ Leave ∷ []) ∷ left) x
+      (ap (λ (t : Taken (Store ChipState) Rest Label). goes_on t (run_of names placement left)) (sym (one_step_is names placement (state_of m x.chips))))
+
+  -- where nothing comes, one turn is as good as all of them
+  pub far_idle : (count : ℕ) (left : List (List (Choice Event))) → IsIdle m (Enter ∷ Program ∷ Leave ∷ []) → Far names placement whole (replicate count one_step ++ left) m old a before f
+      → Far names placement whole ((Enter ∷ Program ∷ Leave ∷ []) ∷ left) m old a before f
+  far_idle count left idle x =
+      let s = state_of m x.chips in
+      let none = idle names placement x.run x.chips x.shows in
+      far_same (replicate count one_step ++ left) ((Enter ∷ Program ∷ Leave ∷ []) ∷ left) x
+      (ap (λ (t : Taken (Store ChipState) Rest Label). goes_on t (run_of names placement left)) none
+      ∙ sym (idle_run names placement count left s (one_step_is names placement s ∙ none)))
+
 -- ---- turns
 
 abbrev alone : Event → List (Choice Event)
 alone e = Occurs e ∷ []
 
-pub turn_left : (es : List Event) (left : List (List (Choice Event))) → turn_choices es ++ left ≡ map (λ e. Occurs e ∷ []) es ++ (one_step ∷ left)
-turn_left es left = append_assoc (map alone es) (one_step ∷ []) left
-
-pub event_left : (es : List Event) (k : ℕ) (d : Event) (left : List (List (Choice Event))) → k < length es
-    → map (λ e. Occurs e ∷ []) (drop k es) ++ left ≡ (Occurs (get_or es k d) ∷ []) ∷ (map (λ e. Occurs e ∷ []) (drop (k + 1) es) ++ left)
+event_left : (es : List Event) (k : ℕ) (d : Event) (left : List (List (Choice Event))) → k < length es
+    → event_choices (drop k es) ++ left ≡ (Occurs (get_or es k d) ∷ []) ∷ (event_choices (drop (k + 1) es) ++ left)
 event_left es k d left lt =
     let next : suc k ≡ k + 1 = omega arith in
     ap (λ (xs : List Event). map alone xs ++ left) (drop-cons es k d lt) ∙ ap (λ (n : ℕ). alone (get_or es k d) ∷ (map alone (drop n es) ++ left)) next
 
-pub turns_left : (due : ℕ → List Event) (stop turn : ℕ) → turn < stop → choices_from due (stop - turn) turn ≡ turn_choices (due turn) ++ choices_from due (stop - (turn + 1)) (turn + 1)
-turns_left due stop turn lt =
-    let count : stop - turn ≡ suc (stop - (turn + 1)) = omega (arith, lt) in
-    let next : suc turn ≡ turn + 1 = omega arith in
-    ap (λ (n : ℕ). choices_from due n turn) count ∙ ap (λ (t : ℕ). turn_choices (due turn) ++ choices_from due (stop - (turn + 1)) t) next
+steps_left : (count turn : ℕ) (left : List (List (Choice Event))) → turn < count → replicate (count - turn) one_step ++ left ≡ one_step ∷ (replicate (count - (turn + 1)) one_step ++ left)
+steps_left count turn left lt =
+    let e : count - turn ≡ suc (count - (turn + 1)) = omega (arith, lt) in
+    ap (λ (n : ℕ). replicate n one_step ++ left) e
 
-pub none_left : (due : ℕ → List Event) (stop turn : ℕ) → stop ≤ turn → choices_from due (stop - turn) turn ≡ []
+no_steps_left : (count turn : ℕ) (left : List (List (Choice Event))) → count ≤ turn → replicate (count - turn) one_step ++ left ≡ left
+no_steps_left count turn left le = let e : count - turn ≡ 0 = omega (arith, le) in ap (λ (n : ℕ). replicate n one_step ++ left) e
+
+-- turns without events have their steps alone
+quiet_left : (due : ℕ → List Event) (d rest turn later : ℕ) → later ≡ turn + d → ((t : ℕ) → turn ≤ t → t < later → due t ≡ []) → choices_from due (d + rest) turn ≡ replicate d one_step ++ choices_from due rest later
+quiet_left due zero rest turn later e quiet =
+    let none : 0 + rest ≡ rest = omega arith in
+    let same : turn ≡ later = omega (arith, e) in
+    ap₂ (λ (n t : ℕ). choices_from due n t) none same
+quiet_left due (suc d) rest turn later e quiet =
+    let more : suc d + rest ≡ suc (d + rest) = omega arith in
+    ap (λ (n : ℕ). choices_from due n turn) more
+    ∙ ap (λ (es : List Event). turn_choices es ++ choices_from due (d + rest) (suc turn)) (quiet turn (omega arith) (omega (arith, e)))
+    ∙ ap (λ (ls : List (List (Choice Event))). one_step ∷ ls) (quiet_left due d rest (suc turn) later (omega (arith, e)) (λ t ge lt. quiet t (omega (arith, ge)) lt))
+
+-- a turn's events, and then the steps of the turns up to a later one, none of which has events
+stretch_left : (due : ℕ → List Event) (stop turn later : ℕ) → turn < later → later ≤ stop → ((t : ℕ) → turn < t → t < later → due t ≡ [])
+    → choices_from due (stop - turn) turn ≡ event_choices (due turn) ++ (replicate (later - turn) one_step ++ choices_from due (stop - later) later)
+stretch_left due stop turn later lt le quiet =
+    let d = later - (turn + 1) in
+    let rest = choices_from due (stop - later) later in
+    let count : stop - turn ≡ suc (d + (stop - later)) = omega (arith, lt, le) in
+    let all : suc d ≡ later - turn = omega (arith, lt) in
+    ap (λ (n : ℕ). choices_from due n turn) count
+    ∙ append_assoc (event_choices (due turn)) (one_step ∷ []) (choices_from due (d + (stop - later)) (suc turn))
+    ∙ ap (λ (ls : List (List (Choice Event))). event_choices (due turn) ++ (one_step ∷ ls)) (quiet_left due d (stop - later) (suc turn) later (omega (arith, lt)) (λ t ge below. quiet t (omega (arith, ge)) below))
+    ∙ ap (λ (n : ℕ). event_choices (due turn) ++ (replicate n one_step ++ rest)) all
+
+none_left : (due : ℕ → List Event) (stop turn : ℕ) → stop ≤ turn → choices_from due (stop - turn) turn ≡ []
 none_left due stop turn le = let count : stop - turn ≡ 0 = omega (arith, le) in ap (λ (n : ℕ). choices_from due n turn) count
 
 module _ (names : Names) (placement : Placement) (whole : List Label × MeanEnd) (m : Meaning) (old a : Option (List ℕ)) (before f : ℕ) where
+  abbrev pub FarWith : List (List (Choice Event)) → Type 0
+  FarWith left = Far names placement whole left m old a before f
+
   -- an event of a turn is what comes next
   pub far_event : (es : List Event) (k : ℕ) (d : Event) (left : List (List (Choice Event))) → k < length es
-      → Far names placement whole (map (λ e. Occurs e ∷ []) (drop k es) ++ left) m old a before f
-      → Far names placement whole ((Occurs (get_or es k d) ∷ []) ∷ (map (λ e. Occurs e ∷ []) (drop (k + 1) es) ++ left)) m old a before f
-  far_event es k d left lt x = subst (λ ls. Far names placement whole ls m old a before f) (event_left es k d left lt) x
+      → FarWith (event_choices (drop k es) ++ left) → FarWith ((Occurs (get_or es k d) ∷ []) ∷ (event_choices (drop (k + 1) es) ++ left))
+  far_event es k d left lt x = subst FarWith (event_left es k d left lt) x
 
   -- after the events of a turn its step is left
-  pub far_step : (es : List Event) (k : ℕ) (left : List (List (Choice Event))) → length es ≤ k
-      → Far names placement whole (map (λ e. Occurs e ∷ []) (drop k es) ++ left) m old a before f → Far names placement whole left m old a before f
-  far_step es k left le x = subst (λ (xs : List Event). Far names placement whole (map alone xs ++ left) m old a before f) (drop_all k es le) x
+  pub far_events : (es : List Event) (k : ℕ) (left : List (List (Choice Event))) → length es ≤ k → FarWith (event_choices (drop k es) ++ left) → FarWith left
+  far_events es k left le x = subst (λ (xs : List Event). FarWith (event_choices xs ++ left)) (drop_all k es le) x
 
-  pub far_turn : (due : ℕ → List Event) (stop turn : ℕ) → turn < stop
-      → Far names placement whole (choices_from due (stop - turn) turn) m old a before f
-      → Far names placement whole (turn_choices (due turn) ++ choices_from due (stop - (turn + 1)) (turn + 1)) m old a before f
-  far_turn due stop turn lt x = subst (λ ls. Far names placement whole ls m old a before f) (turns_left due stop turn lt) x
+  pub far_step : (count turn : ℕ) (left : List (List (Choice Event))) → turn < count
+      → FarWith (replicate (count - turn) one_step ++ left) → FarWith ((Enter ∷ Program ∷ Leave ∷ []) ∷ (replicate (count - (turn + 1)) one_step ++ left))
+  far_step count turn left lt x = far_one_step names placement whole m old a before f (replicate (count - (turn + 1)) one_step ++ left) (subst FarWith (steps_left count turn left lt) x)
 
-  pub far_last : (due : ℕ → List Event) (stop turn : ℕ) → stop ≤ turn
-      → Far names placement whole (choices_from due (stop - turn) turn) m old a before f → Far names placement whole [] m old a before f
-  far_last due stop turn le x = subst (λ ls. Far names placement whole ls m old a before f) (none_left due stop turn le) x
+  pub far_first_step : (count : ℕ) (left : List (List (Choice Event))) → FarWith (replicate count one_step ++ left) → FarWith (replicate (count - 0) one_step ++ left)
+  far_first_step count left x = let all : count ≡ count - 0 = omega arith in subst (λ (n : ℕ). FarWith (replicate n one_step ++ left)) all x
 
-  pub far_first : (due : ℕ → List Event) (stop : ℕ)
-      → Far names placement whole (choices_from due stop 0) m old a before f → Far names placement whole (choices_from due (stop - 0) 0) m old a before f
-  far_first due stop x = let all : stop ≡ stop - 0 = omega arith in subst (λ (n : ℕ). Far names placement whole (choices_from due n 0) m old a before f) all x
+  pub far_last_step : (count turn : ℕ) (left : List (List (Choice Event))) → count ≤ turn → FarWith (replicate (count - turn) one_step ++ left) → FarWith left
+  far_last_step count turn left le x = subst FarWith (no_steps_left count turn left le) x
+
+  pub far_stretch : (due : ℕ → List Event) (stop turn later : ℕ) → turn < later → later ≤ stop → ((t : ℕ) → turn < t → t < later → due t ≡ [])
+      → FarWith (choices_from due (stop - turn) turn) → FarWith (event_choices (due turn) ++ (replicate (later - turn) one_step ++ choices_from due (stop - later) later))
+  far_stretch due stop turn later lt le quiet x = subst FarWith (stretch_left due stop turn later lt le quiet) x
+
+  pub far_last : (due : ℕ → List Event) (stop turn : ℕ) → stop ≤ turn → FarWith (choices_from due (stop - turn) turn) → FarWith []
+  far_last due stop turn le x = subst FarWith (none_left due stop turn le) x
+
+  pub far_first : (due : ℕ → List Event) (stop : ℕ) → FarWith (choices_from due stop 0) → FarWith (choices_from due (stop - 0) 0)
+  far_first due stop x = let all : stop ≡ stop - 0 = omega arith in subst (λ (n : ℕ). FarWith (choices_from due n 0)) all x
 
 -- ---- a whole run
 

@@ -1,6 +1,6 @@
 //! The meaning of a program as a program: a turn is one step.
 
-ghost use Rattle.std.specs.Prelude.{◌≡◌, ◌∷◌, ◌++◌, ◌≤◌, ◌-◌, ℕ, List, [], Option, map, IfOk, IfErr, MatchResult};
+ghost use Rattle.std.specs.Prelude.{◌≡◌, ◌∷◌, ◌++◌, ◌≤◌, ◌-◌, ℕ, List, [], Option, None, false, map, replicate, IfOk, IfErr, MatchResult};
 ghost use Rattle.word86.specs.declared.event.Event.{Event};
 ghost use Rattle.word86.specs.declared.label.Label.{Label};
 ghost use Rattle.word86.specs.declared.fault.Fault.TheVariants as fault;
@@ -17,13 +17,13 @@ ghost use Rattle.plm_meaning.specs.Shown.{labels_of};
 ghost use Rattle.plm_meaning.specs.System.{Makes};
 ghost use Rattle.board.specs.Run.{due_of};
 ghost use Rattle.board.specs.Trace.{lines};
-ghost use Rattle.plm86.specs.Mean.{Alternatives, one_step, turn_choices, choices_from, first_allowed, meant, run_text, mean_status_of, IsCutShort};
-ghost use Rattle.plm86.specs.Inner.Meaning.{Far, Ended, Stops};
+ghost use Rattle.plm86.specs.Mean.{Alternatives, one_step, choices_from, first_allowed, meant, run_text, mean_status_of, IsCutShort};
+ghost use Rattle.plm86.specs.Inner.Meaning.{label_of, event_choices, IsIdle, Far, Ended, Stops};
 
 use board::Schedule;
 use listing_map::{put_end_line, put_label};
 use plm_decl::Placement;
-use plm_meaning::{Choice, Meaning, Stop};
+use plm_meaning::{Choice, Meaning, Step, Stop};
 use plm_type::{Line, Program};
 use std::alloc::Global;
 use word86::{Event, Fault, Label, Number, PowerOn, Sink, SinkFault};
@@ -47,20 +47,22 @@ enum Ending {
 
 pub(crate) const CANNOT_WRITE: Fault = Fault::At(0, 1, Number::E704);
 
-const ONE_STEP: [Choice; 4] = [Choice::Enter, Choice::Program, Choice::Leave, Choice::Idle];
+// What may come in a turn: where none of these is allowed, main waits or is used up, and nothing changes.
+const ONE_STEP: [Choice; 3] = [Choice::Enter, Choice::Program, Choice::Leave];
 
-// The first of these choices that is allowed: its label, if it has one. Where none is allowed, nothing comes.
-fn take_first(meaning: &mut Meaning<'_>, choices: &[Choice]) -> Result<Option<Label>, Ending>
+// Makes the first of these choices that is allowed. Where none is, nothing comes.
+fn take_first(meaning: &mut Meaning<'_>, choices: &[Choice]) -> Result<Option<Step>, Ending>
     ensures run { meaning.new.around ≡ meaning.old.around }
-    ensures made { IfOk result (λ l. (names : Names) (placement : Placement) → IsRunOf meaning.old names placement → (p : ChipState) → Shows meaning.old.store.ports p
-        → (q : ChipState) × Shows meaning.new.store.ports q × (first_allowed names placement (map choice_of choices.now) (state_of meaning.old p) ≡ Makes (state_of meaning.new q) (labels_of l))) }
+    ensures made { IfOk result (λ s. (names : Names) (placement : Placement) → IsRunOf meaning.old names placement → (p : ChipState) → Shows meaning.old.store.ports p
+        → (q : ChipState) × Shows meaning.new.store.ports q × (first_allowed names placement (map choice_of choices.now) (state_of meaning.old p) ≡ Makes (state_of meaning.new q) (labels_of (label_of s)))) }
+    ensures none { result ≡ Ok None → IsIdle meaning.old (map choice_of choices.now) }
     ensures stopped { IfErr result (λ e. (names : Names) (placement : Placement) → IsRunOf meaning.old names placement → (p : ChipState) → Shows meaning.old.store.ports p
         → Stops e (first_allowed names placement (map choice_of choices.now) (state_of meaning.old p))) }
 {
     match choices.split_first() {
         None => Ok(None),
         Some((choice, others)) => match meaning.step(*choice) {
-            Ok(step) => Ok(step.label),
+            Ok(step) => Ok(Some(step)),
             Err(Stop::NotAllowed) => take_first(meaning, others),
             Err(Stop::Bad(at)) => Err(Ending::Bad(at)),
             Err(Stop::Memory) => Err(Ending::Memory),
@@ -78,41 +80,62 @@ fn put_line<S: Sink>(label: Option<Label>, sink: &mut S) -> Result<(), SinkFault
     }
 }
 
-// What comes by these choices, with its line.
+// What comes by these choices, with its line: whether one of them was allowed.
 fn advance<S: Sink>(
     meaning: &mut Meaning<'_>,
     choices: &[Choice],
     sink: &mut S,
-) -> Result<(), Ending>
-    ensures { (names : Names) (placement : Placement) (whole : List Label × MeanEnd) (left : Alternatives) (old : Option (List ℕ)) (before : ℕ)
+) -> Result<bool, Ending>
+    ensures far { (names : Names) (placement : Placement) (whole : List Label × MeanEnd) (left : Alternatives) (old : Option (List ℕ)) (before : ℕ)
         → Far names placement whole (map choice_of choices.now ∷ left) meaning.old old (S.taken sink.old) before (S.failures sink.old)
         → MatchResult result
         (λ _. Far names placement whole left meaning.new old (S.taken sink.new) before (S.failures sink.new))
         (Ended whole old (S.taken sink.new) before (S.failures sink.new)) }
+    ensures none { result ≡ Ok false → IsIdle meaning.old (map choice_of choices.now) }
 {
-    let label = take_first(meaning, choices)?;
-    match put_line(label, sink) {
-        Ok(()) => Ok(()),
-        Err(_) => Err(Ending::Broken),
+    match take_first(meaning, choices)? {
+        None => Ok(false),
+        Some(step) => match put_line(step.label, sink) {
+            Ok(()) => Ok(true),
+            Err(_) => Err(Ending::Broken),
+        },
     }
 }
 
-// A turn: its events, and then one step.
-fn take_turn<S: Sink>(
+// The events of a turn.
+fn take_events<S: Sink>(
     meaning: &mut Meaning<'_>,
     events: &[Event],
     sink: &mut S,
 ) -> Result<(), Ending>
     ensures { (names : Names) (placement : Placement) (whole : List Label × MeanEnd) (left : Alternatives) (old : Option (List ℕ)) (before : ℕ)
-        → Far names placement whole (turn_choices events.now ++ left) meaning.old old (S.taken sink.old) before (S.failures sink.old)
+        → Far names placement whole (event_choices events.now ++ left) meaning.old old (S.taken sink.old) before (S.failures sink.old)
         → MatchResult result
         (λ _. Far names placement whole left meaning.new old (S.taken sink.new) before (S.failures sink.new))
         (Ended whole old (S.taken sink.new) before (S.failures sink.new)) }
 {
     for event in events {
-        advance(meaning, &[Choice::Occurs(*event)], sink)?;
+        let _came = advance(meaning, &[Choice::Occurs(*event)], sink)?;
     }
-    advance(meaning, &ONE_STEP, sink)
+    Ok(())
+}
+
+// The steps of this many turns, between which no event comes. Where one turn has no step, neither have those after it: they are not
+// made.
+fn take_steps<S: Sink>(meaning: &mut Meaning<'_>, count: u32, sink: &mut S) -> Result<(), Ending>
+    ensures { (names : Names) (placement : Placement) (whole : List Label × MeanEnd) (left : Alternatives) (old : Option (List ℕ)) (before : ℕ)
+        → Far names placement whole (replicate count one_step ++ left) meaning.old old (S.taken sink.old) before (S.failures sink.old)
+        → MatchResult result
+        (λ _. Far names placement whole left meaning.new old (S.taken sink.new) before (S.failures sink.new))
+        (Ended whole old (S.taken sink.new) before (S.failures sink.new)) }
+{
+    for _turn in 0..count {
+        let came = advance(meaning, &ONE_STEP, sink)?;
+        if !came {
+            return Ok(());
+        }
+    }
+    Ok(())
 }
 
 // The turns up to the schedule's stop.
@@ -127,8 +150,12 @@ fn take_turns<S: Sink>(
         (λ _. Far names placement whole [] meaning.new old (S.taken sink.new) before (S.failures sink.new))
         (Ended whole old (S.taken sink.new) before (S.failures sink.new)) }
 {
-    for turn in 0..schedule.stop() {
-        take_turn(meaning, schedule.due(turn), sink)?;
+    let mut turn = 0;
+    while turn < schedule.stop() {
+        let pause = schedule.next_pause(turn);
+        take_events(meaning, schedule.due(turn), sink)?;
+        take_steps(meaning, pause - turn, sink)?;
+        turn = pause;
     }
     Ok(())
 }

@@ -1,5 +1,5 @@
 -- What a run of the meaning leaves.
-use Rattle.std.specs.Prelude.{ℕ, ◌≡◌, ◌++◌, List, [], map, Option}
+use Rattle.std.specs.Prelude.{ℕ, ◌≡◌, ◌++◌, List, [], ◌∷◌, map, Option, Some, None}
 use Rattle.word86.specs.declared.event.Event.{Event}
 use Rattle.word86.specs.declared.label.Label.{Label}
 use Rattle.word86.specs.Sink.{Appends, Cut, Rises}
@@ -8,16 +8,30 @@ use Rattle.ppi_kbd.specs.Ports.{Shows}
 use Rattle.plm_decl.specs.declared.names.Names.{Names}
 use Rattle.plm_decl.specs.declared.placement.Placement.{Placement}
 use Rattle.plm_meaning.specs.declared.meaning.Meaning.{Meaning}
+use Rattle.plm_meaning.specs.declared.meaning.Step.{Step}
 use Rattle.plm_meaning.specs.Meaning.{IsRunOf, state_of}
 use Rattle.plm_type.specs.Rest.{Rest}
 use Rattle.plm_meaning.specs.Store.{Store}
-use Rattle.plm_meaning.specs.System.{Choice, Taken, BadAt}
+use Rattle.plm_meaning.specs.System.{Choice, Occurs, Taken, Makes, BadAt}
 use Rattle.board.specs.Trace.{lines}
-use Rattle.plm86.specs.Mean.{run_of}
+use Rattle.plm86.specs.Mean.{Alternatives, first_allowed, run_of}
 use Rattle.plm86.specs.declared.mean.MeanEnd.{MeanEnd}
 use Rattle.plm86.specs.declared.mean.MeanEnd.TheVariants as ends
 use Rattle.plm86.specs.declared.mean.Ending.{Ending}
 use Rattle.plm86.specs.declared.mean.Ending.TheVariants as endings
+
+-- the label of a step, if there is one
+abbrev pub label_of : Option Step → Option Label
+label_of None = None
+label_of (Some s) = s.label
+
+-- each event comes
+abbrev pub event_choices : List Event → Alternatives
+event_choices es = map (λ e. Occurs e ∷ []) es
+
+-- none of these choices is allowed, so nothing comes
+abbrev pub IsIdle : Meaning → List (Choice Event) → Type 0
+IsIdle m cs = (names : Names) (placement : Placement) → IsRunOf m names placement → (p : ChipState) → Shows m.store.ports p → first_allowed names placement cs (state_of m p) ≡ Makes (state_of m p) []
 
 -- A run has made labels, which were taken, and these choices are left: what is to come is the rest of the whole.
 pub record Far (names : Names) (placement : Placement) (whole : List Label × MeanEnd) (left : List (List (Choice Event))) (m : Meaning) (old new : Option (List ℕ)) (before after : ℕ) : Type 0 where
