@@ -35,6 +35,8 @@ mod meaning;
 #[cfg(test)]
 mod names;
 #[cfg(test)]
+mod nodes;
+#[cfg(test)]
 mod ports;
 #[cfg(test)]
 mod processor;

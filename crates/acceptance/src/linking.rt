@@ -3,7 +3,7 @@
 use crate::expect::Expect;
 use board::{Board, End, read_schedule};
 use frames::Stack;
-use layout_link::{RomSize, link};
+use layout_link::{Image, RomSize, link};
 use plm_decl::{Names, resolve};
 use plm_syntax::parse;
 use plm_token::scan;
@@ -45,7 +45,7 @@ pub(crate) fn idle_rom(alloc: Global) -> Result<Vec<u8>, Fail> {
     Ok(link(alloc, parts, &names, stack, RomSize::Kib8)?.rom)
 }
 
-/// A byte that is put, six bytes of which the last is read, a word; then a call and HLT. A vector has a part of its own.
+/// A byte, six bytes of which the last is read, and a word, which are one stretch; then a call and HLT. A vector has a part of its own.
 #[test]
 fn parts_run(rt: HostRuntime) -> Result<(), Fail> {
     let mut expect = Expect::new(&rt);
@@ -87,8 +87,8 @@ fn parts_run(rt: HostRuntime) -> Result<(), Fail> {
     )?;
     expect.same(image.rom.len(), 8192);
     expect.same(image.placement.offsets(), [2, 3, 9].as_slice());
-    // 1,292 turns, the vector, the byte, a copy of six, and the word
-    expect.same(image.start_turns, 1304);
+    // 1,292 turns, the vector, and a copy of nine
+    expect.same(image.start_turns, 1305);
     let schedule = read_schedule(alloc, b"FILL 5A\nSTOP 3000\n")?;
     let mut sink = CutSink::new(alloc, 100_000, 4096)?;
     let mut board = Board::new(alloc, &image.rom, PowerOn::filled(alloc, schedule.fill())?)?;
@@ -97,6 +97,75 @@ fn parts_run(rt: HostRuntime) -> Result<(), Fail> {
         sink.bytes(),
         b"OUT 00E0 05\nOUT 00E1 06\nOUTW 00E2 AABB\nOUT 00E4 77\nEND 3000\n".as_slice(),
     );
+    Ok(())
+}
+
+/// Texts, and how many turns start-up takes for their initial bytes: a word or a byte that is put is one, and a copy three and one a byte.
+const STRETCHES: &[(&[u8], u32)] = &[
+    // a word from two objects
+    (
+        b"M: DO; DECLARE A BYTE INITIAL (1), B BYTE INITIAL (2); ; END M;",
+        1,
+    ),
+    // a gap: two bytes
+    (
+        b"M: DO; DECLARE A BYTE INITIAL (1), G BYTE, B BYTE INITIAL (2); ; END M;",
+        2,
+    ),
+    // not initial to its last byte: a word and a byte
+    (
+        b"M: DO; DECLARE A (3) BYTE INITIAL (1, 2), B BYTE INITIAL (3); ; END M;",
+        2,
+    ),
+    // four bytes are put, and five copied
+    (
+        b"M: DO; DECLARE (A, B, C, D) BYTE INITIAL ('FOUR'); ; END M;",
+        2,
+    ),
+    (
+        b"M: DO; DECLARE (A, B, C, D, E) BYTE INITIAL ('ABOUT'); ; END M;",
+        8,
+    ),
+    (
+        b"M: DO; DECLARE A (2) BYTE INITIAL (1, 2), B WORD DATA (3), C BYTE INITIAL (4); ; END M;",
+        8,
+    ),
+    // the stretch goes on in a procedure, whose object is the next
+    (
+        b"M: DO; DECLARE A (4) BYTE INITIAL ('LAST'); P: PROCEDURE; DECLARE B BYTE INITIAL (1); END; ; END M;",
+        8,
+    ),
+    // copies of six and of five
+    (
+        b"M: DO; DECLARE A (7) BYTE INITIAL ('ABCDEF'), B (5) BYTE INITIAL ('ABOUT'); ; END M;",
+        17,
+    ),
+];
+
+/// An image for this text, with a main that halts.
+fn halting(alloc: Global, text: &[u8]) -> Result<Image, Fail> {
+    let names = names_of(alloc, text)?;
+    let mut parts = Vec::new(alloc);
+    parts.push(part(alloc, Entry::Main, &[0xF4], &[])?)?;
+    parts.push(part(alloc, Entry::Unserved, &[0xCF], &[])?)?;
+    let stack = Stack {
+        main: 0,
+        handler: 6,
+    };
+    Ok(link(alloc, parts, &names, stack, RomSize::Kib8)?)
+}
+
+#[test]
+fn stretches_take_turns(rt: HostRuntime) -> Result<(), Fail> {
+    let mut expect = Expect::new(&rt);
+    let alloc = rt.alloc();
+    let others = halting(alloc, b"M: DO; ; END M;")?.start_turns;
+    for (text, turns) in STRETCHES {
+        expect.same(
+            halting(alloc, text)?.start_turns.wrapping_sub(others),
+            *turns,
+        );
+    }
     Ok(())
 }
 
