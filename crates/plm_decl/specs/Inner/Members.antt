@@ -1,5 +1,5 @@
 -- The members of a structure by name, and that they are those of its fields.
-use Rattle.std.specs.Prelude.{ℕ, ◌≡◌, List, [], ◌∷◌, ◌++◌, map, cond, find, bytes_eq, Option, Some, is_some, option_map}
+use Rattle.std.specs.Prelude.{ℕ, ◌≡◌, List, [], ◌∷◌, ◌++◌, map, cond, find, bytes_eq, Option, is_some, option_map}
 use Rattle.std.specs.Map.{lookup}
 use Rattle.plm_decl.specs.declared.layout.Member.{Member}
 use Rattle.plm_decl.specs.declared.layout.Field.{Field}
