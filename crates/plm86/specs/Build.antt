@@ -120,8 +120,8 @@ pub record AreTyped (texts : List (List ℕ)) (names : Names) : Type 0 where
 -- ---- the image
 
 -- For every power-on memory, all words in the general registers and every schedule the ROM does on the board what the modules mean that
--- declare these names. The chips begin at their reset, and the objects lie where the image places them. Each vector leads to some entry, and the image tells how many bytes main and an
--- interrupt procedure have on the stack at most.
+-- declare these names. The chips begin at their reset, and the objects lie where the image places them. Each vector leads to some entry,
+-- and the image tells how many bytes main and an interrupt procedure have on the stack at most.
 pub record MeansNames (names : Names) (image : Image) : Type 0 where
   pub entry : (vector : ℕ) → ℕ
   pub faithful :
