@@ -241,6 +241,18 @@ fn wakes_by_a_key(rt: HostRuntime) -> Result<(), Fail> {
     )
 }
 
+// Turns in which the processor waits for an event are not made.
+#[test]
+fn wakes_by_a_late_key(rt: HostRuntime) -> Result<(), Fail> {
+    writes(
+        &rt,
+        rt.alloc(),
+        &WAKES_BY_A_KEY,
+        b"AT 4000000000 KEY 1E\nAT 4294967294 TICK 5\nSTOP 4294967295",
+        b"OUT 0063 99\nOUT 0020 13\nOUT 0021 08\nOUT 0021 03\nOUT 0021 FD\nKEY 1E\nACK 09\nIN 0060 1E\nOUT 0080 07\nTICK 5\nEND 4294967295\n",
+    )
+}
+
 #[test]
 fn stores_at_the_edges(rt: HostRuntime) -> Result<(), Fail> {
     writes(

@@ -217,6 +217,13 @@ fn accesses_lie_in_what_is_declared(rt: HostRuntime) -> Result<(), Fail> {
             &[Label::Out(0x300, 1), Label::Out(0x301, 2)],
             None,
         ),
+        // The objects need not lie in their order.
+        (
+            b"M: DO; DECLARE A(3) BYTE, C(2) BYTE, P WORD, B BASED P BYTE; P = .C + 1; B = 7; P = .A; B = 8; OUTPUT(300H) = C(1); OUTPUT(301H) = A(0); END M;",
+            &[0x110, 0x100, 0x200],
+            &[Label::Out(0x300, 7), Label::Out(0x301, 8)],
+            None,
+        ),
         (
             b"M: DO; DECLARE D BYTE; D = 0;\nOUTPUT(300H) = 1 / D; END M;",
             &[2],

@@ -18,6 +18,11 @@ fn reads_a_schedule(rt: HostRuntime) -> Result<(), Fail> {
         [Event::Key(0x1E), Event::Tick(65535)].as_slice(),
     );
     expect.same(schedule.due(7), [Event::Key(0x30)].as_slice());
+    for (turn, pause) in [(0, 5), (4, 5), (5, 7), (7, 9), (8, 9)] {
+        if turn < schedule.stop() {
+            expect.same(schedule.next_pause(turn), pause);
+        }
+    }
     Ok(())
 }
 
