@@ -18,7 +18,7 @@ pub returns-in-Some : goal.returns-in-Some
 returns-in-Some c =
     let name = sym (ap normal c.new.ensures) ∙ c.in-Some.ensures.value in
     by_first (normal c.args.name.now) (normal c.next.new.self.rest.now) c.in-Some.first c.beginning_with.result.now c.keyword_among.result name
-      (c.beginning_with.ensures (normal c.next.new.self.rest.now)) c.keyword_among.ensures
+    (c.beginning_with.ensures (normal c.next.new.self.rest.now)) c.keyword_among.ensures
 
 pub returns-in-None : goal.returns-in-None
 unfolding normal
