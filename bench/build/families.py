@@ -509,11 +509,11 @@ def literals_uses_empty():
 @family
 def literals_dollars_blocks():
     x = "X" + "$" * 2000 + "Y"
-    return main("DO; DECLARE XY LITERALLY ''; L END;" * 1500, f"DECLARE {x} LITERALLY '';DECLARE L LITERALLY '" + "XY " * 2000 + "';")
+    return main("DO; DECLARE Z LITERALLY ''; L END;" * 1500, f"DECLARE {x} LITERALLY '';DECLARE L LITERALLY '" + "XY Z " * 2000 + "';")
 
 
 @family
-def literals_issue():
+def literals_beside_dollars():
     """68 KB: a name of many dollars, a literal that names it often, and blocks that declare it anew."""
     x = "X" + "$" * 1000 + "Y"
     return main("DO; DECLARE X LITERALLY ''; L END;" * 700, f"DECLARE {x} LITERALLY ''; DECLARE L LITERALLY '" + "X " * 20000 + "';")
@@ -551,8 +551,16 @@ def literals_alternating():
 
 
 @family
+def literals_of_one_name():
+    """Many literals stand for one name, a text names them all, and each block declares that name anew: what still takes long."""
+    ns = names(7500)
+    literals = "".join(f"DECLARE {n} LITERALLY 'X';" for n in ns)
+    return main("DO;DECLARE X LITERALLY '';L END;" * 3500, literals + f"DECLARE L LITERALLY '{' '.join(ns)}';")
+
+
+@family
 def literals_text_long():
-    return main("L", "DECLARE L LITERALLY ';" + " " * (MEBIBYTE - 200) + "';")
+    return main("L ", "DECLARE L LITERALLY ';" + " " * (MEBIBYTE - 200) + "';")
 
 
 @family

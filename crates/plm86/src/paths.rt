@@ -49,7 +49,7 @@ pub(crate) fn folder_of<'a>(path: Path<'a>) -> Path<'a> {
 
 /// Whether this is a path by which the system names a file that is open: a number in a folder `fd`.
 pub(crate) fn is_open_file(path: Path<'_>) -> bool {
-    let is_of_system = path.as_str().starts_with("/proc/") || path.as_str().starts_with("/dev/");
+    let is_of_system = path.as_str().starts_with("/proc/") || path.as_str().starts_with("/dev/fd/");
     let is_number = match path.file_name() {
         Some(name) => name.bytes().all(|byte| byte.is_ascii_digit()),
         None => false,
@@ -63,8 +63,7 @@ pub(crate) fn target_of<'a, R: Files>(rt: &R, path: Path<'a>) -> Target<'a> {
         Ok(found) if is_passing(&found) => Target::Passing,
         Ok(found) if is_open_file(path) => Target::Opened(node_of(&found)),
         Ok(found) => Target::File(node_of(&found)),
-        Err(error) if error.kind() == ErrorKind::NotFound => new_file(rt, path),
-        Err(_) => Target::Passing,
+        Err(_) => new_file(rt, path),
     }
 }
 

@@ -55,7 +55,8 @@ impl<'a> Output<'a> {
             Ok(found) if !found.is_file() => self.overwrite(rt, bytes),
             Ok(_) if is_open_file(self.path.as_path()) => self.append(rt, bytes),
             Ok(found) => self.is_open_to_writing(rt) && self.replace(rt, Some(&found), bytes),
-            Err(_) => self.replace(rt, None, bytes),
+            Err(error) if error.kind() == ErrorKind::NotFound => self.replace(rt, None, bytes),
+            Err(_) => false,
         };
         if is_written {
             Ok(())
