@@ -31,7 +31,7 @@ use Rattle.plm86.specs.declared.build.Source.{Source}
 use Rattle.layout_link.specs.declared.image.Image.{Image}
 use Rattle.layout_link.specs.declared.image.RomSize.{RomSize}
 use Rattle.plm86.specs.Depth.{IsShallow}
-use Rattle.plm86.specs.Headline.{RomIsCorrect, StartsQuietly}
+use Rattle.plm86.specs.Headline.{Firmware, RomIsCorrect, StartsQuietly}
 use Rattle.layout_link.specs.Image.{bytes_in, kib_of}
 use Rattle.plm_type.specs.Nodes.{nodes_of, initial_size}
 
@@ -119,13 +119,24 @@ pub record AreTyped (texts : List (List ℕ)) (names : Names) : Type 0 where
 
 -- ---- the image
 
+-- the objects have their sizes and lie where the image places them, and the image tells how many bytes main and an interrupt procedure
+-- have on the stack at most
+abbrev pub firmware : Names → Image → (entry : ℕ → ℕ) → Firmware
+firmware names image entry = record {
+  rom = image.rom.items;
+  entry = entry;
+  placed = slice_index image.placement.offsets.items;
+  size = slice_index (sizes_of names);
+  main = image.stack.main;
+  handler = image.stack.handler;
+}
+
 -- For every power-on memory, all words in the general registers and every schedule the ROM does on the board what the modules mean that
--- declare these names. The chips begin at their reset, and the objects lie where the image places them. Each vector leads to some entry,
--- and the image tells how many bytes main and an interrupt procedure have on the stack at most.
+-- declare these names. The chips begin at their reset, and each vector leads to some entry.
 pub record MeansNames (names : Names) (image : Image) : Type 0 where
   pub entry : (vector : ℕ) → ℕ
   pub faithful :
-      RomIsCorrect board_chips (record { rom = image.rom.items; entry = entry; main = image.stack.main; handler = image.stack.handler }) Rest
+      RomIsCorrect board_chips (firmware names image entry) Rest
       (next image.placement.offsets.items (sizes_of names) (procedures_of names)) (main_rest names) (handler_rest names) image.start_turns reset
       (λ ram screen. first_store ram screen image.placement.offsets.items names.variables.items (map object_of names.objects.items) reset)
 

@@ -53,7 +53,7 @@ main_of x g = Own x.main_at g [] false None
 
 -- a word is two bytes, and the frame of an interrupt's entry is three words
 abbrev pub firmware_of : Assembly → Firmware
-firmware_of x = record { rom = x.rom; entry = x.entry; main = 2 * x.main; handler = 2 * (3 + x.handler) }
+firmware_of x = record { rom = x.rom; entry = x.entry; placed = x.placed; size = x.size; main = 2 * x.main; handler = 2 * (3 + x.handler) }
 
 -- ---- the promises of the layers
 

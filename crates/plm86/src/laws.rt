@@ -33,7 +33,8 @@ pub(crate) fn laws_below()
 /// If the intermediate code tracks the program's rests, the instructions follow the intermediate code, and start-up leads from
 /// each power-on memory and all words in the general registers to main's first instruction, then, whatever events are due turn
 /// by turn, the board's labels are those of an allowed run of the program, interrupts included. From the end of start-up on that
-/// run makes a step in every 64 turns, ROM and vectors stand, and the stack pointer stays in its bounds.
+/// run makes a step in every 64 turns, and after each turn ROM and vectors stand, RAM, screen and chips are those of the run's state,
+/// the segments are the program's, and the stack pointer is in its bounds. No turn comes to bytes that are no instruction.
 pub fn board_is_correct<L: Layers>()
     ensures { FromLayers L.Ports L.Rest L.Place }
 {
@@ -53,8 +54,8 @@ pub fn rom_is_correct<L: Layers>()
     instructions_keep_words();
 }
 
-/// From the bytes of a ROM whose code has a start-up: whatever events are due, start-up makes no label but theirs, and leaves each
-/// byte of RAM that it does not set as it was when the power came on.
+/// From the bytes of a ROM whose code has a start-up: whatever events are due, start-up makes no label but theirs, comes to no bytes
+/// that are no instruction, and leaves each byte of RAM that it does not set as it was when the power came on.
 pub fn rom_starts_quietly<L: Layers>()
     ensures { QuietFromRom L.Ports }
 {

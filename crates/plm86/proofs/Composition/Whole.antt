@@ -98,16 +98,16 @@ module _ (promises : Promises) (program : Program) (names : Names) (typed : AreT
     entry = rom.entry;
     faithful =
         subst
-        (λ offsets. RomIsCorrect board_chips (record { rom = image.rom.items; entry = rom.entry; main = image.stack.main; handler = image.stack.handler }) Rest (next offsets (sizes_of names) (procedures_of names)) (main_rest names) (handler_rest names) image.start_turns chips.reset
+        (λ offsets. RomIsCorrect board_chips (record { rom = image.rom.items; entry = rom.entry; placed = slice_index offsets; size = slice_index (sizes_of names); main = image.stack.main; handler = image.stack.handler }) Rest (next offsets (sizes_of names) (procedures_of names)) (main_rest names) (handler_rest names) image.start_turns chips.reset
         (λ ram screen. first_store ram screen offsets names.variables.items (map object_of names.objects.items) chips.reset)) (sym linked.offsets)
         (subst
-        (λ turns. RomIsCorrect board_chips (record { rom = image.rom.items; entry = rom.entry; main = image.stack.main; handler = image.stack.handler }) Rest (next (offsets_in names) (sizes_of names) (procedures_of names)) (main_rest names) (handler_rest names) turns chips.reset
+        (λ turns. RomIsCorrect board_chips (record { rom = image.rom.items; entry = rom.entry; placed = slice_index (offsets_in names); size = slice_index (sizes_of names); main = image.stack.main; handler = image.stack.handler }) Rest (next (offsets_in names) (sizes_of names) (procedures_of names)) (main_rest names) (handler_rest names) turns chips.reset
         (λ ram screen. first_store ram screen (offsets_in names) names.variables.items (map object_of names.objects.items) chips.reset)) (sym linked.turns)
         (subst
-        (λ n. RomIsCorrect board_chips (record { rom = image.rom.items; entry = rom.entry; main = image.stack.main; handler = n }) Rest (next (offsets_in names) (sizes_of names) (procedures_of names)) (main_rest names) (handler_rest names) (start_up_turns (acts_in names parts size)) chips.reset
+        (λ n. RomIsCorrect board_chips (record { rom = image.rom.items; entry = rom.entry; placed = slice_index (offsets_in names); size = slice_index (sizes_of names); main = image.stack.main; handler = n }) Rest (next (offsets_in names) (sizes_of names) (procedures_of names)) (main_rest names) (handler_rest names) (start_up_turns (acts_in names parts size)) chips.reset
         (λ ram screen. first_store ram screen (offsets_in names) names.variables.items (map object_of names.objects.items) chips.reset)) (sym words.handler_is ∙ ap (λ s. s.handler) (sym linked.stack_is))
         (subst
-        (λ n. RomIsCorrect board_chips (record { rom = image.rom.items; entry = rom.entry; main = n; handler = 2 * (3 + x.handler) }) Rest (next (offsets_in names) (sizes_of names) (procedures_of names)) (main_rest names) (handler_rest names) (start_up_turns (acts_in names parts size)) chips.reset
+        (λ n. RomIsCorrect board_chips (record { rom = image.rom.items; entry = rom.entry; placed = slice_index (offsets_in names); size = slice_index (sizes_of names); main = n; handler = 2 * (3 + x.handler) }) Rest (next (offsets_in names) (sizes_of names) (procedures_of names)) (main_rest names) (handler_rest names) (start_up_turns (acts_in names parts size)) chips.reset
         (λ ram screen. first_store ram screen (offsets_in names) names.variables.items (map object_of names.objects.items) chips.reset)) (sym words.main_is ∙ ap (λ s. s.main) (sym linked.stack_is))
         correct)));
   }

@@ -6,8 +6,8 @@ use Rattle.std.specs.Prelude.{◌&&◌}
 use Rattle.word86.specs.Action.{Shared, Action, Silent, Touch, Enable, Disable, Halt, Over, Bad, perform, on_after, halted_after}
 use Rattle.word86.specs.Following.{Offer, Does, Arms, Paid, Quiet, Switch, Meets, Follows}
 use Rattle.plm_meaning.specs.System.{Choice, Program, Occurs, Enter, Leave, Idle, System, State, kept_if, settled, counted, and_then, labelled, step, steps, some_step, joined, FitsTurns, HasNoBad, KeepsPace, BadIsNext, leave_step, enter_step}
-use Rattle.plm86.specs.Inner.Duo.{Duo, Alone, Armed, Serving, duo_after_events, execute, serve, alone, act, main_in, has_handler}
-use Rattle.plm86.specs.Headline.{is_serving, Upholds, UpholdsAfter}
+use Rattle.plm86.specs.Inner.Duo.{Duo, Alone, Armed, Serving, duo_after_events, execute, serve, alone, act, main_in, has_handler, shared_with}
+use Rattle.plm86.specs.Headline.{is_serving, shared_in, Upholds, UpholdsAfter}
 use Rattle.plm86.specs.Boots.{after_events, Boots}
 use Rattle.board.specs.Machine.{outputs}
 
@@ -362,8 +362,8 @@ module _ (sh : Shared) where
           (begins : (es : List sh.Event) (b : M) → (ls : List sh.Label) × ((turn es b).1 ≡ map sh.event_label es ++ ls))
           (lifts : (es : List sh.Event) (b : M) (d e : Duo sh.State C) (ls : List sh.Label) → Stands b d → act sh C offer start (duo_after_events sh es d) ≡ Some (e, ls) → ((turn es b).1 ≡ map sh.event_label es ++ ls) × Stands (turn es b).0 e)
           (fits : (b : M) (d : Duo sh.State C) → Stands b d → Fit (main_in d))
-          (Standing : (level : ℕ) → (serving : Bool) → M → Type 0) (level : C → ℕ)
-          (shows : (b : M) (d : Duo sh.State C) → Stands b d → Standing (level (main_in d)) (has_handler d) b) where
+          (Standing : (level : ℕ) → System sh.State R → M → Type 0) (level : C → ℕ)
+          (shows : (b : M) (d : Duo sh.State C) (s : System sh.State R) → shared_with d ≡ shared_in s → has_handler d ≡ is_serving s → Stands b d → Standing (level (main_in d)) s b) where
         record Turned (b : M) (x : Joint sh.State R C) (es : List sh.Event) (n f : ℕ) : Type 0 where
           choices : List (Choice sh.Event)
           then_at : Joint sh.State R C
@@ -432,10 +432,10 @@ module _ (sh : Shared) where
             busy_some wide t.0 (drop i pieces) t.2 (omega (arith, t.1, more)) room
 
         -- the machine stands as the run is
-        stands_at : (b : M) (x : Joint sh.State R C) → Stands b (duo x) → Standing (level (main_in (duo x))) (is_serving (sys x)) b
-        stands_at b (Plain r c on halted w i j) st = shows b (Alone c on halted w) st
-        stands_at b (Ready r c on w) st = shows b (Armed c w) st
-        stands_at b (Served r c h d w) st = shows b (Serving c d w) st
+        stands_at : (b : M) (x : Joint sh.State R C) → Stands b (duo x) → Standing (level (main_in (duo x))) (sys x) b
+        stands_at b (Plain r c on halted w i j) st = shows b (Alone c on halted w) (sys (Plain r c on halted w i j)) refl refl st
+        stands_at b (Ready r c on w) st = shows b (Armed c w) (sys (Ready r c on w)) refl refl st
+        stands_at b (Served r c h d w) st = shows b (Serving c d w) (sys (Served r c h d w)) refl refl st
 
         level_kept : (m : C) (y : Joint sh.State R C) → IsKept m y → is_serving (sys y) ≡ true → level (main_in (duo y)) ≡ level m
         level_kept m (Plain r c on halted w i j) kept e = absurd (true≢false (sym e))

@@ -1,16 +1,17 @@
 -- Start-up makes no label but those of events, and leaves RAM as it was where it sets nothing.
-use Rattle.std.proofs.Common.{◌≡◌, ℕ, zero, suc, ◌+◌, ◌-◌, ◌<◌, ◌≤◌, ◌^◌, inl, inr, List, [], ◌∷◌, map, length, take, refl, sym, ap, ◌∙◌, arith, ap₂}
+use Rattle.std.proofs.Common.{◌≡◌, ℕ, zero, suc, ◌+◌, ◌-◌, ◌<◌, ◌≤◌, ◌^◌, inl, inr, List, [], ◌∷◌, map, length, take, refl, sym, ap, ◌∙◌, subst, arith, ap₂}
 use Rattle.std.specs.Prelude.{slice_index, if◌then◌else◌}
 use Rattle.std.proofs.lemmas.Bool.{cases_lt}
 use Rattle.word86.specs.Action.{Shared}
 use Rattle.word86.specs.Chips.{Chips}
 use Rattle.plm_meaning.specs.Store.{Store, shared}
 use Rattle.i86_code.specs.Coding.{IsOneForm, IsShort}
+use Rattle.cpu8086.specs.declared.cpu.Cpu.{Cpu}
 use Rattle.board.specs.World.{World, Whole, board_model, region, screen_at}
 use Rattle.board.specs.Machine.{Board, outputs, final, power_on}
 use Rattle.plm86.specs.Inner.BoardLaws.{LawsBelow}
 use Rattle.plm86.specs.Boots.{after_events, Boots}
-use Rattle.plm86.specs.Headline.{StartsQuietly, board_turn}
+use Rattle.plm86.specs.Headline.{IsGoing, StartsQuietly, board_turn}
 use Rattle.plm86.specs.Laws.{Assembly, IsPut, IsSetBy, QuietFromRom, power_on_memory}
 use Rattle.layout_link.specs.Rom.{CodeInRom}
 use Rattle.layout_link.specs.Startup.{Act, PutWord, PutByte, Copy, HasStartUp, start_up_turns}
@@ -19,6 +20,7 @@ use Rattle.plm86.proofs.Machine.Regions.{within_true}
 use Rattle.plm86.proofs.Machine.Copying.{byte_put_other, word_put_other, copied_beside}
 use Rattle.plm86.proofs.Machine.Vectors.{rounds_beside}
 use Rattle.plm86.proofs.Headline.FromRom.{at_the_end, boots_from}
+use Rattle.plm86.proofs.Headline.Orderly.{boots_orderly}
 
 module _ (sh : Shared) {M : Type 0} (turn : List sh.Event → M → M × List sh.Label) (Begins : M → sh.State → Type 0) where
   -- the labels of a start-up's turns are those of their events
@@ -71,9 +73,9 @@ power_on_ram rom ram screen a size lt =
     let same : a - 0 ≡ a = omega arith in
     ap (λ b. if b then slice_index ram (a - 0) else beyond) (within_true 0 ram a 0x20000 size (omega arith) lt) ∙ ap (slice_index ram) same
 
--- the board's memory is this one
+-- the processor goes on, and the board's memory is this one
 abbrev Left : {P : Type 0} → Chips P → List ℕ → (ℕ → ℕ) → Board (World P) → Store P → Type 0
-Left c rom f b s = Whole rom b.world × ((a : ℕ) → a < 2 ^ 20 → (board_model c).load b.world a ≡ f a)
+Left c rom f b s = Whole rom b.world × IsGoing b.cpu.phase × ((a : ℕ) → a < 2 ^ 20 → (board_model c).load b.world a ≡ f a)
 
 module _ (below : LawsBelow) (only : IsOneForm) (short : IsShort) where
   -- where what is not set is as at power-on in the memory that start-up leaves
@@ -86,13 +88,14 @@ module _ (below : LawsBelow) (only : IsOneForm) (short : IsShort) where
       let b = power_on general x.rom ram screen chips in
       let s : Store P = record { objects = []; screen = []; chips = chips } in
       let boots : Boots (shared c) (board_turn c) (Left c x.rom f) n b s =
-      boots_from below only short c x in_rom entry acts start general ram screen small ram_size screen_size s chips refl (Left c x.rom f) (λ g words flags d p h. (h.world.whole, h.world.memory)) in
+      boots_from below only short c x in_rom entry acts start general ram screen small ram_size screen_size s chips refl (Left c x.rom f) (λ g words flags d p h. (h.world.whole, subst (λ (z : Cpu). IsGoing z.phase) (sym h.is) tt, h.world.memory)) in
       record {
         quiet = labels_are (shared c) (board_turn c) (Left c x.rom f) n b s boots;
+        orderly = λ due few. boots_orderly c (Left c x.rom f) (λ d v h. h.1) n b s boots due few;
         keeps = λ due turns a lt free.
             let t = ends (shared c) (board_turn c) (Left c x.rom f) n b s boots due turns in
             let w = (final (board_turn c) due b).world in
-            sym (power_on_ram w.rom w.ram w.screen a t.1.0.ram lt) ∙ t.1.1 a (omega (arith, lt)) ∙ kept ram screen ram_size screen_size a lt free;
+            sym (power_on_ram w.rom w.ram w.screen a t.1.0.ram lt) ∙ t.1.2 a (omega (arith, lt)) ∙ kept ram screen ram_size screen_size a lt free;
       }
 
   pub quiet_from_rom : (P : Type 0) → QuietFromRom P
@@ -104,4 +107,4 @@ module _ (below : LawsBelow) (only : IsOneForm) (short : IsShort) where
 pub quiet_wider : {P : Type 0} (c : Chips P) (n : ℕ) (IsSet IsSetMore : ℕ → Type 0) → ((a : ℕ) → IsSet a → IsSetMore a) → (rom : List ℕ) (chips : P) → StartsQuietly c n IsSet rom chips → StartsQuietly c n IsSetMore rom chips
 quiet_wider c n IsSet IsSetMore wider rom chips h general ram screen small ram_size screen_size =
     let q = h general ram screen small ram_size screen_size in
-    record { quiet = q.quiet; keeps = λ due turns a lt free. q.keeps due turns a lt (λ s. free (wider a s)) }
+    record { quiet = q.quiet; orderly = q.orderly; keeps = λ due turns a lt free. q.keeps due turns a lt (λ s. free (wider a s)) }

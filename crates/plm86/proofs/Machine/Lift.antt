@@ -30,8 +30,8 @@ use Rattle.cpu8086.specs.Control.{interrupted, returned, flags_popped, returned_
 use Rattle.cpu8086.specs.Effect.{effect}
 use Rattle.cpu8086.specs.Turn.{turn_of, doing, acknowledging, fetched, phase_after, decoded_turn, instruction_turn, still, Outcome}
 use Rattle.plm86.specs.Inner.BoardLaws.{OfBoard, Events}
-use Rattle.plm86.specs.Inner.Duo.{Duo, Alone, Armed, Serving, duo_after_events, execute, serve, alone, act, main_in, has_handler}
-use Rattle.plm86.specs.Headline.{IsBounded}
+use Rattle.plm86.specs.Inner.Duo.{Duo, Alone, Armed, Serving, duo_after_events, execute, serve, alone, act, main_in, has_handler, shared_with}
+use Rattle.plm86.specs.Headline.{HasSegments, IsGoing, IsBounded}
 use Rattle.plm86.specs.Boots.{after_events}
 use Rattle.board.specs.Machine.{Board, all_occur, goes, turn}
 use Rattle.plm86.specs.Relation.{Fine, Placed, Finds, FlagsAre}
@@ -465,10 +465,27 @@ module _ {W P : Type 0} (m : BusModel W) (c : Chips P) (chips : W → P) (Whole 
           ((omega (arith, low), omega (arith, at, within, same)), omega (arith, at, same), omega (arith, at, within, same, low, enough))
 
   -- the memory is that of the store
-  pub memory_of : (b : Board W) (d : Duo (Store P) Context) → Stands b d → (s : Store P) × F s b.world
-  memory_of b d st = go st.pair st.fits
+  pub memory_of : (b : Board W) (d : Duo (Store P) Context) → Stands b d → F (shared_with d) b.world
+  memory_of b d st = subst (λ (d : Duo (Store P) Context). F (shared_with d) b.world) (sym st.is) (go st.pair st.fits)
     where
-      go : (y : Pair (Store P)) → Fits y b → (s : Store P) × F s b.world
-      go (Single p g st on h s) k = (s, k.fine)
-      go (Primed p g st s) k = (s, k.fine)
-      go (Twofold p g st p0 g0 st0 s) k = (s, k.0.fine)
+      go : (y : Pair (Store P)) → Fits y b → F (shared_with (contexts y)) b.world
+      go (Single p g st on h s) k = k.fine
+      go (Primed p g st s) k = k.fine
+      go (Twofold p g st p0 g0 st0 s) k = k.0.fine
+
+  -- the segments are the program's, and the processor goes on
+  pub at_work : (b : Board W) (d : Duo (Store P) Context) → Stands b d → HasSegments b.cpu.registers × IsGoing b.cpu.phase
+  at_work b d st = go st.pair st.fits
+    where
+      waits : (halted : Bool) → IsGoing (waits_if halted)
+      waits true = tt
+      waits false = tt
+
+      one : (p : ℕ) (g : Working) (st base : List ℕ) (o : Option Given) (s : Store P) (on : Bool) (phase : Phase) → IsGoing phase → Run b p g st base o s on phase → HasSegments b.cpu.registers × IsGoing b.cpu.phase
+      one p g st base o s on phase going k =
+          subst (λ (z : Cpu). HasSegments z.registers × IsGoing z.phase) (sym k.is) (record { cs = refl; ds = refl; ss = refl; es = refl }, going)
+
+      go : (y : Pair (Store P)) → Fits y b → HasSegments b.cpu.registers × IsGoing b.cpu.phase
+      go (Single p g st on h s) k = one p g st [] None s on (waits_if h) (waits h) k
+      go (Primed p g st s) k = one p g st [] None s true AfterSti tt k
+      go (Twofold p g st p0 g0 st0 s) k = one p g st (frame p0 g0 st0) (Some (saved g0 st0)) s false Running tt k.0
