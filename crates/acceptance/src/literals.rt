@@ -200,6 +200,29 @@ fn names_declared_anew(rt: HostRuntime) -> Result<(), Fault> {
 }
 
 #[test]
+fn names_declared_as_before(rt: HostRuntime) -> Result<(), Fault> {
+    let alloc = rt.alloc();
+    let declared = b"DO; DECLARE T LITERALLY 'N 1 N';\n";
+    gives_behind(
+        &rt,
+        alloc,
+        declared,
+        b"DO; DECLARE N LITERALLY ''; T END; DO; DECLARE N LITERALLY ''; T END; DO; DECLARE N LITERALLY '2'; T END; DO; DECLARE N LITERALLY ''; T END; T",
+        b"DO; DECLARE N LITERALLY ''; 1 END; DO; DECLARE N LITERALLY ''; 1 END; DO; DECLARE N LITERALLY '2'; 2 1 2 END; DO; DECLARE N LITERALLY ''; 1 END; N 1 N",
+        None,
+    )?;
+    // The literals below it are others, or another literal stands at its place.
+    gives_behind(
+        &rt,
+        alloc,
+        declared,
+        b"DO; DECLARE E LITERALLY '', N LITERALLY 'E'; T END; DO; DECLARE E LITERALLY '4', N LITERALLY 'E'; T END; DO; DECLARE E LITERALLY '', P LITERALLY 'E'; T END;",
+        b"DO; DECLARE E LITERALLY '', N LITERALLY 'E'; 1 END; DO; DECLARE E LITERALLY '4', N LITERALLY 'E'; 4 1 4 END; DO; DECLARE E LITERALLY '', P LITERALLY 'E'; N 1 N END;",
+        None,
+    )
+}
+
+#[test]
 fn many_tokens(rt: HostRuntime) -> Result<(), Fault> {
     let alloc = rt.alloc();
     let mut source = vec![in alloc; b';'; 65_535]?;

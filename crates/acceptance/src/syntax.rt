@@ -342,23 +342,51 @@ fn levels(rt: HostRuntime) -> Result<(), Fault> {
 #[test]
 fn levels_of_lists(rt: HostRuntime) -> Result<(), Fault> {
     let alloc = rt.alloc();
-    let places: [(&[u8], &[u8], usize, u32); 5] = [
-        (b"M: DO; A = ", b"; END;", 63, 65),
-        (b"M: DO; DECLARE A POINTER INITIAL (", b"); END;", 63, 65),
-        (b"M: DO; DECLARE A POINTER DATA (", b"); END;", 63, 65),
-        (b"M: DO; DECLARE A BYTE AT (", b"); END;", 63, 65),
-        (b"M: DO; A = LENGTH(", b"); END;", 62, 64),
+    const ROWS: &[(&[u8], &[u8], usize, Outcome)] = &[
+        (b"M: DO; A = ", b"; END;", 62, Fine),
+        (b"M: DO; A = ", b"; END;", 63, Fine),
+        (b"M: DO; A = ", b"; END;", 64, Refused(Number::E203, 65)),
+        (b"M: DO; DECLARE A POINTER INITIAL (", b"); END;", 62, Fine),
+        (b"M: DO; DECLARE A POINTER INITIAL (", b"); END;", 63, Fine),
+        (
+            b"M: DO; DECLARE A POINTER INITIAL (",
+            b"); END;",
+            64,
+            Refused(Number::E203, 65),
+        ),
+        (b"M: DO; DECLARE A POINTER DATA (", b"); END;", 62, Fine),
+        (b"M: DO; DECLARE A POINTER DATA (", b"); END;", 63, Fine),
+        (
+            b"M: DO; DECLARE A POINTER DATA (",
+            b"); END;",
+            64,
+            Refused(Number::E203, 65),
+        ),
+        (b"M: DO; DECLARE A BYTE AT (", b"); END;", 62, Fine),
+        (b"M: DO; DECLARE A BYTE AT (", b"); END;", 63, Fine),
+        (
+            b"M: DO; DECLARE A BYTE AT (",
+            b"); END;",
+            64,
+            Refused(Number::E203, 65),
+        ),
+        (b"M: DO; A = LENGTH(", b"); END;", 62, Fine),
+        (
+            b"M: DO; A = LENGTH(",
+            b"); END;",
+            63,
+            Refused(Number::E203, 64),
+        ),
+        (
+            b"M: DO; A = LENGTH(",
+            b"); END;",
+            64,
+            Refused(Number::E203, 64),
+        ),
     ];
-    for (before, after, most, line) in places {
-        for lists in 62..65 {
-            let text = repeated(alloc, before, b"@\n(", lists, b"1", b")", after)?;
-            let wanted = if lists <= most {
-                Fine
-            } else {
-                Refused(Number::E203, line)
-            };
-            assert_eq!(&rt; parsed(alloc, &text), wanted, "in {before:?}, {lists}");
-        }
+    for (before, after, lists, wanted) in ROWS {
+        let text = repeated(alloc, before, b"@\n(", *lists, b"1", b")", after)?;
+        assert_eq!(&rt; parsed(alloc, &text), *wanted, "in {before:?}, {lists}");
     }
     Ok(())
 }

@@ -1,5 +1,5 @@
 -- What is remembered of the literals of the open blocks.
-use Rattle.std.proofs.Common.{◌≡◌, ◌∙◌, ◌≢◌, ℕ, zero, suc, ◌+◌, ◌-◌, ◌<◌, ◌≤◌, max, min, List, [], ◌∷◌, ◌++◌, Bool, true, false, cond, ◌&&◌, Option, Some, None, IfSome, length, map, set, fold, take, drop, option_map, get_or, ap, refl, sym, subst, arith}
+use Rattle.std.proofs.Common.{◌≡◌, ◌∙◌, ◌≢◌, ℕ, zero, suc, ◌+◌, ◌-◌, ◌<◌, ◌≤◌, max, min, List, [], ◌∷◌, ◌++◌, Bool, true, false, cond, ◌&&◌, Option, Some, None, IfSome, length, map, set, fold, take, drop, option_map, get_or, ap, refl, sym, subst, arith, ◌⊎◌, inl, inr}
 use Rattle.std.specs.Prelude.{nat_lt}
 use Rattle.std.specs.Bool.{then_some}
 use Rattle.std.specs.Bool.{if◌then◌else◌}
@@ -8,8 +8,8 @@ use Rattle.std.proofs.Math.Nat.{le-max_left, le-max_right, max-le, min-le_left, 
 use Rattle.std.proofs.Math.Seq.{drop-cons}
 use Rattle.std.proofs.lemmas.Bool.{ltb-true}
 use Rattle.std.proofs.lemmas.Option.{slice_get-map, slice_get_read, slice_get_within, IfSome_then}
-use Rattle.std.proofs.lemmas.List.{map-append, length-map, length-take, drop-map, drop_all, append-nil, append_assoc, append_cancel_right, take-append-drop, take-append-le, take-map, take_all}
-use Rattle.std.proofs.lemmas.List.Elements.{All-set, All-take, All-push}
+use Rattle.std.proofs.lemmas.List.{map-append, length-map, length-take, drop-map, drop_all, append-nil, append_assoc, length-append, get_or_append_left, get_or_push, append_cancel_right, take-append-drop, take-append-le, take-map, take_all}
+use Rattle.std.proofs.lemmas.List.Elements.{All-set, All-push}
 use Rattle.std.proofs.lemmas.List.Sums.{fold-append}
 use Rattle.std.proofs.lemmas.List.Folds.{list_all-append, drop_split}
 use Rattle.word86.specs.declared.number.Number.{Number}
@@ -19,11 +19,12 @@ use Rattle.plm_token.specs.Literals.{Symbol, on_line}
 use Rattle.plm_syntax.specs.declared.named_token.NamedToken.{NamedToken}
 use Rattle.plm_syntax.specs.declared.literals.Gap.{Gap}
 use Rattle.plm_syntax.specs.declared.open_blocks.Literal.{Literal}
+use Rattle.plm_syntax.specs.declared.open_blocks.Declaration.{Declaration}
 use Rattle.plm_syntax.specs.declared.open_blocks.Quiet.{Quiet}
 use Rattle.plm_syntax.specs.declared.open_blocks.QuietRun.{QuietRun}
 use Rattle.plm_syntax.specs.declared.open_blocks.KnownRun.{KnownRun}
 use Rattle.plm_syntax.specs.Literals.{LiteralText, Blocks, Out, opens, is_keyword, is_semicolon, opened, closed, ends_block, or_else, by_literal, literal_for, put, stop_at, symbol_out, text_out}
-use Rattle.plm_syntax.specs.Inner.OpenBlocks.{named_symbol, IsSameName, literal_text, text_of, text_at, is_quiet, is_quiet_text, IsQuietBy, both_quiet, named_quiet, quiet_with, joined, IsQuietOn, IsQuietRun, newest_of, IsKnown}
+use Rattle.plm_syntax.specs.Inner.OpenBlocks.{named_symbol, IsSameName, literal_text, text_of, text_at, is_quiet, is_quiet_text, IsQuietBy, both_quiet, named_quiet, quiet_with, joined, IsQuietOn, IsQuietRun, newest_of, declared_text, literals_of, lists_of, AreNumbered, IsKnown}
 use Rattle.plm_syntax.specs.Inner.Literals.{IsGap, gap_behind}
 use Rattle.plm_syntax.proofs.Replaced.{some_at}
 use Rattle.plm_syntax.proofs.Quiet.{and_first, and_second, and_both, take_fewer, text_with_more, text_beside, quiet_same, nothing_comes, one_beside, named_by}
@@ -400,77 +401,253 @@ quiet_over depth line text i at gap first o true p le is =
     (ap (λ (f : ℕ). slice_range text f at) none ∙ ap (λ (n : ℕ). take n text) all ∙ take_all at text le)
     p.behind.quiet)
 
+-- ---- what the numbers of declarations stand for
+
+step : List (List LiteralText) → Declaration → List (List LiteralText)
+step lists d = lists ++ (literals_of lists d.below ++ declared_text d ∷ []) ∷ []
+
+one_longer : (lists : List (List LiteralText)) (d : Declaration) → length (step lists d) ≡ length lists + 1
+unfolding step
+one_longer lists d = length-append lists ((literals_of lists d.below ++ declared_text d ∷ []) ∷ [])
+
+longer_by : (ds : List Declaration) (lists : List (List LiteralText)) → length (fold step lists ds) ≡ length lists + length ds
+longer_by [] lists = omega arith
+longer_by (d ∷ ds) lists = longer_by ds (step lists d) ∙ omega (arith, one_longer lists d)
+
+pub one_each : (ds : List Declaration) → length (lists_of ds) ≡ length ds
+unfolding step
+one_each ds = omega (arith, longer_by ds [])
+
+-- what stands at a number stays
+stays : (ds : List Declaration) (lists : List (List LiteralText)) (i : ℕ) → i < length lists → get_or (fold step lists ds) i [] ≡ get_or lists i []
+unfolding step
+stays [] lists i lt = refl
+stays (d ∷ ds) lists i lt =
+    stays ds (step lists d) i (omega (arith, lt, one_longer lists d)) ∙ get_or_append_left lists ((literals_of lists d.below ++ declared_text d ∷ []) ∷ []) [] i lt
+
+literals_stay : (ds : List Declaration) (lists : List (List LiteralText)) (below : Option ℕ) → IfSome below (λ n. n < length lists) → literals_of (fold step lists ds) below ≡ literals_of lists below
+literals_stay ds lists None older = refl
+literals_stay ds lists (Some n) older = stays ds lists n older
+
+same_declaration : (x d : Declaration) → Some x ≡ Some d → x ≡ d
+same_declaration x d e = cc e
+
+entry_on : (ds : List Declaration) (lists : List (List LiteralText)) (s n : ℕ) (d : Declaration) → slice_get ds s ≡ Some d → n ≡ length lists + s → IfSome d.below (λ b. b < n)
+    → get_or (fold step lists ds) n [] ≡ literals_of (fold step lists ds) d.below ++ declared_text d ∷ []
+unfolding step
+entry_on [] lists s n d e at older = absurd (cc e)
+entry_on (x ∷ xs) lists zero n d e at older =
+    let same : x ≡ d = same_declaration x d e in
+    let here : length lists ≡ n = omega (arith, at) in
+    let before : IfSome d.below (λ b. b < length lists) = subst (λ m. IfSome d.below (λ b. b < m)) (sym here) older in
+    let kept : literals_of (fold step lists (x ∷ xs)) d.below ≡ literals_of lists d.below = literals_stay (x ∷ xs) lists d.below before in
+    stays xs (step lists x) n (omega (arith, one_longer lists x, here))
+    ∙ get_or_push lists (literals_of lists x.below ++ declared_text x ∷ []) [] n here
+    ∙ ap (λ (y : Declaration). literals_of lists y.below ++ declared_text y ∷ []) same
+    ∙ ap (λ (ls : List LiteralText). ls ++ declared_text d ∷ []) (sym kept)
+entry_on (x ∷ xs) lists (suc s) n d e at older = entry_on xs (step lists x) s n d e (omega (arith, at, one_longer lists x)) older
+
+-- what the number of a declaration stands for
+pub entry : (ds : List Declaration) (s : ℕ) (d : Declaration) → slice_get ds s ≡ Some d → IfSome d.below (λ b. b < s) → get_or (lists_of ds) s [] ≡ literals_of (lists_of ds) d.below ++ declared_text d ∷ []
+unfolding step
+entry ds s d e older = entry_on ds [] s s d e (omega arith) older
+
+pub one_more : (ds : List Declaration) (d : Declaration) → lists_of (ds ++ d ∷ []) ≡ lists_of ds ++ (literals_of (lists_of ds) d.below ++ declared_text d ∷ []) ∷ []
+one_more ds d = fold-append (λ (lists : List (List LiteralText)) (d : Declaration). lists ++ (literals_of lists d.below ++ declared_text d ∷ []) ∷ []) [] ds (d ∷ [])
+
+-- the number that a new declaration has
+pub new_number : (ds : List Declaration) (d : Declaration) (n : ℕ) → n ≡ length ds
+    → (n < length (lists_of (ds ++ d ∷ []))) × (get_or (lists_of (ds ++ d ∷ [])) n [] ≡ literals_of (lists_of ds) d.below ++ declared_text d ∷ [])
+new_number ds d n e =
+    let whole : length (lists_of (ds ++ d ∷ [])) ≡ length ds + 1 = one_each (ds ++ d ∷ []) ∙ length-append ds (d ∷ []) in
+    let last : length (lists_of ds) ≡ n = one_each ds ∙ sym e in (
+      omega (arith, e, whole),
+      ap (λ (ls : List (List LiteralText)). get_or ls n []) (one_more ds d) ∙ get_or_push (lists_of ds) (literals_of (lists_of ds) d.below ++ declared_text d ∷ []) [] n last,
+    )
+
+pub declaration_there : (xs ys : List Declaration) (p : ℕ) (d : Declaration) → xs ≡ ys → true ≡ nat_lt p (length xs) → d ≡ get_or xs p d → slice_get ys p ≡ Some d
+declaration_there xs ys p d same lt e =
+    let inside : p < length xs = ltb-true p (length xs) (sym lt) in
+    ap (λ (zs : List Declaration). slice_get zs p) (sym same) ∙ slice_get_read xs (length xs) p d refl inside e
+
+-- the number of a declaration that was the same before
+pub same_number : (ds : List Declaration) (s : ℕ) (d : Declaration) (below : Option ℕ) (l : LiteralText) → slice_get ds s ≡ Some d → IfSome below (λ b. b < s) → d.below ≡ below → declared_text d ≡ l
+    → (s < length (lists_of ds)) × (get_or (lists_of ds) s [] ≡ literals_of (lists_of ds) below ++ l ∷ [])
+same_number ds s d below l there older on same =
+    let inside : s < length ds = slice_get_within ds s d there in (
+      omega (arith, inside, one_each ds),
+      entry ds s d there (subst (λ (b : Option ℕ). IfSome b (λ b. b < s)) (sym on) older)
+          ∙ ap (λ (b : Option ℕ). literals_of (lists_of ds) b ++ declared_text d ∷ []) on
+          ∙ ap (λ (x : LiteralText). literals_of (lists_of ds) below ++ x ∷ []) same,
+    )
+
+abbrev pub literal_by : List ℕ → List Symbol → LiteralText
+literal_by name text = record { name = name; text = text }
+
+-- a literal of the same name and the same tokens
+pub same_literal : (a b : Symbol) (xs ys xs' ys' : List NamedToken) → a ≡ b → xs ≡ xs' → ys ≡ ys' → map named_symbol xs ≡ map named_symbol ys → literal_by a.text (map named_symbol xs') ≡ literal_by b.text (map named_symbol ys')
+same_literal a b xs ys xs' ys' e p q h =
+    ap (λ (s : Symbol). literal_by s.text (map named_symbol xs')) e
+    ∙ ap (literal_by b.text) (ap (map named_symbol) (sym p) ∙ h ∙ ap (map named_symbol) q)
+
+-- what the newest of so many literals has as its number
+pub numbered_by : (literals : List Literal) (lists : List (List LiteralText)) (n s : ℕ) → AreNumbered literals lists → newest_of literals n ≡ Some s
+    → (s < length lists) × (get_or lists s [] ≡ take n (map literal_text literals))
+numbered_by literals lists zero s h e = absurd (cc e)
+numbered_by literals lists (suc n) s h e = by_found (slice_get literals n) refl e
+  where
+    by_found : (found : Option Literal) → slice_get literals n ≡ found → option_map (λ l. l.serial) found ≡ Some s → (s < length lists) × (get_or lists s [] ≡ take (suc n) (map literal_text literals))
+    by_found None p u = absurd (cc u)
+    by_found (Some l) p u =
+        let same : l.serial ≡ s = some_number l.serial s u in
+        subst (λ (x : ℕ). (x < length lists) × (get_or lists x [] ≡ take (suc n) (map literal_text literals))) same (h n l p)
+
+literal_at_place : (literals : List Literal) (i : ℕ) → i < length literals → (l : Literal) × (slice_get literals i ≡ Some l)
+literal_at_place [] i lt = absurd (omega (arith, lt))
+literal_at_place (x ∷ xs) zero lt = (x, refl)
+literal_at_place (x ∷ xs) (suc i) lt = literal_at_place xs i (omega (arith, lt))
+
+-- the number of the newest of all stands for all
+pub all_by_newest : (literals : List Literal) (lists : List (List LiteralText)) (n : ℕ) → AreNumbered literals lists → n ≡ length literals → literals_of lists (newest_of literals n) ≡ map literal_text literals
+all_by_newest [] lists zero h e = refl
+all_by_newest (x ∷ xs) lists zero h e = absurd (omega (arith, e))
+all_by_newest literals lists (suc n) h e =
+    let there = literal_at_place literals n (omega (arith, e)) in
+    ap (λ (found : Option Literal). literals_of lists (option_map (λ l. l.serial) found)) there.1
+    ∙ (h n there.0 there.1).1
+    ∙ take_all (suc n) (map literal_text literals) (omega (arith, e, length-map literals literal_text))
+
+pub all_below : (literals : List Literal) (lists : List (List LiteralText)) (n : ℕ) (below : Option ℕ) → AreNumbered literals lists → below ≡ newest_of literals n → n ≡ length literals → literals_of lists below ≡ map literal_text literals
+all_below literals lists n below h e all = ap (literals_of lists) e ∙ all_by_newest literals lists n h all
+
 -- ---- what stays known where literals are declared and go
 
 -- a run that is set in the place of another
-pub known_set : (literals : List Literal) (declared : ℕ) (runs : List KnownRun) (i : ℕ) (k : KnownRun) → All (IsKnown literals declared) runs → k.serial < declared → IsQuietRun (map literal_text literals) k.run
-    → All (IsKnown literals declared) (set runs i k)
-known_set literals declared runs i k h lt quiet = All-set (IsKnown literals declared) runs i k (λ _. (lt, λ _. quiet)) h
+pub known_set : (lists : List (List LiteralText)) (runs : List KnownRun) (i : ℕ) (k : KnownRun) → All (IsKnown lists) runs → k.serial < length lists → IsQuietRun (get_or lists k.serial []) k.run
+    → All (IsKnown lists) (set runs i k)
+known_set lists runs i k h lt quiet = All-set (IsKnown lists) runs i k (λ _. (lt, quiet)) h
+
+-- a run among the literals that are there, and among those that a number stands for
+pub known_by : (literals : List Literal) (lists : List (List LiteralText)) (r : QuietRun) (s : ℕ) → AreNumbered literals lists → newest_of literals r.quiet.rests_on ≡ Some s → IsQuietRun (map literal_text literals) r
+    → (s < length lists) × IsQuietRun (get_or lists s []) r
+known_by literals lists r s h e quiet =
+    let n : ℕ = r.quiet.rests_on in
+    let by = numbered_by literals lists n s h e in
+    let firsts : take n (get_or lists s []) ≡ take n (map literal_text literals) = ap (take n) by.1 ∙ take_fewer n n (map literal_text literals) (omega arith) in
+    (by.0, run_same (get_or lists s []) (map literal_text literals) r firsts quiet)
+
+pub quiet_still : (literals : List Literal) (lists : List (List LiteralText)) (k : KnownRun) → AreNumbered literals lists → IsKnown lists k → newest_of literals k.run.quiet.rests_on ≡ Some k.serial → k.run.from < k.run.to
+    → IsQuietRun (map literal_text literals) k.run
+quiet_still literals lists k h known e some =
+    let n : ℕ = k.run.quiet.rests_on in
+    let by = numbered_by literals lists n k.serial h e in
+    let firsts : take n (map literal_text literals) ≡ take n (get_or lists k.serial []) = sym (ap (take n) by.1 ∙ take_fewer n n (map literal_text literals) (omega arith)) in
+    run_same (map literal_text literals) (get_or lists k.serial []) k.run firsts (known some).1
 
 abbrev pub unknown : KnownRun
 unknown = record { run = record { literal = 0; since = 0; from = 0; to = 0; quiet = record { depth = 0; rests_on = 0 } }; serial = 0 }
 
 -- one more place, of which nothing is known
-pub known_more : (literals : List Literal) (declared : ℕ) (runs : List KnownRun) (k : KnownRun) → k.run.from ≡ k.run.to → All (λ k. IsKnown literals declared k) runs → All (λ k. IsKnown literals declared k) (runs ++ k ∷ [])
-known_more literals declared runs k none h = All-push (IsKnown literals declared) runs k h (λ some. absurd (omega (arith, none, some)))
+pub known_more : (lists : List (List LiteralText)) (runs : List KnownRun) (k : KnownRun) → k.run.from ≡ k.run.to → All (λ k. IsKnown lists k) runs → All (λ k. IsKnown lists k) (runs ++ k ∷ [])
+known_more lists runs k none h = All-push (IsKnown lists) runs k h (λ some. absurd (omega (arith, none, some)))
 
 -- after a push, which may have failed
-pub known_pushed : (b : Bool) (literals : List Literal) (declared : ℕ) (runs : List KnownRun) (k : KnownRun) → k.run.from ≡ k.run.to → All (λ k. IsKnown literals declared k) runs
-    → All (λ k. IsKnown literals declared k) (if b then runs ++ k ∷ [] else runs)
-known_pushed false literals declared runs k none h = h
-known_pushed true literals declared runs k none h = known_more literals declared runs k none h
+pub known_pushed : (b : Bool) (lists : List (List LiteralText)) (runs : List KnownRun) (k : KnownRun) → k.run.from ≡ k.run.to → All (λ k. IsKnown lists k) runs
+    → All (λ k. IsKnown lists k) (if b then runs ++ k ∷ [] else runs)
+known_pushed false lists runs k none h = h
+known_pushed true lists runs k none h = known_more lists runs k none h
 
-newest_grown : (literals : List Literal) (l : Literal) (n s : ℕ) → s < l.serial → option_map (λ l. l.serial) (slice_get (literals ++ l ∷ []) n) ≡ Some s
-    → (option_map (λ l. l.serial) (slice_get literals n) ≡ Some s) × (n < length literals)
-newest_grown [] l zero s lt e = let same : l.serial ≡ s = some_number l.serial s e in absurd (omega (arith, lt, same))
-newest_grown [] l (suc n) s lt e = absurd (cc e)
-newest_grown (x ∷ xs) l zero s lt e = (e, omega arith)
-newest_grown (x ∷ xs) l (suc n) s lt e = let behind = newest_grown xs l n s lt e in (behind.0, omega (arith, behind.1))
-
-known_beside : (literals : List Literal) (l : Literal) (declared more : ℕ) (k : KnownRun) → l.serial ≡ declared → declared ≤ more → IsKnown literals declared k → IsKnown (literals ++ l ∷ []) more k
-known_beside literals l declared more k new le h some =
-    let old : k.serial < declared = (h some).0 in (
-      omega (arith, old, le),
-      by_count k.run.quiet.rests_on refl,
+-- once one more declaration has a number
+pub known_numbered : (lists more : List (List LiteralText)) (runs : List KnownRun) → All (λ k. IsKnown lists k) runs → All (λ k. IsKnown (lists ++ more) k) runs
+known_numbered lists more runs h i d lt some =
+    let old = h i d lt some in (
+      omega (arith, old.0, length-append lists more),
+      subst (λ (ls : List LiteralText). IsQuietRun ls (get_or runs i d).run) (sym (get_or_append_left lists more [] (get_or runs i d).serial old.0)) old.1,
     )
+
+pub numbered_more : (literals : List Literal) (lists more : List (List LiteralText)) → AreNumbered literals lists → AreNumbered literals (lists ++ more)
+numbered_more literals lists more h i l e =
+    let old = h i l e in (
+      omega (arith, old.0, length-append lists more),
+      get_or_append_left lists more [] l.serial old.0 ∙ old.1,
+    )
+
+pub numbered_grown : (literals : List Literal) (ds : List Declaration) (d : Declaration) → AreNumbered literals (lists_of ds) → AreNumbered literals (lists_of (ds ++ d ∷ []))
+numbered_grown literals ds d h = subst (AreNumbered literals) (sym (one_more ds d)) (numbered_more literals (lists_of ds) ((literals_of (lists_of ds) d.below ++ declared_text d ∷ []) ∷ []) h)
+
+pub known_grown : (ds : List Declaration) (d : Declaration) (runs : List KnownRun) → All (λ k. IsKnown (lists_of ds) k) runs → All (λ k. IsKnown (lists_of (ds ++ d ∷ [])) k) runs
+known_grown ds d runs h =
+    subst (λ (lists : List (List LiteralText)). All (λ k. IsKnown lists k) runs) (sym (one_more ds d)) (known_numbered (lists_of ds) ((literals_of (lists_of ds) d.below ++ declared_text d ∷ []) ∷ []) runs h)
+
+-- after a push, which may have failed
+pub numbered_grown_so : (b : Bool) (literals : List Literal) (ds : List Declaration) (d : Declaration) → AreNumbered literals (lists_of ds) → AreNumbered literals (lists_of (if b then ds ++ d ∷ [] else ds))
+numbered_grown_so false literals ds d h = h
+numbered_grown_so true literals ds d h = numbered_grown literals ds d h
+
+pub known_grown_so : (b : Bool) (ds : List Declaration) (d : Declaration) (runs : List KnownRun) → All (λ k. IsKnown (lists_of ds) k) runs → All (λ k. IsKnown (lists_of (if b then ds ++ d ∷ [] else ds)) k) runs
+known_grown_so false ds d runs h = h
+known_grown_so true ds d runs h = known_grown ds d runs h
+
+got_pushed : (xs : List Literal) (y : Literal) (i : ℕ) (x : Literal) → slice_get (xs ++ y ∷ []) i ≡ Some x → ((slice_get xs i ≡ Some x) × (i < length xs)) ⊎ ((i ≡ length xs) × (y ≡ x))
+got_pushed [] y zero x e = inr (refl, cc e)
+got_pushed [] y (suc i) x e = absurd (cc e)
+got_pushed (z ∷ zs) y zero x e = inl (e, omega arith)
+got_pushed (z ∷ zs) y (suc i) x e = by_case (got_pushed zs y i x e)
   where
-    by_count : (n : ℕ) → k.run.quiet.rests_on ≡ n → newest_of (literals ++ l ∷ []) n ≡ Some k.serial → IsQuietRun (map literal_text (literals ++ l ∷ [])) k.run
-    by_count zero e there = absurd (cc there)
-    by_count (suc n) e there =
-        let found = newest_grown literals l n k.serial (omega (arith, (h some).0, new)) there in
-        let within : suc n ≤ length (map literal_text literals) = omega (arith, found.1, length-map literals literal_text) in
-        let firsts : take k.run.quiet.rests_on (map literal_text (literals ++ l ∷ [])) ≡ take k.run.quiet.rests_on (map literal_text literals)
-        = ap (λ (c : ℕ). take c (map literal_text (literals ++ l ∷ []))) e
-        ∙ ap (take (suc n)) (map-append literal_text literals (l ∷ []))
-        ∙ take-append-le (suc n) (map literal_text literals) (literal_text l ∷ []) within
-        ∙ ap (λ (c : ℕ). take c (map literal_text literals)) (sym e) in
-        run_same (map literal_text (literals ++ l ∷ [])) (map literal_text literals) k.run firsts ((h some).1 (ap (newest_of literals) e ∙ found.0))
+    by_case : ((slice_get zs i ≡ Some x) × (i < length zs)) ⊎ ((i ≡ length zs) × (y ≡ x)) → ((slice_get zs i ≡ Some x) × (suc i < length (z ∷ zs))) ⊎ ((suc i ≡ length (z ∷ zs)) × (y ≡ x))
+    by_case (inl h) = inl (h.0, omega (arith, h.1))
+    by_case (inr h) = inr (omega (arith, h.0), h.1)
 
 -- once a literal is declared
-pub known_declared : (literals : List Literal) (l : Literal) (declared more : ℕ) (runs : List KnownRun) → l.serial ≡ declared → declared ≤ more → All (IsKnown literals declared) runs → All (IsKnown (literals ++ l ∷ []) more) runs
-known_declared literals l declared more runs new le h = λ i d lt. known_beside literals l declared more (get_or runs i d) new le (h i d lt)
-
-pub known_declared_so : (b : Bool) (literals : List Literal) (l : Literal) (runs : List KnownRun) → All (λ k. IsKnown literals l.serial k) runs
-    → All (λ k. IsKnown (if b then literals ++ l ∷ [] else literals) l.serial k) runs
-known_declared_so false literals l runs h = h
-known_declared_so true literals l runs h = known_declared literals l l.serial l.serial runs refl (omega arith) h
-
-known_among : (literals : List Literal) (n declared : ℕ) (k : KnownRun) → IsKnown literals declared k → IsKnown (take n literals) declared k
-known_among literals n declared k h some = ((h some).0, by_count k.run.quiet.rests_on refl)
+pub numbered_pushed : (literals : List Literal) (lists : List (List LiteralText)) (l : Literal) → l.serial < length lists → get_or lists l.serial [] ≡ map literal_text literals ++ literal_text l ∷ [] → AreNumbered literals lists
+    → AreNumbered (literals ++ l ∷ []) lists
+numbered_pushed literals lists l lt is h i x e = by_case (got_pushed literals l i x e)
   where
-    by_count : (c : ℕ) → k.run.quiet.rests_on ≡ c → newest_of (take n literals) c ≡ Some k.serial → IsQuietRun (map literal_text (take n literals)) k.run
-    by_count zero e there = absurd (cc there)
-    by_count (suc c) e there = by_found (slice_get (take n literals) c) refl there
-      where
-        by_found : (found : Option Literal) → slice_get (take n literals) c ≡ found → option_map (λ l. l.serial) found ≡ Some k.serial → IsQuietRun (map literal_text (take n literals)) k.run
-        by_found None p u = absurd (cc u)
-        by_found (Some l) p u =
-            let within : k.run.quiet.rests_on ≤ n = omega (arith, e, first_index literals n c l p) in
-            let whole : slice_get literals c ≡ Some l = first_there literals n c l p in
-            let firsts : take k.run.quiet.rests_on (map literal_text (take n literals)) ≡ take k.run.quiet.rests_on (map literal_text literals)
-            = ap (take k.run.quiet.rests_on) (sym (take-map literal_text n literals)) ∙ take_fewer k.run.quiet.rests_on n (map literal_text literals) within in
-            run_same (map literal_text (take n literals)) (map literal_text literals) k.run firsts ((h some).1 (ap (newest_of literals) e ∙ ap (option_map (λ l. l.serial)) whole ∙ u))
+    whole : map literal_text (literals ++ l ∷ []) ≡ map literal_text literals ++ literal_text l ∷ []
+    whole = map-append literal_text literals (l ∷ [])
 
--- once literals and what is known of them go
-pub known_closed : (literals : List Literal) (n m declared : ℕ) (runs : List KnownRun) → All (IsKnown literals declared) runs → All (IsKnown (take n literals) declared) (take m runs)
-known_closed literals n m declared runs h = All-take (IsKnown (take n literals) declared) m runs (λ i d lt. known_among literals n declared (get_or runs i d) (h i d lt))
+    by_case : ((slice_get literals i ≡ Some x) × (i < length literals)) ⊎ ((i ≡ length literals) × (l ≡ x)) → (x.serial < length lists) × (get_or lists x.serial [] ≡ take (suc i) (map literal_text (literals ++ l ∷ [])))
+    by_case (inl k) =
+        let old = h i x k.0 in
+        let firsts : take (suc i) (map literal_text (literals ++ l ∷ [])) ≡ take (suc i) (map literal_text literals)
+        = ap (take (suc i)) whole ∙ take-append-le (suc i) (map literal_text literals) (literal_text l ∷ []) (omega (arith, k.1, length-map literals literal_text)) in
+        (old.0, old.1 ∙ sym firsts)
+    by_case (inr k) =
+        let all : take (suc i) (map literal_text (literals ++ l ∷ [])) ≡ map literal_text (literals ++ l ∷ [])
+        = take_all (suc i) (map literal_text (literals ++ l ∷ [])) (omega (arith, k.0, length-map (literals ++ l ∷ []) literal_text, length-append literals (l ∷ []))) in
+        subst (λ (y : Literal). (y.serial < length lists) × (get_or lists y.serial [] ≡ take (suc i) (map literal_text (literals ++ l ∷ [])))) k.1
+        (lt, is ∙ sym whole ∙ sym all)
+
+pub numbered_so : (b : Bool) (literals : List Literal) (lists : List (List LiteralText)) (l : Literal) → l.serial < length lists → get_or lists l.serial [] ≡ map literal_text literals ++ literal_text l ∷ [] → AreNumbered literals lists
+    → AreNumbered (if b then literals ++ l ∷ [] else literals) lists
+numbered_so false literals lists l lt is h = h
+numbered_so true literals lists l lt is h = numbered_pushed literals lists l lt is h
+
+-- once the newest literals are gone
+pub numbered_fewer : (n : ℕ) (literals : List Literal) (lists : List (List LiteralText)) → AreNumbered literals lists → AreNumbered (take n literals) lists
+numbered_fewer n literals lists h i l e =
+    let old = h i l (first_there literals n i l e) in
+    let within : suc i ≤ n = omega (arith, first_index literals n i l e) in (
+      old.0,
+      old.1 ∙ sym (ap (take (suc i)) (sym (take-map literal_text n literals)) ∙ take_fewer (suc i) n (map literal_text literals) within),
+    )
+
+-- ---- texts that have the same tokens
+
+drop_next : (xs : List NamedToken) (at : ℕ) (x : NamedToken) → at < length xs → x ≡ get_or xs at x → map named_symbol (drop at xs) ≡ named_symbol x ∷ map named_symbol (drop (at + 1) xs)
+drop_next xs at x lt is =
+    let next : suc at ≡ at + 1 = omega arith in
+    ap (map named_symbol) (drop-cons xs at x lt)
+    ∙ ap (λ (n : ℕ). named_symbol (get_or xs at x) ∷ map named_symbol (drop n xs)) next
+    ∙ ap (λ (t : NamedToken). named_symbol t ∷ map named_symbol (drop (at + 1) xs)) (sym is)
+
+pub same_on : (xs ys : List NamedToken) (at : ℕ) (x y : NamedToken) → at < length xs → at < length ys → x ≡ get_or xs at x → y ≡ get_or ys at y → named_symbol x ≡ named_symbol y
+    → map named_symbol (drop (at + 1) xs) ≡ map named_symbol (drop (at + 1) ys) → map named_symbol (drop at xs) ≡ map named_symbol (drop at ys)
+same_on xs ys at x y lt lt' is is' same rest =
+    drop_next xs at x lt is
+    ∙ ap (λ (s : Symbol). s ∷ map named_symbol (drop (at + 1) xs)) same
+    ∙ ap (λ (ss : List Symbol). named_symbol y ∷ ss) rest
+    ∙ sym (drop_next ys at y lt' is')
+
+pub same_over : (xs ys : List NamedToken) (at : ℕ) → length xs ≤ at → length ys ≤ at → map named_symbol (drop at xs) ≡ map named_symbol (drop at ys)
+same_over xs ys at le le' = ap (map named_symbol) (drop_all at xs le ∙ sym (drop_all at ys le'))

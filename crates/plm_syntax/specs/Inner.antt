@@ -9,5 +9,6 @@ pub mod Blocks
 pub mod Name
 pub mod NamedToken
 pub mod OpenBlocks
+pub mod Numbered
 pub mod Literals
 pub mod Answer

@@ -1,11 +1,11 @@
 //! The open blocks, their literals, and what is known of the literals' texts as long as these are there.
 
-ghost use Rattle.std.specs.Prelude.{◌≡◌, ℕ, ◌+◌, ◌<◌, ◌≤◌, List, true, length, map, OnOk, IfErr, IfSome};
+ghost use Rattle.std.specs.Prelude.{◌≡◌, ◌+◌, ◌<◌, ◌≤◌, List, [], ◌∷◌, ◌++◌, true, length, map, get_or, OnOk, IfOk, IfErr, IfSome};
 ghost use Rattle.std.specs.List.{All};
 ghost use Rattle.word86.specs.declared.fault.Fault.TheVariants.{Memory};
-ghost use Rattle.plm_syntax.specs.declared.open_blocks.Literal.{Literal};
-ghost use Rattle.plm_syntax.specs.Literals.{opens, is_keyword, is_semicolon, is_identifier};
-ghost use Rattle.plm_syntax.specs.Inner.OpenBlocks.{literal_text, both_quiet, named_quiet, quiet_with, named_symbol, IsSameName, place_in, ArePlaced, IsKnown};
+ghost use Rattle.plm_syntax.specs.Literals.{LiteralText, opens, is_keyword, is_semicolon, is_identifier};
+ghost use Rattle.plm_syntax.specs.Inner.OpenBlocks.{literal_text, both_quiet, named_quiet, quiet_with, named_symbol, IsSameName, place_in, ArePlaced, lists_of, AreNumbered, IsKnown};
+ghost use Rattle.plm_syntax.specs.Inner.Numbered.{AreNumbered-prop};
 
 use crate::named_token::{LiteralTokens, NamedToken};
 use plm_token::{Keyword, Kind, Mark};
@@ -13,13 +13,22 @@ use std::alloc::Global;
 use std::collections::HashMap;
 use word86::Fault;
 
-/// A literal of an open block, its number among all that were declared, and where what is known of its tokens begins.
+/// A literal of an open block, the number of its declaration, and where what is known of its tokens begins.
 #[derive(Clone, Copy)]
 pub struct Literal<'t, 'a> {
     pub name: &'t NamedToken<'a>,
     pub text: &'t LiteralTokens<'a>,
     pub serial: usize,
     pub first_run: usize,
+}
+
+/// A literal, as it was declared: its name, its text, and the number of the newest literal there was, if any. So the number of a declaration stands
+/// for all literals up to and with its own, and a literal that is declared on the same literals as it was before has the same number again.
+#[derive(Clone, Copy)]
+pub struct Declaration<'t, 'a> {
+    pub name: &'t NamedToken<'a>,
+    pub text: &'t LiteralTokens<'a>,
+    pub below: Option<usize>,
 }
 
 /// What tokens of a literal's text that put nothing out need: how many replacements may be made one inside the other, and how many of the
@@ -41,7 +50,8 @@ pub struct QuietRun {
     pub quiet: Quiet,
 }
 
-/// A run, and the number, among all literals that were declared, of the newest that it rests on: where another has its place, the run is known no more.
+/// A run, and the number of the newest literal that it rests on: where one of another number has its place, the run is not known.
+/// It is known again once a literal of that number is back.
 #[derive(Clone, Copy)]
 pub struct KnownRun {
     pub run: QuietRun,
@@ -49,7 +59,9 @@ pub struct KnownRun {
 }
 
 /// The open blocks: their literals, the oldest first, and how many there were when each block began, the innermost last. Beside them what is
-/// known of the literals' texts, and how many literals were declared so far.
+/// known of the literals' texts, the declarations so far, each by its number, and the number of the latest at each place among the literals.
+///
+/// `latest` is a guess that its declaration confirms: so it may say anything.
 ///
 /// `places` has the place of the first literal of each name. What it says of a name whose literal went is void, so that a block's end need not touch it.
 ///
@@ -61,9 +73,11 @@ pub struct OpenBlocks<'t, 'a> {
     pub places: HashMap<&'t [u8], usize>,
     pub starts: Vec<usize>,
     pub runs: Vec<KnownRun>,
-    pub declared: usize,
+    pub declarations: Vec<Declaration<'t, 'a>>,
+    pub latest: Vec<usize>,
     ghost placed: { ArePlaced literals.items (place_in places) },
-    ghost known: { All (λ k. IsKnown literals.items declared k) runs.items },
+    ghost numbered: { AreNumbered literals.items (lists_of declarations.items) } by { AreNumbered-prop literals.items (lists_of declarations.items) },
+    ghost known: { All (λ k. IsKnown (lists_of declarations.items) k) runs.items },
 }
 
 /// What is known of a run before anything is.
@@ -121,7 +135,7 @@ impl Quiet {
 
 /// Places for what will be known of a text: two for each token.
 fn add_runs(runs: &mut Vec<KnownRun>, text: &[NamedToken<'_>]) -> Result<(), Fault>
-    ensures known { (literals : List Literal) (declared : ℕ) → All (λ k. IsKnown literals declared k) runs.old.items → All (λ k. IsKnown literals declared k) runs.new.items }
+    ensures known { (lists : List (List LiteralText)) → All (λ k. IsKnown lists k) runs.old.items → All (λ k. IsKnown lists k) runs.new.items }
     ensures err { IfErr result (λ f. f ≡ Memory) }
 {
     runs.reserve(text.len().saturating_mul(2))?;
@@ -129,6 +143,35 @@ fn add_runs(runs: &mut Vec<KnownRun>, text: &[NamedToken<'_>]) -> Result<(), Fau
         runs.push(UNKNOWN)?;
         runs.push(UNKNOWN)?;
     }
+    Ok(())
+}
+
+/// Whether a declaration, if there is one, was made before another.
+fn is_older(below: Option<usize>, serial: usize) -> bool
+    ensures { result ≡ true → IfSome below (λ n. n < serial) }
+{
+    match below {
+        None => true,
+        Some(below) => below < serial,
+    }
+}
+
+/// Whether two numbers, if there are any, are one.
+fn is_below(found: Option<usize>, below: Option<usize>) -> bool
+    ensures { result ≡ true → found ≡ below }
+{
+    found == below
+}
+
+/// Remembers the number of the latest declaration at a place.
+fn set_latest(latest: &mut Vec<usize>, place: usize, serial: usize) -> Result<(), Fault>
+    ensures err { IfErr result (λ f. f ≡ Memory) }
+{
+    if let Some(found) = latest.get_mut(place) {
+        *found = serial;
+        return Ok(());
+    }
+    latest.push(serial)?;
     Ok(())
 }
 
@@ -153,6 +196,30 @@ fn has_same_name(a: &NamedToken<'_>, b: &NamedToken<'_>) -> bool
         && a.name.letters() == b.name.letters()
 }
 
+/// Whether two tokens are the same, whatever lines they stand on.
+fn is_same(a: &NamedToken<'_>, b: &NamedToken<'_>) -> bool
+    ensures { result ≡ true → named_symbol a.now ≡ named_symbol b.now }
+{
+    a.token.kind == b.token.kind && a.token.text == b.token.text
+}
+
+/// Whether two texts have the same tokens.
+fn are_same(a: &[NamedToken<'_>], b: &[NamedToken<'_>]) -> bool
+    ensures { result ≡ true → map named_symbol a.now ≡ map named_symbol b.now }
+{
+    if a.len() != b.len() {
+        return false;
+    }
+    let mut at = 0;
+    while at < a.len() {
+        if !is_same(&a[at], &b[at]) {
+            return false;
+        }
+        at += 1;
+    }
+    true
+}
+
 pub(crate) fn is_identifier(kind: Kind) -> bool
     ensures { result ≡ is_identifier kind }
 {
@@ -161,7 +228,7 @@ pub(crate) fn is_identifier(kind: Kind) -> bool
 
 impl<'t, 'a> OpenBlocks<'t, 'a> {
     ghost use Rattle.plm_syntax.specs.Literals.{no_blocks, opened, closed, blocks_behind, with_literal, literal_for};
-    ghost use Rattle.plm_syntax.specs.Inner.OpenBlocks.{literal_at, first_named, WillBePlaced, IsQuietRun, newest_of};
+    ghost use Rattle.plm_syntax.specs.Inner.OpenBlocks.{literal_at, first_named, WillBePlaced, IsQuietRun, newest_of, literals_of};
     ghost use Rattle.plm_syntax.specs.Inner.Literals.{blocks_of};
 
     /// No block, and no literal.
@@ -173,7 +240,8 @@ impl<'t, 'a> OpenBlocks<'t, 'a> {
             places: HashMap::new(alloc),
             starts: Vec::new(alloc),
             runs: Vec::new(alloc),
-            declared: 0,
+            declarations: Vec::new(alloc),
+            latest: Vec::new(alloc),
         }
     }
 
@@ -226,10 +294,10 @@ impl<'t, 'a> OpenBlocks<'t, 'a> {
     /// Makes the place of a literal known that is to be declared next, unless another has its name.
     fn enter(&mut self, name: &'t [u8]) -> Result<(), Fault>
         ensures entered { OnOk result (WillBePlaced name.now self.new.literals.items (place_in self.new.places)) }
-        ensures literals { self.new.literals ≡ self.old.literals }
+        ensures literals { self.new.literals.items ≡ self.old.literals.items }
         ensures others { self.new.starts ≡ self.old.starts }
         ensures runs { self.new.runs ≡ self.old.runs }
-        ensures declared { self.new.declared ≡ self.old.declared }
+        ensures declarations { self.new.declarations.items ≡ self.old.declarations.items }
         ensures err { IfErr result (λ f. f ≡ Memory) }
     {
         match self.named(name) {
@@ -250,17 +318,64 @@ impl<'t, 'a> OpenBlocks<'t, 'a> {
         ensures ok { OnOk result (blocks_of self.new ≡ with_literal (record { name = name.now.token.text.now; text = map named_symbol text.now.tokens.items }) (blocks_of self.old)) }
         ensures err { IfErr result (λ f. f ≡ Memory) }
     {
+        let serial = self.number(name, text)?;
         self.enter(name.name.letters())?;
         let literal = Literal {
             name,
             text,
-            serial: self.declared,
+            serial,
             first_run: self.runs.len(),
         };
         add_runs(&mut self.runs, text.tokens.as_slice())?;
         self.literals.push(literal)?;
-        self.declared = self.declared.saturating_add(1);
         Ok(())
+    }
+
+    /// The number of a declaration: that of the latest at its place, if that was the same on the same literals, or else a new one.
+    fn number(
+        &mut self,
+        name: &'t NamedToken<'a>,
+        text: &'t LiteralTokens<'a>,
+    ) -> Result<usize, Fault>
+        ensures within { IfOk result (λ n. n < length (lists_of self.new.declarations.items)) }
+        ensures ok { IfOk result (λ n. get_or (lists_of self.new.declarations.items) n [] ≡ map literal_text self.old.literals.items ++ record { name = name.now.token.text.now; text = map named_symbol text.now.tokens.items } ∷ []) }
+        ensures literals { self.new.literals.items ≡ self.old.literals.items }
+        ensures starts { self.new.starts ≡ self.old.starts }
+        ensures err { IfErr result (λ f. f ≡ Memory) }
+    {
+        let place = self.literals.len();
+        let below = self.newest(place);
+        if let Some(serial) = self.same_before(place, below, name, text) {
+            return Ok(serial);
+        }
+        let serial = self.declarations.len();
+        self.declarations.push(Declaration { name, text, below })?;
+        set_latest(&mut self.latest, place, serial)?;
+        Ok(serial)
+    }
+
+    /// The number of the latest declaration at a place, if it was the same on the same literals.
+    fn same_before(
+        &self,
+        place: usize,
+        below: Option<usize>,
+        name: &NamedToken<'a>,
+        text: &LiteralTokens<'a>,
+    ) -> Option<usize>
+        ensures within { IfSome result (λ n. n < length (lists_of self.now.declarations.items)) }
+        ensures same { IfSome result (λ n. get_or (lists_of self.now.declarations.items) n [] ≡ literals_of (lists_of self.now.declarations.items) below ++ record { name = name.now.token.text.now; text = map named_symbol text.now.tokens.items } ∷ []) }
+    {
+        let serial = *self.latest.get(place)?;
+        let earlier = self.declarations.get(serial)?;
+        if is_older(below, serial)
+            && is_below(earlier.below, below)
+            && is_same(earlier.name, name)
+            && are_same(earlier.text.tokens.as_slice(), text.tokens.as_slice())
+        {
+            Some(serial)
+        } else {
+            None
+        }
     }
 
     /// Where what is known of tokens of a literal stands, if there is a place for it.
@@ -269,7 +384,7 @@ impl<'t, 'a> OpenBlocks<'t, 'a> {
         first.checked_add(from)?.checked_add(to)?.checked_sub(1)
     }
 
-    /// The number, among all that were declared, of the newest of so many literals.
+    /// The number of the newest of so many literals.
     fn newest(&self, count: usize) -> Option<usize>
         ensures { result ≡ newest_of self.now.literals.items count }
     {
@@ -390,10 +505,8 @@ impl<'t, 'a> OpenBlocks<'t, 'a> {
             self.place(run.literal, run.from, run.to),
             self.newest(run.quiet.rests_on),
         ) {
-            if serial < self.declared {
-                if let Some(known) = self.runs.get_mut(place) {
-                    *known = KnownRun { run, serial };
-                }
+            if let Some(known) = self.runs.get_mut(place) {
+                *known = KnownRun { run, serial };
             }
         }
     }

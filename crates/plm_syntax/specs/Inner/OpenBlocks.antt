@@ -1,11 +1,12 @@
 -- Tokens of literals that put nothing out, which are remembered so that each is read once.
-use Rattle.std.specs.Prelude.{◌≡◌, ℕ, zero, suc, ◌+◌, ◌<◌, ◌≤◌, List, [], ◌∷◌, ◌++◌, length, map, take, max, Bool, true, false, cond, bytes_eq, Option, Some, None}
+use Rattle.std.specs.Prelude.{◌≡◌, ℕ, zero, suc, ◌+◌, ◌<◌, ◌≤◌, List, [], ◌∷◌, ◌++◌, length, map, take, fold, get_or, max, Bool, true, false, cond, bytes_eq, Option, Some, None}
 use Rattle.std.specs.Option.{option_map}
 use Rattle.std.specs.List.{list_all, slice_get, slice_range}
 use Rattle.std.specs.HashMap.{HashMap, get_by}
 use denote.Ref.{Bor}
 use Rattle.plm_token.specs.Literals.{Symbol}
 use Rattle.plm_syntax.specs.declared.open_blocks.Literal.{Literal}
+use Rattle.plm_syntax.specs.declared.open_blocks.Declaration.{Declaration}
 use Rattle.plm_syntax.specs.declared.open_blocks.Quiet.{Quiet}
 use Rattle.plm_syntax.specs.declared.open_blocks.QuietRun.{QuietRun}
 use Rattle.plm_syntax.specs.declared.open_blocks.KnownRun.{KnownRun}
@@ -109,6 +110,24 @@ abbrev pub newest_of : List Literal → ℕ → Option ℕ
 newest_of literals zero = None
 newest_of literals (suc n) = option_map (λ l. l.serial) (slice_get literals n)
 
--- It is quiet as long as the newest of the literals that it rests on is there, which is one of those declared so far. (A run of no tokens says nothing.)
-abbrev pub IsKnown : List Literal → ℕ → KnownRun → Type 0
-IsKnown literals declared k = k.run.from < k.run.to → (k.serial < declared) × (newest_of literals k.run.quiet.rests_on ≡ Some k.serial → IsQuietRun (map literal_text literals) k.run)
+-- ---- what a declaration's number stands for
+
+-- the literals that there were once a declaration was made, if there was one
+abbrev pub literals_of : List (List LiteralText) → Option ℕ → List LiteralText
+literals_of lists None = []
+literals_of lists (Some serial) = get_or lists serial []
+
+abbrev pub declared_text : Declaration → LiteralText
+declared_text d = record { name = d.name.now.token.text.now; text = map named_symbol d.text.now.tokens.items }
+
+-- for each declaration the literals up to and with its own: those below it are those of the one that it names
+abbrev pub lists_of : List Declaration → List (List LiteralText)
+lists_of declarations = fold (λ lists d. lists ++ (literals_of lists d.below ++ declared_text d ∷ []) ∷ []) [] declarations
+
+-- a literal's number stands for the literals up to and with it
+abbrev pub AreNumbered : List Literal → List (List LiteralText) → Type 0
+AreNumbered literals lists = (i : ℕ) (l : Literal) → slice_get literals i ≡ Some l → (l.serial < length lists) × (get_or lists l.serial [] ≡ take (suc i) (map literal_text literals))
+
+-- The run is quiet among the literals that its number stands for. (A run of no tokens says nothing.)
+abbrev pub IsKnown : List (List LiteralText) → KnownRun → Type 0
+IsKnown lists k = k.run.from < k.run.to → (k.serial < length lists) × IsQuietRun (get_or lists k.serial []) k.run
