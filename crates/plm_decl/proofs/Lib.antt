@@ -14,6 +14,9 @@ pub mod Kept
 pub mod BlockNames
 pub mod Objects
 pub mod OwnNames
+pub mod OwnNumbers
+pub mod PlacedNames
+pub mod JoinedNames
 pub mod Places
 pub mod ByPlaces
 pub mod Once

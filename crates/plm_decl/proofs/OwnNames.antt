@@ -50,28 +50,46 @@ use Rattle.plm_decl.specs.Joins.{region_joined, entry_joined, joined, agree, ext
 use Rattle.plm_decl.specs.Modules.{AreNames}
 use Rattle.plm_decl.specs.OwnNames.{own_name, own_among, is_own, own_in_element, own_in_elements, own_in_block, own_in_items, own_in_item, own_in_statements, own_in_statement, own_in_basic, own_in_module, own_from, where_declared, marked, HaveObjects}
 use Rattle.plm_decl.proofs.Objects.{last_got, external_stays}
+use Rattle.plm_decl.proofs.OwnNumbers.{AreApart, AreNumbered, IsUnlinked, Grows, grown, variable_unlinked, procedure_unlinked, public_numbered, external_numbered}
 
 -- ---- what declares nothing
 
--- the same variables and EXTERNAL names, and not fewer objects
-record Still (k q : Known) : Type 0 where
-  same_module : q.module ≡ k.module
-  variables : q.variables ≡ k.variables
-  externals : q.externals ≡ k.externals
-  more : length k.objects ≤ length q.objects
+-- the same variables, EXTERNAL and PUBLIC names, and not fewer objects and procedures
+pub record Still (k q : Known) : Type 0 where
+  pub same_module : q.module ≡ k.module
+  pub variables : q.variables ≡ k.variables
+  pub externals : q.externals ≡ k.externals
+  pub publics : q.publics ≡ k.publics
+  pub more : length k.objects ≤ length q.objects
+  pub procedures : length k.procedures ≤ length q.procedures
 
 still : (k : Known) → Still k k
-still k = record { same_module = refl; variables = refl; externals = refl; more = omega arith }
+still k = record { same_module = refl; variables = refl; externals = refl; publics = refl; more = omega arith; procedures = omega arith }
 
 still_then : {k q r : Known} → Still k q → Still q r → Still k r
 still_then a b =
     let first = a.more in
     let second = b.more in
-    record { same_module = b.same_module ∙ a.same_module; variables = b.variables ∙ a.variables; externals = b.externals ∙ a.externals; more = omega (arith, first, second) }
+    let here = a.procedures in
+    let there = b.procedures in
+    record {
+      same_module = b.same_module ∙ a.same_module;
+      variables = b.variables ∙ a.variables;
+      externals = b.externals ∙ a.externals;
+      publics = b.publics ∙ a.publics;
+      more = omega (arith, first, second);
+      procedures = omega (arith, here, there);
+    }
 
 -- where no object is made either
-kept : {k q : Known} → q.module ≡ k.module → q.variables ≡ k.variables → q.externals ≡ k.externals → length q.objects ≡ length k.objects → Still k q
-kept m v e o = record { same_module = m; variables = v; externals = e; more = omega (arith, o) }
+kept : {k q : Known} → q.module ≡ k.module → q.variables ≡ k.variables → q.externals ≡ k.externals → q.publics ≡ k.publics → length q.objects ≡ length k.objects
+    → length q.procedures ≡ length k.procedures → Still k q
+kept m v e p o c = record { same_module = m; variables = v; externals = e; publics = p; more = omega (arith, o); procedures = omega (arith, c) }
+
+grows : {k q : Known} → Still k q → Grows k q
+grows {k} {q} a =
+    let same : length q.variables ≡ length k.variables = ap length a.variables in
+    record { variables = omega (arith, same); procedures = a.procedures; externals = a.externals; publics = a.publics }
 
 still_unless : (b : Bool) (k q : Known) → Still k q → Still k (cond b k q)
 still_unless true k q h = still k
@@ -82,10 +100,10 @@ either_still true k x y p q = p
 either_still false k x y p q = q
 
 note_still : (n : Number) (p : Position) (k : Known) → Still k (note n p k)
-note_still n p k = kept refl refl refl refl
+note_still n p k = kept refl refl refl refl refl refl
 
 note_whole_still : (f : Found) (k : Known) → Still k (note_whole f k)
-note_whole_still f k = kept refl refl refl refl
+note_whole_still f k = kept refl refl refl refl refl refl
 
 note_unless_still : (b : Bool) (n : Number) (p : Position) (k : Known) → Still k (note_unless b n p k)
 note_unless_still b n p k = still_unless b k (note n p k) (note_still n p k)
@@ -106,7 +124,7 @@ with_constants_still : (frames : List Frame) (bytes : List Datum) (k : Known) �
 with_constants_still frames bytes k =
     let o : ObjectR = record { path = constants_after (path_in frames) (counted (k.constants + 1)); size = length bytes; initial = bytes } in
     let longer = length-append k.objects (o ∷ []) in
-    record { same_module = refl; variables = refl; externals = refl; more = omega (arith, longer) }
+    record { same_module = refl; variables = refl; externals = refl; publics = refl; more = omega (arith, longer); procedures = omega arith }
 
 constants_still : (frames : List Frame) (p : Position) (vs : List ValueT) (k : Known) → Still k (constant_bytes frames p vs k).1
 constants_still frames p vs k = still_then (note_unless_still (are_constants vs) E305 p k) (with_constants_still frames (all_constant_data vs) (note_unless (are_constants vs) E305 p k))
@@ -161,14 +179,14 @@ members_still p (m ∷ ms) s k =
 form_still : (p : Position) (t : TypeT) (k : Known) → Still k (form_for p t k).1
 form_still p (ScalarType s) k = still k
 form_still p (StructureType ms) k =
-    let a = members_still p (member_list ms) no_fields k in record { same_module = a.same_module; variables = a.variables; externals = a.externals; more = a.more }
+    let a = members_still p (member_list ms) no_fields k in record { same_module = a.same_module; variables = a.variables; externals = a.externals; publics = a.publics; more = a.more; procedures = a.procedures }
 
 dimension_still : (p : Position) (count : ℕ) (d : DimensionT) (f : Form) (vs : List ValueT) (k : Known) → Still k (dimension_for p count d f vs k).1
 dimension_still p count no_dimension f vs k = still k
 dimension_still p count (dimension n) f vs k = number_still p (Some n) k
 dimension_still p count implicit_dimension f vs k = note_unless_still (nat_eq count 1 && is_dimension (elements_filled k f vs)) E305 p k
 
-shape_still : (p : Position) (count : ℕ) (d : DimensionT) (t : TypeT) (vs : List ValueT) (k : Known) → Still k (shape_for p count d t vs k).1
+pub shape_still : (p : Position) (count : ℕ) (d : DimensionT) (t : TypeT) (vs : List ValueT) (k : Known) → Still k (shape_for p count d t vs k).1
 shape_still p count d t vs k = let f = form_for p t k in still_then (form_still p t k) (dimension_still p count d f.0 vs f.1)
 
 -- ---- where names lie
@@ -176,9 +194,9 @@ shape_still p count d t vs k = let f = form_for p t k in still_then (form_still 
 location_site_still : (frames : List Frame) (l : LocationT) (k : Known) → Still k (location_site frames l k).1
 location_site_still frames (tree.ConstantsOf p f vs) k = still k
 location_site_still frames (tree.LocationOf p f x) k =
-    let a = reference_still frames x k in record { same_module = a.same_module; variables = a.variables; externals = a.externals; more = a.more }
+    let a = reference_still frames x k in record { same_module = a.same_module; variables = a.variables; externals = a.externals; publics = a.publics; more = a.more; procedures = a.procedures }
 
-at_still : (frames : List Frame) (a : AtT) (k : Known) → Still k (at_site frames a k).1
+pub at_still : (frames : List Frame) (a : AtT) (k : Known) → Still k (at_site frames a k).1
 at_still frames no_at k = still k
 at_still frames (at_number n) k = still k
 at_still frames (at_location l) k = location_site_still frames l k
@@ -191,14 +209,14 @@ base_still : (frames : List Frame) (n base : NameT) (attributed : Bool) (k : Kno
 base_still frames n base attributed k = let m = used frames base k in still_then (used_still frames base k) (note_unless_still _ E304 n.place m.1)
 
 object_still : (o : ObjectR) (k : Known) → Still k (record k { objects = k.objects ++ o ∷ [] })
-object_still o k = let longer = length-append k.objects (o ∷ []) in record { same_module = refl; variables = refl; externals = refl; more = omega (arith, longer) }
+object_still o k = let longer = length-append k.objects (o ∷ []) in record { same_module = refl; variables = refl; externals = refl; publics = refl; more = omega (arith, longer); procedures = omega arith }
 
 own_still : (b : Bool) (o : ObjectR) (k : Known) → Still k (cond {A = Region × Known} b (region.Nowhere, k) (region.Ram (length k.objects) 0, record k { objects = k.objects ++ o ∷ [] })).1
 own_still true o k = still k
 own_still false o k = object_still o k
 
 screen_name_still : (frames : List Frame) (name : List ℕ) (size offset : ℕ) (k : Known) → Still k (with_screen_name frames name size offset k)
-screen_name_still frames name size offset k = still_unless (is_external frames) k _ (kept refl refl refl refl)
+screen_name_still frames name size offset k = still_unless (is_external frames) k _ (kept refl refl refl refl refl refl)
 
 region_still : (frames : List Frame) (n : NameT) (name : List ℕ) (size : ℕ) (s : Site) (k : Known) → Still k (region_for frames n name size s k).1
 region_still frames n name size site.Own k = own_still (is_external frames) _ k
@@ -215,14 +233,10 @@ region_of_still frames n None t s k = region_still frames n (normal n.text) (siz
 declared_still : (n : NameT) (i : Item) (frames : List Frame) (k : Known) → Still k (declared n i frames k).1
 declared_still n i frames k = note_unless_still (is_fresh (normal n.text) frames) E302 n.place k
 
-public_still : (name : List ℕ) (i : Item) (o : Option Item) (k : Known) → Still k (with_public name i o k)
-public_still name i None k = kept refl refl refl refl
-public_still name i (Some first) k = note_whole_still _ k
-
 -- ---- initial values
 
 location_in_still : (frames : List Frame) (s : layout.ScalarType) (l : LocationT) (k : Known) → Still k (location_in frames s l k).1
-location_in_still frames s l k = let a = location_still frames l k in record { same_module = a.same_module; variables = a.variables; externals = a.externals; more = a.more }
+location_in_still frames s l k = let a = location_still frames l k in record { same_module = a.same_module; variables = a.variables; externals = a.externals; publics = a.publics; more = a.more; procedures = a.procedures }
 
 datum_still : (frames : List Frame) (s : layout.ScalarType) (v : ValueT) (k : Known) → Still k (datum_for frames s v k).1
 datum_still frames s (NumeralV n) k = still k
@@ -232,7 +246,7 @@ datum_still frames s (LocationV l) k = location_in_still frames s l k
 
 given_at_still : (object : ℕ) (d : Datum) (o : Option ObjectR) (k : Known) → Still k (given_at object d o k)
 given_at_still object d None k = still k
-given_at_still object d (Some o) k = kept refl refl refl (length-set k.objects object _)
+given_at_still object d (Some o) k = kept refl refl refl refl (length-set k.objects object _) refl
 
 given_in_still : (r : Region) (d : Datum) (k : Known) → Still k (given_in r d k)
 given_in_still (region.Ram o x) d k = given_at_still o d (slice_get k.objects o) k
@@ -289,7 +303,7 @@ filled_from_still : (frames : List Frame) (f : FillingR) (c : Cursor) (vs : List
 filled_from_still frames f c [] k = still k
 filled_from_still frames f c (v ∷ vs) k = let r = filled_with frames f c v k in still_then (filled_with_still frames f c v k) (filled_from_still frames f r.0 vs r.1)
 
-filled_still : (f : FillingR) (p : Position) (a : AttributesT) (frames : List Frame) (k : Known) → Still k (filled_element f p a frames k)
+pub filled_still : (f : FillingR) (p : Position) (a : AttributesT) (frames : List Frame) (k : Known) → Still k (filled_element f p a frames k)
 filled_still f p a frames k =
     either_still (is_placed a) k _ _ (note_unless_still (not (has_values a)) E305 p k) (filled_from_still frames f (record { name = 0; scalar = 0 }) (element_values a) k)
 
@@ -412,10 +426,11 @@ adds_then {xs} {ys} {k} {q} {r} a b =
           (both_free (before ++ a.marks ++ b.marks) a.further b.further (all_longer (before ++ a.marks) b.marks a.further (a.free before e)) (b.free (before ++ a.marks) longer));
     }
 
--- the same in one module
+-- the same in one module; each declaration gets a number of its own
 record Owns (ps : List Position) (k q : Known) : Type 0 where
   same_module : q.module ≡ k.module
   adds : Adds (places_in k.module ps) k q
+  numbered : AreNumbered k → AreNumbered q
 
 owns_then : {ps qs : List Position} {k q r : Known} → Owns ps k q → Owns qs q r → Owns (ps ++ qs) k r
 owns_then {ps} {qs} {k} {q} {r} a b = record {
@@ -423,6 +438,7 @@ owns_then {ps} {qs} {k} {q} {r} a b = record {
   adds = subst (λ (rows : List (ℕ × Position)). Adds rows k r)
       (ap (λ (m : ℕ). places_in k.module ps ++ places_in m qs) a.same_module ∙ sym (map-append (λ (p : Position). (k.module, p)) ps qs))
       (adds_then a.adds b.adds);
+  numbered = λ n. b.numbered (a.numbered n);
 }
 
 nothing_owned : {k q : Known} → Still k q → Owns [] k q
@@ -441,6 +457,7 @@ nothing_owned {k} a = record {
     externals = a.externals ∙ sym (append-nil k.externals);
     free = λ before e. tt;
   };
+  numbered = grown (grows a);
 }
 
 still_first : {ps : List Position} {k q r : Known} → Still k q → Owns ps q r → Owns ps k r
@@ -462,41 +479,61 @@ record Links (i : Item) (k q : Known) : Type 0 where
   further : List ExternalR
   externals : q.externals ≡ k.externals ++ further
   free : (marks : List Bool) → IsFree marks i → AreFree marks further
+  numbered : AreNumbered k → IsUnlinked i k → AreNumbered q
 
 links_none : (i : Item) (k : Known) → Links i k k
-links_none i k = record { same_module = refl; variables = refl; objects = refl; further = []; externals = sym (append-nil k.externals); free = λ marks h. tt }
-
-public_links : (name : List ℕ) (i : Item) (o : Option Item) (k : Known) → Links i k (with_public name i o k)
-public_links name i None k = record { same_module = refl; variables = refl; objects = refl; further = []; externals = sym (append-nil k.externals); free = λ marks h. tt }
-public_links name i (Some first) k = record { same_module = refl; variables = refl; objects = refl; further = []; externals = sym (append-nil k.externals); free = λ marks h. tt }
+links_none i k = record { same_module = refl; variables = refl; objects = refl; further = []; externals = sym (append-nil k.externals); free = λ marks h. tt; numbered = λ n u. n }
 
 links_unless : (b : Bool) (i : Item) (k q : Known) → Links i k q → Links i k (cond b k q)
 links_unless true i k q h = links_none i k
 links_unless false i k q h = h
 
+public_links : (name : List ℕ) (i : Item) (o : Option Item) (k : Known) → (AreNumbered k → IsUnlinked i k → AreNumbered (with_public name i o k)) → Links i k (with_public name i o k)
+public_links name i None k h = record { same_module = refl; variables = refl; objects = refl; further = []; externals = sym (append-nil k.externals); free = λ marks f. tt; numbered = h }
+public_links name i (Some first) k h = record { same_module = refl; variables = refl; objects = refl; further = []; externals = sym (append-nil k.externals); free = λ marks f. tt; numbered = h }
+
 linked_links : (frames : List Frame) (l : Linkage) (name : List ℕ) (i : Item) (k : Known) → Links i k (linked frames l name i k)
 linked_links frames linkage.None name i k = links_none i k
-linked_links frames linkage.Public name i k = links_unless (is_external frames) i k _ (public_links name i (found_in name k.publics) k)
+linked_links frames linkage.Public name i k = links_unless (is_external frames) i k _ (public_links name i (found_in name k.publics) k (public_numbered name i (found_in name k.publics) k))
 linked_links frames linkage.External name i k =
     let e : ExternalR = record { name = name; item = i } in
-    links_unless (is_external frames) i k _ (record { same_module = refl; variables = refl; objects = refl; further = e ∷ []; externals = refl; free = λ marks h. (h, tt) })
+    links_unless (is_external frames) i k _
+    (record { same_module = refl; variables = refl; objects = refl; further = e ∷ []; externals = refl; free = λ marks h. (h, tt); numbered = external_numbered name i k })
+
+either_externals : (b : Bool) (k x y : Known) → x.externals ≡ k.externals → y.externals ≡ k.externals → (cond b x y).externals ≡ k.externals
+either_externals true k x y f g = f
+either_externals false k x y f g = g
+
+public_externals : (name : List ℕ) (i : Item) (o : Option Item) (k : Known) → (with_public name i o k).externals ≡ k.externals
+public_externals name i None k = refl
+public_externals name i (Some first) k = refl
 
 abbrev IsNear : Linkage → Type 0
 IsNear linkage.None = Unit {0}
 IsNear linkage.Public = Unit {0}
 IsNear linkage.External = ⊥
 
-near_still : (frames : List Frame) (l : Linkage) (name : List ℕ) (i : Item) (k : Known) → IsNear l → Still k (linked frames l name i k)
-near_still frames linkage.None name i k h = still k
-near_still frames linkage.Public name i k h = still_unless (is_external frames) k _ (public_still name i (found_in name k.publics) k)
-near_still frames linkage.External name i k h = absurd h
+-- what is not EXTERNAL is not among the EXTERNAL names
+near_externals : (frames : List Frame) (l : Linkage) (name : List ℕ) (i : Item) (k : Known) → IsNear l → (linked frames l name i k).externals ≡ k.externals
+near_externals frames linkage.None name i k h = refl
+near_externals frames linkage.Public name i k h = either_externals (is_external frames) k k _ refl (public_externals name i (found_in name k.publics) k)
+near_externals frames linkage.External name i k h = absurd h
 
 -- ---- one name
 
+-- a variable more gets the next number
+variable_numbered : (v : Variable) (i : Item) (k q : Known) → i ≡ item.Variable (length k.variables) → q.variables ≡ k.variables ++ v ∷ [] → q.externals ≡ k.externals → q.publics ≡ k.publics
+    → length k.procedures ≤ length q.procedures → AreNumbered k → AreNumbered q × IsUnlinked i q
+variable_numbered v i k q is vs es ps not_fewer n =
+    let longer : length q.variables ≡ length (k.variables ++ v ∷ []) = ap length vs in
+    let one = length-append k.variables (v ∷ []) in
+    let g : Grows k q = record { variables = omega (arith, longer, one); procedures = not_fewer; externals = es; publics = ps } in
+    (grown g n, variable_unlinked i is (omega (arith, longer, one)) g n)
+
 -- a variable without mark, and an EXTERNAL name for it
 unmarked : (v : Variable) (i : Item) (k q r : Known) → i ≡ item.Variable (length k.variables) → q.module ≡ k.module → q.variables ≡ k.variables ++ v ∷ [] → q.externals ≡ k.externals
-    → length k.objects ≤ length q.objects → Links i q r → Owns [] k r
-unmarked v i k q r is m vs es more l = record {
+    → q.publics ≡ k.publics → length k.objects ≤ length q.objects → length k.procedures ≤ length q.procedures → Links i q r → Owns [] k r
+unmarked v i k q r is m vs es ps more not_fewer l = record {
   same_module = l.same_module ∙ m;
   adds = record {
     added = v ∷ [];
@@ -512,6 +549,7 @@ unmarked v i k q r is m vs es more l = record {
     free = λ before e. l.free (before ++ false ∷ [])
         (subst (λ (x : Item). IsFree (before ++ false ∷ []) x) (sym is) (subst (λ (n : ℕ). slice_get (before ++ false ∷ []) n ≡ Some false) e (last_got before false)));
   };
+  numbered = λ n. let u = variable_numbered v i k q is vs es ps not_fewer n in l.numbered u.0 u.1;
 }
 
 unplaced_too : {ps : List Position} (b : Bool) (n : ℕ) (k q : Known) → Owns ps k q → Owns ps k (with_unplaced b n q)
@@ -532,6 +570,7 @@ unplaced_too b n k q a =
         externals = x.externals;
         free = x.free;
       };
+      numbered = λ m. let u = a.numbered m in record { apart = u.apart; externals = u.externals; publics = u.publics };
     }
 
 left_out : (v : VariableT) (t : Traits) (s : Site) (frames : List Frame) (k : Known) → Owns [] k (declared_variable v t s frames k).1
@@ -543,8 +582,8 @@ left_out (VariableOf n base) t s frames k =
     let q = with_variable v r.1 in
     let l = linked frames t.linkage (normal n.text) i q in
     unplaced_too _ _ k _ (still_last
-    (unmarked v i k q l (ap (λ (vs : List Variable). item.Variable (length vs)) here.variables) here.same_module (ap (λ (vs : List Variable). vs ++ v ∷ []) here.variables) here.externals here.more
-    (linked_links frames t.linkage (normal n.text) i q))
+    (unmarked v i k q l (ap (λ (vs : List Variable). item.Variable (length vs)) here.variables) here.same_module (ap (λ (vs : List Variable). vs ++ v ∷ []) here.variables) here.externals
+    here.publics here.more here.procedures (linked_links frames t.linkage (normal n.text) i q))
     (declared_still n i frames l))
 
 -- where a name goes that has an object of its own, and what is then known
@@ -558,24 +597,27 @@ one_owned n t frames k near =
     let v = variable_in t n.place r.0 r.1 in
     let q = with_variable v r.1 in
     let i = item.Variable (length r.1.variables) in
-    let l = still_then (near_still frames t.linkage (normal n.text) i q near) (declared_still n i frames (linked frames t.linkage (normal n.text) i q)) in
-    let more = l.more in
+    let b = linked_links frames t.linkage (normal n.text) i q in
+    let d = declared_still n i frames (linked frames t.linkage (normal n.text) i q) in
+    let same = b.objects in
+    let more = d.more in
     let longer = length-append k.objects (record { path = name_after (path_in frames) (normal n.text); size = size_of_shape t.shape; initial = [] } ∷ []) in
     record {
-      same_module = l.same_module;
+      same_module = d.same_module ∙ b.same_module;
       adds = record {
         added = v ∷ [];
-        variables = l.variables;
+        variables = d.variables ∙ b.variables;
         marks = true ∷ [];
         each = refl;
         objects = length k.objects ∷ [];
         lie = refl;
-        rise = (omega arith, omega (arith, more, longer));
+        rise = (omega arith, omega (arith, more, same, longer));
         declared = refl;
         further = [];
-        externals = l.externals ∙ sym (append-nil k.externals);
+        externals = d.externals ∙ near_externals frames t.linkage (normal n.text) i q near ∙ sym (append-nil k.externals);
         free = λ before e. tt;
       };
+      numbered = λ m. let u = variable_numbered v i k q refl refl refl refl (omega arith) m in grown (grows d) (b.numbered u.0 u.1);
     }
 
 one_own : (v : VariableT) (t : Traits) (frames : List Frame) (k : Known) → is_external frames ≡ false → IsNear t.linkage → Owns (own_name v) k (declared_variable v t site.Own frames k).1
@@ -684,31 +726,49 @@ handler_still p l None k = still k
 handler_still p l (Some n) k = still_unless (is_external_linkage l || not (is_handled n k)) k _ (note_whole_still _ k)
 
 header_still : (p : ProcedureR) (k : Known) → Still k (with_header p k)
-header_still p k = let a = handler_still p.place p.linkage p.interrupt k in record { same_module = a.same_module; variables = a.variables; externals = a.externals; more = a.more }
+header_still p k =
+    let q = note_handler p.place p.linkage p.interrupt k in
+    let a = handler_still p.place p.linkage p.interrupt k in
+    let not_fewer = a.procedures in
+    let longer = length-append q.procedures (p ∷ []) in
+    record { same_module = a.same_module; variables = a.variables; externals = a.externals; publics = a.publics; more = a.more; procedures = omega (arith, not_fewer, longer) }
 
 -- an EXTERNAL procedure is no variable
-linked_none : (frames : List Frame) (l : Linkage) (name : List ℕ) (p : ℕ) (k : Known) → Owns [] k (linked frames l name (item.Procedure p) k)
+linked_none : (frames : List Frame) (l : Linkage) (name : List ℕ) (p : ℕ) (k : Known) → Adds [] k (linked frames l name (item.Procedure p) k)
 linked_none frames l name p k =
     let a = linked_links frames l name (item.Procedure p) k in
     record {
-      same_module = a.same_module;
-      adds = record {
-        added = [];
-        variables = a.variables ∙ sym (append-nil k.variables);
-        marks = [];
-        each = refl;
-        objects = [];
-        lie = refl;
-        rise = let same = a.objects in omega (arith, same);
-        declared = refl;
-        further = a.further;
-        externals = a.externals;
-        free = λ before e. a.free (before ++ []) tt;
-      };
+      added = [];
+      variables = a.variables ∙ sym (append-nil k.variables);
+      marks = [];
+      each = refl;
+      objects = [];
+      lie = refl;
+      rise = let same = a.objects in omega (arith, same);
+      declared = refl;
+      further = a.further;
+      externals = a.externals;
+      free = λ before e. a.free (before ++ []) tt;
+    }
+
+-- a procedure more gets the next number
+procedure_owned : (frames : List Frame) (name : List ℕ) (p : ProcedureR) (k : Known) → p.entry ≡ length k.procedures
+    → Owns [] k (linked frames p.linkage name (item.Procedure p.entry) (with_header p k))
+procedure_owned frames name p k is =
+    let h = header_still p k in
+    let i = item.Procedure p.entry in
+    let a = linked_links frames p.linkage name i (with_header p k) in
+    let before = handler_still p.place p.linkage p.interrupt k in
+    let not_fewer = before.procedures in
+    let longer = length-append (note_handler p.place p.linkage p.interrupt k).procedures (p ∷ []) in
+    record {
+      same_module = a.same_module ∙ h.same_module;
+      adds = adds_then (nothing_owned h).adds (linked_none frames p.linkage name p.entry (with_header p k));
+      numbered = λ n. a.numbered (grown (grows h) n) (procedure_unlinked i (ap item.Procedure is) (omega (arith, not_fewer, longer)) (grows h) n);
     }
 
 in_place_owned : (v : Variable) (k : Known) → Owns [] k (with_variable v k)
-in_place_owned v k = unmarked v (item.Variable (length k.variables)) k (with_variable v k) (with_variable v k) refl refl refl refl (omega arith) (links_none _ (with_variable v k))
+in_place_owned v k = unmarked v (item.Variable (length k.variables)) k (with_variable v k) (with_variable v k) refl refl refl refl refl (omega arith) (omega arith) (links_none _ (with_variable v k))
 
 parameter_owned : (i : Option Item) (p : Position) (vs : List ℕ) (k : Known) → Owns [] k (parameter_is i p vs k).1
 parameter_owned (Some (item.Variable v)) p vs k = nothing_owned (still k)
@@ -723,7 +783,7 @@ parameters_owned frames listed vs (n ∷ ns) k =
 
 completed_still : (number : ℕ) (ps : List ℕ) (body : StatementsR) (p : Option ProcedureR) (k : Known) → Still k (completed_at number ps body p k)
 completed_still number ps body None k = still k
-completed_still number ps body (Some p) k = kept refl refl refl refl
+completed_still number ps body (Some p) k = kept refl refl refl refl refl (length-set k.procedures number _)
 
 -- ---- statements and blocks
 
@@ -737,7 +797,7 @@ step_still frames (Some e) k = expression_still frames e k
 
 path_still : (frames : List Frame) (n : Option NameT) (k : Known) → Still k (block_path frames n k).1
 path_still frames (Some n) k = still k
-path_still frames None k = kept refl refl refl refl
+path_still frames None k = kept refl refl refl refl refl refl
 
 mutual
   statement_owned : (external : Bool) (frames : List Frame) (s : StatementT) (k : Known) → is_external frames ≡ external → Owns (own_in_statement external s) k (statement frames s k).1
@@ -787,7 +847,7 @@ mutual
       let inside = frame p.path (is_external_linkage p.linkage || is_external frames) in
       let q = block (inside ∷ r.0) b r.1 in
       let u = parameters_from q.1 [] [] (name_list ps) q.2 in
-      let first = still_last (still_first (header_still p k) (linked_none frames p.linkage (normal n.text) p.entry (with_header p k)))
+      let first = still_last (procedure_owned frames (normal n.text) p k refl)
       (declared_still n (item.Procedure p.entry) frames (linked frames p.linkage (normal n.text) (item.Procedure p.entry) (with_header p k))) in
       let body = block_owned (is_external_linkage (linkage_of l) || external) (inside ∷ r.0) b r.1 (ap (λ (b : Bool). is_external_linkage (linkage_of l) || b) h) in
       still_last (none_last (owns_then first body) (parameters_owned q.1 [] [] (name_list ps) q.2)) (completed_still p.entry u.0 q.0 (slice_get u.1.procedures p.entry) u.1)
@@ -795,14 +855,18 @@ mutual
 -- ---- programs
 
 main_still : (b : Bool) (ss : StatementsR) (k : Known) → Still k (with_main b ss k)
-main_still true ss k = kept refl refl refl refl
+main_still true ss k = kept refl refl refl refl refl refl
 main_still false ss k = still k
+
+module_owned : (number : ℕ) (name : NameT) (b : BlockT) (e : Option NameT) (k : Known) → Owns (own_in_block false b) (at_module number k) (with_module number (ModuleOf name b e) k)
+module_owned number name b e k =
+    let frames = frame (normal name.text) false ∷ [] in
+    let r = block frames b (at_module number k) in
+    still_last (block_owned false frames b (at_module number k) refl) (main_still (has_statements b) r.0 r.2)
 
 module_adds : (number : ℕ) (m : ModuleT) (k : Known) → Adds (own_in_module number m) k (with_module number m k)
 module_adds number (ModuleOf n b e) k =
-    let frames = frame (normal n.text) false ∷ [] in
-    let r = block frames b (at_module number k) in
-    let x = (still_last (block_owned false frames b (at_module number k) refl) (main_still (has_statements b) r.0 r.2)).adds in
+    let x = (module_owned number n b e k).adds in
     record {
       added = x.added;
       variables = x.variables;
@@ -816,6 +880,16 @@ module_adds number (ModuleOf n b e) k =
       externals = x.externals;
       free = x.free;
     }
+
+module_numbered : (number : ℕ) (m : ModuleT) (k : Known) → AreNumbered k → AreNumbered (with_module number m k)
+module_numbered number (ModuleOf n b e) k h = (module_owned number n b e k).numbered (record { apart = h.apart; externals = h.externals; publics = h.publics })
+
+modules_numbered : (number : ℕ) (ms : List ModuleT) (k : Known) → AreNumbered k → AreNumbered (modules_from number ms k)
+modules_numbered number [] k h = h
+modules_numbered number (m ∷ ms) k h = modules_numbered (number + 1) ms (with_module number m k) (module_numbered number m k h)
+
+pub externals_are_apart : (ms : List ModuleT) → AreApart (known_from ms).externals (known_from ms).publics
+externals_are_apart ms = (modules_numbered 0 ms nothing_known (record { apart = tt; externals = tt; publics = tt })).apart
 
 modules_add : (number : ℕ) (ms : List ModuleT) (k : Known) → Adds (own_from number ms) k (modules_from number ms k)
 modules_add number [] k = (nothing_owned (still k)).adds

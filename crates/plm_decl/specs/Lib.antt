@@ -26,6 +26,8 @@ pub mod BlockNames
 pub mod DeclaredAgain
 pub mod OwnNames
 pub mod Laws
+pub mod PlacedNames
+pub mod JoinedNames
 pub mod ByPlaces
 pub mod Regions
 pub mod Inner

@@ -1,8 +1,10 @@
 //! Laws that tie what is read step by step to the tree of a block. They compute nothing.
 
 ghost use Rattle.plm_decl.specs.ByPlaces.{ReadByPlaces};
+ghost use Rattle.plm_decl.specs.JoinedNames.{ExternalsAreJoined};
 ghost use Rattle.plm_decl.specs.Laws.{ConstantsFill, DeclaredIsFound, DeclaresOnce, HaveOwnObjects, InitialBytesFit, InitialValuesFit, InnermostMeans, ListsOnce, MembersOnce, NothingElseTwice, StandsInside, StandsOutside};
 ghost use Rattle.plm_decl.specs.OwnNames.{OwnNamesHaveObjects};
+ghost use Rattle.plm_decl.specs.PlacedNames.{LocationIsInItsVariable, NamesLieAtTheirLocation, NumberIsOnTheScreen};
 
 /// The law of second declarations: after some items of a block, some elements of a DECLARE and some names of an element, the
 /// next name that is declared there is a fault (E302) exactly where one of those before it has its normal form. The same
@@ -40,6 +42,21 @@ pub fn constants_fill_their_object()
 pub fn names_have_own_objects()
     ensures element { HaveOwnObjects }
     ensures program { OwnNamesHaveObjects }
+{}
+
+/// The law of AT: the names of an element with AT lie where its location says, one behind the other. A number of 0B8000H and above is a byte
+/// of the screen, which begins there. A location of a variable in a RAM object, with numbers for subscripts, is the byte of that object at
+/// which the variable begins, further on by the elements before the subscript's one and by the bytes before the member.
+pub fn names_lie_where_at_says()
+    ensures number { NumberIsOnTheScreen }
+    ensures location { LocationIsInItsVariable }
+    ensures names { NamesLieAtTheirLocation }
+{}
+
+/// The law of EXTERNAL and PUBLIC: in a program without faults each EXTERNAL name has a PUBLIC one of its normal form and kind. An EXTERNAL
+/// variable lies where that PUBLIC one does, and a call of an EXTERNAL procedure runs the body of that PUBLIC one.
+pub fn externals_are_joined()
+    ensures { ExternalsAreJoined }
 {}
 
 /// The law of initial values: in modules whose objects have room in RAM, the initial values of each object have room in it. So

@@ -28,8 +28,8 @@ mod table;
 
 pub use builtin::Builtin;
 pub use laws::{
-    constants_fill_their_object, declared_once, initial_values_fit, innermost_counts,
-    names_have_own_objects,
+    constants_fill_their_object, declared_once, externals_are_joined, initial_values_fit,
+    innermost_counts, names_have_own_objects, names_lie_where_at_says,
 };
 pub use layout::{Field, Form, Member, ScalarType};
 pub use modules::resolve;
