@@ -4,7 +4,8 @@ use crate::expect::Expect;
 use crate::lowering::program_of;
 use crate::selection::section_of;
 use board::{Board, End, read_schedule};
-use frames::{Stack, count};
+use frames::{Stack, count, saved};
+use icode::Registers;
 use layout_link::{Image, RomSize, link};
 use lower::lower;
 use select::{Part, select};
@@ -215,6 +216,24 @@ fn plain_operands_are_not_pushed(rt: HostRuntime) -> Result<(), Fail> {
             })
         );
     }
+    Ok(())
+}
+
+/// A quotient changes AX, CX and DX, and main's own registers are saved by nobody.
+#[test]
+fn registers_that_an_interrupt_saves(rt: HostRuntime) -> Result<(), Fail> {
+    let alloc = rt.alloc();
+    let text =
+        b"M: DO; DECLARE (N, D) WORD; H: PROCEDURE INTERRUPT 8; N = N / D; END H; N = N / D; END M;";
+    let changed = saved(alloc, &lower(alloc, &program_of(alloc, &[text])?)?)?;
+    let divides = Registers {
+        accumulator: true,
+        right: true,
+        high: true,
+        address: false,
+        frame: false,
+    };
+    assert_eq!(rt; changed.as_slice(), [divides].as_slice());
     Ok(())
 }
 

@@ -379,7 +379,7 @@ fn trace(
     for turn in 0..steps {
         for (when, event) in events {
             if *when == turn {
-                if let Ok(step) = meaning.step(Choice::Occurs(*event)) {
+                if let Ok(step) = meaning.step(Choice::Event(*event)) {
                     if let Some(label) = step.label {
                         labels.push(label)?;
                     }
@@ -478,7 +478,7 @@ fn chooses_what_is_allowed(rt: HostRuntime) -> Result<(), Fail> {
     expect.same(meaning.step(Choice::Program), Err(Stop::NotAllowed));
     expect.same(meaning.step(Choice::Idle), Ok(Step { label: None }));
     expect.same(
-        meaning.step(Choice::Occurs(Event::Key(3))),
+        meaning.step(Choice::Event(Event::Key(3))),
         Ok(Step {
             label: Some(Label::Key(3)),
         }),
@@ -509,7 +509,7 @@ fn asked<'a>(
     for _ in 0..SET_UP {
         let _ = meaning.step(Choice::Program);
     }
-    let _ = meaning.step(Choice::Occurs(Event::Tick(3)));
+    let _ = meaning.step(Choice::Event(Event::Tick(3)));
     Ok(meaning)
 }
 
@@ -542,7 +542,7 @@ fn interrupts_come_promptly(rt: HostRuntime) -> Result<(), Fail> {
     let ticked = Ok(Step {
         label: Some(Label::Tick(4)),
     });
-    expect.same(meaning.step(Choice::Occurs(Event::Tick(4))), ticked);
+    expect.same(meaning.step(Choice::Event(Event::Tick(4))), ticked);
     expect.same(meaning.step(Choice::Enter), entered);
     expect.same(meaning.step(Choice::Leave), Ok(Step { label: None }));
     Ok(())

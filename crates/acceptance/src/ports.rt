@@ -82,10 +82,10 @@ fn reset_reads(rt: HostRuntime) -> Result<(), Fail> {
 fn gate_and_out_of_channel_two(rt: HostRuntime) -> Result<(), Fail> {
     let mut expect = Expect::new(&rt);
     let mut ports = set(&[(0x63, 0x99), (0x43, 0x94), (0x42, 2)]);
-    ports.occurs(Event::Tick(2));
+    ports.event(Event::Tick(2));
     expect.same(ports.read(0x62), 0x20);
     ports.write(0x61, 1);
-    ports.occurs(Event::Tick(2));
+    ports.event(Event::Tick(2));
     expect.same(ports.read(0x62), 0);
     ports.write(0x61, 0);
     expect.same(ports.read(0x62), 0x20);
@@ -97,8 +97,8 @@ fn gate_and_out_of_channel_two(rt: HostRuntime) -> Result<(), Fail> {
 fn two_keys(rt: HostRuntime) -> Result<(), Fail> {
     let mut expect = Expect::new(&rt);
     let mut ports = set(&STARTED);
-    ports.occurs(Event::Key(0x1E));
-    ports.occurs(Event::Key(0x30));
+    ports.event(Event::Key(0x1E));
+    ports.event(Event::Key(0x30));
     expect.same(taken(&mut ports), Some(9));
     expect.same(taken(&mut ports), None);
     expect.same(ports.read(0x60), 0x1E);
@@ -116,7 +116,7 @@ fn eighteen_keys(rt: HostRuntime) -> Result<(), Fail> {
     let mut expect = Expect::new(&rt);
     let mut ports = set(&STARTED);
     for code in 1..=18u8 {
-        ports.occurs(Event::Key(code));
+        ports.event(Event::Key(code));
     }
     for code in 1..=17u8 {
         assert_eq!(rt; taken(&mut ports), Some(9));
@@ -135,7 +135,7 @@ fn keys_wait_while_cleared(rt: HostRuntime) -> Result<(), Fail> {
     let mut expect = Expect::new(&rt);
     let mut ports = set(&STARTED);
     ports.write(0x61, 0x80);
-    ports.occurs(Event::Key(0x1E));
+    ports.event(Event::Key(0x1E));
     expect.same(taken(&mut ports), None);
     ports.write(0x61, 0);
     expect.same(taken(&mut ports), Some(9));
@@ -148,19 +148,19 @@ fn keys_wait_while_cleared(rt: HostRuntime) -> Result<(), Fail> {
 fn latch_of_an_input(rt: HostRuntime) -> Result<(), Fail> {
     let mut expect = Expect::new(&rt);
     let mut ports = set(&[(0x43, 0x94), (0x42, 2), (0x61, 0x81)]);
-    ports.occurs(Event::Key(0x1E));
+    ports.event(Event::Key(0x1E));
     expect.same(ports.read(0x60), 0x1E);
-    ports.occurs(Event::Tick(2));
+    ports.event(Event::Tick(2));
     expect.same(ports.read(0x62), 0x20);
     expect.same(ports.read(0x42), 0);
     ports.write(0x63, 0x99);
     expect.same(ports.read(0x61), 0);
     expect.same(ports.read(0x60), 0x1E);
-    ports.occurs(Event::Tick(2));
+    ports.event(Event::Tick(2));
     expect.same(ports.read(0x42), 0);
     ports.write(0x61, 0x81);
     expect.same(ports.read(0x60), 0);
-    ports.occurs(Event::Tick(2));
+    ports.event(Event::Tick(2));
     expect.same(ports.read(0x42), 1);
     Ok(())
 }
@@ -172,9 +172,9 @@ fn timer_requests(rt: HostRuntime) -> Result<(), Fail> {
     let mut ports = set(&STARTED);
     ports.write(0x43, 0x14);
     ports.write(0x40, 4);
-    ports.occurs(Event::Tick(4));
+    ports.event(Event::Tick(4));
     expect.same(taken(&mut ports), None);
-    ports.occurs(Event::Tick(1));
+    ports.event(Event::Tick(1));
     expect.same(taken(&mut ports), Some(8));
     ports.write(0x43, 0x10);
     expect.same(taken(&mut ports), None);
@@ -194,7 +194,7 @@ fn words(rt: HostRuntime) -> Result<(), Fail> {
     ports.write_word(0x43, 0x0034);
     ports.write_word(0x3F, 0x0500);
     ports.write(0x40, 0);
-    ports.occurs(Event::Tick(1));
+    ports.event(Event::Tick(1));
     expect.same(ports.read(0x40), 5);
     Ok(())
 }

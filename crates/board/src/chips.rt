@@ -50,5 +50,5 @@ pub(crate) fn acknowledge(ports: &mut Ports) -> u8
 pub(crate) fn occurs(ports: &mut Ports, event: Event)
     ensures { chips_of ports.new ≡ settled_chips.occurs event (chips_of ports.old) }
 {
-    ports.occurs(event);
+    ports.event(event);
 }

@@ -28,7 +28,7 @@ use Rattle.plm_meaning.specs.Shown.{store_of, labels_of}
 
 abbrev pub choice_of : declared_choice.Choice → Choice Event
 choice_of choice.Program = Program
-choice_of (choice.Occurs e) = Occurs e
+choice_of (choice.Event e) = Occurs e
 choice_of choice.Enter = Enter
 choice_of choice.Leave = Leave
 choice_of choice.Idle = Idle

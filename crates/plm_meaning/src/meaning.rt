@@ -35,7 +35,7 @@ pub enum Choice {
     /// A step of the interrupt procedure that runs, else of main.
     Program,
     /// An event occurs outside.
-    Occurs(Event),
+    Event(Event),
     /// An interrupt is acknowledged, and its procedure begins.
     Enter,
     /// The interrupt procedure is used up, and main goes on.
@@ -140,7 +140,7 @@ impl<'a> Meaning<'a> {
     {
         match choice {
             Choice::Program => self.program_step(),
-            Choice::Occurs(event) => Ok(self.event(event)),
+            Choice::Event(event) => Ok(self.event(event)),
             Choice::Enter => self.enter(),
             Choice::Leave => self.leave(),
             Choice::Idle => self.idle(),
@@ -171,7 +171,7 @@ impl<'a> Meaning<'a> {
         ensures made { Made self.old self.new (Occurs event) result.label }
         ensures run { self.new.around ≡ self.old.around }
     {
-        self.store.ports.occurs(event);
+        self.store.ports.event(event);
         self.settle_counts();
         Step {
             label: Some(event.label()),

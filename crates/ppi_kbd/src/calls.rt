@@ -58,7 +58,7 @@ fn make(ports: &mut Ports, call: Call) -> Reply
             Reply::Nothing
         }
         Call::Comes(event) => {
-            ports.occurs(event);
+            ports.event(event);
             Reply::Nothing
         }
         Call::Line => Reply::Signal(ports.int_line()),

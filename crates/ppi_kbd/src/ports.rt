@@ -118,7 +118,7 @@ impl Ports {
     }
 
     /// An event from outside: pulses on every channel of the timer, or a code of the keyboard.
-    pub fn occurs(&mut self, event: Event)
+    pub fn event(&mut self, event: Event)
         ensures { (c : ChipState) → Shows self.old c → Shows self.new (occurs event c) }
     {
         match event {

@@ -3,4 +3,4 @@ use Rattle.board.proofs.SettledChips.{settles}
 use Rattle.board.proofs.chips.occurs.Goals as goal
 
 pub returns : goal.returns
-returns c = settles _ _ (occurs c.args.event) c.occurs.ensures
+returns c = settles _ _ (occurs c.args.event) c.event.ensures
