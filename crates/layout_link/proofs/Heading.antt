@@ -8,7 +8,7 @@ use Rattle.i86_code.specs.Writing.{bytes_of, form_of, move_byte_of, move_word_of
 use Rattle.i86_code.specs.Forms.{opcode_byte}
 use Rattle.layout_link.specs.declared.tasks.Task.{Task}
 use Rattle.layout_link.specs.declared.tasks.Task.TheVariants as tasks
-use Rattle.layout_link.specs.Startup.{load_word, rep_movsb, Stands, HasAct, HasActs, HasStartUp, Copy}
+use Rattle.layout_link.specs.Startup.{load_word, rep_movsb, Stands, HasAct, HasActs, HasStartUpBefore, Copy}
 use Rattle.layout_link.specs.Tasks.{placed, bytes_of_task, bytes_of_tasks, start_up_bytes}
 use Rattle.layout_link.specs.Inner.Bytes.{all_bytes, StandInOrder}
 use Rattle.layout_link.specs.Inner.Head.{TaskFits, TasksFit, to_entry, instructions_of, all_of, to_main, start_up}
@@ -71,8 +71,8 @@ fit_both from [] b f g = g
 fit_both from (t ∷ a) b f g = (f.0, fit_both from a b f.1 g)
 
 module _ (code : ℕ → Option (Instr × ℕ)) where
-  stands : (p q r len : ℕ) (n : Instr) → code p ≡ Some (n, len) → p ≡ q → q + len ≡ r → r < 65536 → Stands code q n r
-  stands p q r len n h e at small = (len, subst (λ x. code x ≡ Some (n, len)) e h, omega (arith, at, small))
+  stands : (p q r len : ℕ) (n : Instr) → code p ≡ Some (n, len) → p ≡ q → q + len ≡ r → r < 65536 → q < r → Stands code q n r
+  stands p q r len n h e at small on = (len, subst (λ x. code x ≡ Some (n, len)) e h, omega (arith, at, small), on)
 
   moved : (p q len : ℕ) (n : Instr) → code p ≡ Some (n, len) → p ≡ q → code q ≡ Some (n, len)
   moved p q len n h e = subst (λ x. code x ≡ Some (n, len)) e h
@@ -90,18 +90,18 @@ module _ (code : ℕ → Option (Instr × ℕ)) where
         f,
         t,
         omega (arith, low),
-        stands p p (p + 3) 3 (load_word Si from) load_from refl refl (omega (arith, low)),
-        stands (p + 3) (p + 3) (p + 6) 3 (load_word Di to) s.1.0 refl (omega arith) (omega (arith, low)),
-        stands (p + 3 + 3) (p + 6) (p + 9) 3 (load_word Cx (suc more)) load_count (omega arith) (omega arith) (omega (arith, low)),
+        stands p p (p + 3) 3 (load_word Si from) load_from refl refl (omega (arith, low)) (omega arith),
+        stands (p + 3) (p + 3) (p + 6) 3 (load_word Di to) s.1.0 refl (omega arith) (omega (arith, low)) (omega arith),
+        stands (p + 3 + 3) (p + 6) (p + 9) 3 (load_word Cx (suc more)) load_count (omega arith) (omega arith) (omega (arith, low)) (omega arith),
         moved (p + 3 + 3 + 3) (p + 9) 3 rep_movsb s.1.1.1.0 (omega arith),
         omega arith,
       )
 
   has_task : (places : List ℕ) (p from : ℕ) (t : Task) → TaskFits from t → p + bytes_of_task t < 65536 → StandInOrder code p (instructions_of (placed places from t)) → HasAct code p (placed places from t) (p + bytes_of_task t)
   unfolding form_of move_byte_of move_word_of opcode_byte
-  has_task places p from (tasks.Vector v k) f low s = (f, stands p p (p + 6) 6 _ s.0 refl refl (omega (arith, low)))
-  has_task places p from (tasks.Word to w) f low s = (f, stands p p (p + 6) 6 _ s.0 refl refl (omega (arith, low)))
-  has_task places p from (tasks.Byte to b) f low s = (f, stands p p (p + 5) 5 _ s.0 refl refl (omega (arith, low)))
+  has_task places p from (tasks.Vector v k) f low s = (f, stands p p (p + 6) 6 _ s.0 refl refl (omega (arith, low)) (omega arith))
+  has_task places p from (tasks.Word to w) f low s = (f, stands p p (p + 6) 6 _ s.0 refl refl (omega (arith, low)) (omega arith))
+  has_task places p from (tasks.Byte to b) f low s = (f, stands p p (p + 5) 5 _ s.0 refl refl (omega (arith, low)) (omega arith))
   has_task places p from (tasks.Copy at to more) f low s = has_copy p (from + at) to more f.0 f.1 (omega (arith, low)) s
 
   has_tasks : (places : List ℕ) (p from : ℕ) (ts : List Task) → TasksFit from ts → p + bytes_of_tasks ts < 65536 → StandInOrder code p (all_of places from ts) → HasActs code p (map (placed places from) ts) (p + bytes_of_tasks ts)
@@ -121,7 +121,7 @@ module _ (code : ℕ → Option (Instr × ℕ)) where
 
   pub starts_up : (base entry : ℕ) (places : List ℕ) (from : ℕ) (ts : List Task) (distance main_at : ℕ) → TasksFit from ts → base + start_up_bytes ts ≤ 0xFFF0
       → (length : ℕ) × (code 0xFFF0 ≡ Some (i.JumpFar base 0xF000, length)) → further (base + start_up_bytes ts) distance ≡ main_at
-      → StandInOrder code base (start_up entry places from ts distance) → HasStartUp code entry (map (placed places from) ts) main_at
+      → StandInOrder code base (start_up entry places from ts distance) → HasStartUpBefore (base + start_up_bytes ts) code entry (map (placed places from) ts) main_at
   unfolding form_of move_byte_of move_word_of alu_byte_of alu_word_of based_form opcode_byte
   starts_up base entry places from ts distance main_at f le reset leads all =
       let s = in_front code base (to_entry entry) (all_of places from ts ++ to_main distance) all in
@@ -133,42 +133,44 @@ module _ (code : ℕ → Option (Instr × ℕ)) where
       let z = subst (λ x. StandInOrder code x (to_main distance)) e (behind code (base + 24) (all_of places from ts) (to_main distance) rest) in
       let q = base + 24 + n in
       let low : q + 18 ≤ 0xFFF0 = omega (arith, le) in
-      let lead : further (further (q + 15) 3) distance ≡ main_at = let same : further (q + 15) 3 ≡ base + (42 + n) = omega (arith, le) in ap (λ x. further x distance) same ∙ leads in
-      record {
-        begin = base;
-        second = base + 3;
-        third = base + 6;
-        loop = base + 9;
-        back = 242;
-        acting = base + 24;
-        acted = q;
-        p1 = q + 3;
-        p2 = q + 5;
-        p3 = q + 7;
-        p4 = q + 10;
-        p5 = q + 12;
-        p6 = q + 15;
-        distance = distance;
-        reset = reset;
-        load_entry = stands base base (base + 3) 3 _ s.0 refl refl (omega (arith, le));
-        load_segment = stands (base + 3) (base + 3) (base + 6) 3 _ s.1.0 refl (omega arith) (omega (arith, le));
-        load_first = stands (base + 3 + 3) (base + 6) (base + 9) 3 _ s.1.1.0 (omega arith) (omega arith) (omega (arith, le));
-        sets_vectors = record {
-          fits = omega (arith, le);
-          first = moved (base + 3 + 3 + 3) (base + 9) 2 _ s.1.1.1.0 (omega arith);
-          second = moved (base + 3 + 3 + 3 + 2) (base + 9 + 2) 3 _ s.1.1.1.1.0 (omega arith);
-          third = moved (base + 3 + 3 + 3 + 2 + 3) (base + 9 + 5) 3 _ s.1.1.1.1.1.0 (omega arith);
-          fourth = moved (base + 3 + 3 + 3 + 2 + 3 + 3) (base + 9 + 8) 4 _ s.1.1.1.1.1.1.0 (omega arith);
-          fifth = moved (base + 3 + 3 + 3 + 2 + 3 + 3 + 4) (base + 9 + 12) 2 _ s.1.1.1.1.1.1.1.0 (omega arith);
-          again = omega (arith, le);
-        };
-        clear = stands (base + 3 + 3 + 3 + 2 + 3 + 3 + 4 + 2) (base + 9 + 14) (base + 24) 1 _ s.1.1.1.1.1.1.1.1.0 (omega arith) (omega arith) (omega (arith, le));
-        has_acts = has_tasks places (base + 24) from ts f (omega (arith, le)) acts;
-        load_data = stands q q (q + 3) 3 _ z.0 refl refl (omega (arith, low));
-        to_ds = stands (q + 3) (q + 3) (q + 5) 2 _ z.1.0 refl (omega arith) (omega (arith, low));
-        to_ss = stands (q + 3 + 2) (q + 5) (q + 7) 2 _ z.1.1.0 (omega arith) (omega arith) (omega (arith, low));
-        load_screen = stands (q + 3 + 2 + 2) (q + 7) (q + 10) 3 _ z.1.1.1.0 (omega arith) (omega arith) (omega (arith, low));
-        to_es = stands (q + 3 + 2 + 2 + 3) (q + 10) (q + 12) 2 _ z.1.1.1.1.0 (omega arith) (omega arith) (omega (arith, low));
-        load_stack = stands (q + 3 + 2 + 2 + 3 + 2) (q + 12) (q + 15) 3 _ z.1.1.1.1.1.0 (omega arith) (omega arith) (omega (arith, low));
-        goes = (3, moved (q + 3 + 2 + 2 + 3 + 2 + 3) (q + 15) 3 _ z.1.1.1.1.1.1.0 (omega arith), lead);
-      }
+      let lead : further (further (q + 15) 3) distance ≡ main_at = let same : further (q + 15) 3 ≡ base + (42 + n) = omega (arith, le) in ap (λ x. further x distance) same ∙ leads in (
+        record {
+          begin = base;
+          second = base + 3;
+          third = base + 6;
+          loop = base + 9;
+          back = 242;
+          acting = base + 24;
+          acted = q;
+          p1 = q + 3;
+          p2 = q + 5;
+          p3 = q + 7;
+          p4 = q + 10;
+          p5 = q + 12;
+          p6 = q + 15;
+          distance = distance;
+          reset = reset;
+          load_entry = stands base base (base + 3) 3 _ s.0 refl refl (omega (arith, le)) (omega arith);
+          load_segment = stands (base + 3) (base + 3) (base + 6) 3 _ s.1.0 refl (omega arith) (omega (arith, le)) (omega arith);
+          load_first = stands (base + 3 + 3) (base + 6) (base + 9) 3 _ s.1.1.0 (omega arith) (omega arith) (omega (arith, le)) (omega arith);
+          sets_vectors = record {
+            fits = omega (arith, le);
+            first = moved (base + 3 + 3 + 3) (base + 9) 2 _ s.1.1.1.0 (omega arith);
+            second = moved (base + 3 + 3 + 3 + 2) (base + 9 + 2) 3 _ s.1.1.1.1.0 (omega arith);
+            third = moved (base + 3 + 3 + 3 + 2 + 3) (base + 9 + 5) 3 _ s.1.1.1.1.1.0 (omega arith);
+            fourth = moved (base + 3 + 3 + 3 + 2 + 3 + 3) (base + 9 + 8) 4 _ s.1.1.1.1.1.1.0 (omega arith);
+            fifth = moved (base + 3 + 3 + 3 + 2 + 3 + 3 + 4) (base + 9 + 12) 2 _ s.1.1.1.1.1.1.1.0 (omega arith);
+            again = omega (arith, le);
+          };
+          clear = stands (base + 3 + 3 + 3 + 2 + 3 + 3 + 4 + 2) (base + 9 + 14) (base + 24) 1 _ s.1.1.1.1.1.1.1.1.0 (omega arith) (omega arith) (omega (arith, le)) (omega arith);
+          has_acts = has_tasks places (base + 24) from ts f (omega (arith, le)) acts;
+          load_data = stands q q (q + 3) 3 _ z.0 refl refl (omega (arith, low)) (omega arith);
+          to_ds = stands (q + 3) (q + 3) (q + 5) 2 _ z.1.0 refl (omega arith) (omega (arith, low)) (omega arith);
+          to_ss = stands (q + 3 + 2) (q + 5) (q + 7) 2 _ z.1.1.0 (omega arith) (omega arith) (omega (arith, low)) (omega arith);
+          load_screen = stands (q + 3 + 2 + 2) (q + 7) (q + 10) 3 _ z.1.1.1.0 (omega arith) (omega arith) (omega (arith, low)) (omega arith);
+          to_es = stands (q + 3 + 2 + 2 + 3) (q + 10) (q + 12) 2 _ z.1.1.1.1.0 (omega arith) (omega arith) (omega (arith, low)) (omega arith);
+          load_stack = stands (q + 3 + 2 + 2 + 3 + 2) (q + 12) (q + 15) 3 _ z.1.1.1.1.1.0 (omega arith) (omega arith) (omega (arith, low)) (omega arith);
+          goes = (3, moved (q + 3 + 2 + 2 + 3 + 2 + 3) (q + 15) 3 _ z.1.1.1.1.1.1.0 (omega arith), lead);
+        },
+        omega arith,
+      )

@@ -12,7 +12,7 @@ use Rattle.layout_link.specs.declared.image.RomSize.TheVariants.{Kib8, Kib16, Ki
 use Rattle.layout_link.specs.declared.tasks.Task.{Task}
 use Rattle.layout_link.specs.Image.{bytes_in, base_of}
 use Rattle.layout_link.specs.Places.{total_of, places_from}
-use Rattle.layout_link.specs.Startup.{HasStartUp}
+use Rattle.layout_link.specs.Startup.{HasStartUpBefore}
 use Rattle.layout_link.specs.Tasks.{placed, start_up_bytes, is_main, is_unserved}
 use Rattle.layout_link.specs.Linker.{place_in}
 use Rattle.layout_link.specs.Inner.Bytes.{all_bytes, StandInOrder}
@@ -58,7 +58,7 @@ module _ (parts : List Part) (tasks : List Task) (base : ℕ) where
       → TasksFit end tasks → end ≤ 0xFFF0 → code 0xFFF0 ≡ Some (i.JumpFar base 0xF000, 5)
       → unserved ≡ at is_unserved → main ≡ at is_main → ps ≡ places → from ≡ end → b ≡ begin
       → items ≡ start_up unserved ps from tasks ((main + (65536 - b)) % 65536) → StandInOrder code base items
-      → HasStartUp code (at is_unserved) (map (placed places end) tasks) (at is_main)
+      → HasStartUpBefore begin code (at is_unserved) (map (placed places end) tasks) (at is_main)
   rom_starts code items unserved main from b ps fit low reset u m p f b_is is stand =
       let d = (at is_main + (65536 - begin)) % 65536 in
       let d_is : (main + (65536 - b)) % 65536 ≡ d = ap₂ (λ x y. (x + (65536 - y)) % 65536) m b_is in

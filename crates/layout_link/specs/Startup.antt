@@ -50,9 +50,9 @@ rep_movsb = i.MoveString widths.Byte segments.Cs repeats.WhileCx
 -- ---- places
 
 module _ (code : (place : ℕ) → Option (Instr × ℕ)) where
-  -- the instruction stands here, and the next one there
+  -- the instruction stands here, and the next one there, further on
   abbrev pub Stands : (here : ℕ) → Instr → (there : ℕ) → Type 0
-  Stands here instruction there = (length : ℕ) × (code here ≡ Some (instruction, length)) × (further here length ≡ there)
+  Stands here instruction there = (length : ℕ) × (code here ≡ Some (instruction, length)) × (further here length ≡ there) × (here < there)
 
   -- all vectors, by a loop of five instructions: MOV [BX],AX; MOV [BX+2],DX; ADD BX,4; CMP BX,1024; JNE back
   pub record HasLoop (l back : ℕ) : Type 0 where
@@ -127,6 +127,10 @@ pub record HasStartUp (code : (place : ℕ) → Option (Instr × ℕ)) (entry : 
   pub to_es : Stands code p4 (i.MoveToSegment loadables.Es (places.Register Ax)) p5
   pub load_stack : Stands code p5 (load_word Sp 0xFFFE) p6
   pub goes : (length : ℕ) × (code p6 ≡ Some (i.Jump distance, length)) × (further (further p6 length) distance ≡ main_at)
+
+-- and its last instruction, the jump to main, stands before this place
+abbrev pub HasStartUpBefore : (end : ℕ) (code : (place : ℕ) → Option (Instr × ℕ)) (entry : ℕ) (acts : List Act) (main_at : ℕ) → Type 0
+HasStartUpBefore end code entry acts main_at = (x : HasStartUp code entry acts main_at) × (x.p6 < end)
 
 -- its turns without acts: the far jump, three loads, five for each vector, and eight behind the loop
 abbrev pub turns_without_acts : ℕ

@@ -5,12 +5,12 @@ ghost use Rattle.std.specs.Option.{option_map_or};
 ghost use Rattle.plm_decl.specs.Placement.{IsPlacement, sizes_of};
 ghost use Rattle.layout_link.specs.Image.{bytes_in, base_of};
 ghost use Rattle.layout_link.specs.Places.{total_of, places_from};
-ghost use Rattle.layout_link.specs.Startup.{HasStartUp, start_up_turns, turns_without_acts};
+ghost use Rattle.layout_link.specs.Startup.{HasStartUpBefore, start_up_turns, turns_without_acts};
 ghost use Rattle.layout_link.specs.Tasks.{placed, bytes_of_tasks, start_up_bytes, is_main, is_unserved};
 ghost use Rattle.layout_link.specs.Initial.{HaveBytes, count_of};
 ghost use Rattle.layout_link.specs.Rom.{rom_byte, CodeInRom, WordsInRom, rom_code, rom_words};
 ghost use Rattle.layout_link.specs.Stand.{PartsStand};
-ghost use Rattle.layout_link.specs.Linker.{offsets_in, needed, place_in, places_in, place_of, acts_in, InitialStands};
+ghost use Rattle.layout_link.specs.Linker.{offsets_in, start_up_in, needed, place_in, places_in, place_of, acts_in, InitialStands};
 ghost use Rattle.layout_link.specs.Inner.Head.{TasksFit, turns_of_task, turns_of_tasks};
 
 use crate::image::{Image, RomSize};
@@ -120,7 +120,7 @@ fn rom_with(
     ensures code { IfOk result (λ rom. CodeInRom rom.items (rom_code rom.items)) }
     ensures words { IfOk result (λ rom. WordsInRom rom.items (rom_words rom.items)) }
     ensures start_up { IfOk result (λ rom. let begin = base_of size + start_up_bytes tasks.now in let places = places_from begin parts.now in
-        HasStartUp (rom_code rom.items) (place_in places parts.now is_unserved) (map (placed places (begin + total_of parts.now)) tasks.now) (place_in places parts.now is_main)) }
+        HasStartUpBefore begin (rom_code rom.items) (place_in places parts.now is_unserved) (map (placed places (begin + total_of parts.now)) tasks.now) (place_in places parts.now is_main)) }
     ensures initial { IfOk result (λ rom. (i : ℕ) → i < length initial.now → rom_byte rom.items (base_of size + start_up_bytes tasks.now + total_of parts.now + i) ≡ slice_index initial.now i) }
     ensures parts { IfOk result (λ rom. PartsStand (rom_code rom.items) (rom_words rom.items) offsets.now (places_from (base_of size + start_up_bytes tasks.now) parts.now) parts.now) }
 {
@@ -156,8 +156,8 @@ pub fn link(
     // What is decoded at each place is spelt by the bytes there, and a word of a table by its two bytes.
     ensures code { IfOk result (λ image. CodeInRom image.rom.items (rom_code image.rom.items)) }
     ensures words { IfOk result (λ image. WordsInRom image.rom.items (rom_words image.rom.items)) }
-    // Start-up.
-    ensures start_up { IfOk result (λ image. HasStartUp (rom_code image.rom.items) (place_of names.now parts.items size is_unserved) (acts_in names.now parts.items size) (place_of names.now parts.items size is_main)) }
+    // Start-up, which stands before all parts.
+    ensures start_up { IfOk result (λ image. HasStartUpBefore (base_of size + start_up_in names.now parts.items) (rom_code image.rom.items) (place_of names.now parts.items size is_unserved) (acts_in names.now parts.items size) (place_of names.now parts.items size is_main)) }
     ensures initial { IfOk result (λ image. InitialStands names.now parts.items size image.rom.items) }
     ensures bytes { OnOk result (HaveBytes (offsets_in names.now) names.now.variables.items names.now.objects.items) }
     ensures turns { IfOk result (λ image. image.start_turns ≡ start_up_turns (acts_in names.now parts.items size)) }

@@ -5,7 +5,7 @@ use Rattle.plm_decl.specs.Placement.{IsPlacement, sizes_of}
 use Rattle.layout_link.specs.Image.{base_of}
 use Rattle.layout_link.specs.Objects.{offsets_from}
 use Rattle.layout_link.specs.Places.{total_of, places_from}
-use Rattle.layout_link.specs.Startup.{HasStartUp, turns_without_acts}
+use Rattle.layout_link.specs.Startup.{HasStartUpBefore, turns_without_acts}
 use Rattle.layout_link.specs.Tasks.{placed, bytes_of_tasks, start_up_bytes, is_main, is_unserved}
 use Rattle.layout_link.specs.Initial.{HaveBytes, stretches, copied_bytes}
 use Rattle.layout_link.specs.Rom.{rom_byte, rom_code, rom_words}
@@ -56,7 +56,7 @@ returns-clause-start_up c =
     let tasks = c.deref-6.ensures.value ∙ tasks_are names parts c.deref-3.result.now c.in_ok-tasks.tasks.items c.initial.new.tasks.items offsets vectors c.in_ok-bytes.ensures.tasks in
     along
     (λ ps ts bs.
-    HasStartUp (rom_code c.in_ok-rom.rom.items) (place_in (places_from (base + start_up_bytes ts) ps) ps is_unserved)
+    HasStartUpBefore (base + start_up_bytes ts) (rom_code c.in_ok-rom.rom.items) (place_in (places_from (base + start_up_bytes ts) ps) ps is_unserved)
     (map (placed (places_from (base + start_up_bytes ts) ps) (base + start_up_bytes ts + total_of ps)) ts) (place_in (places_from (base + start_up_bytes ts) ps) ps is_main))
     c.deref-4.result.now parts c.deref-6.result.now (tasks_in names parts) c.deref-7.result.now c.deref-7.result.now c.deref-4.ensures.value tasks refl c.in_ok-rom.ensures.start_up
 
