@@ -21,5 +21,8 @@ pub mod Data
 pub mod Large
 pub mod Deep
 pub mod Refused
+pub mod OneStack
+pub mod OneSize
+pub mod Exactly
 pub mod Whole
 pub mod Linked

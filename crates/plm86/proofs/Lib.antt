@@ -2,7 +2,9 @@ pub mod Machine
 pub mod Headline
 pub mod Composition
 pub mod Meets
+mod Reading
 mod Phases
 mod BuiltRuns
 mod Going
 mod Allowed
+mod CaseTurns

@@ -4,10 +4,9 @@ use Rattle.std.specs.Prelude.{find, Box}
 use Rattle.clap.specs.Words.{Row, Shape, Text, subcommand_of, subcommand_rows_of, subcommand_rows, subcommand_name_of, is_simple}
 use Rattle.clap.specs.Walk.{answers_to}
 use Rattle.clap.specs.Simple.{argument_words, built, entered, label_of, names_of, rows_at}
-use Rattle.clap.specs.Kinds.{Kinds, or_else, HasKind, IsAmong}
+use Rattle.clap.specs.Kinds.{Kinds, or_else, HasKind}
 use Rattle.clap.specs.declared.error.Error.{Error}
 use Rattle.clap.specs.Words.{kind_of}
-use Rattle.clap.specs.declared.error.kind.ErrorKind.TheVariants.{OutOfMemory}
 use Rattle.clap.specs.Faults.{fault_of, is_simple_and_free}
 use Rattle.clap.specs.declared.parser.matches.ArgMatches.{ArgMatches}
 use Rattle.clap.specs.declared.parser.matches.ArgMatches.TheViews.{out-ArgMatches, out-SubCommand}
@@ -16,10 +15,10 @@ use Rattle.clap.proofs.OnLiterals.{clap_on_literals}
 use Rattle.clap.specs.Walk.{stop_after}
 use Rattle.std.specs.Box.{box_value}
 use Rattle.plm86.specs.CommandLine.{plm86_app}
-use Rattle.std.proofs.Common.{subst}
-use Rattle.plm86.specs.Order.{HasWords, IsRefused}
+use Rattle.plm86.specs.Order.{IsFaultOf}
+use Rattle.plm86.specs.Inner.Orders.{IsFaultFor, IsKibFault}
 use Rattle.plm86.specs.declared.order.OrderFault.{OrderFault}
-use Rattle.plm86.specs.declared.order.OrderFault.TheVariants.{Memory}
+use Rattle.plm86.specs.declared.order.OrderFault.TheVariants.{Words, Help, Memory}
 
 pub app_is_simple : is_simple plm86_app ≡ true
 unfolding clap_on_literals
@@ -75,10 +74,16 @@ pub met : (m : ArgMatches) (name : Text) (rows : List Row) → Some name ≡ sub
     → Some rows ≡ option_map (λ p. p.1) (subcommand_rows_of m) → subcommand_rows_of m ≡ Some (name, rows)
 met m name rows n r = met_at (out-ArgMatches m).subcommand name rows n r
 
--- a fault with words is not want of memory
-pub wordless : (words : List Text) (e : OrderFault) → (fault_of plm86_app words ≡ [] → e ≡ Memory) → HasWords e → IsRefused words
-wordless words e h has = inl (λ none. subst HasWords (h none) has)
+-- the fault for an error of `clap` is that of the words
+pub fault_of_error : (words : List Text) (e : Error) (f : OrderFault) → HasKind (fault_of plm86_app words) e → IsFaultFor (kind_of e) f → IsFaultOf words f
+fault_of_error words e (Words text) (inl memory) is = absurd (is.0 memory)
+fault_of_error words e (Words text) (inr among) is = inl (kind_of e, among, is.1, is.2)
+fault_of_error words e (Help text) (inl memory) (inl is) = cc
+fault_of_error words e (Help text) (inl memory) (inr is) = cc
+fault_of_error words e (Help text) (inr among) is = (kind_of e, among, is)
+fault_of_error words e Memory has is = is
 
-pub only_memory : (kinds : Kinds) (e : Error) → HasKind kinds e → kinds ≡ [] → kind_of e ≡ OutOfMemory
-only_memory kinds e (inl m) none = m
-only_memory kinds e (inr among) none = absurd (subst (IsAmong (kind_of e)) none among)
+pub fault_of_kib : (words : List Text) (rows : List Row) → subcommand_of plm86_app words ≡ Some (codes "build", rows) → (f : OrderFault) → IsKibFault rows f → IsFaultOf words f
+fault_of_kib words rows at (Words text) is = inr (rows, at, is)
+fault_of_kib words rows at (Help text) is = absurd is
+fault_of_kib words rows at Memory is = is

@@ -21,6 +21,7 @@ use Rattle.plm86.specs.declared.build.Source.{Source}
 use Rattle.layout_link.specs.declared.image.Image.{Image}
 use Rattle.layout_link.specs.declared.image.RomSize.{RomSize}
 use Rattle.plm86.specs.Build.{text_of, IsFirst, module_number, in_module, fault_in, scan_faults, tokens_of, IsTree, AreTrees, IsFirstUnparsed, AreModules, AreDeclared, AreTyped, IsBuilt, unresolved, untyped, faulty, too_deep, too_large, RefusesTexts, Refuses}
+use Rattle.plm86.specs.Exact.{Fits, LacksRoom, FitsTexts, in_texts, for_room, RefusesExactly}
 use Rattle.plm86.specs.Inner.Compiling.{IsImage, HasNoRoom}
 use Rattle.plm86.specs.Inner.Parsed.{ParsesAll}
 
@@ -93,6 +94,10 @@ pub faulty_refused : (texts : List (List ℕ)) (size : RomSize) (f : Fault) → 
 faulty_refused texts size Memory said = tt
 faulty_refused texts size (At which line number) said = faulty said
 
+pub faulty_refused_exactly : (texts : List (List ℕ)) (size : RomSize) (f : Fault) → RefusesTexts texts f → RefusesExactly texts size f
+faulty_refused_exactly texts size Memory said = tt
+faulty_refused_exactly texts size (At which line number) said = in_texts said
+
 module _ (texts : List (List ℕ)) (names : Names) where
   pub untyped_refused : AreDeclared texts names → (f : Fault) → types.IsRefusal f names → RefusesTexts texts f
   untyped_refused are Memory said = tt
@@ -111,12 +116,20 @@ module _ (texts : List (List ℕ)) (size : RomSize) (names : Names) where
     compile_refused (At which line number) (inl deep) = too_deep names are deep.1 deep.0
     compile_refused (At which line number) (inr large) = too_large names are large.1 large.0
 
+    pub compile_refused_exactly : (f : Fault) → LacksRoom names size f → RefusesExactly texts size f
+    compile_refused_exactly Memory lacks = tt
+    compile_refused_exactly (At which line number) lacks = for_room names are lacks
+
+    pub compile_fits : (image : Image) → Fits names size image → FitsTexts texts size image
+    compile_fits image fits = record { names = names; typed = are; fits = fits }
+
     pub compile_built : (image : Image) → IsImage names size image → (built : IsBuilt texts size image) × (built.names ≡ names)
     compile_built image is = (
       record {
         names = names;
         typed = are;
         means = is.means;
+        main_at = is.main_at;
         starts = is.starts;
         placement = is.placement;
         size_is = is.long;

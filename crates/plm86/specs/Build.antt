@@ -31,7 +31,7 @@ use Rattle.plm86.specs.declared.build.Source.{Source}
 use Rattle.layout_link.specs.declared.image.Image.{Image}
 use Rattle.layout_link.specs.declared.image.RomSize.{RomSize}
 use Rattle.plm86.specs.Depth.{IsShallow}
-use Rattle.plm86.specs.Headline.{Firmware, RomIsCorrect, StartsQuietly}
+use Rattle.plm86.specs.Headline.{Firmware, RomIsCorrect, StartsQuietly, StartsNoSooner}
 use Rattle.layout_link.specs.Image.{bytes_in, kib_of}
 use Rattle.plm_type.specs.Nodes.{nodes_of, initial_size}
 
@@ -149,16 +149,19 @@ IsInitialByte names offsets a =
 abbrev pub IsSet : Names → (offsets : List ℕ) → (address : ℕ) → Type 0
 IsSet names offsets a = (a < 1024) ⊎ IsInitialByte names offsets a
 
--- Start-up sets nothing else in RAM, and makes no label but those of events.
-abbrev pub StartsUp : Names → Image → Type 0
-StartsUp names image = StartsQuietly board_chips image.start_turns (IsSet names image.placement.offsets.items) image.rom.items reset
+-- Start-up sets nothing else in RAM, makes no label but those of events, and leads to main, which begins at this place, in its turns and no
+-- sooner.
+pub record StartsUp (names : Names) (image : Image) (main_at : ℕ) : Type 0 where
+  pub quietly : StartsQuietly board_chips image.start_turns main_at (IsSet names image.placement.offsets.items) image.rom.items reset
+  pub no_sooner : StartsNoSooner board_chips image.start_turns main_at image.rom.items reset
 
 -- The image of texts: nothing in them is refused, and the ROM does what they mean.
 pub record IsBuilt (texts : List (List ℕ)) (size : RomSize) (image : Image) : Type 0 where
   pub names : Names
   pub typed : AreTyped texts names
   pub means : MeansNames names image
-  pub starts : StartsUp names image
+  pub main_at : ℕ
+  pub starts : StartsUp names image main_at
   pub placement : IsPlacement image.placement.offsets.items (sizes_of names)
   pub size_is : length image.rom.items ≡ bytes_in size
   pub start : image.start_turns ≤ 4096 + initial_size names

@@ -15,7 +15,7 @@ use Rattle.cpu8086.specs.declared.cpu.Phase.{Phase}
 use Rattle.cpu8086.specs.declared.cpu.Phase.TheVariants.{Running, AfterSti, Halted, Stopped}
 use Rattle.cpu8086.specs.BusModel.{BusModel}
 use Rattle.cpu8086.specs.Machine.{loaded_word}
-use Rattle.cpu8086.specs.Turn.{General, HoldWords}
+use Rattle.cpu8086.specs.Turn.{GeneralRegisters, HoldWords}
 use Rattle.board.specs.World.{World, Whole, board_model, occurs}
 use Rattle.board.specs.Machine.{Board, turn, turn_kind, outputs, final, power_on}
 
@@ -143,22 +143,35 @@ module _ {P : Type 0} (c : Chips P) (x : Firmware) (R : Type 0) (next : R → Ac
   -- what the program means. The program's first store is told by the power-on memory.
   abbrev pub RomIsCorrect : (chips : P) → (first_store : (ram screen : List ℕ) → Store P) → Type 0
   RomIsCorrect chips first_store =
-      (general : General) (ram screen : List ℕ) → HoldWords general → length ram ≡ 0x20000 → length screen ≡ 4000
+      (general : GeneralRegisters) (ram screen : List ℕ) → HoldWords general → length ram ≡ 0x20000 → length screen ≡ 4000
       → RunsProgram (power_on general x.rom ram screen chips) (first_store ram screen)
 
 -- ---- start-up
 
-module _ {P : Type 0} (c : Chips P) (start_turns : ℕ) (IsSet : (address : ℕ) → Type 0) where
-  -- Whatever events are due turn by turn: the labels of start-up's turns are those of their events alone, none of them comes to bytes
-  -- that are no instruction, and after these turns RAM is as it was at each address that start-up does not set.
-  pub record QuietStart (reset : Board (World P)) : Type 0 where
-    pub quiet : (due : List (List Event)) → take start_turns (outputs (board_turn c) due reset) ≡ map (map event_label) (take start_turns due)
-    pub orderly : (due : List (List Event)) → length due ≤ start_turns → NeverStops c due reset
-    pub keeps : (due : List (List Event)) → length due ≡ start_turns → (address : ℕ) → address < 0x20000 → ¬ IsSet address
-        → slice_index (final (board_turn c) due reset).world.ram address ≡ slice_index reset.world.ram address
+-- the processor's next instruction is at this place of the code's segment
+abbrev pub IsAt : (place : ℕ) → Regs → Type 0
+IsAt place r = (r.cs ≡ 0xF000) × (r.ip ≡ place)
 
-  -- for every power-on memory, whatever words the general registers hold
-  abbrev pub StartsQuietly : (rom : List ℕ) (chips : P) → Type 0
-  StartsQuietly rom chips =
-      (general : General) (ram screen : List ℕ) → HoldWords general → length ram ≡ 0x20000 → length screen ≡ 4000
-      → QuietStart (power_on general rom ram screen chips)
+module _ {P : Type 0} (c : Chips P) (start_turns main_at : ℕ) where
+  module _ (IsSet : (address : ℕ) → Type 0) where
+    -- Whatever events are due turn by turn: the labels of start-up's turns are those of their events alone, none of them comes to bytes
+    -- that are no instruction, and after these turns main's first instruction is next, and RAM is as it was at each address that start-up
+    -- does not set.
+    pub record QuietStart (reset : Board (World P)) : Type 0 where
+      pub quiet : (due : List (List Event)) → take start_turns (outputs (board_turn c) due reset) ≡ map (map event_label) (take start_turns due)
+      pub orderly : (due : List (List Event)) → length due ≤ start_turns → NeverStops c due reset
+      pub arrives : (due : List (List Event)) → length due ≡ start_turns → IsAt main_at (final (board_turn c) due reset).cpu.registers
+      pub keeps : (due : List (List Event)) → length due ≡ start_turns → (address : ℕ) → address < 0x20000 → ¬ IsSet address
+          → slice_index (final (board_turn c) due reset).world.ram address ≡ slice_index reset.world.ram address
+
+    -- for every power-on memory, whatever words the general registers hold
+    abbrev pub StartsQuietly : (rom : List ℕ) (chips : P) → Type 0
+    StartsQuietly rom chips =
+        (general : GeneralRegisters) (ram screen : List ℕ) → HoldWords general → length ram ≡ 0x20000 → length screen ≡ 4000
+        → QuietStart (power_on general rom ram screen chips)
+
+  -- before as many turns main's first instruction is never next
+  abbrev pub StartsNoSooner : (rom : List ℕ) (chips : P) → Type 0
+  StartsNoSooner rom chips =
+      (general : GeneralRegisters) (ram screen : List ℕ) → HoldWords general → length ram ≡ 0x20000 → length screen ≡ 4000
+      → (due : List (List Event)) → length due < start_turns → ¬ IsAt main_at (final (board_turn c) due (power_on general rom ram screen chips)).cpu.registers

@@ -8,3 +8,4 @@ pub mod Built
 pub mod Meaning
 pub mod Stacks
 pub mod Layers
+pub mod Orders

@@ -9,7 +9,7 @@ use Rattle.i86_table.specs.declared.instruction.Instr.{Instr}
 use Rattle.i86_table.specs.Contexts.{Context, Own, Working, all_registers, offer, start}
 use Rattle.i86_table.specs.Words.{AreWords, HasWords}
 use Rattle.cpu8086.specs.declared.cpu.Phase.TheVariants.{Running}
-use Rattle.cpu8086.specs.Turn.{General, HoldWords}
+use Rattle.cpu8086.specs.Turn.{GeneralRegisters, HoldWords}
 use Rattle.board.specs.World.{World, Whole, board_model, memory_byte, screen_at}
 use Rattle.board.specs.Machine.{Board, power_on}
 use Rattle.plm86.specs.Boots.{Boots}
@@ -109,7 +109,7 @@ FromLayers P R I =
     → Compiled x I does begin procedure k2 m2
     → k1 * suc k2 + k2 < 64
     → (start_turns : ℕ) (chips : P) (first_store : (ram screen : List ℕ) → Store P)
-    → ((general : General) (ram screen : List ℕ) → HoldWords general → length ram ≡ 0x20000 → length screen ≡ 4000
+    → ((general : GeneralRegisters) (ram screen : List ℕ) → HoldWords general → length ram ≡ 0x20000 → length screen ≡ 4000
     → BootsUp c x start_turns (power_on general x.rom ram screen chips) (first_store ram screen))
     → RomIsCorrect c (firmware_of x) R next first body start_turns chips first_store
 
@@ -138,10 +138,10 @@ abbrev pub IsSetBy : List Act → (address : ℕ) → Type 0
 IsSetBy [] address = address < 1024
 IsSetBy (act ∷ acts) address = IsPut act address ⊎ IsSetBy acts address
 
--- The ROM has the code, and the code has a start-up. Then, whatever events are due, start-up makes no label but theirs, and leaves the
--- rest of RAM alone.
+-- The ROM has the code, and the code has a start-up. Then, whatever events are due, start-up makes no label but theirs, leads to main in
+-- as many turns as are counted, and leaves the rest of RAM alone.
 abbrev pub QuietFromRom : Type 0 → Type 0
 QuietFromRom P =
     (c : Chips P) (x : Assembly) → CodeInRom x.rom x.code
     → (entry : ℕ) (acts : List Act) → HasStartUp x.code entry acts x.main_at
-    → (chips : P) → StartsQuietly c (start_up_turns acts) (IsSetBy acts) x.rom chips
+    → (chips : P) → StartsQuietly c (start_up_turns acts) x.main_at (IsSetBy acts) x.rom chips

@@ -3,13 +3,15 @@ pub mod Boots
 pub mod Relation
 pub mod Startup
 pub mod Laws
+pub mod Cases
 pub mod Depth
 pub mod Build
+pub mod Exact
 pub mod BuildAndRun
 pub mod Mean
 pub mod CommandLine
 pub mod Order
 pub mod Input
 pub mod Status
-pub mod Target
+pub mod Destination
 pub mod Inner

@@ -1,8 +1,11 @@
 -- The order that the matches of `clap` spell.
-use Rattle.std.specs.Prelude.{◌≡◌, ◌⊎◌, List, [], Option, Some, None, codes, map, option_map, if◌then◌else◌, ⊤}
+use Rattle.std.specs.Prelude.{◌≡◌, ◌≢◌, ◌⊎◌, List, [], Option, Some, None, codes, map, option_map, if◌then◌else◌, ⊤}
 use Rattle.std.specs.Str.{bytes_eq}
 use Rattle.clap.specs.Words.{Row, Text, first_of, subcommand_of}
 use Rattle.clap.specs.Faults.{fault_of}
+use Rattle.clap.specs.Kinds.{IsAmong}
+use Rattle.clap.specs.declared.error.kind.ErrorKind.{ErrorKind}
+use Rattle.clap.specs.declared.error.kind.ErrorKind.TheVariants.{DisplayHelp, DisplayVersion}
 use Rattle.plm86.specs.CommandLine.{plm86_app, value_of, values_of}
 use Rattle.layout_link.specs.declared.image.RomSize.{RomSize}
 use Rattle.layout_link.specs.declared.image.RomSize.TheVariants.{Kib8, Kib16, Kib32, Kib64}
@@ -36,13 +39,18 @@ abbrev pub Spells : List Text → Order → Type 0
 Spells words o = (fault_of plm86_app words ≡ []) × (name : Text) × (rows : List Row)
     × (subcommand_of plm86_app words ≡ Some (name, rows)) × OrderOf name rows o
 
-abbrev pub HasWords : OrderFault → Type 0
-HasWords (Words text) = ⊤
-HasWords (Help text) = ⊤
-HasWords Memory = ⊥
-
--- `clap` finds no order in the words, or KIB is none of the four
+-- `clap` finds a mistake in the words, or KIB is none of the four
 abbrev pub IsRefused : List Text → Type 0
-IsRefused words = (fault_of plm86_app words ≡ [] → ⊥)
+IsRefused words = ((kind : ErrorKind) × IsAmong kind (fault_of plm86_app words) × (kind ≢ DisplayHelp) × (kind ≢ DisplayVersion))
     ⊎ ((rows : List Row) × (subcommand_of plm86_app words ≡ Some (codes "build", rows))
     × (size_named (value_of (codes "kib") rows) ≡ None))
+
+-- `clap` finds that the words ask for help or the version
+abbrev pub AsksForHelp : List Text → Type 0
+AsksForHelp words = (kind : ErrorKind) × IsAmong kind (fault_of plm86_app words) × ((kind ≡ DisplayHelp) ⊎ (kind ≡ DisplayVersion))
+
+-- why the words give no order; want of memory may come at any point
+abbrev pub IsFaultOf : List Text → OrderFault → Type 0
+IsFaultOf words (Words text) = IsRefused words
+IsFaultOf words (Help text) = AsksForHelp words
+IsFaultOf words Memory = ⊤

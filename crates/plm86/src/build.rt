@@ -6,6 +6,7 @@ ghost use Rattle.plm_syntax.specs.View.{module_of};
 ghost use Rattle.board.specs.Run.{due_of};
 ghost use Rattle.plm86.specs.BuildAndRun.{HasRun, HasNotRun};
 ghost use Rattle.plm86.specs.Build.{text_of, module_number, in_module, scan_faults, tokens_of, AreTyped, IsBuilt, RefusesTexts, Refuses};
+ghost use Rattle.plm86.specs.Exact.{FitsTexts, RefusesExactly};
 ghost use Rattle.plm86.specs.Inner.Parsed.{Says};
 ghost use Rattle.plm86.specs.Inner.Parsed.{ParsesAll};
 ghost use Rattle.plm86.specs.Inner.Built.{IsBuiltWith};
@@ -99,7 +100,9 @@ pub(crate) fn build_program(
     size: RomSize,
 ) -> Result<Built, Fault>
     ensures built { IfOk result (IsBuiltWith (map text_of sources.now) size) }
+    ensures fits { IfOk result (λ b. FitsTexts (map text_of sources.now) size b.image) }
     ensures refused { IfErr result (Refuses (map text_of sources.now) size) }
+    ensures exact { IfErr result (RefusesExactly (map text_of sources.now) size) }
 {
     let program = analyse(alloc, sources)?;
     let image = compile(alloc, &program, size)?;
@@ -110,14 +113,17 @@ pub(crate) fn build_program(
 ///
 /// # Errors
 ///
-/// Those of `analyse`; then the stack's room (E501, where main and an interrupt procedure take more than 4,094 bytes; never where the
-/// longest paths of calls of both have together at most 8 procedures and no statement has more than 32 constants and references); then
-/// the ROM's room (E601, never where the program has at most 16 nodes for each KiB and its initial bytes fill at most a quarter of the
-/// ROM; a node is a statement, procedure, operator (`:=` among them), reference or constant (a string or a location list is one), and
-/// each stretch of RAM that initial values fill without a gap).
+/// Those of `analyse`; then the stack's room (E501, exactly where main and an interrupt procedure take more than 4,094 bytes, as they are
+/// counted of the program's code; never where the longest paths of calls of both have together at most 8 procedures and no statement has
+/// more than 32 constants and references); then the ROM's room (E601, exactly where start-up, the program's parts and its initial bytes do
+/// not fit; never where the program has at most 16 nodes for each KiB and its initial bytes fill at most a quarter of the ROM; a node is a
+/// statement, procedure, operator (`:=` among them), reference or constant (a string or a location list is one), and each stretch of RAM
+/// that initial values fill without a gap).
 pub fn build(alloc: Global, sources: &[Source<'_>], size: RomSize) -> Result<Image, Fault>
     ensures built { IfOk result (IsBuilt (map text_of sources.now) size) }
+    ensures fits { IfOk result (FitsTexts (map text_of sources.now) size) }
     ensures refused { IfErr result (Refuses (map text_of sources.now) size) }
+    ensures exact { IfErr result (RefusesExactly (map text_of sources.now) size) }
 {
     match build_program(alloc, sources, size) {
         Ok(Built { image, .. }) => Ok(image),

@@ -1,4 +1,8 @@
 //! The command `build`.
+//!
+//! The image has the contract of `build_program`; the rest has none. That outputs are compared before a source is read, that all sources are
+//! read before one is refused, that warnings come before the files, and the ROM's file before the listing's and this before the map's, is
+//! shown by `tests/run`.
 
 use crate::build::Source;
 use crate::built::Built;

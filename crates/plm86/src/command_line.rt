@@ -1,11 +1,11 @@
 //! The command line.
 
-ghost use Rattle.std.specs.Prelude.{◌≡◌, IfOk, IfErr, false, None, codes, map, option_map};
+ghost use Rattle.std.specs.Prelude.{◌≡◌, IfOk, IfErr, false, codes, map, option_map};
 ghost use Rattle.clap.specs.Words.{app_of, rule_of, found_of, first_of, kind_of, rows_of};
-ghost use Rattle.clap.specs.declared.error.kind.ErrorKind.TheVariants.{OutOfMemory};
 ghost use Rattle.clap.specs.declared.builder.command.Command.TheViews.{out-Command};
-ghost use Rattle.plm86.specs.Order.{HasWords, IsRefused, OrderOf, Spells, size_named, value_of, values_of};
+ghost use Rattle.plm86.specs.Order.{IsFaultOf, OrderOf, Spells, size_named, value_of, values_of};
 ghost use Rattle.plm86.specs.CommandLine.{plm86_app, build_app, run_app, mean_app, needed, several, lettered};
+ghost use Rattle.plm86.specs.Inner.Orders.{IsFaultFor, IsKibFault};
 ghost use Rattle.plm86.specs.declared.order.OrderFault.TheVariants.{Memory};
 
 use crate::order::{Order, OrderFault};
@@ -163,8 +163,7 @@ fn texts_given<'a>(
 
 fn build_order<'a>(alloc: Global, matches: &ArgMatches<'a>) -> Result<Order<'a>, OrderFault>
     ensures ok { IfOk result (OrderOf (codes "build") (rows_of (found_of matches.now))) }
-    ensures err { IfErr result (λ e. HasWords e
-        → size_named (value_of (codes "kib") (rows_of (found_of matches.now))) ≡ None) }
+    ensures err { IfErr result (IsKibFault (rows_of (found_of matches.now))) }
 {
     let kib = text_given(matches, "kib");
     match size_of_text(kib) {
@@ -204,15 +203,21 @@ fn mean_order<'a>(alloc: Global, matches: &ArgMatches<'a>) -> Result<Order<'a>, 
 
 // The fault for an error of `clap`.
 fn refusal(alloc: Global, error: &Error) -> OrderFault
-    ensures { kind_of error.now ≡ OutOfMemory → result ≡ Memory }
+    ensures { IsFaultFor (kind_of error.now) result }
 {
     if matches!(error.kind(), ErrorKind::OutOfMemory) {
         return OrderFault::Memory;
     }
-    match format!(in alloc; "{error}") {
-        Ok(text) if error.use_stderr() => OrderFault::Words(text),
-        Ok(text) => OrderFault::Help(text),
-        Err(_) => OrderFault::Memory,
+    let Ok(text) = format!(in alloc; "{error}") else {
+        return OrderFault::Memory;
+    };
+    if matches!(
+        error.kind(),
+        ErrorKind::DisplayHelp | ErrorKind::DisplayVersion
+    ) {
+        OrderFault::Help(text)
+    } else {
+        OrderFault::Words(text)
     }
 }
 
@@ -220,11 +225,11 @@ fn refusal(alloc: Global, error: &Error) -> OrderFault
 ///
 /// # Errors
 ///
-/// The words to print where `clap` refuses the line or KIB is none of 8, 16, 32 and 64; help or the version where these are asked for; or
-/// want of memory.
+/// `Words` where `clap` finds a mistake in the line, or KIB is none of 8, 16, 32 and 64; `Help` where `clap` finds that help or the
+/// version is asked for; `Memory` for want of memory.
 pub fn order<'a>(alloc: Global, words: &'a [&str]) -> Result<Order<'a>, OrderFault>
     ensures ok { IfOk result (Spells (map (λ w. w.now) words.entry.now)) }
-    ensures words { IfErr result (λ e. HasWords e → IsRefused (map (λ w. w.now) words.entry.now)) }
+    ensures refused { IfErr result (IsFaultOf (map (λ w. w.now) words.entry.now)) }
 {
     let command = whole_command(alloc)?;
     let matches = match command.try_get_matches_from(words) {

@@ -3,6 +3,7 @@
 ghost use Rattle.std.specs.Prelude.{◌≡◌, ◌<◌, ◌⊎◌, IfOk, IfErr};
 ghost use Rattle.layout_link.specs.Image.{bytes_in};
 ghost use Rattle.layout_link.specs.Linker.{needed};
+ghost use Rattle.plm86.specs.Exact.{Fits, LacksRoom};
 ghost use Rattle.plm86.specs.Inner.Compiling.{Promises, IsLinked, IsImage, HasNoRoom};
 
 use crate::laws::laws_below;
@@ -64,10 +65,13 @@ fn assemble(
 ///
 /// # Errors
 ///
-/// E501 where the stack has no room for main and an interrupt procedure; E601 where the ROM has none for the code; want of memory.
+/// E501 exactly where the stack has no room for what is counted of main and an interrupt procedure; else E601 exactly where the ROM has
+/// none for the code; want of memory.
 pub(crate) fn compile(alloc: Global, program: &Program, size: RomSize) -> Result<Image, Fault>
     ensures image { IfOk result (IsImage program.now.names size) }
+    ensures fits { IfOk result (Fits program.now.names size) }
     ensures refused { IfErr result (HasNoRoom program.now.names size) }
+    ensures exact { IfErr result (LacksRoom program.now.names size) }
 {
     layers_keep_their_promises();
     let names = program.names();

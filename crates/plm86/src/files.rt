@@ -1,4 +1,6 @@
 //! The files that a command reads, and what stops it at a file.
+//!
+//! What is read has the contract of `read_all`; the rest has none. That each stop names the file that it is of is shown by `tests/run`.
 
 use crate::input::{ReadFault, read_all};
 use crate::stop::Stop;

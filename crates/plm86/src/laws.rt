@@ -1,5 +1,6 @@
 //! What stands between the layers of the compiler and the board; and which run of the language the meaning's is.
 
+ghost use Rattle.plm86.specs.Cases.{CasesAreReachedSoon};
 ghost use Rattle.plm86.specs.Inner.BoardLaws.{LawsBelow};
 ghost use Rattle.plm86.specs.Laws.{FromLayers, FromRom, QuietFromRom};
 ghost use Rattle.plm86.specs.Mean.{MeanLaw};
@@ -7,6 +8,7 @@ ghost use Rattle.plm86.specs.Mean.{MeanLaw};
 use board::memory_laws;
 use i86_code::{decoded_widths, one_form};
 use i86_table::{context_laws, control_flags_law, flag_laws, instructions_keep_words};
+use select::cases_come_soon;
 
 /// The types of a compiler's layers: the states of the chips, the rests of a program's contexts, and the places of its
 /// intermediate code.
@@ -55,7 +57,8 @@ pub fn rom_is_correct<L: Layers>()
 }
 
 /// From the bytes of a ROM whose code has a start-up: whatever events are due, start-up makes no label but theirs, comes to no bytes
-/// that are no instruction, and leaves each byte of RAM that it does not set as it was when the power came on.
+/// that are no instruction, leads to main's first instruction in the turns that are counted of its acts, and leaves each byte of RAM that
+/// it does not set as it was when the power came on.
 pub fn rom_starts_quietly<L: Layers>()
     ensures { QuietFromRom L.Ports }
 {
@@ -68,3 +71,12 @@ pub fn rom_starts_quietly<L: Layers>()
 pub fn mean_is_allowed()
     ensures { MeanLaw }
 {}
+
+/// A DO CASE, wherever it stands in a program's code: with its value in AX, and whatever the number of its cases, at most 8 turns lead to
+/// the first instruction of the case that the value chooses. The language comes to that case by silent steps alone. Where there is no
+/// such case, at most 8 turns lead to what stands after the table, and the language is past the DO CASE.
+pub fn cases_are_reached_soon()
+    ensures { CasesAreReachedSoon }
+{
+    cases_come_soon();
+}

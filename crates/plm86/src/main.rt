@@ -1,5 +1,8 @@
 //! The program: `plm86 build` compiles PL/M-86 modules to a ROM, `plm86 run` runs a ROM on the board and writes its trace, and
 //! `plm86 mean` runs what modules mean.
+//!
+//! What stands in this file has no contract. That words which are no UTF-8 or no order end with status 2, that help and the version go to
+//! standard output with status 0, and that each order comes to its command, is shown by `tests/run`.
 #![tactic(auto)]
 
 mod build;
@@ -7,6 +10,7 @@ mod building;
 mod built;
 mod command_line;
 mod compile;
+mod destination;
 mod files;
 mod input;
 mod laws;
@@ -19,7 +23,6 @@ mod running;
 mod sources;
 mod status;
 mod stop;
-mod target;
 mod writing;
 
 use building::build_rom;
@@ -92,6 +95,7 @@ fn show(rt: &HostRuntime, alloc: Global, text: &str) -> Result<u8, Stop> {
     }
 }
 
+/// Does what the words ask for, says on standard error why it stops early, and ends with the status. No contract: `tests/run`.
 fn main(rt: HostRuntime) -> ExitCode {
     let alloc = rt.alloc();
     let status = match work(&rt, alloc) {

@@ -115,7 +115,7 @@ fn take_events<S: Sink>(
         (Ended whole old (S.taken sink.new) before (S.failures sink.new)) }
 {
     for event in events {
-        let _came = advance(meaning, &[Choice::Occurs(*event)], sink)?;
+        let _came = advance(meaning, &[Choice::Event(*event)], sink)?;
     }
     Ok(())
 }

@@ -1,4 +1,8 @@
 //! The command `mean`.
+//!
+//! The run has the contract of `mean_run`, and its status that of `mean_status`; the rest has none. That the schedule is read before the
+//! sources and all before a fault is answered, the schedule's first, that warnings come before the trace, and where a Bad step has its line,
+//! is shown by `tests/run`.
 
 use crate::build::Source;
 use crate::built::Built;

@@ -30,11 +30,14 @@ pub enum Order<'a> {
     },
 }
 
-/// Why there is no order: it is refused, with the words to print; help or the version is asked for in its place; or want of memory.
+/// Why there is no order.
 #[derive(Debug, Drop)]
 pub enum OrderFault {
+    /// The words are refused: the text that says why.
     Words(String),
+    /// The words ask for help or the version, which is no refusal: the text of it.
     Help(String),
+    /// A growth of memory was refused.
     Memory,
 }
 

@@ -1,8 +1,10 @@
 //! The files that a build writes, and that no source and no other output is lost by one.
 
-use crate::paths::{path_of, target_of};
+ghost use Rattle.std.specs.Prelude.{◌≡◌, IfOk, length, vec_len};
+
+use crate::destination::{Destination, first_clash};
+use crate::paths::{destination_of, path_of};
 use crate::stop::Stop;
-use crate::target::{Target, first_clash};
 use std::alloc::{AllocError, Global};
 use std::path::PathBuf;
 use std::rt::Files;
@@ -17,21 +19,21 @@ pub(crate) struct Outputs<'a> {
 
 /// What a build wants of a file.
 #[derive(Debug, Clone, Copy, PartialEq, Eq)]
-pub(crate) enum Part {
+pub(crate) enum Purpose {
     Rom,
     Listing,
     Map,
     Source,
 }
 
-impl Part {
+impl Purpose {
     /// Its word in a message.
     pub fn word(self) -> &'static str {
         match self {
-            Part::Rom => "ROM",
-            Part::Listing => "listing",
-            Part::Map => "map",
-            Part::Source => "source",
+            Purpose::Rom => "ROM",
+            Purpose::Listing => "listing",
+            Purpose::Map => "map",
+            Purpose::Source => "source",
         }
     }
 }
@@ -39,37 +41,63 @@ impl Part {
 /// A file of a build, by the name that it was given.
 #[derive(Debug, Clone, Copy)]
 pub(crate) struct Named<'a> {
-    pub part: Part,
+    pub purpose: Purpose,
     pub name: &'a str,
 }
 
 impl<'a> Outputs<'a> {
-    // The files that are written, and after them the sources; and how many are written.
-    fn with_sources(
-        self,
-        alloc: Global,
-        sources: &[&'a str],
-    ) -> Result<(Vec<Named<'a>>, usize), AllocError> {
+    // The files that are written.
+    fn files(self, alloc: Global) -> Result<Vec<Named<'a>>, AllocError> {
         let mut files = Vec::new(alloc);
-        let written = [
-            (Part::Rom, Some(self.rom)),
-            (Part::Listing, self.listing),
-            (Part::Map, self.map),
+        let named = [
+            (Purpose::Rom, Some(self.rom)),
+            (Purpose::Listing, self.listing),
+            (Purpose::Map, self.map),
         ];
-        for (part, name) in written {
+        for (purpose, name) in named {
             if let Some(name) = name {
-                files.push(Named { part, name })?;
+                files.push(Named { purpose, name })?;
             }
         }
-        let written = files.len();
-        for name in sources {
-            files.push(Named {
-                part: Part::Source,
-                name,
-            })?;
-        }
-        Ok((files, written))
+        Ok(files)
     }
+}
+
+// Puts the sources behind the files that are written.
+fn push_sources<'a>(files: &mut Vec<Named<'a>>, sources: &[&'a str]) -> Result<(), AllocError> {
+    for name in sources {
+        files.push(Named {
+            purpose: Purpose::Source,
+            name,
+        })?;
+    }
+    Ok(())
+}
+
+// The path that each file's name leads to.
+fn paths_of<R: Files>(rt: &R, alloc: Global, files: &[Named<'_>]) -> Result<Vec<PathBuf>, Stop>
+    ensures { IfOk result (λ paths. vec_len paths ≡ length files.now) }
+{
+    let mut paths: Vec<PathBuf> = Vec::new(alloc);
+    for file in files {
+        paths.push(path_of(rt, alloc, file.name)?)?;
+    }
+    Ok(paths)
+}
+
+// What each path leads to.
+fn destinations_of<'a, R: Files>(
+    rt: &R,
+    alloc: Global,
+    paths: &'a [PathBuf],
+) -> Result<Vec<Destination<'a>>, Stop>
+    ensures { IfOk result (λ destinations. vec_len destinations ≡ length paths.now) }
+{
+    let mut destinations: Vec<Destination<'_>> = Vec::new(alloc);
+    for path in paths {
+        destinations.push(destination_of(rt, path.as_path()))?;
+    }
+    Ok(destinations)
 }
 
 /// Refuses a build one of whose files would be lost by an output: a source, or another output. It opens none of them.
@@ -79,16 +107,12 @@ pub(crate) fn refuse_losses<R: Files>(
     outputs: Outputs<'_>,
     sources: &[&str],
 ) -> Result<(), Stop> {
-    let (files, written) = outputs.with_sources(alloc, sources)?;
-    let mut paths: Vec<PathBuf> = Vec::new(alloc);
-    for file in &files {
-        paths.push(path_of(rt, alloc, file.name)?)?;
-    }
-    let mut targets: Vec<Target<'_>> = Vec::new(alloc);
-    for path in &paths {
-        targets.push(target_of(rt, path.as_path()))?;
-    }
-    match first_clash(&targets, written) {
+    let mut files = outputs.files(alloc)?;
+    let written = files.len();
+    push_sources(&mut files, sources)?;
+    let paths = paths_of(rt, alloc, &files)?;
+    let destinations = destinations_of(rt, alloc, &paths)?;
+    match first_clash(&destinations, written) {
         Some((k, m)) => Err(Stop::one_file(alloc, files[k], files[m])?),
         None => Ok(()),
     }

@@ -1,7 +1,7 @@
 //! What the names of files lead to.
 
+use crate::destination::{Destination, Inode};
 use crate::stop::Stop;
-use crate::target::{Node, Target};
 use std::alloc::Global;
 use std::fs::Metadata;
 use std::io::ErrorKind;
@@ -58,11 +58,11 @@ pub(crate) fn is_open_file(path: Path<'_>) -> bool {
 }
 
 /// What a path leads to.
-pub(crate) fn target_of<'a, R: Files>(rt: &R, path: Path<'a>) -> Target<'a> {
+pub(crate) fn destination_of<'a, R: Files>(rt: &R, path: Path<'a>) -> Destination<'a> {
     match path.metadata(rt) {
-        Ok(found) if is_passing(&found) => Target::Passing,
-        Ok(found) if is_open_file(path) => Target::Opened(node_of(&found)),
-        Ok(found) => Target::File(node_of(&found)),
+        Ok(found) if is_passing(&found) => Destination::Passing,
+        Ok(found) if is_open_file(path) => Destination::Opened(inode_of(&found)),
+        Ok(found) => Destination::File(inode_of(&found)),
         Err(_) => new_file(rt, path),
     }
 }
@@ -73,17 +73,17 @@ fn is_passing(found: &Metadata) -> bool {
     kind.is_char_device() || kind.is_fifo() || kind.is_socket()
 }
 
-fn node_of(found: &Metadata) -> Node {
-    Node {
+fn inode_of(found: &Metadata) -> Inode {
+    Inode {
         device: found.dev(),
         number: found.ino(),
     }
 }
 
 // What a path leads to where no file is.
-fn new_file<'a, R: Files>(rt: &R, path: Path<'a>) -> Target<'a> {
+fn new_file<'a, R: Files>(rt: &R, path: Path<'a>) -> Destination<'a> {
     match (path.file_name(), folder_of(path).metadata(rt)) {
-        (Some(name), Ok(folder)) => Target::New(node_of(&folder), name),
-        _ => Target::Passing,
+        (Some(name), Ok(folder)) => Destination::New(inode_of(&folder), name),
+        _ => Destination::Passing,
     }
 }

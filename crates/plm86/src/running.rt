@@ -1,4 +1,7 @@
 //! The command `run`, and what `mean` shares with it.
+//!
+//! The run has the contract of `Board::run`, and its status that of `status`; the rest has none. That the ROM is read before the schedule and
+//! both before a fault is answered, the schedule's before the ROM's, is shown by `tests/run`.
 
 use crate::files::{cut_short, read_file, refusal};
 use crate::mean::CANNOT_WRITE;

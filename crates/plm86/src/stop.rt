@@ -1,6 +1,8 @@
 //! What ends the program before its work is done, and what it says then.
+//!
+//! Texts and statuses have no contract: `tests/run` shows one of each kind, and `tests/pages` each message of `docs/ERRORS.md`.
 
-use crate::outputs::{Named, Part};
+use crate::outputs::{Named, Purpose};
 use listing_map::fault_line;
 use std::alloc::{AllocError, AllocFailed, Global};
 use word86::{Number, Sink, put_all};
@@ -40,22 +42,24 @@ impl Stop {
         lost: Named<'_>,
     ) -> Result<Stop, AllocError> {
         let (name, other) = (written.name, lost.name);
-        let (part, other_part) = (written.part.word(), lost.part.word());
-        let text = match lost.part {
-            Part::Source if name == other => {
+        let (purpose, other_purpose) = (written.purpose.word(), lost.purpose.word());
+        let text = match lost.purpose {
+            Purpose::Source if name == other => {
                 format!(in alloc; "error: {name} is a source and would be written over\n")?
             }
-            Part::Source => {
+            Purpose::Source => {
                 format!(in alloc;
                     "error: {name} is the source {other} and would be written over\n"
                 )?
             }
-            Part::Rom | Part::Listing | Part::Map if name == other => {
-                format!(in alloc; "error: {name} is named twice, as {part} and as {other_part}\n")?
-            }
-            Part::Rom | Part::Listing | Part::Map => {
+            Purpose::Rom | Purpose::Listing | Purpose::Map if name == other => {
                 format!(in alloc;
-                    "error: {name} and {other} are one file, named as {part} and as {other_part}\n"
+                    "error: {name} is named twice, as {purpose} and as {other_purpose}\n"
+                )?
+            }
+            Purpose::Rom | Purpose::Listing | Purpose::Map => {
+                format!(in alloc;
+                    "error: {name} and {other} are one file, named as {purpose} and as {other_purpose}\n"
                 )?
             }
         };

@@ -1,5 +1,5 @@
 -- What `link` answers, and what follows from it, as clauses on an answer.
-use Rattle.std.proofs.Common.{◌≡◌, ℕ, ◌+◌, ◌≤◌, ◌<◌, List, length, ap, arith}
+use Rattle.std.proofs.Common.{◌≡◌, ℕ, ◌+◌, ◌≤◌, ◌<◌, List, length, sym, ap, subst, arith}
 use Rattle.std.specs.Prelude.{slice_index, Result, Ok, Err, IfOk, OnOk}
 use Rattle.word86.specs.declared.fault.Fault.{Fault}
 use Rattle.plm_decl.specs.declared.names.Names.{Names}
@@ -15,15 +15,17 @@ use Rattle.select.specs.declared.part.Part.{Part}
 use Rattle.select.specs.Selection.{AreParts}
 use Rattle.layout_link.specs.declared.image.Image.{Image}
 use Rattle.layout_link.specs.declared.image.RomSize.{RomSize}
-use Rattle.layout_link.specs.Image.{bytes_in}
+use Rattle.layout_link.specs.Image.{bytes_in, base_of}
 use Rattle.layout_link.specs.Initial.{HaveBytes, count_of}
-use Rattle.layout_link.specs.Linker.{offsets_in, needed, places_in, place_of, acts_in, InitialStands}
+use Rattle.layout_link.specs.Linker.{offsets_in, start_up_in, needed, places_in, place_of, acts_in, InitialStands}
 use Rattle.layout_link.specs.Rom.{CodeInRom, WordsInRom, rom_code, rom_words}
 use Rattle.layout_link.specs.Stand.{PartsStand}
-use Rattle.layout_link.specs.Startup.{HasStartUp, start_up_turns}
+use Rattle.layout_link.specs.Startup.{HasStartUpBefore, start_up_turns}
 use Rattle.layout_link.specs.Tasks.{is_main, is_unserved}
+use Rattle.plm86.specs.Exact.{Fits}
 use Rattle.plm86.specs.Inner.Compiling.{Promises, IsLinked, IsImage}
 use Rattle.plm86.proofs.Composition.Data.{bytes_few}
+use Rattle.plm86.proofs.Composition.Exactly.{in_stack, in_rom}
 use Rattle.plm86.proofs.Composition.Whole.{means, starts}
 
 pub linked :
@@ -31,7 +33,7 @@ pub linked :
     → IfOk r (λ image. length image.rom.items ≡ bytes_in size)
     → IfOk r (λ image. CodeInRom image.rom.items (rom_code image.rom.items))
     → IfOk r (λ image. WordsInRom image.rom.items (rom_words image.rom.items))
-    → IfOk r (λ image. HasStartUp (rom_code image.rom.items) (place_of names parts size is_unserved) (acts_in names parts size) (place_of names parts size is_main))
+    → IfOk r (λ image. HasStartUpBefore (base_of size + start_up_in names parts) (rom_code image.rom.items) (place_of names parts size is_unserved) (acts_in names parts size) (place_of names parts size is_main))
     → IfOk r (λ image. InitialStands names parts size image.rom.items)
     → OnOk r (HaveBytes (offsets_in names) names.variables.items names.objects.items)
     → IfOk r (λ image. image.start_turns ≡ start_up_turns (acts_in names parts size))
@@ -65,6 +67,7 @@ module _ (promises : Promises) (program : Program) (names : Names) (typed : AreT
   image_is : (image : Image) → IsLinked names parts stack size image → IsImage names size image
   image_is image is = record {
     means = means promises program names typed c lowered stack counted enough runs parts selected size image is;
+    main_at = place_of names parts size is_main;
     starts = starts promises program names typed c lowered stack counted enough runs parts selected size image is;
     placement = is.placement;
     long = is.long;
@@ -75,3 +78,18 @@ module _ (promises : Promises) (program : Program) (names : Names) (typed : AreT
   pub is_image : (r : Result Image Fault) → IfOk r (IsLinked names parts stack size) → IfOk r (IsImage names size)
   is_image (Err f) is = tt
   is_image (Ok image) is = image_is image is
+
+  fits_in : (image : Image) → IsLinked names parts stack size image → Fits names size image
+  fits_in image is = record {
+    stack = record { code = c; lowered = lowered; counted = subst (λ s. IsCounted c s.main s.handler) (sym is.stack_is) counted };
+    in_stack = in_stack names c lowered stack.main stack.handler counted enough;
+    parts = parts;
+    has_parts = record { code = c; lowered = lowered; selected = selected };
+    in_rom = in_rom names c lowered promises.entries parts selected size is.fits;
+    turns = is.turns;
+    starts = starts promises program names typed c lowered stack counted enough runs parts selected size image is;
+  }
+
+  pub does_fit : (r : Result Image Fault) → IfOk r (IsLinked names parts stack size) → IfOk r (Fits names size)
+  does_fit (Err f) is = tt
+  does_fit (Ok image) is = fits_in image is

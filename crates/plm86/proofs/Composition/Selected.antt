@@ -1,8 +1,9 @@
 -- The image of a program put together is as selection asks.
-use Rattle.std.proofs.Common.{◌≡◌, ℕ, ◌+◌, ◌-◌, ◌<◌, ◌≤◌, Bool, true, false, List, [], ◌∷◌, option_map, Option, Some, None, refl, sym, ap, ◌∙◌, subst, arith}
+use Rattle.std.proofs.Common.{◌≡◌, ℕ, zero, suc, ◌+◌, ◌-◌, ◌<◌, ◌≤◌, Bool, true, false, List, [], ◌∷◌, length, option_map, Option, Some, None, refl, sym, ap, ◌∙◌, subst, arith}
 use Rattle.std.specs.Prelude.{slice_get, slice_index, position}
 use Rattle.std.specs.Option.{option_map_or}
-use Rattle.std.proofs.lemmas.Option.{slice_get-map}
+use Rattle.std.proofs.lemmas.List.Quantifiers.{position-Some}
+use Rattle.std.proofs.lemmas.Option.{none-some, slice_get-map}
 use Rattle.icode.specs.declared.instruction.Instruction.{Instruction}
 use Rattle.icode.specs.declared.instruction.Instruction.TheVariants as op
 use Rattle.icode.specs.declared.code.Procedure as declared
@@ -28,6 +29,7 @@ use Rattle.layout_link.specs.declared.image.RomSize.{RomSize}
 use Rattle.layout_link.specs.declared.image.RomSize.TheVariants as kib
 use Rattle.layout_link.specs.Image.{bytes_in, base_of}
 use Rattle.layout_link.specs.Linker.{offsets_in, start_up_in, places_in, place_of}
+use Rattle.layout_link.specs.Places.{places_from}
 use Rattle.layout_link.specs.Rom.{rom_code, rom_words}
 use Rattle.layout_link.specs.Tasks.{is_main, is_unserved, is_serving}
 use Rattle.layout_link.specs.Tasks as tasks
@@ -56,6 +58,20 @@ all_absent f fails (r ∷ rs) = (fails r, all_absent f fails rs)
 chosen_low : (ps : List ℕ) → ((k : ℕ) → slice_index ps k < 65536) → (o : Option ℕ) (other : ℕ) → other < 65536 → option_map_or (λ k. slice_index ps k) o other < 65536
 chosen_low ps low (Some k) other h = low k
 chosen_low ps low None other h = h
+
+-- the parts lie from a place on
+place_from : (from : ℕ) (ps : List Part) (k : ℕ) → k < length ps → from ≤ slice_index (places_from from ps) k
+place_from from [] k lt = absurd (omega (arith, lt))
+place_from from (p ∷ ps) zero lt = omega arith
+place_from from (p ∷ ps) (suc k) lt = let more = place_from (from + length p.bytes.items) ps k (omega (arith, lt)) in omega (arith, more)
+
+chosen_behind : (from : ℕ) (test : Part → Bool) (ps : List Part) (o : Option ℕ) (k : ℕ) → position test ps ≡ o → o ≡ Some k → from ≤ option_map_or (λ n. slice_index (places_from from ps) n) o 0
+chosen_behind from test ps None k e f = absurd (none-some k f)
+chosen_behind from test ps (Some n) k e f = place_from from ps n (inside from test ps n e)
+  where
+    inside : (from : ℕ) (test : Part → Bool) (ps : List Part) (n : ℕ) → position test ps ≡ Some n → n < length ps
+    inside from test [] n e = absurd (none-some n e)
+    inside from test (p ∷ ps) n e = (position-Some test (p ∷ ps) n p e).0
 
 module _ (names : Names) (c : Code) (parts : List Part) (size : RomSize) (rom : List ℕ) (main handler : ℕ) (assembled : IsAssembled names c parts size rom main handler) where
   abbrev at : Routine → ℕ → ℕ
@@ -174,6 +190,12 @@ module _ (names : Names) (c : Code) (parts : List Part) (size : RomSize) (rom : 
 
   pub found : Finds (find_from 0 (offsets_in names) (sizes_of names)) (λ k. slice_index (offsets_in names) k) (λ k. slice_index (sizes_of names) k)
   found = finds (offsets_in names) (sizes_of names)
+
+  -- main's part stands behind start-up
+  pub main_behind : base_of size + start_up_in names parts ≤ place_of names parts size is_main
+  main_behind =
+      let there = parts_position c saves is_main is_main_routine (main_entry c) 0 (routines c) parts assembled.selected.parts_are ∙ alone_position is_main_routine (routines c) (part_number c Main) (main_is names c assembled.lowered) in
+      chosen_behind (base_of size + start_up_in names parts) (λ (p : Part). is_main p.entry) parts (position (λ (p : Part). is_main p.entry) parts) (part_number c Main) refl there
 
   pub main_low : place_of names parts size is_main < 65536
   main_low = chosen_low all_places assembled.within (position (λ (p : Part). is_main p.entry) parts) 0 (omega arith)

@@ -1,5 +1,5 @@
 -- What the layers give for a checked program, as the headline wants it.
-use Rattle.std.proofs.Common.{◌≡◌, ℕ, ◌+◌, ◌*◌, ◌<◌, ◌≤◌, List, map, length, refl, sym, ap, ◌∙◌, subst, inl, inr}
+use Rattle.std.proofs.Common.{◌≡◌, ℕ, ◌+◌, ◌*◌, ◌<◌, ◌≤◌, List, map, length, refl, sym, ap, ◌∙◌, subst, inl, inr, arith}
 use Rattle.std.specs.Prelude.{slice_index}
 use Rattle.std.proofs.lemmas.Bool.{cases_lt}
 use Rattle.plm_decl.specs.declared.names.Names.{Names}
@@ -27,8 +27,8 @@ use Rattle.layout_link.specs.declared.image.Image.{Image}
 use Rattle.layout_link.specs.declared.image.RomSize.{RomSize}
 use Rattle.layout_link.specs.Linker.{offsets_in, place_of, acts_in}
 use Rattle.layout_link.specs.Startup.{start_up_turns}
-use Rattle.layout_link.specs.Tasks.{is_unserved}
-use Rattle.plm86.specs.Headline.{RomIsCorrect, StartsQuietly}
+use Rattle.layout_link.specs.Tasks.{is_main, is_unserved}
+use Rattle.plm86.specs.Headline.{RomIsCorrect, StartsQuietly, StartsNoSooner}
 use Rattle.plm86.specs.Laws.{Assembly, IsSound, firmware_of, power_on_memory}
 use Rattle.plm86.specs.Startup.{with_vectors, after_acts}
 use Rattle.plm86.specs.Build.{MeansNames, IsSet, StartsUp}
@@ -39,10 +39,10 @@ use Rattle.plm86.proofs.Machine.Placements.{placed_by}
 use Rattle.plm86.proofs.Composition.Stacking.{in_words}
 use Rattle.plm86.proofs.Composition.Meeting.{joined}
 use Rattle.plm86.proofs.Composition.Finding.{finds}
-use Rattle.plm86.proofs.Composition.Selected.{is_selected, is_image, main_low}
+use Rattle.plm86.proofs.Composition.Selected.{is_selected, is_image, main_low, main_behind}
 use Rattle.plm86.proofs.Composition.FirstStore.{first_store_stands, keeps_others}
 use Rattle.plm86.proofs.Headline.FromRom.{from_rom}
-use Rattle.plm86.proofs.Headline.Quiet.{quiet_by_memory}
+use Rattle.plm86.proofs.Headline.Quiet.{quiet_by_memory, no_sooner}
 
 module _ (promises : Promises) (program : Program) (names : Names) (typed : AreTyped program names) (c : Code) (lowered : IsLowered names c) (stack : Stack) (counted : IsCounted c stack.main stack.handler) (enough : stack.main + stack.handler ≤ 4094) (runs : NoRunPasses c stack.main stack.handler) (parts : List Part) (selected : AreParts c parts) (size : RomSize) (image : Image) (linked : IsLinked names parts stack size image) where
   abbrev assembled : IsAssembled names c parts size image.rom.items stack.main stack.handler
@@ -88,7 +88,7 @@ module _ (promises : Promises) (program : Program) (names : Names) (typed : AreT
       (λ ram screen. first_store ram screen (offsets_in names) names.variables.items (map object_of names.objects.items) chips.reset)
   correct =
       let f = together.is_followed in
-      from_rom promises.below promises.one_form promises.short promises.widths promises.words chips.ChipState Rest Context board_chips rom is_sound linked.code linked.words (place_of names parts size is_unserved) (acts_in names parts size) linked.start_up
+      from_rom promises.below promises.one_form promises.short promises.widths promises.words chips.ChipState Rest Context board_chips rom is_sound linked.code linked.words (place_of names parts size is_unserved) (acts_in names parts size) linked.start_up.0
       (next (offsets_in names) (sizes_of names) (procedures_of names)) (main_rest names) (handler_rest names) (next_of x) begins_at (enters_at x) 2 together.most promise.limit 1 f.lowered f.compiled f.paced chips.reset
       (λ ram screen. first_store ram screen (offsets_in names) names.variables.items (map object_of names.objects.items) chips.reset)
       (λ ram screen ram_long screen_long. first_store_stands rom names parts size image.rom.items ram screen chips.reset ram_long screen_long linked.long linked.fits linked.initial linked.bytes (promises.initial names (offsets_in names)) placement (λ v. refl) linked.within (λ k. refl) (λ k. refl))
@@ -121,8 +121,23 @@ module _ (promises : Promises) (program : Program) (names : Names) (typed : AreT
         | inr above ↦ keeps_others names parts size image.rom.items ram screen ram_long a above low (λ k o is i lt at. unset (inr (k, o, is, i, lt, at)))
       ]
 
-  pub starts : StartsUp names image
-  starts =
-      subst (λ offsets. StartsQuietly board_chips image.start_turns (IsSet names offsets) image.rom.items chips.reset) (sym linked.offsets)
-      (subst (λ turns. StartsQuietly board_chips turns (IsSet names (offsets_in names)) image.rom.items chips.reset) (sym linked.turns)
-      (quiet_by_memory promises.below promises.one_form promises.short board_chips rom linked.code (place_of names parts size is_unserved) (acts_in names parts size) linked.start_up chips.reset (IsSet names (offsets_in names)) alone))
+  -- main stands behind start-up
+  before : linked.start_up.0.p6 < place_of names parts size is_main
+  before =
+      let end = linked.start_up.1 in
+      let behind = main_behind names c parts size image.rom.items stack.main stack.handler assembled in
+      omega (arith, end, behind)
+
+  quietly : StartsQuietly board_chips image.start_turns (place_of names parts size is_main) (IsSet names image.placement.offsets.items) image.rom.items chips.reset
+  quietly =
+      subst (λ offsets. StartsQuietly board_chips image.start_turns (place_of names parts size is_main) (IsSet names offsets) image.rom.items chips.reset) (sym linked.offsets)
+      (subst (λ turns. StartsQuietly board_chips turns (place_of names parts size is_main) (IsSet names (offsets_in names)) image.rom.items chips.reset) (sym linked.turns)
+      (quiet_by_memory promises.below promises.one_form promises.short board_chips rom linked.code (place_of names parts size is_unserved) (acts_in names parts size) linked.start_up.0 chips.reset (IsSet names (offsets_in names)) alone))
+
+  pub starts : StartsUp names image (place_of names parts size is_main)
+  starts = record {
+    quietly = quietly;
+    no_sooner =
+        subst (λ turns. StartsNoSooner board_chips turns (place_of names parts size is_main) image.rom.items chips.reset) (sym linked.turns)
+        (no_sooner promises.below promises.one_form promises.short board_chips rom linked.code (place_of names parts size is_unserved) (acts_in names parts size) linked.start_up.0 before chips.reset);
+  }

@@ -1,4 +1,4 @@
--- Start-up makes no label but those of events, and leaves RAM as it was where it sets nothing.
+-- Start-up makes no label but those of events, leads to main, and leaves RAM as it was where it sets nothing.
 use Rattle.std.proofs.Common.{◌≡◌, ℕ, zero, suc, ◌+◌, ◌-◌, ◌<◌, ◌≤◌, ◌^◌, inl, inr, List, [], ◌∷◌, map, length, take, refl, sym, ap, ◌∙◌, subst, arith, ap₂}
 use Rattle.std.specs.Prelude.{slice_index, if◌then◌else◌}
 use Rattle.std.proofs.lemmas.Bool.{cases_lt}
@@ -7,16 +7,17 @@ use Rattle.word86.specs.Chips.{Chips}
 use Rattle.plm_meaning.specs.Store.{Store, shared}
 use Rattle.i86_code.specs.Coding.{IsOneForm, IsShort}
 use Rattle.cpu8086.specs.declared.cpu.Cpu.{Cpu}
-use Rattle.board.specs.World.{World, Whole, board_model, region, screen_at}
+use Rattle.board.specs.World.{World, Whole, board_model, occurs, region, screen_at}
 use Rattle.board.specs.Machine.{Board, outputs, final, power_on}
 use Rattle.plm86.specs.Inner.BoardLaws.{LawsBelow}
 use Rattle.plm86.specs.Boots.{after_events, Boots}
-use Rattle.plm86.specs.Headline.{IsGoing, StartsQuietly, board_turn}
+use Rattle.plm86.specs.Headline.{IsGoing, IsAt, StartsQuietly, StartsNoSooner, board_turn}
 use Rattle.plm86.specs.Laws.{Assembly, IsPut, IsSetBy, QuietFromRom, power_on_memory}
 use Rattle.layout_link.specs.Rom.{CodeInRom}
 use Rattle.layout_link.specs.Startup.{Act, PutWord, PutByte, Copy, HasStartUp, start_up_turns}
 use Rattle.plm86.specs.Startup.{with_vectors, after_act, after_acts}
-use Rattle.plm86.proofs.Machine.Regions.{within_true}
+use Rattle.plm86.proofs.Machine.Startup.{boots, never_there}
+use Rattle.plm86.proofs.Machine.Regions.{within_true, of_board, events_law}
 use Rattle.plm86.proofs.Machine.Copying.{byte_put_other, word_put_other, copied_beside}
 use Rattle.plm86.proofs.Machine.Vectors.{rounds_beside}
 use Rattle.plm86.proofs.Headline.FromRom.{at_the_end, boots_from}
@@ -73,30 +74,45 @@ power_on_ram rom ram screen a size lt =
     let same : a - 0 ≡ a = omega arith in
     ap (λ b. if b then slice_index ram (a - 0) else beyond) (within_true 0 ram a 0x20000 size (omega arith) lt) ∙ ap (slice_index ram) same
 
--- the processor goes on, and the board's memory is this one
-abbrev Left : {P : Type 0} → Chips P → List ℕ → (ℕ → ℕ) → Board (World P) → Store P → Type 0
-Left c rom f b s = Whole rom b.world × IsGoing b.cpu.phase × ((a : ℕ) → a < 2 ^ 20 → (board_model c).load b.world a ≡ f a)
+-- the processor goes on at this place, and the board's memory is this one
+abbrev Left : {P : Type 0} → Chips P → List ℕ → (ℕ → ℕ) → (place : ℕ) → Board (World P) → Store P → Type 0
+Left c rom f place b s = Whole rom b.world × IsGoing b.cpu.phase × ((a : ℕ) → a < 2 ^ 20 → (board_model c).load b.world a ≡ f a) × IsAt place b.cpu.registers
 
 module _ (below : LawsBelow) (only : IsOneForm) (short : IsShort) where
   -- where what is not set is as at power-on in the memory that start-up leaves
   pub quiet_by_memory : {P : Type 0} (c : Chips P) (x : Assembly) → CodeInRom x.rom x.code → (entry : ℕ) (acts : List Act) → HasStartUp x.code entry acts x.main_at → (chips : P) (IsSet : ℕ → Type 0)
       → ((ram screen : List ℕ) → length ram ≡ 0x20000 → length screen ≡ 4000 → (a : ℕ) → a < 0x20000 → ¬ IsSet a → after_acts acts (with_vectors entry 0 256 (power_on_memory x.rom ram screen)) a ≡ slice_index ram a)
-      → StartsQuietly c (start_up_turns acts) IsSet x.rom chips
+      → StartsQuietly c (start_up_turns acts) x.main_at IsSet x.rom chips
   quiet_by_memory {P} c x in_rom entry acts start chips IsSet kept general ram screen small ram_size screen_size =
       let f = at_the_end x.rom entry acts ram screen in
       let n = start_up_turns acts in
       let b = power_on general x.rom ram screen chips in
       let s : Store P = record { objects = []; screen = []; chips = chips } in
-      let boots : Boots (shared c) (board_turn c) (Left c x.rom f) n b s =
-      boots_from below only short c x in_rom entry acts start general ram screen small ram_size screen_size s chips refl (Left c x.rom f) (λ g words flags d p h. (h.world.whole, subst (λ (z : Cpu). IsGoing z.phase) (sym h.is) tt, h.world.memory)) in
+      let ends_at = Left c x.rom f x.main_at in
+      let booted : Boots (shared c) (board_turn c) ends_at n b s =
+      boots (board_model c) c (λ w. w.chips) (Whole x.rom) (of_board below c x.rom) (occurs c) (events_law c x.rom) x.code ends_at (suc start.p6) n b s
+      (boots_from below only short c x in_rom entry acts start (suc start.p6) (omega arith) general ram screen small ram_size screen_size s chips refl ends_at
+      (λ g words flags d p h. (h.world.whole, subst (λ (z : Cpu). IsGoing z.phase) (sym h.is) tt, h.world.memory, subst (λ (z : Cpu). IsAt x.main_at z.registers) (sym h.is) (refl, refl)))) in
       record {
-        quiet = labels_are (shared c) (board_turn c) (Left c x.rom f) n b s boots;
-        orderly = λ due few. boots_orderly c (Left c x.rom f) (λ d v h. h.1) n b s boots due few;
+        quiet = labels_are (shared c) (board_turn c) ends_at n b s booted;
+        orderly = λ due few. boots_orderly c ends_at (λ d v h. h.1) n b s booted due few;
+        arrives = λ due turns. (ends (shared c) (board_turn c) ends_at n b s booted due turns).1.3;
         keeps = λ due turns a lt free.
-            let t = ends (shared c) (board_turn c) (Left c x.rom f) n b s boots due turns in
+            let t = ends (shared c) (board_turn c) ends_at n b s booted due turns in
             let w = (final (board_turn c) due b).world in
             sym (power_on_ram w.rom w.ram w.screen a t.1.0.ram lt) ∙ t.1.2 a (omega (arith, lt)) ∙ kept ram screen ram_size screen_size a lt free;
       }
+
+  -- where all of start-up stands before main
+  pub no_sooner : {P : Type 0} (c : Chips P) (x : Assembly) → CodeInRom x.rom x.code → (entry : ℕ) (acts : List Act) (start : HasStartUp x.code entry acts x.main_at) → start.p6 < x.main_at → (chips : P)
+      → StartsNoSooner c (start_up_turns acts) x.main_at x.rom chips
+  no_sooner {P} c x in_rom entry acts start before chips general ram screen small ram_size screen_size due few =
+      let n = start_up_turns acts in
+      let b = power_on general x.rom ram screen chips in
+      let s : Store P = record { objects = []; screen = []; chips = chips } in
+      let any : Board (World P) → Store P → Type 0 = λ d v. Unit {0} in
+      never_there (board_model c) c (λ w. w.chips) (Whole x.rom) (of_board below c x.rom) (occurs c) (events_law c x.rom) x.code any x.main_at n b s
+      (boots_from below only short c x in_rom entry acts start x.main_at before general ram screen small ram_size screen_size s chips refl any (λ g words flags d p h. tt)) due few
 
   pub quiet_from_rom : (P : Type 0) → QuietFromRom P
   quiet_from_rom P c x in_rom entry acts start chips =
@@ -104,7 +120,7 @@ module _ (below : LawsBelow) (only : IsOneForm) (short : IsShort) where
       (λ ram screen ram_size screen_size a lt free. left_alone entry acts (power_on_memory x.rom ram screen) a free ∙ power_on_ram x.rom ram screen a ram_size lt)
 
 -- a start that sets less sets no more
-pub quiet_wider : {P : Type 0} (c : Chips P) (n : ℕ) (IsSet IsSetMore : ℕ → Type 0) → ((a : ℕ) → IsSet a → IsSetMore a) → (rom : List ℕ) (chips : P) → StartsQuietly c n IsSet rom chips → StartsQuietly c n IsSetMore rom chips
-quiet_wider c n IsSet IsSetMore wider rom chips h general ram screen small ram_size screen_size =
+pub quiet_wider : {P : Type 0} (c : Chips P) (n main_at : ℕ) (IsSet IsSetMore : ℕ → Type 0) → ((a : ℕ) → IsSet a → IsSetMore a) → (rom : List ℕ) (chips : P) → StartsQuietly c n main_at IsSet rom chips → StartsQuietly c n main_at IsSetMore rom chips
+quiet_wider c n main_at IsSet IsSetMore wider rom chips h general ram screen small ram_size screen_size =
     let q = h general ram screen small ram_size screen_size in
-    record { quiet = q.quiet; orderly = q.orderly; keeps = λ due turns a lt free. q.keeps due turns a lt (λ s. free (wider a s)) }
+    record { quiet = q.quiet; orderly = q.orderly; arrives = q.arrives; keeps = λ due turns a lt free. q.keeps due turns a lt (λ s. free (wider a s)) }

@@ -29,12 +29,12 @@ abbrev pub copying : Regs → (cx si di ip : ℕ) → Regs
 copying r cx si di ip = record r { cx = cx; si = si; di = di; ip = ip }
 
 module _ {W P : Type 0} (m : BusModel W) (c : Chips P) (chips : W → P) (Whole : W → Type 0) (laws : OfBoard m c chips Whole)
-    (occurs : Event → W → W) (events : Events m c chips Whole occurs) (code : ℕ → Option (Instr × ℕ)) (Begins : Board W → Store P → Type 0) where
+    (occurs : Event → W → W) (events : Events m c chips Whole occurs) (code : ℕ → Option (Instr × ℕ)) (Begins : Board W → Store P → Type 0) (place : ℕ) where
   abbrev Boots : Regs → (ℕ → ℕ) → Board W → P → Type 0
   Boots r f b p = Boot m c chips Whole laws occurs events code r f b p
 
   abbrev To : ℕ → (Board W → P → Type 0) → (Board W → P → Type 0) → Type 0
-  To k S T = Leads m c chips Whole laws occurs events code Begins k S T
+  To k S T = Leads m c chips Whole laws occurs events code Begins place k S T
 
   pub low_byte : (r : Regs) (off v : ℕ) (w : W) → off < 65536 → stored_at m widths.Byte 0 off v (record { registers = r; world = w; labels = [] }) ≡ record { registers = r; world = m.store w (stores.Byte off v); labels = [] }
   unfolding stored_access
@@ -53,8 +53,8 @@ module _ {W P : Type 0} (m : BusModel W) (c : Chips P) (chips : W → P) (Whole 
       let x0 : Machine W = record { registers = r0; world = w; labels = [] } in
       let stepped_by : Regs = record r0 { si = stepped r.flags widths.Byte si; di = stepped r.flags widths.Byte di } in
       let more : Machine W → Machine W = λ x. record { registers = counted_down repeats.WhileCx l stepped_by; world = x.world; labels = x.labels } in
-      let place : physical 0xF000 si ≡ 0xF0000 + si = omega (arith, hs) in
-      let read : m.load w (physical 0xF000 si) % 256 ≡ v = ap (λ x. m.load w x % 256) place ∙ ap (λ x. x % 256) (k.memory (0xF0000 + si) (omega (arith, hs))) in
+      let from : physical 0xF000 si ≡ 0xF0000 + si = omega (arith, hs) in
+      let read : m.load w (physical 0xF000 si) % 256 ≡ v = ap (λ x. m.load w x % 256) from ∙ ap (λ x. x % 256) (k.memory (0xF0000 + si) (omega (arith, hs))) in
       let left : (suc n + 65535) % 65536 ≡ n = omega (arith, hn) in
       let past : (l + 3) % 65536 ≡ l + 3 = omega (arith, hl) in
       let si1 : (si + 1) % 65536 ≡ suc si = omega (arith, hs) in
@@ -68,29 +68,29 @@ module _ {W P : Type 0} (m : BusModel W) (c : Chips P) (chips : W → P) (Whole 
             ∙ ap (λ (t : Bool). made ((suc n + 65535) % 65536) ((si + (if t then 65535 else 1)) % 65536) ((di + (if t then 65535 else 1)) % 65536) ((l + 3) % 65536)) up
             ∙ ap₂ (λ a b. made a ((si + 1) % 65536) ((di + 1) % 65536) b) left past
             ∙ ap₂ (λ a b. made n a b (l + 3)) si1 di1,
-        world_stored m c chips Whole laws occurs events code Begins f p w widths.Byte di v (omega (arith, hd)) k,
+        world_stored m c chips Whole laws occurs events code Begins place f p w widths.Byte di v (omega (arith, hd)) k,
       )
 
   -- n bytes in n turns
-  pub copies : (r : Regs) → r.cs ≡ 0xF000 → r.es ≡ 0 → FlagsAre false r.flags → has r.flags 1024 ≡ false → (n si di l : ℕ) (f : ℕ → ℕ) → code l ≡ Some (rep_movsb, 3) → si + suc n < 65536 → di + suc n < 65536 → l + 3 < 65536
+  pub copies : (r : Regs) → r.cs ≡ 0xF000 → r.es ≡ 0 → FlagsAre false r.flags → has r.flags 1024 ≡ false → (n si di l : ℕ) (f : ℕ → ℕ) → code l ≡ Some (rep_movsb, 3) → si + suc n < 65536 → di + suc n < 65536 → l + 3 < 65536 → l < place
       → To (suc n) (Boots (copying r (suc n) si di l) f) (Boots (copying r 0 (si + suc n) (di + suc n) (l + 3)) (copied (suc n) si di f))
   unfolding copied
-  copies r cs es off up zero si di l f here hs hd hl =
+  copies r cs es off up zero si di l f here hs hd hl before =
       let g : ℕ → ℕ = byte_put di (f (0xF0000 + si) % 256) f in
       let s1 : To 1 (Boots (copying r 1 si di l) f) (Boots (copying r 0 (suc si) (suc di) (l + 3)) g) =
-      steps_by m c chips Whole laws occurs events code Begins (copying r 1 si di l) f rep_movsb 3 (copying r 0 (suc si) (suc di) (l + 3)) g cs off.on_is refl here (λ p w. unit_is r 0 si di l f p w cs es up (omega (arith, hs)) (omega (arith, hs)) (omega (arith, hd)) hl) in
+      steps_by m c chips Whole laws occurs events code Begins place (copying r 1 si di l) f rep_movsb 3 (copying r 0 (suc si) (suc di) (l + 3)) g cs off.on_is refl here (λ e. omega (arith, e, before)) (λ p w. unit_is r 0 si di l f p w cs es up (omega (arith, hs)) (omega (arith, hs)) (omega (arith, hd)) hl) in
       let e1 : suc si ≡ si + 1 = omega arith in
       let e2 : suc di ≡ di + 1 = omega arith in
       subst₂ (λ a b. To 1 (Boots (copying r 1 si di l) f) (Boots (copying r 0 a b (l + 3)) g)) e1 e2 s1
-  copies r cs es off up (suc k) si di l f here hs hd hl =
+  copies r cs es off up (suc k) si di l f here hs hd hl before =
       let g : ℕ → ℕ = byte_put di (f (0xF0000 + si) % 256) f in
       let h : ℕ → ℕ = copied (suc k) (suc si) (suc di) g in
       let s1 : To 1 (Boots (copying r (suc (suc k)) si di l) f) (Boots (copying r (suc k) (suc si) (suc di) l) g) =
-      steps_by m c chips Whole laws occurs events code Begins (copying r (suc (suc k)) si di l) f rep_movsb 3 (copying r (suc k) (suc si) (suc di) l) g cs off.on_is refl here
+      steps_by m c chips Whole laws occurs events code Begins place (copying r (suc (suc k)) si di l) f rep_movsb 3 (copying r (suc k) (suc si) (suc di) l) g cs off.on_is refl here (λ e. omega (arith, e, before))
       (λ p w z. let t = unit_is r (suc k) si di l f p w cs es up (omega (arith, hs)) (omega (arith, hs)) (omega (arith, hd)) hl z in
       (t.0, t.1 ∙ ap (λ (b : Bool). record { registers = copying r (suc k) (suc si) (suc di) (if b then l + 3 else l); world = t.0; labels = [] }) (ne_eqb (suc k) 0 (λ e. absurd (omega (arith, e)))), t.2)) in
-      let rest = copies r cs es off up k (suc si) (suc di) l g here (omega (arith, hs)) (omega (arith, hd)) hl in
-      let both = then_leads m c chips Whole laws occurs events code Begins 1 (suc k) (Boots (copying r (suc (suc k)) si di l) f) (Boots (copying r (suc k) (suc si) (suc di) l) g) (Boots (copying r 0 (suc si + suc k) (suc di + suc k) (l + 3)) h) s1 rest in
+      let rest = copies r cs es off up k (suc si) (suc di) l g here (omega (arith, hs)) (omega (arith, hd)) hl before in
+      let both = then_leads m c chips Whole laws occurs events code Begins place 1 (suc k) (Boots (copying r (suc (suc k)) si di l) f) (Boots (copying r (suc k) (suc si) (suc di) l) g) (Boots (copying r 0 (suc si + suc k) (suc di + suc k) (l + 3)) h) s1 rest in
       let turns : 1 + suc k ≡ suc (suc k) = omega arith in
       let e1 : suc si + suc k ≡ si + suc (suc k) = omega arith in
       let e2 : suc di + suc k ≡ di + suc (suc k) = omega arith in

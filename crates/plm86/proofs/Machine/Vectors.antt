@@ -24,7 +24,7 @@ use Rattle.cpu8086.specs.Control.{jumped_if}
 use Rattle.cpu8086.specs.Arithmetic.{computed}
 use Rattle.cpu8086.specs.Moves.{moved}
 use Rattle.cpu8086.specs.Effect.{effect}
-use Rattle.cpu8086.specs.Turn.{General, reset_with, phase_after}
+use Rattle.cpu8086.specs.Turn.{GeneralRegisters, reset_with, phase_after}
 use Rattle.layout_link.specs.Startup.{low_half, high_half, HasLoop}
 use Rattle.plm86.specs.Startup.{word_put, with_vectors}
 use Rattle.plm86.specs.Inner.BoardLaws.{LawsBelow, OfBoard, Events}
@@ -46,16 +46,16 @@ unfolding operated added
 sum_is a b fl h = omega (arith, h)
 
 -- the registers that the loop leaves alone are as at the reset
-abbrev pub loop_registers : General → (ax bx ip : ℕ) → Flags → Regs
+abbrev pub loop_registers : GeneralRegisters → (ax bx ip : ℕ) → Flags → Regs
 loop_registers general ax bx ip fl = record (reset_with general).registers { ax = ax; dx = 0xF000; bx = bx; cs = 0xF000; ip = ip; flags = fl }
 
 module _ {W P : Type 0} (m : BusModel W) (c : Chips P) (chips : W → P) (Whole : W → Type 0) (laws : OfBoard m c chips Whole)
-    (occurs : Event → W → W) (events : Events m c chips Whole occurs) (code : ℕ → Option (Instr × ℕ)) (Begins : Board W → Store P → Type 0) where
+    (occurs : Event → W → W) (events : Events m c chips Whole occurs) (code : ℕ → Option (Instr × ℕ)) (Begins : Board W → Store P → Type 0) (place : ℕ) where
   abbrev Boots : Regs → (ℕ → ℕ) → Board W → P → Type 0
   Boots r f b p = Boot m c chips Whole laws occurs events code r f b p
 
   abbrev To : ℕ → (Board W → P → Type 0) → (Board W → P → Type 0) → Type 0
-  To k S T = Leads m c chips Whole laws occurs events code Begins k S T
+  To k S T = Leads m c chips Whole laws occurs events code Begins place k S T
 
   abbrev Has : (ℕ → ℕ) → P → W → Type 0
   Has f p w = Known m c chips Whole laws occurs events code f p w
@@ -75,12 +75,12 @@ module _ {W P : Type 0} (m : BusModel W) (c : Chips P) (chips : W → P) (Whole 
       ap₂ (λ a b. record { registers = r; world = m.store w (stores.Word a b v); labels = labels_of (m.store_label w (stores.Word a b v)) }) (omega (arith, h)) (omega (arith, h))
       ∙ ap (λ o. record { registers = r; world = m.store w (stores.Word off (off + 1) v); labels = labels_of o }) (Memory.no_label m c chips Whole laws w off (off + 1) v (omega (arith, h)) (omega (arith, h)))
 
-  pub step : (r : Regs) (f : ℕ → ℕ) (n : Instr) (len : ℕ) (q : Regs) (g : ℕ → ℕ) → r.cs ≡ 0xF000 → has r.flags 512 ≡ false → phase_after n ≡ Running → code r.ip ≡ Some (n, len)
+  pub step : (r : Regs) (f : ℕ → ℕ) (n : Instr) (len : ℕ) (q : Regs) (g : ℕ → ℕ) → r.cs ≡ 0xF000 → has r.flags 512 ≡ false → phase_after n ≡ Running → code r.ip ≡ Some (n, len) → ¬ (r.ip ≡ place)
       → ((p : P) (w : W) → Has f p w → (u : W) × (effect m n r.ip (record { registers = record r { ip = (r.ip + len) % 65536 }; world = w; labels = [] }) ≡ record { registers = q; world = u; labels = [] }) × Has g p u)
       → To 1 (Boots r f) (Boots q g)
-  step r f n len q g at off phase here does = steps_by m c chips Whole laws occurs events code Begins r f n len q g at off phase here does
+  step r f n len q g at off phase here away does = steps_by m c chips Whole laws occurs events code Begins place r f n len q g at off phase here away does
 
-  module _ (general : General) where
+  module _ (general : GeneralRegisters) where
     abbrev regs : (ax bx ip : ℕ) → Flags → Regs
     regs ax bx ip fl = loop_registers general ax bx ip fl
 
@@ -128,7 +128,7 @@ module _ {W P : Type 0} (m : BusModel W) (c : Chips P) (chips : W → P) (Whole 
     abbrev pub Somewhere : ℕ → ℕ → ℕ → (ℕ → ℕ) → Board W → P → Type 0
     Somewhere ax bx ip f b p = (fl : Flags) × FlagsAre false fl × Boots (regs ax bx ip fl) f b p
 
-    module _ (l back : ℕ) (loop : HasLoop code l back) (ax : ℕ) where
+    module _ (l back : ℕ) (loop : HasLoop code l back) (before : l + 14 ≤ place) (ax : ℕ) where
       four : (k : ℕ) (f : ℕ → ℕ) (fl : Flags) → k < 256 → FlagsAre false fl
           → To 4 (Boots (regs ax (4 * k) l fl) f) (Boots (regs ax (4 * k + 4) (l + 12) (operated Cmp widths.Word (4 * k + 4) 1024 (operated Add widths.Word (4 * k) 4 fl).flags).flags) (word_put (4 * k + 2) 0xF000 (word_put (4 * k) ax f)))
       four k f fl h ok =
@@ -138,13 +138,13 @@ module _ {W P : Type 0} (m : BusModel W) (c : Chips P) (chips : W → P) (Whole 
           let fl1 = (operated Add widths.Word bx 4 fl).flags in
           let fl2 = (operated Cmp widths.Word (bx + 4) 1024 fl1).flags in
           let ok1 = operated_keeps laws.below Add widths.Word bx 4 false fl ok in
-          let s1 = step (regs ax bx l fl) f low_half 2 (regs ax bx (l + 2) fl) f1 refl ok.on_is refl loop.first (λ p w. first_is ax bx l fl f p w (omega (arith, h)) (omega (arith, loop.fits))) in
-          let s2 = step (regs ax bx (l + 2) fl) f1 high_half 3 (regs ax bx (l + 2 + 3) fl) f2 refl ok.on_is refl loop.second (λ p w. second_is ax bx (l + 2) fl f1 p w (omega (arith, h)) (omega (arith, loop.fits))) in
-          let s3 = step (regs ax bx (l + 2 + 3) fl) f2 (i.AluWord Add (Immediate (places.Register Bx) 4)) 3 (regs ax (bx + 4) (l + 2 + 3 + 3) fl1) f2 refl ok.on_is refl (ap code (omega arith) ∙ loop.third) (λ p w. third_is ax bx (l + 2 + 3) fl f2 p w (omega (arith, h)) (omega (arith, loop.fits))) in
-          let s4 = step (regs ax (bx + 4) (l + 2 + 3 + 3) fl1) f2 (i.AluWord Cmp (Immediate (places.Register Bx) 1024)) 4 (regs ax (bx + 4) (l + 2 + 3 + 3 + 4) fl2) f2 refl ok1.on_is refl (ap code (omega arith) ∙ loop.fourth) (λ p w. fourth_is ax (bx + 4) (l + 2 + 3 + 3) fl1 f2 p w (omega (arith, loop.fits))) in
-          let two = then_leads m c chips Whole laws occurs events code Begins 1 1 (Boots (regs ax bx l fl) f) (Boots (regs ax bx (l + 2) fl) f1) (Boots (regs ax bx (l + 2 + 3) fl) f2) s1 s2 in
-          let three = then_leads m c chips Whole laws occurs events code Begins 2 1 (Boots (regs ax bx l fl) f) (Boots (regs ax bx (l + 2 + 3) fl) f2) (Boots (regs ax (bx + 4) (l + 2 + 3 + 3) fl1) f2) two s3 in
-          let all = then_leads m c chips Whole laws occurs events code Begins 3 1 (Boots (regs ax bx l fl) f) (Boots (regs ax (bx + 4) (l + 2 + 3 + 3) fl1) f2) (Boots (regs ax (bx + 4) (l + 2 + 3 + 3 + 4) fl2) f2) three s4 in
+          let s1 = step (regs ax bx l fl) f low_half 2 (regs ax bx (l + 2) fl) f1 refl ok.on_is refl loop.first (λ e. omega (arith, e, before)) (λ p w. first_is ax bx l fl f p w (omega (arith, h)) (omega (arith, loop.fits))) in
+          let s2 = step (regs ax bx (l + 2) fl) f1 high_half 3 (regs ax bx (l + 2 + 3) fl) f2 refl ok.on_is refl loop.second (λ e. omega (arith, e, before)) (λ p w. second_is ax bx (l + 2) fl f1 p w (omega (arith, h)) (omega (arith, loop.fits))) in
+          let s3 = step (regs ax bx (l + 2 + 3) fl) f2 (i.AluWord Add (Immediate (places.Register Bx) 4)) 3 (regs ax (bx + 4) (l + 2 + 3 + 3) fl1) f2 refl ok.on_is refl (ap code (omega arith) ∙ loop.third) (λ e. omega (arith, e, before)) (λ p w. third_is ax bx (l + 2 + 3) fl f2 p w (omega (arith, h)) (omega (arith, loop.fits))) in
+          let s4 = step (regs ax (bx + 4) (l + 2 + 3 + 3) fl1) f2 (i.AluWord Cmp (Immediate (places.Register Bx) 1024)) 4 (regs ax (bx + 4) (l + 2 + 3 + 3 + 4) fl2) f2 refl ok1.on_is refl (ap code (omega arith) ∙ loop.fourth) (λ e. omega (arith, e, before)) (λ p w. fourth_is ax (bx + 4) (l + 2 + 3 + 3) fl1 f2 p w (omega (arith, loop.fits))) in
+          let two = then_leads m c chips Whole laws occurs events code Begins place 1 1 (Boots (regs ax bx l fl) f) (Boots (regs ax bx (l + 2) fl) f1) (Boots (regs ax bx (l + 2 + 3) fl) f2) s1 s2 in
+          let three = then_leads m c chips Whole laws occurs events code Begins place 2 1 (Boots (regs ax bx l fl) f) (Boots (regs ax bx (l + 2 + 3) fl) f2) (Boots (regs ax (bx + 4) (l + 2 + 3 + 3) fl1) f2) two s3 in
+          let all = then_leads m c chips Whole laws occurs events code Begins place 3 1 (Boots (regs ax bx l fl) f) (Boots (regs ax (bx + 4) (l + 2 + 3 + 3) fl1) f2) (Boots (regs ax (bx + 4) (l + 2 + 3 + 3 + 4) fl2) f2) three s4 in
           let here : l + 2 + 3 + 3 + 4 ≡ l + 12 = omega arith in
           subst (λ z. To 4 (Boots (regs ax bx l fl) f) (Boots (regs ax (bx + 4) z fl2) f2)) here all
 
@@ -163,8 +163,8 @@ module _ {W P : Type 0} (m : BusModel W) (c : Chips P) (chips : W → P) (Whole 
           let fl1 = (operated Add widths.Word (4 * k) 4 fl).flags in
           let fl2 = (operated Cmp widths.Word bx 1024 fl1).flags in
           let ok2 : FlagsAre false fl2 = operated_keeps laws.below Cmp widths.Word bx 1024 false fl1 (operated_keeps laws.below Add widths.Word (4 * k) 4 false fl at.1) in
-          let s5 = step (regs ax bx (l + 12) fl2) f2 (i.JumpIf conditions.NotEqual back) 2 (regs ax bx (further (l + 12 + 2) (sign_extended back)) fl2) f2 refl ok2.on_is refl loop.fifth (λ p w. fifth_on ax bx (l + 12) back fl2 f2 p w (omega (arith, loop.fits)) (again_at fl1 bx (omega (arith, h)))) in
-          let all = then_leads m c chips Whole laws occurs events code Begins 4 1 (Boots (regs ax (4 * k) l fl) f) (Boots (regs ax bx (l + 12) fl2) f2) (Boots (regs ax bx (further (l + 12 + 2) (sign_extended back)) fl2) f2) (four k f fl (omega (arith, h)) at.1) s5 in
+          let s5 = step (regs ax bx (l + 12) fl2) f2 (i.JumpIf conditions.NotEqual back) 2 (regs ax bx (further (l + 12 + 2) (sign_extended back)) fl2) f2 refl ok2.on_is refl loop.fifth (λ e. omega (arith, e, before)) (λ p w. fifth_on ax bx (l + 12) back fl2 f2 p w (omega (arith, loop.fits)) (again_at fl1 bx (omega (arith, h)))) in
+          let all = then_leads m c chips Whole laws occurs events code Begins place 4 1 (Boots (regs ax (4 * k) l fl) f) (Boots (regs ax bx (l + 12) fl2) f2) (Boots (regs ax bx (further (l + 12 + 2) (sign_extended back)) fl2) f2) (four k f fl (omega (arith, h)) at.1) s5 in
           let to : further (l + 12 + 2) (sign_extended back) ≡ l = ap (λ z. further z (sign_extended back)) (omega arith) ∙ loop.again in
           let next : bx ≡ 4 * suc k = omega arith in
           all j b s at.2 (λ d p t. rest d p (fl2, ok2, subst (λ z. Boots (regs ax z l fl2) f2 d p) next (subst (λ z. Boots (regs ax bx z fl2) f2 d p) to t)))
@@ -178,8 +178,8 @@ module _ {W P : Type 0} (m : BusModel W) (c : Chips P) (chips : W → P) (Whole 
           let fl1 = (operated Add widths.Word (4 * 255) 4 fl).flags in
           let fl2 = (operated Cmp widths.Word bx 1024 fl1).flags in
           let ok2 : FlagsAre false fl2 = operated_keeps laws.below Cmp widths.Word bx 1024 false fl1 (operated_keeps laws.below Add widths.Word (4 * 255) 4 false fl at.1) in
-          let s5 = step (regs ax bx (l + 12) fl2) f2 (i.JumpIf conditions.NotEqual back) 2 (regs ax bx (l + 12 + 2) fl2) f2 refl ok2.on_is refl loop.fifth (λ p w. fifth_off ax bx (l + 12) back fl2 f2 p w (omega (arith, loop.fits)) (done_at fl1 bx (omega arith))) in
-          let all = then_leads m c chips Whole laws occurs events code Begins 4 1 (Boots (regs ax (4 * 255) l fl) f) (Boots (regs ax bx (l + 12) fl2) f2) (Boots (regs ax bx (l + 12 + 2) fl2) f2) (four 255 f fl (omega arith) at.1) s5 in
+          let s5 = step (regs ax bx (l + 12) fl2) f2 (i.JumpIf conditions.NotEqual back) 2 (regs ax bx (l + 12 + 2) fl2) f2 refl ok2.on_is refl loop.fifth (λ e. omega (arith, e, before)) (λ p w. fifth_off ax bx (l + 12) back fl2 f2 p w (omega (arith, loop.fits)) (done_at fl1 bx (omega arith))) in
+          let all = then_leads m c chips Whole laws occurs events code Begins place 4 1 (Boots (regs ax (4 * 255) l fl) f) (Boots (regs ax bx (l + 12) fl2) f2) (Boots (regs ax bx (l + 12 + 2) fl2) f2) (four 255 f fl (omega arith) at.1) s5 in
           let to : l + 12 + 2 ≡ l + 14 = omega arith in
           let next : bx ≡ 1024 = omega arith in
           all j b s at.2 (λ d p t. rest d p (fl2, ok2, subst (λ z. Boots (regs ax z (l + 14) fl2) f2 d p) next (subst (λ z. Boots (regs ax bx z fl2) f2 d p) to t)))
@@ -194,7 +194,7 @@ module _ {W P : Type 0} (m : BusModel W) (c : Chips P) (chips : W → P) (Whole 
           let f2 = word_put (4 * k + 2) 0xF000 (word_put (4 * k) ax f) in
           let more : 5 + 5 * suc i ≡ 5 * suc (suc i) = omega arith in
           subst (λ n. To n (Somewhere ax (4 * k) l f) (Somewhere ax 1024 (l + 14) (with_vectors ax (suc k) (suc i) f2))) more
-          (then_leads m c chips Whole laws occurs events code Begins 5 (5 * suc i) (Somewhere ax (4 * k) l f) (Somewhere ax (4 * suc k) l f2) (Somewhere ax 1024 (l + 14) (with_vectors ax (suc k) (suc i) f2))
+          (then_leads m c chips Whole laws occurs events code Begins place 5 (5 * suc i) (Somewhere ax (4 * k) l f) (Somewhere ax (4 * suc k) l f2) (Somewhere ax 1024 (l + 14) (with_vectors ax (suc k) (suc i) f2))
           (round k f (omega (arith, e))) (loops i (suc k) f2 (omega (arith, e))))
 
       -- all 256 vectors are set in 1,280 turns

@@ -23,12 +23,12 @@ use Rattle.select.specs.Room.{ProgramsHaveRoom}
 use Rattle.select.specs.Saved.{UnservedChangesNone, RegistersAreCounted}
 use Rattle.layout_link.specs.declared.image.Image.{Image}
 use Rattle.layout_link.specs.declared.image.RomSize.{RomSize}
-use Rattle.layout_link.specs.Image.{bytes_in}
+use Rattle.layout_link.specs.Image.{bytes_in, base_of}
 use Rattle.layout_link.specs.Initial.{HaveBytes, count_of}
-use Rattle.layout_link.specs.Linker.{offsets_in, needed, places_in, place_of, acts_in, InitialStands}
+use Rattle.layout_link.specs.Linker.{offsets_in, start_up_in, needed, places_in, place_of, acts_in, InitialStands}
 use Rattle.layout_link.specs.Rom.{CodeInRom, WordsInRom, rom_code, rom_words}
 use Rattle.layout_link.specs.Stand.{PartsStand}
-use Rattle.layout_link.specs.Startup.{HasStartUp, start_up_turns}
+use Rattle.layout_link.specs.Startup.{HasStartUpBefore, start_up_turns}
 use Rattle.layout_link.specs.Tasks.{is_main, is_unserved}
 use Rattle.plm_type.specs.Nodes.{initial_size}
 use Rattle.plm86.specs.Build.{MeansNames, StartsUp, IsTooLarge}
@@ -65,7 +65,7 @@ pub record IsLinked (names : Names) (parts : List Part) (stack : Stack) (size : 
   pub long : length image.rom.items ≡ bytes_in size
   pub code : CodeInRom image.rom.items (rom_code image.rom.items)
   pub words : WordsInRom image.rom.items (rom_words image.rom.items)
-  pub start_up : HasStartUp (rom_code image.rom.items) (place_of names parts size is_unserved) (acts_in names parts size) (place_of names parts size is_main)
+  pub start_up : HasStartUpBefore (base_of size + start_up_in names parts) (rom_code image.rom.items) (place_of names parts size is_unserved) (acts_in names parts size) (place_of names parts size is_main)
   pub initial : InitialStands names parts size image.rom.items
   pub bytes : HaveBytes (offsets_in names) names.variables.items names.objects.items
   pub turns : image.start_turns ≡ start_up_turns (acts_in names parts size)
@@ -80,7 +80,8 @@ pub record IsLinked (names : Names) (parts : List Part) (stack : Stack) (size : 
 -- what compiling gives
 pub record IsImage (names : Names) (size : RomSize) (image : Image) : Type 0 where
   pub means : MeansNames names image
-  pub starts : StartsUp names image
+  pub main_at : ℕ
+  pub starts : StartsUp names image main_at
   pub placement : IsPlacement image.placement.offsets.items (sizes_of names)
   pub long : length image.rom.items ≡ bytes_in size
   pub start : image.start_turns ≤ 4096 + initial_size names

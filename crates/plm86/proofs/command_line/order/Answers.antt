@@ -2,16 +2,17 @@ use Rattle.std.proofs.Common.{◌≡◌, ◌∙◌, Some, [], ap, sym, inl, inr,
 use Rattle.std.proofs.lemmas.Result.{IfOk-weaker, IfErr-weaker}
 use Rattle.clap.specs.Words.{App, Text, subcommand_of, is_simple, found_of, rows_of}
 use Rattle.clap.specs.Faults.{fault_of, is_simple_and_free}
+use Rattle.clap.specs.Kinds.{HasKind}
 use Rattle.plm86.specs.CommandLine.{plm86_app}
-use Rattle.plm86.specs.Order.{OrderOf, HasWords}
-use Rattle.plm86.proofs.Meets.{app_is_simple, app_is_free, named, met, wordless, only_memory}
+use Rattle.plm86.specs.Order.{OrderOf, IsFaultOf}
+use Rattle.plm86.proofs.Meets.{app_is_simple, app_is_free, named, met, fault_of_error, fault_of_kib}
 use Rattle.plm86.proofs.command_line.order.Goals as goal
 
-pub returns-in-Err-clause-words : goal.returns-in-Err-clause-words
-returns-in-Err-clause-words c =
+pub returns-in-Err-clause-refused : goal.returns-in-Err-clause-refused
+returns-in-Err-clause-refused c =
     let words = map (λ (w : Bor Text). w.now) c.args.words.now in
     let app_is = c.in_ok-command.ensures in
-    wordless words c.refusal.result (λ none. c.refusal.ensures (only_memory _ c.in-Err.error (c.in-Err.ensures.kinds (ap is_simple_and_free app_is ∙ app_is_free)) (ap (λ (a : App). fault_of a words) app_is ∙ none)))
+    fault_of_error words c.in-Err.error c.refusal.result (subst (λ (a : App). HasKind (fault_of a words) c.in-Err.error) app_is (c.in-Err.ensures.kinds (ap is_simple_and_free app_is ∙ app_is_free))) c.refusal.ensures
 
 pub returns-then-eq-clause-ok : goal.returns-then-eq-clause-ok
 returns-then-eq-clause-ok c =
@@ -25,8 +26,8 @@ returns-then-eq-clause-ok c =
     ap (λ (a : App). subcommand_of a words) (sym app_is) ∙ sym (c.in-Ok.ensures.matches (ap is_simple app_is ∙ app_is_simple)).1 ∙ given in
     IfOk-weaker c.build_order.result _ _ (λ o h. (accepted, codes "build", rows, at_words, h)) c.build_order.ensures.ok
 
-pub returns-then-eq-clause-words : goal.returns-then-eq-clause-words
-returns-then-eq-clause-words c =
+pub returns-then-eq-clause-refused : goal.returns-then-eq-clause-refused
+returns-then-eq-clause-refused c =
     let words = map (λ (w : Bor Text). w.now) c.args.words.now in
     let app_is = c.in_ok-command.ensures in
     let rows = rows_of (found_of c.in-Some.inner.now) in
@@ -34,7 +35,7 @@ returns-then-eq-clause-words c =
     let given = met c.in-Ok.matches (codes "build") rows (ap Some (sym name) ∙ c.in-Some.ensures.name) c.in-Some.ensures.rows in
     let at_words : subcommand_of plm86_app words ≡ Some (codes "build", rows) =
     ap (λ (a : App). subcommand_of a words) (sym app_is) ∙ sym (c.in-Ok.ensures.matches (ap is_simple app_is ∙ app_is_simple)).1 ∙ given in
-    IfErr-weaker c.build_order.result _ _ (λ e h has. inr (rows, at_words, h has)) c.build_order.ensures.err
+    IfErr-weaker c.build_order.result _ _ (λ e h. fault_of_kib words rows at_words e h) c.build_order.ensures.err
 
 pub returns-then-eq-2-clause-ok : goal.returns-then-eq-2-clause-ok
 returns-then-eq-2-clause-ok c =
@@ -64,5 +65,5 @@ returns-clause-ok c =
     ] in
     IfOk-weaker c.mean_order.result _ _ (λ o h. (accepted, c.in-Some.name.now, rows, at_words, subst (λ (n : Text). OrderOf n rows o) (sym name) h)) c.mean_order.ensures.ok
 
-pub returns-clause-words : goal.returns-clause-words
-returns-clause-words c = IfErr-weaker c.mean_order.result _ _ (λ e memory has. absurd (subst HasWords memory has)) c.mean_order.ensures.err
+pub returns-clause-refused : goal.returns-clause-refused
+returns-clause-refused c = IfErr-weaker c.mean_order.result _ _ (λ e memory. subst (IsFaultOf (map (λ (w : Bor Text). w.now) c.args.words.now)) (sym memory) (search rules)) c.mean_order.ensures.err

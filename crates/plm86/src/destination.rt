@@ -1,19 +1,19 @@
 //! What the names of a command line lead to, and where a file would be lost by another.
 
 ghost use Rattle.std.specs.Prelude.{◌≡◌, ℕ, ◌<◌, ◌≤◌, false, true, length, slice_index_or, IfSome, IfNone};
-ghost use Rattle.plm86.specs.Target.{is_node, clashes, ClashesAt, IsClash, IsFirstClash};
-ghost use Rattle.plm86.specs.declared.target.Target.TheVariants.{Passing};
+ghost use Rattle.plm86.specs.Destination.{is_inode, clashes, ClashesAt, IsClash, IsFirstClash};
+ghost use Rattle.plm86.specs.declared.destination.Destination.TheVariants.{Passing};
 
 /// A file or a folder that is there: its device, and its number on it.
 #[derive(Clone, Copy)]
-pub struct Node {
+pub struct Inode {
     pub device: u64,
     pub number: u64,
 }
 
-impl Node {
-    fn is(self, other: Node) -> bool
-        ensures { result ≡ is_node self other }
+impl Inode {
+    fn is(self, other: Inode) -> bool
+        ensures { result ≡ is_inode self other }
     {
         self.device == other.device && self.number == other.number
     }
@@ -21,36 +21,52 @@ impl Node {
 
 /// What a name leads to.
 #[derive(Clone, Copy)]
-pub enum Target<'a> {
+pub enum Destination<'a> {
     /// A file that is there, whose bytes would be replaced.
-    File(Node),
+    File(Inode),
     /// No file yet: one of this name would be made in this folder.
-    New(Node, &'a str),
+    New(Inode, &'a str),
     /// A file that the caller has open, as behind `/dev/stdout`: bytes would be put at its end.
-    Opened(Node),
-    /// A device or a pipe, which keeps no bytes; or nothing that can be written.
+    Opened(Inode),
+    /// Where bytes are not kept: a character device, a pipe or a socket, which passes them on; or a path in no folder, at which no
+    /// file can be made.
     Passing,
 }
 
-impl<'a> Target<'a> {
+impl<'a> Destination<'a> {
     /// Whether what is written by one of two names would be lost by the other.
-    pub fn clashes_with(&self, other: &Target<'_>) -> bool
+    pub fn clashes_with(&self, other: &Destination<'_>) -> bool
         ensures { result ≡ clashes self.now other.now }
     {
         match (self, other) {
-            (Target::File(one), Target::File(two)) => one.is(*two),
-            (Target::File(one), Target::Opened(two)) => one.is(*two),
-            (Target::Opened(one), Target::File(two)) => one.is(*two),
-            (Target::New(one, name), Target::New(two, other_name)) => {
+            (Destination::File(one), Destination::File(two)) => one.is(*two),
+            (Destination::File(one), Destination::Opened(two)) => one.is(*two),
+            (Destination::Opened(one), Destination::File(two)) => one.is(*two),
+            (Destination::New(one, name), Destination::New(two, other_name)) => {
                 one.is(*two) && name == other_name
             }
-            _ => false,
+            (Destination::File(_), Destination::New(_, _) | Destination::Passing) => false,
+            (
+                Destination::New(_, _),
+                Destination::File(_) | Destination::Opened(_) | Destination::Passing,
+            ) => false,
+            (
+                Destination::Opened(_),
+                Destination::New(_, _) | Destination::Opened(_) | Destination::Passing,
+            ) => false,
+            (
+                Destination::Passing,
+                Destination::File(_)
+                | Destination::New(_, _)
+                | Destination::Opened(_)
+                | Destination::Passing,
+            ) => false,
         }
     }
 }
 
 // The first file after this one that clashes with it.
-fn clash_after(files: &[Target<'_>], k: usize) -> Option<usize>
+fn clash_after(files: &[Destination<'_>], k: usize) -> Option<usize>
     requires { k < length files.now }
     ensures found { IfSome result (λ m. ClashesAt files.now k m × ((j : ℕ) → ClashesAt files.now k j → m ≤ j)) }
     ensures none { IfNone result ((j : ℕ) → ClashesAt files.now k j → ⊥) }
@@ -65,7 +81,7 @@ fn clash_after(files: &[Target<'_>], k: usize) -> Option<usize>
 
 /// The places of the first two files of which one would be lost by the other, where there are two: a file that is written, as the first
 /// `written` are, and one after it. Of two such pairs the first is the one of the earlier file, and then the one with the earlier other.
-pub fn first_clash(files: &[Target<'_>], written: usize) -> Option<(usize, usize)>
+pub fn first_clash(files: &[Destination<'_>], written: usize) -> Option<(usize, usize)>
     ensures found { IfSome result (IsFirstClash files.now written) }
     ensures none { IfNone result ((k m : ℕ) → IsClash files.now written k m → ⊥) }
 {
