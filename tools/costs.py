@@ -1,6 +1,6 @@
 """What the tasks of a gate take: read from tools/costs, and measured anew in each gate.
 
-A task is a crate and one of proof, tests, edits. Its cost is the processor seconds of the prover's processes, and the most memory
+A task is a crate and one of proof, tests, seed (one more proof, which its edits begin with), edits. Its cost is the processor seconds of the prover's processes, and the most memory
 that they held together, in gigabytes, with shared pages counted once (what Linux calls the proportional set size).
 """
 
@@ -36,8 +36,11 @@ class Process:
 
     def task(self):
         name = self.words[self.words.index("--crate-name") + 1]
-        is_edit = os.readlink(f"/proc/{self.number}/cwd").startswith(f"{tempfile.gettempdir()}/rt-edit-")
-        return name, "edits" if is_edit else "tests" if "--test" in self.words else "proof"
+        folder = os.readlink(f"/proc/{self.number}/cwd")
+        is_in_room = re.search(r"/gate-\w+/rooms/", folder)
+        if folder.startswith(f"{tempfile.gettempdir()}/rt-edit-") or is_in_room and "--only" in self.words:
+            return name, "edits"
+        return name, "seed" if is_in_room else "tests" if "--test" in self.words else "proof"
 
     def memory(self):
         with open(f"/proc/{self.number}/smaps_rollup", encoding="utf-8") as it:

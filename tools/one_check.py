@@ -1,0 +1,102 @@
+#!/usr/bin/env python3
+"""Runs the kit's `rt ci` with one change: the check that proves a crate keeps its work in the crate's out/incremental.
+
+So one check serves twice: it is the proof, and the rounds of the crate's must-fail edits begin with what it kept. The proof is from
+nothing all the same: the folder is removed before it begins, and nothing else writes there. The prover's last
+line then has the word incremental=trusted, which says that its verdict trusts whoever can write to that folder. That word, and no
+other, is let through beside those that `rt ci` lets through. A library is built whole, and not by its statements alone, so
+that `rt check` takes it. A program is compiled over what its check kept, which the compilers' runs of the prover look through again.
+
+usage: tools/one_check.py      at the top of a repository; status and output are those of rt ci
+"""
+
+import importlib.machinery
+import os
+import re
+import shutil
+import sys
+import types
+
+sys.dont_write_bytecode = True
+# The end of the last line that rt ci lets through.
+ENDING = r" libraries-built=trusted statements=trusted\n\Z"
+KEPT = "out/incremental"
+# The parts of the kit's crates that are called or changed here, and what they take.
+FORMS = {
+    "build_rlib": ("self", "flags", "anew"),
+    "ci": ("self", "flags", "tests"),
+    "compile_by": ("self", "backend", "words", "to"),
+    "prove": ("self",),
+    "words": ("self", "flags", "tests", "keeps"),
+}
+
+
+def command():
+    """Loads the kit's command rt as a module, or answers None where there is none."""
+    found = shutil.which("rt")
+    if not found:
+        return None
+    made = types.ModuleType("rt")
+    made.__file__ = os.path.realpath(found)
+    try:
+        importlib.machinery.SourceFileLoader("rt", made.__file__).exec_module(made)
+    except (SyntaxError, OSError, AttributeError, SystemExit):
+        return None
+    return made
+
+
+def is_known(rt):
+    """Returns whether this rt has the parts that are changed here, in the form that is known."""
+    library = getattr(rt, "rtlib", None)
+    pattern = getattr(getattr(library, "VERDICT", None), "pattern", "")
+    crate = getattr(rt, "Crate", None)
+    takes = {name: getattr(crate, name).__code__.co_varnames for name in FORMS if hasattr(getattr(crate, name, None), "__code__")}
+    is_formed = all(takes.get(name, ())[: len(form)] == form for name, form in FORMS.items())
+    return is_formed and pattern.endswith(ENDING) and hasattr(crate, "cuts_libraries") and all(hasattr(rt, it) for it in ("ci", "KIT"))
+
+
+def change(rt):
+    """Has each crate's check keep its work, and lets its word through."""
+
+    class Keeping(rt.Crate):
+        """A crate of rt ci, whose check keeps its work."""
+
+        def empty(self):
+            """Removes what is kept, and returns whether it is gone. (rt ci tries a check that was killed once more.)"""
+            shutil.rmtree(f"{self.folder}/{KEPT}", ignore_errors=True)
+            is_gone = not os.path.lexists(f"{self.folder}/{KEPT}")
+            if not is_gone:
+                rt.say(f"{self.name}: {KEPT} cannot be removed, so this would be no proof from nothing", self.out)
+            return is_gone
+
+        def build_rlib(self, flags, anew):
+            self.cuts_libraries = False
+            return super().build_rlib([*flags, "--incremental", KEPT], anew) if self.empty() else 1
+
+        def ci(self, flags, tests):
+            if tests or not self.is_program:
+                return super().ci(flags, tests)
+            if not self.empty():
+                return 1
+            words = self.words([*flags, "--incremental", KEPT], keeps=False)
+            status = self.prove(["check", *words])
+            words = [*words, "--toolchain", f"{rt.KIT}/toolchain"]
+            return status or self.compile_by("llvm", words, f"out/{self.name}") or self.compile_by("rattle", words, f"out/{self.name}")
+
+    rt.Crate = Keeping
+    pattern = rt.rtlib.VERDICT
+    rt.rtlib.VERDICT = re.compile(pattern.pattern.replace(ENDING, ENDING.replace(r"\n", r"(?: incremental=trusted)?\n")), pattern.flags)
+
+
+def main():
+    rt = command()
+    if not is_known(rt):
+        print("one_check: this kit's rt is not known here: run rt ci", file=sys.stderr)
+        return 2
+    change(rt)
+    # (an rt that keeps what it proved is told to prove all: what it kept of earlier runs would leave no work for the edits)
+    return rt.where_disk_lasts(rt.ci, True) if rt.ci.__code__.co_argcount else rt.ci()
+
+
+if __name__ == "__main__":
+    sys.exit(main())
