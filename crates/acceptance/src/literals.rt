@@ -222,6 +222,66 @@ fn names_declared_as_before(rt: HostRuntime) -> Result<(), Fault> {
     )
 }
 
+/// A text that says so many times the same, with something before and behind it.
+fn many(
+    alloc: Global,
+    before: &[u8],
+    part: &[u8],
+    times: usize,
+    behind: &[u8],
+) -> Result<Vec<u8>, Fault> {
+    let mut text = Vec::from_slice(alloc, before)?;
+    for _ in 0..times {
+        text.extend_from_slice(part)?;
+    }
+    text.extend_from_slice(behind)?;
+    Ok(text)
+}
+
+#[test]
+fn long_texts_declared_anew(rt: HostRuntime) -> Result<(), Fault> {
+    let alloc = rt.alloc();
+    let declared = many(
+        alloc,
+        b"DECLARE A LITERALLY 'N', B LITERALLY 'O', T LITERALLY '",
+        b"A ",
+        1_100,
+        b"1 A B', U LITERALLY 'T T B';",
+    )?;
+    // With N alone, with both, with other texts of theirs, and without them.
+    let source: &[u8] =
+        b"DO; DECLARE N LITERALLY ''; T U DO; DECLARE O LITERALLY ''; T U END; T END; DO; DECLARE O LITERALLY 'N', N LITERALLY ''; U END; T";
+    let wanted: &[u8] =
+        b"DO; DECLARE N LITERALLY ''; 1 O 1 O 1 O O DO; DECLARE O LITERALLY ''; 1 1 1 END; 1 O END; DO; DECLARE O LITERALLY 'N', N LITERALLY ''; 1 1 END; ";
+    let wanted = many(alloc, wanted, b"N ", 1_100, b"1 N O")?;
+    gives_behind(
+        &rt,
+        alloc,
+        declared.as_slice(),
+        source,
+        wanted.as_slice(),
+        None,
+    )
+}
+
+#[test]
+fn long_texts_too_deep(rt: HostRuntime) -> Result<(), Fault> {
+    let alloc = rt.alloc();
+    let chain =
+        b"DECLARE L0 LITERALLY '', L1 LITERALLY 'L0', L2 LITERALLY 'L1', L3 LITERALLY 'L2', L4 LITERALLY 'L3', L5 LITERALLY 'L4', L6 LITERALLY 'L5', L7 LITERALLY 'L6', S LITERALLY '";
+    let short = many(alloc, chain, b"L6 ", 40, b"', T LITERALLY '")?;
+    let declared = many(alloc, short.as_slice(), b"L7 ", 40, b"';\n")?;
+    // Eight replacements one inside the other, twice, and then nine, though L7 is known to put nothing out.
+    gives_behind(
+        &rt,
+        alloc,
+        declared.as_slice(),
+        b"L7 S L7 S 1\nT 2",
+        b"1",
+        Some((Number::E202, 3)),
+    )
+}
+
 #[test]
 fn many_tokens(rt: HostRuntime) -> Result<(), Fault> {
     let alloc = rt.alloc();

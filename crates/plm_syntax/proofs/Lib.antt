@@ -27,8 +27,10 @@ pub mod Bounded
 pub mod Answered
 pub mod Quiet
 pub mod Located
+pub mod Numbers
+pub mod Facts
 pub mod Written
-pub mod Known
+pub mod Passed
 pub mod Words
 pub mod CalmExpression
 pub mod CalmParts

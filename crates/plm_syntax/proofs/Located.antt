@@ -8,9 +8,9 @@ use Rattle.std.proofs.lemmas.Slice.Eq.{bytes_eq-Decides}
 use Rattle.std.proofs.lemmas.Bool.{ltb-true}
 use Rattle.std.proofs.lemmas.Option.{slice_get_read}
 use Rattle.plm_token.specs.Names.{normal, names_equal}
-use Rattle.plm_syntax.specs.declared.open_blocks.Literal.{Literal}
+use Rattle.plm_syntax.specs.declared.scope.Literal.{Literal}
 use Rattle.plm_syntax.specs.Literals.{LiteralText}
-use Rattle.plm_syntax.specs.Inner.OpenBlocks.{letters_of, literal_text, literal_at, has_name, first_named, place_in, ArePlaced, WillBePlaced}
+use Rattle.plm_syntax.specs.Inner.Scope.{letters_of, literal_text, literal_at, has_name, first_named, place_in, ArePlaced, WillBePlaced}
 use Rattle.std.specs.HashMap.{HashMap}
 use Rattle.std.specs.Map.{lookup}
 use denote.Ref.{Bor}

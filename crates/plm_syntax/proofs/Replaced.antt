@@ -11,7 +11,7 @@ use Rattle.plm_syntax.specs.declared.literals.Source.{Source}
 use Rattle.plm_token.specs.Scanner.{Lexeme, lexemes}
 use Rattle.plm_token.specs.Literals.{Symbol, on_line, at_line, literal_of}
 use Rattle.plm_syntax.specs.Literals.{LiteralText, Out, or_else, by_literal, literal_for, put, stop_at, symbol_out, text_out, source_out, declare, declared_name, is_string, between, nothing_out, expanded}
-use Rattle.plm_syntax.specs.Inner.OpenBlocks.{symbol, text_of, text_at}
+use Rattle.plm_syntax.specs.Inner.Scope.{symbol, text_of, text_at}
 use Rattle.plm_syntax.specs.Inner.Literals.{with_text, out_with_text, text_for, declare_text, source_view}
 
 stopped : (stop : Option (Number × ℕ)) (o next : Out) → is_some stop ≡ true → or_else stop o next ≡ o

@@ -1,9 +1,9 @@
 -- The starts of blocks, turned round.
 use Rattle.std.proofs.Common.{◌≡◌, ℕ, List, [], ◌∷◌, ◌++◌, reverse, map, take, refl}
 use Rattle.std.proofs.lemmas.List.{reverse-append, take-map}
-use Rattle.plm_syntax.specs.declared.open_blocks.Literal.{Literal}
+use Rattle.plm_syntax.specs.declared.scope.Literal.{Literal}
 use Rattle.plm_syntax.specs.Literals.{closed}
-use Rattle.plm_syntax.specs.Inner.Literals.{literal_text}
+use Rattle.plm_syntax.specs.Inner.Scope.{literal_text}
 
 pub reverse_push : (xs : List ℕ) (x : ℕ) → reverse (xs ++ x ∷ []) ≡ x ∷ reverse xs
 reverse_push xs x = reverse-append xs (x ∷ [])

@@ -8,7 +8,8 @@ pub mod Parts
 pub mod Blocks
 pub mod Name
 pub mod NamedToken
-pub mod OpenBlocks
-pub mod Numbered
+pub mod Names
+pub mod Scope
+pub mod Known
 pub mod Literals
 pub mod Answer

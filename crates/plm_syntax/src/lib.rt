@@ -11,14 +11,17 @@ mod cursor;
 mod declaration;
 mod expression;
 mod failure;
+mod known;
 mod laws;
 mod literals;
 mod name;
 mod named_token;
+mod names;
 mod open_blocks;
 mod operator;
 mod parts;
 mod reading;
+mod scope;
 mod statement;
 mod tree;
 

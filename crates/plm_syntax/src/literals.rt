@@ -1,17 +1,18 @@
 //! Names that LITERALLY declares are replaced by their texts' tokens.
 
-ghost use Rattle.std.specs.Prelude.{◌≡◌, ◌<◌, [], ◌∷◌, true, Some, length, map, take, fold, OnOk, IfOk, IfErr, IfSome, option_map};
+ghost use Rattle.std.specs.Prelude.{◌≡◌, ◌<◌, Some, length, map, fold, OnOk, IfOk, IfErr, option_map};
 ghost use Rattle.std.specs.List.{slice_get, slice_range};
 ghost use Rattle.word86.specs.declared.fault.Fault.TheVariants.{Memory};
 ghost use Rattle.plm_token.specs.Scanner.{lexeme, lexemes};
 ghost use Rattle.plm_token.specs.Literals.{on_line};
 ghost use Rattle.plm_syntax.specs.Literals.{LiteralText, ends, declares, is_keyword, is_string, over_limit, ends_block, declared_name, between, put, symbol_out, text_out, nothing_out, expanded};
-ghost use Rattle.plm_syntax.specs.Inner.OpenBlocks.{named_symbol, text_at, is_quiet_text, IsQuietBy, joined, named_quiet};
-ghost use Rattle.plm_syntax.specs.Inner.Literals.{placed, out_of, text_view, text_for, with_text, source_view, put_with_text, out_with_text, IsGap, gap_behind};
+ghost use Rattle.plm_syntax.specs.Inner.Scope.{named_symbol, text_at};
+ghost use Rattle.plm_syntax.specs.Inner.Literals.{placed, out_of, text_view, text_for, with_text, source_view, put_with_text, out_with_text};
 ghost use Rattle.plm_syntax.specs.Literals.{expansion_view, expansion_of};
 
 use crate::named_token::{LiteralTokens, NamedToken};
-use crate::open_blocks::{NOTHING, OpenBlocks, Quiet, QuietRun, is_identifier};
+use crate::names::is_identifier;
+use crate::open_blocks::OpenBlocks;
 use plm_token::{Keyword, Kind, Token, scan_literal};
 use std::alloc::Global;
 use word86::{Fault, Number};
@@ -27,13 +28,6 @@ const TOKEN_LIMIT: usize = 65_535;
 pub struct Placed<'t, 'a> {
     pub token: &'t NamedToken<'a>,
     pub line: u32,
-}
-
-/// The last tokens of a literal's text of which nothing came: from which on, and what they rest on.
-#[derive(Clone, Copy)]
-pub struct Gap {
-    pub since: usize,
-    pub quiet: Quiet,
 }
 
 /// What came out so far: the tokens, the last two of them, and the fault and line where it stopped.
@@ -78,44 +72,6 @@ fn over_limit(count: usize, line: u32) -> Option<(Number, u32)>
         Some((Number::E205, line))
     } else {
         None
-    }
-}
-
-/// What tokens rest on beside others, if nothing comes of them all.
-fn joined(before: Option<Quiet>, next: Option<Quiet>) -> Option<Quiet>
-    ensures { result ≡ joined before next }
-{
-    match (before, next) {
-        (Some(before), Some(next)) => Some(before.and(next)),
-        _ => None,
-    }
-}
-
-/// What the name of a literal rests on, if nothing comes of its text.
-fn named(text: Option<Quiet>, literal: usize) -> Option<Quiet>
-    requires depth { IfSome text (λ q. q.depth < 255) }
-    requires number { literal < 18446744073709551615 }
-    ensures { result ≡ option_map (named_quiet literal) text }
-{
-    match text {
-        Some(quiet) => Some(quiet.named(literal)),
-        None => None,
-    }
-}
-
-/// The gap behind tokens of a literal's text, up to this one: it goes on if nothing came of them, or else begins there.
-fn gap_behind(gap: Gap, to: usize, quiet: Option<Quiet>) -> Gap
-    ensures { result ≡ gap_behind gap to quiet }
-{
-    match quiet {
-        Some(quiet) => Gap {
-            since: gap.since,
-            quiet,
-        },
-        None => Gap {
-            since: to,
-            quiet: NOTHING,
-        },
     }
 }
 
@@ -166,106 +122,66 @@ impl<'t, 'a> Expander<'t, 'a> {
         Ok(())
     }
 
-    /// Puts a token of a literal's text out, with the line of the name that the text replaces, or replaces it in turn. Where nothing comes of
-    /// it, the answer is what that rests on.
+    /// Puts a token of a literal's text out, with the line of the name that the text replaces, or replaces it in turn.
     #[cycle(replace)]
     #[tactic(auto, using(crate::proofs::Replaced::symbol_stopped, crate::proofs::Replaced::symbol_plain, crate::proofs::Replaced::symbol_deep, crate::proofs::Replaced::symbol_text))]
-    fn put_symbol(
-        &mut self,
-        token: &'t NamedToken<'a>,
-        line: u32,
-        depth: u8,
-    ) -> Result<Option<Quiet>, Fault>
+    fn put_symbol(&mut self, token: &'t NamedToken<'a>, line: u32, depth: u8) -> Result<(), Fault>
         ensures ok { OnOk result (out_of self.new ≡ symbol_out depth line (named_symbol token.now) (out_of self.old)) }
-        ensures quiet { IfOk result (λ r. IfSome r (λ q. IsQuietBy depth q (out_of self.old).blocks.literals (named_symbol token.now ∷ []))) }
         ensures err { IfErr result (λ f. f ≡ Memory) }
     {
         if self.stop.is_some() {
-            return Ok(None);
+            return Ok(());
         }
         match self.blocks.literal(token) {
-            None => {
-                self.put(token, line)?;
-                Ok(None)
-            }
+            None => self.put(token, line),
             Some(index) => {
                 if depth == 0 {
                     self.stop = Some((Number::E202, line));
-                    return Ok(None);
+                    return Ok(());
                 }
-                let quiet = self.put_literal(index, line, depth - 1)?;
-                Ok(named(quiet, index))
+                self.put_literal(index, line, depth - 1)
             }
         }
     }
 
     /// Puts a literal's text out, its tokens with the line of the name that it replaces.
     #[cycle(replace)]
-    fn put_literal(&mut self, index: usize, line: u32, depth: u8) -> Result<Option<Quiet>, Fault>
-        requires { index < length self.old.blocks.literals.items }
+    fn put_literal(&mut self, index: usize, line: u32, depth: u8) -> Result<(), Fault>
+        requires { index < length self.old.blocks.scope.literals.items }
         ensures ok { OnOk result (out_of self.new ≡ text_out depth line (text_at (out_of self.old).blocks.literals index) (out_of self.old)) }
-        ensures quiet { IfOk result (λ r. IfSome r (λ q. IsQuietBy depth q (out_of self.old).blocks.literals (text_at (out_of self.old).blocks.literals index))) }
         ensures err { IfErr result (λ f. f ≡ Memory) }
     {
-        let text = self.blocks.literals[index].text.tokens.as_slice();
-        let mut gap = Gap {
-            since: 0,
-            quiet: NOTHING,
-        };
+        let text = self.blocks.scope.literals[index].text.tokens.as_slice();
         let mut at = 0;
         while at < text.len() {
-            let (to, quiet) = self.put_next(index, text, at, gap, line, depth)?;
-            gap = gap_behind(gap, to, quiet);
-            at = to;
+            at = self.put_next(index, text, at, line, depth)?;
         }
-        Ok((gap.since == 0).then_some(gap.quiet))
+        Ok(())
     }
 
-    /// Puts the next tokens of a literal's text out: those that are known to put nothing out behind those of the gap, which are passed over, or
-    /// else one. The answer is up to where, and what they and the gap rest on if nothing came of them.
+    /// Puts the next tokens of a literal's text out: those that are known to put nothing out, which are passed over, or else one.
+    /// The answer is up to where.
     #[cycle(replace)]
     fn put_next(
         &mut self,
         index: usize,
         text: &'t [NamedToken<'a>],
         at: usize,
-        gap: Gap,
         line: u32,
         depth: u8,
-    ) -> Result<(usize, Option<Quiet>), Fault>
+    ) -> Result<usize, Fault>
         requires inside { at < length text.now }
         requires same { (l : LiteralText) → slice_get (out_of self.old).blocks.literals index ≡ Some l → l.text ≡ map named_symbol text.now }
-        requires gap { IsGap depth (out_of self.old).blocks.literals (map named_symbol text.now) at gap }
-        ensures later { IfOk result (λ r. at < r.0) }
-        ensures ok { IfOk result (λ r. out_of self.new ≡ text_out depth line (slice_range (map named_symbol text.now) at r.0) (out_of self.old)) }
-        ensures quiet { IfOk result (λ r. IfSome r.1 (λ q. IsQuietBy depth q (out_of self.old).blocks.literals (slice_range (map named_symbol text.now) gap.since r.0))) }
+        ensures later { IfOk result (λ r. at < r) }
+        ensures ok { IfOk result (λ r. out_of self.new ≡ text_out depth line (slice_range (map named_symbol text.now) at r) (out_of self.old)) }
         ensures err { IfErr result (λ f. f ≡ Memory) }
     {
-        if let Some(run) = self.blocks.quiet_from(index, gap.since, at, depth) {
-            self.blocks.learn(run);
-            return Ok((run.to, Some(gap.quiet.and(run.quiet))));
+        let to = self.blocks.quiet_to(index, at, depth);
+        if at < to {
+            return Ok(to);
         }
-        let quiet = self.put_symbol(&text[at], line, depth)?;
-        self.learn(index, at, at + 1, quiet);
-        Ok((at + 1, joined(Some(gap.quiet), quiet)))
-    }
-
-    /// Remembers that tokens of a literal put nothing out, if so, where the literal is still there.
-    fn learn(&mut self, literal: usize, from: usize, to: usize, quiet: Option<Quiet>)
-        requires { IfSome quiet (λ q. (l : LiteralText) → slice_get (out_of self.old).blocks.literals literal ≡ Some l → is_quiet_text q.depth (take q.rests_on (out_of self.old).blocks.literals) (slice_range l.text from to) ≡ true) }
-        ensures { out_of self.new ≡ out_of self.old }
-    {
-        if let Some(needs) = quiet {
-            if literal < self.blocks.literals.len() {
-                self.blocks.learn(QuietRun {
-                    literal,
-                    since: from,
-                    from,
-                    to,
-                    quiet: needs.with(literal),
-                });
-            }
-        }
+        self.put_symbol(&text[at], line, depth)?;
+        Ok(at + 1)
     }
 
     /// Puts a token of the source out; a string may declare a literal, whose faults stand at it.
@@ -300,10 +216,7 @@ impl<'t, 'a> Expander<'t, 'a> {
         let token = &source.token;
         match self.blocks.literal(token) {
             None => self.put_source(token, &source.text),
-            Some(index) => {
-                let _quiet = self.put_literal(index, token.token.line, DEPTH - 1)?;
-                Ok(())
-            }
+            Some(index) => self.put_literal(index, token.token.line, DEPTH - 1),
         }
     }
 }

@@ -9,7 +9,6 @@ ghost use Rattle.plm_syntax.specs.Inner.Name.{letters_of};
 use crate::name::Name;
 use plm_token::Token;
 use std::alloc::Global;
-use std::collections::HashMap;
 use word86::Fault;
 
 /// A token, and its text in normal form.
@@ -20,11 +19,10 @@ pub struct NamedToken<'a> {
     ghost in_normal_form: { letters_of name ≡ normal token.text.now },
 }
 
-/// The tokens of a literal's text, and for each the place of the one before it that has its name, or its own place if there is none.
+/// The tokens of a literal's text.
 #[derive(Drop)]
 pub struct LiteralTokens<'a> {
     pub tokens: Vec<NamedToken<'a>>,
-    pub earlier: Vec<usize>,
 }
 
 impl<'a> NamedToken<'a> {
@@ -51,20 +49,6 @@ impl<'a> LiteralTokens<'a> {
             let token = NamedToken::new(alloc, *token)?;
             tokens.push(token)?;
         }
-        let earlier = earlier_places(alloc, tokens.as_slice())?;
-        Ok(LiteralTokens { tokens, earlier })
+        Ok(LiteralTokens { tokens })
     }
-}
-
-/// For each token the place of the one before it that has its name, or its own place.
-fn earlier_places(alloc: Global, tokens: &[NamedToken<'_>]) -> Result<Vec<usize>, Fault>
-    ensures { IfErr result (λ f. f ≡ Memory) }
-{
-    let mut last: HashMap<&[u8], usize> = HashMap::new(alloc);
-    let mut places = Vec::with_capacity(alloc, tokens.len())?;
-    for (place, token) in tokens.iter().enumerate() {
-        let earlier = last.insert(token.name.letters(), place)?;
-        places.push(earlier.unwrap_or(place))?;
-    }
-    Ok(places)
 }

@@ -1,25 +1,25 @@
 -- What the expander's values stand for.
-use Rattle.std.specs.Prelude.{ℕ, ◌≤◌, List, map, reverse, cond, Option, Some, None, Result, Ok, Err}
-use Rattle.std.specs.List.{slice_range}
+use Rattle.std.specs.Prelude.{ℕ, List, map, reverse, cond, Option, Some, None, Result, Ok, Err}
 use Rattle.std.specs.Option.{option_map}
 use Rattle.word86.specs.declared.number.Number.{Number}
 use Rattle.plm_token.specs.declared.token.Kind.{Kind}
 use Rattle.plm_token.specs.Scanner.{Lexeme, lexeme, lexemes}
 use Rattle.plm_token.specs.Literals.{Symbol, on_line, literal_of}
 use Rattle.plm_syntax.specs.declared.open_blocks.OpenBlocks.{OpenBlocks}
-use Rattle.plm_syntax.specs.declared.open_blocks.Quiet.{Quiet}
+use Rattle.plm_syntax.specs.declared.scope.Scope.{Scope}
 use Rattle.plm_syntax.specs.declared.literals.Placed.{Placed}
-use Rattle.plm_syntax.specs.declared.literals.Gap.{Gap}
 use Rattle.plm_syntax.specs.declared.literals.Expander.{Expander}
 use Rattle.plm_syntax.specs.declared.literals.Source.{Source}
 use Rattle.plm_syntax.specs.declared.literals.Text.{Text}
 use Rattle.plm_syntax.specs.declared.literals.Text.TheVariants.{Absent, Tokens, Faulty}
-use Rattle.plm_syntax.specs.Literals.{LiteralText, Blocks, Out, is_string, between, declare, declared_name, put, literal_for, by_literal, or_else, text_out}
-use Rattle.plm_syntax.specs.Inner.OpenBlocks.{IsQuietBy}
-pub use Rattle.plm_syntax.specs.Inner.OpenBlocks.{symbol, named_symbol, literal_text}
+use Rattle.plm_syntax.specs.Literals.{Blocks, Out, is_string, between, declare, declared_name, put, literal_for, by_literal, or_else, text_out}
+pub use Rattle.plm_syntax.specs.Inner.Scope.{symbol, named_symbol, literal_text}
+
+abbrev pub blocks_in : Scope → Blocks
+blocks_in scope = record { literals = map literal_text scope.literals.items; starts = reverse scope.starts.items }
 
 abbrev pub blocks_of : OpenBlocks → Blocks
-blocks_of b = record { literals = map literal_text b.literals.items; starts = reverse b.starts.items }
+blocks_of b = blocks_in b.scope
 
 -- a token that came out
 abbrev pub placed : Placed → Lexeme
@@ -60,15 +60,3 @@ put_with_text t text o = declare_text (declared_name t.kind o.last o.before) tex
 
 abbrev pub out_with_text : Lexeme × Option (Result (List Symbol) Number) → Out → Out
 out_with_text p o = or_else o.stop o (by_literal (λ l. text_out 7 p.0.line l.text o) (literal_for o.blocks.literals p.0.kind p.0.text) (put_with_text p.0 p.1 o))
-
--- ---- gaps
-
--- A gap ends at a token of a text, and nothing came of its own.
-pub record IsGap (depth : ℕ) (literals : List LiteralText) (text : List Symbol) (at : ℕ) (gap : Gap) : Type 0 where
-  pub order : gap.since ≤ at
-  pub quiet : IsQuietBy depth gap.quiet literals (slice_range text gap.since at)
-
--- the gap behind the next tokens, up to this one: it goes on if nothing came of them, or else begins there
-abbrev pub gap_behind : Gap → ℕ → Option Quiet → Gap
-gap_behind gap to None = record { since = to; quiet = record { depth = 0; rests_on = 0 } }
-gap_behind gap to (Some quiet) = record { since = gap.since; quiet = quiet }

@@ -1,5 +1,5 @@
 -- Tokens without their lines, and names in normal form.
-use Rattle.std.specs.Prelude.{◌≡◌, true}
+use Rattle.std.specs.Prelude.{◌≡◌, Bool, true, ◌&&◌, bytes_eq}
 use Rattle.plm_token.specs.declared.token.Token.{Token}
 use Rattle.plm_token.specs.Names.{normal}
 use Rattle.plm_token.specs.Literals.{Symbol}
@@ -17,3 +17,6 @@ pub record IsSameName (a b : Symbol) : Type 0 where
   pub first : is_identifier a.kind ≡ true
   pub second : is_identifier b.kind ≡ true
   pub same : normal a.text ≡ normal b.text
+
+abbrev pub is_same_name : Symbol → Symbol → Bool
+is_same_name a b = is_identifier a.kind && (is_identifier b.kind && bytes_eq (normal a.text) (normal b.text))

@@ -1,7 +1,7 @@
 use Rattle.std.proofs.Common.{◌+◌, ◌-◌, ◌*◌, length, map}
-use Rattle.plm_syntax.specs.Inner.OpenBlocks.{named_symbol}
+use Rattle.plm_syntax.specs.Inner.Scope.{named_symbol}
 use Rattle.plm_syntax.specs.Inner.Literals.{out_of}
-use Rattle.plm_syntax.proofs.Known.{Putting}
+use Rattle.plm_syntax.proofs.Passed.{Putting}
 use Rattle.plm_syntax.proofs.literals.Expander.+replace.Given as goal
 
 abbrev pub decreases-put_symbol : goal.decreases-put_symbol
@@ -17,4 +17,4 @@ abbrev pub decreases-put_literal-loop-at : goal.decreases-put_literal-loop-at
 decreases-put_literal-loop-at l = length l.text - l.at
 
 abbrev pub invariant-put_literal-loop-at : goal.invariant-put_literal-loop-at
-invariant-put_literal-loop-at l = Putting l.depth l.line (map named_symbol l.text) l.index l.at l.gap (out_of l.fn.self) (out_of l.self)
+invariant-put_literal-loop-at l = Putting l.depth l.line (map named_symbol l.text) l.index l.at (out_of l.fn.self) (out_of l.self)
