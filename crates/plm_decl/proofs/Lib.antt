@@ -1,6 +1,7 @@
 pub mod Apart
 pub mod Tables
 pub mod MemberRows
+pub mod MemberScalars
 pub mod ListViews
 pub mod ResolvedRows
 pub mod SyntaxRows
@@ -20,6 +21,7 @@ pub mod JoinedNames
 pub mod Places
 pub mod ByPlaces
 pub mod Once
+pub mod ParameterNames
 pub mod DeclaredAgain
 pub mod Lying
 pub mod RangesNames

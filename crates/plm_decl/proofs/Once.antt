@@ -14,17 +14,13 @@ use Rattle.plm_decl.specs.Resolver.{Known, note_unless}
 use Rattle.plm_decl.specs.Shape.{member_names, member_count, member_scalar, number_of_elements, with_member_name, with_member_names, with_members, structure_for}
 use Rattle.plm_decl.specs.Statements.{with_parameter, parameter_is, parameter_for, parameters_from}
 use Rattle.plm_decl.specs.BlockNames.{has_name}
+use Rattle.plm_decl.specs.Inner.Parameters.{listed_after}
 use Rattle.plm_decl.specs.DeclaredAgain.{names_of_members}
 use Rattle.plm_decl.proofs.BlockNames.{finds, entered, has_both, or_none, or_together}
 
 -- ---- parameters
 
-listed_after : Entries → List NameT → Entries
-listed_after listed [] = listed
-listed_after listed (n ∷ ns) = listed_after (with_parameter n listed) ns
-
-finds_listed : (name : List ℕ) (listed : Entries) (ns : List NameT) → finds name (listed_after listed ns) ≡ (finds name listed || has_name name ns)
-unfolding listed_after
+pub finds_listed : (name : List ℕ) (listed : Entries) (ns : List NameT) → finds name (listed_after listed ns) ≡ (finds name listed || has_name name ns)
 finds_listed name listed [] = sym (or_none (finds name listed))
 finds_listed name listed (n ∷ ns) =
     finds_listed name (with_parameter n listed) ns
@@ -33,7 +29,6 @@ finds_listed name listed (n ∷ ns) =
 
 one_parameter_more : (frames : List Frame) (listed : Entries) (vs : List ℕ) (ns : List NameT) (n : NameT) (k : Known)
     → let r = parameters_from frames listed vs ns k in parameters_from frames listed vs (ns ++ n ∷ []) k ≡ parameter_for frames (listed_after listed ns) r.0 n r.1
-unfolding listed_after
 one_parameter_more frames listed vs [] n k = refl
 one_parameter_more frames listed vs (m ∷ ns) n k = let r = parameter_for frames listed vs m k in one_parameter_more frames (with_parameter m listed) r.0 ns n r.1
 

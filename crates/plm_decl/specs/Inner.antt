@@ -3,9 +3,11 @@ pub mod Expressions
 pub mod Fill
 pub mod Members
 pub mod Modules
+pub mod Parameters
 pub mod Ranges
 pub mod Regions
 pub mod Resolver
 pub mod Scope
 pub mod Shape
 pub mod Statements
+pub mod Structure

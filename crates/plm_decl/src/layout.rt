@@ -61,6 +61,8 @@ pub struct Member {
 pub struct Field {
     pub name: Vec<u8>,
     pub member: Member,
+    /// How many scalars of the structure stand before it.
+    pub(crate) scalars_before: u64,
 }
 
 /// What an element is: a scalar, or a structure by its number.

@@ -15,6 +15,7 @@ mod layout;
 mod members;
 mod modules;
 mod names;
+mod parameters;
 mod placement;
 mod resolved;
 mod resolver;

@@ -3,10 +3,11 @@
 ghost use Rattle.std.specs.Prelude.{◌≡◌, ◌+◌, ◌*◌, IfOk, OnOk, map, length, option_map, true, Some};
 ghost use Rattle.plm_syntax.specs.View.{name_of, counted as number_view, member_of, type_of, dimension_of, value_of};
 ghost use Rattle.plm_decl.specs.Lists.{member_list};
-ghost use Rattle.plm_decl.specs.Layout.{structure_of, counted, elements, is_dimension, scalar_in, with_field, has_field, field_named, scalar_of, no_fields};
+ghost use Rattle.plm_decl.specs.Layout.{structure_of, counted, elements, is_dimension, scalar_in, with_field, has_field, field_named, scalar_of, no_fields, field_of};
 ghost use Rattle.plm_decl.specs.Inner.Resolver.{known_of};
 ghost use Rattle.plm_decl.specs.Shape as shape;
 ghost use Rattle.plm_decl.specs.Inner.Shape.{names_of_member};
+ghost use Rattle.plm_decl.specs.Inner.Structure.{begins_by};
 
 use crate::layout::{Field, Form, Member, ScalarType};
 use crate::members::MemberTable;
@@ -67,6 +68,15 @@ impl Shape {
     }
 }
 
+impl Field {
+    /// Whether it begins at this scalar of its structure or before it. One that begins past all numbers does not.
+    fn begins_by(&self, position: u64) -> bool
+        ensures { result ≡ begins_by self.now position }
+    {
+        self.scalars_before <= position && self.scalars_before < u64::MAX
+    }
+}
+
 impl Structure {
     /// A structure without members.
     pub(crate) fn new(alloc: Global) -> Structure
@@ -87,12 +97,27 @@ impl Structure {
         self.by_name.find(name)
     }
 
+    /// The members from the last one on that begins at or before this scalar, as a binary search finds it, and how many
+    /// scalars after its first this one stands.
+    fn members_from(&self, position: u64) -> (&[Field], u64)
+        ensures { scalar_in (map field_of result.0.now) result.1 ≡ scalar_in (structure_of self.now).fields position }
+    {
+        let begun = self
+            .fields
+            .partition_point(|field| field.scalars_before <= position);
+        let (_, members) = self.fields.split_at(begun.saturating_sub(1));
+        match members.first() {
+            Some(field) if field.begins_by(position) => (members, position - field.scalars_before),
+            _ => (self.fields.as_slice(), position),
+        }
+    }
+
     /// The scalar that stands this many scalars after the first.
     fn scalar_at(&self, position: u64) -> ScalarType
         ensures { result ≡ scalar_in (structure_of self.now).fields position }
     {
-        let mut left = position;
-        for field in &self.fields {
+        let (members, mut left) = self.members_from(position);
+        for field in members {
             let count = elements(field.member.dimension);
             if left < count {
                 return field.member.scalar;
@@ -119,7 +144,12 @@ impl Structure {
         let key = Vec::from_slice(*name.allocator(), name.as_slice())?;
         self.fields.reserve(1)?;
         self.by_name.add(key, member)?;
-        match self.fields.push(Field { name, member }) {
+        let field = Field {
+            name,
+            member,
+            scalars_before: self.scalars,
+        };
+        match self.fields.push(field) {
             Ok(()) => {}
             Err(_) => unreachable!(),
         }

@@ -456,6 +456,7 @@ impl Resolver {
         let number = resolver.procedures.len();
         let interrupt = interrupt_number(*interrupt);
         resolver.note_handler(name.place, *linkage, interrupt)?;
+        let stray = first_stray(resolver.alloc, procedure)?;
         resolver.procedures.push(Procedure {
             path,
             module: resolver.module,
@@ -464,7 +465,7 @@ impl Resolver {
             returned: returned_type(*returned),
             interrupt,
             linkage: *linkage,
-            stray: first_stray(procedure),
+            stray,
             entry: number,
             body: Vec::new(resolver.alloc),
         })?;

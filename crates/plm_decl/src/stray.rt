@@ -1,46 +1,72 @@
 //! What stands in an EXTERNAL procedure besides the declarations of its parameters.
 
-ghost use Rattle.std.specs.Prelude.{◌≡◌, map};
+ghost use Rattle.std.specs.Prelude.{◌≡◌, map, IfOk};
 ghost use Rattle.plm_syntax.specs.View.{name_of, variable_of, element_of, item_of, statement_of, block_of};
 ghost use Rattle.plm_decl.specs.Stray as spec;
 ghost use Rattle.plm_decl.specs.Inner.Statements.{stray_for};
 
+use crate::names::Item;
+use crate::parameters::Parameters;
+use crate::table::Table;
 use plm_syntax::{
-    Basic, Block, Declared, Element, Item, Linkage, Name, Position, Procedure, Statement, Variable,
+    Basic, Block, Declared, Element, Item as SyntaxItem, Linkage, Name, Position, Procedure,
+    Statement, Variable,
 };
-use plm_token::same_name;
+use plm_token::normal;
+use std::alloc::{AllocError, Global};
 
-/// Whether the name is one of these.
-fn is_among(name: &Name<'_>, names: &[Name<'_>]) -> bool
-    ensures { result ≡ spec.is_parameter (name_of name.now) (map name_of names.now) }
-{
-    for other in names {
-        if same_name(other.text, name.text) {
-            return true;
+impl<'p, 'a> Parameters<'p, 'a> {
+    /// The parameters of these names.
+    fn new(alloc: Global, names: &'p [Name<'a>]) -> Result<Parameters<'p, 'a>, AllocError>
+        ensures { IfOk result (λ p. p.names.now ≡ names.now) }
+    {
+        let mut by_name = Table::new(alloc);
+        for name in names {
+            let key = normal(alloc, name.text)?;
+            by_name.add(key, Item::Variable(0))?;
         }
+        Ok(Parameters {
+            alloc,
+            names,
+            by_name,
+        })
     }
-    false
+
+    /// Whether one of them has this name.
+    #[tactic(auto, using(crate::proofs::ParameterNames::parameter_is_named))]
+    fn has(&self, name: &Name<'_>) -> Result<bool, AllocError>
+        ensures { IfOk result (λ r. r ≡ spec.is_parameter (name_of name.now) (map name_of self.now.names.now)) }
+    {
+        let key = normal(self.alloc, name.text)?;
+        Ok(self.by_name.find(&key).is_some())
+    }
 }
 
 /// The first variable that is no parameter.
-fn stray_variable(variables: &[Variable<'_>], parameters: &[Name<'_>]) -> Option<Position>
-    ensures { result ≡ spec.stray_variable (map name_of parameters.now) (map variable_of variables.now) }
+fn stray_variable(
+    variables: &[Variable<'_>],
+    parameters: &Parameters<'_, '_>,
+) -> Result<Option<Position>, AllocError>
+    ensures { IfOk result (λ r. r ≡ spec.stray_variable (map name_of parameters.now.names.now) (map variable_of variables.now)) }
 {
     for variable in variables {
-        if !is_among(&variable.name, parameters) {
-            return Some(variable.name.place);
+        if !parameters.has(&variable.name)? {
+            return Ok(Some(variable.name.place));
         }
     }
-    None
+    Ok(None)
 }
 
 /// The first name of an element that is no parameter.
 #[tactic(auto, using(crate::proofs::ListViews::variable_list_from))]
-fn stray_name(element: &Element<'_>, parameters: &[Name<'_>]) -> Option<Position>
-    ensures { result ≡ spec.stray_name (map name_of parameters.now) (element_of element.now) }
+fn stray_name(
+    element: &Element<'_>,
+    parameters: &Parameters<'_, '_>,
+) -> Result<Option<Position>, AllocError>
+    ensures { IfOk result (λ r. r ≡ spec.stray_name (map name_of parameters.now.names.now) (element_of element.now)) }
 {
     match element {
-        Element::Literal(name, _) => Some(name.place),
+        Element::Literal(name, _) => Ok(Some(name.place)),
         Element::Variable {
             declared: Declared::One(variable),
             ..
@@ -52,36 +78,45 @@ fn stray_name(element: &Element<'_>, parameters: &[Name<'_>]) -> Option<Position
     }
 }
 
-fn stray_element(elements: &[Element<'_>], parameters: &[Name<'_>]) -> Option<Position>
-    ensures { result ≡ spec.stray_element (map name_of parameters.now) (map element_of elements.now) }
+fn stray_element(
+    elements: &[Element<'_>],
+    parameters: &Parameters<'_, '_>,
+) -> Result<Option<Position>, AllocError>
+    ensures { IfOk result (λ r. r ≡ spec.stray_element (map name_of parameters.now.names.now) (map element_of elements.now)) }
 {
     for element in elements {
-        if let Some(place) = stray_name(element, parameters) {
-            return Some(place);
+        if let Some(place) = stray_name(element, parameters)? {
+            return Ok(Some(place));
         }
     }
-    None
+    Ok(None)
 }
 
 #[tactic(auto, using(crate::proofs::ListViews::element_list_from))]
-fn stray_item(item: &Item<'_>, parameters: &[Name<'_>]) -> Option<Position>
-    ensures { result ≡ spec.stray_item (map name_of parameters.now) (item_of item.now) }
+fn stray_item(
+    item: &SyntaxItem<'_>,
+    parameters: &Parameters<'_, '_>,
+) -> Result<Option<Position>, AllocError>
+    ensures { IfOk result (λ r. r ≡ spec.stray_item (map name_of parameters.now.names.now) (item_of item.now)) }
 {
     match item {
-        Item::Declare(_, elements) => stray_element(elements, parameters),
-        Item::Procedure(procedure) => Some(procedure.name.place),
+        SyntaxItem::Declare(_, elements) => stray_element(elements, parameters),
+        SyntaxItem::Procedure(procedure) => Ok(Some(procedure.name.place)),
     }
 }
 
-fn stray_items(items: &[Item<'_>], parameters: &[Name<'_>]) -> Option<Position>
-    ensures { result ≡ spec.stray_items (map name_of parameters.now) (map item_of items.now) }
+fn stray_items(
+    items: &[SyntaxItem<'_>],
+    parameters: &Parameters<'_, '_>,
+) -> Result<Option<Position>, AllocError>
+    ensures { IfOk result (λ r. r ≡ spec.stray_items (map name_of parameters.now.names.now) (map item_of items.now)) }
 {
     for item in items {
-        if let Some(place) = stray_item(item, parameters) {
-            return Some(place);
+        if let Some(place) = stray_item(item, parameters)? {
+            return Ok(Some(place));
         }
     }
-    None
+    Ok(None)
 }
 
 /// Where a statement begins after its labels.
@@ -116,24 +151,30 @@ fn first_place(statements: &[Statement<'_>]) -> Option<Position>
 
 /// What stands first in a block besides the declarations of these parameters.
 #[tactic(auto, using(crate::proofs::TreeViews::stray_in_parts))]
-fn stray_in(block: &Block<'_>, parameters: &[Name<'_>]) -> Option<Position>
-    ensures { result ≡ spec.stray_in (map name_of parameters.now) (block_of block.now) }
+fn stray_in(
+    block: &Block<'_>,
+    parameters: &Parameters<'_, '_>,
+) -> Result<Option<Position>, AllocError>
+    ensures { IfOk result (λ r. r ≡ spec.stray_in (map name_of parameters.now.names.now) (block_of block.now)) }
 {
     let Block { items, statements } = block;
-    match stray_items(items, parameters) {
-        Some(place) => Some(place),
-        None => first_place(statements),
+    match stray_items(items, parameters)? {
+        Some(place) => Ok(Some(place)),
+        None => Ok(first_place(statements)),
     }
 }
 
 /// What stands first in an EXTERNAL procedure besides the declarations of its parameters.
 #[tactic(auto, using(crate::proofs::TreeViews::stray_for_parts))]
-pub fn first_stray(procedure: &Procedure<'_>) -> Option<Position>
-    ensures { result ≡ stray_for procedure.now }
+pub fn first_stray(alloc: Global, procedure: &Procedure<'_>) -> Result<Option<Position>, AllocError>
+    ensures { IfOk result (λ r. r ≡ stray_for procedure.now) }
 {
     if procedure.linkage == Linkage::External {
-        stray_in(&procedure.block, &procedure.parameters)
+        stray_in(
+            &procedure.block,
+            &Parameters::new(alloc, &procedure.parameters)?,
+        )
     } else {
-        None
+        Ok(None)
     }
 }
