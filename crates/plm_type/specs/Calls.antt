@@ -1,7 +1,7 @@
 -- Which procedures a body calls, and which it reaches by calls.
 use Rattle.std.specs.Prelude.{ℕ, List, [], ◌∷◌, ◌++◌, map}
 use Rattle.plm_type.specs.Reach.{Graph, IsOnCycle}
-use Rattle.plm_type.specs.Rest.{Expression, Constant, Plain, Variable, Location, Unary, Binary, Embedded, Input, Call, Value, Passing, Running, Expressions, NoMore, More, Reference, Refer, Subscripts, NoSubscripts, Subscript, Target, ToPlain, ToVariable, ToPort, Targets, Only, Also, Loop, Count, Statement, Assign, Evaluate, ReturnValue, If, Block, While, Case, Iterate, Statements, End, Then, Returned, Procedure}
+use Rattle.plm_type.specs.Rest.{Expression, Constant, Plain, Variable, Location, Unary, Binary, Embedded, Input, Call, Value, Passing, Running, Expressions, NoMore, More, Reference, Refer, Subscripts, NoSubscripts, Subscript, Target, ToPlain, ToVariable, ToPort, Targets, Only, Also, Loop, Count, Statement, Empty, Assign, Evaluate, Return, ReturnValue, Enabling, Disabling, Halting, If, Block, While, Case, Iterate, Leaving, Round, Comparing, Stepping, Adding, Storing, Ending, Statements, End, Then, Returned, Procedure}
 
 abbrev mutual
   pub calls_in : Expression → List ℕ
@@ -48,7 +48,19 @@ abbrev mutual
   statement_calls (While r c ss) = calls_in c ++ statements_calls ss
   statement_calls (Case e ss) = calls_in e ++ statements_calls ss
   statement_calls (Iterate a l) = calls_in a ++ loop_calls l
-  statement_calls _ = []
+  statement_calls Empty = []
+  statement_calls Return = []
+  statement_calls Enabling = []
+  statement_calls Disabling = []
+  statement_calls Halting = []
+  -- in rests only
+  statement_calls Leaving = []
+  statement_calls (Round l) = []
+  statement_calls (Comparing i e l) = []
+  statement_calls (Stepping e l) = []
+  statement_calls (Adding i s l) = []
+  statement_calls (Storing v l) = []
+  statement_calls (Ending v l) = []
 
   pub loop_calls : Loop → List ℕ
   loop_calls (Count x b s ss) = calls_in b ++ (calls_in s ++ statements_calls ss)

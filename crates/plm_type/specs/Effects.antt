@@ -9,12 +9,16 @@ use Rattle.plm_type.specs.declared.effects.Effect.TheVariants.{Calls, Enables}
 
 -- LENGTH, LAST and SIZE evaluate nothing
 abbrev pub is_unevaluated : Binding → Bool
+is_unevaluated (binding.Variable v) = false
+is_unevaluated (binding.Procedure q) = false
 is_unevaluated (binding.Builtin b) = is_measure b
-is_unevaluated _ = false
+is_unevaluated binding.Nothing = false
 
 abbrev pub calls_of : Binding → List Effect
+calls_of (binding.Variable v) = []
 calls_of (binding.Procedure q) = Calls q ∷ []
-calls_of _ = []
+calls_of (binding.Builtin b) = []
+calls_of binding.Nothing = []
 
 abbrev mutual
   pub of_expression : ExpressionR → List Effect

@@ -216,18 +216,29 @@ module _ (variables : List Variable) (procedures : List ProcedureR) (sizes : Lis
     -- a plain reference to a variable, whose subscripts may be missing
     pub argument : Position → Builtin → ExpressionR → Typed
     argument p b (ReferenceR x) = measured_reference p b x
-    argument p b _ = refused module_index E401 p
+    argument p b (NumberR n) = refused module_index E401 p
+    argument p b (TextR q cs) = refused module_index E401 p
+    argument p b (LocationR l) = refused module_index E401 p
+    argument p b (ParenthesisedR q e) = refused module_index E401 p
+    argument p b (EmbeddedR q x e) = refused module_index E401 p
+    argument p b (UnaryR q o e) = refused module_index E401 p
+    argument p b (BinaryR q o c d) = refused module_index E401 p
 
     pub measured_reference : Position → Builtin → ReferenceR' → Typed
     measured_reference p b (Use q (binding.Variable v) es s) = measured module_index p b q (slice_get variables v) s (parts (list es) (selector s))
-    measured_reference p b (Use q _ es s) = refused module_index E401 p
+    measured_reference p b (Use q (binding.Procedure n) es s) = refused module_index E401 p
+    measured_reference p b (Use q (binding.Builtin k) es s) = refused module_index E401 p
+    measured_reference p b (Use q binding.Nothing es s) = refused module_index E401 p
 
     pub location : LocationR' → Typed
     location (LocationOf p f (Use q (binding.Variable v) es s)) = located variables module_index p f q (slice_get variables v) s (parts (list es) (selector s))
-    location (LocationOf p f (Use q _ es s)) = refused module_index E401 p
+    location (LocationOf p f (Use q (binding.Procedure n) es s)) = refused module_index E401 p
+    location (LocationOf p f (Use q (binding.Builtin b) es s)) = refused module_index E401 p
+    location (LocationOf p f (Use q binding.Nothing es s)) = refused module_index E401 p
     location (ConstantsOf p f k) = constants module_index p f k sizes
 
     pub target : ReferenceR' → TypedTarget
     target (Use p (binding.Variable v) es s) = stored variables module_index p (slice_get variables v) s (parts (list es) (selector s))
     target (Use p (binding.Builtin b) es s) = port module_index p b s (list es)
-    target (Use p _ es s) = no_target module_index p
+    target (Use p (binding.Procedure n) es s) = no_target module_index p
+    target (Use p binding.Nothing es s) = no_target module_index p

@@ -77,7 +77,14 @@ abbrev mutual
   most_in (WhileR p e ss) = max (statement_leaves (WhileR p e ss)) (most_of ss)
   most_in (CaseR p e ss) = max (statement_leaves (CaseR p e ss)) (most_of ss)
   most_in (IterateR p q m a b s ss) = max (statement_leaves (IterateR p q m a b s ss)) (most_of ss)
-  most_in s = statement_leaves s
+  most_in (EmptyR p) = statement_leaves (EmptyR p)
+  most_in (AssignR xs e) = statement_leaves (AssignR xs e)
+  most_in (CallR p x) = statement_leaves (CallR p x)
+  most_in (ReturnR p) = statement_leaves (ReturnR p)
+  most_in (ReturnValueR p e) = statement_leaves (ReturnValueR p e)
+  most_in (EnableR p) = statement_leaves (EnableR p)
+  most_in (DisableR p) = statement_leaves (DisableR p)
+  most_in (HaltR p) = statement_leaves (HaltR p)
 
   pub most_of : StatementsR → ℕ
   most_of no_statements = 0

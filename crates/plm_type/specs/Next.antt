@@ -17,8 +17,18 @@ use Rattle.plm_type.specs.Places.{anchored, placed}
 -- ---- values
 
 abbrev pub value_of : Expression → Option ℕ
+value_of (Constant k) = None
+value_of (Plain w x) = None
+value_of (Variable w r) = None
+value_of (Location r) = None
+value_of (Unary o w e) = None
+value_of (Binary module_index line o w a b) = None
+value_of (Embedded t e) = None
+value_of (rest.Input w e) = None
+value_of (Call p es) = None
 value_of (Value v) = Some v
-value_of _ = None
+value_of (Passing p xs vs) = None
+value_of (Running ss) = None
 
 abbrev pub and_value : Option ℕ → Option (List ℕ) → Option (List ℕ)
 and_value (Some v) (Some vs) = Some (v ∷ vs)
@@ -95,7 +105,9 @@ indexed module_index line anchor offset stride None e more = Refer module_index 
 
 abbrev pub next_anchor : (module_index line : ℕ) → Anchor → (offset : ℕ) → Action Access Reference
 next_anchor module_index line (Behind base) offset = Touch (Read widths.Word base) (λ v. Refer module_index line (There v) offset NoSubscripts)
-next_anchor module_index line _ offset = Over
+next_anchor module_index line (InObject k start size) offset = Over
+next_anchor module_index line (OnScreen start size) offset = Over
+next_anchor module_index line (There address) offset = Over
 
 -- ---- an access at a place, or a Bad step
 

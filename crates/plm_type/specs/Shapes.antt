@@ -9,7 +9,7 @@ use Rattle.plm_decl.specs.declared.names.Region.TheVariants as region
 use Rattle.plm_decl.specs.declared.names.Variable.{Variable}
 use Rattle.plm_decl.specs.Layout.{counted, elements, size_of}
 use Rattle.plm_decl.specs.Resolved.{SelectorR, no_member, member, member_at}
-use Rattle.plm_type.specs.Rest.{Anchor, InObject, OnScreen, Behind, Expression, Plain, Reference, Refer, Subscripts, NoSubscripts, Target, ToPlain, ToVariable, Scalar}
+use Rattle.plm_type.specs.Rest.{Anchor, InObject, OnScreen, Behind, There, Expression, Plain, Reference, Refer, Subscripts, NoSubscripts, Subscript, Target, ToPlain, ToVariable, Scalar}
 use Rattle.plm_type.specs.Rest as rest
 use Rattle.plm_type.specs.Types.{width_of}
 
@@ -75,8 +75,10 @@ member_offset (member_at p None e) = 0
 
 -- how many bytes an element of a member has
 abbrev pub member_stride : SelectorR → ℕ
+member_stride no_member = 0
+member_stride (member p m) = 0
 member_stride (member_at p (Some m) e) = size_of m.scalar
-member_stride _ = 0
+member_stride (member_at p None e) = 0
 
 -- the index of a byte: an object and the screen have fewer bytes than that, so no accepted program has a greater one
 abbrev pub capped : ℕ → ℕ
@@ -98,7 +100,8 @@ scalar_size None = 0
 abbrev pub lies_somewhere : Region → Bool
 lies_somewhere (region.Ram k i) = true
 lies_somewhere (region.Screen i) = true
-lies_somewhere _ = false
+lies_somewhere (region.Based b) = false
+lies_somewhere region.Nowhere = false
 
 -- this many bytes lie there
 abbrev pub has_room : ℕ → Variable → Bool
@@ -126,18 +129,25 @@ abbrev pub scalar_for : Variable → Scalar
 scalar_for v = record { width = width_of (form_type v.form); place = where_at v.region }
 
 abbrev pub is_on_screen : Region → Bool
+is_on_screen (region.Ram k i) = false
 is_on_screen (region.Screen i) = true
-is_on_screen _ = false
+is_on_screen (region.Based b) = false
+is_on_screen region.Nowhere = false
 
 abbrev pub is_based : Region → Bool
+is_based (region.Ram k i) = false
+is_based (region.Screen i) = false
 is_based (region.Based b) = true
-is_based _ = false
+is_based region.Nowhere = false
 
 -- a place that no subscript and no base moves, where n bytes are among those declared
 abbrev pub fixed_place : ℕ → Reference → Option Where
 fixed_place n (Refer module_index line (InObject k start size) offset NoSubscripts) = cond (nat_le (offset + n) size) (Some (In k (capped (start + offset)))) None
 fixed_place n (Refer module_index line (OnScreen start size) offset NoSubscripts) = cond (nat_le (offset + n) size) (Some (Screen (capped (start + offset)))) None
-fixed_place n _ = None
+fixed_place n (Refer module_index line (InObject k start size) offset (Subscript stride e more)) = None
+fixed_place n (Refer module_index line (OnScreen start size) offset (Subscript stride e more)) = None
+fixed_place n (Refer module_index line (Behind base) offset s) = None
+fixed_place n (Refer module_index line (There address) offset s) = None
 
 abbrev pub read_of : ScalarType → Reference → Expression
 read_of t r = elim (fixed_place (size_of t) r) [ Some w ↦ Plain (width_of (Some t)) w | None ↦ rest.Variable (width_of (Some t)) r ]

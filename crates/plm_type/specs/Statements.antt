@@ -76,7 +76,9 @@ assignment (t ∷ ts) e = Assign (targets t ts) e
 module _ (variables : List Variable) where
   abbrev pub variable_meant : Binding → Option Variable
   variable_meant (binding.Variable v) = slice_get variables v
-  variable_meant _ = None
+  variable_meant (binding.Procedure q) = None
+  variable_meant (binding.Builtin b) = None
+  variable_meant binding.Nothing = None
 
 -- ---- statements whose parts are typed
 
@@ -138,13 +140,18 @@ module _ (variables : List Variable) (procedures : List ProcedureR) (sizes : Lis
       let others = typed_targets xs in
       record { trees = first.tree ∷ others.trees; types = first.scalar ∷ others.types; faults = first.faults ++ others.faults }
 
+  abbrev pub uncalled : Position → Noted Expression
+  uncalled p = record { tree = Constant 0; faults = fault_unless module_index false E401 p }
+
   -- CALL names a procedure
   abbrev pub typed_call : Position → ReferenceR' → Noted Expression
   typed_call p (Use q (binding.Procedure n) es s) =
       let procedure = slice_get procedures n in
       let arguments = list variables procedures sizes module_index es in
       record { tree = Call (entry_of procedure) arguments.trees; faults = arguments.faults ++ call_faults variables module_index q procedure s arguments.types }
-  typed_call p (Use q _ es s) = record { tree = Constant 0; faults = fault_unless module_index false E401 p }
+  typed_call p (Use q (binding.Variable v) es s) = uncalled p
+  typed_call p (Use q (binding.Builtin b) es s) = uncalled p
+  typed_call p (Use q binding.Nothing es s) = uncalled p
 
   abbrev pub typed_index : Position → Position → Binding → Noted Scalar
   typed_index p q m =
@@ -197,8 +204,9 @@ module _ (variables : List Variable) (procedures : List ProcedureR) (sizes : Lis
 
 -- an EXTERNAL procedure has only its parameters' declarations: what else stands in it is a fault, and it has no body of its own
 abbrev pub is_external : Linkage → Bool
+is_external linkage.None = false
+is_external linkage.Public = false
 is_external linkage.External = true
-is_external _ = false
 
 -- a parameter is a scalar that is not based; those of an EXTERNAL procedure lie nowhere, as its arguments go to another's
 abbrev pub is_parameter : (external : Bool) → Variable → Bool

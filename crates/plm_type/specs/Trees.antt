@@ -25,27 +25,32 @@ constant n = Constant (cond (nat_le n 65535) n 0)
 
 -- the first character is the high byte
 abbrev pub text_value : List ℕ → ℕ
+text_value [] = 0
 text_value (c ∷ []) = c
 text_value (c ∷ d ∷ []) = c * 256 + d
-text_value _ = 0
+text_value (c ∷ d ∷ e ∷ others) = 0
 
 -- ---- built-ins, and subscripts, of evaluated parts
 
 abbrev pub the_only : Expressions → Option Expression
+the_only NoMore = None
 the_only (More e NoMore) = Some e
-the_only _ = None
+the_only (More e (More f es)) = None
 
 abbrev pub operated : UnaryOperation → Width → Expressions → Expression
+operated o w NoMore = Constant 0
 operated o w (More e NoMore) = Unary o w e
-operated o w _ = Constant 0
+operated o w (More e (More f es)) = Constant 0
 
 abbrev pub read_port : Width → Expressions → Expression
+read_port w NoMore = Constant 0
 read_port w (More e NoMore) = Input w e
-read_port w _ = Constant 0
+read_port w (More e (More f es)) = Constant 0
 
 abbrev pub to_port : Builtin → Expressions → Target
+to_port b NoMore = ToPort width.Word (Constant 0)
 to_port b (More e NoMore) = ToPort (width_of (port_type b)) e
-to_port b _ = ToPort width.Word (Constant 0)
+to_port b (More e (More f es)) = ToPort width.Word (Constant 0)
 
 -- subscripts over elements of stride bytes, before others
 abbrev pub strided : (stride : ℕ) → Expressions → Subscripts → Subscripts
@@ -75,8 +80,10 @@ module _ (module_index : ℕ) where
   constants_at line k size = Refer module_index line (InObject k 0 size) 0 NoSubscripts
 
   abbrev pub shifted : (line : ℕ) → BinaryOperation → Width → Expressions → Expression
+  shifted line o w NoMore = Constant 0
+  shifted line o w (More a NoMore) = Constant 0
   shifted line o w (More a (More b NoMore)) = Binary module_index line o w a b
-  shifted line o w _ = Constant 0
+  shifted line o w (More a (More b (More e es))) = Constant 0
 
   abbrev pub builtin_value : (line : ℕ) → Builtin → Width → Expressions → Expression
   builtin_value line builtin.Low w es = operated unary.Low w es
@@ -88,7 +95,12 @@ module _ (module_index : ℕ) where
   builtin_value line builtin.RotateRight w es = shifted line binary.RotateRight w es
   builtin_value line builtin.Input w es = read_port width.Byte es
   builtin_value line builtin.InputWord w es = read_port width.Word es
-  builtin_value line _ w es = Constant 0
+  -- not asked of what measures, nor of targets
+  builtin_value line builtin.Length w es = Constant 0
+  builtin_value line builtin.Last w es = Constant 0
+  builtin_value line builtin.Size w es = Constant 0
+  builtin_value line builtin.Output w es = Constant 0
+  builtin_value line builtin.OutputWord w es = Constant 0
 
 module _ (variables : List Variable) (module_index : ℕ) where
   -- with its subscripts, and a member's subscript

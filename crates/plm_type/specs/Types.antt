@@ -16,29 +16,65 @@ use Rattle.plm_decl.specs.declared.layout.ScalarType.TheVariants.{Byte, Word, Po
 
 abbrev pub width_of : Option ScalarType → Width
 width_of (Some Byte) = width.Byte
-width_of _ = width.Word
+width_of (Some Word) = width.Word
+width_of (Some Pointer) = width.Word
+-- not known
+width_of None = width.Word
 
 -- ---- which types are taken
 
 -- BYTE or WORD, or not known
 abbrev pub may_be_number : Option ScalarType → Bool
+may_be_number (Some Byte) = true
+may_be_number (Some Word) = true
 may_be_number (Some Pointer) = false
-may_be_number _ = true
+may_be_number None = true
 
 abbrev pub may_be_pointer : Option ScalarType → Bool
+may_be_pointer (Some Byte) = false
+may_be_pointer (Some Word) = false
 may_be_pointer (Some Pointer) = true
 may_be_pointer None = true
-may_be_pointer _ = false
 
 -- a POINTER goes only into a POINTER, which takes nothing else
 abbrev pub takes : Option ScalarType → Option ScalarType → Bool
 takes t v = (may_be_number t && may_be_number v) || (may_be_pointer t && may_be_pointer v)
 
+abbrev pub is_equality : BinaryOperator → Bool
+is_equality between.Multiply = false
+is_equality between.Divide = false
+is_equality between.Modulo = false
+is_equality between.Add = false
+is_equality between.Subtract = false
+is_equality between.Equal = true
+is_equality between.NotEqual = true
+is_equality between.Less = false
+is_equality between.LessEqual = false
+is_equality between.Greater = false
+is_equality between.GreaterEqual = false
+is_equality between.And = false
+is_equality between.Or = false
+is_equality between.ExclusiveOr = false
+
+abbrev pub is_relation : BinaryOperator → Bool
+is_relation between.Multiply = false
+is_relation between.Divide = false
+is_relation between.Modulo = false
+is_relation between.Add = false
+is_relation between.Subtract = false
+is_relation between.Equal = true
+is_relation between.NotEqual = true
+is_relation between.Less = true
+is_relation between.LessEqual = true
+is_relation between.Greater = true
+is_relation between.GreaterEqual = true
+is_relation between.And = false
+is_relation between.Or = false
+is_relation between.ExclusiveOr = false
+
 -- only = and <> take POINTERs, on both sides
 abbrev pub operands_fit : BinaryOperator → Option ScalarType → Option ScalarType → Bool
-operands_fit between.Equal a b = takes a b
-operands_fit between.NotEqual a b = takes a b
-operands_fit o a b = may_be_number a && may_be_number b
+operands_fit o a b = cond (is_equality o) (takes a b) (may_be_number a && may_be_number b)
 
 -- ---- the types of values
 
@@ -48,26 +84,43 @@ number_type n = cond (nat_le n 255) (Some Byte) (cond (nat_le n 65535) (Some Wor
 
 -- a string of one character is a BYTE, of two a WORD
 abbrev pub text_type : List ℕ → Option ScalarType
+text_type [] = None
 text_type (c ∷ []) = Some Byte
 text_type (c ∷ d ∷ []) = Some Word
-text_type _ = None
+text_type (c ∷ d ∷ e ∷ others) = None
 
 -- the type of two BYTEs together is BYTE, else WORD
 abbrev pub wider : ScalarType → ScalarType → ScalarType
 wider Byte Byte = Byte
-wider _ _ = Word
+wider Byte Word = Word
+wider Byte Pointer = Word
+wider Word Byte = Word
+wider Word Word = Word
+wider Word Pointer = Word
+wider Pointer Byte = Word
+wider Pointer Word = Word
+wider Pointer Pointer = Word
 
-abbrev pub result_type : BinaryOperator → ScalarType → ScalarType → ScalarType
-result_type between.Multiply a b = Word
-result_type between.Divide a b = wider a b
-result_type between.Modulo a b = wider a b
-result_type between.Add a b = wider a b
-result_type between.Subtract a b = wider a b
-result_type between.And a b = wider a b
-result_type between.Or a b = wider a b
-result_type between.ExclusiveOr a b = wider a b
+-- what is worked out of two numbers; a relation is not asked
+abbrev pub number_result : BinaryOperator → ScalarType → ScalarType → ScalarType
+number_result between.Multiply a b = Word
+number_result between.Divide a b = wider a b
+number_result between.Modulo a b = wider a b
+number_result between.Add a b = wider a b
+number_result between.Subtract a b = wider a b
+number_result between.Equal a b = wider a b
+number_result between.NotEqual a b = wider a b
+number_result between.Less a b = wider a b
+number_result between.LessEqual a b = wider a b
+number_result between.Greater a b = wider a b
+number_result between.GreaterEqual a b = wider a b
+number_result between.And a b = wider a b
+number_result between.Or a b = wider a b
+number_result between.ExclusiveOr a b = wider a b
+
 -- relations answer 0FFH or 0
-result_type _ a b = Byte
+abbrev pub result_type : BinaryOperator → ScalarType → ScalarType → ScalarType
+result_type o a b = cond (is_relation o) Byte (number_result o a b)
 
 abbrev pub both : (ScalarType → ScalarType → ScalarType) → Option ScalarType → Option ScalarType → Option ScalarType
 both f (Some a) (Some b) = Some (f a b)

@@ -9,15 +9,16 @@ use Rattle.plm_decl.specs.declared.layout.ScalarType.TheVariants.{Byte, Word, Po
 use Rattle.plm_decl.specs.declared.names.Variable.{Variable}
 use Rattle.plm_decl.specs.Names.{ProcedureR}
 use Rattle.plm_decl.specs.Layout.{counted}
-use Rattle.plm_decl.specs.Resolved.{SelectorR, no_member}
+use Rattle.plm_decl.specs.Resolved.{SelectorR, no_member, member, member_at}
 use Rattle.plm_type.specs.Types.{are_known_numbers, are_known, takes, number_type}
 use Rattle.plm_type.specs.Shapes.{shape_fits, designated, form_type, element_count, element_size, is_on_screen}
 
 -- each argument that has a parameter is taken by it
 abbrev pub take_all : List (Option ScalarType) → List (Option ScalarType) → Bool
 take_all [] [] = true
+take_all [] (t ∷ ts) = true
+take_all (p ∷ ps) [] = true
 take_all (p ∷ ps) (t ∷ ts) = takes p t && take_all ps ts
-take_all _ _ = true
 
 abbrev pub location_type : LocationForm → ScalarType
 location_type locating.Pointer = Pointer
@@ -25,35 +26,81 @@ location_type locating.Offset = Word
 
 -- how many arguments a built-in takes
 abbrev pub arity : Builtin → ℕ
+arity builtin.Length = 1
+arity builtin.Last = 1
+arity builtin.Size = 1
+arity builtin.Low = 1
+arity builtin.High = 1
+arity builtin.Double = 1
 arity builtin.ShiftLeft = 2
 arity builtin.ShiftRight = 2
 arity builtin.RotateLeft = 2
 arity builtin.RotateRight = 2
-arity _ = 1
+arity builtin.Input = 1
+arity builtin.InputWord = 1
+arity builtin.Output = 1
+arity builtin.OutputWord = 1
 
 -- LENGTH, LAST and SIZE of a reference: elements, elements less one, bytes
 abbrev pub measured : Builtin → (elements size : ℕ) → ℕ
 measured builtin.Length elements size = elements
 measured builtin.Last elements size = elements - 1
-measured _ elements size = counted (elements * size)
+measured builtin.Size elements size = counted (elements * size)
+-- not asked of the others, which measure nothing
+measured builtin.Low elements size = counted (elements * size)
+measured builtin.High elements size = counted (elements * size)
+measured builtin.Double elements size = counted (elements * size)
+measured builtin.ShiftLeft elements size = counted (elements * size)
+measured builtin.ShiftRight elements size = counted (elements * size)
+measured builtin.RotateLeft elements size = counted (elements * size)
+measured builtin.RotateRight elements size = counted (elements * size)
+measured builtin.Input elements size = counted (elements * size)
+measured builtin.InputWord elements size = counted (elements * size)
+measured builtin.Output elements size = counted (elements * size)
+measured builtin.OutputWord elements size = counted (elements * size)
 
 abbrev pub is_measure : Builtin → Bool
 is_measure builtin.Length = true
 is_measure builtin.Last = true
 is_measure builtin.Size = true
-is_measure _ = false
+is_measure builtin.Low = false
+is_measure builtin.High = false
+is_measure builtin.Double = false
+is_measure builtin.ShiftLeft = false
+is_measure builtin.ShiftRight = false
+is_measure builtin.RotateLeft = false
+is_measure builtin.RotateRight = false
+is_measure builtin.Input = false
+is_measure builtin.InputWord = false
+is_measure builtin.Output = false
+is_measure builtin.OutputWord = false
 
 -- OUTPUT and OUTWORD are targets alone
 abbrev pub is_target : Builtin → Bool
+is_target builtin.Length = false
+is_target builtin.Last = false
+is_target builtin.Size = false
+is_target builtin.Low = false
+is_target builtin.High = false
+is_target builtin.Double = false
+is_target builtin.ShiftLeft = false
+is_target builtin.ShiftRight = false
+is_target builtin.RotateLeft = false
+is_target builtin.RotateRight = false
+is_target builtin.Input = false
+is_target builtin.InputWord = false
 is_target builtin.Output = true
 is_target builtin.OutputWord = true
-is_target _ = false
 
 abbrev pub first_type : List (Option ScalarType) → Option ScalarType
 first_type [] = None
 first_type (t ∷ ts) = t
 
+-- what is measured has the type of its number, and a target no value
 abbrev pub builtin_type : Builtin → List (Option ScalarType) → Option ScalarType
+builtin_type builtin.Length ts = None
+builtin_type builtin.Last ts = None
+builtin_type builtin.Size ts = None
 builtin_type builtin.Low ts = Some Byte
 builtin_type builtin.High ts = Some Byte
 builtin_type builtin.Double ts = Some Word
@@ -63,16 +110,29 @@ builtin_type builtin.ShiftLeft ts = first_type ts
 builtin_type builtin.ShiftRight ts = first_type ts
 builtin_type builtin.RotateLeft ts = first_type ts
 builtin_type builtin.RotateRight ts = first_type ts
-builtin_type _ ts = None
+builtin_type builtin.Output ts = None
+builtin_type builtin.OutputWord ts = None
 
 abbrev pub port_type : Builtin → Option ScalarType
+port_type builtin.Length = None
+port_type builtin.Last = None
+port_type builtin.Size = None
+port_type builtin.Low = None
+port_type builtin.High = None
+port_type builtin.Double = None
+port_type builtin.ShiftLeft = None
+port_type builtin.ShiftRight = None
+port_type builtin.RotateLeft = None
+port_type builtin.RotateRight = None
+port_type builtin.Input = None
+port_type builtin.InputWord = None
 port_type builtin.Output = Some Byte
 port_type builtin.OutputWord = Some Word
-port_type _ = None
 
 abbrev pub is_plain : SelectorR → Bool
 is_plain no_member = true
-is_plain _ = false
+is_plain (member p m) = false
+is_plain (member_at p m e) = false
 
 abbrev pub variable_type : Option Variable → Option ScalarType
 variable_type (Some v) = form_type v.form

@@ -20,7 +20,16 @@ pub fn arity(builtin: Builtin) -> usize
 {
     match builtin {
         Builtin::ShiftLeft | Builtin::ShiftRight | Builtin::RotateLeft | Builtin::RotateRight => 2,
-        _ => 1,
+        Builtin::Length
+        | Builtin::Last
+        | Builtin::Size
+        | Builtin::Low
+        | Builtin::High
+        | Builtin::Double
+        | Builtin::Input
+        | Builtin::InputWord
+        | Builtin::Output
+        | Builtin::OutputWord => 1,
     }
 }
 
@@ -31,7 +40,19 @@ pub fn measured(builtin: Builtin, elements: u64, size: u64) -> u64
     match builtin {
         Builtin::Length => elements,
         Builtin::Last => elements.saturating_sub(1),
-        _ => elements.saturating_mul(size),
+        // The others measure nothing, and are not asked.
+        Builtin::Size
+        | Builtin::Low
+        | Builtin::High
+        | Builtin::Double
+        | Builtin::ShiftLeft
+        | Builtin::ShiftRight
+        | Builtin::RotateLeft
+        | Builtin::RotateRight
+        | Builtin::Input
+        | Builtin::InputWord
+        | Builtin::Output
+        | Builtin::OutputWord => elements.saturating_mul(size),
     }
 }
 
@@ -41,7 +62,17 @@ pub fn is_measure(builtin: Builtin) -> bool
 {
     match builtin {
         Builtin::Length | Builtin::Last | Builtin::Size => true,
-        _ => false,
+        Builtin::Low
+        | Builtin::High
+        | Builtin::Double
+        | Builtin::ShiftLeft
+        | Builtin::ShiftRight
+        | Builtin::RotateLeft
+        | Builtin::RotateRight
+        | Builtin::Input
+        | Builtin::InputWord
+        | Builtin::Output
+        | Builtin::OutputWord => false,
     }
 }
 
@@ -51,7 +82,18 @@ pub fn is_target(builtin: Builtin) -> bool
 {
     match builtin {
         Builtin::Output | Builtin::OutputWord => true,
-        _ => false,
+        Builtin::Length
+        | Builtin::Last
+        | Builtin::Size
+        | Builtin::Low
+        | Builtin::High
+        | Builtin::Double
+        | Builtin::ShiftLeft
+        | Builtin::ShiftRight
+        | Builtin::RotateLeft
+        | Builtin::RotateRight
+        | Builtin::Input
+        | Builtin::InputWord => false,
     }
 }
 
@@ -73,7 +115,8 @@ pub fn builtin_type(builtin: Builtin, types: &[Option<ScalarType>]) -> Option<Sc
         Builtin::Double | Builtin::InputWord => Some(ScalarType::Word),
         Builtin::ShiftLeft | Builtin::ShiftRight | Builtin::RotateLeft | Builtin::RotateRight =>
             first_type(types),
-        _ => None,
+        Builtin::Length | Builtin::Last | Builtin::Size | Builtin::Output | Builtin::OutputWord =>
+            None,
     }
 }
 
@@ -84,7 +127,18 @@ pub fn port_type(builtin: Builtin) -> Option<ScalarType>
     match builtin {
         Builtin::Output => Some(ScalarType::Byte),
         Builtin::OutputWord => Some(ScalarType::Word),
-        _ => None,
+        Builtin::Length
+        | Builtin::Last
+        | Builtin::Size
+        | Builtin::Low
+        | Builtin::High
+        | Builtin::Double
+        | Builtin::ShiftLeft
+        | Builtin::ShiftRight
+        | Builtin::RotateLeft
+        | Builtin::RotateRight
+        | Builtin::Input
+        | Builtin::InputWord => None,
     }
 }
 
@@ -94,7 +148,7 @@ pub fn is_plain(selector: &Selector) -> bool
 {
     match selector {
         Selector::None => true,
-        _ => false,
+        Selector::Member(_, _) | Selector::Element(_, _, _) => false,
     }
 }
 
@@ -122,7 +176,7 @@ pub fn text_value(characters: &[u8]) -> u64
     match characters {
         [only] => u64::from(*only),
         [high, low] => u64::from(*high) * 0x100 + u64::from(*low),
-        _ => 0,
+        [] | [_, _, _, ..] => 0,
     }
 }
 
@@ -219,7 +273,7 @@ fn shifted(
                 operand: count,
             },
         ),
-        _ => Ok(Expression::Constant(0)),
+        (Some(_), None) | (None, Some(_)) | (None, None) => Ok(Expression::Constant(0)),
     }
 }
 
@@ -243,7 +297,8 @@ pub fn builtin_value(
         Builtin::RotateRight => shifted(alloc, line, BinaryOperation::RotateRight, width, trees),
         Builtin::Input => read_port(alloc, Width::Byte, trees),
         Builtin::InputWord => read_port(alloc, Width::Word, trees),
-        _ => Ok(Expression::Constant(0)),
+        Builtin::Length | Builtin::Last | Builtin::Size | Builtin::Output | Builtin::OutputWord =>
+            Ok(Expression::Constant(0)),
     }
 }
 

@@ -389,12 +389,16 @@ impl Typer<'_> {
     {
         match argument {
             plm_decl::Expression::Reference(reference) => {
-                let Binding::Variable(variable) = reference.binding else {
-                    return self.refused(place, faults);
-                };
-                let parts = self.parts(reference, faults)?;
-                let variable = self.variable(variable);
-                self.measured(place, builtin, reference, variable, &parts, faults)
+                match reference.binding {
+                    Binding::Variable(variable) => {
+                        let parts = self.parts(reference, faults)?;
+                        let variable = self.variable(variable);
+                        self.measured(place, builtin, reference, variable, &parts, faults)
+                    }
+                    Binding::Procedure(_) | Binding::Builtin(_) | Binding::Nothing => {
+                        self.refused(place, faults)
+                    }
+                }
             }
             // Without operators it is its first operand.
             plm_decl::Expression::Chain { first, others } => {
@@ -422,18 +426,16 @@ impl Typer<'_> {
     {
         match location {
             Location::Reference(place, form, reference) => {
-                let Binding::Variable(variable) = reference.binding else {
-                    return self.refused(*place, faults);
-                };
-                let parts = self.parts(reference, faults)?;
-                self.located(
-                    *place,
-                    *form,
-                    reference,
-                    self.variable(variable),
-                    parts,
-                    faults,
-                )
+                match reference.binding {
+                    Binding::Variable(variable) => {
+                        let parts = self.parts(reference, faults)?;
+                        let variable = self.variable(variable);
+                        self.located(*place, *form, reference, variable, parts, faults)
+                    }
+                    Binding::Procedure(_) | Binding::Builtin(_) | Binding::Nothing => {
+                        self.refused(*place, faults)
+                    }
+                }
             }
             Location::Constants(place, form, object) => {
                 Ok(self.constants(*place, *form, *object))

@@ -44,7 +44,7 @@ fn is_external(linkage: Linkage) -> bool
 {
     match linkage {
         Linkage::External => true,
-        _ => false,
+        Linkage::None | Linkage::Public => false,
     }
 }
 

@@ -29,7 +29,7 @@ fn selector_fits(part: bool, form: Form, selector: &Selector) -> bool
 {
     match (form, selector) {
         (Form::Scalar(_), Selector::None) => true,
-        (Form::Scalar(_), _) => false,
+        (Form::Scalar(_), Selector::Member(_, _) | Selector::Element(_, _, _)) => false,
         (Form::Structure(_), Selector::None) => part,
         (Form::Structure(_), Selector::Member(_, Some(member))) => {
             subscripts_fit(part, member.dimension, 0)
@@ -37,7 +37,7 @@ fn selector_fits(part: bool, form: Form, selector: &Selector) -> bool
         (Form::Structure(_), Selector::Element(_, Some(member), _)) => {
             subscripts_fit(part, member.dimension, 1)
         }
-        _ => false,
+        (Form::Structure(_), Selector::Member(_, None) | Selector::Element(_, None, _)) => false,
     }
 }
 
@@ -67,7 +67,7 @@ pub fn designated(variable: &Variable, selector: &Selector) -> Option<ScalarType
         Selector::None => form_type(variable.form),
         Selector::Member(_, Some(member)) => Some(member.scalar),
         Selector::Element(_, Some(member), _) => Some(member.scalar),
-        _ => None,
+        Selector::Member(_, None) | Selector::Element(_, None, _) => None,
     }
 }
 
@@ -95,7 +95,7 @@ pub fn element_count(variable: &Variable, count: usize, selector: &Selector) -> 
     match selector {
         Selector::None if count == 0 => elements(variable.dimension),
         Selector::Member(_, Some(member)) => elements(member.dimension),
-        _ => 1,
+        Selector::None | Selector::Member(_, None) | Selector::Element(_, _, _) => 1,
     }
 }
 
@@ -107,7 +107,7 @@ pub fn element_size(variable: &Variable, selector: &Selector) -> u64
         Selector::None => variable.stride,
         Selector::Member(_, Some(member)) => member.scalar.size(),
         Selector::Element(_, Some(member), _) => member.scalar.size(),
-        _ => 0,
+        Selector::Member(_, None) | Selector::Element(_, None, _) => 0,
     }
 }
 
@@ -118,7 +118,7 @@ pub fn member_offset(selector: &Selector) -> u64
     match selector {
         Selector::Member(_, Some(member)) => member.offset,
         Selector::Element(_, Some(member), _) => member.offset,
-        _ => 0,
+        Selector::None | Selector::Member(_, None) | Selector::Element(_, None, _) => 0,
     }
 }
 
@@ -128,7 +128,7 @@ pub fn member_stride(selector: &Selector) -> u64
 {
     match selector {
         Selector::Element(_, Some(member), _) => member.scalar.size(),
-        _ => 0,
+        Selector::None | Selector::Member(_, _) | Selector::Element(_, None, _) => 0,
     }
 }
 
@@ -183,7 +183,7 @@ fn behind(base: Option<Variable>) -> Anchor
 {
     match base {
         Some(base) if has_room(2, &base) => Anchor::Based(place_at(base.region)),
-        _ => Anchor::Ram(0, 0, 0),
+        Some(_) | None => Anchor::Ram(0, 0, 0),
     }
 }
 
@@ -215,7 +215,7 @@ pub fn is_on_screen(region: Region) -> bool
 {
     match region {
         Region::Screen(_) => true,
-        _ => false,
+        Region::Ram(_, _) | Region::Based(_) | Region::Nowhere => false,
     }
 }
 
@@ -225,7 +225,7 @@ pub fn is_based(region: Region) -> bool
 {
     match region {
         Region::Based(_) => true,
-        _ => false,
+        Region::Ram(_, _) | Region::Screen(_) | Region::Nowhere => false,
     }
 }
 

@@ -45,8 +45,8 @@ impl Around {
         ensures { result ≡ spec.may_return_value self value }
     {
         match self {
+            Around::Main | Around::Procedure(None) => false,
             Around::Procedure(Some(returned)) => takes(Some(returned), value),
-            _ => false,
         }
     }
 
@@ -178,7 +178,7 @@ impl Typer<'_> {
     {
         match binding {
             Binding::Variable(variable) => self.variable(variable),
-            _ => None,
+            Binding::Procedure(_) | Binding::Builtin(_) | Binding::Nothing => None,
         }
     }
 
@@ -238,21 +238,25 @@ impl Typer<'_> {
     ) -> Result<Expression, AllocError>
         ensures { IfOk result (λ r. noted (view.expression_of r) faults.new.items ≡ noted_after faults.old.items (call_by self.now place (resolved.reference_of reference.now))) }
     {
-        let Binding::Procedure(number) = reference.binding else {
-            self.note_unless(false, Number::E401, place, faults)?;
-            return Ok(Expression::Constant(0));
-        };
-        let arguments = self.list(&reference.subscripts, faults)?;
-        let procedure = self.procedure(number);
-        let selector = &reference.selector;
-        self.note_call(
-            reference.place,
-            procedure,
-            selector,
-            &arguments.types,
-            faults,
-        )?;
-        Ok(Expression::Call(entry_of(procedure), arguments.trees))
+        match reference.binding {
+            Binding::Procedure(number) => {
+                let arguments = self.list(&reference.subscripts, faults)?;
+                let procedure = self.procedure(number);
+                let selector = &reference.selector;
+                self.note_call(
+                    reference.place,
+                    procedure,
+                    selector,
+                    &arguments.types,
+                    faults,
+                )?;
+                Ok(Expression::Call(entry_of(procedure), arguments.trees))
+            }
+            Binding::Variable(_) | Binding::Builtin(_) | Binding::Nothing => {
+                self.note_unless(false, Number::E401, place, faults)?;
+                Ok(Expression::Constant(0))
+            }
+        }
     }
 
     fn returned(

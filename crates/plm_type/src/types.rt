@@ -13,7 +13,7 @@ pub fn width_of(scalar: Option<ScalarType>) -> Width
 {
     match scalar {
         Some(ScalarType::Byte) => Width::Byte,
-        _ => Width::Word,
+        Some(ScalarType::Word | ScalarType::Pointer) | None => Width::Word,
     }
 }
 
@@ -23,7 +23,7 @@ pub fn may_be_number(scalar: Option<ScalarType>) -> bool
 {
     match scalar {
         Some(ScalarType::Pointer) => false,
-        _ => true,
+        Some(ScalarType::Byte | ScalarType::Word) | None => true,
     }
 }
 
@@ -33,7 +33,7 @@ pub fn may_be_pointer(scalar: Option<ScalarType>) -> bool
 {
     match scalar {
         Some(ScalarType::Pointer) | None => true,
-        _ => false,
+        Some(ScalarType::Byte | ScalarType::Word) => false,
     }
 }
 
@@ -44,6 +44,47 @@ pub fn takes(into: Option<ScalarType>, value: Option<ScalarType>) -> bool
     (may_be_number(into) && may_be_number(value)) || (may_be_pointer(into) && may_be_pointer(value))
 }
 
+fn is_equality(operator: BinaryOperator) -> bool
+    ensures { result ≡ spec.is_equality operator }
+{
+    match operator {
+        BinaryOperator::Equal | BinaryOperator::NotEqual => true,
+        BinaryOperator::Multiply
+        | BinaryOperator::Divide
+        | BinaryOperator::Modulo
+        | BinaryOperator::Add
+        | BinaryOperator::Subtract
+        | BinaryOperator::Less
+        | BinaryOperator::LessEqual
+        | BinaryOperator::Greater
+        | BinaryOperator::GreaterEqual
+        | BinaryOperator::And
+        | BinaryOperator::Or
+        | BinaryOperator::ExclusiveOr => false,
+    }
+}
+
+fn is_relation(operator: BinaryOperator) -> bool
+    ensures { result ≡ spec.is_relation operator }
+{
+    match operator {
+        BinaryOperator::Equal
+        | BinaryOperator::NotEqual
+        | BinaryOperator::Less
+        | BinaryOperator::LessEqual
+        | BinaryOperator::Greater
+        | BinaryOperator::GreaterEqual => true,
+        BinaryOperator::Multiply
+        | BinaryOperator::Divide
+        | BinaryOperator::Modulo
+        | BinaryOperator::Add
+        | BinaryOperator::Subtract
+        | BinaryOperator::And
+        | BinaryOperator::Or
+        | BinaryOperator::ExclusiveOr => false,
+    }
+}
+
 /// Whether an operator may take operands of these types.
 pub fn operands_fit(
     operator: BinaryOperator,
@@ -52,9 +93,10 @@ pub fn operands_fit(
 ) -> bool
     ensures { result ≡ spec.operands_fit operator left right }
 {
-    match operator {
-        BinaryOperator::Equal | BinaryOperator::NotEqual => takes(left, right),
-        _ => may_be_number(left) && may_be_number(right),
+    if is_equality(operator) {
+        takes(left, right)
+    } else {
+        may_be_number(left) && may_be_number(right)
     }
 }
 
@@ -78,7 +120,7 @@ pub fn text_type(characters: &[u8]) -> Option<ScalarType>
     match characters {
         [_] => Some(ScalarType::Byte),
         [_, _] => Some(ScalarType::Word),
-        _ => None,
+        [] | [_, _, _, ..] => None,
     }
 }
 
@@ -87,12 +129,20 @@ fn wider(left: ScalarType, right: ScalarType) -> ScalarType
 {
     match (left, right) {
         (ScalarType::Byte, ScalarType::Byte) => ScalarType::Byte,
-        _ => ScalarType::Word,
+        (ScalarType::Byte, ScalarType::Word)
+        | (ScalarType::Byte, ScalarType::Pointer)
+        | (ScalarType::Word, ScalarType::Byte)
+        | (ScalarType::Word, ScalarType::Word)
+        | (ScalarType::Word, ScalarType::Pointer)
+        | (ScalarType::Pointer, ScalarType::Byte)
+        | (ScalarType::Pointer, ScalarType::Word)
+        | (ScalarType::Pointer, ScalarType::Pointer) => ScalarType::Word,
     }
 }
 
-fn result_type(operator: BinaryOperator, left: ScalarType, right: ScalarType) -> ScalarType
-    ensures { result ≡ spec.result_type operator left right }
+/// The type of what is worked out of two numbers. A relation is not asked.
+fn number_result(operator: BinaryOperator, left: ScalarType, right: ScalarType) -> ScalarType
+    ensures { result ≡ spec.number_result operator left right }
 {
     match operator {
         BinaryOperator::Multiply => ScalarType::Word,
@@ -100,10 +150,25 @@ fn result_type(operator: BinaryOperator, left: ScalarType, right: ScalarType) ->
         | BinaryOperator::Modulo
         | BinaryOperator::Add
         | BinaryOperator::Subtract
+        | BinaryOperator::Equal
+        | BinaryOperator::NotEqual
+        | BinaryOperator::Less
+        | BinaryOperator::LessEqual
+        | BinaryOperator::Greater
+        | BinaryOperator::GreaterEqual
         | BinaryOperator::And
         | BinaryOperator::Or
         | BinaryOperator::ExclusiveOr => wider(left, right),
-        _ => ScalarType::Byte,
+    }
+}
+
+fn result_type(operator: BinaryOperator, left: ScalarType, right: ScalarType) -> ScalarType
+    ensures { result ≡ spec.result_type operator left right }
+{
+    if is_relation(operator) {
+        ScalarType::Byte
+    } else {
+        number_result(operator, left, right)
     }
 }
 
@@ -120,7 +185,7 @@ pub fn binary_type(
     }
     match (left, right) {
         (Some(left), Some(right)) => Some(result_type(operator, left, right)),
-        _ => None,
+        (Some(_), None) | (None, Some(_)) | (None, None) => None,
     }
 }
 

@@ -33,7 +33,8 @@ abbrev pub AreReached : Graph → (roots : List (List ℕ)) → List (List Bool)
 AreReached g [] [] = Unit {0}
 AreReached g (first ∷ roots) (marks ∷ more) =
     (length marks ≡ length g) × ((k : ℕ) → k < length g → IsMarked marks k ↔ Leads g first k) × AreReached g roots more
-AreReached g _ _ = ⊥
+AreReached g [] (marks ∷ more) = ⊥
+AreReached g (first ∷ roots) [] = ⊥
 
 -- two of them mark it, or one where one has before
 abbrev pub marked_twice : ℕ → (before : Bool) → List (List Bool) → Bool

@@ -1,11 +1,9 @@
-use Rattle.std.proofs.Common.{◌≡◌, ℕ, inl, inr, ◌+◌, ◌∷◌, [], ◌++◌, not, List, Option, Result, IfOk, drop, append_assoc, refl, sym, ap, ◌∙◌}
+use Rattle.std.proofs.Common.{◌≡◌, inl, inr, ◌+◌, ◌∷◌, [], ◌++◌, not, List, Option, Result, IfOk, drop, append_assoc, refl, sym, ap, ◌∙◌}
 use Rattle.std.proofs.lemmas.List.{append-nil, drop_all}
 use Rattle.word86.specs.declared.number.Number.TheVariants.{E401, E402}
 use Rattle.plm_decl.specs.declared.layout.ScalarType.{ScalarType}
 use Rattle.plm_decl.specs.declared.found.Found.{Found}
-use Rattle.plm_decl.specs.declared.builtin.Builtin.{Builtin}
 use Rattle.plm_decl.specs.declared.resolved.Binding.{Binding}
-use Rattle.plm_decl.specs.declared.resolved.Binding.TheVariants as binding
 use Rattle.plm_decl.specs.declared.resolved.Expression as declared_resolved
 use Rattle.plm_decl.specs.declared.resolved.Reference.{Reference}
 use Rattle.plm_decl.specs.Resolved.{ExpressionR, TextR, ReferenceR, ParenthesisedR, EmbeddedR, ReferenceR', Use, ExpressionsR, LocationR', LocationOf}
@@ -27,12 +25,6 @@ use Rattle.plm_type.proofs.Leaning.{leaned_after, leaned_alone, leaned_joined}
 use Rattle.plm_type.proofs.Parts.{is_zero, not_zero}
 use Rattle.plm_type.proofs.Said.{typed_moved, target_moved, typed_with, own_after, target_own_after, embedded_said, joined_said, parts_made}
 use Rattle.plm_type.proofs.typer.Typer.+expression.Goals as goal
-
-unless_variable : (P : Binding → Type 0) (m : Binding) → ((x : ℕ) → m ≡ binding.Variable x → ⊥) → ((q : ℕ) → P (binding.Procedure q)) → ((b : Builtin) → P (binding.Builtin b)) → P binding.Nothing → P m
-unless_variable P (binding.Variable x) h p b n = absurd (h x refl)
-unless_variable P (binding.Procedure q) h p b n = p q
-unless_variable P (binding.Builtin k) h p b n = b k
-unless_variable P binding.Nothing h p b n = n
 
 -- what is said of an expression, said of what it is
 spoken : {E : Type 0} (self : Typer) (old : List Found) (r : Result declared.Typed E) (noted : List Found) {e f : ExpressionR} → e ≡ f
@@ -272,8 +264,8 @@ arguments-returns-in_ok-argument-in-len2-up t c =
     ∙ ap (after old) (many_are (variables self) (procedures self) (sizes self) self.module c.args.place c.args.builtin c.args.es.now c.first-item.result c.in-len2-up.len_at_least c.first-item.is) in
     typed_moved c.miscounted-in-len2-up.result c.miscounted-in-len2-up.new.faults.items path c.miscounted-in-len2-up.ensures
 
-pub argument-returns-in_ok-parts-in-Reference : goal.argument-returns-in_ok-parts-in-Reference
-argument-returns-in_ok-parts-in-Reference t c =
+pub argument-returns-in_ok-parts-in-Variable : goal.argument-returns-in_ok-parts-in-Variable
+argument-returns-in_ok-parts-in-Variable t c =
     let r = c.in-Reference.reference in
     let s = resolved.selector_of r.selector in
     let self = c.args.self.now in
@@ -282,22 +274,10 @@ argument-returns-in_ok-parts-in-Reference t c =
     let parts = parts_by self (resolved.reference_of r) in
     let measured = spec.measured self.module c.args.place c.args.builtin r.place in
     let is = ap resolved.expression_of c.in-Reference.is ∙ ap ReferenceR (reference_placed r) ∙ ap (λ (m : Binding). ReferenceR (meaning r m)) c.in-Variable.is in
-    let path = (λ j. measured (c.variable-variable.ensures j) s (c.in_ok-parts-in-Reference.ensures j))
+    let path = (λ j. measured (c.variable-variable.ensures j) s (c.in_ok-parts-in-Variable.ensures j))
     ∙ own_after (measured (c.variable-variable.ensures 1) s parts) old parts.faults _
     ∙ ap (λ (e : ExpressionR). after old (judged e)) (sym is) in
     typed_moved c.measured.result c.measured.new.faults.items path c.measured.ensures
-
-pub argument-returns-in_default : goal.argument-returns-in_default
-argument-returns-in_default t c =
-    let r = c.in-Reference.reference in
-    let self = c.args.self.now in
-    let old = c.args.faults.now.items in
-    let judged = argument_by self c.args.place c.args.builtin in
-    let refused = spec.refused self.module E401 c.args.place in
-    let none : refused ≡ judged (ReferenceR (resolved.reference_of r)) =
-    unless_variable (λ (m : Binding). refused ≡ judged (ReferenceR (meaning r m))) r.binding c.in_default.not-Variable (λ q. refl) (λ k. refl) refl in
-    let is = none ∙ ap judged (sym (ap resolved.expression_of c.in-Reference.is ∙ ap ReferenceR (reference_placed r))) in
-    typed_moved c.refused.result c.refused.new.faults.items (ap (after old) is) c.refused.ensures
 
 pub argument-returns-in-Number : goal.argument-returns-in-Number
 argument-returns-in-Number t c =
@@ -344,8 +324,8 @@ argument-returns-else-is_empty t c =
 
 -- ---- locations
 
-pub location-returns-in_ok-parts-in-Reference : goal.location-returns-in_ok-parts-in-Reference
-location-returns-in_ok-parts-in-Reference t c =
+pub location-returns-in_ok-parts-in-Variable : goal.location-returns-in_ok-parts-in-Variable
+location-returns-in_ok-parts-in-Variable t c =
     let at = c.in-Reference in
     let r = at.reference in
     let s = resolved.selector_of r.selector in
@@ -354,21 +334,10 @@ location-returns-in_ok-parts-in-Reference t c =
     let parts = parts_by self (resolved.reference_of r) in
     let located = spec.located (variables self) self.module at.place at.form r.place in
     let is = ap resolved.location_of at.is ∙ ap (LocationOf at.place at.form) (reference_placed r) ∙ ap (λ (m : Binding). LocationOf at.place at.form (meaning r m)) c.in-Variable.is in
-    let path = (λ j. located (c.variable.ensures j) s (c.in_ok-parts-in-Reference.ensures j))
-    ∙ own_after (located (c.variable.ensures 1) s parts) old parts.faults _
+    let path = (λ j. located (c.variable-variable.ensures j) s (c.in_ok-parts-in-Variable.ensures j))
+    ∙ own_after (located (c.variable-variable.ensures 1) s parts) old parts.faults _
     ∙ ap (λ (l : LocationR'). after old (location_by self l)) (sym is) in
     typed_moved c.located.result c.located.new.faults.items path c.located.ensures
-
-pub location-returns-in_default : goal.location-returns-in_default
-location-returns-in_default t c =
-    let at = c.in-Reference in
-    let r = at.reference in
-    let self = c.args.self.now in
-    let of = λ (m : Binding). LocationOf at.place at.form (meaning r m) in
-    let refused = spec.refused self.module E401 at.place in
-    let none = unless_variable (λ (m : Binding). refused ≡ location_by self (of m)) r.binding c.in_default.not-Variable (λ q. refl) (λ k. refl) refl in
-    let is = none ∙ ap (location_by self) (sym (ap resolved.location_of at.is ∙ ap (LocationOf at.place at.form) (reference_placed r))) in
-    typed_moved c.refused.result c.refused.new.faults.items (ap (after c.args.faults.now.items) is) c.refused.ensures
 
 pub location-returns-in-Constants : goal.location-returns-in-Constants
 location-returns-in-Constants t c =

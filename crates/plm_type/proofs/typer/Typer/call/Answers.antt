@@ -10,18 +10,18 @@ use Rattle.plm_type.specs.Inner.Typer.{variables, noted, noted_after, list_after
 use Rattle.plm_type.proofs.Rows.{expression_row}
 use Rattle.plm_type.proofs.typer.Typer.call.Goals as goal
 
-pub returns : goal.returns
-returns c =
+pub returns-in_ok-note_call-in-Procedure : goal.returns-in_ok-note_call-in-Procedure
+returns-in_ok-note_call-in-Procedure c =
     let self = c.args.self.now in
     let old = c.args.faults.now.items in
     let r = c.args.reference.now in
     let es = resolved.expressions_of r.subscripts.items in
     let s = resolved.selector_of r.selector in
     let q = c.procedure-procedure.ensures in
-    let did = c.in_ok-arguments.ensures ∙ ap (λ (l : List declared.Expression). list_after old (list_by self (resolved.expressions_of l))) c.deref.ensures.value in
+    let did = c.in_ok-arguments-in-Procedure.ensures ∙ ap (λ (l : List declared.Expression). list_after old (list_by self (resolved.expressions_of l))) c.deref.ensures.value in
     let entry = c.entry_of.ensures ∙ ap entry_of q in
-    let arguments = expression_row c.in_ok-arguments.arguments.trees ∙ (λ j. (did j).trees) in
-    let types = c.deref-2.ensures.value ∙ (λ j. (did j).types) in
-    let faults = c.in_ok-note_call.ensures ∙ (λ j. (did j).faults ++ call_faults (variables self) self.module r.place (q j) s (types j)) ∙ append_assoc old (list_by self es).faults _ in
+    let arguments = expression_row c.in_ok-arguments-in-Procedure.arguments.trees ∙ (λ j. (did j).trees) in
+    let types = c.deref-in-Procedure.ensures.value ∙ (λ j. (did j).types) in
+    let faults = c.in_ok-note_call-in-Procedure.ensures ∙ (λ j. (did j).faults ++ call_faults (variables self) self.module r.place (q j) s (types j)) ∙ append_assoc old (list_by self es).faults _ in
     (λ j. noted (Call (entry j) (arguments j)) (faults j))
     ∙ ap (λ (m : Binding). noted_after old (call_by self c.args.place (Use r.place m es s))) (sym c.in-Procedure.is)
