@@ -1,7 +1,7 @@
 //! What a routine needs with all that it calls.
 
 ghost use Rattle.std.specs.Prelude.{◌≡◌, ◌+◌, ◌^◌, ◌<◌, ℕ, slice_set};
-ghost use Rattle.icode.specs.Heights.{after, popped};
+ghost use Rattle.icode.specs.Heights.{after, called, popped};
 
 use icode::{Instruction, Registers, Test};
 
@@ -60,15 +60,15 @@ impl Need {
         requires { (q : ℕ) → (need_at needs.now q).words + 2 ^ 64 < 2 ^ 128 }
         ensures { result ≡ met (need_at needs.now) instruction height }
     {
-        match instruction {
-            Instruction::Invoke(procedure) => {
+        match called(instruction) {
+            Some(procedure) => {
                 let called = Need::at(needs, procedure);
                 Need {
                     words: height as u128 + 1 + called.words,
                     registers: called.registers,
                 }
             }
-            _ => Need {
+            None => Need {
                 words: height as u128,
                 registers: instruction.changes(),
             },
@@ -94,13 +94,53 @@ impl Need {
     }
 }
 
+// The number of the procedure that an instruction calls.
+fn called(instruction: Instruction) -> Option<usize>
+    ensures { result ≡ called instruction }
+{
+    match instruction {
+        Instruction::Invoke(procedure) => Some(procedure),
+        Instruction::Constant(_)
+        | Instruction::Locate(_)
+        | Instruction::LocateAt(_)
+        | Instruction::Load(_, _)
+        | Instruction::LoadAt(_, _)
+        | Instruction::LoadThere(_)
+        | Instruction::Push
+        | Instruction::Pick(_)
+        | Instruction::Drop(_)
+        | Instruction::Unary(_, _)
+        | Instruction::Binary(_, _)
+        | Instruction::BinaryConstant(_, _, _)
+        | Instruction::BinaryPlain(_, _, _, _)
+        | Instruction::Store(_, _)
+        | Instruction::StoreAt(_, _)
+        | Instruction::StoreThere(_)
+        | Instruction::Send(_)
+        | Instruction::SendTo(_, _)
+        | Instruction::Receive(_)
+        | Instruction::ReceiveFrom(_, _)
+        | Instruction::Ahead(_)
+        | Instruction::AheadUnless(_, _)
+        | Instruction::Back(_)
+        | Instruction::BackUnless(_, _)
+        | Instruction::Switch(_)
+        | Instruction::Case(_)
+        | Instruction::Leave
+        | Instruction::Enable
+        | Instruction::Disable
+        | Instruction::Halt
+        | Instruction::Finish => None,
+    }
+}
+
 // How many values a test takes.
 fn popped(test: Test) -> usize
     ensures { result ≡ popped test }
 {
     match test {
         Test::Top(_) => 1,
-        _ => 0,
+        Test::Odd | Test::Constant(_, _) | Test::Plain(_, _, _) => 0,
     }
 }
 
@@ -119,6 +159,29 @@ fn height_after(instruction: Instruction, height: usize) -> usize
         Instruction::AheadUnless(test, _) | Instruction::BackUnless(test, _) => {
             height.saturating_sub(popped(test))
         }
-        _ => height,
+        Instruction::Constant(_)
+        | Instruction::Locate(_)
+        | Instruction::LocateAt(_)
+        | Instruction::Load(_, _)
+        | Instruction::LoadAt(_, _)
+        | Instruction::LoadThere(_)
+        | Instruction::Pick(_)
+        | Instruction::Unary(_, _)
+        | Instruction::BinaryConstant(_, _, _)
+        | Instruction::BinaryPlain(_, _, _, _)
+        | Instruction::Store(_, _)
+        | Instruction::SendTo(_, _)
+        | Instruction::Receive(_)
+        | Instruction::ReceiveFrom(_, _)
+        | Instruction::Ahead(_)
+        | Instruction::Back(_)
+        | Instruction::Switch(_)
+        | Instruction::Case(_)
+        | Instruction::Invoke(_)
+        | Instruction::Leave
+        | Instruction::Enable
+        | Instruction::Disable
+        | Instruction::Halt
+        | Instruction::Finish => height,
     }
 }

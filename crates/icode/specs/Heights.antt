@@ -9,20 +9,45 @@ use Rattle.icode.specs.declared.code.Procedure.{Procedure}
 -- ---- heights
 
 abbrev pub popped : Test → ℕ
+popped test.Odd = 0
+popped (test.Constant o k) = 0
+popped (test.Plain o read x) = 0
 popped (test.Top o) = 1
-popped _ = 0
 
 -- how many values a routine has pushed after an instruction, of this number before it
 abbrev pub after : Instruction → ℕ → ℕ
+after (op.Constant k) h = h
+after (op.Locate x) h = h
+after (op.LocateAt x) h = h
+after (op.Load width x) h = h
+after (op.LoadAt width x) h = h
+after (op.LoadThere width) h = h
 after op.Push h = suc h
+after (op.Pick n) h = h
 after (op.Drop n) h = h - n
+after (op.Unary o width) h = h
 after (op.Binary o width) h = h - 1
+after (op.BinaryConstant o width k) h = h
+after (op.BinaryPlain o width read x) h = h
+after (op.Store width x) h = h
 after (op.StoreAt width x) h = h - 1
 after (op.StoreThere width) h = h - 1
 after (op.Send width) h = h - 1
+after (op.SendTo width port) h = h
+after (op.Receive width) h = h
+after (op.ReceiveFrom width port) h = h
+after (op.Ahead n) h = h
 after (op.AheadUnless t n) h = h - popped t
+after (op.Back n) h = h
 after (op.BackUnless t n) h = h - popped t
-after _ h = h
+after (op.Switch n) h = h
+after (op.Case n) h = h
+after (op.Invoke q) h = h
+after op.Leave h = h
+after op.Enable h = h
+after op.Disable h = h
+after op.Halt h = h
+after op.Finish h = h
 
 abbrev pub behind : ℕ → List Instruction → ℕ
 behind h [] = h
@@ -34,13 +59,38 @@ height all k = behind 0 (take k all)
 
 -- where a jump leads, where p is the index after it
 abbrev pub target : Instruction → (p : ℕ) → Option ℕ
+target (op.Constant k) p = None
+target (op.Locate x) p = None
+target (op.LocateAt x) p = None
+target (op.Load width x) p = None
+target (op.LoadAt width x) p = None
+target (op.LoadThere width) p = None
+target op.Push p = None
+target (op.Pick n) p = None
+target (op.Drop n) p = None
+target (op.Unary o width) p = None
+target (op.Binary o width) p = None
+target (op.BinaryConstant o width k) p = None
+target (op.BinaryPlain o width read x) p = None
+target (op.Store width x) p = None
+target (op.StoreAt width x) p = None
+target (op.StoreThere width) p = None
+target (op.Send width) p = None
+target (op.SendTo width port) p = None
+target (op.Receive width) p = None
+target (op.ReceiveFrom width port) p = None
 target (op.Ahead n) p = Some (p + n)
 target (op.AheadUnless t n) p = Some (p + n)
 target (op.Back n) p = Some (p - n)
 target (op.BackUnless t n) p = Some (p - n)
 target (op.Switch n) p = Some (p + n)
 target (op.Case n) p = Some (p + n)
-target _ p = None
+target (op.Invoke q) p = None
+target op.Leave p = None
+target op.Enable p = None
+target op.Disable p = None
+target op.Halt p = None
+target op.Finish p = None
 
 -- The heights are the same along every run.
 pub record HasHeights (all : List Instruction) : Type 0 where
@@ -50,6 +100,41 @@ pub record HasHeights (all : List Instruction) : Type 0 where
   pub flat : (k t : ℕ) (x : Instruction) → slice_get all k ≡ Some x → target x (k + 1) ≡ Some t → (height all (k + 1) ≡ 0) × (height all t ≡ 0)
 
 -- ---- the order of procedures
+
+-- the number of the procedure that an instruction calls
+abbrev pub called : Instruction → Option ℕ
+called (op.Constant k) = None
+called (op.Locate x) = None
+called (op.LocateAt x) = None
+called (op.Load width x) = None
+called (op.LoadAt width x) = None
+called (op.LoadThere width) = None
+called op.Push = None
+called (op.Pick n) = None
+called (op.Drop n) = None
+called (op.Unary o width) = None
+called (op.Binary o width) = None
+called (op.BinaryConstant o width k) = None
+called (op.BinaryPlain o width read x) = None
+called (op.Store width x) = None
+called (op.StoreAt width x) = None
+called (op.StoreThere width) = None
+called (op.Send width) = None
+called (op.SendTo width port) = None
+called (op.Receive width) = None
+called (op.ReceiveFrom width port) = None
+called (op.Ahead n) = None
+called (op.AheadUnless t n) = None
+called (op.Back n) = None
+called (op.BackUnless t n) = None
+called (op.Switch n) = None
+called (op.Case n) = None
+called (op.Invoke q) = Some q
+called op.Leave = None
+called op.Enable = None
+called op.Disable = None
+called op.Halt = None
+called op.Finish = None
 
 -- a procedure that there is not has none
 abbrev pub instructions_of : Option Procedure → List Instruction

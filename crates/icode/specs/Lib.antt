@@ -7,4 +7,3 @@ pub mod Registers
 pub mod Room
 pub mod Runs
 pub mod Shown
-pub mod Inner

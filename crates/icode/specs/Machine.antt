@@ -3,7 +3,6 @@
 -- the wrong kind on top) is Bad.
 use Rattle.std.specs.Prelude.{ℕ, suc, ◌+◌, ◌-◌, ◌%◌, Bool, not, nat_eq, nat_lt, nat_le, if◌then◌else◌, List, [], ◌∷◌, drop, length, Option, Some, None, slice_get, slice_index}
 use Rattle.word86.specs.declared.width.Width.{Width}
-use Rattle.word86.specs.declared.operation.BinaryOperation.{BinaryOperation}
 use Rattle.word86.specs.declared.place.Place.{Place}
 use Rattle.word86.specs.declared.place.Place.TheVariants as place
 use Rattle.word86.specs.Access.{Access, Read, Write, Input, Output, Where}
@@ -90,10 +89,49 @@ abbrev pub finished : List Word → Action Access Context
 finished [] = Over
 finished (w ∷ ws) = Bad 0 0
 
+-- how far a case leads on
+abbrev pub case_of : Instruction → Option ℕ
+case_of (op.Constant k) = None
+case_of (op.Locate x) = None
+case_of (op.LocateAt x) = None
+case_of (op.Load width x) = None
+case_of (op.LoadAt width x) = None
+case_of (op.LoadThere width) = None
+case_of op.Push = None
+case_of (op.Pick n) = None
+case_of (op.Drop n) = None
+case_of (op.Unary o width) = None
+case_of (op.Binary o width) = None
+case_of (op.BinaryConstant o width k) = None
+case_of (op.BinaryPlain o width read x) = None
+case_of (op.Store width x) = None
+case_of (op.StoreAt width x) = None
+case_of (op.StoreThere width) = None
+case_of (op.Send width) = None
+case_of (op.SendTo width port) = None
+case_of (op.Receive width) = None
+case_of (op.ReceiveFrom width port) = None
+case_of (op.Ahead n) = None
+case_of (op.AheadUnless t n) = None
+case_of (op.Back n) = None
+case_of (op.BackUnless t n) = None
+case_of (op.Switch n) = None
+case_of (op.Case n) = Some n
+case_of (op.Invoke q) = None
+case_of op.Leave = None
+case_of op.Enable = None
+case_of op.Disable = None
+case_of op.Halt = None
+case_of op.Finish = None
+
+abbrev pub at_case : Option ℕ → Routine → (behind accumulator : ℕ) → List Word → Action Access Context
+at_case (Some n) r p a ws = Silent (At r (p + n) a ws)
+at_case None r p a ws = Bad 0 0
+
 -- on at a case, if there is one
 abbrev pub switched : Option Instruction → Routine → (behind accumulator : ℕ) → List Word → Action Access Context
-switched (Some (op.Case k)) r p a ws = Silent (At r (p + k) a ws)
-switched _ r p a ws = Bad 0 0
+switched (Some i) r p a ws = at_case (case_of i) r p a ws
+switched None r p a ws = Bad 0 0
 
 -- the objects' offsets and sizes
 module _ (offsets sizes : List ℕ) where

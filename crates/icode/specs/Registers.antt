@@ -35,16 +35,42 @@ abbrev pub of_operator : BinaryOperation → Registers
 of_operator binary.Multiply = record none { accumulator = true; right = true; high = true }
 of_operator binary.Divide = record none { accumulator = true; right = true; high = true }
 of_operator binary.Modulo = record none { accumulator = true; right = true; high = true }
-of_operator _ = record none { accumulator = true; right = true }
+of_operator binary.Add = record none { accumulator = true; right = true }
+of_operator binary.Subtract = record none { accumulator = true; right = true }
+of_operator binary.Equal = record none { accumulator = true; right = true }
+of_operator binary.NotEqual = record none { accumulator = true; right = true }
+of_operator binary.Less = record none { accumulator = true; right = true }
+of_operator binary.LessEqual = record none { accumulator = true; right = true }
+of_operator binary.Greater = record none { accumulator = true; right = true }
+of_operator binary.GreaterEqual = record none { accumulator = true; right = true }
+of_operator binary.And = record none { accumulator = true; right = true }
+of_operator binary.Or = record none { accumulator = true; right = true }
+of_operator binary.ExclusiveOr = record none { accumulator = true; right = true }
+of_operator binary.ShiftLeft = record none { accumulator = true; right = true }
+of_operator binary.ShiftRight = record none { accumulator = true; right = true }
+of_operator binary.RotateLeft = record none { accumulator = true; right = true }
+of_operator binary.RotateRight = record none { accumulator = true; right = true }
 
 -- these need no right operand where it is a constant or a word in memory
 abbrev pub is_direct : BinaryOperation → Bool
+is_direct binary.Multiply = false
+is_direct binary.Divide = false
+is_direct binary.Modulo = false
 is_direct binary.Add = true
 is_direct binary.Subtract = true
+is_direct binary.Equal = false
+is_direct binary.NotEqual = false
+is_direct binary.Less = false
+is_direct binary.LessEqual = false
+is_direct binary.Greater = false
+is_direct binary.GreaterEqual = false
 is_direct binary.And = true
 is_direct binary.Or = true
 is_direct binary.ExclusiveOr = true
-is_direct _ = false
+is_direct binary.ShiftLeft = false
+is_direct binary.ShiftRight = false
+is_direct binary.RotateLeft = false
+is_direct binary.RotateRight = false
 
 abbrev pub of_direct : BinaryOperation → Registers
 of_direct o = if is_direct o then just_accumulator else of_operator o

@@ -12,9 +12,8 @@ ghost use Rattle.icode.specs.declared.code.Routine.TheVariants as routine;
 ghost use Rattle.icode.specs.declared.code.Word.TheVariants.{Return};
 ghost use Rattle.icode.specs.declared.machine.Step.TheVariants as step;
 ghost use Rattle.icode.specs.declared.machine.Stop.TheVariants as stop;
-ghost use Rattle.icode.specs.Machine.{Context as Target, At, run, stands, jumped, switched, dropped, computed, value_in, value_on_top, return_on_top, with_value, operated, loaded, stored, left};
+ghost use Rattle.icode.specs.Machine.{Context as Target, At, run, stands, jumped, case_of, switched, dropped, computed, value_in, value_on_top, return_on_top, with_value, operated, loaded, stored, left};
 ghost use Rattle.icode.specs.Shown.{shown, words_of, action_of, access_in, Does};
-ghost use Rattle.icode.specs.Inner.Parts.{is_plain, is_outward};
 
 use crate::code::{Code, Position, Routine, Word};
 use crate::instruction::{Instruction, Relation, Test};
@@ -88,7 +87,7 @@ fn read_by(ram_objects: RamObjects<'_>, test: Test) -> Option<Access>
 {
     match test {
         Test::Plain(_, width, place) => read(width, ram_objects.reached(width, place, 0)),
-        _ => None,
+        Test::Odd | Test::Constant(_, _) | Test::Top(_) => None,
     }
 }
 
@@ -104,6 +103,48 @@ impl Relation {
             Relation::LessEqual => left <= right,
             Relation::Greater => left > right,
             Relation::GreaterEqual => left >= right,
+        }
+    }
+}
+
+impl Instruction {
+    // How far a case leads on.
+    fn case(self) -> Option<usize>
+        ensures { result ≡ case_of self }
+    {
+        match self {
+            Instruction::Case(count) => Some(count),
+            Instruction::Constant(_)
+            | Instruction::Locate(_)
+            | Instruction::LocateAt(_)
+            | Instruction::Load(_, _)
+            | Instruction::LoadAt(_, _)
+            | Instruction::LoadThere(_)
+            | Instruction::Push
+            | Instruction::Pick(_)
+            | Instruction::Drop(_)
+            | Instruction::Unary(_, _)
+            | Instruction::Binary(_, _)
+            | Instruction::BinaryConstant(_, _, _)
+            | Instruction::BinaryPlain(_, _, _, _)
+            | Instruction::Store(_, _)
+            | Instruction::StoreAt(_, _)
+            | Instruction::StoreThere(_)
+            | Instruction::Send(_)
+            | Instruction::SendTo(_, _)
+            | Instruction::Receive(_)
+            | Instruction::ReceiveFrom(_, _)
+            | Instruction::Ahead(_)
+            | Instruction::AheadUnless(_, _)
+            | Instruction::Back(_)
+            | Instruction::BackUnless(_, _)
+            | Instruction::Switch(_)
+            | Instruction::Invoke(_)
+            | Instruction::Leave
+            | Instruction::Enable
+            | Instruction::Disable
+            | Instruction::Halt
+            | Instruction::Finish => None,
         }
     }
 }
@@ -381,7 +422,8 @@ impl Context {
         Ok(Step::Silent)
     }
 
-    // On over `count` instructions. A place beyond what memory can hold is refused as want of it.
+    // On over `count` instructions. A jump of sound code leads to an instruction of its routine, so the sum is below the number of these,
+    // and this `Memory` never comes. The same holds for the two sums below.
     fn ahead(&mut self, next: usize, count: usize, answer: u16) -> Result<Step, Stop>
         ensures { Does (Silent (At self.old.position.routine (next + count) self.old.accumulator (words_of self.old))) answer self.old self.new result }
     {
@@ -453,8 +495,11 @@ impl Context {
             return Err(Stop::Memory);
         };
         match all.get(entry) {
-            Some(Instruction::Case(length)) => self.ahead(entry + 1, *length, answer),
-            _ => Err(Stop::Bad),
+            None => Err(Stop::Bad),
+            Some(instruction) => match instruction.case() {
+                None => Err(Stop::Bad),
+                Some(length) => self.ahead(entry + 1, length, answer),
+            },
         }
     }
 
@@ -495,7 +540,25 @@ impl Context {
             Instruction::ReceiveFrom(width, port) => Some(Access::Input(width, port)),
             Instruction::AheadUnless(test, _) => read_by(ram_objects, test),
             Instruction::BackUnless(test, _) => read_by(ram_objects, test),
-            _ => None,
+            Instruction::Constant(_)
+            | Instruction::Locate(_)
+            | Instruction::LocateAt(_)
+            | Instruction::Push
+            | Instruction::Pick(_)
+            | Instruction::Drop(_)
+            | Instruction::Unary(_, _)
+            | Instruction::Binary(_, _)
+            | Instruction::BinaryConstant(_, _, _)
+            | Instruction::Ahead(_)
+            | Instruction::Back(_)
+            | Instruction::Switch(_)
+            | Instruction::Case(_)
+            | Instruction::Invoke(_)
+            | Instruction::Leave
+            | Instruction::Enable
+            | Instruction::Disable
+            | Instruction::Halt
+            | Instruction::Finish => None,
         }
     }
 
@@ -509,7 +572,7 @@ impl Context {
         }
     }
 
-    // What an instruction does, where the next one has this index: those that only compute.
+    // What an instruction does, where the next one has this index. A case is no instruction of its own.
     fn make(
         &mut self,
         ram_objects: RamObjects<'_>,
@@ -547,24 +610,6 @@ impl Context {
                 self.go_on(next, value);
                 Ok(Step::Halt)
             }
-            _ => self.make_outward(ram_objects, all, instruction, next, answer),
-        }
-    }
-
-    // Those with an access that is no test's.
-    fn make_outward(
-        &mut self,
-        ram_objects: RamObjects<'_>,
-        all: &[Instruction],
-        instruction: Instruction,
-        next: usize,
-        answer: u16,
-    ) -> Result<Step, Stop>
-        requires { is_plain instruction ≡ false }
-        ensures { Does (run ram_objects.entry.offsets.now ram_objects.entry.sizes.now all.now instruction self.old.position.routine next self.old.accumulator (words_of self.old)) answer self.old self.new result }
-    {
-        let value = self.accumulator;
-        match instruction {
             Instruction::Load(width, place) => {
                 self.load(next, width, ram_objects.reached(width, place, 0), answer)
             }
@@ -601,24 +646,6 @@ impl Context {
             Instruction::SendTo(width, port) => self.send_to(next, width, port, answer),
             Instruction::Receive(width) => self.receive(next, width, value, answer),
             Instruction::ReceiveFrom(width, port) => self.receive(next, width, port, answer),
-            _ => self.make_jump(ram_objects, all, instruction, next, answer),
-        }
-    }
-
-    // Those that do not only go on at the next one. A case is no instruction of its own.
-    fn make_jump(
-        &mut self,
-        ram_objects: RamObjects<'_>,
-        all: &[Instruction],
-        instruction: Instruction,
-        next: usize,
-        answer: u16,
-    ) -> Result<Step, Stop>
-        requires plain { is_plain instruction ≡ false }
-        requires outward { is_outward instruction ≡ false }
-        ensures { Does (run ram_objects.entry.offsets.now ram_objects.entry.sizes.now all.now instruction self.old.position.routine next self.old.accumulator (words_of self.old)) answer self.old self.new result }
-    {
-        match instruction {
             Instruction::Ahead(count) => self.ahead(next, count, answer),
             Instruction::AheadUnless(test, count) => match next.checked_add(count) {
                 None => Err(Stop::Memory),
@@ -640,7 +667,7 @@ impl Context {
                     Err(Stop::Bad)
                 }
             }
-            _ => Err(Stop::Bad),
+            Instruction::Case(_) => Err(Stop::Bad),
         }
     }
 }

@@ -79,7 +79,21 @@ fn of_operator(operation: BinaryOperation) -> Registers
 {
     let high = match operation {
         BinaryOperation::Multiply | BinaryOperation::Divide | BinaryOperation::Modulo => true,
-        _ => false,
+        BinaryOperation::Add
+        | BinaryOperation::Subtract
+        | BinaryOperation::Equal
+        | BinaryOperation::NotEqual
+        | BinaryOperation::Less
+        | BinaryOperation::LessEqual
+        | BinaryOperation::Greater
+        | BinaryOperation::GreaterEqual
+        | BinaryOperation::And
+        | BinaryOperation::Or
+        | BinaryOperation::ExclusiveOr
+        | BinaryOperation::ShiftLeft
+        | BinaryOperation::ShiftRight
+        | BinaryOperation::RotateLeft
+        | BinaryOperation::RotateRight => false,
     };
     Registers {
         accumulator: true,
@@ -99,7 +113,19 @@ pub fn is_direct(operation: BinaryOperation) -> bool
         | BinaryOperation::And
         | BinaryOperation::Or
         | BinaryOperation::ExclusiveOr => true,
-        _ => false,
+        BinaryOperation::Multiply
+        | BinaryOperation::Divide
+        | BinaryOperation::Modulo
+        | BinaryOperation::Equal
+        | BinaryOperation::NotEqual
+        | BinaryOperation::Less
+        | BinaryOperation::LessEqual
+        | BinaryOperation::Greater
+        | BinaryOperation::GreaterEqual
+        | BinaryOperation::ShiftLeft
+        | BinaryOperation::ShiftRight
+        | BinaryOperation::RotateLeft
+        | BinaryOperation::RotateRight => false,
     }
 }
 

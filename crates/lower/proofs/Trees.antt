@@ -1,5 +1,5 @@
 -- The code of trees that the syntax of Rust holds in other shapes.
-use Rattle.std.proofs.Common.{◌≡◌, ℕ, suc, ◌+◌, ◌≤◌, ◌++◌, List, [], ◌∷◌, length, refl, ap, sym, ◌∙◌, append_assoc, append-nil, arith}
+use Rattle.std.proofs.Common.{◌≡◌, ℕ, suc, ◌+◌, ◌≤◌, ◌++◌, List, [], ◌∷◌, length, refl, ap, sym, ◌∙◌, append_assoc, append-nil, arith, ◌⊎◌, inl, inr}
 use Rattle.word86.specs.declared.width.Width.{Width}
 use Rattle.word86.specs.declared.width.Width.TheVariants as widths
 use Rattle.word86.specs.declared.operation.BinaryOperation.TheVariants as binary
@@ -69,6 +69,11 @@ pub based_behind : (base : Place) (offset : ℕ) (ss : List Subscript) → 1 ≤
     → based (where_of base) offset (subscripts_of ss) ≡ op.BinaryPlain binary.Add widths.Word widths.Word base ∷ moved offset
 based_behind base offset [] h = absurd (omega (arith, h))
 based_behind base offset (s ∷ ss) h = ap (λ p. op.BinaryPlain binary.Add widths.Word widths.Word p ∷ moved offset) (same_place base)
+
+-- an anchor of an object or of the screen is no base
+pub not_based : (a : declared_anchor.Anchor) → ((k : ℕ) × (start : ℕ) × (size : ℕ) × (a ≡ anchors.Ram k start size)) ⊎ ((start : ℕ) × (size : ℕ) × (a ≡ anchors.Screen start size)) → (base : Place) → a ≡ anchors.Based base → ⊥
+not_based a (inl x) base e = let f : anchors.Based base ≡ anchors.Ram x.0 x.1 x.2 = sym e ∙ x.3 in absurd (cc)
+not_based a (inr x) base e = let f : anchors.Based base ≡ anchors.Screen x.0 x.1 = sym e ∙ x.2 in absurd (cc)
 
 -- after subscripts at a fixed place
 pub reading_behind : (width : Width) (a : declared_anchor.Anchor) (offset : ℕ) (ss : List Subscript) → ((base : Place) → a ≡ anchors.Based base → ⊥) → 1 ≤ length ss

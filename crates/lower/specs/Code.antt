@@ -88,19 +88,31 @@ based base offset ss = from_base base ss ∷ moved offset
 -- what is read and located once the subscripts are added; a variable without any lies at a fixed place
 abbrev pub reading : Width → Anchor → ℕ → Subscripts → List Instruction
 reading width (Behind base) offset ss = based base offset ss ++ op.LoadThere width ∷ []
-reading width anchor offset NoSubscripts = op.Load width (anchor_place anchor offset) ∷ []
-reading width anchor offset (Subscript stride e more) = op.LoadAt width (anchor_place anchor offset) ∷ []
+reading width (InObject k start size) offset NoSubscripts = op.Load width (anchor_place (InObject k start size) offset) ∷ []
+reading width (InObject k start size) offset (Subscript stride e more) = op.LoadAt width (anchor_place (InObject k start size) offset) ∷ []
+reading width (OnScreen start size) offset NoSubscripts = op.Load width (anchor_place (OnScreen start size) offset) ∷ []
+reading width (OnScreen start size) offset (Subscript stride e more) = op.LoadAt width (anchor_place (OnScreen start size) offset) ∷ []
+reading width (There address) offset NoSubscripts = op.Load width (anchor_place (There address) offset) ∷ []
+reading width (There address) offset (Subscript stride e more) = op.LoadAt width (anchor_place (There address) offset) ∷ []
 
 abbrev pub locating : Anchor → ℕ → Subscripts → List Instruction
 locating (Behind base) offset ss = based base offset ss
-locating anchor offset NoSubscripts = op.Locate (anchor_place anchor offset) ∷ []
-locating anchor offset (Subscript stride e more) = op.LocateAt (anchor_place anchor offset) ∷ []
+locating (InObject k start size) offset NoSubscripts = op.Locate (anchor_place (InObject k start size) offset) ∷ []
+locating (InObject k start size) offset (Subscript stride e more) = op.LocateAt (anchor_place (InObject k start size) offset) ∷ []
+locating (OnScreen start size) offset NoSubscripts = op.Locate (anchor_place (OnScreen start size) offset) ∷ []
+locating (OnScreen start size) offset (Subscript stride e more) = op.LocateAt (anchor_place (OnScreen start size) offset) ∷ []
+locating (There address) offset NoSubscripts = op.Locate (anchor_place (There address) offset) ∷ []
+locating (There address) offset (Subscript stride e more) = op.LocateAt (anchor_place (There address) offset) ∷ []
 
 -- the value in the accumulator, whose code this is, is written once the subscripts are added, and is there afterwards
 abbrev pub writing : Width → Anchor → ℕ → Subscripts → List Instruction → List Instruction
 writing width (Behind base) offset ss code = op.Push ∷ (code ++ (based base offset ss ++ op.StoreThere width ∷ []))
-writing width anchor offset NoSubscripts code = op.Store width (anchor_place anchor offset) ∷ []
-writing width anchor offset (Subscript stride e more) code = op.Push ∷ (code ++ op.StoreAt width (anchor_place anchor offset) ∷ [])
+writing width (InObject k start size) offset NoSubscripts code = op.Store width (anchor_place (InObject k start size) offset) ∷ []
+writing width (InObject k start size) offset (Subscript stride e more) code = op.Push ∷ (code ++ op.StoreAt width (anchor_place (InObject k start size) offset) ∷ [])
+writing width (OnScreen start size) offset NoSubscripts code = op.Store width (anchor_place (OnScreen start size) offset) ∷ []
+writing width (OnScreen start size) offset (Subscript stride e more) code = op.Push ∷ (code ++ op.StoreAt width (anchor_place (OnScreen start size) offset) ∷ [])
+writing width (There address) offset NoSubscripts code = op.Store width (anchor_place (There address) offset) ∷ []
+writing width (There address) offset (Subscript stride e more) code = op.Push ∷ (code ++ op.StoreAt width (anchor_place (There address) offset) ∷ [])
 
 -- ---- ports
 
@@ -146,7 +158,20 @@ abbrev mutual
   is_giving (While c d ss) = are_giving ss
   is_giving (Case e ss) = are_giving ss
   is_giving (Iterate a (Count x bound step ss)) = are_giving ss
-  is_giving _ = false
+  is_giving Empty = false
+  is_giving (Assign ts e) = false
+  is_giving (Evaluate e) = false
+  is_giving Return = false
+  is_giving Enabling = false
+  is_giving Disabling = false
+  is_giving Halting = false
+  is_giving Leaving = false
+  is_giving (Round l) = false
+  is_giving (Comparing i e l) = false
+  is_giving (Stepping e l) = false
+  is_giving (Adding i s l) = false
+  is_giving (Storing s l) = false
+  is_giving (Ending s l) = false
 
   pub are_giving : Statements → Bool
   are_giving End = false
@@ -172,7 +197,18 @@ relation_of binary.Less = Some relation.Less
 relation_of binary.LessEqual = Some relation.LessEqual
 relation_of binary.Greater = Some relation.Greater
 relation_of binary.GreaterEqual = Some relation.GreaterEqual
-relation_of _ = None
+relation_of binary.Multiply = None
+relation_of binary.Divide = None
+relation_of binary.Modulo = None
+relation_of binary.Add = None
+relation_of binary.Subtract = None
+relation_of binary.And = None
+relation_of binary.Or = None
+relation_of binary.ExclusiveOr = None
+relation_of binary.ShiftLeft = None
+relation_of binary.ShiftRight = None
+relation_of binary.RotateLeft = None
+relation_of binary.RotateRight = None
 
 -- whether the left operand stands in a relation to the right one
 abbrev pub stands_to : Relation → Operand → Test
@@ -187,7 +223,17 @@ asked None right = test.Odd
 
 abbrev pub test_of : Expression → Test
 test_of (Binary module_index line o width a b) = asked (relation_of o) (operand_of b)
-test_of _ = test.Odd
+test_of (Constant k) = test.Odd
+test_of (Plain width x) = test.Odd
+test_of (Variable width r) = test.Odd
+test_of (Location r) = test.Odd
+test_of (Unary o width e) = test.Odd
+test_of (Embedded t e) = test.Odd
+test_of (Input width port) = test.Odd
+test_of (Call p es) = test.Odd
+test_of (Value v) = test.Odd
+test_of (Passing p xs vs) = test.Odd
+test_of (Running ss) = test.Odd
 
 abbrev pub asking : Option Relation → (left right whole : List Instruction) → List Instruction
 asking (Some o) left right whole = left ++ right
@@ -239,7 +285,17 @@ module _ (procedures : List Procedure) where
   -- of a value that is dropped
   abbrev pub dropped_code : Expression → List Instruction
   dropped_code (Call p es) = calling p es
-  dropped_code e = expression_code e
+  dropped_code (Constant k) = expression_code (Constant k)
+  dropped_code (Plain width x) = expression_code (Plain width x)
+  dropped_code (Variable width r) = expression_code (Variable width r)
+  dropped_code (Location r) = expression_code (Location r)
+  dropped_code (Unary o width e) = expression_code (Unary o width e)
+  dropped_code (Binary module_index line o width a b) = expression_code (Binary module_index line o width a b)
+  dropped_code (Embedded t e) = expression_code (Embedded t e)
+  dropped_code (Input width port) = expression_code (Input width port)
+  dropped_code (Value v) = expression_code (Value v)
+  dropped_code (Passing p xs vs) = expression_code (Passing p xs vs)
+  dropped_code (Running ss) = expression_code (Running ss)
 
   abbrev pub targets_code : Targets → List Instruction
   targets_code (Only t) = target_code t
@@ -249,7 +305,17 @@ module _ (procedures : List Procedure) where
   abbrev pub condition_code : Expression → List Instruction
   condition_code (Binary module_index line o width a b) =
       asking (relation_of o) (expression_code a) (beside (operand_of b) (expression_code b)) (expression_code (Binary module_index line o width a b))
-  condition_code e = expression_code e
+  condition_code (Constant k) = expression_code (Constant k)
+  condition_code (Plain width x) = expression_code (Plain width x)
+  condition_code (Variable width r) = expression_code (Variable width r)
+  condition_code (Location r) = expression_code (Location r)
+  condition_code (Unary o width e) = expression_code (Unary o width e)
+  condition_code (Embedded t e) = expression_code (Embedded t e)
+  condition_code (Input width port) = expression_code (Input width port)
+  condition_code (Call p es) = expression_code (Call p es)
+  condition_code (Value v) = expression_code (Value v)
+  condition_code (Passing p xs vs) = expression_code (Passing p xs vs)
+  condition_code (Running ss) = expression_code (Running ss)
 
 -- ---- statements
 
@@ -286,7 +352,24 @@ abbrev mutual
   pub is_silent : Statement → Bool
   is_silent Empty = true
   is_silent (Block ss) = are_silent ss
-  is_silent _ = false
+  is_silent (Assign ts e) = false
+  is_silent (Evaluate e) = false
+  is_silent Return = false
+  is_silent (ReturnValue width e) = false
+  is_silent Enabling = false
+  is_silent Disabling = false
+  is_silent Halting = false
+  is_silent (If c arm other) = false
+  is_silent (While c d ss) = false
+  is_silent (Case e ss) = false
+  is_silent (Iterate a l) = false
+  is_silent Leaving = false
+  is_silent (Round l) = false
+  is_silent (Comparing i e l) = false
+  is_silent (Stepping e l) = false
+  is_silent (Adding i s l) = false
+  is_silent (Storing s l) = false
+  is_silent (Ending s l) = false
 
   pub are_silent : Statements → Bool
   are_silent End = true

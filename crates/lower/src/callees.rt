@@ -52,7 +52,13 @@ fn is_giving(statement: &Statement) -> bool
         Statement::While(_, body) => are_giving(body),
         Statement::Case(_, cases) => are_giving(cases),
         Statement::Iterate(_, iteration) => are_giving(&iteration.body),
-        _ => false,
+        Statement::Empty
+        | Statement::Assign(_, _, _)
+        | Statement::Evaluate(_)
+        | Statement::Return
+        | Statement::Enable
+        | Statement::Disable
+        | Statement::Halt => false,
     }
 }
 

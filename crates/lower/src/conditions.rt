@@ -24,7 +24,18 @@ pub fn relation(operation: BinaryOperation) -> Option<Relation>
         BinaryOperation::LessEqual => Some(Relation::LessEqual),
         BinaryOperation::Greater => Some(Relation::Greater),
         BinaryOperation::GreaterEqual => Some(Relation::GreaterEqual),
-        _ => None,
+        BinaryOperation::Multiply
+        | BinaryOperation::Divide
+        | BinaryOperation::Modulo
+        | BinaryOperation::Add
+        | BinaryOperation::Subtract
+        | BinaryOperation::And
+        | BinaryOperation::Or
+        | BinaryOperation::ExclusiveOr
+        | BinaryOperation::ShiftLeft
+        | BinaryOperation::ShiftRight
+        | BinaryOperation::RotateLeft
+        | BinaryOperation::RotateRight => None,
     }
 }
 
@@ -80,7 +91,14 @@ pub fn condition(
                 }
             },
         },
-        _ => {
+        Expression::Constant(_)
+        | Expression::Plain(_, _)
+        | Expression::Variable(_, _)
+        | Expression::Location(_)
+        | Expression::Unary(_, _, _)
+        | Expression::Embedded(_, _)
+        | Expression::Input(_, _)
+        | Expression::Call(_, _) => {
             expression(code, callees, tree)?;
             Ok(Test::Odd)
         }

@@ -171,13 +171,15 @@ fn read(
     ensures memory { IsOkUnless result Fault.Memory }
 {
     let at = anchor_place(anchor, offset);
-    match (anchor, subscripts) {
-        (Anchor::Based(base), _) => {
+    match anchor {
+        Anchor::Based(base) => {
             follow(code, base, offset, subscripts)?;
             put(code, Instruction::LoadThere(width))
         }
-        (_, []) => put(code, Instruction::Load(width, at)),
-        (_, [_, ..]) => put(code, Instruction::LoadAt(width, at)),
+        Anchor::Ram(_, _, _) | Anchor::Screen(_, _) => match subscripts {
+            [] => put(code, Instruction::Load(width, at)),
+            [_, ..] => put(code, Instruction::LoadAt(width, at)),
+        },
     }
 }
 
@@ -192,10 +194,12 @@ fn locate(
     ensures memory { IsOkUnless result Fault.Memory }
 {
     let at = anchor_place(anchor, offset);
-    match (anchor, subscripts) {
-        (Anchor::Based(base), _) => follow(code, base, offset, subscripts),
-        (_, []) => put(code, Instruction::Locate(at)),
-        (_, [_, ..]) => put(code, Instruction::LocateAt(at)),
+    match anchor {
+        Anchor::Based(base) => follow(code, base, offset, subscripts),
+        Anchor::Ram(_, _, _) | Anchor::Screen(_, _) => match subscripts {
+            [] => put(code, Instruction::Locate(at)),
+            [_, ..] => put(code, Instruction::LocateAt(at)),
+        },
     }
 }
 
@@ -418,19 +422,21 @@ fn write(
     ensures memory { IsOkUnless result Fault.Memory }
 {
     let at = anchor_place(anchor, offset);
-    match (anchor, list) {
-        (Anchor::Based(base), _) => {
+    match anchor {
+        Anchor::Based(base) => {
             put(code, Instruction::Push)?;
             subscripts(code, callees, list)?;
             follow(code, base, offset, list)?;
             put(code, Instruction::StoreThere(width))
         }
-        (_, []) => put(code, Instruction::Store(width, at)),
-        (_, [_, ..]) => {
-            put(code, Instruction::Push)?;
-            subscripts(code, callees, list)?;
-            put(code, Instruction::StoreAt(width, at))
-        }
+        Anchor::Ram(_, _, _) | Anchor::Screen(_, _) => match list {
+            [] => put(code, Instruction::Store(width, at)),
+            [_, ..] => {
+                put(code, Instruction::Push)?;
+                subscripts(code, callees, list)?;
+                put(code, Instruction::StoreAt(width, at))
+            }
+        },
     }
 }
 
@@ -447,7 +453,7 @@ fn send(
 {
     match as_operand(port) {
         Operand::Number(number) => put(code, Instruction::SendTo(width, number)),
-        _ => {
+        Operand::Name(_, _) | Operand::Computed => {
             put(code, Instruction::Push)?;
             expression(code, callees, port)?;
             put(code, Instruction::Send(width))
@@ -487,6 +493,12 @@ pub fn dropped(
             [] => dropped(code, callees, first),
             [_, ..] => expression(code, callees, tree),
         },
-        _ => expression(code, callees, tree),
+        Expression::Constant(_)
+        | Expression::Plain(_, _)
+        | Expression::Variable(_, _)
+        | Expression::Location(_)
+        | Expression::Unary(_, _, _)
+        | Expression::Embedded(_, _)
+        | Expression::Input(_, _) => expression(code, callees, tree),
     }
 }

@@ -41,7 +41,8 @@ fn kind_of(vector: Option<u8>, gives: bool) -> Kind
     }
 }
 
-// How many sections the modules fill: as many as lead up to the last one that has a procedure, or main.
+// How many sections the modules fill: as many as lead up to the last one that has a procedure, or main. A module's number is its
+// place in a list in memory, so one more is below 2^64, and this `Memory` never comes.
 fn sections_of(names: &Names) -> Result<usize, Fault>
     ensures sections { IfOk result (λ n. n ≡ suc (last_module names.now.main.module (map procedure_of names.now.procedures.items))) }
     ensures memory { IsOkUnless result Fault.Memory }

@@ -27,7 +27,8 @@ pub fn add(code: &mut Vec<Instruction>, others: &[Instruction]) -> Result<(), Fa
     Ok(())
 }
 
-/// How many instructions a jump leads over: beyond what memory can hold there are none.
+/// How many instructions a jump leads over. All that both numbers count stands in memory by then, but for a few that are put next, and an
+/// instruction takes several bytes. So the sum is far below 2^64, and this `Memory` never comes.
 pub fn distance(near: usize, far: usize) -> Result<usize, Fault>
     ensures sum { IfOk result (λ r. r ≡ near + far) }
     ensures memory { IsOkUnless result Fault.Memory }

@@ -14,7 +14,17 @@ pub fn is_silent(statement: &Statement) -> bool
     match statement {
         Statement::Empty => true,
         Statement::Block(body) => are_silent(body),
-        _ => false,
+        Statement::Assign(_, _, _)
+        | Statement::Evaluate(_)
+        | Statement::Return
+        | Statement::ReturnValue(_, _)
+        | Statement::Enable
+        | Statement::Disable
+        | Statement::Halt
+        | Statement::If(_, _, _)
+        | Statement::While(_, _)
+        | Statement::Case(_, _)
+        | Statement::Iterate(_, _) => false,
     }
 }
 

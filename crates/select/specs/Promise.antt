@@ -1,7 +1,7 @@
 -- What the instructions promise of the intermediate code.
 use Rattle.std.specs.Prelude.{◌≡◌, ℕ, ◌+◌, ◌<◌, ◌≤◌, Bool, true, false, List, [], length, Option, Some, None, slice_get, slice_index}
 use Rattle.word86.specs.Access.{Access, answers}
-use Rattle.word86.specs.Action.{Action, Enable, Halt, Over}
+use Rattle.word86.specs.Action.{Action, Silent, Touch, Enable, Disable, Halt, Over, Bad}
 use Rattle.word86.specs.Following.{Follows}
 use Rattle.word86.specs.Place.{held}
 use Rattle.i86_table.specs.declared.instruction.Instr.{Instr}
@@ -13,6 +13,7 @@ use Rattle.icode.specs.declared.code.Routine.{Routine}
 use Rattle.icode.specs.declared.code.Routine.TheVariants.{Main, Procedure, Nowhere}
 use Rattle.icode.specs.declared.code.Word.{Word}
 use Rattle.icode.specs.declared.registers.Registers.{Registers}
+use Rattle.icode.specs.Heights.{called}
 use Rattle.icode.specs.Registers.{joined, changes}
 use Rattle.icode.specs.Made.{IsMade}
 use Rattle.icode.specs.Runs.{Comes}
@@ -27,10 +28,20 @@ limit = 20
 
 -- main is never used up, and an interrupt procedure has no ENABLE or HALT
 abbrev pub Allowed : (main : Bool) → Action Access machine.Context → Type 0
+Allowed true (Silent d) = Unit {0}
+Allowed true (Touch b k) = Unit {0}
+Allowed true (Enable d) = Unit {0}
+Allowed true (Disable d) = Unit {0}
+Allowed true (Halt d) = Unit {0}
 Allowed true Over = ⊥
+Allowed true (Bad module_index line) = Unit {0}
+Allowed false (Silent d) = Unit {0}
+Allowed false (Touch b k) = Unit {0}
 Allowed false (Enable d) = ⊥
+Allowed false (Disable d) = Unit {0}
 Allowed false (Halt d) = ⊥
-Allowed main a = Unit {0}
+Allowed false Over = Unit {0}
+Allowed false (Bad module_index line) = Unit {0}
 
 abbrev pub words_of : machine.Context → List Word
 words_of (At r k a ws) = ws
@@ -74,9 +85,12 @@ place_of x r k = x.at r (first_of (x.saves r) (x.icode r) k)
 -- ---- what selection asks of the code
 
 -- a procedure that is called begins with its first row
+abbrev pub IsEntered : Image → Option ℕ → Type 0
+IsEntered x (Some q) = slice_index x.places (x.part q) ≡ place_of x (Procedure q) 0
+IsEntered x None = Unit {0}
+
 abbrev pub IsCallable : Image → Instruction → Type 0
-IsCallable x (op.Invoke q) = slice_index x.places (x.part q) ≡ place_of x (Procedure q) 0
-IsCallable x _ = Unit {0}
+IsCallable x n = IsEntered x (called n)
 
 pub record IsSelected (x : Image) : Type 0 where
   -- each routine stands in the code, below 65,536

@@ -160,17 +160,45 @@ core binary.RotateRight widths.Word = shift_word shifts.Ror counts.Cl ∷ []
 
 -- the arithmetic of an operator that takes its right operand where it lies
 abbrev pub direct : BinaryOperation → AluOperation
+direct binary.Multiply = Xor
+direct binary.Divide = Xor
+direct binary.Modulo = Xor
 direct binary.Add = Add
 direct binary.Subtract = Sub
+direct binary.Equal = Xor
+direct binary.NotEqual = Xor
+direct binary.Less = Xor
+direct binary.LessEqual = Xor
+direct binary.Greater = Xor
+direct binary.GreaterEqual = Xor
 direct binary.And = And
 direct binary.Or = Or
-direct _ = Xor
+direct binary.ExclusiveOr = Xor
+direct binary.ShiftLeft = Xor
+direct binary.ShiftRight = Xor
+direct binary.RotateLeft = Xor
+direct binary.RotateRight = Xor
 
 -- a sum or a difference of bytes may leave a carry in the high byte
 abbrev pub narrow_sum : BinaryOperation → Width → List Instr
+narrow_sum binary.Multiply width = []
+narrow_sum binary.Divide width = []
+narrow_sum binary.Modulo width = []
 narrow_sum binary.Add width = narrow width
 narrow_sum binary.Subtract width = narrow width
-narrow_sum _ width = []
+narrow_sum binary.Equal width = []
+narrow_sum binary.NotEqual width = []
+narrow_sum binary.Less width = []
+narrow_sum binary.LessEqual width = []
+narrow_sum binary.Greater width = []
+narrow_sum binary.GreaterEqual width = []
+narrow_sum binary.And width = []
+narrow_sum binary.Or width = []
+narrow_sum binary.ExclusiveOr width = []
+narrow_sum binary.ShiftLeft width = []
+narrow_sum binary.ShiftRight width = []
+narrow_sum binary.RotateLeft width = []
+narrow_sum binary.RotateRight width = []
 
 -- ---- an operator on AX and a constant
 
@@ -202,7 +230,22 @@ abbrev pub powered : BinaryOperation → Width → ℕ → Option ℕ → List I
 powered o width k None = by_number o width k
 powered binary.Multiply width k (Some n) = counted n (left_by width)
 powered binary.Divide width k (Some n) = counted n (right_by widths.Word)
-powered _ width k (Some n) = alu_number And Ax (k - 1) ∷ []
+powered binary.Modulo width k (Some n) = alu_number And Ax (k - 1) ∷ []
+powered binary.Add width k (Some n) = alu_number And Ax (k - 1) ∷ []
+powered binary.Subtract width k (Some n) = alu_number And Ax (k - 1) ∷ []
+powered binary.Equal width k (Some n) = alu_number And Ax (k - 1) ∷ []
+powered binary.NotEqual width k (Some n) = alu_number And Ax (k - 1) ∷ []
+powered binary.Less width k (Some n) = alu_number And Ax (k - 1) ∷ []
+powered binary.LessEqual width k (Some n) = alu_number And Ax (k - 1) ∷ []
+powered binary.Greater width k (Some n) = alu_number And Ax (k - 1) ∷ []
+powered binary.GreaterEqual width k (Some n) = alu_number And Ax (k - 1) ∷ []
+powered binary.And width k (Some n) = alu_number And Ax (k - 1) ∷ []
+powered binary.Or width k (Some n) = alu_number And Ax (k - 1) ∷ []
+powered binary.ExclusiveOr width k (Some n) = alu_number And Ax (k - 1) ∷ []
+powered binary.ShiftLeft width k (Some n) = alu_number And Ax (k - 1) ∷ []
+powered binary.ShiftRight width k (Some n) = alu_number And Ax (k - 1) ∷ []
+powered binary.RotateLeft width k (Some n) = alu_number And Ax (k - 1) ∷ []
+powered binary.RotateRight width k (Some n) = alu_number And Ax (k - 1) ∷ []
 
 abbrev pub by_factor : BinaryOperation → Width → ℕ → List Instr
 by_factor o width k = powered o width k (exponent k)
@@ -218,7 +261,14 @@ by_constant binary.Divide width k = by_factor binary.Divide width k
 by_constant binary.Modulo width k = by_factor binary.Modulo width k
 by_constant binary.ShiftLeft width k = counted (k % 256) (left_by width)
 by_constant binary.ShiftRight width k = counted (k % 256) (right_by width)
-by_constant o width k = by_number o width k
+by_constant binary.Equal width k = by_number binary.Equal width k
+by_constant binary.NotEqual width k = by_number binary.NotEqual width k
+by_constant binary.Less width k = by_number binary.Less width k
+by_constant binary.LessEqual width k = by_number binary.LessEqual width k
+by_constant binary.Greater width k = by_number binary.Greater width k
+by_constant binary.GreaterEqual width k = by_number binary.GreaterEqual width k
+by_constant binary.RotateLeft width k = by_number binary.RotateLeft width k
+by_constant binary.RotateRight width k = by_number binary.RotateRight width k
 
 -- an operator on AX
 abbrev pub changed : UnaryOperation → Width → List Instr

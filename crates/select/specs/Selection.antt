@@ -24,7 +24,9 @@ procedures_in k number (p ∷ ps) = cond (nat_eq p.module k) (Procedure number �
 
 abbrev pub is_procedure : ℕ → Routine → Bool
 is_procedure q (Procedure p) = nat_eq p q
-is_procedure q _ = false
+is_procedure q Main = false
+is_procedure q Unserved = false
+is_procedure q Nowhere = false
 
 -- the number of a procedure's part among these routines, the first of which has this number; else what was found before
 abbrev pub part_in : (found own : ℕ) → List Routine → (procedure : ℕ) → ℕ

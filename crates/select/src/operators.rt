@@ -189,7 +189,20 @@ pub(crate) fn direct(operation: BinaryOperation) -> AluOperation
         BinaryOperation::Subtract => AluOperation::Sub,
         BinaryOperation::And => AluOperation::And,
         BinaryOperation::Or => AluOperation::Or,
-        _ => AluOperation::Xor,
+        BinaryOperation::Multiply
+        | BinaryOperation::Divide
+        | BinaryOperation::Modulo
+        | BinaryOperation::Equal
+        | BinaryOperation::NotEqual
+        | BinaryOperation::Less
+        | BinaryOperation::LessEqual
+        | BinaryOperation::Greater
+        | BinaryOperation::GreaterEqual
+        | BinaryOperation::ExclusiveOr
+        | BinaryOperation::ShiftLeft
+        | BinaryOperation::ShiftRight
+        | BinaryOperation::RotateLeft
+        | BinaryOperation::RotateRight => AluOperation::Xor,
     }
 }
 
@@ -204,7 +217,22 @@ pub(crate) fn narrow_sum(
 {
     match operation {
         BinaryOperation::Add | BinaryOperation::Subtract => narrow(steps, width),
-        _ => Ok(()),
+        BinaryOperation::Multiply
+        | BinaryOperation::Divide
+        | BinaryOperation::Modulo
+        | BinaryOperation::Equal
+        | BinaryOperation::NotEqual
+        | BinaryOperation::Less
+        | BinaryOperation::LessEqual
+        | BinaryOperation::Greater
+        | BinaryOperation::GreaterEqual
+        | BinaryOperation::And
+        | BinaryOperation::Or
+        | BinaryOperation::ExclusiveOr
+        | BinaryOperation::ShiftLeft
+        | BinaryOperation::ShiftRight
+        | BinaryOperation::RotateLeft
+        | BinaryOperation::RotateRight => Ok(()),
     }
 }
 
@@ -304,7 +332,22 @@ fn by_factor(
     match operation {
         BinaryOperation::Multiply => left_by_constant(steps, width, count),
         BinaryOperation::Divide => right_by_constant(steps, Width::Word, count),
-        _ => add(
+        BinaryOperation::Modulo
+        | BinaryOperation::Add
+        | BinaryOperation::Subtract
+        | BinaryOperation::Equal
+        | BinaryOperation::NotEqual
+        | BinaryOperation::Less
+        | BinaryOperation::LessEqual
+        | BinaryOperation::Greater
+        | BinaryOperation::GreaterEqual
+        | BinaryOperation::And
+        | BinaryOperation::Or
+        | BinaryOperation::ExclusiveOr
+        | BinaryOperation::ShiftLeft
+        | BinaryOperation::ShiftRight
+        | BinaryOperation::RotateLeft
+        | BinaryOperation::RotateRight => add(
             steps,
             alu_number(AluOperation::And, AX, number.saturating_sub(1)),
         ),
@@ -339,6 +382,13 @@ pub(crate) fn by_constant(
         }
         BinaryOperation::ShiftLeft => left_by_constant(steps, width, count),
         BinaryOperation::ShiftRight => right_by_constant(steps, width, count),
-        _ => by_number(steps, operation, width, number),
+        BinaryOperation::Equal
+        | BinaryOperation::NotEqual
+        | BinaryOperation::Less
+        | BinaryOperation::LessEqual
+        | BinaryOperation::Greater
+        | BinaryOperation::GreaterEqual
+        | BinaryOperation::RotateLeft
+        | BinaryOperation::RotateRight => by_number(steps, operation, width, number),
     }
 }

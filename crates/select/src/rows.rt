@@ -136,7 +136,11 @@ fn by_read(
     ensures steps { OnOk result (steps.new.items ≡ steps.old.items ++ by_read operation width read place) }
     ensures memory { IsOkUnless result Fault.Memory }
 {
-    if matches!(read, Width::Word) && is_direct(operation) {
+    let takes_it_there = match read {
+        Width::Byte => false,
+        Width::Word => is_direct(operation),
+    };
+    if takes_it_there {
         put(steps, operate(direct(operation), place))?;
         return narrow_sum(steps, operation, width);
     }

@@ -148,8 +148,9 @@ fn note(numbers: &mut Vec<usize>, routine: Routine, part: usize)
     ensures many { length numbers.new.items ≡ length numbers.old.items }
     ensures each { (q : ℕ) → slice_index numbers.new.items q ≡ cond (spec.is_procedure q routine) part (slice_index numbers.old.items q) }
 {
-    if let Routine::Procedure(number) = routine {
-        numbers[number] = part;
+    match routine {
+        Routine::Procedure(number) => numbers[number] = part,
+        Routine::Main | Routine::Unserved | Routine::Nowhere => {}
     }
 }
 

@@ -59,10 +59,13 @@ fn look(extents: &[Extent], sizes: &mut [u8], at: usize) -> usize
     ensures settling { IsSettling extents.now sizes.new result }
     ensures advances { Advances sizes.old at sizes.new result }
 {
-    if let Extent::Jump { target, long } = extents[at] {
-        if sizes[at] == SHORT && !is_in_reach(sizes, at, target) {
-            sizes[at] = long;
-            return at.saturating_sub(SPAN);
+    match extents[at] {
+        Extent::Fixed(_) => {}
+        Extent::Jump { target, long } => {
+            if sizes[at] == SHORT && !is_in_reach(sizes, at, target) {
+                sizes[at] = long;
+                return at.saturating_sub(SPAN);
+            }
         }
     }
     at + 1

@@ -1,13 +1,12 @@
 -- What a routine needs with all that it calls, along its instructions, from what its callees need.
 use Rattle.std.specs.Prelude.{◌≡◌, ℕ, suc, ◌+◌, ◌<◌, max, List, [], ◌∷◌, length, Option, Some, None, slice_get}
 use Rattle.icode.specs.declared.instruction.Instruction.{Instruction}
-use Rattle.icode.specs.declared.instruction.Instruction.TheVariants.{Invoke}
 use Rattle.icode.specs.declared.code.Routine.TheVariants.{Procedure}
 use Rattle.icode.specs.declared.code.Procedure as declared
 use Rattle.icode.specs.declared.code.Code.{Code}
 use Rattle.icode.specs.Code.{code_of}
 use Rattle.icode.specs.Counted.{number_of}
-use Rattle.icode.specs.Heights.{after, place_in}
+use Rattle.icode.specs.Heights.{after, called, place_in}
 use Rattle.icode.specs.Registers.{none, joined, changes}
 use Rattle.frames.specs.declared.need.Need.{Need}
 
@@ -19,9 +18,12 @@ abbrev pub both : Need → Need → Need
 both x y = record { words = max x.words y.words; registers = joined x.registers y.registers }
 
 -- at this height of the routine an instruction is met: at a call the words go on with where it returns, and what the callee needs
+abbrev pub met_by : (ℕ → Need) → Option ℕ → Instruction → ℕ → Need
+met_by t (Some q) x h = record { words = h + 1 + (t q).words; registers = (t q).registers }
+met_by t None x h = record { words = h; registers = changes x }
+
 abbrev pub met : (ℕ → Need) → Instruction → ℕ → Need
-met t (Invoke q) h = record { words = h + 1 + (t q).words; registers = (t q).registers }
-met t x h = record { words = h; registers = changes x }
+met t x h = met_by t (called x) x h
 
 abbrev pub need : (ℕ → Need) → ℕ → List Instruction → Need
 need t h [] = record { words = h; registers = none }

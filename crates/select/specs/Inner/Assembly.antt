@@ -18,7 +18,8 @@ IsStepOf many (AtStep x t) = t < many
 IsStepOf many (Word t) = t < many
 IsStepOf many (Goto t) = t < many
 IsStepOf many (GotoIf c t) = t < many
-IsStepOf many _ = Unit {0}
+IsStepOf many (Plain n) = Unit {0}
+IsStepOf many (Refer x n kind name) = Unit {0}
 
 abbrev pub nothing : Step
 nothing = Word 0
@@ -58,4 +59,6 @@ abbrev pub IsCoded : Step → Type 0
 IsCoded (Plain n) = Spells (bytes_of n) n
 IsCoded (Refer x n kind name) = IsOpen x
 IsCoded (AtStep x t) = IsOpen x
-IsCoded _ = Unit {0}
+IsCoded (Word t) = Unit {0}
+IsCoded (Goto t) = Unit {0}
+IsCoded (GotoIf c t) = Unit {0}

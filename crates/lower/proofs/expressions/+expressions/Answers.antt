@@ -5,7 +5,7 @@ use Rattle.plm_type.specs.View.{expression_of, expressions_of, subscripts_of, ta
 use Rattle.lower.proofs.Rows.{chain_tree, call_tree, reference_tree}
 use Rattle.plm_type.specs.Next.{parameters_of}
 use Rattle.lower.specs.Code.{expression_code, subscripts_code, target_code, pushed_code, first_code}
-use Rattle.lower.proofs.Trees.{chain_coded, call_of_many, writing_behind}
+use Rattle.lower.proofs.Trees.{chain_coded, call_of_many, not_based, writing_behind}
 use Rattle.lower.proofs.expressions.+expressions.Goals as goal
 
 pub expression-returns-in-Call-clause-code : goal.expression-returns-in-Call-clause-code
@@ -52,10 +52,10 @@ call-returns-in_ok-pass-in-len2-up-clause-code t c =
     let is = call_of_many c.args.number xs es (first_code ps (expressions_of es)) (pushed_code ps (expressions_of es)) c.in-len2-up.len_at_least in
     subst (λ e. OnOk after.result (after.new.code.items ≡ c.args.code.now.items ++ e)) (sym is) (grind (arith, common_steps))
 
-pub write-returns-in_ok-subscripts-in_default-len1-up-clause-code : goal.write-returns-in_ok-subscripts-in_default-len1-up-clause-code
-write-returns-in_ok-subscripts-in_default-len1-up-clause-code t c =
-    let after = c.put-in_default-len1-up-2 in
+pub write-returns-in_ok-subscripts-in-len1-up-clause-code : goal.write-returns-in_ok-subscripts-in-len1-up-clause-code
+write-returns-in_ok-subscripts-in-len1-up-clause-code t c =
+    let after = c.put-in-len1-up-2 in
     let ss = c.args.list.now in
     let behind = subscripts_code (procedures_of c.args.callees.procedures.now) (subscripts_of ss) in
-    let is = writing_behind c.args.width c.args.anchor c.args.offset ss behind c.in_default-len1-up.not-Based-0 c.in_default-len1-up.len_at_least in
+    let is = writing_behind c.args.width c.args.anchor c.args.offset ss behind (not_based c.args.anchor c.in-Ram.is) c.in-len1-up.len_at_least in
     subst (λ e. OnOk after.result (after.new.code.items ≡ c.args.code.now.items ++ e)) (sym is) (grind (arith, common_steps))

@@ -1,10 +1,10 @@
 use Rattle.std.proofs.Common.{◌≡◌, ◌++◌, OnOk, subst, sym, arith}
 use Rattle.std.proofs.lemmas.Grind.{common_steps}
-use Rattle.lower.proofs.Trees.{locating_behind}
+use Rattle.lower.proofs.Trees.{not_based, locating_behind}
 use Rattle.lower.proofs.expressions.locate.Goals as goal
 
-pub returns-in_default-len1-up-clause-code : goal.returns-in_default-len1-up-clause-code
-returns-in_default-len1-up-clause-code c =
-    let after = c.put-in_default-len1-up in
-    let is = locating_behind c.args.anchor c.args.offset c.args.subscripts.now c.in_default-len1-up.not-Based-0 c.in_default-len1-up.len_at_least in
+pub returns-in-len1-up-clause-code : goal.returns-in-len1-up-clause-code
+returns-in-len1-up-clause-code c =
+    let after = c.put-in-len1-up in
+    let is = locating_behind c.args.anchor c.args.offset c.args.subscripts.now (not_based c.args.anchor c.in-Ram.is) c.in-len1-up.len_at_least in
     subst (λ e. OnOk after.result (after.new.code.items ≡ c.args.code.now.items ++ e)) (sym is) (grind (arith, common_steps))

@@ -1,5 +1,5 @@
-use Rattle.std.proofs.Common.{◌≡◌, ℕ, ap, sym, ◌∙◌, drop}
-use Rattle.icode.specs.Machine.{Context, At, run, address, found, stored, with_value, value_on_top}
+use Rattle.std.proofs.Common.{ℕ, ap, sym, ◌∙◌, drop}
+use Rattle.icode.specs.Machine.{Context, At, run, stored, with_value, value_on_top}
 use Rattle.icode.specs.Shown.{words_of, access_in}
 use Rattle.icode.proofs.machine.Context.access.Goals as goal
 
