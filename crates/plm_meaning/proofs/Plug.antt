@@ -19,7 +19,7 @@ use Rattle.plm_meaning.specs.declared.context.Hole.{Hole}
 use Rattle.plm_meaning.specs.declared.context.Hole.TheVariants as hole
 use Rattle.plm_meaning.specs.declared.context.Frame.{Frame}
 use Rattle.plm_meaning.specs.declared.context.Frame.TheVariants as frame
-use Rattle.plm_meaning.specs.Context.{Part, Expr, Todo, expression_in, statements_in, aimed, purposed, later_of, given, in_hole, around, plug, todo_in}
+use Rattle.plm_meaning.specs.Context.{Part, Expr, ToRun, expression_in, statements_in, aimed, purposed, later_of, given, in_hole, around, plug, to_run_in}
 use Rattle.plm_meaning.proofs.Actions.{map_twice, map_same, map_alike}
 
 pub behind_assoc : (a b c : Statements) → behind (behind a b) c ≡ behind a (behind b c)
@@ -35,12 +35,12 @@ behind_end (Returned v) = refl
 -- a part that has a step by itself
 abbrev pub Active : Part → Type 0
 Active (Expr e) = value_of e ≡ None
-Active (Todo ss) = returned ss ≡ None
+Active (ToRun ss) = returned ss ≡ None
 
 module _ (offsets sizes : List ℕ) (procedures : List Procedure) where
   abbrev pub next_part : Part → Action Access Part
   next_part (Expr e) = map_action Expr (next_expression offsets sizes procedures e)
-  next_part (Todo ss) = map_action Todo (next_statements offsets sizes procedures ss)
+  next_part (ToRun ss) = map_action ToRun (next_statements offsets sizes procedures ss)
 
   abbrev E : Expression → Action Access Expression
   E = next_expression offsets sizes procedures
@@ -150,7 +150,7 @@ module _ (offsets sizes : List ℕ) (procedures : List Procedure) where
 
   no_value : (p : Part) → Active p → value_of (expression_in p) ≡ None
   no_value (Expr e) h = h
-  no_value (Todo ss) h = refl
+  no_value (ToRun ss) h = refl
 
   running_step : (o : Option ℕ) (a : Action Access Statements) → o ≡ None → next.next_running o a ≡ map_action Running a
   running_step None a h = refl
@@ -158,7 +158,7 @@ module _ (offsets sizes : List ℕ) (procedures : List Procedure) where
 
   expression_step : (p : Part) → Active p → E (expression_in p) ≡ map_action expression_in (next_part p)
   expression_step (Expr e) h = map_same (E e) ∙ sym (map_twice expression_in Expr (E e))
-  expression_step (Todo ss) h = running_step (returned ss) (S ss) h ∙ sym (map_twice expression_in Todo (S ss))
+  expression_step (ToRun ss) h = running_step (returned ss) (S ss) h ∙ sym (map_twice expression_in ToRun (S ss))
 
   evaluate_step : (o : Option ℕ) (e : Expression) (later : Statements) → o ≡ None → S (behind (evaluated o e End) later) ≡ map_action (λ r. behind (evaluated (value_of r) r End) later) (E e)
   evaluate_step None e later h = map_alike _ _ (λ r. evaluated_before (value_of r) r End later) (E e)
@@ -166,7 +166,7 @@ module _ (offsets sizes : List ℕ) (procedures : List Procedure) where
 
   statements_step : (p : Part) (later : Statements) → Active p → S (behind (statements_in p) later) ≡ map_action (λ q. behind (statements_in q) later) (next_part p)
   statements_step (Expr e) later h = evaluate_step (value_of e) e later h ∙ sym (map_twice _ Expr (E e))
-  statements_step (Todo ss) later h = behind_step ss later h ∙ sym (map_twice _ Todo (S ss))
+  statements_step (ToRun ss) later h = behind_step ss later h ∙ sym (map_twice _ ToRun (S ss))
 
   -- what stands around an expression, and around a part
   in_expression : (F : Expression → Expression) → ((e : Expression) → value_of e ≡ None → E (F e) ≡ map_action F (E e))
@@ -175,9 +175,9 @@ module _ (offsets sizes : List ℕ) (procedures : List Procedure) where
       ap (map_action Expr) (law (expression_in p) (no_value p h) ∙ ap (map_action F) (expression_step p h) ∙ map_twice F expression_in (next_part p)) ∙ map_twice Expr _ (next_part p)
 
   in_statements : (F : Expression → Statements) → ((e : Expression) → value_of e ≡ None → S (F e) ≡ map_action F (E e))
-      → (p : Part) → Active p → next_part (Todo (F (expression_in p))) ≡ map_action (λ q. Todo (F (expression_in q))) (next_part p)
+      → (p : Part) → Active p → next_part (ToRun (F (expression_in p))) ≡ map_action (λ q. ToRun (F (expression_in q))) (next_part p)
   in_statements F law p h =
-      ap (map_action Todo) (law (expression_in p) (no_value p h) ∙ ap (map_action F) (expression_step p h) ∙ map_twice F expression_in (next_part p)) ∙ map_twice Todo _ (next_part p)
+      ap (map_action ToRun) (law (expression_in p) (no_value p h) ∙ ap (map_action F) (expression_step p h) ∙ map_twice F expression_in (next_part p)) ∙ map_twice ToRun _ (next_part p)
 
   in_part : (F : Expression → Part) → ((e : Expression) → value_of e ≡ None → next_part (F e) ≡ map_action F (E e))
       → (p : Part) → Active p → next_part (F (expression_in p)) ≡ map_action (λ q. F (expression_in q)) (next_part p)
@@ -228,9 +228,9 @@ module _ (offsets sizes : List ℕ) (procedures : List Procedure) where
 
   assigned_step : (us : List Target) (v : ℕ) (t : rest.Target) {X : Type 0} (F : X → rest.Target) (a : Action Access X)
       → next_target offsets sizes procedures t v ≡ map_action (λ x. Some (F x)) a
-      → map_action Todo (S (Then (rest.Assign (targets_of t us) (Value v)) End)) ≡ map_action (λ x. Todo (Then (rest.Assign (targets_of (F x) us) (Value v)) End)) a
-  assigned_step [] v t F a h = ap (map_action Todo) (ap (map_action (assigned (Only t) v End)) h ∙ map_twice _ _ a) ∙ map_twice _ _ a
-  assigned_step (u ∷ us) v t F a h = ap (map_action Todo) (ap (map_action (assigned (Also t (targets_of (target_of u) us)) v End)) h ∙ map_twice _ _ a) ∙ map_twice _ _ a
+      → map_action ToRun (S (Then (rest.Assign (targets_of t us) (Value v)) End)) ≡ map_action (λ x. ToRun (Then (rest.Assign (targets_of (F x) us) (Value v)) End)) a
+  assigned_step [] v t F a h = ap (map_action ToRun) (ap (map_action (assigned (Only t) v End)) h ∙ map_twice _ _ a) ∙ map_twice _ _ a
+  assigned_step (u ∷ us) v t F a h = ap (map_action ToRun) (ap (map_action (assigned (Also t (targets_of (target_of u) us)) v End)) h ∙ map_twice _ _ a) ∙ map_twice _ _ a
 
   -- a target that steps and stays a target
   pub aimed_step : (d : Destination) (t : rest.Target) {X : Type 0} (F : X → rest.Target) (a : Action Access X)
@@ -276,7 +276,7 @@ module _ (offsets sizes : List ℕ) (procedures : List Procedure) where
 
   later_active : (p : Part) (l : Statements) → Active p → returned (behind (statements_in p) l) ≡ None
   later_active (Expr e) l h = evaluated_active (value_of e) e l h
-  later_active (Todo ss) l h = behind_active ss l h
+  later_active (ToRun ss) l h = behind_active ss l h
 
   running_frame : (p : Part) → Active p → E (Running (statements_in p)) ≡ map_action (λ q. Running (statements_in q)) (next_part p)
   running_frame p h =
@@ -307,8 +307,8 @@ module _ (offsets sizes : List ℕ) (procedures : List Procedure) where
   frame_step (frame.Argument n vs es) p h = in_expression (λ e. rest.Call n (given vs.items (More e (expressions_of es.now)))) (call_step n vs.items (expressions_of es.now)) p h
   frame_step frame.Evaluate p h = in_statements (λ e. evaluated (value_of e) e End) evaluate_frame p h
   frame_step frame.Running p h = ap (map_action Expr) (running_frame p h) ∙ map_twice Expr _ (next_part p)
-  frame_step (frame.Behind ss) p h = ap (map_action Todo) (statements_step p (statements_of ss.now) h) ∙ map_twice Todo _ (next_part p)
-  frame_step (frame.Later l) p h = ap (map_action Todo) (statements_step p (later_of l) h) ∙ map_twice Todo _ (next_part p)
+  frame_step (frame.Behind ss) p h = ap (map_action ToRun) (statements_step p (statements_of ss.now) h) ∙ map_twice ToRun _ (next_part p)
+  frame_step (frame.Later l) p h = ap (map_action ToRun) (statements_step p (later_of l) h) ∙ map_twice ToRun _ (next_part p)
 
   active_chain : (os : List Operation) (e : Expression) → value_of e ≡ None → value_of (chained e os) ≡ None
   active_chain [] e h = h
@@ -357,19 +357,19 @@ module _ (offsets sizes : List ℕ) (procedures : List Procedure) where
   plug_step (f ∷ fs) p h = frame_step f (plug fs p) (plug_active fs p h) ∙ ap (map_action (around f)) (plug_step fs p h) ∙ map_twice (around f) (plug fs) (next_part p)
 
   -- a step of a part is a step of what is to do
-  pub todo_step : (fs : List Frame) (p : Part) → Active p → S (todo_in fs p) ≡ map_action (todo_in fs) (next_part p)
+  pub todo_step : (fs : List Frame) (p : Part) → Active p → S (to_run_in fs p) ≡ map_action (to_run_in fs) (next_part p)
   todo_step fs p h =
-      ap S (sym (behind_end (todo_in fs p))) ∙ statements_step (plug fs p) End (plug_active fs p h)
+      ap S (sym (behind_end (to_run_in fs p))) ∙ statements_step (plug fs p) End (plug_active fs p h)
       ∙ map_alike (λ q. behind (statements_in q) End) statements_in (λ q. behind_end (statements_in q)) (next_part (plug fs p))
       ∙ ap (map_action statements_in) (plug_step fs p h) ∙ map_twice statements_in (plug fs) (next_part p)
 
   -- what is used up has no step
-  pub todo_active : (fs : List Frame) (p : Part) → Active p → returned (todo_in fs p) ≡ None
-  todo_active fs p h = ap returned (sym (behind_end (todo_in fs p))) ∙ later_active (plug fs p) End (plug_active fs p h)
+  pub todo_active : (fs : List Frame) (p : Part) → Active p → returned (to_run_in fs p) ≡ None
+  todo_active fs p h = ap returned (sym (behind_end (to_run_in fs p))) ∙ later_active (plug fs p) End (plug_active fs p h)
 
 pub plug_last : (fs : List Frame) (f : Frame) (p : Part) → plug (fs ++ f ∷ []) p ≡ plug fs (around f p)
 plug_last [] f p = refl
 plug_last (g ∷ fs) f p = ap (around g) (plug_last fs f p)
 
-pub todo_last : (fs : List Frame) (f : Frame) (p : Part) → todo_in (fs ++ f ∷ []) p ≡ todo_in fs (around f p)
+pub todo_last : (fs : List Frame) (f : Frame) (p : Part) → to_run_in (fs ++ f ∷ []) p ≡ to_run_in fs (around f p)
 todo_last fs f p = ap statements_in (plug_last fs f p)

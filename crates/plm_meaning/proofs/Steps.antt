@@ -28,7 +28,7 @@ use Rattle.std.proofs.Common.{map, drop}
 use Rattle.std.specs.List.{slice_get}
 use Rattle.plm_type.specs.declared.program.Scalar as declared_scalar
 use Rattle.plm_type.specs.View.{scalar_of}
-use Rattle.plm_meaning.specs.Context.{Part, Expr, Todo, given, part_of, redex_part, aimed, purposed, todo_in}
+use Rattle.plm_meaning.specs.Context.{Part, Expr, ToRun, given, part_of, redex_part, aimed, purposed, to_run_in}
 use Rattle.plm_meaning.specs.Inner.Redex.{offsets_of, sizes_of, procedures_in, next_part, stored, targets_left, value_in, IsStep, FitsIn, SaysEnd}
 use Rattle.plm_meaning.proofs.Actions.{map_twice}
 use Rattle.plm_meaning.proofs.Plug as plug
@@ -71,11 +71,11 @@ redex_active (redex.Loop p l) = refl
 
 same : (s : Surroundings) (p : Part) → next_part s p ≡ plug.next_part (offsets_of s) (sizes_of s) (procedures_in s) p
 same s (Expr e) = refl
-same s (Todo ss) = refl
+same s (ToRun ss) = refl
 
 pub whole_step : (s : Surroundings) (fs : List Frame) (p : Part) (a : Action Access Part) → Active p → a ≡ next_part s p
-    → map_action (todo_in fs) a ≡ next_statements (offsets_of s) (sizes_of s) (procedures_in s) (todo_in fs p)
-whole_step s fs p a h e = ap (map_action (todo_in fs)) (e ∙ same s p) ∙ sym (plug.todo_step (offsets_of s) (sizes_of s) (procedures_in s) fs p h)
+    → map_action (to_run_in fs) a ≡ next_statements (offsets_of s) (sizes_of s) (procedures_in s) (to_run_in fs p)
+whole_step s fs p a h e = ap (map_action (to_run_in fs)) (e ∙ same s p) ∙ sym (plug.todo_step (offsets_of s) (sizes_of s) (procedures_in s) fs p h)
 
 -- ---- references and targets
 
@@ -103,11 +103,11 @@ module _ (s : Surroundings) where
       ∙ ap (λ o. map_action Expr (next_variable (offsets_of s) (sizes_of s) (procedures_in s) width r o (next_reference (offsets_of s) (sizes_of s) (procedures_in s) r))) e
 
   assigned_to : (ts : List declared_target.Target) (v : ℕ) (t : rest.Target) (b : Action Access (Option rest.Target)) → next_target (offsets_of s) (sizes_of s) (procedures_in s) t v ≡ b
-      → next_part s (Todo (Then (rest.Assign (targets_of t ts) (Value v)) End)) ≡ map_action (λ o. Todo (assigned (targets_of t ts) v End o)) b
-  assigned_to [] v t b h = ap (λ x. map_action Todo (map_action (assigned (Only t) v End) x)) h ∙ map_twice _ _ b
-  assigned_to (u ∷ us) v t b h = ap (λ x. map_action Todo (map_action (assigned (Also t (targets_of (target_of u) us)) v End) x)) h ∙ map_twice _ _ b
+      → next_part s (ToRun (Then (rest.Assign (targets_of t ts) (Value v)) End)) ≡ map_action (λ o. ToRun (assigned (targets_of t ts) v End o)) b
+  assigned_to [] v t b h = ap (λ x. map_action ToRun (map_action (assigned (Only t) v End) x)) h ∙ map_twice _ _ b
+  assigned_to (u ∷ us) v t b h = ap (λ x. map_action ToRun (map_action (assigned (Also t (targets_of (target_of u) us)) v End) x)) h ∙ map_twice _ _ b
 
-  left_over : (ts : List declared_target.Target) (v : ℕ) (t : rest.Target) → Todo (assigned (targets_of t ts) v End None) ≡ targets_left v ts
+  left_over : (ts : List declared_target.Target) (v : ℕ) (t : rest.Target) → ToRun (assigned (targets_of t ts) v End None) ≡ targets_left v ts
   left_over [] v t = refl
   left_over (u ∷ us) v t = refl
 
@@ -167,8 +167,8 @@ dropped_one (x ∷ xs) = refl
 
 -- the step of a focus, by the step of its part
 pub focus_step : (s : Surroundings) (fs : List Frame) (g : Focus) (p : Part) (a : Action Access Part) → part_of g ≡ p → Active p → a ≡ next_part s p
-    → map_action (todo_in fs) a ≡ next_statements (offsets_of s) (sizes_of s) (procedures_in s) (todo_in fs (part_of g))
-focus_step s fs g p a e h n = whole_step s fs p a h n ∙ ap (λ q. next_statements (offsets_of s) (sizes_of s) (procedures_in s) (todo_in fs q)) (sym e)
+    → map_action (to_run_in fs) a ≡ next_statements (offsets_of s) (sizes_of s) (procedures_in s) (to_run_in fs (part_of g))
+focus_step s fs g p a e h n = whole_step s fs p a h n ∙ ap (λ q. next_statements (offsets_of s) (sizes_of s) (procedures_in s) (to_run_in fs q)) (sym e)
 
-pub focus_goes : (s : Surroundings) (fs : List Frame) (g : Focus) (p : Part) → part_of g ≡ p → Active p → returned (todo_in fs (part_of g)) ≡ None
-focus_goes s fs g p e h = ap (λ q. returned (todo_in fs q)) e ∙ plug.todo_active (offsets_of s) (sizes_of s) (procedures_in s) fs p h
+pub focus_goes : (s : Surroundings) (fs : List Frame) (g : Focus) (p : Part) → part_of g ≡ p → Active p → returned (to_run_in fs (part_of g)) ≡ None
+focus_goes s fs g p e h = ap (λ q. returned (to_run_in fs q)) e ∙ plug.todo_active (offsets_of s) (sizes_of s) (procedures_in s) fs p h

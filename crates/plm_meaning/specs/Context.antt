@@ -28,17 +28,17 @@ use Rattle.plm_meaning.specs.declared.context.Context.{Context}
 -- a part of a rest: an expression, or statements
 pub data Part : Type 0 where
   Expr : Expression → Part
-  Todo : Statements → Part
+  ToRun : Statements → Part
 
 -- statements in an expression are a running call
 abbrev pub expression_in : Part → Expression
 expression_in (Expr e) = e
-expression_in (Todo ss) = Running ss
+expression_in (ToRun ss) = Running ss
 
 -- an expression among statements is a CALL, whose value is dropped
 abbrev pub statements_in : Part → Statements
 statements_in (Expr e) = evaluated (value_of e) e End
-statements_in (Todo ss) = ss
+statements_in (ToRun ss) = ss
 
 abbrev pub origin_of : Origin → Anchor
 origin_of (origin.Ram k start size) = InObject k start size
@@ -47,7 +47,7 @@ origin_of (origin.There address) = There address
 
 -- a target of a value
 abbrev pub aimed : Destination → Target → Part
-aimed (destination.Assigned v ts) t = Todo (Then (Assign (targets_of t ts.now) (Value v)) End)
+aimed (destination.Assigned v ts) t = ToRun (Then (Assign (targets_of t ts.now) (Value v)) End)
 aimed (destination.Embedded v) t = Expr (Embedded t (Value v))
 
 abbrev pub purposed : Purpose → Reference → Part
@@ -74,22 +74,22 @@ in_hole (hole.Embedded t) p = Expr (Embedded (target_of t.now) (expression_in p)
 in_hole (hole.Input width) p = Expr (rest.Input width (expression_in p))
 in_hole (hole.Subscript x l a offset stride ss) p = purposed x (indexed l.module l.line (anchor_of a) offset stride (value_of (expression_in p)) (expression_in p) (subscripts_of ss.now))
 in_hole (hole.Port width d) p = aimed d (ToPort width (expression_in p))
-in_hole (hole.Assign t ts) p = Todo (Then (Assign (targets_of (target_of t.now) ts.now) (expression_in p)) End)
-in_hole (hole.ReturnValue width) p = Todo (Then (ReturnValue width (expression_in p)) End)
-in_hole (hole.If ss ts) p = Todo (Then (If (expression_in p) (statements_of ss.now) (statements_of ts.now)) End)
-in_hole (hole.While c ss) p = Todo (Then (While (expression_in p) (expression_of c.now) (statements_of ss.now)) End)
-in_hole (hole.Case ss) p = Todo (Then (Case (expression_in p) (statements_of ss.now)) End)
-in_hole (hole.Iterate l) p = Todo (Then (Iterate (expression_in p) (loop_of l.now)) End)
-in_hole (hole.Comparing i l) p = Todo (Then (Comparing i (expression_in p) (loop_of l.now)) End)
-in_hole (hole.Stepping l) p = Todo (Then (Stepping (expression_in p) (loop_of l.now)) End)
+in_hole (hole.Assign t ts) p = ToRun (Then (Assign (targets_of (target_of t.now) ts.now) (expression_in p)) End)
+in_hole (hole.ReturnValue width) p = ToRun (Then (ReturnValue width (expression_in p)) End)
+in_hole (hole.If ss ts) p = ToRun (Then (If (expression_in p) (statements_of ss.now) (statements_of ts.now)) End)
+in_hole (hole.While c ss) p = ToRun (Then (While (expression_in p) (expression_of c.now) (statements_of ss.now)) End)
+in_hole (hole.Case ss) p = ToRun (Then (Case (expression_in p) (statements_of ss.now)) End)
+in_hole (hole.Iterate l) p = ToRun (Then (Iterate (expression_in p) (loop_of l.now)) End)
+in_hole (hole.Comparing i l) p = ToRun (Then (Comparing i (expression_in p) (loop_of l.now)) End)
+in_hole (hole.Stepping l) p = ToRun (Then (Stepping (expression_in p) (loop_of l.now)) End)
 
 abbrev pub around : Frame → Part → Part
 around (frame.Hole h) p = in_hole h p
 around (frame.Argument n vs es) p = Expr (Call n (given vs.items (More (expression_in p) (expressions_of es.now))))
-around frame.Evaluate p = Todo (evaluated (value_of (expression_in p)) (expression_in p) End)
+around frame.Evaluate p = ToRun (evaluated (value_of (expression_in p)) (expression_in p) End)
 around frame.Running p = Expr (Running (statements_in p))
-around (frame.Behind ss) p = Todo (behind (statements_in p) (statements_of ss.now))
-around (frame.Later l) p = Todo (behind (statements_in p) (later_of l))
+around (frame.Behind ss) p = ToRun (behind (statements_in p) (statements_of ss.now))
+around (frame.Later l) p = ToRun (behind (statements_in p) (later_of l))
 
 abbrev pub phase_of : Phase → Loop → Statement
 phase_of (phase.Begin v) l = Iterate (Value v) l
@@ -112,28 +112,28 @@ redex_part (redex.Input width port) = Expr (rest.Input width (Value port))
 redex_part (redex.Output width port d) = aimed d (ToPort width (Value port))
 redex_part redex.Ended = Expr (Running End)
 redex_part (redex.Given v) = Expr (Running (Returned v))
-redex_part redex.Empty = Todo (Then Empty End)
-redex_part redex.Return = Todo (Then Return End)
-redex_part (redex.ReturnValue width v) = Todo (Then (ReturnValue width (Value v)) End)
-redex_part redex.Enable = Todo (Then Enabling End)
-redex_part redex.Disable = Todo (Then Disabling End)
-redex_part redex.Halt = Todo (Then Halting End)
-redex_part (redex.If v ss ts) = Todo (Then (If (Value v) (statements_of ss.now) (statements_of ts.now)) End)
-redex_part (redex.Block ss) = Todo (Then (Block (statements_of ss.now)) End)
-redex_part redex.Leaving = Todo (Then Leaving End)
-redex_part (redex.While v c ss) = Todo (Then (While (Value v) (expression_of c.now) (statements_of ss.now)) End)
-redex_part (redex.Case v ss) = Todo (Then (Case (Value v) (statements_of ss.now)) End)
-redex_part (redex.Loop p l) = Todo (Then (phase_of p (loop_of l.now)) End)
+redex_part redex.Empty = ToRun (Then Empty End)
+redex_part redex.Return = ToRun (Then Return End)
+redex_part (redex.ReturnValue width v) = ToRun (Then (ReturnValue width (Value v)) End)
+redex_part redex.Enable = ToRun (Then Enabling End)
+redex_part redex.Disable = ToRun (Then Disabling End)
+redex_part redex.Halt = ToRun (Then Halting End)
+redex_part (redex.If v ss ts) = ToRun (Then (If (Value v) (statements_of ss.now) (statements_of ts.now)) End)
+redex_part (redex.Block ss) = ToRun (Then (Block (statements_of ss.now)) End)
+redex_part redex.Leaving = ToRun (Then Leaving End)
+redex_part (redex.While v c ss) = ToRun (Then (While (Value v) (expression_of c.now) (statements_of ss.now)) End)
+redex_part (redex.Case v ss) = ToRun (Then (Case (Value v) (statements_of ss.now)) End)
+redex_part (redex.Loop p l) = ToRun (Then (phase_of p (loop_of l.now)) End)
 
 abbrev pub part_of : Focus → Part
 part_of (focus.Expression e) = Expr (expression_of e.now)
 part_of (focus.Value v) = Expr (Value v)
-part_of (focus.Statements ss) = Todo (statements_of ss.now)
-part_of (focus.Statement s) = Todo (Then (statement_of s.now) End)
-part_of (focus.Returned v) = Todo (Returned v)
-part_of (focus.Within l ss) = Todo (behind (statements_of ss.now) (later_of l))
+part_of (focus.Statements ss) = ToRun (statements_of ss.now)
+part_of (focus.Statement s) = ToRun (Then (statement_of s.now) End)
+part_of (focus.Returned v) = ToRun (Returned v)
+part_of (focus.Within l ss) = ToRun (behind (statements_of ss.now) (later_of l))
 part_of (focus.Entering ss) = Expr (Running (statements_of ss.now))
-part_of (focus.Bound i l) = Todo (Then (Comparing i (bound_of (loop_of l.now)) (loop_of l.now)) End)
+part_of (focus.Bound i l) = ToRun (Then (Comparing i (bound_of (loop_of l.now)) (loop_of l.now)) End)
 part_of (focus.Aim t d) = aimed d (target_of t.now)
 part_of (focus.Call n vs) = Expr (Call n (given vs.items NoMore))
 part_of (focus.Passing n xs vs k) = Expr (Passing n (map scalar_of xs.now) (drop k vs.items))
@@ -145,8 +145,8 @@ plug [] p = p
 plug (f ∷ fs) p = around f (plug fs p)
 
 -- what is to do with this part in these frames
-abbrev pub todo_in : List Frame → Part → Statements
-todo_in fs p = statements_in (plug fs p)
+abbrev pub to_run_in : List Frame → Part → Statements
+to_run_in fs p = statements_in (plug fs p)
 
-abbrev pub todo_of : Context → Statements
-todo_of c = todo_in c.frames.items (part_of c.focus)
+abbrev pub to_run_of : Context → Statements
+to_run_of c = to_run_in c.frames.items (part_of c.focus)

@@ -22,7 +22,7 @@ use Rattle.plm_meaning.specs.declared.meaning.Stop.TheVariants as stop
 use Rattle.plm_meaning.specs.Opening.{first_store}
 use Rattle.plm_meaning.specs.Store.{Store, shared}
 use Rattle.plm_meaning.specs.System.{Choice, Program, Occurs, Enter, Leave, Idle, System, State, Taken, Makes, BadAt, Refused, first_state, taken}
-use Rattle.plm_meaning.specs.Context.{todo_of}
+use Rattle.plm_meaning.specs.Context.{to_run_of}
 use Rattle.plm_meaning.specs.Around.{names_of}
 use Rattle.plm_meaning.specs.Shown.{store_of, labels_of}
 
@@ -49,7 +49,7 @@ module _ (names : Names) (placement : Placement) where
 -- ---- the code's state
 
 abbrev pub state_of : Meaning → ChipState → System (Store ChipState) Rest
-state_of m c = State (Main (todo_of m.main)) (option_map (λ h. Handler (todo_of h)) m.handler) m.on m.halted (store_of m.store c) m.silents m.switches
+state_of m c = State (Main (to_run_of m.main)) (option_map (λ h. Handler (to_run_of h)) m.handler) m.on m.halted (store_of m.store c) m.silents m.switches
 
 -- the run of this program under this placement
 pub record IsRunOf (m : Meaning) (names : Names) (placement : Placement) : Type 0 where

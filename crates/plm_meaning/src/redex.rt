@@ -9,7 +9,7 @@ ghost use Rattle.word86.specs.Arithmetic.{low};
 ghost use Rattle.plm_type.specs.Rest.{Expression as Tree, Passing as Stored, Refer, NoSubscripts, Round, While, Then, End, Stepping as Steps, Procedure as Blocks, Main, Handler};
 ghost use Rattle.plm_type.specs.Next.{is_odd, operated, next, next_case, next_passing, next_statements, behind, rounds_of, step_of, parameters_of, body_of};
 ghost use Rattle.plm_type.specs.View.{scalar_of, expression_of, statements_of, loop_of, procedures_of};
-ghost use Rattle.plm_meaning.specs.Context.{Part, Expr, Todo, purposed, origin_of, part_of, phase_of, redex_part, todo_in, todo_of};
+ghost use Rattle.plm_meaning.specs.Context.{Part, Expr, ToRun, purposed, origin_of, part_of, phase_of, redex_part, to_run_in, to_run_of};
 ghost use Rattle.plm_meaning.specs.Inner.Context.{IsSettled};
 ghost use Rattle.plm_meaning.specs.Inner.Redex.{offsets_of, sizes_of, procedures_in, next_part, stored, passed as passed_part, after_part, action_of, context_action, value_in, IsStep, SaysEnd, HasHalted, FitsIn};
 
@@ -135,7 +135,7 @@ fn refer<'a>(
 
 // A DO CASE: a case is dropped, or taken.
 fn choose<'a>(v: u16, cases: &'a [Box<Statement>]) -> Focus<'a>
-    ensures { Quiet (part_of result) ≡ map_action Todo (next_case (Some v) (statements_of cases.now) End Over) }
+    ensures { Quiet (part_of result) ≡ map_action ToRun (next_case (Some v) (statements_of cases.now) End Over) }
 {
     match cases.split_first() {
         None => Focus::Statements(&[]),
@@ -152,7 +152,7 @@ fn choose<'a>(v: u16, cases: &'a [Box<Statement>]) -> Focus<'a>
 // An arm of IF.
 #[tactic(auto, using(crate::proofs::Plug::behind_end))]
 fn arm<'a>(v: u16, arm: &'a [Box<Statement>], other: &'a [Box<Statement>]) -> Focus<'a>
-    ensures { part_of result ≡ Todo (behind (if is_odd v then statements_of arm.now else statements_of other.now) End) }
+    ensures { part_of result ≡ ToRun (behind (if is_odd v then statements_of arm.now else statements_of other.now) End) }
 {
     if is_odd(v) {
         Focus::Statements(arm)
@@ -163,7 +163,7 @@ fn arm<'a>(v: u16, arm: &'a [Box<Statement>], other: &'a [Box<Statement>]) -> Fo
 
 // A DO WHILE after its test.
 fn repeat<'a>(v: u16, condition: &'a Expression, body: &'a [Box<Statement>]) -> Focus<'a>
-    ensures { part_of result ≡ Todo (if is_odd v then behind (statements_of body.now) (Then (While (expression_of condition.now) (expression_of condition.now) (statements_of body.now)) End) else End) }
+    ensures { part_of result ≡ ToRun (if is_odd v then behind (statements_of body.now) (Then (While (expression_of condition.now) (expression_of condition.now) (statements_of body.now)) End) else End) }
 {
     if is_odd(v) {
         Focus::Within(Later::Repeat(condition, body), body)
@@ -174,7 +174,7 @@ fn repeat<'a>(v: u16, condition: &'a Expression, body: &'a [Box<Statement>]) -> 
 
 // A DO with an index, after the comparison with its bound.
 fn compare<'a>(index: u16, bound: u16, rounds: &'a Loop) -> Focus<'a>
-    ensures { part_of result ≡ Todo (if nat_lt bound index then End else behind (rounds_of (loop_of rounds.now)) (Then (Steps (step_of (loop_of rounds.now)) (loop_of rounds.now)) End)) }
+    ensures { part_of result ≡ ToRun (if nat_lt bound index then End else behind (rounds_of (loop_of rounds.now)) (Then (Steps (step_of (loop_of rounds.now)) (loop_of rounds.now)) End)) }
 {
     if bound < index {
         Focus::Statements(&[])
@@ -195,7 +195,7 @@ fn values(width: Width) -> u32
 
 // A DO with an index, after the store of its sum: the next round, unless the sum does not fit the index.
 fn end_round<'a>(sum: u32, rounds: &'a Loop) -> Focus<'a>
-    ensures { part_of result ≡ Todo (if nat_lt sum (values rounds.now.index.width) then Then (Round (loop_of rounds.now)) End else End) }
+    ensures { part_of result ≡ ToRun (if nat_lt sum (values rounds.now.index.width) then Then (Round (loop_of rounds.now)) End else End) }
 {
     if sum < values(rounds.index.width) {
         Focus::Ready(Redex::Loop(Phase::Round, rounds))
@@ -217,7 +217,7 @@ fn operate<'a>(line: Line, value: Option<u16>) -> Action<'a>
 
 // The step of a DO with an index.
 fn loop_step<'a>(phase: Phase, rounds: &'a Loop) -> Action<'a>
-    ensures step { (s : Surroundings) (f : Focus) → action_of (procedures_in s) f result ≡ next_part s (Todo (Then (phase_of phase (loop_of rounds.now)) End)) }
+    ensures step { (s : Surroundings) (f : Focus) → action_of (procedures_in s) f result ≡ next_part s (ToRun (Then (phase_of phase (loop_of rounds.now)) End)) }
     ensures going { IsStep result }
 {
     let width = rounds.index.width;
@@ -299,8 +299,8 @@ fn pass<'a>(
 #[tactic(auto, using(crate::proofs::Steps::whole_step))]
 pub fn next_action<'a>(context: &Context<'a>, around: &Surroundings<'a>) -> Action<'a>
     requires { IsSettled context.now.focus context.now.frames.items }
-    ensures action { map_action (todo_in context.now.frames.items) (action_of (procedures_in around.now) context.now.focus result) ≡ next_statements (offsets_of around.now) (sizes_of around.now) (procedures_in around.now) (todo_of context.now) }
-    ensures end { SaysEnd result (todo_of context.now) }
+    ensures action { map_action (to_run_in context.now.frames.items) (action_of (procedures_in around.now) context.now.focus result) ≡ next_statements (offsets_of around.now) (sizes_of around.now) (procedures_in around.now) (to_run_of context.now) }
+    ensures end { SaysEnd result (to_run_of context.now) }
     ensures halts { HasHalted result context.now.frames.items }
     ensures fits { FitsIn result }
 {
@@ -324,7 +324,7 @@ pub fn next_action<'a>(context: &Context<'a>, around: &Surroundings<'a>) -> Acti
 /// What main does next, once it is settled: at its end it halts again and again.
 pub fn main_action<'a>(context: &Context<'a>, around: &Surroundings<'a>) -> Action<'a>
     requires { IsSettled context.now.focus context.now.frames.items }
-    ensures action { next (offsets_of around.now) (sizes_of around.now) (procedures_in around.now) (Main (todo_of context.now)) ≡ map_action Main (context_action around.now context.now result) }
+    ensures action { next (offsets_of around.now) (sizes_of around.now) (procedures_in around.now) (Main (to_run_of context.now)) ≡ map_action Main (context_action around.now context.now result) }
     ensures fits { FitsIn result }
 {
     match next_action(context, around) {
@@ -336,7 +336,7 @@ pub fn main_action<'a>(context: &Context<'a>, around: &Surroundings<'a>) -> Acti
 /// What an interrupt procedure does next, once it is settled: it is used up at its end, or by RETURN.
 pub fn handler_action<'a>(context: &Context<'a>, around: &Surroundings<'a>) -> Action<'a>
     requires { IsSettled context.now.focus context.now.frames.items }
-    ensures action { next (offsets_of around.now) (sizes_of around.now) (procedures_in around.now) (Handler (todo_of context.now)) ≡ map_action Handler (context_action around.now context.now result) }
+    ensures action { next (offsets_of around.now) (sizes_of around.now) (procedures_in around.now) (Handler (to_run_of context.now)) ≡ map_action Handler (context_action around.now context.now result) }
     ensures fits { FitsIn result }
 {
     next_action(context, around)
@@ -396,7 +396,7 @@ pub fn answered<'a>(
     after: After<'a>,
     answer: u16,
 )
-    ensures { todo_of context.new ≡ todo_in context.old.frames.items (after_part (procedures_in around.now) context.old.focus after.entry answer) }
+    ensures { to_run_of context.new ≡ to_run_in context.old.frames.items (after_part (procedures_in around.now) context.old.focus after.entry answer) }
 {
     let focus = mem::replace(&mut context.focus, Focus::Value(answer));
     context.focus = focus_after(focus, around, after, answer);

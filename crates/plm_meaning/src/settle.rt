@@ -4,7 +4,7 @@ ghost use Rattle.std.specs.Prelude.{◌≡◌, suc, ◌<◌, OnOk, IfSome, IfNon
 ghost use Rattle.plm_type.specs.Rest.{Call, More, Then, End, Returned, Value as Known};
 ghost use Rattle.plm_type.specs.View.{expression_of, expressions_of, statement_of, statements_of};
 ghost use Rattle.plm_meaning.specs.Inner.Start.{depth, start_depth};
-ghost use Rattle.plm_meaning.specs.Context.{Expr, Todo, given, around, todo_in, todo_of};
+ghost use Rattle.plm_meaning.specs.Context.{Expr, ToRun, given, around, to_run_in, to_run_of};
 ghost use Rattle.plm_meaning.specs.Inner.Context.{start_part, IsSettled};
 
 use crate::context::{Context, Focus, Frame, Hole, Redex, Start};
@@ -22,7 +22,7 @@ fn operate<'a>(
     context: &mut Context<'a>,
 )
     requires room { vec_len context.old.frames < vec_capacity context.old.frames }
-    ensures rest { todo_of context.new ≡ todo_in context.old.frames.items (start_part (Start.Operate x y operation.entry more.entry)) }
+    ensures rest { to_run_of context.new ≡ to_run_in context.old.frames.items (start_part (Start.Operate x y operation.entry more.entry)) }
     ensures settled { IsSettled context.new.focus context.new.frames.items }
 {
     context.focus = Focus::Ready(Redex::Binary(
@@ -48,9 +48,9 @@ fn put_down<'a>(
     context: &mut Context<'a>,
 ) -> Option<&'a Expression>
     requires room { vec_len context.old.frames < vec_capacity context.old.frames }
-    ensures rest { IfNone result (todo_of context.new ≡ todo_in context.old.frames.items (start_part start.entry)) }
+    ensures rest { IfNone result (to_run_of context.new ≡ to_run_in context.old.frames.items (start_part start.entry)) }
     ensures settled { IfNone result (IsSettled context.new.focus context.new.frames.items) }
-    ensures first { IfSome result (λ e. todo_in context.new.frames.items (Expr (expression_of e.now)) ≡ todo_in context.old.frames.items (start_part start.entry)) }
+    ensures first { IfSome result (λ e. to_run_in context.new.frames.items (Expr (expression_of e.now)) ≡ to_run_in context.old.frames.items (start_part start.entry)) }
     ensures depth { IfSome result (λ e. suc (depth (expression_of e.now)) ≡ start_depth start.entry) }
 {
     match start {
@@ -89,7 +89,7 @@ fn put_down<'a>(
 #[tactic(auto, using(crate::proofs::Plug::todo_last))]
 fn begin<'a>(alloc: Global, start: Start<'a>, context: &mut Context<'a>) -> Result<(), AllocError>
     requires room { vec_len context.old.frames < vec_capacity context.old.frames }
-    ensures rest { todo_of context.new ≡ todo_in context.old.frames.items (start_part start.entry) }
+    ensures rest { to_run_of context.new ≡ to_run_in context.old.frames.items (start_part start.entry) }
     ensures settled { OnOk result (IsSettled context.new.focus context.new.frames.items) }
 {
     let mut start = start;
@@ -110,7 +110,7 @@ fn begin_statement<'a>(
     context: &mut Context<'a>,
 ) -> Result<(), AllocError>
     requires room { vec_len context.old.frames < vec_capacity context.old.frames }
-    ensures rest { todo_of context.new ≡ todo_in context.old.frames.items (Todo (Then (statement_of s.now) (statements_of after.now))) }
+    ensures rest { to_run_of context.new ≡ to_run_in context.old.frames.items (ToRun (Then (statement_of s.now) (statements_of after.now))) }
     ensures settled { OnOk result (IsSettled context.new.focus context.new.frames.items) }
 {
     context.frames.push_reserved(Frame::Behind(after));
@@ -122,7 +122,7 @@ fn begin_statement<'a>(
 // Nothing is left to do here: what comes after it is next.
 #[tactic(auto, using(crate::proofs::Plug::todo_last))]
 fn at_end<'a>(alloc: Global, context: &mut Context<'a>) -> Result<(), AllocError>
-    ensures rest { todo_of context.new ≡ todo_in context.old.frames.items (Todo End) }
+    ensures rest { to_run_of context.new ≡ to_run_in context.old.frames.items (ToRun End) }
     ensures settled { OnOk result (IsSettled context.new.focus context.new.frames.items) }
 {
     while let Some(frame) = context.frames.pop() {
@@ -152,7 +152,7 @@ fn at_end<'a>(alloc: Global, context: &mut Context<'a>) -> Result<(), AllocError
 // A RETURN leaves out what comes after it.
 #[tactic(auto, using(crate::proofs::Plug::todo_last))]
 fn give<'a>(v: u16, context: &mut Context<'a>)
-    ensures rest { todo_of context.new ≡ todo_in context.old.frames.items (Todo (Returned v)) }
+    ensures rest { to_run_of context.new ≡ to_run_in context.old.frames.items (ToRun (Returned v)) }
     ensures settled { IsSettled context.new.focus context.new.frames.items }
 {
     while let Some(frame) = context.frames.pop() {
@@ -181,7 +181,7 @@ fn begin_statements<'a>(
     context: &mut Context<'a>,
 ) -> Result<(), AllocError>
     requires room { vec_len context.old.frames < vec_capacity context.old.frames }
-    ensures rest { todo_of context.new ≡ todo_in context.old.frames.items (Todo (statements_of statements.now)) }
+    ensures rest { to_run_of context.new ≡ to_run_in context.old.frames.items (ToRun (statements_of statements.now)) }
     ensures settled { OnOk result (IsSettled context.new.focus context.new.frames.items) }
 {
     match statements.split_first() {
@@ -199,7 +199,7 @@ fn begin_within<'a>(
     context: &mut Context<'a>,
 ) -> Result<(), AllocError>
     requires room { vec_len context.old.frames < vec_capacity context.old.frames }
-    ensures rest { todo_of context.new ≡ todo_in context.old.frames.items (around frame.entry (Todo (statements_of statements.now))) }
+    ensures rest { to_run_of context.new ≡ to_run_in context.old.frames.items (around frame.entry (ToRun (statements_of statements.now))) }
     ensures settled { OnOk result (IsSettled context.new.focus context.new.frames.items) }
 {
     context.frames.push_reserved(frame);
@@ -220,7 +220,7 @@ fn argument<'a>(
 ) -> Result<(), AllocError>
     requires room { vec_len context.old.frames < vec_capacity context.old.frames }
     requires focus { context.old.focus ≡ Focus.Value v }
-    ensures rest { todo_of context.new ≡ todo_in context.old.frames.items (Expr (Call procedure (given values.items (More (Known v) (expressions_of more.now))))) }
+    ensures rest { to_run_of context.new ≡ to_run_in context.old.frames.items (Expr (Call procedure (given values.items (More (Known v) (expressions_of more.now))))) }
     ensures settled { OnOk result (IsSettled context.new.focus context.new.frames.items) }
 {
     match values.push(v) {
@@ -251,7 +251,7 @@ fn argument<'a>(
 #[tactic(auto, using(crate::proofs::Plug::todo_last))]
 fn resume<'a>(alloc: Global, v: u16, context: &mut Context<'a>) -> Result<(), AllocError>
     requires { context.old.focus ≡ Focus.Value v }
-    ensures rest { todo_of context.new ≡ todo_of context.old }
+    ensures rest { to_run_of context.new ≡ to_run_of context.old }
     ensures settled { OnOk result (IsSettled context.new.focus context.new.frames.items) }
 {
     match context.frames.pop() {
@@ -269,7 +269,7 @@ fn resume<'a>(alloc: Global, v: u16, context: &mut Context<'a>) -> Result<(), Al
 
 /// Moves on to the part that is rewritten next. A refused growth of memory leaves what is to be done as it was.
 pub fn settle<'a>(alloc: Global, context: &mut Context<'a>) -> Result<(), AllocError>
-    ensures rest { todo_of context.new ≡ todo_of context.old }
+    ensures rest { to_run_of context.new ≡ to_run_of context.old }
     ensures settled { OnOk result (IsSettled context.new.focus context.new.frames.items) }
 {
     context.frames.reserve(1)?;

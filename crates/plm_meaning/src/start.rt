@@ -3,7 +3,7 @@
 ghost use Rattle.std.specs.Prelude.{◌≡◌, ◌+◌, ◌*◌, ◌%◌, ◌≤◌};
 ghost use Rattle.plm_type.specs.Rest.{Refer, NoSubscripts, Then, End, Value as Known};
 ghost use Rattle.plm_type.specs.View.{anchor_of, expression_of, reference_of, subscripts_of, target_of, statement_of};
-ghost use Rattle.plm_meaning.specs.Context.{Expr, Todo, aimed, purposed, later_of, in_hole, redex_part};
+ghost use Rattle.plm_meaning.specs.Context.{Expr, ToRun, aimed, purposed, later_of, in_hole, redex_part};
 ghost use Rattle.plm_meaning.specs.Inner.Context.{start_part};
 ghost use Rattle.plm_meaning.specs.Inner.Start.{depth, reference_depth, subscripts_depth, start_depth};
 
@@ -106,7 +106,7 @@ pub fn target_start<'a>(target: &'a Target, destination: Destination<'a>) -> Sta
 /// What comes first of a statement.
 #[tactic(auto, using(crate::proofs::TypedTrees::block_tree))]
 pub fn statement_start<'a>(s: &'a Statement) -> Start<'a>
-    ensures { start_part result ≡ Todo (Then (statement_of s.now) End) }
+    ensures { start_part result ≡ ToRun (Then (statement_of s.now) End) }
 {
     match s {
         Statement::Empty => Start::Ready(Redex::Empty),
@@ -131,7 +131,7 @@ pub fn statement_start<'a>(s: &'a Statement) -> Start<'a>
 impl<'a> Later<'a> {
     /// What comes first of it.
     pub fn start(self) -> Start<'a>
-        ensures { start_part result ≡ Todo (later_of self.entry) }
+        ensures { start_part result ≡ ToRun (later_of self.entry) }
     {
         match self {
             Later::Leaving => Start::Ready(Redex::Leaving),

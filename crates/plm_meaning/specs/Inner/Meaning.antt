@@ -17,13 +17,13 @@ use Rattle.plm_meaning.specs.declared.redex.Action.TheVariants as action
 use Rattle.plm_meaning.specs.declared.store.Store as declared_store
 use Rattle.plm_meaning.specs.Store.{shared}
 use Rattle.plm_meaning.specs.System.{is_interrupted}
-use Rattle.plm_meaning.specs.Context.{todo_of}
+use Rattle.plm_meaning.specs.Context.{to_run_of}
 use Rattle.plm_meaning.specs.Inner.Redex.{context_action}
 use Rattle.plm_meaning.specs.Shown.{store_of, labels_of}
 
 -- an interrupt can be taken
 abbrev pub can_enter : Meaning → ChipState → Bool
-can_enter m p = is_interrupted (shared board_chips) {R = Rest} (option_map (λ h. Handler (todo_of h)) m.handler) m.on (store_of m.store p)
+can_enter m p = is_interrupted (shared board_chips) {R = Rest} (option_map (λ h. Handler (to_run_of h)) m.handler) m.on (store_of m.store p)
 
 -- ---- an action of a context
 
@@ -31,7 +31,7 @@ can_enter m p = is_interrupted (shared board_chips) {R = Rest} (option_map (λ h
 abbrev pub Performed : Context → declared_store.Store → Context → declared_store.Store → Surroundings → declared_action.Action → Option Label → Type 0
 Performed context store context' store' s a label =
     (p : ChipState) → Shows store.ports p
-    → (q : ChipState) × Shows store'.ports q × (perform (shared board_chips) (context_action s context a) (store_of store p) ≡ Some (todo_of context', store_of store' q, labels_of label))
+    → (q : ChipState) × Shows store'.ports q × (perform (shared board_chips) (context_action s context a) (store_of store p) ≡ Some (to_run_of context', store_of store' q, labels_of label))
 
 -- the action is no step, and whether it is a Bad one
 abbrev pub StopsAt : declared_stop.Stop → declared_action.Action → Type 0

@@ -22,7 +22,7 @@ use Rattle.plm_meaning.specs.declared.redex.Action.TheVariants as action
 use Rattle.plm_meaning.specs.declared.around.Surroundings.{Surroundings}
 use Rattle.plm_meaning.specs.declared.access.PlacedObjects.{PlacedObjects}
 use Rattle.plm_meaning.specs.Around.{names_of}
-use Rattle.plm_meaning.specs.Context.{Part, Expr, Todo, purposed, part_of, todo_in}
+use Rattle.plm_meaning.specs.Context.{Part, Expr, ToRun, purposed, part_of, to_run_in}
 
 -- where the program's objects lie, how many bytes they have, and what its procedures do
 abbrev pub offsets_of : Surroundings → List ℕ
@@ -40,12 +40,12 @@ sizes_in l = map (λ o. o.size) l.objects.now
 -- a part's next action
 abbrev pub next_part : Surroundings → Part → Action Access Part
 next_part s (Expr e) = map_action Expr (next_expression (offsets_of s) (sizes_of s) (procedures_in s) e)
-next_part s (Todo ss) = map_action Todo (next_statements (offsets_of s) (sizes_of s) (procedures_in s) ss)
+next_part s (ToRun ss) = map_action ToRun (next_statements (offsets_of s) (sizes_of s) (procedures_in s) ss)
 
 -- what comes once a value is stored
 abbrev pub targets_left : ℕ → List declared_target.Target → Part
-targets_left v [] = Todo End
-targets_left v (t ∷ ts) = Todo (Then (Assign (targets_of (target_of t) ts) (Value v)) End)
+targets_left v [] = ToRun End
+targets_left v (t ∷ ts) = ToRun (Then (Assign (targets_of (target_of t) ts) (Value v)) End)
 
 -- the value that is stored
 abbrev pub value_in : Destination → ℕ
@@ -66,25 +66,25 @@ abbrev pub after_part : List Procedure → Focus → After → ℕ → Part
 after_part ps f after.Value v = Expr (Value v)
 after_part ps f (after.Based x l offset) v = purposed x (Refer l.module l.line (There v) offset NoSubscripts)
 after_part ps f (after.Stored d) v = stored d
-after_part ps f (after.Round l) v = Todo (Then (Round (loop_of l.now)) End)
-after_part ps f (after.Compare l) v = Todo (Then (Comparing v (bound_of (loop_of l.now)) (loop_of l.now)) End)
-after_part ps f (after.Add s l) v = Todo (Then (Adding v s (loop_of l.now)) End)
-after_part ps f (after.End sum l) v = Todo (Then (Ending sum (loop_of l.now)) End)
+after_part ps f (after.Round l) v = ToRun (Then (Round (loop_of l.now)) End)
+after_part ps f (after.Compare l) v = ToRun (Then (Comparing v (bound_of (loop_of l.now)) (loop_of l.now)) End)
+after_part ps f (after.Add s l) v = ToRun (Then (Adding v s (loop_of l.now)) End)
+after_part ps f (after.End sum l) v = ToRun (Then (Ending sum (loop_of l.now)) End)
 after_part ps f after.Passed v = passed ps f
 
 abbrev pub action_of : List Procedure → Focus → declared_action.Action → Action Access Part
 action_of ps f (action.Silent g) = Silent (part_of g)
 action_of ps f (action.Touch a k) = Touch (access_of a) (after_part ps f k)
-action_of ps f action.Enable = Enable (Todo End)
-action_of ps f action.Disable = Disable (Todo End)
-action_of ps f action.Halt = Halt (Todo End)
+action_of ps f action.Enable = Enable (ToRun End)
+action_of ps f action.Disable = Disable (ToRun End)
+action_of ps f action.Halt = Halt (ToRun End)
 action_of ps f action.Ended = Over
 action_of ps f action.Returned = Over
 action_of ps f (action.Bad l) = Bad l.module l.line
 
 -- what the context does next by this action of its part
 abbrev pub context_action : Surroundings → Context → declared_action.Action → Action Access Statements
-context_action s c a = map_action (todo_in c.frames.items) (action_of (procedures_in s) c.focus a)
+context_action s c a = map_action (to_run_in c.frames.items) (action_of (procedures_in s) c.focus a)
 
 -- whether this says in which way what is to do is used up
 abbrev pub SaysEnd : declared_action.Action → Statements → Type 0

@@ -1,6 +1,6 @@
 use Rattle.std.proofs.Common.{sym, ap, ◌∙◌, refl}
 use Rattle.word86.specs.Action.{map_action}
-use Rattle.plm_meaning.specs.Context.{Expr, redex_part, part_of, todo_in}
+use Rattle.plm_meaning.specs.Context.{Expr, redex_part, part_of, to_run_in}
 use Rattle.plm_meaning.specs.Inner.Redex.{action_of, procedures_in, offsets_of, sizes_of}
 use Rattle.plm_meaning.proofs.Steps as steps
 use Rattle.std.proofs.Common.{map, drop, ◌+◌}
@@ -10,7 +10,7 @@ use Rattle.plm_type.specs.View.{scalar_of, statements_of}
 use Rattle.plm_type.specs.Next.{returned, next_statements, next_passing, parameters_of, body_of}
 use Rattle.plm_meaning.specs.Context.{given}
 use Rattle.plm_meaning.specs.Inner.Redex.{passed}
-use Rattle.plm_meaning.specs.Context.{todo_of}
+use Rattle.plm_meaning.specs.Context.{to_run_of}
 use Rattle.plm_meaning.proofs.Plug as plug
 use Rattle.plm_meaning.proofs.redex.next_action.Goals as goal
 
@@ -21,15 +21,15 @@ returns-in-Ready-clause-action c =
     let f = c.args.context.now.focus in
     let r = c.in-Ready.redex in
     steps.whole_step s fs (redex_part r) (action_of (procedures_in s) f c.redex_step.result) (steps.redex_active r) (c.redex_step.ensures.step f)
-    ∙ ap (λ g. next_statements (offsets_of s) (sizes_of s) (procedures_in s) (todo_in fs (part_of g))) (sym c.in-Ready.is)
+    ∙ ap (λ g. next_statements (offsets_of s) (sizes_of s) (procedures_in s) (to_run_in fs (part_of g))) (sym c.in-Ready.is)
 
 pub returns-in-Ready-clause-end : goal.returns-in-Ready-clause-end
 returns-in-Ready-clause-end c =
     let s = c.args.around.now in
     let fs = c.args.context.now.frames.items in
     let r = c.in-Ready.redex in
-    steps.says_end c.redex_step.result (todo_of c.args.context.now) c.redex_step.ensures.going
-    (ap (λ g. returned (todo_in fs (part_of g))) c.in-Ready.is ∙ plug.todo_active (offsets_of s) (sizes_of s) (procedures_in s) fs (redex_part r) (steps.redex_active r))
+    steps.says_end c.redex_step.result (to_run_of c.args.context.now) c.redex_step.ensures.going
+    (ap (λ g. returned (to_run_in fs (part_of g))) c.in-Ready.is ∙ plug.todo_active (offsets_of s) (sizes_of s) (procedures_in s) fs (redex_part r) (steps.redex_active r))
 
 pub returns-in-Call-clause-action : goal.returns-in-Call-clause-action
 returns-in-Call-clause-action c =
@@ -49,7 +49,7 @@ returns-in-Call-clause-action c =
 
 pub returns-in-Call-clause-end : goal.returns-in-Call-clause-end
 returns-in-Call-clause-end c =
-    steps.says_end c.pass.result (todo_of c.args.context.now) c.pass.ensures.going
+    steps.says_end c.pass.result (to_run_of c.args.context.now) c.pass.ensures.going
     (steps.focus_goes c.args.around.now c.args.context.now.frames.items c.args.context.now.focus (Expr (Call c.in-Call.p (given c.in-Call.values.items NoMore))) (ap part_of c.in-Call.is) refl)
 
 pub returns-in-Passing-clause-action : goal.returns-in-Passing-clause-action
@@ -68,7 +68,7 @@ returns-in-Passing-clause-action c =
 
 pub returns-in-Passing-clause-end : goal.returns-in-Passing-clause-end
 returns-in-Passing-clause-end c =
-    steps.says_end c.pass-in-Passing.result (todo_of c.args.context.now) c.pass-in-Passing.ensures.going
+    steps.says_end c.pass-in-Passing.result (to_run_of c.args.context.now) c.pass-in-Passing.ensures.going
     (steps.focus_goes c.args.around.now c.args.context.now.frames.items c.args.context.now.focus (Expr (Passing c.in-Passing.p (map scalar_of c.in-Passing.parameters.now) (drop c.in-Passing.done c.in-Passing.values.items))) (ap part_of c.in-Passing.is) refl)
 
 pub returns-in-Ready-clause-fits : goal.returns-in-Ready-clause-fits

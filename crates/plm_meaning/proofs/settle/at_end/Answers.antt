@@ -1,7 +1,7 @@
 use Rattle.std.proofs.Common.{sym, ap, ◌∙◌, [], ◌∷◌, ◌++◌}
 use Rattle.plm_type.specs.Rest.{End}
 use Rattle.plm_meaning.specs.declared.context.Frame.TheVariants as frame
-use Rattle.plm_meaning.specs.Context.{Todo, todo_in}
+use Rattle.plm_meaning.specs.Context.{ToRun, to_run_in}
 use Rattle.plm_meaning.proofs.Given.{no_statements}
 use Rattle.plm_meaning.proofs.Plug.{todo_last}
 use Rattle.plm_meaning.proofs.settle.at_end.Goals as goal
@@ -9,8 +9,8 @@ use Rattle.plm_meaning.proofs.settle.at_end.Goals as goal
 pub loop-frame-preserved : goal.loop-frame-preserved
 loop-frame-preserved c =
     let fs = c.pop.new.self.items in
-    ap (λ ss. todo_in fs (Todo ss)) (sym (no_statements c.in-Behind.after.now c.in-None.ensures.cases))
-    ∙ sym (todo_last fs (frame.Behind c.in-Behind.after) (Todo End))
-    ∙ ap (λ g. todo_in (fs ++ g ∷ []) (Todo End)) (sym c.in-Behind.is)
-    ∙ ap (λ l. todo_in l (Todo End)) (sym c.in-Some.ensures.items)
+    ap (λ ss. to_run_in fs (ToRun ss)) (sym (no_statements c.in-Behind.after.now c.in-None.ensures.cases))
+    ∙ sym (todo_last fs (frame.Behind c.in-Behind.after) (ToRun End))
+    ∙ ap (λ g. to_run_in (fs ++ g ∷ []) (ToRun End)) (sym c.in-Behind.is)
+    ∙ ap (λ l. to_run_in l (ToRun End)) (sym c.in-Some.ensures.items)
     ∙ c.loop-frame.invariant

@@ -4,7 +4,7 @@ use Rattle.ppi_kbd.specs.Ports.{Shows}
 use Rattle.plm_type.specs.Rest.{Rest, Main, Handler}
 use Rattle.plm_type.specs.Next.{next}
 use Rattle.plm_type.specs.Programs.{handler_rest}
-use Rattle.plm_meaning.specs.Context.{todo_in, todo_of}
+use Rattle.plm_meaning.specs.Context.{to_run_in, to_run_of}
 use Rattle.plm_meaning.specs.Meaning.{state_of}
 use Rattle.plm_meaning.specs.Shown.{store_of, labels_of}
 use Rattle.plm_meaning.specs.Around.{names_of}
@@ -21,16 +21,16 @@ returns-clause-made c p shown =
     let ps = procedures_in s in
     let next_is = c.main_action-next.result in
     let act = action_of ps k.focus next_is in
-    let put = todo_in k.frames.items in
+    let put = to_run_in k.frames.items in
     let made = c.in_ok-label.ensures.made p shown in (
       made.0,
       subst (λ ports. Shows ports made.0) (sym c.settle_counts.ensures.ports) made.1,
       moves.main_goes (shared board_chips) Rest (next (offsets_of s) (sizes_of s) ps) (handler_rest (names_of s)) Main
-          (Main (todo_of m.main)) (option_map (λ h. Handler (todo_of h)) m.handler) m.on m.halted (store_of m.store p) m.silents m.switches
+          (Main (to_run_of m.main)) (option_map (λ h. Handler (to_run_of h)) m.handler) m.on m.halted (store_of m.store p) m.silents m.switches
           c.is_interrupted.result (context_action s k next_is) (c.in-Some.silents, c.in-Some.switches)
-          (todo_of c.perform.new.context) (store_of c.perform.new.store made.0) (labels_of c.in_ok-label.label)
+          (to_run_of c.perform.new.context) (store_of c.perform.new.store made.0) (labels_of c.in_ok-label.label)
           c.is_on_after-on.result c.is_halted_after-halted.result (state_of c.settle_counts.new.self made.0)
-          (ap (option_map (λ h. Handler (todo_of h))) c.requires) c.if-self.false
+          (ap (option_map (λ h. Handler (to_run_of h))) c.requires) c.if-self.false
           (c.is_interrupted.ensures.is_interrupted p shown)
           (ap (λ t. next (offsets_of s) (sizes_of s) ps (Main t)) (sym c.in_ok-settle.ensures.rest) ∙ c.main_action-next.ensures.action)
           (moves.counted_map put c.is_interrupted.result act m.silents m.switches ∙ sym (c.counted.ensures ps k.focus) ∙ c.in-Some.is)
