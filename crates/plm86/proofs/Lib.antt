@@ -4,6 +4,7 @@ pub mod Composition
 pub mod Meets
 mod Reading
 mod Phases
+mod OneProgram
 mod BuiltRuns
 mod Going
 mod Allowed

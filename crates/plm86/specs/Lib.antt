@@ -7,6 +7,7 @@ pub mod Cases
 pub mod Depth
 pub mod Build
 pub mod Exact
+pub mod OneProgram
 pub mod BuildAndRun
 pub mod Mean
 pub mod CommandLine

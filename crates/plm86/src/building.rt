@@ -14,6 +14,7 @@ use layout_link::RomSize;
 use listing_map::{listing, map};
 use plm_type::{Warning, warnings};
 use std::alloc::Global;
+use std::mem::forget;
 use std::rt::Files;
 use word86::{Sink, WriterSink};
 
@@ -31,7 +32,10 @@ pub(crate) fn build_rom<R: Files, S: Sink>(
     let texts = read_texts(rt, alloc, names)?;
     let sources = sources_of(alloc, names, &texts)?;
     let built = build_sources(alloc, names, &sources, size)?;
-    write_built(rt, alloc, outputs, &sources, &built, errors)
+    let written = write_built(rt, alloc, outputs, &sources, &built, errors);
+    // The process ends next, which gives this memory back faster than it can be taken apart.
+    forget(built);
+    written
 }
 
 // Shows the warnings and writes the files. All memory is taken before, so that want of it leaves no file.

@@ -4,10 +4,12 @@ ghost use Rattle.plm86.specs.Cases.{CasesAreReachedSoon};
 ghost use Rattle.plm86.specs.Inner.BoardLaws.{LawsBelow};
 ghost use Rattle.plm86.specs.Laws.{FromLayers, FromRom, QuietFromRom};
 ghost use Rattle.plm86.specs.Mean.{MeanLaw};
+ghost use Rattle.plm86.specs.OneProgram.{TextsDeclareOneProgram};
 
 use board::memory_laws;
 use i86_code::{decoded_widths, one_form};
 use i86_table::{context_laws, control_flags_law, flag_laws, instructions_keep_words};
+use plm_syntax::spell_once;
 use select::cases_come_soon;
 
 /// The types of a compiler's layers: the states of the chips, the rests of a program's contexts, and the places of its
@@ -79,4 +81,12 @@ pub fn cases_are_reached_soon()
     ensures { CasesAreReachedSoon }
 {
     cases_come_soon();
+}
+
+/// What texts declare is one program. So whatever names a clause of `build` speaks of, they are alike, and no texts both fit and are
+/// refused for the room that they take.
+pub fn texts_declare_one_program()
+    ensures { TextsDeclareOneProgram }
+{
+    spell_once();
 }
