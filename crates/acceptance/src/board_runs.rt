@@ -1,7 +1,7 @@
 //! ROMs made by hand, with the traces that the manuals and the formats give.
 
 use crate::board_roms::*;
-use crate::expect::Expect;
+use crate::expect::{Expect, is_cut};
 use board::{Board, End, read_schedule};
 use bstr::ByteSlice;
 use std::alloc::Global;
@@ -28,22 +28,36 @@ fn rom(alloc: Global, code: &[u8], reset: &[u8]) -> Result<Vec<u8>, Fail> {
     Ok(bytes)
 }
 
-/// How the run of such a ROM ends, whose trace goes to the sink.
-fn traced(
+/// How the run of a ROM ends, whose trace goes to the sink.
+fn run_of(
     alloc: Global,
-    code: &[u8],
-    reset: &[u8],
+    rom: &[u8],
     schedule: &[u8],
     sink: &mut CutSink,
 ) -> Result<Result<End, Fault>, Fail> {
     let schedule = read_schedule(alloc, schedule)?;
-    let rom = rom(alloc, code, reset)?;
     let memory = PowerOn::filled(alloc, schedule.fill())?;
-    let mut board = Board::new(alloc, &rom, memory)?;
+    let mut board = Board::new(alloc, rom, memory)?;
     Ok(board.run(&schedule, sink))
 }
 
 /// Fails unless the ROM writes this text and ends so.
+pub(crate) fn runs(
+    rt: &impl Abort,
+    alloc: Global,
+    rom: &[u8],
+    schedule: &[u8],
+    end: End,
+    text: &[u8],
+) -> Result<(), Fail> {
+    let mut expect = Expect::new(rt);
+    let mut sink = CutSink::new(alloc, 300_000, 4096)?;
+    expect.same(run_of(alloc, rom, schedule, &mut sink)?, Ok(end));
+    expect.same(sink.bytes(), text);
+    Ok(())
+}
+
+/// Fails unless the ROM with these bytes writes this text and ends so.
 fn check(
     rt: &impl Abort,
     alloc: Global,
@@ -53,11 +67,7 @@ fn check(
     end: End,
     text: &[u8],
 ) -> Result<(), Fail> {
-    let mut expect = Expect::new(rt);
-    let mut sink = CutSink::new(alloc, 300_000, 4096)?;
-    expect.same(traced(alloc, code, reset, schedule, &mut sink)?, Ok(end));
-    expect.same(sink.bytes(), text);
-    Ok(())
+    runs(rt, alloc, &rom(alloc, code, reset)?, schedule, end, text)
 }
 
 /// Fails unless the code at the ROM's front writes this text up to the stop.
@@ -74,13 +84,8 @@ fn writes(
 // No code, and no instruction.
 #[test]
 fn bytes_of_any_kind(rt: HostRuntime) -> Result<(), Fail> {
-    let cases = [
-        (
-            b"".as_slice(),
-            b"STOP 100".as_slice(),
-            End::Stopped,
-            b"END 100\n".as_slice(),
-        ),
+    const ROWS: &[(&[u8], &[u8], End, &[u8])] = &[
+        (b"", b"STOP 100", End::Stopped, b"END 100\n"),
         (b"", b"STOP 0", End::Stopped, b"END 0\n"),
         (b"", b"FILL FF\nSTOP 100", End::Opcode(0), b"OPCODE 00000\n"),
         (b"\xEB\xFE", b"STOP 100", End::Stopped, b"END 100\n"),
@@ -104,29 +109,31 @@ fn bytes_of_any_kind(rt: HostRuntime) -> Result<(), Fail> {
             b"TICK 5\nOPCODE FFFF0\n",
         ),
     ];
-    for (reset, schedule, end, text) in cases {
-        check(&rt, rt.alloc(), &[], reset, schedule, end, text)?;
+    for (reset, schedule, end, text) in ROWS {
+        check(&rt, rt.alloc(), &[], reset, schedule, *end, text)?;
     }
     Ok(())
 }
 
+/// The fault of a board with a ROM of this length.
+fn refusal(alloc: Global, length: usize) -> Result<Option<Fault>, Fail> {
+    let rom = vec![in alloc; 0x0Fu8; length]?;
+    Ok(Board::new(alloc, &rom, PowerOn::filled(alloc, 0)?).err())
+}
+
 #[test]
 fn refuses_other_lengths(rt: HostRuntime) -> Result<(), Fail> {
+    let mut expect = Expect::new(&rt);
+    let alloc = rt.alloc();
     for length in [0usize, 8191, 8193, 24576, 65535, 65537] {
-        let rom = vec![in rt.alloc(); 0x0Fu8; length]?;
-        let memory = PowerOn::filled(rt.alloc(), 0)?;
-        assert_eq!(rt;
-            Board::new(rt.alloc(), &rom, memory).err(),
-            Some(Fault::At(0, 1, Number::E705))
-        );
+        let refused = refusal(alloc, length)?;
+        expect.same(refused, Some(Fault::At(0, 1, Number::E705)));
     }
     for length in [8192usize, 16384, 32768, 65536] {
-        let rom = vec![in rt.alloc(); 0x0Fu8; length]?;
-        let memory = PowerOn::filled(rt.alloc(), 0)?;
-        let mut board = Board::new(rt.alloc(), &rom, memory)?;
-        let schedule = read_schedule(rt.alloc(), b"STOP 9")?;
-        let mut sink = CutSink::new(rt.alloc(), 99, 99)?;
-        assert_eq!(rt; board.run(&schedule, &mut sink), Ok(End::Opcode(0xFFFF0)));
+        let rom = vec![in alloc; 0x0Fu8; length]?;
+        let mut sink = CutSink::new(alloc, 99, 99)?;
+        let end = run_of(alloc, &rom, b"STOP 9", &mut sink)?;
+        expect.same(end, Ok(End::Opcode(0xFFFF0)));
     }
     Ok(())
 }
@@ -172,36 +179,56 @@ fn echoes_keys(rt: HostRuntime) -> Result<(), Fail> {
     )
 }
 
+/// A byte's two hexadecimal digits.
+fn digits(byte: u8) -> [u8; 2] {
+    const DIGITS: &[u8; 16] = b"0123456789ABCDEF";
+    [
+        DIGITS[usize::from(byte / 16)],
+        DIGITS[usize::from(byte % 16)],
+    ]
+}
+
+/// For each code up to the last, its digits between these texts are put out.
+fn put_codes(text: &mut Vec<u8>, last: u8, parts: &[&[u8]]) -> Result<(), Fail> {
+    for code in 1..=last {
+        put_between(text, &digits(code), parts)?;
+    }
+    Ok(())
+}
+
+/// The parts are put out, and the digits after each but the last.
+fn put_between(text: &mut Vec<u8>, digits: &[u8], parts: &[&[u8]]) -> Result<(), Fail> {
+    let Some((last, before)) = parts.split_last() else {
+        return Ok(());
+    };
+    for part in before {
+        text.extend_from_slice(part)?;
+        text.extend_from_slice(digits)?;
+    }
+    text.extend_from_slice(last)?;
+    Ok(())
+}
+
+const KEYS_ARE_SET_UP: &[u8] = b"OUT 0063 99\nOUT 0020 13\nOUT 0021 08\nOUT 0021 03\nOUT 0021 FD\n";
+
 // One code in the register, sixteen in the queue, and the last is lost.
 #[test]
 fn seventeen_of_eighteen_keys(rt: HostRuntime) -> Result<(), Fail> {
     let mut schedule = Vec::new(rt.alloc());
-    let mut text = Vec::new(rt.alloc());
-    text.extend_from_slice(b"OUT 0063 99\nOUT 0020 13\nOUT 0021 08\nOUT 0021 03\nOUT 0021 FD\n")?;
-    for code in 1..=18u8 {
-        let digits = [
-            b'0' + code / 16,
-            b"0123456789ABCDEF"[usize::from(code % 16)],
-        ];
-        schedule.extend_from_slice(b"AT 20000 KEY ")?;
-        schedule.extend_from_slice(&digits)?;
-        schedule.extend_from_slice(b"\n")?;
-        text.extend_from_slice(b"KEY ")?;
-        text.extend_from_slice(&digits)?;
-        text.extend_from_slice(b"\n")?;
-    }
-    for code in 1..=17u8 {
-        let digits = [
-            b'0' + code / 16,
-            b"0123456789ABCDEF"[usize::from(code % 16)],
-        ];
-        text.extend_from_slice(b"ACK 09\nIN 0060 ")?;
-        text.extend_from_slice(&digits)?;
-        text.extend_from_slice(b"\nOUT 0300 ")?;
-        text.extend_from_slice(&digits)?;
-        text.extend_from_slice(b"\nOUT 0061 80\nOUT 0061 00\n")?;
-    }
+    put_codes(&mut schedule, 18, &[b"AT 20000 KEY ", b"\n"])?;
     schedule.extend_from_slice(b"STOP 40000")?;
+    let mut text = Vec::new(rt.alloc());
+    text.extend_from_slice(KEYS_ARE_SET_UP)?;
+    put_codes(&mut text, 18, &[b"KEY ", b"\n"])?;
+    put_codes(
+        &mut text,
+        17,
+        &[
+            b"ACK 09\nIN 0060 ",
+            b"\nOUT 0300 ",
+            b"\nOUT 0061 80\nOUT 0061 00\n",
+        ],
+    )?;
     text.extend_from_slice(b"END 40000\n")?;
     writes(&rt, rt.alloc(), &ECHOES_KEYS, &schedule, &text)
 }
@@ -303,33 +330,36 @@ fn turns_one_by_one(rt: HostRuntime) -> Result<(), Fail> {
 #[test]
 fn failing_sinks(rt: HostRuntime) -> Result<(), Fail> {
     let mut expect = Expect::new(&rt);
-    let text =
+    let alloc = rt.alloc();
+    let rom = rom(alloc, &POLLS_THE_KEYBOARD, &TO_THE_FRONT)?;
+    let text: &[u8] =
         b"OUT 0063 99\nIN 0060 00\nIN 0060 00\nKEY 1E\nIN 0060 1E\nOUT 0300 01\nTICK 12\nEND 40\n";
     let schedule = b"AT 8 KEY 1E\nAT 30 TICK 12\nSTOP 40";
     for room in 0..text.len() {
-        let mut sink = CutSink::new(rt.alloc(), room, 7)?;
-        let end = traced(
-            rt.alloc(),
-            &POLLS_THE_KEYBOARD,
-            &TO_THE_FRONT,
-            schedule,
-            &mut sink,
-        )?;
-        assert_eq!(rt; end, Err(Fault::At(0, 1, Number::E704)));
-        assert_eq!(rt; sink.bytes(), &text[..room]);
-        assert_eq!(rt; sink.failures(), 1);
+        let mut sink = CutSink::new(alloc, room, 7)?;
+        let end = run_of(alloc, &rom, schedule, &mut sink)?;
+        expect.same(end, Err(Fault::At(0, 1, Number::E704)));
+        expect.holds(is_cut(&sink, text, room));
     }
-    let mut sink = CutSink::new(rt.alloc(), text.len(), 1)?;
-    let end = traced(
-        rt.alloc(),
-        &POLLS_THE_KEYBOARD,
-        &TO_THE_FRONT,
-        schedule,
-        &mut sink,
-    )?;
-    expect.same(end, Ok(End::Stopped));
-    expect.same(sink.bytes(), text.as_slice());
+    let mut sink = CutSink::new(alloc, text.len(), 1)?;
+    expect.same(run_of(alloc, &rom, schedule, &mut sink)?, Ok(End::Stopped));
+    expect.same(sink.bytes(), text);
     Ok(())
+}
+
+/// How many of the lines begin with this word, and how many are this line.
+fn lines_like(text: &[u8], word: &[u8], line: &[u8]) -> (u32, u32) {
+    let mut begun = 0u32;
+    let mut equal = 0u32;
+    for given in text.lines() {
+        if given.starts_with(word) {
+            begun = begun.wrapping_add(1);
+        }
+        if given == line {
+            equal = equal.wrapping_add(1);
+        }
+    }
+    (begun, equal)
 }
 
 /// The lines that begin with this word, and how many of them are this line, of a run with a key at every turn from one on.
@@ -341,18 +371,9 @@ fn counted(alloc: Global, from: u32, word: &[u8], line: &[u8]) -> Result<(u32, u
     }
     schedule.extend_from_slice(b"STOP 3000")?;
     let mut sink = CutSink::new(alloc, 300_000, 4096)?;
-    let _end = traced(alloc, &ECHOES_KEYS, &TO_THE_FRONT, &schedule, &mut sink)?;
-    let mut begun = 0u32;
-    let mut equal = 0u32;
-    for given in sink.bytes().lines() {
-        if given.starts_with(word) {
-            begun = begun.wrapping_add(1);
-        }
-        if given == line {
-            equal = equal.wrapping_add(1);
-        }
-    }
-    Ok((begun, equal))
+    let rom = rom(alloc, &ECHOES_KEYS, &TO_THE_FRONT)?;
+    let _end = run_of(alloc, &rom, &schedule, &mut sink)?;
+    Ok(lines_like(sink.bytes(), word, line))
 }
 
 // ICW1 clears the one request of a key that came before it, and the register stays full.

@@ -1,26 +1,40 @@
 //! Texts are built into ROMs, which run: the traces are worked by hand from the language's rules.
 
+use crate::board_runs::runs;
 use crate::expect::Expect;
-use crate::lowering::program_of;
 use crate::selection::section_of;
-use board::{Board, End, read_schedule};
+use crate::sources::{code_of, outcome, program_of, seen, then};
+use board::End;
 use frames::{Stack, count, saved};
-use icode::Registers;
+use icode::{Code, Registers};
 use layout_link::{Image, RomSize, link};
 use lower::lower;
+use plm_decl::Names;
+use plm_type::Program;
 use select::{Part, select};
 use std::alloc::Global;
 use std::process::Abort;
 use std::test::Fail;
-use word86::{CutSink, Fault, Number, PowerOn};
+use word86::{Fault, Number};
+
+/// The image of code, with the objects of these names.
+fn linked(alloc: Global, code: &Code, names: &Names, size: RomSize) -> Result<Image, Fault> {
+    let stack = count(alloc, code)?;
+    let parts = select(alloc, code)?;
+    link(alloc, parts, names, stack, size)
+}
+
+fn image_of(alloc: Global, program: &Program, size: RomSize) -> Result<Image, Fault> {
+    then(lower(alloc, program), |code| {
+        linked(alloc, code, program.names(), size)
+    })
+}
 
 /// The image of a program with these modules.
 fn built(alloc: Global, texts: &[&[u8]], size: RomSize) -> Result<Image, Fault> {
-    let program = program_of(alloc, texts)?;
-    let code = lower(alloc, &program)?;
-    let stack = count(alloc, &code)?;
-    let parts = select(alloc, &code)?;
-    link(alloc, parts, program.names(), stack, size)
+    then(program_of(alloc, texts), |program| {
+        image_of(alloc, program, size)
+    })
 }
 
 /// Fails unless the ROM of this size of the program with these modules writes this trace up to the schedule's stop.
@@ -32,14 +46,9 @@ fn writes(
     schedule: &[u8],
     trace: &[u8],
 ) -> Result<(), Fail> {
-    let mut expect = Expect::new(rt);
-    let image = built(alloc, texts, size)?;
-    let schedule = read_schedule(alloc, schedule)?;
-    let mut sink = CutSink::new(alloc, 100_000, 4096)?;
-    let mut board = Board::new(alloc, &image.rom, PowerOn::filled(alloc, schedule.fill())?)?;
-    expect.same(board.run(&schedule, &mut sink), Ok(End::Stopped));
-    expect.same(sink.bytes(), trace);
-    Ok(())
+    seen(built(alloc, texts, size), |image| {
+        runs(rt, alloc, &image.rom, schedule, End::Stopped, trace)
+    })?
 }
 
 /// Fails unless the ROM of 8 KiB of each text writes its trace in 2,000 turns, of which start-up takes some 1,300.
@@ -52,7 +61,7 @@ fn all_write(rt: &impl Abort, alloc: Global, rows: &[(&[u8], &[u8])]) -> Result<
 
 /// The most bytes on the stack of a text.
 fn stack_of(alloc: Global, text: &[u8]) -> Result<Stack, Fault> {
-    count(alloc, &lower(alloc, &program_of(alloc, &[text])?)?)
+    then(code_of(alloc, &[text]), |code| count(alloc, code))
 }
 
 #[test]
@@ -165,7 +174,9 @@ fn modules_in_either_order(rt: HostRuntime) -> Result<(), Fail> {
 
 /// The parts of a section of the program with these modules.
 fn parts_of(alloc: Global, texts: &[&[u8]], section: usize) -> Result<Vec<Part>, Fault> {
-    section_of(alloc, &lower(alloc, &program_of(alloc, texts)?)?, section)
+    then(code_of(alloc, texts), |code| {
+        section_of(alloc, code, section)
+    })
 }
 
 fn is_same(one: &Part, other: &Part) -> bool {
@@ -225,7 +236,7 @@ fn registers_that_an_interrupt_saves(rt: HostRuntime) -> Result<(), Fail> {
     let alloc = rt.alloc();
     let text =
         b"M: DO; DECLARE (N, D) WORD; H: PROCEDURE INTERRUPT 8; N = N / D; END H; N = N / D; END M;";
-    let changed = saved(alloc, &lower(alloc, &program_of(alloc, &[text])?)?)?;
+    let changed = then(code_of(alloc, &[text]), |code| saved(alloc, code))?;
     let divides = Registers {
         accumulator: true,
         right: true,
@@ -308,8 +319,8 @@ fn code_past_the_rom(rt: HostRuntime) -> Result<(), Fail> {
     let alloc = rt.alloc();
     let text = puts_out(alloc, 1200)?;
     assert_eq!(rt;
-        built(alloc, &[&text], RomSize::Kib8).err(),
-        Some(Fault::At(0, 1, Number::E601))
+        outcome(built(alloc, &[&text], RomSize::Kib8)),
+        Some((0, 1, Number::E601))
     );
     let mut trace = Vec::new(alloc);
     for _ in 0..1200 {

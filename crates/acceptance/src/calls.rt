@@ -1,6 +1,7 @@
 //! Small texts: which calls are refused, and where.
 
-use crate::types::{Outcome, are_typed, outcome, program_of_two};
+use crate::sources::{Outcome, outcome, program_of};
+use crate::types::are_typed;
 use std::process::Abort;
 use word86::Number;
 
@@ -220,7 +221,7 @@ fn external_procedures_have_parameters_alone(rt: HostRuntime) {
     ];
     for (text, wanted) in ROWS {
         assert_eq!(rt;
-            outcome(program_of_two(alloc, text, other)),
+            outcome(program_of(alloc, &[*text, other])),
             *wanted,
             "in {text:?}"
         );

@@ -1,12 +1,14 @@
 //! Small texts: what they declare.
 
-use crate::expect::Expect;
-use crate::names::{names_of, names_of_two};
-use plm_decl::{Datum, Form, Names, Object, Placement, Region, ScalarType, Variable, resolve};
-use plm_syntax::parse;
-use plm_token::scan;
+use crate::sources::{names_of, seen};
+use plm_decl::{
+    Datum, Field, Form, Names, Object, Placement, Procedure, Region, ScalarType, ScreenName,
+    Variable,
+};
+use std::alloc::Global;
 use std::process::Abort;
 use std::test::Fail;
+use word86::Fault;
 
 const BYTE: Form = Form::Scalar(ScalarType::Byte);
 
@@ -202,95 +204,125 @@ static DECLARED: [(&[u8], &[WantedVariable], &[WantedObject]); 10] = [
 fn contents_of_declarations(rt: HostRuntime) -> Result<(), Fail> {
     let alloc = rt.alloc();
     for (text, variables, objects) in &DECLARED {
-        let names = names_of(alloc, text)?;
-        assert!(rt; are_variables(&names.variables, variables), "in {text:?}");
-        assert!(rt; are_objects(&names.objects, objects), "in {text:?}");
+        let same = seen(names_of(alloc, &[*text]), |names| {
+            (
+                are_variables(&names.variables, variables),
+                are_objects(&names.objects, objects),
+            )
+        })?;
+        assert_eq!(rt; same, (true, true), "variables and objects in {text:?}");
     }
     Ok(())
 }
 
-#[test]
-fn names_on_the_screen(rt: HostRuntime) -> Result<(), Fail> {
-    let mut expect = Expect::new(&rt);
-    let alloc = rt.alloc();
-    let text = b"M: DO; DECLARE G BYTE DATA (9), (E, F) (3) WORD AT (0B8010H); ; END M;";
-    let names = names_of(alloc, text)?;
+/// A name's size, its offset on the screen, and how many objects stand before it.
+type ScreenPlace = (u64, u64, usize);
+
+fn is_on_screen(name: &ScreenName, path: &[u8], place: ScreenPlace) -> bool {
+    name.path.as_slice() == path && (name.size, name.offset, name.objects_before) == place
+}
+
+/// Whether the names on the screen are E and F, of six bytes each, one after the other.
+fn shows_e_and_f(names: &Names) -> bool {
     let [first, second] = names.screen_names.as_slice() else {
-        assert!(rt; false, "two names");
-        return Ok(());
+        return false;
     };
-    expect.holds(
-        first.path.as_slice() == b"M.E".as_slice() && second.path.as_slice() == b"M.F".as_slice(),
-    );
-    expect.same((first.size, first.offset, first.objects_before), (6, 16, 1));
-    expect.same(
-        (second.size, second.offset, second.objects_before),
-        (6, 22, 1),
-    );
-    Ok(())
+    is_on_screen(first, b"M.E", (6, 16, 1)) && is_on_screen(second, b"M.F", (6, 22, 1))
 }
 
 #[test]
-fn members_without_gaps(rt: HostRuntime) -> Result<(), Fail> {
-    let mut expect = Expect::new(&rt);
-    let alloc = rt.alloc();
-    let text = b"M: DO; DECLARE S STRUCTURE (X BYTE, (y, Z$) (2) WORD, Q POINTER); ; END M;";
-    let names = names_of(alloc, text)?;
-    let wanted: [(&[u8], Option<u32>, u64); 4] = [
+fn names_on_the_screen(rt: HostRuntime) -> Result<(), Fail> {
+    let text = b"M: DO; DECLARE G BYTE DATA (9), (E, F) (3) WORD AT (0B8010H); ; END M;";
+    let shown = seen(names_of(rt.alloc(), &[text]), shows_e_and_f)?;
+    assert!(rt; shown);
+    Ok(())
+}
+
+/// A member's name, dimension and offset.
+type WantedField = (&'static [u8], Option<u32>, u64);
+
+fn are_fields(fields: &[Field], wanted: &[WantedField]) -> bool {
+    if fields.len() != wanted.len() {
+        return false;
+    }
+    for (field, (name, dimension, offset)) in fields.iter().zip(wanted) {
+        let member = field.member;
+        if field.name.as_slice() != *name
+            || member.dimension != *dimension
+            || member.offset != *offset
+        {
+            return false;
+        }
+    }
+    true
+}
+
+/// Whether there is one structure, of 11 bytes and 6 scalars, with the members X, Y, Z and Q.
+fn has_four_members(names: &Names) -> bool {
+    const FIELDS: &[WantedField] = &[
         (b"X", None, 0),
         (b"Y", Some(2), 1),
         (b"Z", Some(2), 5),
         (b"Q", None, 9),
     ];
     let [structure] = names.structures.as_slice() else {
-        assert!(rt; false, "one structure");
-        return Ok(());
+        return false;
     };
-    expect.same((structure.size, structure.scalars), (11, 6));
-    expect.holds(structure.fields.len() == wanted.len());
-    for (field, (name, dimension, offset)) in structure.fields.iter().zip(&wanted) {
-        assert!(rt; field.name.as_slice() == *name, "member {name:?}");
-        assert_eq!(rt;
-            (field.member.dimension, field.member.offset),
-            (*dimension, *offset)
-        );
-    }
+    (structure.size, structure.scalars) == (11, 6) && are_fields(&structure.fields, FIELDS)
+}
+
+#[test]
+fn members_without_gaps(rt: HostRuntime) -> Result<(), Fail> {
+    let text = b"M: DO; DECLARE S STRUCTURE (X BYTE, (y, Z$) (2) WORD, Q POINTER); ; END M;";
+    let same = seen(names_of(rt.alloc(), &[text]), has_four_members)?;
+    assert!(rt; same);
     Ok(())
+}
+
+/// Whether the procedures are a PUBLIC one and the EXTERNAL one that it is joined to, each with its parameter.
+fn are_joined(procedures: &[Procedure]) -> bool {
+    let [public, external] = procedures else {
+        return false;
+    };
+    (public.entry, external.entry) == (0, 0)
+        && public.parameters.as_slice() == [3].as_slice()
+        && external.parameters.as_slice() == [6].as_slice()
+}
+
+/// The variables of three modules, of which the later ones name those of the earlier ones, and the other way round.
+const JOINED: &[WantedVariable] = &[
+    (WORD, None, 2, Region::Ram(0, 0)),
+    (WORD, None, 2, Region::Ram(1, 0)),
+    (BYTE, Some(3), 1, Region::Ram(3, 0)),
+    (BYTE, None, 1, Region::Ram(2, 0)),
+    (WORD, None, 2, Region::Ram(1, 0)),
+    (BYTE, Some(3), 1, Region::Ram(3, 0)),
+    (BYTE, None, 1, Region::Nowhere),
+    (BYTE, Some(3), 1, Region::Ram(3, 0)),
+    (WORD, None, 2, Region::Ram(1, 0)),
+];
+
+/// Whether the variables are those, the procedures are joined, and main is that of the second module.
+fn joins(names: &Names) -> (bool, bool, usize) {
+    (
+        are_variables(&names.variables, JOINED),
+        are_joined(&names.procedures),
+        names.main.module,
+    )
 }
 
 #[test]
 fn regions_and_entries_joined(rt: HostRuntime) -> Result<(), Fail> {
-    let mut expect = Expect::new(&rt);
-    let alloc = rt.alloc();
     let first =
         b"A: DO; DECLARE (L, X) WORD PUBLIC, W (3) BYTE EXTERNAL; P: PROCEDURE (N) PUBLIC; DECLARE N BYTE; END P; END A;";
     let second =
         b"B: DO; DECLARE X WORD EXTERNAL, W (3) BYTE PUBLIC; P: PROCEDURE (K) EXTERNAL; DECLARE K BYTE; END P; CALL P(1); END B;";
     let third = b"C: DO; DECLARE W (3) BYTE EXTERNAL, X WORD EXTERNAL; END C;";
-    let a = parse(alloc, scan(alloc, first)?)?;
-    let b = parse(alloc, scan(alloc, second)?)?;
-    let c = parse(alloc, scan(alloc, third)?)?;
-    let names = resolve(alloc, &[a, b, c])?;
-    let variables: [WantedVariable; 9] = [
-        (WORD, None, 2, Region::Ram(0, 0)),
-        (WORD, None, 2, Region::Ram(1, 0)),
-        (BYTE, Some(3), 1, Region::Ram(3, 0)),
-        (BYTE, None, 1, Region::Ram(2, 0)),
-        (WORD, None, 2, Region::Ram(1, 0)),
-        (BYTE, Some(3), 1, Region::Ram(3, 0)),
-        (BYTE, None, 1, Region::Nowhere),
-        (BYTE, Some(3), 1, Region::Ram(3, 0)),
-        (WORD, None, 2, Region::Ram(1, 0)),
-    ];
-    expect.holds(are_variables(&names.variables, &variables));
-    let [public, external] = names.procedures.as_slice() else {
-        assert!(rt; false, "two procedures");
-        return Ok(());
-    };
-    expect.same((public.entry, external.entry, names.main.module), (0, 0, 1));
-    expect.holds(
-        public.parameters.as_slice() == [3].as_slice()
-            && external.parameters.as_slice() == [6].as_slice(),
+    let joined = seen(names_of(rt.alloc(), &[first, second, third]), joins)?;
+    assert_eq!(rt;
+        joined,
+        (true, true, 1),
+        "variables, procedures and main's module"
     );
     Ok(())
 }
@@ -316,27 +348,44 @@ fn objects_in_order_of_declaration(rt: HostRuntime) -> Result<(), Fail> {
         b"M: DO; DECLARE W WORD, S BYTE AT (0B8000H), P POINTER INITIAL (@('AB')), (A, b$1) (3) BYTE;
         Q: PROCEDURE (X, Y); DECLARE Y BYTE, X WORD; DO; DECLARE Z BYTE; END; L: DO; DECLARE V WORD; V = .(1); END; END Q;
         E: PROCEDURE (I) EXTERNAL; DECLARE I BYTE; END E; DO; E: PROCEDURE (J) PUBLIC; DECLARE J BYTE; END E; END; END M;";
-    let names = names_of(alloc, text)?;
-    assert!(rt; has_objects(&names, &OBJECTS));
+    let same = seen(names_of(alloc, &[text]), |names| {
+        has_objects(names, &OBJECTS)
+    })?;
+    assert!(rt; same);
     Ok(())
+}
+
+/// Offsets of two words, and whether they may lie there.
+const OFFSETS: &[([u16; 2], bool)] = &[
+    ([2, 4], true),
+    ([0xEFFE, 2], true),
+    ([2, 3], false),
+    ([4, 4], false),
+    ([1, 4], false),
+    ([2, 0xEFFF], false),
+];
+
+/// Whether a placement by these offsets fits the names, and has the offsets.
+fn placed(alloc: Global, names: &Names, offsets: &[u16]) -> Result<(bool, bool), Fault> {
+    let placement = Placement::of(Vec::from_slice(alloc, offsets)?);
+    Ok((placement.fits(names), placement.offsets() == offsets))
+}
+
+/// The first row whose placement does otherwise.
+fn first_misplaced(alloc: Global, names: &Names) -> Result<Option<usize>, Fault> {
+    for (row, (offsets, wanted)) in OFFSETS.iter().enumerate() {
+        if placed(alloc, names, offsets)? != (*wanted, true) {
+            return Ok(Some(row));
+        }
+    }
+    Ok(None)
 }
 
 #[test]
 fn placements(rt: HostRuntime) -> Result<(), Fail> {
     let alloc = rt.alloc();
-    let names = names_of(alloc, b"M: DO; DECLARE (A, B) WORD; ; END M;")?;
-    const ROWS: &[([u16; 2], bool)] = &[
-        ([2, 4], true),
-        ([0xEFFE, 2], true),
-        ([2, 3], false),
-        ([4, 4], false),
-        ([1, 4], false),
-        ([2, 0xEFFF], false),
-    ];
-    for (row, (offsets, wanted)) in ROWS.iter().enumerate() {
-        let placement = Placement::of(Vec::from_slice(alloc, offsets)?);
-        assert!(rt; placement.fits(&names) == *wanted, "row {row}");
-        assert!(rt; placement.offsets() == offsets.as_slice(), "row {row}");
-    }
+    let words = names_of(alloc, &[b"M: DO; DECLARE (A, B) WORD; ; END M;"]);
+    let misplaced = seen(words, |names| first_misplaced(alloc, names))??;
+    assert_eq!(rt; misplaced, None);
     Ok(())
 }

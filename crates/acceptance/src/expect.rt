@@ -3,6 +3,7 @@
 
 use std::fmt::Debug;
 use std::process::Abort;
+use word86::CutSink;
 
 /// The expectations of one test.
 #[derive(Clone, Copy)]
@@ -29,4 +30,9 @@ impl<'r, A: Abort> Expect<'r, A> {
         let count = self.count;
         assert!(self.rt; holds, "expectation {count}");
     }
+}
+
+/// Whether a sink of this room took just the beginning of the text that it had room for, and failed once.
+pub(crate) fn is_cut(sink: &CutSink, text: &[u8], room: usize) -> bool {
+    Some(sink.bytes()) == text.get(..room) && sink.failures() == 1
 }

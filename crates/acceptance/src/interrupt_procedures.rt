@@ -1,6 +1,7 @@
 //! Small texts: interrupt procedures that reach ENABLE or HALT, or are called, typed or with parameters.
 
-use crate::types::{Outcome, are_typed, outcome, program_of_two};
+use crate::sources::{Outcome, outcome, program_of};
+use crate::types::are_typed;
 use std::process::Abort;
 use word86::Number;
 
@@ -124,7 +125,7 @@ fn over_two_modules(rt: HostRuntime) {
     ];
     for (first, second, wanted) in ROWS {
         assert_eq!(rt;
-            outcome(program_of_two(alloc, first, second)),
+            outcome(program_of(alloc, &[*first, *second])),
             *wanted,
             "in {first:?}"
         );

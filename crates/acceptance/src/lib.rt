@@ -45,6 +45,8 @@ mod schedules;
 #[cfg(test)]
 mod selection;
 #[cfg(test)]
+mod sources;
+#[cfg(test)]
 mod syntax;
 #[cfg(test)]
 mod timer;

@@ -1,20 +1,17 @@
 //! Parts made by hand, linked and run: the bytes of their code are from the manual's table, the trace from what they do.
 
+use crate::board_runs::runs;
 use crate::expect::Expect;
-use board::{Board, End, read_schedule};
+use crate::sources::{names_of, outcome, seen, then};
+use board::End;
 use frames::Stack;
 use layout_link::{Image, RomSize, link};
-use plm_decl::{Names, resolve};
-use plm_syntax::parse;
-use plm_token::scan;
+use plm_decl::Names;
 use select::{Entry, Fixup, Kind, Part};
 use std::alloc::Global;
+use std::process::Abort;
 use std::test::Fail;
-use word86::{CutSink, Fault, Number, PowerOn};
-
-fn names_of(alloc: Global, text: &[u8]) -> Result<Names, Fault> {
-    resolve(alloc, &[parse(alloc, scan(alloc, text)?)?])
-}
+use word86::{Fault, Number};
 
 fn part(alloc: Global, entry: Entry, bytes: &[u8], fixups: &[Fixup]) -> Result<Part, Fail> {
     Ok(Part {
@@ -32,72 +29,89 @@ fn object(place: usize, name: usize) -> Fixup {
     }
 }
 
-/// 8 KiB of a ROM without data: main is HLT and a jump back, and all vectors lead to IRET.
-pub(crate) fn idle_rom(alloc: Global) -> Result<Vec<u8>, Fail> {
-    let names = names_of(alloc, b"M: DO; ; END M;")?;
-    let mut parts = Vec::new(alloc);
-    parts.push(part(alloc, Entry::Main, &[0xF4, 0xEB, 0xFD], &[])?)?;
-    parts.push(part(alloc, Entry::Unserved, &[0xCF], &[])?)?;
-    let stack = Stack {
-        main: 0,
-        handler: 6,
-    };
-    Ok(link(alloc, parts, &names, stack, RomSize::Kib8)?.rom)
+/// An image of 8 KiB with these parts.
+fn linked(alloc: Global, parts: Vec<Part>, names: &Names, main: u16) -> Result<Image, Fault> {
+    let stack = Stack { main, handler: 6 };
+    link(alloc, parts, names, stack, RomSize::Kib8)
 }
 
-/// A byte, six bytes of which the last is read, and a word, which are one stretch; then a call and HLT. A vector has a part of its own.
-#[test]
-fn parts_run(rt: HostRuntime) -> Result<(), Fail> {
-    let mut expect = Expect::new(&rt);
-    let alloc = rt.alloc();
-    let names = names_of(
-        alloc,
-        b"M: DO; DECLARE B BYTE INITIAL (5), W(6) BYTE INITIAL (1,2,3,4,5,6), C WORD INITIAL (0AABBH); ; END M;",
-    )?;
+/// Main with this code, without data, and the part for vectors without a procedure.
+fn main_alone(alloc: Global, code: &[u8]) -> Result<Vec<Part>, Fail> {
     let mut parts = Vec::new(alloc);
-    // MOV AL,[B]; OUT 0E0H,AL; MOV AL,[W+5]; OUT 0E1H,AL; MOV AX,[C]; OUT 0E2H,AX; CALL; HLT; JMP back
-    let code = [
-        0xA0, 0, 0, 0xE6, 0xE0, 0xA0, 5, 0, 0xE6, 0xE1, 0xA1, 0, 0, 0xE7, 0xE2, 0xE8, 0, 0, 0xF4,
-        0xEB, 0xFD,
-    ];
+    parts.push(part(alloc, Entry::Main, code, &[])?)?;
+    parts.push(part(alloc, Entry::Unserved, &[0xCF], &[])?)?;
+    Ok(parts)
+}
+
+/// An image for this text, with this code for main.
+fn image_of(alloc: Global, text: &[u8], code: &[u8]) -> Result<Result<Image, Fault>, Fail> {
+    let parts = main_alone(alloc, code)?;
+    Ok(then(
+        names_of(alloc, &[text]),
+        |names| linked(alloc, parts, names, 0),
+    ))
+}
+
+const NO_NAMES: &[u8] = b"M: DO; ; END M;";
+
+/// 8 KiB of a ROM without data: main is HLT and a jump back, and all vectors lead to IRET.
+pub(crate) fn idle_rom(alloc: Global) -> Result<Vec<u8>, Fail> {
+    Ok(image_of(alloc, NO_NAMES, &[0xF4, 0xEB, 0xFD])??.rom)
+}
+
+/// MOV AL,[B]; OUT 0E0H,AL; MOV AL,[W+5]; OUT 0E1H,AL; MOV AX,[C]; OUT 0E2H,AX; CALL; HLT; JMP back
+const CODE: &[u8] = &[
+    0xA0, 0, 0, 0xE6, 0xE0, 0xA0, 5, 0, 0xE6, 0xE1, 0xA1, 0, 0, 0xE7, 0xE2, 0xE8, 0, 0, 0xF4, 0xEB,
+    0xFD,
+];
+
+/// Main with this code, which calls the third part. A vector has a part of its own.
+fn four_parts(alloc: Global) -> Result<Vec<Part>, Fail> {
     let call = Fixup {
         place: 16,
         kind: Kind::Near,
         name: 2,
     };
-    parts.push(part(
-        alloc,
-        Entry::Main,
-        &code,
-        &[object(1, 0), object(6, 1), object(11, 2), call],
-    )?)?;
+    let fixups = [object(1, 0), object(6, 1), object(11, 2), call];
+    let mut parts = Vec::new(alloc);
+    parts.push(part(alloc, Entry::Main, CODE, &fixups)?)?;
     parts.push(part(alloc, Entry::Unserved, &[0xCF], &[])?)?;
     // MOV AL,77H; OUT 0E4H,AL; RET
     parts.push(part(alloc, Entry::Call, &[0xB0, 0x77, 0xE6, 0xE4, 0xC3], &[])?)?;
     parts.push(part(alloc, Entry::Vector(8), &[0xCF], &[])?)?;
-    let image = link(
-        alloc,
-        parts,
-        &names,
-        Stack {
-            main: 2,
-            handler: 6,
-        },
-        RomSize::Kib8,
-    )?;
+    Ok(parts)
+}
+
+/// Fails unless this is the image of those parts.
+fn is_linked(rt: &impl Abort, alloc: Global, image: &Image) -> Result<(), Fail> {
+    let mut expect = Expect::new(rt);
     expect.same(image.rom.len(), 8192);
     expect.same(image.placement.offsets(), [2, 3, 9].as_slice());
     // 1,292 turns, the vector, and a copy of nine
     expect.same(image.start_turns, 1305);
-    let schedule = read_schedule(alloc, b"FILL 5A\nSTOP 3000\n")?;
-    let mut sink = CutSink::new(alloc, 100_000, 4096)?;
-    let mut board = Board::new(alloc, &image.rom, PowerOn::filled(alloc, schedule.fill())?)?;
-    expect.same(board.run(&schedule, &mut sink), Ok(End::Stopped));
-    expect.same(
-        sink.bytes(),
-        b"OUT 00E0 05\nOUT 00E1 06\nOUTW 00E2 AABB\nOUT 00E4 77\nEND 3000\n".as_slice(),
+    let trace = b"OUT 00E0 05\nOUT 00E1 06\nOUTW 00E2 AABB\nOUT 00E4 77\nEND 3000\n";
+    runs(
+        rt,
+        alloc,
+        &image.rom,
+        b"FILL 5A\nSTOP 3000\n",
+        End::Stopped,
+        trace,
+    )
+}
+
+/// A byte, six bytes of which the last is read, and a word, which are one stretch; then a call and HLT.
+#[test]
+fn parts_run(rt: HostRuntime) -> Result<(), Fail> {
+    let alloc = rt.alloc();
+    let text =
+        b"M: DO; DECLARE B BYTE INITIAL (5), W(6) BYTE INITIAL (1,2,3,4,5,6), C WORD INITIAL (0AABBH); ; END M;";
+    let parts = four_parts(alloc)?;
+    let image = then(
+        names_of(alloc, &[text]),
+        |names| linked(alloc, parts, names, 2),
     );
-    Ok(())
+    seen(image, |image| is_linked(&rt, alloc, image))?
 }
 
 /// Texts, and how many turns start-up takes for their initial bytes: a word or a byte that is put is one, and a copy three and one a byte.
@@ -142,29 +156,18 @@ const STRETCHES: &[(&[u8], u32)] = &[
     ),
 ];
 
-/// An image for this text, with a main that halts.
-fn halting(alloc: Global, text: &[u8]) -> Result<Image, Fail> {
-    let names = names_of(alloc, text)?;
-    let mut parts = Vec::new(alloc);
-    parts.push(part(alloc, Entry::Main, &[0xF4], &[])?)?;
-    parts.push(part(alloc, Entry::Unserved, &[0xCF], &[])?)?;
-    let stack = Stack {
-        main: 0,
-        handler: 6,
-    };
-    Ok(link(alloc, parts, &names, stack, RomSize::Kib8)?)
+/// How many turns start-up takes for a text, with a main that halts.
+fn turns_of(alloc: Global, text: &[u8]) -> Result<u32, Fail> {
+    Ok(seen(image_of(alloc, text, &[0xF4])?, |image| image.start_turns)?)
 }
 
 #[test]
 fn stretches_take_turns(rt: HostRuntime) -> Result<(), Fail> {
     let mut expect = Expect::new(&rt);
     let alloc = rt.alloc();
-    let others = halting(alloc, b"M: DO; ; END M;")?.start_turns;
+    let others = turns_of(alloc, NO_NAMES)?;
     for (text, turns) in STRETCHES {
-        expect.same(
-            halting(alloc, text)?.start_turns.wrapping_sub(others),
-            *turns,
-        );
+        expect.same(turns_of(alloc, text)?.wrapping_sub(others), *turns);
     }
     Ok(())
 }
@@ -172,27 +175,11 @@ fn stretches_take_turns(rt: HostRuntime) -> Result<(), Fail> {
 /// 8 KiB hold 42 bytes of start-up, 8,133 of a part, 1 of the other and 16 from the reset on, and not one more.
 #[test]
 fn full_exactly(rt: HostRuntime) -> Result<(), Fail> {
+    let mut expect = Expect::new(&rt);
     let alloc = rt.alloc();
-    let names = names_of(alloc, b"M: DO; ; END M;")?;
-    for (more, fits) in [(0usize, true), (1, false)] {
-        let nops = vec![in alloc; 0x90u8; 8133 + more]?;
-        let mut parts = Vec::new(alloc);
-        parts.push(part(alloc, Entry::Main, &nops, &[])?)?;
-        parts.push(part(alloc, Entry::Unserved, &[0xCF], &[])?)?;
-        let linked = link(
-            alloc,
-            parts,
-            &names,
-            Stack {
-                main: 0,
-                handler: 6,
-            },
-            RomSize::Kib8,
-        );
-        assert_eq!(rt; linked.is_ok(), fits);
-        if let Err(fault) = linked {
-            assert_eq!(rt; fault, Fault::At(0, 1, Number::E601));
-        }
+    for (length, wanted) in [(8133usize, None), (8134, Some((0, 1, Number::E601)))] {
+        let nops = vec![in alloc; 0x90u8; length]?;
+        expect.same(outcome(image_of(alloc, NO_NAMES, &nops)?), wanted);
     }
     Ok(())
 }

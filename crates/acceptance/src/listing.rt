@@ -1,12 +1,11 @@
 //! Listings of small sources, and maps of small programs, written by hand.
 
-use crate::expect::Expect;
+use crate::expect::{Expect, is_cut};
+use crate::sources::{names_of, seen};
 use frames::Stack;
 use layout_link::Image;
 use listing_map::{listing, map};
-use plm_decl::{Names, Placement, resolve};
-use plm_syntax::parse;
-use plm_token::scan;
+use plm_decl::{Names, Placement};
 use plm_type::Warning;
 use std::alloc::Global;
 use std::process::Abort;
@@ -38,10 +37,11 @@ static SOURCES: [(&[u8], &[u8]); 13] = [
 
 #[test]
 fn lists_each_line(rt: HostRuntime) -> Result<(), Fail> {
-    for (source, text) in SOURCES {
+    let mut expect = Expect::new(&rt);
+    for (source, text) in &SOURCES {
         let mut sink = CutSink::new(rt.alloc(), 100, 100)?;
-        assert_eq!(rt; listing(source, &[], &mut sink), Ok(()));
-        assert_eq!(rt; sink.bytes(), text, "of {source:?}");
+        expect.same(listing(source, &[], &mut sink), Ok(()));
+        assert!(rt; sink.bytes() == *text, "of {source:?}");
     }
     Ok(())
 }
@@ -110,33 +110,19 @@ fn lists_numbers_of_five_and_six_digits(rt: HostRuntime) -> Result<(), Fail> {
 #[test]
 fn listing_stops_where_the_sink_does(rt: HostRuntime) -> Result<(), Fail> {
     let mut expect = Expect::new(&rt);
-    let text =
+    let text: &[u8] =
         b"    1  A\n    2  B\n***** W1 procedure shared with an interrupt procedure\n    3  C\n";
     for room in 0..text.len() {
         let mut sink = CutSink::new(rt.alloc(), room, 1)?;
-        assert_eq!(rt;
-            listing(b"A\r\nB\nC", &[at(2)], &mut sink),
-            Err(CANNOT_WRITE)
-        );
-        assert_eq!(rt; sink.bytes(), &text[..room]);
-        assert_eq!(rt; sink.failures(), 1);
+        let written = listing(b"A\r\nB\nC", &[at(2)], &mut sink);
+        expect.same(written, Err(CANNOT_WRITE));
+        expect.holds(is_cut(&sink, text, room));
     }
     let mut sink = CutSink::new(rt.alloc(), text.len(), 1)?;
     expect.same(listing(b"A\r\nB\nC", &[at(2)], &mut sink), Ok(()));
-    expect.same(sink.bytes(), text.as_slice());
+    expect.same(sink.bytes(), text);
     expect.same(sink.failures(), 0);
     Ok(())
-}
-
-fn names_of(alloc: Global, text: &[u8]) -> Result<Names, Fault> {
-    let tree = parse(alloc, scan(alloc, text)?)?;
-    resolve(alloc, &[tree])
-}
-
-fn names_of_two(alloc: Global, first: &[u8], second: &[u8]) -> Result<Names, Fault> {
-    let tree = parse(alloc, scan(alloc, first)?)?;
-    let other = parse(alloc, scan(alloc, second)?)?;
-    resolve(alloc, &[tree, other])
 }
 
 /// A program's image, of which the map reads no bytes of the ROM.
@@ -179,59 +165,84 @@ STACK 001A 0FFE
 START 4294967295
 ";
 
-#[test]
-fn maps_a_program(rt: HostRuntime) -> Result<(), Fail> {
-    let mut expect = Expect::new(&rt);
-    let alloc = rt.alloc();
-    let Ok(names) = names_of(alloc, PROGRAM) else {
-        panic!(rt; "it is resolved");
-    };
+/// Fails unless the image with these names has this map, also in a sink that takes three bytes a call.
+fn is_mapped(
+    rt: &impl Abort,
+    alloc: Global,
+    image: &Image,
+    names: &Names,
+    text: &[u8],
+) -> Result<(), Fail> {
+    let mut expect = Expect::new(rt);
+    for step in [1000, 3] {
+        let mut sink = CutSink::new(alloc, 1000, step)?;
+        expect.same(map(image, names, &mut sink), Ok(()));
+        expect.same(sink.bytes(), text);
+    }
+    Ok(())
+}
+
+/// Fails unless the map stops where a sink does, whatever its room.
+fn is_cut_anywhere(
+    rt: &impl Abort,
+    alloc: Global,
+    image: &Image,
+    names: &Names,
+    text: &[u8],
+) -> Result<(), Fail> {
+    let mut expect = Expect::new(rt);
+    for room in 0..text.len() {
+        let mut sink = CutSink::new(alloc, room, 1)?;
+        expect.same(map(image, names, &mut sink), Err(CANNOT_WRITE));
+        expect.holds(is_cut(&sink, text, room));
+    }
+    Ok(())
+}
+
+fn maps_program(rt: &impl Abort, alloc: Global, names: &Names) -> Result<(), Fail> {
     let stack = Stack {
         main: 0x1A,
         handler: 0xFFE,
     };
     // the last object has no offset
     let image = image_of(alloc, 16384, &[2, 3, 4, 0xEFFE], stack, 4294967295)?;
-    let mut sink = CutSink::new(alloc, 1000, 1000)?;
-    expect.same(map(&image, &names, &mut sink), Ok(()));
-    expect.same(sink.bytes(), MAP);
-    for room in 0..MAP.len() {
-        let mut sink = CutSink::new(alloc, room, 1)?;
-        assert_eq!(rt; map(&image, &names, &mut sink), Err(CANNOT_WRITE));
-        assert_eq!(rt; sink.bytes(), &MAP[..room]);
-        assert_eq!(rt; sink.failures(), 1);
-    }
-    Ok(())
+    is_mapped(rt, alloc, &image, names, MAP)?;
+    is_cut_anywhere(rt, alloc, &image, names, MAP)
 }
 
-// an EXTERNAL procedure serves no interrupt
 #[test]
-fn maps_two_modules(rt: HostRuntime) -> Result<(), Fail> {
-    let mut expect = Expect::new(&rt);
+fn maps_a_program(rt: HostRuntime) -> Result<(), Fail> {
     let alloc = rt.alloc();
-    let first = b"M: DO; H: PROCEDURE INTERRUPT 0 EXTERNAL; END H; ; END M;";
-    let second =
-        b"N: DO; DECLARE X (60000) BYTE; H: PROCEDURE INTERRUPT 255 PUBLIC; END H; K: PROCEDURE INTERRUPT 0; END K; END N;";
-    let Ok(names) = names_of_two(alloc, first, second) else {
-        panic!(rt; "they are resolved");
-    };
-    let stack = Stack {
-        main: 0,
-        handler: 0xABCD,
-    };
-    let image = image_of(alloc, 65536, &[], stack, 0)?;
-    let mut sink = CutSink::new(alloc, 200, 3)?;
-    expect.same(map(&image, &names, &mut sink), Ok(()));
-    expect.same(
-        sink.bytes(),
-        b"ROM 64 KIB
+    seen(names_of(alloc, &[PROGRAM]), |names| {
+        maps_program(&rt, alloc, names)
+    })?
+}
+
+const MAP_OF_TWO: &[u8] = b"ROM 64 KIB
 OBJECT 0000 EA60 N.X
 HANDLER 00 N.K
 HANDLER FF N.H
 STACK 0000 ABCD
 START 0
-"
-            .as_slice(),
-    );
-    Ok(())
+";
+
+fn maps_both(rt: &impl Abort, alloc: Global, names: &Names) -> Result<(), Fail> {
+    let stack = Stack {
+        main: 0,
+        handler: 0xABCD,
+    };
+    let image = image_of(alloc, 65536, &[], stack, 0)?;
+    is_mapped(rt, alloc, &image, names, MAP_OF_TWO)
+}
+
+// an EXTERNAL procedure serves no interrupt
+#[test]
+fn maps_two_modules(rt: HostRuntime) -> Result<(), Fail> {
+    let alloc = rt.alloc();
+    let first = b"M: DO; H: PROCEDURE INTERRUPT 0 EXTERNAL; END H; ; END M;";
+    let second =
+        b"N: DO; DECLARE X (60000) BYTE; H: PROCEDURE INTERRUPT 255 PUBLIC; END H; K: PROCEDURE INTERRUPT 0; END K; END N;";
+    seen(names_of(alloc, &[first, second]), |names| {
+        maps_both(&rt, alloc, names)
+    })?
 }

@@ -2,28 +2,19 @@
 //! meaning of the same text makes the same ones.
 
 use crate::expect::Expect;
-use crate::meaning::{run, run_of};
+use crate::meaning::run;
+use crate::sources::{code_of, program_of, seen, then};
 use icode::{Code, Instruction, Machine, RamObjects, Routine, Step, Stop};
 use lower::lower;
-use plm_decl::{Datum, Names, Placement, resolve};
-use plm_syntax::parse;
-use plm_token::scan;
-use plm_type::{Line, Program, check};
+use plm_decl::{Datum, Names};
+use plm_type::{Line, Program};
 use std::alloc::Global;
+use std::process::Abort;
 use std::test::Fail;
 use word86::{Access, Fault, Label, Place, Width};
 
 /// What is stored, byte by byte, the newest last.
 type Store = Vec<(Place, u8)>;
-
-/// The program with these modules.
-pub(crate) fn program_of(alloc: Global, texts: &[&[u8]]) -> Result<Program, Fault> {
-    let mut trees = Vec::new(alloc);
-    for text in texts {
-        trees.push(parse(alloc, scan(alloc, text)?)?)?;
-    }
-    check(alloc, resolve(alloc, trees.as_slice())?)
-}
 
 fn behind(place: Place) -> Place {
     match place {
@@ -58,21 +49,32 @@ fn put(store: &mut Store, width: Width, place: Place, value: u16) -> Result<(), 
     Ok(())
 }
 
-/// The objects' initial bytes and words.
+/// A datum's width, and its value where the objects' offsets are not known.
+fn value_of(datum: &Datum) -> (Width, u16) {
+    match datum {
+        Datum::Byte(byte) => (Width::Byte, u16::from(*byte)),
+        Datum::Word(word) => (Width::Word, *word),
+        Datum::Variable(_, offset) => (Width::Word, *offset),
+        Datum::Constants(_) => (Width::Word, 0),
+    }
+}
+
+/// An object's initial bytes and words.
+fn put_data(store: &mut Store, number: usize, data: &[Datum]) -> Result<(), Fault> {
+    let mut index: u16 = 0;
+    for datum in data {
+        let (width, value) = value_of(datum);
+        put(store, width, Place::Ram(number, index), value)?;
+        index = index.wrapping_add(if width == Width::Byte { 1 } else { 2 });
+    }
+    Ok(())
+}
+
+/// Those of all objects.
 fn first_store(alloc: Global, names: &Names) -> Result<Store, Fault> {
     let mut store = Vec::new(alloc);
     for (number, object) in names.objects.iter().enumerate() {
-        let mut index: u16 = 0;
-        for datum in &object.initial {
-            let (width, value) = match datum {
-                Datum::Byte(byte) => (Width::Byte, u16::from(*byte)),
-                Datum::Word(word) => (Width::Word, *word),
-                Datum::Variable(_, offset) => (Width::Word, *offset),
-                Datum::Constants(_) => (Width::Word, 0),
-            };
-            put(&mut store, width, Place::Ram(number, index), value)?;
-            index = index.wrapping_add(if width == Width::Byte { 1 } else { 2 });
-        }
+        put_data(&mut store, number, &object.initial)?;
     }
     Ok(store)
 }
@@ -110,7 +112,62 @@ enum End {
     GoesOn,
 }
 
-/// The accesses of main's steps up to its HALT of this number, if it comes there in 4,000 steps.
+/// What a run has done so far.
+#[derive(Drop)]
+struct Done {
+    store: Store,
+    accesses: Vec<Access>,
+    halts: u32,
+}
+
+impl Done {
+    /// An access was made, or none.
+    fn keep(&mut self, access: Option<Access>) -> Result<(), Fault> {
+        let Some(access) = access else {
+            return Ok(());
+        };
+        self.accesses.push(access)?;
+        match access {
+            Access::Write(width, place, value) => put(&mut self.store, width, place, value),
+            Access::Read(..) | Access::Input(..) | Access::Output(..) => Ok(()),
+        }
+    }
+
+    /// One step of the machine.
+    fn step(&mut self, machine: &mut Machine<'_>) -> Result<Option<Stop>, Fault> {
+        let access = machine.access();
+        match machine.step(answer_to(&self.store, access)) {
+            Err(stop) => return Ok(Some(stop)),
+            Ok(Step::Halt) => self.halts = self.halts.saturating_add(1),
+            Ok(_) => {}
+        }
+        self.keep(access)?;
+        Ok(None)
+    }
+
+    /// Steps up to main's HALT of this number, if it comes there in 4,000 steps.
+    fn run(&mut self, machine: &mut Machine<'_>, halts: u32) -> Result<End, Fault> {
+        for _ in 0..4000u32 {
+            if let Some(stop) = self.step(machine)? {
+                return Ok(End::Stopped(stop));
+            }
+            if self.halts >= halts {
+                return Ok(End::Halted);
+            }
+        }
+        Ok(End::GoesOn)
+    }
+}
+
+fn sizes_of(alloc: Global, names: &Names) -> Result<Vec<u64>, Fault> {
+    let mut sizes = Vec::new(alloc);
+    for object in &names.objects {
+        sizes.push(object.size)?;
+    }
+    Ok(sizes)
+}
+
+/// The accesses of main's steps up to its HALT of this number, and where the run ends.
 fn accesses_of(
     alloc: Global,
     code: &Code,
@@ -118,48 +175,52 @@ fn accesses_of(
     offsets: &[u16],
     halts: u32,
 ) -> Result<(Vec<Access>, End), Fault> {
-    let mut sizes = Vec::new(alloc);
-    for object in &names.objects {
-        sizes.push(object.size)?;
-    }
+    let sizes = sizes_of(alloc, names)?;
     let ram_objects = RamObjects {
         offsets,
         sizes: &sizes,
     };
-    let mut store = first_store(alloc, names)?;
-    let mut accesses = Vec::new(alloc);
     let mut machine = Machine::new(alloc, code, ram_objects);
-    let mut halted: u32 = 0;
-    for _ in 0..4000u32 {
-        let access = machine.access();
-        match machine.step(answer_to(&store, access)) {
-            Err(stop) => return Ok((accesses, End::Stopped(stop))),
-            Ok(Step::Halt) => halted = halted.saturating_add(1),
-            Ok(_) => {}
-        }
-        if let Some(access) = access {
-            accesses.push(access)?;
-            if let Access::Write(width, place, value) = access {
-                put(&mut store, width, place, value)?;
-            }
-        }
-        if halted >= halts {
-            return Ok((accesses, End::Halted));
-        }
-    }
-    Ok((accesses, End::GoesOn))
+    let mut done = Done {
+        store: first_store(alloc, names)?,
+        accesses: Vec::new(alloc),
+        halts: 0,
+    };
+    let end = done.run(&mut machine, halts)?;
+    Ok((done.accesses, end))
 }
 
-/// The labels of the same steps, of a program with these modules.
+fn accesses_by(
+    alloc: Global,
+    program: &Program,
+    offsets: &[u16],
+    halts: u32,
+) -> Result<(Vec<Access>, End), Fault> {
+    then(lower(alloc, program), |code| {
+        accesses_of(alloc, code, program.names(), offsets, halts)
+    })
+}
+
+/// The accesses of the code of these modules.
+fn accesses_in(
+    alloc: Global,
+    texts: &[&[u8]],
+    offsets: &[u16],
+    halts: u32,
+) -> Result<(Vec<Access>, End), Fault> {
+    then(program_of(alloc, texts), |program| {
+        accesses_by(alloc, program, offsets, halts)
+    })
+}
+
+/// The labels of the same steps.
 fn labels_of(
     alloc: Global,
     texts: &[&[u8]],
     offsets: &[u16],
     halts: u32,
 ) -> Result<(Vec<Label>, End), Fault> {
-    let program = program_of(alloc, texts)?;
-    let code = lower(alloc, &program)?;
-    let (accesses, end) = accesses_of(alloc, &code, program.names(), offsets, halts)?;
+    let (accesses, end) = accesses_in(alloc, texts, offsets, halts)?;
     let mut labels = Vec::new(alloc);
     for access in &accesses {
         if let Some(label) = label_of(*access) {
@@ -172,21 +233,30 @@ fn labels_of(
 /// A text, its objects' offsets, its labels, and whether it ends by a Bad step.
 type Row<'a> = (&'a [u8], &'a [u16], &'a [Label], bool);
 
-/// Whether the code of each text makes just these labels up to main's first HALT or Bad step, as the meaning does.
+/// Whether the code of a text makes just these labels up to main's first HALT or Bad step.
+fn is_shown(alloc: Global, row: &Row<'_>) -> Result<bool, Fault> {
+    let (text, offsets, labels, bad) = row;
+    let wanted = if *bad {
+        End::Stopped(Stop::Bad)
+    } else {
+        End::Halted
+    };
+    let (shown, end) = labels_of(alloc, &[*text], offsets, 1)?;
+    Ok(shown.as_slice() == *labels && end == wanted)
+}
+
+/// Whether the meaning does.
+fn is_meant(alloc: Global, row: &Row<'_>) -> Result<bool, Fault> {
+    let (text, offsets, labels, bad) = row;
+    let bad_line = plm_meaning::Stop::Bad(Line { module: 0, line: 1 });
+    let (meant, ended) = run(alloc, &[*text], offsets)?;
+    Ok(meant.as_slice() == *labels && (ended == Some(bad_line)) == *bad)
+}
+
+/// Whether both do so for each text.
 fn are_shown(alloc: Global, rows: &[Row<'_>]) -> Result<bool, Fault> {
-    for (text, offsets, labels, bad) in rows {
-        let (shown, end) = labels_of(alloc, &[*text], offsets, 1)?;
-        let wanted = if *bad {
-            End::Stopped(Stop::Bad)
-        } else {
-            End::Halted
-        };
-        if shown.as_slice() != *labels || end != wanted {
-            return Ok(false);
-        }
-        let (meant, ended) = run(alloc, text, offsets)?;
-        let bad_line = plm_meaning::Stop::Bad(Line { module: 0, line: 1 });
-        if meant.as_slice() != *labels || (ended == Some(bad_line)) != *bad {
+    for row in rows {
+        if !is_shown(alloc, row)? || !is_meant(alloc, row)? {
             return Ok(false);
         }
     }
@@ -396,29 +466,51 @@ fn bad_steps(rt: HostRuntime) -> Result<(), Fail> {
     Ok(())
 }
 
+/// Fails unless the code of a text whose objects lie at these offsets makes these labels up to its HALT of this number, and ends so.
+fn goes_on(
+    rt: &impl Abort,
+    alloc: Global,
+    text: &[u8],
+    (offsets, halts): (&[u16], u32),
+    (wanted, end): (&[Label], End),
+) -> Result<(), Fault> {
+    let mut expect = Expect::new(rt);
+    let (labels, ended) = labels_of(alloc, &[text], offsets, halts)?;
+    expect.same(labels.as_slice(), wanted);
+    expect.same(ended, end);
+    Ok(())
+}
+
+/// Fails unless the text means these labels.
+fn means(
+    rt: &impl Abort,
+    alloc: Global,
+    text: &[u8],
+    offsets: &[u16],
+    wanted: &[Label],
+) -> Result<(), Fault> {
+    let (labels, _) = run(alloc, &[text], offsets)?;
+    assert_eq!(rt; labels.as_slice(), wanted);
+    Ok(())
+}
+
 #[test]
 fn main_goes_on_behind_halts(rt: HostRuntime) -> Result<(), Fail> {
-    let mut expect = Expect::new(&rt);
     let alloc = rt.alloc();
     let forever =
         b"M: DO; DECLARE FOREVER LITERALLY 'WHILE 1'; DO FOREVER; OUTPUT(300H) = 1; HALT; END; END M;";
-    let (labels, end) = labels_of(alloc, &[forever], &[], 3)?;
-    let three = [
+    const ONCE: &[Label] = &[Label::Out(0x300, 1)];
+    const THREE_TIMES: &[Label] = &[
         Label::Out(0x300, 1),
         Label::Out(0x300, 1),
         Label::Out(0x300, 1),
     ];
-    expect.same(labels.as_slice(), three.as_slice());
-    expect.same(end, End::Halted);
-    expect.same(
-        run(alloc, forever, &[])?.0.as_slice(),
-        [Label::Out(0x300, 1)].as_slice(),
-    );
+    goes_on(&rt, alloc, forever, (&[], 3), (THREE_TIMES, End::Halted))?;
+    means(&rt, alloc, forever, &[], ONCE)?;
     // After its last statement main halts again and again.
     let waiting =
         b"M: DO; OUTPUT(20H) = 13H; OUTPUT(21H) = 8; OUTPUT(21H) = 1; OUTPUT(21H) = 0FEH; OUTPUT(43H) = 14H; OUTPUT(40H) = 4; HALT; OUTPUT(300H) = 1; END M;";
-    let (labels, end) = labels_of(alloc, &[waiting], &[], 5)?;
-    let shown = [
+    const SHOWN: &[Label] = &[
         Label::Out(0x20, 0x13),
         Label::Out(0x21, 8),
         Label::Out(0x21, 1),
@@ -427,76 +519,63 @@ fn main_goes_on_behind_halts(rt: HostRuntime) -> Result<(), Fail> {
         Label::Out(0x40, 4),
         Label::Out(0x300, 1),
     ];
-    expect.same(labels.as_slice(), shown.as_slice());
-    expect.same(end, End::Halted);
+    goes_on(&rt, alloc, waiting, (&[], 5), (SHOWN, End::Halted))?;
     Ok(())
 }
 
 #[test]
 fn main_goes_on_where_interrupts_come(rt: HostRuntime) -> Result<(), Fail> {
-    let mut expect = Expect::new(&rt);
     let alloc = rt.alloc();
     // Without the interrupt the base is A's address in each round.
     let based =
         b"M: DO; DECLARE P WORD, A BYTE INITIAL (1), C BYTE INITIAL (2), B BASED P BYTE, I BYTE; H: PROCEDURE INTERRUPT 8; P = .C; END H; OUTPUT(43H) = 14H; OUTPUT(40H) = 2; HALT; P = .A; DO I = 1 TO 200; OUTPUT(300H) = B; END; END M;";
-    let (labels, end) = labels_of(alloc, &[based], &[2, 4, 5, 6], 2)?;
-    let mut wanted = [Label::Out(0x43, 0x14), Label::Out(0x40, 2)].to_vec(alloc)?;
+    const SET_UP: &[Label] = &[Label::Out(0x43, 0x14), Label::Out(0x40, 2)];
+    let mut wanted = SET_UP.to_vec(alloc)?;
     for _ in 0..200u32 {
         wanted.push(Label::Out(0x300, 1))?;
     }
-    expect.same(labels.as_slice(), wanted.as_slice());
-    expect.same(end, End::Halted);
+    let offsets = [2, 4, 5, 6];
+    goes_on(&rt, alloc, based, (&offsets, 2), (&wanted, End::Halted))?;
     // The meaning is looked at up to the first HALT.
-    let meant = run(alloc, based, &[2, 4, 5, 6])?.0;
-    expect.same(
-        meant.as_slice(),
-        [Label::Out(0x43, 0x14), Label::Out(0x40, 2)].as_slice(),
-    );
+    means(&rt, alloc, based, &offsets, SET_UP)?;
     let waiting =
         b"M: DO; K: PROCEDURE INTERRUPT 9; OUTPUT(300H) = INPUT(60H); OUTPUT(61H) = 80H; OUTPUT(61H) = 0; END K; OUTPUT(63H) = 99H; OUTPUT(20H) = 13H; OUTPUT(21H) = 8; OUTPUT(21H) = 3; OUTPUT(21H) = 0FDH; ENABLE; DO WHILE 1; END; END M;";
-    let (labels, end) = labels_of(alloc, &[waiting], &[], 1)?;
-    let shown = [
+    const SHOWN: &[Label] = &[
         Label::Out(0x63, 0x99),
         Label::Out(0x20, 0x13),
         Label::Out(0x21, 8),
         Label::Out(0x21, 3),
         Label::Out(0x21, 0xFD),
     ];
-    expect.same(labels.as_slice(), shown.as_slice());
-    expect.same(end, End::GoesOn);
-    expect.same(run(alloc, waiting, &[])?.0.as_slice(), shown.as_slice());
+    goes_on(&rt, alloc, waiting, (&[], 1), (SHOWN, End::GoesOn))?;
+    means(&rt, alloc, waiting, &[], SHOWN)?;
+    Ok(())
+}
+
+/// Fails unless the code of these modules makes these accesses up to main's HALT of this number.
+fn accesses(
+    rt: &impl Abort,
+    alloc: Global,
+    texts: &[&[u8]],
+    offsets: &[u16],
+    halts: u32,
+    wanted: &[Access],
+) -> Result<(), Fault> {
+    let (found, _) = accesses_in(alloc, texts, offsets, halts)?;
+    assert_eq!(rt; found.as_slice(), wanted);
     Ok(())
 }
 
 #[test]
 fn accesses_are_in_order(rt: HostRuntime) -> Result<(), Fail> {
-    let alloc = rt.alloc();
-    let program = program_of(
-        alloc,
-        &[b"M: DO; DECLARE B BYTE; B = 255; OUTPUT(300H) = B + 1; END M;"],
-    )?;
-    let code = lower(alloc, &program)?;
-    let (accesses, _) = accesses_of(alloc, &code, program.names(), &[2], 1)?;
+    let text = b"M: DO; DECLARE B BYTE; B = 255; OUTPUT(300H) = B + 1; END M;";
     let wanted = [
         Access::Write(Width::Byte, Place::Ram(0, 0), 0xFF),
         Access::Read(Width::Byte, Place::Ram(0, 0)),
         Access::Output(Width::Byte, 0x300, 0),
     ];
-    assert_eq!(rt; accesses.as_slice(), wanted.as_slice());
+    accesses(&rt, rt.alloc(), &[text], &[2], 1, &wanted)?;
     Ok(())
-}
-
-/// The accesses of the code of these modules up to main's HALT of this number.
-fn accesses_in(
-    alloc: Global,
-    texts: &[&[u8]],
-    offsets: &[u16],
-    halts: u32,
-) -> Result<Vec<Access>, Fault> {
-    let program = program_of(alloc, texts)?;
-    let code = lower(alloc, &program)?;
-    let (accesses, _) = accesses_of(alloc, &code, program.names(), offsets, halts)?;
-    Ok(accesses)
 }
 
 /// The first byte of an object is read, or gets a value.
@@ -514,7 +593,6 @@ fn sends(port: u16, value: u16) -> Access {
 
 #[test]
 fn rows_access_in_order(rt: HostRuntime) -> Result<(), Fail> {
-    let mut expect = Expect::new(&rt);
     let alloc = rt.alloc();
     // The index is compared, sent, and read for the sum; the sum is stored, and wraps at last.
     let wrapping =
@@ -531,10 +609,7 @@ fn rows_access_in_order(rt: HostRuntime) -> Result<(), Fail> {
         wanted.extend_from_slice(&round)?;
     }
     wanted.extend_from_slice(&[reads(0), sends(0x301, 0)])?;
-    expect.same(
-        accesses_in(alloc, &[wrapping], &[2], 1)?.as_slice(),
-        wanted.as_slice(),
-    );
+    accesses(&rt, alloc, &[wrapping], &[2], 1, &wanted)?;
     // Targets from left to right; what an embedded assignment stores is read after it.
     let several =
         b"M: DO; DECLARE A BYTE, B WORD; A, B = 300; OUTPUT(300H) = A; OUTWORD(302H) = B; OUTPUT(304H) = (A := 5) + A; END M;";
@@ -549,10 +624,7 @@ fn rows_access_in_order(rt: HostRuntime) -> Result<(), Fail> {
         reads(0),
         sends(0x304, 10),
     ];
-    expect.same(
-        accesses_in(alloc, &[several], &[2, 3], 1)?.as_slice(),
-        wanted.as_slice(),
-    );
+    accesses(&rt, alloc, &[several], &[2, 3], 1, &wanted)?;
     // A member, a screen word, an element.
     let member =
         b"M: DO; DECLARE S(2) STRUCTURE (X BYTE, Y WORD) INITIAL (1, 2, 3, 0405H); OUTWORD(300H) = S(1).Y; OUTPUT(302H) = SIZE(S); OUTPUT(303H) = LAST(S); END M;";
@@ -562,37 +634,24 @@ fn rows_access_in_order(rt: HostRuntime) -> Result<(), Fail> {
         sends(0x302, 6),
         sends(0x303, 1),
     ];
-    expect.same(
-        accesses_in(alloc, &[member], &[2], 1)?.as_slice(),
-        wanted.as_slice(),
-    );
+    accesses(&rt, alloc, &[member], &[2], 1, &wanted)?;
     let screen = b"M: DO; DECLARE S WORD AT (0B8F9EH); S = 0741H; END M;";
     let wanted = [Access::Write(Width::Word, Place::Screen(0xF9E), 0x741)];
-    expect.same(
-        accesses_in(alloc, &[screen], &[], 1)?.as_slice(),
-        wanted.as_slice(),
-    );
+    accesses(&rt, alloc, &[screen], &[], 1, &wanted)?;
     let element = b"M: DO; DECLARE A(3) BYTE; A(2) = 1; END M;";
     let wanted = [Access::Write(Width::Byte, Place::Ram(0, 2), 1)];
-    expect.same(
-        accesses_in(alloc, &[element], &[2], 1)?.as_slice(),
-        wanted.as_slice(),
-    );
+    accesses(&rt, alloc, &[element], &[2], 1, &wanted)?;
     Ok(())
 }
 
 #[test]
 fn rows_of_calls_and_bases_access_in_order(rt: HostRuntime) -> Result<(), Fail> {
-    let mut expect = Expect::new(&rt);
     let alloc = rt.alloc();
     let caller =
         b"A: DO; DECLARE X BYTE EXTERNAL; P: PROCEDURE EXTERNAL; END P; CALL P; OUTPUT(300H) = X; END A;";
     let called = b"B: DO; DECLARE X BYTE PUBLIC; P: PROCEDURE PUBLIC; X = 9; END P; END B;";
     let wanted = [writes(0, 9), reads(0), sends(0x300, 9)];
-    expect.same(
-        accesses_in(alloc, &[caller, called], &[2], 1)?.as_slice(),
-        wanted.as_slice(),
-    );
+    accesses(&rt, alloc, &[caller, called], &[2], 1, &wanted)?;
     // In each round the base is read, and then what it leads to.
     let based =
         b"M: DO; DECLARE P WORD, A BYTE INITIAL (1), C BYTE INITIAL (2), B BASED P BYTE, I BYTE; H: PROCEDURE INTERRUPT 8; P = .C; END H; OUTPUT(43H) = 14H; OUTPUT(40H) = 2; HALT; P = .A; DO I = 1 TO 200; OUTPUT(300H) = B; END; END M;";
@@ -615,10 +674,34 @@ fn rows_of_calls_and_bases_access_in_order(rt: HostRuntime) -> Result<(), Fail> 
         wanted.extend_from_slice(&accesses)?;
     }
     wanted.push(reads(3))?;
-    expect.same(
-        accesses_in(alloc, &[based], &[2, 4, 5, 6], 2)?.as_slice(),
-        wanted.as_slice(),
-    );
+    accesses(&rt, alloc, &[based], &[2, 4, 5, 6], 2, &wanted)?;
+    Ok(())
+}
+
+/// How many sections the code has, main's module, and the procedures' modules.
+fn sections_of(alloc: Global, code: &Code) -> Result<(usize, usize, Vec<usize>), Fault> {
+    let mut modules = Vec::new(alloc);
+    for procedure in &code.procedures {
+        modules.push(procedure.module)?;
+    }
+    Ok((code.sections, code.main_module, modules))
+}
+
+const CALLS: &[u8] =
+    b"A: DO; DECLARE X BYTE EXTERNAL; P: PROCEDURE EXTERNAL; END P; CALL P; OUTPUT(300H) = X; END A;";
+
+const PUTS_NINE: &[u8] = b"B: DO; DECLARE X BYTE PUBLIC; P: PROCEDURE PUBLIC; X = 9; END P; END B;";
+
+#[test]
+fn modules_run(rt: HostRuntime) -> Result<(), Fail> {
+    let mut expect = Expect::new(&rt);
+    let alloc = rt.alloc();
+    let wanted = [Label::Out(0x300, 9)];
+    let (labels, end) = labels_of(alloc, &[CALLS, PUTS_NINE], &[2], 1)?;
+    expect.same(labels.as_slice(), wanted.as_slice());
+    expect.same(end, End::Halted);
+    let (meant, _) = run(alloc, &[CALLS, PUTS_NINE], &[2])?;
+    expect.same(meant.as_slice(), wanted.as_slice());
     Ok(())
 }
 
@@ -626,50 +709,28 @@ fn rows_of_calls_and_bases_access_in_order(rt: HostRuntime) -> Result<(), Fail> 
 fn modules_have_sections(rt: HostRuntime) -> Result<(), Fail> {
     let mut expect = Expect::new(&rt);
     let alloc = rt.alloc();
-    let first =
-        b"A: DO; DECLARE X BYTE EXTERNAL; P: PROCEDURE EXTERNAL; END P; CALL P; OUTPUT(300H) = X; END A;";
-    let second = b"B: DO; DECLARE X BYTE PUBLIC; P: PROCEDURE PUBLIC; X = 9; END P; END B;";
-    let (labels, end) = labels_of(alloc, &[first, second], &[2], 1)?;
-    expect.same(labels.as_slice(), [Label::Out(0x300, 9)].as_slice());
-    expect.same(end, End::Halted);
-    let program = program_of(alloc, &[first, second])?;
-    let placement = Placement::of([2].to_vec(alloc)?);
-    let meant = run_of(alloc, &program, &placement)?.0;
-    expect.same(meant.as_slice(), labels.as_slice());
-    let code = lower(alloc, &program)?;
-    expect.same(code.sections, 2);
-    expect.same(code.main_module, 0);
-    let mut modules = Vec::new(alloc);
-    for procedure in &code.procedures {
-        modules.push(procedure.module)?;
-    }
+    let (sections, main, modules) = then(code_of(alloc, &[CALLS, PUTS_NINE]), |code| {
+        sections_of(alloc, code)
+    })?;
+    expect.same((sections, main), (2, 0));
     expect.same(modules.as_slice(), [0, 1].as_slice());
     // Main stands in the last section where its module is the last.
-    let program = program_of(alloc, &[second, first])?;
-    let code = lower(alloc, &program)?;
-    expect.same(code.sections, 2);
-    expect.same(code.main_module, 1);
+    let turned = seen(code_of(alloc, &[PUTS_NINE, CALLS]), |code| {
+        (code.sections, code.main_module)
+    })?;
+    expect.same(turned, (2, 1));
     Ok(())
 }
 
-#[test]
-fn interrupts_are_served(rt: HostRuntime) -> Result<(), Fail> {
-    let mut expect = Expect::new(&rt);
-    let alloc = rt.alloc();
-    let text =
-        b"M: DO; Q: PROCEDURE; OUTPUT(61H) = 0; END Q; K: PROCEDURE INTERRUPT 9; OUTPUT(300H) = INPUT(60H); OUTPUT(61H) = 80H; CALL Q; END K; ENABLE; DO WHILE 1; END; END M;";
-    let program = program_of(alloc, &[text])?;
-    let code = lower(alloc, &program)?;
-    expect.same(code.serving(9), Routine::Procedure(1));
-    expect.same(code.serving(8), Routine::Unserved);
+/// Two procedures, of which the second serves vector 9.
+fn is_serving(rt: &impl Abort, code: &Code) {
     // A procedure that gives no value ends by Leave alone, one that serves a vector by Finish.
-    let called = [
+    const CALLED: &[Instruction] = &[
         Instruction::Constant(0),
         Instruction::SendTo(Width::Byte, 0x61),
         Instruction::Leave,
     ];
-    expect.same(code.instructions(Routine::Procedure(0)), called.as_slice());
-    let serving = [
+    const SERVING: &[Instruction] = &[
         Instruction::ReceiveFrom(Width::Byte, 0x60),
         Instruction::SendTo(Width::Byte, 0x300),
         Instruction::Constant(0x80),
@@ -677,8 +738,19 @@ fn interrupts_are_served(rt: HostRuntime) -> Result<(), Fail> {
         Instruction::Invoke(0),
         Instruction::Finish,
     ];
-    expect.same(code.instructions(Routine::Procedure(1)), serving.as_slice());
+    let mut expect = Expect::new(rt);
+    expect.same(code.serving(9), Routine::Procedure(1));
+    expect.same(code.serving(8), Routine::Unserved);
+    expect.same(code.instructions(Routine::Procedure(0)), CALLED);
+    expect.same(code.instructions(Routine::Procedure(1)), SERVING);
     // The interrupt procedure calls the other one, which stands before it.
     expect.same(code.order.as_slice(), [0, 1].as_slice());
+}
+
+#[test]
+fn interrupts_are_served(rt: HostRuntime) -> Result<(), Fail> {
+    let text =
+        b"M: DO; Q: PROCEDURE; OUTPUT(61H) = 0; END Q; K: PROCEDURE INTERRUPT 9; OUTPUT(300H) = INPUT(60H); OUTPUT(61H) = 80H; CALL Q; END K; ENABLE; DO WHILE 1; END; END M;";
+    seen(code_of(rt.alloc(), &[text]), |code| is_serving(&rt, code))?;
     Ok(())
 }

@@ -1,21 +1,16 @@
 //! Steps of small programs, with traces written by hand from the language's rules.
 
 use crate::expect::Expect;
-use plm_decl::{Placement, resolve};
+use crate::sources::{program_of, seen, then};
+use plm_decl::Placement;
 use plm_meaning::{Choice, Meaning, Step, Stop};
-use plm_syntax::parse;
-use plm_token::scan;
-use plm_type::{Line, Program, check};
+use plm_type::{Line, Program};
 use std::alloc::Global;
+use std::process::Abort;
 use std::test::Fail;
 use word86::{Event, Fault, Label, Number, PowerOn};
 
 const HERE: Line = Line { module: 0, line: 1 };
-
-fn program_of(alloc: Global, text: &[u8]) -> Result<Program, Fault> {
-    let tree = parse(alloc, scan(alloc, text)?)?;
-    check(alloc, resolve(alloc, &[tree])?)
-}
 
 /// The first state of a program, where the placement fits it; RAM holds this byte everywhere.
 fn opened<'a>(
@@ -31,50 +26,60 @@ fn opened<'a>(
     }
 }
 
-/// The labels of the program's steps, as far as they can be made, and why they end; RAM holds 5AH everywhere.
-pub(crate) fn run_of(
-    alloc: Global,
-    program: &Program,
-    placement: &Placement,
-) -> Result<(Vec<Label>, Option<Stop>), Fault> {
+/// A run's labels, and why it ends, if it does.
+pub(crate) type Run = (Vec<Label>, Option<Stop>);
+
+/// The labels of the program's steps, as far as they can be made.
+fn run_on(alloc: Global, meaning: &mut Meaning<'_>) -> Result<Run, Fault> {
     let mut labels = Vec::new(alloc);
-    let mut meaning = opened(alloc, program, placement, 0x5A)?;
     for _ in 0..2000u32 {
         match meaning.step(Choice::Program) {
             Err(stop) => return Ok((labels, Some(stop))),
-            Ok(step) => {
-                if let Some(label) = step.label {
-                    labels.push(label)?;
-                }
-            }
+            Ok(step) => put_label(&mut labels, step.label)?,
         }
     }
     Ok((labels, None))
 }
 
-/// The run of a text whose objects lie at these offsets.
-pub(crate) fn run(
-    alloc: Global,
-    text: &[u8],
-    offsets: &[u16],
-) -> Result<(Vec<Label>, Option<Stop>), Fault> {
-    let program = program_of(alloc, text)?;
+fn put_label(labels: &mut Vec<Label>, label: Option<Label>) -> Result<(), Fault> {
+    if let Some(label) = label {
+        labels.push(label)?;
+    }
+    Ok(())
+}
+
+/// The run of a program whose objects lie at these offsets; RAM holds 5AH everywhere.
+fn run_of(alloc: Global, program: &Program, offsets: &[u16]) -> Result<Run, Fault> {
     let placement = Placement::of(offsets.to_vec(alloc)?);
-    run_of(alloc, &program, &placement)
+    let mut meaning = opened(alloc, program, &placement, 0x5A)?;
+    run_on(alloc, &mut meaning)
+}
+
+/// The run of the program with these modules.
+pub(crate) fn run(alloc: Global, texts: &[&[u8]], offsets: &[u16]) -> Result<Run, Fault> {
+    then(program_of(alloc, texts), |program| {
+        run_of(alloc, program, offsets)
+    })
 }
 
 /// A text, its objects' offsets, its labels, and where it ends by a Bad step.
 type Row<'a> = (&'a [u8], &'a [u16], &'a [Label], Option<Line>);
 
-/// Whether the texts make just these labels, and then main is halted or its next step is Bad.
+/// Whether a text makes just these labels, and then main is halted or its next step is Bad.
+fn is_shown(alloc: Global, row: &Row<'_>) -> Result<bool, Fault> {
+    let (text, offsets, labels, bad) = row;
+    let end = match bad {
+        None => Stop::NotAllowed,
+        Some(line) => Stop::Bad(*line),
+    };
+    let (shown, stop) = run(alloc, &[*text], offsets)?;
+    Ok(shown.as_slice() == *labels && stop == Some(end))
+}
+
+/// Whether all do.
 fn are_shown(alloc: Global, rows: &[Row<'_>]) -> Result<bool, Fault> {
-    for (text, offsets, labels, bad) in rows {
-        let (shown, stop) = run(alloc, text, offsets)?;
-        let end = match bad {
-            None => Stop::NotAllowed,
-            Some(line) => Stop::Bad(*line),
-        };
-        if shown.as_slice() != *labels || stop != Some(end) {
+    for row in rows {
+        if !is_shown(alloc, row)? {
             return Ok(false);
         }
     }
@@ -363,39 +368,62 @@ fn parts_are_evaluated_in_order(rt: HostRuntime) -> Result<(), Fail> {
     Ok(())
 }
 
-/// The labels of a text's run: an event before each step that it is given for, then Enter where it is allowed, else a step of the
-/// program, else Leave, else Idle.
+/// One turn: Enter where it is allowed, else a step of the program, else Leave, else Idle.
+fn turn(labels: &mut Vec<Label>, meaning: &mut Meaning<'_>) -> Result<(), Fault> {
+    for choice in [Choice::Enter, Choice::Program, Choice::Leave, Choice::Idle] {
+        if let Ok(step) = meaning.step(choice) {
+            return put_label(labels, step.label);
+        }
+    }
+    Ok(())
+}
+
+/// The events that come before a turn.
+fn happen(
+    labels: &mut Vec<Label>,
+    meaning: &mut Meaning<'_>,
+    events: &[(u32, Event)],
+    turn: u32,
+) -> Result<(), Fault> {
+    for (when, event) in events {
+        if *when == turn {
+            if let Ok(step) = meaning.step(Choice::Event(*event)) {
+                put_label(labels, step.label)?;
+            }
+        }
+    }
+    Ok(())
+}
+
+/// The labels of a program's turns, each after its events.
+fn turns_of(
+    alloc: Global,
+    program: &Program,
+    offsets: &[u16],
+    events: &[(u32, Event)],
+    turns: u32,
+) -> Result<Vec<Label>, Fault> {
+    let placement = Placement::of(offsets.to_vec(alloc)?);
+    let mut meaning = opened(alloc, program, &placement, 0)?;
+    let mut labels = Vec::new(alloc);
+    for number in 0..turns {
+        happen(&mut labels, &mut meaning, events, number)?;
+        turn(&mut labels, &mut meaning)?;
+    }
+    Ok(labels)
+}
+
+/// The labels of a text's turns.
 fn trace(
     alloc: Global,
     text: &[u8],
     offsets: &[u16],
     events: &[(u32, Event)],
-    steps: u32,
+    turns: u32,
 ) -> Result<Vec<Label>, Fault> {
-    let mut labels = Vec::new(alloc);
-    let program = program_of(alloc, text)?;
-    let placement = Placement::of(offsets.to_vec(alloc)?);
-    let mut meaning = opened(alloc, &program, &placement, 0)?;
-    for turn in 0..steps {
-        for (when, event) in events {
-            if *when == turn {
-                if let Ok(step) = meaning.step(Choice::Event(*event)) {
-                    if let Some(label) = step.label {
-                        labels.push(label)?;
-                    }
-                }
-            }
-        }
-        for choice in [Choice::Enter, Choice::Program, Choice::Leave, Choice::Idle] {
-            if let Ok(step) = meaning.step(choice) {
-                if let Some(label) = step.label {
-                    labels.push(label)?;
-                }
-                break;
-            }
-        }
-    }
-    Ok(labels)
+    then(program_of(alloc, &[text]), |program| {
+        turns_of(alloc, program, offsets, events, turns)
+    })
 }
 
 #[test]
@@ -403,26 +431,21 @@ fn interrupts_enter_within_statements(rt: HostRuntime) -> Result<(), Fail> {
     let alloc = rt.alloc();
     let text =
         b"M: DO; DECLARE (W, X) WORD; H: PROCEDURE INTERRUPT 8; OUTPUT(301H) = 1; W = 0FFFFH; END H; OUTPUT(20H) = 13H; OUTPUT(21H) = 8; OUTPUT(21H) = 3; OUTPUT(21H) = 0FEH; OUTPUT(43H) = 14H; OUTPUT(40H) = 2; ENABLE; OUTPUT(300H) = W + (W + (W + (W + (W + (W + W))))); END M;";
-    let setup = [
+    const LABELS: &[Label] = &[
         Label::Out(0x20, 0x13),
         Label::Out(0x21, 8),
         Label::Out(0x21, 3),
         Label::Out(0x21, 0xFE),
         Label::Out(0x43, 0x14),
         Label::Out(0x40, 2),
-    ];
-    // Six outputs of three steps each, ENABLE, and seven reads, of which three come before the event, and four after the procedure.
-    let labels = trace(alloc, text, &[2, 4], &[(22, Event::Tick(3))], 200)?;
-    let mut expected = setup.to_vec(alloc)?;
-    for label in [
         Label::Tick(3),
         Label::Ack(8),
         Label::Out(0x301, 1),
         Label::Out(0x300, 0xFC),
-    ] {
-        expected.push(label)?;
-    }
-    assert_eq!(rt; labels.as_slice(), expected.as_slice());
+    ];
+    // Six outputs of three steps each, ENABLE, and seven reads, of which three come before the event, and four after the procedure.
+    let labels = trace(alloc, text, &[2, 4], &[(22, Event::Tick(3))], 200)?;
+    assert_eq!(rt; labels.as_slice(), LABELS);
     Ok(())
 }
 
@@ -437,7 +460,7 @@ fn interrupts_without_procedure_enter_an_empty_one(rt: HostRuntime) -> Result<()
         &[(100, Event::Tick(9)), (150, Event::Tick(4))],
         200,
     )?;
-    let expected = [
+    const LABELS: &[Label] = &[
         Label::Out(0x20, 0x13),
         Label::Out(0x21, 8),
         Label::Out(0x21, 1),
@@ -449,7 +472,7 @@ fn interrupts_without_procedure_enter_an_empty_one(rt: HostRuntime) -> Result<()
         Label::Out(0x300, 1),
         Label::Tick(4),
     ];
-    assert_eq!(rt; labels.as_slice(), expected.as_slice());
+    assert_eq!(rt; labels.as_slice(), LABELS);
     Ok(())
 }
 
@@ -463,108 +486,126 @@ fn silent_steps_are_counted(rt: HostRuntime) -> Result<(), Fail> {
     Ok(())
 }
 
-#[test]
-fn chooses_what_is_allowed(rt: HostRuntime) -> Result<(), Fail> {
-    let mut expect = Expect::new(&rt);
-    let alloc = rt.alloc();
-    let program = program_of(alloc, b"M: DO; ; END M;")?;
+/// A choice, and what it does.
+type Try = (Choice, Result<Step, Stop>);
+
+const REFUSED: Result<Step, Stop> = Err(Stop::NotAllowed);
+
+const SILENT: Result<Step, Stop> = Ok(Step { label: None });
+
+/// Fails unless the choices, one after the other, do this.
+fn tries(rt: &impl Abort, meaning: &mut Meaning<'_>, rows: &[Try]) {
+    for (row, (choice, wanted)) in rows.iter().enumerate() {
+        assert_eq!(rt; meaning.step(*choice), *wanted, "choice {row}");
+    }
+}
+
+/// The same for a program's first state, after so many silent steps and an event.
+fn tries_of(
+    rt: &impl Abort,
+    alloc: Global,
+    program: &Program,
+    set_up: (u32, Option<Event>),
+    rows: &[Try],
+) -> Result<(), Fail> {
     let placement = Placement::of(Vec::new(alloc));
-    let mut meaning = opened(alloc, &program, &placement, 0)?;
-    expect.same(meaning.step(Choice::Enter), Err(Stop::NotAllowed));
-    expect.same(meaning.step(Choice::Leave), Err(Stop::NotAllowed));
-    expect.same(meaning.step(Choice::Idle), Err(Stop::NotAllowed));
-    expect.same(meaning.step(Choice::Program), Ok(Step { label: None }));
-    expect.same(meaning.step(Choice::Program), Ok(Step { label: None }));
-    expect.same(meaning.step(Choice::Program), Err(Stop::NotAllowed));
-    expect.same(meaning.step(Choice::Idle), Ok(Step { label: None }));
-    expect.same(
-        meaning.step(Choice::Event(Event::Key(3))),
-        Ok(Step {
-            label: Some(Label::Key(3)),
-        }),
-    );
+    let mut meaning = opened(alloc, program, &placement, 0)?;
+    let (steps, event) = set_up;
+    for _ in 0..steps {
+        let _ = meaning.step(Choice::Program);
+    }
+    if let Some(event) = event {
+        let _ = meaning.step(Choice::Event(event));
+    }
+    tries(rt, &mut meaning, rows);
     Ok(())
 }
 
-/// A program whose interrupts from the timer are set up by eighteen steps, and come with automatic end.
-const SET_UP: u32 = 18;
-
-/// Whether this many of the program's steps are made without a label.
-fn goes_silently(meaning: &mut Meaning<'_>, steps: u32) -> bool {
-    for _ in 0..steps {
-        if meaning.step(Choice::Program) != Ok(Step { label: None }) {
-            return false;
-        }
-    }
-    true
+#[test]
+fn chooses_what_is_allowed(rt: HostRuntime) -> Result<(), Fail> {
+    const ROWS: &[Try] = &[
+        (Choice::Enter, REFUSED),
+        (Choice::Leave, REFUSED),
+        (Choice::Idle, REFUSED),
+        (Choice::Program, SILENT),
+        (Choice::Program, SILENT),
+        (Choice::Program, REFUSED),
+        (Choice::Idle, SILENT),
+        (
+            Choice::Event(Event::Key(3)),
+            Ok(Step {
+                label: Some(Label::Key(3)),
+            }),
+        ),
+    ];
+    let alloc = rt.alloc();
+    seen(program_of(alloc, &[b"M: DO; ; END M;"]), |program| {
+        tries_of(&rt, alloc, program, (0, None), ROWS)
+    })?
 }
 
-/// The program's state once it is set up, and the interrupt is asked for.
-fn asked<'a>(
-    alloc: Global,
-    program: &'a Program,
-    placement: &'a Placement,
-) -> Result<Meaning<'a>, Fault> {
-    let mut meaning = opened(alloc, program, placement, 0)?;
-    for _ in 0..SET_UP {
-        let _ = meaning.step(Choice::Program);
-    }
-    let _ = meaning.step(Choice::Event(Event::Tick(3)));
-    Ok(meaning)
-}
+/// A program whose interrupts from the timer are set up by eighteen steps, and come with automatic end; then the interrupt is asked for.
+const ASKED: (u32, Option<Event>) = (18, Some(Event::Tick(3)));
+
+const ENTERED: Result<Step, Stop> = Ok(Step {
+    label: Some(Label::Ack(8)),
+});
+
+const TICKED: Result<Step, Stop> = Ok(Step {
+    label: Some(Label::Tick(4)),
+});
 
 #[test]
 fn interrupts_come_promptly(rt: HostRuntime) -> Result<(), Fail> {
-    let mut expect = Expect::new(&rt);
+    const ROWS: &[Try] = &[
+        // Interrupts are off: it may not be entered.
+        (Choice::Enter, REFUSED),
+        // ENABLE, and then eight silent steps and no ninth.
+        (Choice::Program, SILENT),
+        (Choice::Program, SILENT),
+        (Choice::Program, SILENT),
+        (Choice::Program, SILENT),
+        (Choice::Program, SILENT),
+        (Choice::Program, SILENT),
+        (Choice::Program, SILENT),
+        (Choice::Program, SILENT),
+        (Choice::Program, SILENT),
+        (Choice::Program, REFUSED),
+        (Choice::Enter, ENTERED),
+        // It runs with interrupts off, and is used up at once.
+        (Choice::Enter, REFUSED),
+        (Choice::Program, REFUSED),
+        (Choice::Leave, SILENT),
+        (Choice::Enter, REFUSED),
+        // The ninth step comes now, and so does a second interrupt.
+        (Choice::Program, SILENT),
+        (Choice::Event(Event::Tick(4)), TICKED),
+        (Choice::Enter, ENTERED),
+        (Choice::Leave, SILENT),
+    ];
     let alloc = rt.alloc();
     let text =
         b"M: DO; H: PROCEDURE INTERRUPT 8; END H; OUTPUT(20H) = 13H; OUTPUT(21H) = 8; OUTPUT(21H) = 3; OUTPUT(21H) = 0FEH; OUTPUT(43H) = 14H; OUTPUT(40H) = 2; ENABLE; ; ; ; ; ; ; ; ; ; ; END M;";
-    let program = program_of(alloc, text)?;
-    let placement = Placement::of(Vec::new(alloc));
-    let mut meaning = asked(alloc, &program, &placement)?;
-    // Interrupts are off: it may not be entered.
-    expect.same(meaning.step(Choice::Enter), Err(Stop::NotAllowed));
-    // ENABLE, and then eight silent steps and no ninth.
-    expect.same(goes_silently(&mut meaning, 1), true);
-    expect.same(goes_silently(&mut meaning, 8), true);
-    expect.same(meaning.step(Choice::Program), Err(Stop::NotAllowed));
-    let entered = Ok(Step {
-        label: Some(Label::Ack(8)),
-    });
-    expect.same(meaning.step(Choice::Enter), entered);
-    // It runs with interrupts off, and is used up at once.
-    expect.same(meaning.step(Choice::Enter), Err(Stop::NotAllowed));
-    expect.same(meaning.step(Choice::Program), Err(Stop::NotAllowed));
-    expect.same(meaning.step(Choice::Leave), Ok(Step { label: None }));
-    expect.same(meaning.step(Choice::Enter), Err(Stop::NotAllowed));
-    // The ninth step comes now, and so does a second interrupt.
-    expect.same(goes_silently(&mut meaning, 1), true);
-    let ticked = Ok(Step {
-        label: Some(Label::Tick(4)),
-    });
-    expect.same(meaning.step(Choice::Event(Event::Tick(4))), ticked);
-    expect.same(meaning.step(Choice::Enter), entered);
-    expect.same(meaning.step(Choice::Leave), Ok(Step { label: None }));
-    Ok(())
+    seen(program_of(alloc, &[text]), |program| {
+        tries_of(&rt, alloc, program, ASKED, ROWS)
+    })?
 }
 
 #[test]
 fn interrupts_come_after_one_enable(rt: HostRuntime) -> Result<(), Fail> {
-    let mut expect = Expect::new(&rt);
+    const ROWS: &[Try] = &[
+        // The first switches interrupts on; one more may come before the interrupt, and no second.
+        (Choice::Program, SILENT),
+        (Choice::Program, SILENT),
+        (Choice::Program, REFUSED),
+        (Choice::Enter, ENTERED),
+        (Choice::Leave, SILENT),
+        (Choice::Program, SILENT),
+    ];
     let alloc = rt.alloc();
     let text =
         b"M: DO; OUTPUT(20H) = 13H; OUTPUT(21H) = 8; OUTPUT(21H) = 3; OUTPUT(21H) = 0FEH; OUTPUT(43H) = 14H; OUTPUT(40H) = 2; ENABLE; ENABLE; ENABLE; END M;";
-    let program = program_of(alloc, text)?;
-    let placement = Placement::of(Vec::new(alloc));
-    let mut meaning = asked(alloc, &program, &placement)?;
-    // The first switches interrupts on; one more may come before the interrupt, and no second.
-    expect.same(goes_silently(&mut meaning, 2), true);
-    expect.same(meaning.step(Choice::Program), Err(Stop::NotAllowed));
-    let entered = Ok(Step {
-        label: Some(Label::Ack(8)),
-    });
-    expect.same(meaning.step(Choice::Enter), entered);
-    expect.same(meaning.step(Choice::Leave), Ok(Step { label: None }));
-    expect.same(goes_silently(&mut meaning, 1), true);
-    Ok(())
+    seen(program_of(alloc, &[text]), |program| {
+        tries_of(&rt, alloc, program, ASKED, ROWS)
+    })?
 }

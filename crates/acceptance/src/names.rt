@@ -1,37 +1,10 @@
 //! Small texts: where their names are refused.
 
-use crate::types::program_of;
-use plm_decl::{Names, resolve};
-use plm_syntax::parse;
-use plm_token::scan;
+use crate::sources::{Outcome, names_of, outcome, program_of};
 use std::alloc::{AllocError, Global};
 use std::process::Abort;
 use std::test::Fail;
 use word86::{Fault, Number};
-
-/// How names resolve: fine, or the module, the line and the fault.
-type Outcome = Option<(u32, u32, Number)>;
-
-const UNPARSED: Outcome = Some((99, 99, Number::E201));
-
-fn outcome(resolved: Result<Names, Fault>) -> Outcome {
-    match resolved {
-        Ok(_) => None,
-        Err(Fault::At(module, line, number)) => Some((module, line, number)),
-        Err(Fault::Memory) => UNPARSED,
-    }
-}
-
-pub(crate) fn names_of(alloc: Global, text: &[u8]) -> Result<Names, Fault> {
-    let tree = parse(alloc, scan(alloc, text)?)?;
-    resolve(alloc, &[tree])
-}
-
-pub(crate) fn names_of_two(alloc: Global, first: &[u8], second: &[u8]) -> Result<Names, Fault> {
-    let tree = parse(alloc, scan(alloc, first)?)?;
-    let other = parse(alloc, scan(alloc, second)?)?;
-    resolve(alloc, &[tree, other])
-}
 
 static UNDECLARED: [(&[u8], Outcome); 24] = [
     (b"M: DO; ; END M;", None),
@@ -115,7 +88,7 @@ static UNDECLARED: [(&[u8], Outcome); 24] = [
 fn undeclared_names(rt: HostRuntime) {
     let alloc = rt.alloc();
     for (text, wanted) in &UNDECLARED {
-        assert_eq!(rt; outcome(names_of(alloc, text)), *wanted, "in {text:?}");
+        assert_eq!(rt; outcome(names_of(alloc, &[*text])), *wanted, "in {text:?}");
     }
 }
 
@@ -404,7 +377,7 @@ static DECLARATIONS: [(&[u8], Outcome); 74] = [
 fn faults_of_declarations(rt: HostRuntime) {
     let alloc = rt.alloc();
     for (text, wanted) in &DECLARATIONS {
-        assert_eq!(rt; outcome(names_of(alloc, text)), *wanted, "in {text:?}");
+        assert_eq!(rt; outcome(names_of(alloc, &[*text])), *wanted, "in {text:?}");
     }
 }
 
@@ -535,11 +508,11 @@ static PAIRS: [(&[u8], &[u8], Outcome); 14] = [
 fn faults_of_programs(rt: HostRuntime) {
     let alloc = rt.alloc();
     for (text, wanted) in &PROGRAMS {
-        assert_eq!(rt; outcome(names_of(alloc, text)), *wanted, "in {text:?}");
+        assert_eq!(rt; outcome(names_of(alloc, &[*text])), *wanted, "in {text:?}");
     }
     for (first, second, wanted) in &PAIRS {
         assert_eq!(rt;
-            outcome(names_of_two(alloc, first, second)),
+            outcome(names_of(alloc, &[*first, *second])),
             *wanted,
             "in {first:?} {second:?}"
         );
@@ -586,7 +559,7 @@ static SHAPES: [(&[u8], u32); 8] = [
 fn faults_of_shapes(rt: HostRuntime) {
     let alloc = rt.alloc();
     for (text, line) in &SHAPES {
-        match program_of(alloc, text) {
+        match program_of(alloc, &[*text]) {
             Err(fault) => assert_eq!(rt; fault, Fault::At(0, *line, Number::E401), "in {text:?}"),
             Ok(_) => assert!(rt; false, "in {text:?}"),
         }
@@ -607,6 +580,6 @@ fn long_sum(alloc: Global, operands: usize) -> Result<Vec<u8>, AllocError> {
 fn long_sums(rt: HostRuntime) -> Result<(), Fail> {
     let alloc = rt.alloc();
     let text = long_sum(alloc, 30_000)?;
-    assert_eq!(rt; outcome(names_of(alloc, &text)), None);
+    assert_eq!(rt; outcome(names_of(alloc, &[&text])), None);
     Ok(())
 }

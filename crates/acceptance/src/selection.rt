@@ -1,8 +1,7 @@
 //! The parts of a program, and of its sections: the bytes are from the manual's table.
 
-use crate::lowering::program_of;
+use crate::sources::code_of;
 use icode::Code;
-use lower::lower;
 use select::{Entry, Part, select, select_section};
 use std::alloc::Global;
 use std::test::Fail;
@@ -13,7 +12,7 @@ fn two_modules(alloc: Global) -> Result<Code, Fault> {
     let procedures =
         b"A: DO; H: PROCEDURE INTERRUPT 8; OUTPUT(0E0H) = 5; END H; K: PROCEDURE INTERRUPT 9; END K; END A;";
     let main = b"B: DO; ; END B;";
-    lower(alloc, &program_of(alloc, &[procedures, main])?)
+    code_of(alloc, &[procedures, main])
 }
 
 fn is_part(part: &Part, entry: Entry, bytes: &[u8]) -> bool {

@@ -1,7 +1,7 @@
 //! Small texts, and what becomes of them.
 
 use crate::expect::Expect;
-use plm_syntax::{Basic, parse};
+use plm_syntax::{Basic, Statement, parse};
 use plm_token::scan;
 use std::alloc::Global;
 use std::process::Abort;
@@ -443,25 +443,29 @@ fn levels_of_all_kinds(rt: HostRuntime) -> Result<(), Fault> {
     Ok(())
 }
 
+fn has_else(statement: &Statement<'_>) -> bool {
+    matches!(&statement.basic, Basic::IfElse(..))
+}
+
+/// Whether this is one IF without ELSE, before one with ELSE.
+fn is_if_before_else(statements: &[Statement<'_>]) -> bool {
+    let [only] = statements else {
+        return false;
+    };
+    match &only.basic {
+        Basic::If(_, _, arm) => has_else(arm),
+        _ => false,
+    }
+}
+
 /// ELSE stands at the nearest IF.
 #[test]
 fn nearest_if(rt: HostRuntime) -> Result<(), Fault> {
     let alloc = rt.alloc();
-    let module = parse(
-        alloc,
-        scan(
-            alloc,
-            b"M: DO; DECLARE B BYTE; IF B THEN IF B THEN B = 1; ELSE B = 2; END M;",
-        )?,
-    )?;
-    let inner = match module.block.statements.as_slice() {
-        [only] => match &only.basic {
-            Basic::If(_, _, arm) => matches!(&arm.basic, Basic::IfElse(..)),
-            _ => false,
-        },
-        _ => false,
-    };
-    assert_eq!(&rt; inner, true);
+    let text = b"M: DO; DECLARE B BYTE; IF B THEN IF B THEN B = 1; ELSE B = 2; END M;";
+    let module = parse(alloc, scan(alloc, text)?)?;
+    let inner = is_if_before_else(&module.block.statements);
+    assert!(&rt; inner);
     Ok(())
 }
 

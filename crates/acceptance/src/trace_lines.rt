@@ -1,13 +1,16 @@
 //! The printed texts, whose forms users rely on.
 
-use crate::expect::Expect;
+use crate::expect::{Expect, is_cut};
 use listing_map::{fault_line, put_bad_line, put_end_line, put_opcode_line, trace_line};
 use std::test::Fail;
 use word86::{CutSink, Fault, Label, Number};
 
+const CANNOT_WRITE: Fault = Fault::At(0, 1, Number::E704);
+
 #[test]
 fn writes_each_label(rt: HostRuntime) -> Result<(), Fail> {
-    let cases = [
+    let mut expect = Expect::new(&rt);
+    const ROWS: &[(Label, &str)] = &[
         (Label::In(0x60, 0x1E), "IN 0060 1E\n"),
         (Label::InW(0xFFFF, 0xABCD), "INW FFFF ABCD\n"),
         (Label::Out(0x300, 0), "OUT 0300 00\n"),
@@ -18,10 +21,10 @@ fn writes_each_label(rt: HostRuntime) -> Result<(), Fail> {
         (Label::Tick(65535), "TICK 65535\n"),
         (Label::Key(0x1E), "KEY 1E\n"),
     ];
-    for (label, text) in cases {
+    for (label, text) in ROWS {
         let mut sink = CutSink::new(rt.alloc(), 20, 20)?;
-        assert_eq!(rt; trace_line(&label, &mut sink), Ok(()));
-        assert_eq!(rt; sink.bytes(), text.as_bytes());
+        expect.same(trace_line(label, &mut sink), Ok(()));
+        expect.same(sink.bytes(), text.as_bytes());
     }
     Ok(())
 }
@@ -60,30 +63,26 @@ fn writes_faults_and_the_warning(rt: HostRuntime) -> Result<(), Fail> {
 
 #[test]
 fn stops_where_the_sink_does(rt: HostRuntime) -> Result<(), Fail> {
-    let text = b"OUTW 0302 0200\n";
+    let mut expect = Expect::new(&rt);
+    let text: &[u8] = b"OUTW 0302 0200\n";
     for room in 0..text.len() {
         let mut sink = CutSink::new(rt.alloc(), room, 4)?;
-        assert_eq!(rt;
-            trace_line(&Label::OutW(0x302, 0x200), &mut sink),
-            Err(Fault::At(0, 1, Number::E704))
-        );
-        assert_eq!(rt; sink.bytes(), &text[..room]);
-        assert_eq!(rt; sink.failures(), 1);
+        let written = trace_line(&Label::OutW(0x302, 0x200), &mut sink);
+        expect.same(written, Err(CANNOT_WRITE));
+        expect.holds(is_cut(&sink, text, room));
     }
     Ok(())
 }
 
 #[test]
 fn faults_stop_where_the_sink_does(rt: HostRuntime) -> Result<(), Fail> {
-    let text = b"m.plm(1234): E201 syntax\n";
+    let mut expect = Expect::new(&rt);
+    let text: &[u8] = b"m.plm(1234): E201 syntax\n";
     for room in 0..text.len() {
         let mut sink = CutSink::new(rt.alloc(), room, 1)?;
-        assert_eq!(rt;
-            fault_line("m.plm", 1234, Number::E201, &mut sink),
-            Err(Fault::At(0, 1, Number::E704))
-        );
-        assert_eq!(rt; sink.bytes(), &text[..room]);
-        assert_eq!(rt; sink.failures(), 1);
+        let written = fault_line("m.plm", 1234, Number::E201, &mut sink);
+        expect.same(written, Err(CANNOT_WRITE));
+        expect.holds(is_cut(&sink, text, room));
     }
     Ok(())
 }

@@ -1,9 +1,11 @@
 //! Small texts: what they are typed as.
 
-use crate::expect::Expect;
-use crate::types::program_of;
-use plm_type::{Anchor, Expression, Place, Program, Statement, Target};
+use crate::sources::{program_of, seen};
+use plm_type::{
+    Anchor, Expression, Operation, Place, Program, Reference, Statement, Subscript, Target,
+};
 use std::process::Abort;
+use std::test::Fail;
 use word86::{BinaryOperation, Width};
 
 /// Main's only statement.
@@ -14,38 +16,88 @@ fn only(program: &Program) -> Option<&Statement> {
     }
 }
 
-#[test]
-fn trees_show_types(rt: HostRuntime) {
-    let mut expect = Expect::new(&rt);
-    let alloc = rt.alloc();
-    let sum: &[u8] = b"M: DO; DECLARE B BYTE, W WORD; OUTPUT(1) = B + B * 2 - W = 3; END M;";
-    let Ok(program) = program_of(alloc, sum) else {
-        panic!(rt; "it is typed");
+/// What an assignment stores to, its other targets, and its value.
+fn assignment(statement: &Statement) -> Option<(&Target, &[Target], &Expression)> {
+    match statement {
+        Statement::Assign(target, others, value) => Some((target, others, value)),
+        _ => None,
+    }
+}
+
+/// A chain's first operand, and its operators.
+fn chain(expression: &Expression) -> Option<(&Expression, &[Operation])> {
+    match expression {
+        Expression::Chain(first, operations) => Some((first.as_ref(), operations)),
+        _ => None,
+    }
+}
+
+fn is_constant(expression: &Expression, value: u16) -> bool {
+    match expression {
+        Expression::Constant(constant) => *constant == value,
+        _ => false,
+    }
+}
+
+fn is_plain(expression: &Expression, width: Width, place: Place) -> bool {
+    match expression {
+        Expression::Plain(found, at) => *found == width && *at == place,
+        _ => false,
+    }
+}
+
+fn is_byte_port(target: &Target, port: u16) -> bool {
+    match target {
+        Target::Port(Width::Byte, number) => is_constant(number, port),
+        _ => false,
+    }
+}
+
+/// The chain that main's only statement puts out at BYTE port 1, and at no other place.
+fn sent_chain(program: &Program) -> Option<(&Expression, &[Operation])> {
+    let (target, others, value) = assignment(only(program)?)?;
+    if is_byte_port(target, 1) && others.is_empty() {
+        chain(value)
+    } else {
+        None
+    }
+}
+
+/// Whether the operators are three, an addition, one whose value is a WORD, and a comparison.
+fn are_of_sum(operations: &[Operation]) -> bool {
+    let [add, subtract, equal] = operations else {
+        return false;
     };
-    let Some(Statement::Assign(Target::Port(Width::Byte, Expression::Constant(1)), others, value)) =
-        only(&program) else {
-        panic!(rt; "one assignment to a port");
+    (add.operation, add.width) == (BinaryOperation::Add, Width::Word)
+        && subtract.width == Width::Word
+        && (equal.operation, equal.width) == (BinaryOperation::Equal, Width::Byte)
+}
+
+/// Whether main's only statement sends a chain that begins with the first object, and has these operators.
+fn sends_sum(program: &Program) -> bool {
+    let Some((first, operations)) = sent_chain(program) else {
+        return false;
     };
-    expect.holds(others.is_empty());
-    let Expression::Chain(first, operations) = value else {
-        panic!(rt; "a chain of operators");
-    };
-    expect.holds(matches!(
-        first.as_ref(),
-        Expression::Plain(Width::Byte, Place::Ram(0, 0))
-    ));
-    let [add, subtract, equal] = operations.as_slice() else {
-        panic!(rt; "three operators");
-    };
-    expect.same(add.operation, BinaryOperation::Add);
-    expect.same(add.width, Width::Word);
-    expect.same(subtract.width, Width::Word);
-    expect.same(equal.operation, BinaryOperation::Equal);
-    expect.same(equal.width, Width::Byte);
+    is_plain(first, Width::Byte, Place::Ram(0, 0)) && are_of_sum(operations)
 }
 
 #[test]
-fn trees_show_widths(rt: HostRuntime) {
+fn trees_show_types(rt: HostRuntime) -> Result<(), Fail> {
+    let sum: &[u8] = b"M: DO; DECLARE B BYTE, W WORD; OUTPUT(1) = B + B * 2 - W = 3; END M;";
+    let sends = seen(program_of(rt.alloc(), &[sum]), sends_sum)?;
+    assert!(rt; sends);
+    Ok(())
+}
+
+/// The width of the first operator in the chain that main's only statement stores.
+fn width_of_first(program: &Program) -> Option<Width> {
+    let (_, _, value) = assignment(only(program)?)?;
+    let (_, operations) = chain(value)?;
+    Some(operations.first()?.width)
+}
+
+#[test]
+fn trees_show_widths(rt: HostRuntime) -> Result<(), Fail> {
     let alloc = rt.alloc();
     const ROWS: &[(&[u8], Option<Width>)] = &[
         (
@@ -86,77 +138,84 @@ fn trees_show_widths(rt: HostRuntime) {
         ),
     ];
     for (text, wanted) in ROWS {
-        let Ok(program) = program_of(alloc, text) else {
-            panic!(rt; "it is typed");
-        };
-        let width = match only(&program) {
-            Some(Statement::Assign(_, _, Expression::Chain(_, operations))) => {
-                operations.first().map(|operation| operation.width)
-            }
-            _ => None,
-        };
+        let width = seen(program_of(alloc, &[*text]), width_of_first)?;
         assert_eq!(rt; width, *wanted, "in {text:?}");
+    }
+    Ok(())
+}
+
+/// What main's only statement copies: the BYTE variable that it stores, and the WORD variable that it reads.
+fn copied(program: &Program) -> Option<(&Reference, &Reference)> {
+    match assignment(only(program)?)? {
+        (Target::Variable(Width::Byte, stored), _, Expression::Variable(Width::Word, read)) => {
+            Some((stored, read))
+        }
+        _ => None,
     }
 }
 
+/// Whether the subscripts are of structures of five bytes and of words: a variable in the first object, and 1.
+fn are_of_member(subscripts: &[Subscript]) -> bool {
+    let [outer, inner] = subscripts else {
+        return false;
+    };
+    (outer.stride, inner.stride) == (5, 2)
+        && is_plain(&outer.index, Width::Word, Place::Ram(0, 0))
+        && is_constant(&inner.index, 1)
+}
+
+/// Whether a member of a structure is copied to a based variable, whose name is on the third line.
+fn copies_member(program: &Program) -> bool {
+    let Some((stored, read)) = copied(program) else {
+        return false;
+    };
+    stored.anchor == Anchor::Based(Place::Ram(2, 0))
+        && stored.line.line == 3
+        && read.anchor == Anchor::Ram(1, 0, 15)
+        && read.offset == 1
+        && are_of_member(&read.subscripts)
+}
+
 #[test]
-fn trees_show_places(rt: HostRuntime) {
-    let mut expect = Expect::new(&rt);
-    let alloc = rt.alloc();
+fn trees_show_places(rt: HostRuntime) -> Result<(), Fail> {
     let text: &[u8] =
         b"M: DO; DECLARE X WORD, S(3) STRUCTURE (A BYTE, B(2) WORD), P WORD, V BASED P BYTE;\n\nV = S(X).B(1); END M;";
-    let Ok(program) = program_of(alloc, text) else {
-        panic!(rt; "it is typed");
-    };
-    let Some(
-        Statement::Assign(
-            Target::Variable(Width::Byte, stored),
-            _,
-            Expression::Variable(Width::Word, read),
-        ),
-    ) = only(&program) else {
-        panic!(rt; "an assignment of a variable to a variable");
-    };
-    expect.same(stored.anchor, Anchor::Based(Place::Ram(2, 0)));
-    expect.same(stored.line.line, 3);
-    expect.same(read.anchor, Anchor::Ram(1, 0, 15));
-    expect.same(read.offset, 1);
-    let [outer, inner] = read.subscripts.as_slice() else {
-        panic!(rt; "two subscripts");
-    };
-    expect.same(outer.stride, 5);
-    expect.holds(matches!(
-        &outer.index,
-        Expression::Plain(Width::Word, Place::Ram(0, 0))
-    ));
-    expect.same(inner.stride, 2);
-    expect.holds(matches!(&inner.index, Expression::Constant(1)));
+    let copies = seen(program_of(rt.alloc(), &[text]), copies_member)?;
+    assert!(rt; copies);
+    Ok(())
+}
+
+/// How many statements the procedures for vectors 7, 8 and 255 have, and how many procedures there are, and names of procedures.
+fn counts(program: &Program) -> [usize; 5] {
+    [
+        program.handler(7).len(),
+        program.handler(8).len(),
+        program.handler(255).len(),
+        program.procedures().len(),
+        program.names().procedures.len(),
+    ]
 }
 
 #[test]
-fn handlers(rt: HostRuntime) {
-    let mut expect = Expect::new(&rt);
-    let alloc = rt.alloc();
+fn handlers(rt: HostRuntime) -> Result<(), Fail> {
     let text: &[u8] =
         b"M: DO; H: PROCEDURE INTERRUPT 8; DISABLE; ; END H; K: PROCEDURE INTERRUPT 255; RETURN; END K; ; END M;";
-    let Ok(program) = program_of(alloc, text) else {
-        panic!(rt; "it is typed");
-    };
-    expect.same(program.handler(7).len(), 0);
-    expect.same(program.handler(8).len(), 2);
-    expect.same(program.handler(255).len(), 1);
-    expect.same(program.procedures().len(), 2);
-    expect.same(program.names().procedures.len(), 2);
+    let counted = seen(program_of(rt.alloc(), &[text]), counts)?;
+    assert_eq!(rt; counted, [0, 2, 1, 2, 2]);
+    Ok(())
+}
+
+/// Whether the procedures are in this order.
+fn is_ordered(program: &Program) -> bool {
+    program.order() == [1, 3, 2, 0].as_slice()
 }
 
 #[test]
-fn procedures_follow_what_they_call(rt: HostRuntime) {
-    let alloc = rt.alloc();
+fn procedures_follow_what_they_call(rt: HostRuntime) -> Result<(), Fail> {
     // A, B, C, D in order of declaration: A calls C, C calls B and D, D calls B.
     let text: &[u8] =
         b"M: DO; A: PROCEDURE; B: PROCEDURE; END B; C: PROCEDURE; D: PROCEDURE; CALL B; END D; CALL B; CALL D; END C; CALL C; END A; ; END M;";
-    let Ok(program) = program_of(alloc, text) else {
-        panic!(rt; "it is typed");
-    };
-    assert_eq!(rt; program.order(), [1, 3, 2, 0].as_slice());
+    let ordered = seen(program_of(rt.alloc(), &[text]), is_ordered)?;
+    assert!(rt; ordered);
+    Ok(())
 }

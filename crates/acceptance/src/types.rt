@@ -1,43 +1,19 @@
 //! Small texts: where their types are refused.
 
 use crate::expect::Expect;
-use plm_decl::resolve;
-use plm_syntax::parse;
-use plm_token::scan;
-use plm_type::{Program, check};
+use crate::sources::{Outcome, outcome, program_of};
 use std::alloc::Global;
 use std::process::Abort;
-use word86::{Fault, Number};
-
-/// How a program is typed: fine, or the module, the line and the fault.
-pub(crate) type Outcome = Option<(u32, u32, Number)>;
-
-const NO_MEMORY: Outcome = Some((99, 99, Number::E201));
-
-pub(crate) fn outcome(checked: Result<Program, Fault>) -> Outcome {
-    match checked {
-        Ok(_) => None,
-        Err(Fault::At(module, line, number)) => Some((module, line, number)),
-        Err(Fault::Memory) => NO_MEMORY,
-    }
-}
-
-/// The program of one module.
-pub(crate) fn program_of(alloc: Global, text: &[u8]) -> Result<Program, Fault> {
-    let tree = parse(alloc, scan(alloc, text)?)?;
-    check(alloc, resolve(alloc, &[tree])?)
-}
-
-pub(crate) fn program_of_two(alloc: Global, first: &[u8], second: &[u8]) -> Result<Program, Fault> {
-    let tree = parse(alloc, scan(alloc, first)?)?;
-    let other = parse(alloc, scan(alloc, second)?)?;
-    check(alloc, resolve(alloc, &[tree, other])?)
-}
+use word86::Number;
 
 /// Fails unless each text is typed, or refused there.
 pub(crate) fn are_typed(rt: &impl Abort, alloc: Global, rows: &[(&[u8], Outcome)]) {
     for (text, wanted) in rows {
-        assert_eq!(rt; outcome(program_of(alloc, text)), *wanted, "in {text:?}");
+        assert_eq!(rt;
+            outcome(program_of(alloc, &[*text])),
+            *wanted,
+            "in {text:?}"
+        );
     }
 }
 
@@ -554,22 +530,25 @@ fn least_fault(rt: HostRuntime) {
     let first: &[u8] = b"M: DO; P: PROCEDURE EXTERNAL; END P; CALL P;\nRETURN; END M;";
     let second: &[u8] = b"N: DO;\nP: PROCEDURE PUBLIC; RETURN 1; END P; END N;";
     expect.same(
-        outcome(program_of_two(alloc, first, second)),
+        outcome(program_of(alloc, &[first, second])),
         Some((0, 2, Number::E401)),
     );
     let fine: &[u8] = b"M: DO; P: PROCEDURE EXTERNAL; END P; CALL P; END M;";
     expect.same(
-        outcome(program_of_two(alloc, fine, second)),
+        outcome(program_of(alloc, &[fine, second])),
         Some((1, 2, Number::E401)),
     );
     // of two faults at one token the lower number
     let both: &[u8] =
         b"M: DO; DECLARE D(2) BYTE DATA (1), B BYTE;\nF: PROCEDURE; END F; B = F(1); D = 1; END M;";
-    expect.same(outcome(program_of(alloc, both)), Some((0, 2, Number::E401)));
+    expect.same(
+        outcome(program_of(alloc, &[both])),
+        Some((0, 2, Number::E401)),
+    );
     // a fault within does not make what holds it faulty
     let within: &[u8] = b"M: DO; DECLARE B BYTE; B = 1 +\n(B(1)\n+ 2); END M;";
     expect.same(
-        outcome(program_of(alloc, within)),
+        outcome(program_of(alloc, &[within])),
         Some((0, 2, Number::E401)),
     );
     // a call through two modules comes back
@@ -578,7 +557,7 @@ fn least_fault(rt: HostRuntime) {
     let back: &[u8] =
         b"N: DO; Q: PROCEDURE EXTERNAL; END Q;\n\nP: PROCEDURE PUBLIC; CALL Q; END P; END N;";
     expect.same(
-        outcome(program_of_two(alloc, there, back)),
+        outcome(program_of(alloc, &[there, back])),
         Some((0, 2, Number::E404)),
     );
 }

@@ -1,24 +1,27 @@
 //! Small texts, and which of their procedures are shared.
 
-use plm_decl::resolve;
-use plm_syntax::parse;
-use plm_token::scan;
-use plm_type::{Warning, check, warnings};
+use crate::sources::{program_of, then};
+use plm_type::{Warning, warnings};
 use std::alloc::Global;
 use std::process::Abort;
 use word86::Fault;
 
-fn warned(alloc: Global, text: &[u8]) -> Result<Vec<Warning>, Fault> {
-    let tree = parse(alloc, scan(alloc, text)?)?;
-    let program = check(alloc, resolve(alloc, &[tree])?)?;
-    warnings(alloc, &program)
+/// The warnings of the program with these modules.
+fn warned(alloc: Global, texts: &[&[u8]]) -> Result<Vec<Warning>, Fault> {
+    then(program_of(alloc, texts), |program| warnings(alloc, program))
 }
 
-fn warned_of_two(alloc: Global, first: &[u8], second: &[u8]) -> Result<Vec<Warning>, Fault> {
-    let tree = parse(alloc, scan(alloc, first)?)?;
-    let other = parse(alloc, scan(alloc, second)?)?;
-    let program = check(alloc, resolve(alloc, &[tree, other])?)?;
-    warnings(alloc, &program)
+/// Whether the warnings are at these lines of the first module.
+fn are_at(shared: &[Warning], lines: &[u32]) -> bool {
+    if shared.len() != lines.len() {
+        return false;
+    }
+    for (warning, line) in shared.iter().zip(lines) {
+        if warning.module != 0 || warning.line != *line {
+            return false;
+        }
+    }
+    true
 }
 
 #[test]
@@ -93,14 +96,10 @@ fn shared_procedures(rt: HostRuntime) {
         ),
     ];
     for (text, wanted) in ROWS {
-        let Ok(shared) = warned(alloc, text) else {
+        let Ok(shared) = warned(alloc, &[*text]) else {
             panic!(rt; "it is typed: {text:?}");
         };
-        assert_eq!(rt; shared.len(), wanted.len(), "in {text:?}");
-        for (warning, line) in shared.iter().zip(wanted.iter()) {
-            assert_eq!(rt; warning.module, 0);
-            assert_eq!(rt; warning.line, *line, "in {text:?}");
-        }
+        assert!(rt; are_at(&shared, wanted), "in {text:?}");
     }
 }
 
@@ -112,11 +111,11 @@ fn shared_over_modules(rt: HostRuntime) {
         b"M: DO; P: PROCEDURE EXTERNAL; END P; H: PROCEDURE INTERRUPT 9 EXTERNAL; END H; CALL P; END M;";
     let second =
         b"N: DO;\nP: PROCEDURE PUBLIC; END P; H: PROCEDURE INTERRUPT 8 PUBLIC; CALL P; END H; END N;";
-    let Ok(shared) = warned_of_two(alloc, first, second) else {
+    let Ok(shared) = warned(alloc, &[first, second]) else {
         panic!(rt; "it is typed");
     };
-    let [warning] = shared.as_slice() else {
-        panic!(rt; "one is shared");
-    };
-    assert_eq!(rt; *warning, Warning { module: 1, line: 2 });
+    assert_eq!(rt;
+        shared.as_slice(),
+        [Warning { module: 1, line: 2 }].as_slice()
+    );
 }
