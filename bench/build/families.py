@@ -4,6 +4,9 @@
 small stack, and bench/run texts measures the slowest.
 """
 
+from itertools import chain, cycle, islice
+from random import Random
+
 MEBIBYTE = 1 << 20
 FAMILIES = {}
 
@@ -204,6 +207,11 @@ def interrupts():
 
 
 @family
+def interrupts_past_all_vectors():
+    return main(";", "".join(f"P{k}:PROCEDURE INTERRUPT {k};END;" for k in range(8000)))
+
+
+@family
 def interrupts_all_call():
     return main(";", "".join(f"Q{k}:PROCEDURE;{f'CALL Q{k - 1};' if k else ''}END;" for k in range(3000)) + "".join(f"P{k}:PROCEDURE INTERRUPT {k};CALL Q2999;END;" for k in range(256)))
 
@@ -216,6 +224,12 @@ def typed_calls():
 @family
 def at_chain():
     return main(";", "DECLARE N0(100) BYTE;" + "".join(f"DECLARE N{k} BYTE AT(@N{k - 1});" for k in range(1, 6000)))
+
+
+@family
+def at_no_place():
+    ns = names(16000)
+    return main(";", f"DECLARE ({','.join(ns)}) BYTE AT(.X), Z BYTE;DECLARE " + ",".join(f"M{k} BYTE AT(.Z)" for k in range(4000)) + ";")
 
 
 @family
@@ -252,6 +266,24 @@ def initial_strings():
 def initial_over_names():
     ns = names(16384)
     return main(";", f"DECLARE ({','.join(ns)}) BYTE INITIAL('" + "x" * 16384 + "');")
+
+
+@family
+def initial_over_members():
+    ns = names(16000)
+    return main(";", f"DECLARE S STRUCTURE(({','.join(ns)}) BYTE) INITIAL({','.join(['1'] * len(ns))});")
+
+
+@family
+def initial_string_over_members():
+    ns = names(30000)
+    return main(";", f"DECLARE S(60000) STRUCTURE(({','.join(ns)}) BYTE) INITIAL('" + "x" * 800000 + "');")
+
+
+@family
+def initial_string_over_words():
+    ns = ",".join(f"{n} BYTE, {n}W WORD" for n in names(10000))
+    return main(";", f"DECLARE S(60000) STRUCTURE({ns}) INITIAL('" + "x" * 700000 + "');")
 
 
 @family
@@ -372,6 +404,18 @@ def deep_if_else():
 @family
 def deep_procedures():
     return main(";", "".join(f"P{k}:PROCEDURE;" for k in range(62)) + "END;" * 62)
+
+
+@family
+def deep_paths():
+    ps = names(61, "A" * 29 + "{:02}")
+    return main(";", "".join(f"{p}:PROCEDURE;" for p in ps) + f"DECLARE ({','.join(names(30000))}) BYTE;" + "END;" * 61)
+
+
+@family
+def deep_scopes():
+    ns = names(7000)
+    return main("DO;" * 61 + "".join(f"{n}=1;" for n in ns) + "END;" * 61, f"DECLARE ({','.join(ns)}) BYTE;")
 
 
 @family
@@ -550,12 +594,186 @@ def literals_alternating():
     return main("DO;DECLARE N LITERALLY '';L L L L L L L L END;" * 2500, "DECLARE L LITERALLY '" + "A B C D N " * 20000 + "';" + "".join(f"DECLARE {c} LITERALLY '';" for c in "ABCD"))
 
 
+# ---- literals whose texts rest on names that each block declares anew
+
+KEPT = set("AND AT BY DO END GO IF MOD NOT OR TO XOR".split()) | {"E", "M", "N", "T", "X", "NN"}
+
+
+def short(count):
+    """Returns so many names, as short as they can be."""
+    letters = "ABCDEFGHIJKLMNOPQRSTUVWXYZ"
+    more = letters + "0123456789"
+    every = chain(letters, (a + b for a in letters for b in more), (a + b + c for a in letters for b in more for c in more))
+    return list(islice((name for name in every if name not in KEPT), count))
+
+
+def literal(name, text=""):
+    """Returns the declaration of a literal, five tokens."""
+    return f"DECLARE {name} LITERALLY '{text}';"
+
+
+def of(names, texts):
+    """Returns the declarations of literals with these texts in turn."""
+    return "".join(literal(name, text) for name, text in zip(names, cycle(texts)))
+
+
+def declared_anew(count, declarations, block, tokens):
+    """Returns a module with so many literals and as many blocks of so many tokens behind them as there may be: `block` has the text of each by its number."""
+    blocks = min((65400 - 5 * count) // tokens, (MEBIBYTE - 8192 - len(declarations)) // len(block(0)))
+    return main("".join(f"DO;{block(k)}END;" for k in range(blocks)), declarations)
+
+
+def one_name(names, text, block, tokens, more=""):
+    """Returns a module with literals that stand for N, a text of them, and blocks that declare N anew."""
+    return declared_anew(len(names) + 1, more + of(names, ["N"]) + literal("T", text), block, tokens)
+
+
+def turned(names, count, step):
+    """Returns so many texts of the same names, each turned round further."""
+    return [" ".join(names[k:] + names[:k]) for k in (j * step % len(names) for j in range(count))]
+
+
 @family
 def literals_of_one_name():
-    """Many literals stand for one name, a text names them all, and each block declares that name anew: what still takes long."""
-    ns = names(7500)
-    literals = "".join(f"DECLARE {n} LITERALLY 'X';" for n in ns)
-    return main("DO;DECLARE X LITERALLY '';L END;" * 3500, literals + f"DECLARE L LITERALLY '{' '.join(ns)}';")
+    """Many literals stand for one name, a text names them all, and each block declares that name anew."""
+    ns = short(6500)
+    return one_name(ns, " ".join(ns), lambda k: literal("N") + "T ", 9)
+
+
+@family
+def literals_of_one_name_in_ten_texts():
+    ns, ts = short(4000), names(10, "T{}Q")
+    return declared_anew(4010, of(ns, ["N"]) + of(ts, [" ".join(ns)]), lambda k: literal("N") + " ".join(ts) + " ", 9)
+
+
+@family
+def literals_behind_another():
+    """Another literal of a new name stands before it in each block."""
+    ns = short(6000)
+    return one_name(ns, " ".join(ns), lambda k: literal(f"Z{k}Q") + literal("N") + "T ", 14)
+
+
+@family
+def literals_of_other_texts():
+    """Its text is another from block to block."""
+    ns = short(6500)
+    return one_name(ns, " ".join(ns), lambda k: literal("N", ["", "E", "E E"][k % 3]) + "T ", 9, literal("E"))
+
+
+@family
+def literals_of_two_names():
+    ns = short(6000)
+    return declared_anew(6001, of(ns, ["N", "NN"]) + literal("T", " ".join(ns)), lambda k: literal("N") + literal("NN") + "T ", 14)
+
+
+@family
+def literals_of_sets_of_names():
+    """Twelve names a block, and a literal for each set of them."""
+    vs, ns = names(12, "Z{}Q"), short(4095)
+    sets = [" ".join(v for j, v in enumerate(vs) if k >> j & 1) for k in range(1, 4096)]
+    return declared_anew(4096, of(ns, sets) + literal("T", " ".join(ns)), lambda k: of(vs, [""]) + "T ", 64)
+
+
+@family
+def literals_of_literals():
+    """Each literal stands for another, and that for a third, which stands for the name."""
+    ns = short(6000)
+    declarations = of(ns[:2000], ["N"]) + of(ns[2000:], ns) + literal("T", " ".join(ns[4000:]))
+    return declared_anew(6001, declarations, lambda k: literal("N") + "T ", 9)
+
+
+@family
+def literals_behind_their_text():
+    ns = short(6500)
+    return declared_anew(6501, literal("T", " ".join(ns)) + of(ns, ["N"]), lambda k: literal("N") + "T ", 9)
+
+
+@family
+def literals_at_three_levels():
+    ns = short(6500)
+    blocks = declared_anew(6501, "DO;" + of(ns, ["N"]), lambda k: literal("N") + "T ", 9)
+    return blocks.replace("M: DO;", "M: DO;" + literal("T", " ".join(ns)), 1).replace("END M;", "END;END M;")
+
+
+@family
+def literals_in_texts_of_texts():
+    ns, ts = short(450), names(530, "T{}Q")
+    declarations = of(ns, ["N"]) + of(ts, turned(ns, 530, 7)) + literal("T", " ".join(ts))
+    return declared_anew(981, declarations, lambda k: literal("N") + "T ", 9)
+
+
+@family
+def literals_in_long_texts_of_texts():
+    ns, ts = short(3000), names(70, "T{}Q")
+    declarations = of(ns, ["N"]) + of(ts, turned(ns, 70, 37)) + literal("T", " ".join(ts))
+    return declared_anew(3071, declarations, lambda k: literal("N") + "T ", 9)
+
+
+@family
+def literals_around_tokens():
+    """A token comes out before them, between them and behind them."""
+    ns = short(5500)
+    return one_name(ns, f"; {' '.join(ns[:2000])} ; {' '.join(ns)} ;", lambda k: literal("N") + "T ", 12)
+
+
+@family
+def literals_before_a_token():
+    """Names that stay, one token behind them, and this text as often as it may be named."""
+    ns = short(6000)
+    declarations = of(ns, [""]) + literal("T", " ".join([" ".join(ns)] * 37) + " ;")
+    return main("T " * 20000, declarations)
+
+
+@family
+def literals_in_a_chain():
+    """Seven texts of 255 names that stay, each with the next behind them, and a token at the end."""
+    ns = names(255, "E{}")
+    texts = [" ".join(ns + [last]) for last in [";"] + names(6, "T{}")]
+    return main("T6 " * 63000, of(ns, [""]) + of(names(7, "T{}"), texts))
+
+
+@family
+def literals_near_the_limit():
+    """How deep the name's own text is differs from block to block."""
+    ns, es = short(6000), names(5, "E{}Q")
+    return one_name(ns, " ".join(ns), lambda k: literal("N", ["E4Q", "", "E2Q"][k % 3]) + "T ", 9, of(es, [""] + es))
+
+
+@family
+def literals_in_inner_blocks():
+    """Some of the names stay from one block to the next, others do not."""
+    ns = short(5000)
+    inner = f"DO;{literal('NN')}T END;"
+    return declared_anew(5001, of(ns, ["N", "NN"]) + literal("T", " ".join(ns)), lambda k: literal("N") + inner + inner, 27)
+
+
+@family
+def literals_spread_over_words():
+    """Names that stand beside each other in the text are declared far from each other."""
+    ns = short(6000)
+    spread = sorted(ns, key=lambda n: ns.index(n) % 64)
+    return one_name(ns, " ".join(spread * 32), lambda k: literal("N") + "T ", 9)
+
+
+@family
+def literals_in_many_texts():
+    """Many texts of sixty names each, drawn from all over, and a text that names them all: what takes longest."""
+    ns, ts, draw = short(4000), names(3000, "T{}Q"), Random(1)
+    texts = [" ".join(draw.sample(ns, 60)) for _ in ts]
+    declarations = of(ns, ["N"]) + of(ts, texts) + literal("T", " ".join(ts))
+    return declared_anew(7001, declarations, lambda k: literal("N") + "T ", 9)
+
+
+@family
+def literals_of_many_names():
+    vs, ns = names(65, "Z{}Q"), short(6000)
+    return declared_anew(6001, of(ns, vs) + literal("T", " ".join([" ".join(ns)] * 30)), lambda k: of(vs, [""]) + "T ", 329)
+
+
+@family
+def literals_of_very_many_names():
+    vs, ns = names(300, "Z{}Q"), short(3000)
+    return declared_anew(3001, of(ns, vs) + literal("T", " ".join([" ".join(ns)] * 60)), lambda k: of(vs, [""]) + "T ", 1504)
 
 
 @family
