@@ -95,7 +95,8 @@ def main():
         return 2
     change(rt)
     # (an rt that keeps what it proved is told to prove all: what it kept of earlier runs would leave no work for the edits)
-    return rt.where_disk_lasts(rt.ci, True) if rt.ci.__code__.co_argcount else rt.ci()
+    takes = rt.ci.__code__.co_varnames[: rt.ci.__code__.co_argcount]
+    return rt.where_disk_lasts(rt.ci, True) if "anew" in takes else rt.ci()
 
 
 if __name__ == "__main__":
