@@ -357,19 +357,19 @@ module _ (offsets sizes : List ℕ) (procedures : List Procedure) where
   plug_step (f ∷ fs) p h = frame_step f (plug fs p) (plug_active fs p h) ∙ ap (map_action (around f)) (plug_step fs p h) ∙ map_twice (around f) (plug fs) (next_part p)
 
   -- a step of a part is a step of what is to do
-  pub todo_step : (fs : List Frame) (p : Part) → Active p → S (to_run_in fs p) ≡ map_action (to_run_in fs) (next_part p)
-  todo_step fs p h =
+  pub to_run_step : (fs : List Frame) (p : Part) → Active p → S (to_run_in fs p) ≡ map_action (to_run_in fs) (next_part p)
+  to_run_step fs p h =
       ap S (sym (behind_end (to_run_in fs p))) ∙ statements_step (plug fs p) End (plug_active fs p h)
       ∙ map_alike (λ q. behind (statements_in q) End) statements_in (λ q. behind_end (statements_in q)) (next_part (plug fs p))
       ∙ ap (map_action statements_in) (plug_step fs p h) ∙ map_twice statements_in (plug fs) (next_part p)
 
   -- what is used up has no step
-  pub todo_active : (fs : List Frame) (p : Part) → Active p → returned (to_run_in fs p) ≡ None
-  todo_active fs p h = ap returned (sym (behind_end (to_run_in fs p))) ∙ later_active (plug fs p) End (plug_active fs p h)
+  pub to_run_active : (fs : List Frame) (p : Part) → Active p → returned (to_run_in fs p) ≡ None
+  to_run_active fs p h = ap returned (sym (behind_end (to_run_in fs p))) ∙ later_active (plug fs p) End (plug_active fs p h)
 
 pub plug_last : (fs : List Frame) (f : Frame) (p : Part) → plug (fs ++ f ∷ []) p ≡ plug fs (around f p)
 plug_last [] f p = refl
 plug_last (g ∷ fs) f p = ap (around g) (plug_last fs f p)
 
-pub todo_last : (fs : List Frame) (f : Frame) (p : Part) → to_run_in (fs ++ f ∷ []) p ≡ to_run_in fs (around f p)
-todo_last fs f p = ap statements_in (plug_last fs f p)
+pub to_run_last : (fs : List Frame) (f : Frame) (p : Part) → to_run_in (fs ++ f ∷ []) p ≡ to_run_in fs (around f p)
+to_run_last fs f p = ap statements_in (plug_last fs f p)

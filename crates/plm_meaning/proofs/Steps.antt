@@ -75,7 +75,7 @@ same s (ToRun ss) = refl
 
 pub whole_step : (s : Surroundings) (fs : List Frame) (p : Part) (a : Action Access Part) → Active p → a ≡ next_part s p
     → map_action (to_run_in fs) a ≡ next_statements (offsets_of s) (sizes_of s) (procedures_in s) (to_run_in fs p)
-whole_step s fs p a h e = ap (map_action (to_run_in fs)) (e ∙ same s p) ∙ sym (plug.todo_step (offsets_of s) (sizes_of s) (procedures_in s) fs p h)
+whole_step s fs p a h e = ap (map_action (to_run_in fs)) (e ∙ same s p) ∙ sym (plug.to_run_step (offsets_of s) (sizes_of s) (procedures_in s) fs p h)
 
 -- ---- references and targets
 
@@ -171,4 +171,4 @@ pub focus_step : (s : Surroundings) (fs : List Frame) (g : Focus) (p : Part) (a 
 focus_step s fs g p a e h n = whole_step s fs p a h n ∙ ap (λ q. next_statements (offsets_of s) (sizes_of s) (procedures_in s) (to_run_in fs q)) (sym e)
 
 pub focus_goes : (s : Surroundings) (fs : List Frame) (g : Focus) (p : Part) → part_of g ≡ p → Active p → returned (to_run_in fs (part_of g)) ≡ None
-focus_goes s fs g p e h = ap (λ q. returned (to_run_in fs q)) e ∙ plug.todo_active (offsets_of s) (sizes_of s) (procedures_in s) fs p h
+focus_goes s fs g p e h = ap (λ q. returned (to_run_in fs q)) e ∙ plug.to_run_active (offsets_of s) (sizes_of s) (procedures_in s) fs p h

@@ -13,7 +13,7 @@ use plm_type::{Expression, Operation, Statement};
 use std::alloc::{AllocError, Global};
 
 // Both operands are known.
-#[tactic(auto, using(crate::proofs::Plug::todo_last))]
+#[tactic(auto, using(crate::proofs::Plug::to_run_last))]
 fn operate<'a>(
     x: u16,
     y: u16,
@@ -41,7 +41,7 @@ fn operate<'a>(
 }
 
 // Puts down what stands around the expression that comes first: none where a part is rewritten next.
-#[tactic(auto, using(crate::proofs::Plug::todo_last))]
+#[tactic(auto, using(crate::proofs::Plug::to_run_last))]
 fn put_down<'a>(
     alloc: Global,
     start: Start<'a>,
@@ -86,7 +86,7 @@ fn put_down<'a>(
 }
 
 // Goes on to what comes first.
-#[tactic(auto, using(crate::proofs::Plug::todo_last))]
+#[tactic(auto, using(crate::proofs::Plug::to_run_last))]
 fn begin<'a>(alloc: Global, start: Start<'a>, context: &mut Context<'a>) -> Result<(), AllocError>
     requires room { vec_len context.old.frames < vec_capacity context.old.frames }
     ensures rest { to_run_of context.new ≡ to_run_in context.old.frames.items (start_part start.entry) }
@@ -102,7 +102,7 @@ fn begin<'a>(alloc: Global, start: Start<'a>, context: &mut Context<'a>) -> Resu
 }
 
 // A statement begins, before others.
-#[tactic(auto, using(crate::proofs::Plug::todo_last))]
+#[tactic(auto, using(crate::proofs::Plug::to_run_last))]
 fn begin_statement<'a>(
     alloc: Global,
     s: &'a Statement,
@@ -120,7 +120,7 @@ fn begin_statement<'a>(
 }
 
 // Nothing is left to do here: what comes after it is next.
-#[tactic(auto, using(crate::proofs::Plug::todo_last))]
+#[tactic(auto, using(crate::proofs::Plug::to_run_last))]
 fn at_end<'a>(alloc: Global, context: &mut Context<'a>) -> Result<(), AllocError>
     ensures rest { to_run_of context.new ≡ to_run_in context.old.frames.items (ToRun End) }
     ensures settled { OnOk result (IsSettled context.new.focus context.new.frames.items) }
@@ -150,7 +150,7 @@ fn at_end<'a>(alloc: Global, context: &mut Context<'a>) -> Result<(), AllocError
 }
 
 // A RETURN leaves out what comes after it.
-#[tactic(auto, using(crate::proofs::Plug::todo_last))]
+#[tactic(auto, using(crate::proofs::Plug::to_run_last))]
 fn give<'a>(v: u16, context: &mut Context<'a>)
     ensures rest { to_run_of context.new ≡ to_run_in context.old.frames.items (ToRun (Returned v)) }
     ensures settled { IsSettled context.new.focus context.new.frames.items }
@@ -174,7 +174,7 @@ fn give<'a>(v: u16, context: &mut Context<'a>)
 }
 
 // The first part of the first statement.
-#[tactic(auto, using(crate::proofs::Plug::todo_last))]
+#[tactic(auto, using(crate::proofs::Plug::to_run_last))]
 fn begin_statements<'a>(
     alloc: Global,
     statements: &'a [Box<Statement>],
@@ -191,7 +191,7 @@ fn begin_statements<'a>(
 }
 
 // Statements begin, in a frame.
-#[tactic(auto, using(crate::proofs::Plug::todo_last))]
+#[tactic(auto, using(crate::proofs::Plug::to_run_last))]
 fn begin_within<'a>(
     alloc: Global,
     frame: Frame<'a>,
@@ -209,7 +209,7 @@ fn begin_within<'a>(
 }
 
 // An argument has its value.
-#[tactic(auto, using(crate::proofs::Plug::todo_last, crate::proofs::Given::given_last))]
+#[tactic(auto, using(crate::proofs::Plug::to_run_last, crate::proofs::Given::given_last))]
 fn argument<'a>(
     alloc: Global,
     procedure: usize,
@@ -248,7 +248,7 @@ fn argument<'a>(
 }
 
 // A value goes to the frame around it.
-#[tactic(auto, using(crate::proofs::Plug::todo_last))]
+#[tactic(auto, using(crate::proofs::Plug::to_run_last))]
 fn resume<'a>(alloc: Global, v: u16, context: &mut Context<'a>) -> Result<(), AllocError>
     requires { context.old.focus ≡ Focus.Value v }
     ensures rest { to_run_of context.new ≡ to_run_of context.old }

@@ -29,7 +29,7 @@ returns-in-Ready-clause-end c =
     let fs = c.args.context.now.frames.items in
     let r = c.in-Ready.redex in
     steps.says_end c.redex_step.result (to_run_of c.args.context.now) c.redex_step.ensures.going
-    (ap (λ g. returned (to_run_in fs (part_of g))) c.in-Ready.is ∙ plug.todo_active (offsets_of s) (sizes_of s) (procedures_in s) fs (redex_part r) (steps.redex_active r))
+    (ap (λ g. returned (to_run_in fs (part_of g))) c.in-Ready.is ∙ plug.to_run_active (offsets_of s) (sizes_of s) (procedures_in s) fs (redex_part r) (steps.redex_active r))
 
 pub returns-in-Call-clause-action : goal.returns-in-Call-clause-action
 returns-in-Call-clause-action c =
