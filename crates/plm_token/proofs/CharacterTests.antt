@@ -13,13 +13,6 @@ pub and-false : (p : Bool) → (p && false) ≡ false
 and-false true = refl
 and-false false = refl
 
--- the number that passes a test of equality
-pub eq_number : (b n : ℕ) → nat_eq b n ≡ true → b ≡ n
-eq_number b n h = grind (arith, nat_tests)
-
-pub not_eq : (b n : ℕ) → (b ≡ n → ⊥) → nat_eq b n ≡ false
-not_eq b n h = grind (arith, nat_tests)
-
 -- no special token begins with another character than these
 pub no_mark : (b : ℕ) (cs : List ℕ) → nat_eq b 61 ≡ false → nat_eq b 46 ≡ false → nat_eq b 47 ≡ false → nat_eq b 40 ≡ false → nat_eq b 41 ≡ false → nat_eq b 43 ≡ false → nat_eq b 45 ≡ false → nat_eq b 42 ≡ false → nat_eq b 44 ≡ false → nat_eq b 60 ≡ false → nat_eq b 62 ≡ false → nat_eq b 58 ≡ false → nat_eq b 59 ≡ false → nat_eq b 64 ≡ false → mark_of (b ∷ cs) ≡ None
 no_mark b cs e61 e46 e47 e40 e41 e43 e45 e42 e44 e60 e62 e58 e59 e64 = rw (e61, e46, e47, e40, e41, e43, e45, e42, e44, e60, e62, e58, e59, e64) refl

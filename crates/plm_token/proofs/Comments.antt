@@ -1,4 +1,5 @@
 -- Where a comment ends.
+use Rattle.std.proofs.lemmas.Option.{same_Some}
 use Rattle.std.proofs.Common.{◌≡◌, ℕ, zero, suc, ◌+◌, ◌<◌, ◌≤◌, List, [], ◌∷◌, ◌++◌, length, take, Bool, true, false, cond, ◌&&◌, nat_eq, Option, Some, None, refl, arith, codes}
 use Rattle.plm_token.specs.Forms.{ends_comment, is_empty}
 use Rattle.plm_token.specs.Inner.Front.{comment_length, further}
@@ -11,9 +12,6 @@ further_none : (o : Option ℕ) → further 1 o ≡ None → o ≡ None
 further_none None h = refl
 further_none (Some m) h = absurd (cc h)
 
-some_is : (m n : ℕ) → Some m ≡ Some n → m ≡ n
-some_is m n h = cc h
-
 -- what a closed comment's characters are, and what longer ones are not
 abbrev Closed : Bool → List ℕ → ℕ → Type 0
 Closed star bs n = (ends_comment star (take n bs) ≡ true) × (n ≤ length bs)
@@ -23,7 +21,7 @@ Past star bs m = (ends_comment star (take m bs) ≡ false) × (ends_comment star
 
 closed_more : (star : Bool) (b : ℕ) (bs : List ℕ) (n : ℕ) → ((m : ℕ) → comment_length (nat_eq b 42) bs ≡ Some m → Closed (nat_eq b 42) bs m)
     → (p : Bool) → (star && nat_eq b 47) ≡ p → cond p (Some 1) (further 1 (comment_length (nat_eq b 42) bs)) ≡ Some n → Closed star (b ∷ bs) n
-closed_more star b bs n behind true e g = let k : 1 ≡ n = some_is 1 n g in rw (← k, e) (refl, omega arith)
+closed_more star b bs n behind true e g = let k : 1 ≡ n = same_Some 1 n g in rw (← k, e) (refl, omega arith)
 closed_more star b bs n behind false e g =
     let w = further_some (comment_length (nat_eq b 42) bs) n g in
     let r = behind w.0 w.1 in
@@ -40,7 +38,7 @@ longer (c ∷ cs) (suc k) some inside = (refl, refl)
 
 past_more : (star : Bool) (b : ℕ) (bs : List ℕ) (n m : ℕ) → n < suc m → m ≤ length bs → ((k : ℕ) → comment_length (nat_eq b 42) bs ≡ Some k → k < m → Past (nat_eq b 42) bs m)
     → (p : Bool) → (star && nat_eq b 47) ≡ p → cond p (Some 1) (further 1 (comment_length (nat_eq b 42) bs)) ≡ Some n → Past star (b ∷ bs) (suc m)
-past_more star b bs n m above inside behind true e g = let k : 1 ≡ n = some_is 1 n g in rw e (longer bs m (omega arith) inside)
+past_more star b bs n m above inside behind true e g = let k : 1 ≡ n = same_Some 1 n g in rw e (longer bs m (omega arith) inside)
 past_more star b bs n m above inside behind false e g =
     let w = further_some (comment_length (nat_eq b 42) bs) n g in rw e (behind w.0 w.1 (omega (arith, w.2)))
 

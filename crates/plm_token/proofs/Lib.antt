@@ -5,6 +5,7 @@ pub mod Runs
 pub mod Comments
 pub mod Quotes
 pub mod NormalForm
+pub mod ByLength
 pub mod Spelled
 pub mod Fronts
 pub mod Includes

@@ -1,4 +1,5 @@
 -- One piece after the other.
+use Rattle.std.proofs.lemmas.Bool.{ne_eqb}
 use Rattle.std.proofs.Common.{◌≡◌, ◌∙◌, ℕ, zero, suc, ◌+◌, ◌-◌, ◌<◌, ◌≤◌, List, [], ◌∷◌, ◌++◌, Bool, true, false, cond, take, drop, length, fold, count_by, refl, ap, sym, arith, ◌≢◌}
 use Rattle.std.proofs.lemmas.List.Sums.{fold_push, sum_by-cons}
 use Rattle.plm_token.specs.declared.piece.ScanState.{ScanState}
@@ -6,7 +7,6 @@ use Rattle.plm_token.specs.declared.piece.ScanState.TheVariants.{FirstColumn, Wi
 use Rattle.plm_token.specs.declared.piece.Front.{Front}
 use Rattle.plm_token.specs.Characters.{is_line_feed}
 use Rattle.plm_token.specs.Forms.{is_literal}
-use Rattle.plm_token.proofs.CharacterTests.{not_eq}
 use Rattle.plm_token.specs.Pieces.{pieces, pieces_behind, state_after, line_behind, front_of}
 
 pub skipped : (k : ℕ) (state : ScanState) (line : ℕ) (bs : List ℕ) → k ≤ length bs
@@ -77,4 +77,4 @@ pub line_start : (state : ScanState) (text front : List ℕ) (b : ℕ) → is_li
 line_start state text front b p e h = rw (e, state_after-all state front b, p, h) refl
 
 pub line_inside : (state : ScanState) (text front : List ℕ) (b : ℕ) → is_literal state ≡ false → text ≡ front ++ b ∷ [] → b ≢ 10 → Within ≡ fold state_after state text
-line_inside state text front b p e h = rw (e, state_after-all state front b, p, not_eq b 10 h) refl
+line_inside state text front b p e h = rw (e, state_after-all state front b, p, ne_eqb b 10 h) refl

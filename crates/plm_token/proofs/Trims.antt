@@ -1,8 +1,8 @@
 -- The end of a text.
+use Rattle.std.proofs.lemmas.Bool.{ne_eqb}
 use Rattle.std.proofs.Common.{◌≡◌, ℕ, ◌+◌, ◌-◌, List, [], ◌∷◌, ◌++◌, Bool, false, cond, length, nat_eq, refl, sym, arith, ◌≢◌}
 use Rattle.std.specs.List.{suffix_len}
 use Rattle.std.proofs.lemmas.List.{reverse-append, take-append-le, take_all, length_push}
-use Rattle.plm_token.proofs.CharacterTests.{not_eq}
 use Rattle.plm_token.specs.Scanner.{trimmed}
 
 abbrev is_mark : ℕ → Bool
@@ -26,7 +26,7 @@ unfolding trimmed
 trimmed-other bs b h = rw (suffix-push bs b, h) (take_all (length (bs ++ b ∷ []) - 0) (bs ++ b ∷ []) (omega arith))
 
 pub stays : (text rest front : List ℕ) (b : ℕ) → trimmed text ≡ trimmed rest → rest ≡ front ++ b ∷ [] → b ≢ 26 → rest ≡ trimmed text
-stays text rest front b same e other = rw (same, e) (sym (trimmed-other front b (not_eq b 26 other)))
+stays text rest front b same e other = rw (same, e) (sym (trimmed-other front b (ne_eqb b 26 other)))
 
 pub goes : (text rest front : List ℕ) (b : ℕ) → trimmed text ≡ trimmed rest → rest ≡ front ++ b ∷ [] → b ≡ 26 → trimmed text ≡ trimmed front
 goes text rest front b same e mark = rw (same, e, mark) (trimmed-mark front)

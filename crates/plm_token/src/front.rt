@@ -100,10 +100,11 @@ fn starts_with(bytes: &[u8], wanted: u8) -> bool
 fn name_piece(name: &[u8]) -> Piece
     ensures { result ≡ name_piece (normal name.now) }
 {
-    if letter_count(name) > NAME_LIMIT {
+    let letters = letter_count(name);
+    if letters > NAME_LIMIT {
         return Piece::Fault(Number::E105);
     }
-    match keyword(name) {
+    match keyword(name, letters) {
         Some(word) => Piece::Token(Kind::Reserved(word)),
         None => Piece::Token(Kind::Identifier),
     }

@@ -1,14 +1,16 @@
-use Rattle.std.proofs.Common.{◌≡◌, ◌∷◌, ◌∙◌, [], ℕ, List, Option, None, find, bytes_eq, ap, refl, sym, subst}
+use Rattle.std.proofs.Common.{◌≡◌, ◌∷◌, ◌∙◌, [], ℕ, List, length, Option, None, ap, refl, sym, subst}
 use Rattle.plm_token.specs.declared.token.Keyword.{Keyword}
-use Rattle.plm_token.specs.Names.{normal, spelling, keyword_of}
+use Rattle.plm_token.specs.declared.keywords.Word.{Word}
+use Rattle.plm_token.specs.Names.{normal, keyword_of}
+use Rattle.plm_token.specs.Inner.Keywords.{keyword_in}
 use Rattle.plm_token.proofs.keywords.keyword.Goals as goal
 
--- a name in normal form is a reserved word where it is one of those that its first letter begins
-by_first : (letters rest : List ℕ) (first : ℕ) (words : List Keyword) (r : Option Keyword)
-    → letters ≡ first ∷ rest → keyword_of (first ∷ rest) ≡ find (λ k. bytes_eq (first ∷ rest) (spelling k)) words
-    → r ≡ find (λ k. bytes_eq letters (spelling k)) words → r ≡ keyword_of letters
-by_first letters rest first words r is among found =
-    found ∙ subst (λ l. find (λ k. bytes_eq l (spelling k)) words ≡ keyword_of l) (sym is) (sym among)
+-- a name in normal form is a reserved word where it is one of those of its length that its first letter begins
+by_first : (letters rest : List ℕ) (first n : ℕ) (words : List Word) (r : Option Keyword)
+    → letters ≡ first ∷ rest → n ≡ length letters → (n ≡ length (first ∷ rest) → keyword_of (first ∷ rest) ≡ keyword_in (first ∷ rest) words)
+    → r ≡ keyword_in letters words → r ≡ keyword_of letters
+by_first letters rest first n words r is size among found =
+    found ∙ subst (λ l. keyword_in l words ≡ keyword_of l) (sym is) (sym (among (size ∙ ap length is)))
 
 none : None ≡ keyword_of []
 unfolding keyword_of
@@ -17,8 +19,8 @@ none = refl
 pub returns-in-Some : goal.returns-in-Some
 returns-in-Some c =
     let name = sym (ap normal c.new.ensures) ∙ c.in-Some.ensures.value in
-    by_first (normal c.args.name.now) (normal c.next.new.self.rest.now) c.in-Some.first c.beginning_with.result.now c.keyword_among.result name
-    (c.beginning_with.ensures (normal c.next.new.self.rest.now)) c.keyword_among.ensures
+    by_first (normal c.args.name.now) (normal c.next.new.self.rest.now) c.in-Some.first c.args.letters c.words_of.result.now c.keyword_among.result name c.requires
+    (c.words_of.ensures (normal c.next.new.self.rest.now)) c.keyword_among.ensures
 
 pub returns-in-None : goal.returns-in-None
 unfolding normal
