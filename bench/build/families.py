@@ -757,7 +757,7 @@ def literals_spread_over_words():
 
 @family
 def literals_in_many_texts():
-    """Many texts of sixty names each, drawn from all over, and a text that names them all: what takes longest."""
+    """Many texts of sixty names each, drawn from all over, and a text that names them all."""
     ns, ts, draw = short(4000), names(3000, "T{}Q"), Random(1)
     texts = [" ".join(draw.sample(ns, 60)) for _ in ts]
     declarations = of(ns, ["N"]) + of(ts, texts) + literal("T", " ".join(ts))
@@ -774,6 +774,50 @@ def literals_of_many_names():
 def literals_of_very_many_names():
     vs, ns = names(300, "Z{}Q"), short(3000)
     return declared_anew(3001, of(ns, vs) + literal("T", " ".join([" ".join(ns)] * 60)), lambda k: of(vs, [""]) + "T ", 1504)
+
+
+@family
+def literals_at_two_depths():
+    """A name that is deep where a text is named itself, and not where it is named by a chain of names."""
+    ns, es = short(3000), names(6, "E{}Q")
+    long = literal("T", " ".join((ns * 60)[:180000]))
+    chain_of_names = of(["Q1Q", "Q2Q", "Q3Q"], ["Q2Q", "Q3Q", "T"])
+    return declared_anew(3010, of(es, [""] + es) + of(ns, ["N"]) + long + chain_of_names, lambda k: literal("N", ["E3Q", ""][k % 2]) + ["T ", "Q1Q "][k % 2], 9)
+
+
+@family
+def literals_of_fresh_names():
+    """Each block declares 33 names that no other does, names them by a text, and then a long text of names that stay."""
+    ns = short(300)
+
+    def block(k):
+        zs = [f"Z{k}Q{j}" for j in range(33)]
+        return of(zs, [""]) + literal("Y", " ".join(zs)) + "Y T "
+
+    return declared_anew(301, of(ns, [""]) + literal("T", " ".join(ns * 500)), block, 174)
+
+
+@family
+def literals_in_nested_blocks():
+    """Six hundred blocks in each other, each with a literal and a text of it, and a long text named at the end of each."""
+    ns = short(300)
+    nest = "".join(f"DO;{literal(f'Z{k}Q')}{literal(f'Y{k}Q', f'Z{k}Q')}Y{k}Q " for k in range(600)) + "T END;" * 600
+    return main(nest * 6, of(ns, [""]) + literal("T", " ".join(ns * 500)))
+
+
+@family
+def literals_now_and_then():
+    """A name after each 500 others of a text: a literal in every second block, a token that comes out in the others."""
+    ns = short(3000)
+    many = (ns * 67)[:200000]
+    text = " ".join(chain.from_iterable([*many[k:k + 500], "N"] for k in range(0, len(many), 500)))
+    return declared_anew(3001, of(ns, [""]) + literal("T", text), lambda k: literal(["Q", "N"][k % 2]) + "T ", 9)
+
+
+@family
+def literals_inside_a_block():
+    """A long text of a name that each block around it declares anew is itself declared in a block."""
+    return main("DO;" + literal("T", "N " * 200000) + ("DO;" + literal("N") + "T END;") * 4500 + "END;")
 
 
 @family

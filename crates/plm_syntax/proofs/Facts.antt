@@ -1,46 +1,95 @@
--- What is known to put nothing out.
-use Rattle.std.proofs.Common.{◌≡◌, ◌∙◌, ℕ, zero, suc, ◌+◌, ◌-◌, ◌*◌, ◌/◌, ◌%◌, ◌^◌, ◌<◌, ◌≤◌, max, min, List, [], ◌∷◌, ◌++◌, Bool, true, false, Option, Some, None, length, map, take, drop, option_map, get_or, ap, refl, sym, subst, arith}
-use Rattle.std.specs.List.{All, AllWithin, list_all, slice_get, slice_range}
-use Rattle.std.proofs.Math.Nat.{le-max_left, le-max_right}
-use Rattle.std.specs.Prelude.{nat_eq}
+-- What is known to put nothing out, and what it rests on.
+use Rattle.std.proofs.Common.{◌≡◌, ◌∙◌, ℕ, zero, suc, ◌+◌, ◌-◌, ◌^◌, ◌<◌, ◌≤◌, max, List, [], ◌∷◌, ◌++◌, Bool, true, false, cond, ◌||◌, Option, Some, None, length, map, take, drop, set, get_or, replicate, find, option_map, ap, refl, sym, subst, arith}
+use Rattle.std.specs.Prelude.{nat_eq, nat_lt}
+use Rattle.std.specs.List.{All, list_all, slice_get, slice_range}
+use Rattle.std.specs.Option.{option_or, IfSome}
 use Rattle.std.specs.Int.{bit_at}
 use Rattle.std.specs.Int.RustNames.{bit_or}
 use lib.Bits.{bit_and}
-use Rattle.std.proofs.lemmas.Bool.{eqb-true, eqb-false}
+use Rattle.std.proofs.Math.Nat.{le-max_left, le-max_right}
+use Rattle.std.proofs.lemmas.Bool.{ltb-true, lt-ltb, le-ltb, eqb-true, eqb-false, or_right, and_from}
 use Rattle.std.proofs.lemmas.Nat.Bits.{bit_at_or, bit_at_and, bit_at-lt, bit_at-zero, bit_at-pow_other}
-use Rattle.std.proofs.lemmas.Option.{slice_get_within, get_or_from_slice_get, slice_get-map}
-use Rattle.std.proofs.lemmas.List.{length-map, length-append, map-append, take-append-drop, take_all, get_or_default}
-use Rattle.std.proofs.lemmas.List.Elements.{All-weaker, at_read, AllWithin-more}
+use Rattle.std.proofs.lemmas.Option.{slice_get_within, get_or_from_slice_get, slice_get-map, same_Some}
+use Rattle.std.proofs.lemmas.List.{length-append, map-append, take-append-drop, take-append-le, take-take, take_all, append_assoc, append-nil, length-take-le, get_or-set_same, get_or-set_other}
+use Rattle.std.proofs.lemmas.List.Elements.{All-weaker}
+use Rattle.std.proofs.lemmas.List.Folds.{find-append}
+use Rattle.plm_token.specs.Names.{names_equal}
 use Rattle.plm_token.specs.Literals.{Symbol}
 use Rattle.plm_syntax.specs.declared.named_token.NamedToken.{NamedToken}
 use Rattle.plm_syntax.specs.declared.scope.Literal.{Literal}
-use Rattle.plm_syntax.specs.declared.scope.Piece.{Piece}
-use Rattle.plm_syntax.specs.declared.scope.Word.{Word}
-use Rattle.plm_syntax.specs.declared.known.QuietName.{QuietName}
+use Rattle.plm_syntax.specs.declared.scope.Scope.{Scope}
+use Rattle.plm_syntax.specs.declared.known.Grounds.{Grounds}
 use Rattle.plm_syntax.specs.declared.known.Run.{Run}
 use Rattle.plm_syntax.specs.declared.known.QuietRun.{QuietRun}
 use Rattle.plm_syntax.specs.declared.known.Known.{Known}
-use Rattle.plm_syntax.specs.Literals.{LiteralText}
-use Rattle.plm_syntax.specs.Inner.NamedToken.{named_symbol}
-use Rattle.plm_syntax.specs.Inner.Names.{passes_one, is_number}
-use Rattle.plm_syntax.specs.Inner.Scope.{literal_text, text_of, text_at, passes, WordPasses, HaveNumbers, IsPiece, IsNumbered, StandsAt}
-use Rattle.plm_syntax.specs.Inner.Known.{each_quiet, is_quiet, is_quiet_text, is_quiet_range, is_quiet_number, IsQuietRun, IsKnownName, IsKnownWord, IsKnownRun, AreTrue}
-use Rattle.plm_syntax.proofs.Quiet.{and_both, all_along, quiet_with_more, quiet_among_more, quiet_same}
-use Rattle.plm_syntax.proofs.Passed.{quiet_both, among_more}
+use Rattle.plm_syntax.specs.Literals.{LiteralText, Blocks, closed, is_identifier}
+use Rattle.plm_syntax.specs.Inner.Names.{names_in, passes_one, is_number}
+use Rattle.plm_syntax.specs.Inner.Scope.{named_symbol, literal_text, text_of, text_at, StandsAt, IsNumberAt, IsNumbered}
+use Rattle.plm_syntax.specs.Inner.Literals.{blocks_in}
+use Rattle.plm_syntax.specs.Inner.Known.{each_quiet, is_quiet, is_quiet_text, is_quiet_range, is_quiet_number, Pass, is_quiet_if_any, is_assumed, Hold, Saying, quiet_name, quiet_run, IsRule, IsFounded, IsRun, IsQuietRun, IsQuietName, IsKnown, AreTrue, AreKnown, HasLiteral}
+use Rattle.plm_syntax.proofs.Quiet.{and_first, and_second, quiet_among_more, quiet_same}
+use Rattle.plm_syntax.proofs.Passed.{quiet_both, among_more, fewer_closed}
 use Rattle.plm_syntax.proofs.Replaced.{some_at}
-use Rattle.plm_syntax.proofs.Numbers.{some_is, stands_for, found_still}
+use Rattle.plm_syntax.proofs.Numbers.{stands_for, found_still, number_still, kept_along, kept_all}
 
--- ---- more replacements, and more literals
+-- ---- bits of words
 
-by_symbol : (p q : Symbol → Bool) → ((s : Symbol) → p s ≡ true → q s ≡ true) → (found : Option Symbol) → passes_one p found ≡ true → passes_one q found ≡ true
-by_symbol p q f None h = h
-by_symbol p q f (Some s) h = f s h
+-- one more word among the bits
+pub passes_or : (test : ℕ → ℕ → Bool) (words : List ℕ) (at x : ℕ) → at < length words → at < 8 → Pass test (set words at (bit_or (get_or words at 0) x))
+    → Pass test words × ((bit : ℕ) → bit_at x bit ≡ 1 → test at bit ≡ true)
+passes_or test words at x lt less h = (λ k bit l b. by_place k bit l b (nat_eq k at) refl, λ bit b. here bit (omega (arith, bit_at_or (get_or words at 0) x bit, b, bit_at-lt (get_or words at 0) bit)))
+  where
+    here : (bit : ℕ) → bit_at (bit_or (get_or words at 0) x) bit ≡ 1 → test at bit ≡ true
+    here bit b = h at bit less (ap (λ (w : ℕ). bit_at w bit) (get_or-set_same words at (bit_or (get_or words at 0) x) 0 lt) ∙ b)
 
-pub number_with_more : (names : List Symbol) (literals : List LiteralText) (d e n : ℕ) → d ≤ e → is_quiet_number names literals d n ≡ true → is_quiet_number names literals e n ≡ true
-number_with_more names literals d e n le h = by_symbol (is_quiet d literals) (is_quiet e literals) (quiet_with_more d e literals le) (slice_get names n) h
+    by_place : (k bit : ℕ) → k < 8 → bit_at (get_or words k 0) bit ≡ 1 → (b : Bool) → nat_eq k at ≡ b → test k bit ≡ true
+    by_place k bit l b true e =
+        let same : k ≡ at = eqb-true k at e in
+        let own : bit_at (get_or words at 0) bit ≡ 1 = ap (λ (n : ℕ). bit_at (get_or words n 0) bit) (sym same) ∙ b in
+        ap (λ (n : ℕ). test n bit) same ∙ here bit (omega (arith, bit_at_or (get_or words at 0) x bit, own, bit_at-lt x bit))
+    by_place k bit l b false e = h k bit l (ap (λ (w : ℕ). bit_at w bit) (get_or-set_other words at k (bit_or (get_or words at 0) x) 0 (eqb-false k at e)) ∙ b)
 
-pub text_with_more : (literals : List LiteralText) (d e : ℕ) (text : List Symbol) → d ≤ e → is_quiet_text d literals text ≡ true → is_quiet_text e literals text ≡ true
-text_with_more literals d e text le h = all_along (is_quiet d literals) (is_quiet e literals) (quiet_with_more d e literals le) text h
+-- one more bit
+pub bit_set : (test : ℕ → ℕ → Bool) (words : List ℕ) (at new : ℕ) → at < length words → Pass test words → test at new ≡ true → Pass test (set words at (bit_or (get_or words at 0) (2 ^ new)))
+bit_set test words at new lt h this k bit l b = by_place (nat_eq k at) refl
+  where
+    by_bit : (c : Bool) → nat_eq bit new ≡ c → bit_at (bit_or (get_or words at 0) (2 ^ new)) bit ≡ 1 → k ≡ at → test at bit ≡ true
+    by_bit true e one same = ap (test at) (eqb-true bit new e) ∙ this
+    by_bit false e one same =
+        let other : bit_at (2 ^ new) bit ≡ 0 = bit_at-pow_other new bit (eqb-false bit new e) in
+        let own : bit_at (get_or words at 0) bit ≡ 1 = omega (arith, bit_at_or (get_or words at 0) (2 ^ new) bit, one, other) in
+        h at bit (omega (arith, l, same)) own
+
+    by_place : (c : Bool) → nat_eq k at ≡ c → test k bit ≡ true
+    by_place true e =
+        let same : k ≡ at = eqb-true k at e in
+        let word : get_or (set words at (bit_or (get_or words at 0) (2 ^ new))) k 0 ≡ bit_or (get_or words at 0) (2 ^ new)
+        = ap (λ (n : ℕ). get_or (set words at (bit_or (get_or words at 0) (2 ^ new))) n 0) same ∙ get_or-set_same words at (bit_or (get_or words at 0) (2 ^ new)) 0 lt in
+        ap (λ (n : ℕ). test n bit) same ∙ by_bit (nat_eq bit new) refl (ap (λ (w : ℕ). bit_at w bit) (sym word) ∙ b) same
+    by_place false e = h k bit l (ap (λ (w : ℕ). bit_at w bit) (sym (get_or-set_other words at k (bit_or (get_or words at 0) (2 ^ new)) 0 (eqb-false k at e))) ∙ b)
+
+-- a word whose bits are all among others
+pub bits_among : (a b bit : ℕ) → bit_and a b ≡ b → bit_at b bit ≡ 1 → bit_at a bit ≡ 1
+bits_among a b bit e one = omega (arith, sym (bit_at_and a b bit) ∙ ap (λ (w : ℕ). bit_at w bit) e, one, bit_at-lt a bit)
+
+-- words of the last bit alone
+only_last : (n k bit : ℕ) → bit_at (get_or (replicate n 9223372036854775808) k 0) bit ≡ 1 → bit ≡ 63
+only_last zero k bit one = absurd (omega (arith, one, bit_at-zero bit))
+only_last (suc n) zero bit one = by_bit (nat_eq bit 63) refl
+  where
+    by_bit : (c : Bool) → nat_eq bit 63 ≡ c → bit ≡ 63
+    by_bit true same = eqb-true bit 63 same
+    by_bit false other = let none : bit_at (2 ^ 63) bit ≡ 0 = bit_at-pow_other 63 bit (eqb-false bit 63 other) in absurd (omega (arith, none, one))
+only_last (suc n) (suc k) bit one = only_last n k bit one
+
+-- words without names: that a replacement may be made
+pub without_names : (names : List Symbol) (literals : List LiteralText) (assumed : List ℕ) → Pass (is_assumed names literals assumed) (0 ∷ replicate 7 9223372036854775808)
+without_names names literals assumed zero bit l one = absurd (omega (arith, one, bit_at-zero bit))
+without_names names literals assumed (suc k) bit l one =
+    ap (is_assumed names literals assumed (suc k)) (only_last 7 k bit one)
+    ∙ and_from (nat_lt 0 (suc k)) (nat_lt 62 63 || is_quiet_if_any names literals (suc k) (slice_get assumed 63)) (lt-ltb 0 (suc k) (omega arith)) refl
+
+-- ---- more names and more literals
 
 has_symbol : (p : Symbol → Bool) (found : Option Symbol) → passes_one p found ≡ true → (s : Symbol) × (found ≡ Some s) × (p s ≡ true)
 has_symbol p None h = absurd (cc h)
@@ -52,49 +101,193 @@ number_among_more names all literals more d n kept h =
     ap (passes_one (is_quiet d (literals ++ more))) (found_still names all n there.0 kept there.1)
     ∙ quiet_among_more d literals more there.0 there.2
 
-text_same_at : (literals more : List LiteralText) (i : ℕ) → i < length literals → text_at (literals ++ more) i ≡ text_at literals i
-text_same_at literals more i lt =
-    let there = some_at literals i lt in
-    ap text_of (among_more literals more i there.0 there.1) ∙ ap text_of (sym there.1)
+or_along : (a b c : Bool) → (b ≡ true → c ≡ true) → (a || b) ≡ true → (a || c) ≡ true
+or_along true b c f h = refl
+or_along false b c f h = f h
 
-run_among_more : (literals more : List LiteralText) (r : Run) → IsQuietRun literals r → IsQuietRun (literals ++ more) r
-run_among_more literals more r h = (
-  omega (arith, h.0, length-append literals more),
-  ap (λ (ss : List Symbol). is_quiet_text r.depth (literals ++ more) (slice_range ss r.from r.to)) (text_same_at literals more r.literal h.0)
-      ∙ all_along (is_quiet r.depth literals) (is_quiet r.depth (literals ++ more)) (quiet_among_more r.depth literals more) (slice_range (text_at literals r.literal) r.from r.to) h.1,
-)
+-- what bits assume, where what is assumed of names is turned into something else
+assumed_along : (names all : List Symbol) (literals more : List LiteralText) (assumed others : List ℕ) (e bit : ℕ)
+    → (is_quiet_if_any names literals e (slice_get assumed bit) ≡ true → is_quiet_if_any all more e (slice_get others bit) ≡ true) → is_assumed names literals assumed e bit ≡ true → is_assumed all more others e bit ≡ true
+assumed_along names all literals more assumed others e bit f h =
+    and_from (nat_lt 0 e) (nat_lt 62 bit || is_quiet_if_any all more e (slice_get others bit))
+    (and_first (nat_lt 0 e) (nat_lt 62 bit || is_quiet_if_any names literals e (slice_get assumed bit)) h)
+    (or_along (nat_lt 62 bit) (is_quiet_if_any names literals e (slice_get assumed bit)) (is_quiet_if_any all more e (slice_get others bit)) f
+    (and_second (nat_lt 0 e) (nat_lt 62 bit || is_quiet_if_any names literals e (slice_get assumed bit)) h))
 
-pub true_among_more : (names all : List Symbol) (literals more : List LiteralText) (known : Known) → take (length names) all ≡ names → AreTrue names literals known → AreTrue all (literals ++ more) known
-true_among_more names all literals more known kept h = record {
-  some = h.some;
-  of_names = All-weaker (IsKnownName names literals known.forgotten) (IsKnownName all (literals ++ more) known.forgotten)
-      (λ k t. (t.0, λ e. number_among_more names all literals more k.depth k.number kept (t.1 e))) known.names.items h.of_names;
-  of_words = All-weaker (IsKnownWord names literals known.forgotten) (IsKnownWord all (literals ++ more) known.forgotten)
-      (λ k t. (t.0, λ e i lt bit. number_among_more names all literals more k.depth (k.word.index * 64 + i) kept (t.1 e i lt bit))) known.words.items h.of_words;
-  of_pieces = All-weaker (IsKnownRun literals known.forgotten) (IsKnownRun (literals ++ more) known.forgotten)
-      (λ k t. (t.0, λ e. run_among_more literals more k.run (t.1 e))) known.pieces.items h.of_pieces;
+-- of more names no less is assumed
+hold_fewer : (names : List Symbol) (literals : List LiteralText) (assumed others : List ℕ) (depth : ℕ) (words : List ℕ) → take (length assumed) others ≡ assumed → Hold names literals others depth words → Hold names literals assumed depth words
+hold_fewer names literals assumed others depth words kept h k bit l b =
+    assumed_along names names literals literals others assumed (depth - k) bit (λ t. by_found t (slice_get assumed bit) refl) (h k bit l b)
+  where
+    by_found : is_quiet_if_any names literals (depth - k) (slice_get others bit) ≡ true → (found : Option ℕ) → slice_get assumed bit ≡ found → is_quiet_if_any names literals (depth - k) found ≡ true
+    by_found t None e = refl
+    by_found t (Some n) e = ap (is_quiet_if_any names literals (depth - k)) (sym (found_still assumed others bit n kept e)) ∙ t
+
+-- what holds still holds
+holds_still : (names all : List Symbol) (literals more : List LiteralText) (assumed words : List ℕ) → take (length names) all ≡ names → Pass (is_assumed names literals assumed) words → Pass (is_assumed all (literals ++ more) assumed) words
+holds_still names all literals more assumed words kept h k bit l b =
+    assumed_along names all literals (literals ++ more) assumed assumed k bit (λ t. by_found (slice_get assumed bit) t) (h k bit l b)
+  where
+    by_found : (found : Option ℕ) → is_quiet_if_any names literals k found ≡ true → is_quiet_if_any all (literals ++ more) k found ≡ true
+    by_found None t = t
+    by_found (Some n) t = number_among_more names all literals more k n kept t
+
+or_second : (a b : Bool) → a ≡ false → (a || b) ≡ true → b ≡ true
+or_second false b e h = h
+or_second true b e h = absurd (cc e)
+
+-- what the bit of a name assumes
+pub assumed_is : (names : List Symbol) (literals : List LiteralText) (assumed : List ℕ) (e bit number : ℕ) → bit < 63 → slice_get assumed bit ≡ Some number → is_assumed names literals assumed e bit ≡ true → is_quiet_number names literals e number ≡ true
+assumed_is names literals assumed e bit number less at h =
+    ap (is_quiet_if_any names literals e) (sym at)
+    ∙ or_second (nat_lt 62 bit) (is_quiet_if_any names literals e (slice_get assumed bit)) (le-ltb 62 bit (omega arith)) (and_second (nat_lt 0 e) (nat_lt 62 bit || is_quiet_if_any names literals e (slice_get assumed bit)) h)
+
+-- the bit of a name that puts nothing out
+pub is_so_assumed : (names : List Symbol) (literals : List LiteralText) (assumed : List ℕ) (e bit number : ℕ) → 0 < e → slice_get assumed bit ≡ Some number → is_quiet_number names literals e number ≡ true → is_assumed names literals assumed e bit ≡ true
+is_so_assumed names literals assumed e bit number some at h =
+    and_from (nat_lt 0 e) (nat_lt 62 bit || is_quiet_if_any names literals e (slice_get assumed bit)) (lt-ltb 0 e some)
+    (or_right (nat_lt 62 bit) (is_quiet_if_any names literals e (slice_get assumed bit)) (ap (is_quiet_if_any names literals e) at ∙ h))
+
+-- ---- rules
+
+-- a rule whose assumptions hold here
+pub rule_now : (says : Saying) (names : List Symbol) (literals : List LiteralText) (assumed : List ℕ) (depth : ℕ) (g : Grounds) → IsFounded says names literals assumed g → Hold names literals assumed depth g.assumed → says names literals depth ≡ true
+rule_now says names literals assumed depth g f h =
+    let whole : take g.level literals ++ drop g.level literals ≡ literals = take-append-drop g.level literals in
+    subst (λ (ls : List LiteralText). says names ls depth ≡ true) whole
+    (f.rule.follows names (drop g.level literals) depth (kept_all names) (subst (λ (ls : List LiteralText). Hold names ls assumed depth g.assumed) (sym whole) h))
+
+-- a rule of fewer literals
+rule_more : (says : Saying) (names : List Symbol) (literals : List LiteralText) (assumed words : List ℕ) (a b : ℕ) → a ≤ b → IsRule says names (take a literals) assumed words → IsRule says names (take b literals) assumed words
+rule_more says names literals assumed words a b le r = record {
+  follows = λ all rest depth kept h.
+      let between : List LiteralText = drop a (take b literals) in
+      let whole : take a literals ++ (between ++ rest) ≡ take b literals ++ rest
+      = sym (append_assoc (take a literals) between rest)
+      ∙ ap (λ (ls : List LiteralText). (ls ++ between) ++ rest) (sym (take-take a b literals le))
+      ∙ ap (λ (ls : List LiteralText). ls ++ rest) (take-append-drop a (take b literals)) in
+      subst (λ (ls : List LiteralText). says all ls depth ≡ true) whole
+      (r.follows all (between ++ rest) depth kept (subst (λ (ls : List LiteralText). Hold all ls assumed depth words) (sym whole) h));
 }
 
--- what is so stays so once there are more names and literals
-pub true_on : (names all : List Symbol) (ls more : List Literal) (known : Known) → take (length names) all ≡ names → take (length ls) more ≡ ls → AreTrue names (map literal_text ls) known → AreTrue all (map literal_text more) known
-true_on names all ls more known kept firsts h =
-    let rest : List Literal = drop (length ls) more in
-    let whole : map literal_text ls ++ map literal_text rest ≡ map literal_text more
-    = sym (map-append literal_text ls rest) ∙ ap (map literal_text) (ap (λ (xs : List Literal). xs ++ rest) (sym firsts) ∙ take-append-drop (length ls) more) in
-    subst (λ (xs : List LiteralText). AreTrue all xs known) whole (true_among_more names all (map literal_text ls) (map literal_text rest) known kept h)
+-- the same firsts
+rule_same : (says : Saying) (names : List Symbol) (firsts others : List LiteralText) (assumed words : List ℕ) → firsts ≡ others → IsRule says names firsts assumed words → IsRule says names others assumed words
+rule_same says names firsts others assumed words e r = subst (λ (ls : List LiteralText). IsRule says names ls assumed words) e r
+
+rule_still : (says : Saying) (names all : List Symbol) (firsts : List LiteralText) (assumed others words : List ℕ) → take (length names) all ≡ names → take (length assumed) others ≡ assumed → IsRule says names firsts assumed words
+    → IsRule says all firsts others words
+rule_still says names all firsts assumed others words kept same r = record {
+  follows = λ every rest depth k h. r.follows every rest depth (kept_along names all every kept k) (hold_fewer every (firsts ++ rest) assumed others depth words same h);
+}
+
+-- once there are more names, more literals and more assumptions
+founded_still : (says : Saying) (names all : List Symbol) (literals more : List LiteralText) (assumed others : List ℕ) (g : Grounds) → take (length names) all ≡ names → take (length assumed) others ≡ assumed
+    → IsFounded says names literals assumed g → IsFounded says all (literals ++ more) others g
+founded_still says names all literals more assumed others g kept same f = record {
+  within = omega (arith, f.within, length-append literals more);
+  rule = rule_same says all (take g.level literals) (take g.level (literals ++ more)) others g.assumed (sym (take-append-le g.level literals more f.within))
+      (rule_still says names all (take g.level literals) assumed others g.assumed kept same f.rule);
+}
+
+-- once there are fewer literals
+founded_fewer : (says : Saying) (names : List Symbol) (fewer more : List LiteralText) (assumed : List ℕ) (g : Grounds) → g.level ≤ length fewer → IsFounded says names (fewer ++ more) assumed g → IsFounded says names fewer assumed g
+founded_fewer says names fewer more assumed g le f = record {
+  within = le;
+  rule = rule_same says names (take g.level (fewer ++ more)) (take g.level fewer) assumed g.assumed (take-append-le g.level fewer more le) f.rule;
+}
+
+run_with : (names all : List Symbol) (literals others : List LiteralText) (assumed more : List ℕ) (literal from : ℕ) (r : Run) → IsRun names literals assumed literal from r → IsFounded (quiet_run literal from r.to) all others more r.grounds
+    → IsRun all others more literal from r
+run_with names all literals others assumed more literal from r h founded = record { of_literal = h.of_literal; of_token = h.of_token; order = h.order; inside = h.inside; founded = founded }
+
+-- ---- what is known, as names, literals and assumptions come and go
+
+known_still : (names all : List Symbol) (literals more : List LiteralText) (assumed others : List ℕ) (base oldest forgotten : ℕ) (ks : List QuietRun) → take (length names) all ≡ names → take (length assumed) others ≡ assumed
+    → All (IsKnown names literals assumed base oldest forgotten) ks → All (IsKnown all (literals ++ more) others base oldest forgotten) ks
+known_still names all literals more assumed others base oldest forgotten ks kept same h =
+    All-weaker (IsKnown names literals assumed base oldest forgotten) (IsKnown all (literals ++ more) others base oldest forgotten)
+    (λ k t. record { past = t.past; new = λ e. still k.run (t.new e); rule = λ old within. still k.run (t.rule old within) }) ks h
+  where
+    still : (r : Run) → IsRun names literals assumed r.literal r.from r → IsRun all (literals ++ more) others r.literal r.from r
+    still r f = run_with names all literals (literals ++ more) assumed others r.literal r.from r f (founded_still (quiet_run r.literal r.from r.to) names all literals more assumed others r.grounds kept same f.founded)
+
+same_true : (names all : List Symbol) (literals others : List LiteralText) (assumed more : List ℕ) (base same : ℕ) (known : Known) → names ≡ all → literals ≡ others → assumed ≡ more → base ≡ same
+    → AreTrue names literals assumed base known → AreTrue all others more same known
+same_true names all literals others assumed more base same known e f g h t =
+    subst (λ (ss : List Symbol). AreTrue ss others more same known) e
+    (subst (λ (ls : List LiteralText). AreTrue names ls more same known) f (subst (λ (ns : List ℕ). AreTrue names literals ns same known) g (subst (λ (n : ℕ). AreTrue names literals assumed n known) h t)))
+
+-- once a literal is declared, of a name that is not assumed
+pub true_declared : (before after : Scope) (known : Known) → take (length (names_in before.names)) (names_in after.names) ≡ names_in before.names → take (length before.literals.items) after.literals.items ≡ before.literals.items
+    → after.assumed.items ≡ before.assumed.items → after.base ≡ before.base → AreKnown before known → AreKnown after known
+true_declared before after known kept firsts assumed base h =
+    let names = names_in before.names in
+    let all = names_in after.names in
+    let literals : List LiteralText = map literal_text before.literals.items in
+    let last : List Literal = drop (length before.literals.items) after.literals.items in
+    let rest : List LiteralText = map literal_text last in
+    let whole : literals ++ rest ≡ map literal_text after.literals.items
+    = sym (map-append literal_text before.literals.items last)
+    ∙ ap (map literal_text) (ap (λ (ls : List Literal). ls ++ last) (sym firsts) ∙ take-append-drop (length before.literals.items) after.literals.items) in
+    same_true all all (literals ++ rest) (map literal_text after.literals.items) before.assumed.items after.assumed.items before.base after.base known refl whole (sym assumed) (sym base) (record {
+      some = h.some;
+      order = h.order;
+      holds = holds_still names all literals rest before.assumed.items known.holds kept h.holds;
+      runs = known_still names all literals rest before.assumed.items before.assumed.items before.base known.oldest known.forgotten known.runs.items kept (take_all (length before.assumed.items) before.assumed.items (omega arith)) h.runs;
+    })
+
+-- once a name is assumed
+pub true_assumed : (before after : Scope) (old new : Known)
+    → ((names : List Symbol) (literals : List LiteralText) (assumed more : List ℕ) (base : ℕ) → take (length assumed) more ≡ assumed → AreTrue names literals assumed base old → AreTrue names literals more base new)
+    → take (length before.assumed.items) after.assumed.items ≡ before.assumed.items → blocks_in after ≡ blocks_in before → after.names ≡ before.names → after.base ≡ before.base → AreKnown before old → AreKnown after new
+true_assumed before after old new f kept blocks names base h =
+    same_true (names_in before.names) (names_in after.names) (map literal_text before.literals.items) (map literal_text after.literals.items) after.assumed.items after.assumed.items before.base after.base new
+    (ap names_in (sym names)) (ap (λ (b : Blocks). b.literals) (sym blocks)) refl (sym base)
+    (f (names_in before.names) (map literal_text before.literals.items) before.assumed.items after.assumed.items before.base kept h)
+
+-- once a block has ended behind the oldest literals
+pub true_closed : (before after : Scope) (old new : Known)
+    → ((names : List Symbol) (fewer more : List LiteralText) (assumed : List ℕ) (base : ℕ) → base ≤ length fewer → AreTrue names (fewer ++ more) assumed base old → AreTrue names fewer assumed base new)
+    → before.base ≤ length (closed (blocks_in before).literals (blocks_in before).starts).literals → blocks_in after ≡ closed (blocks_in before).literals (blocks_in before).starts → after.assumed.items ≡ before.assumed.items → after.base ≡ before.base
+    → after.names ≡ before.names → AreKnown before old → AreKnown after new
+true_closed before after old new f within blocks assumed base names h =
+    let fewer : List LiteralText = (closed (blocks_in before).literals (blocks_in before).starts).literals in
+    let gone = fewer_closed (blocks_in before).literals (blocks_in before).starts in
+    same_true (names_in before.names) (names_in after.names) fewer (map literal_text after.literals.items) before.assumed.items after.assumed.items before.base after.base new (ap names_in (sym names))
+    (ap (λ (b : Blocks). b.literals) (sym blocks)) (sym assumed) (sym base)
+    (f (names_in before.names) fewer gone.0 before.assumed.items before.base within (subst (λ (ls : List LiteralText). AreTrue (names_in before.names) ls before.assumed.items before.base old) gone.1 h))
+
+-- once more is assumed
+pub known_more : (names : List Symbol) (literals : List LiteralText) (assumed others : List ℕ) (base oldest forgotten : ℕ) (ks : List QuietRun) → take (length assumed) others ≡ assumed
+    → All (IsKnown names literals assumed base oldest forgotten) ks → All (IsKnown names literals others base oldest forgotten) ks
+known_more names literals assumed others base oldest forgotten ks same h =
+    let none : literals ++ [] ≡ literals = append-nil literals in
+    subst (λ (ls : List LiteralText). All (IsKnown names ls others base oldest forgotten) ks) none (known_still names names literals [] assumed others base oldest forgotten ks (kept_all names) same h)
+
+-- once literals have gone behind those that no assumption stands for
+pub known_fewer : (names : List Symbol) (fewer more : List LiteralText) (assumed : List ℕ) (base oldest forgotten next : ℕ) (ks : List QuietRun) → base ≤ length fewer → forgotten < next
+    → All (IsKnown names (fewer ++ more) assumed base oldest forgotten) ks → All (IsKnown names fewer assumed base oldest next) ks
+known_fewer names fewer more assumed base oldest forgotten next ks within later h =
+    All-weaker (IsKnown names (fewer ++ more) assumed base oldest forgotten) (IsKnown names fewer assumed base oldest next)
+    (λ k t. record {
+      past = omega (arith, t.past, later);
+      new = λ e. absurd (omega (arith, t.past, later, e));
+      rule = λ old le.
+          run_with names names (fewer ++ more) fewer assumed assumed k.run.literal k.run.from k.run (t.rule old le)
+          (founded_fewer (quiet_run k.run.literal k.run.from k.run.to) names fewer more assumed k.run.grounds (omega (arith, le, within)) (t.rule old le).founded);
+    })
+    ks h
+
+-- what is void
+pub known_void : (names : List Symbol) (literals : List LiteralText) (assumed : List ℕ) (base forgotten next : ℕ) (ks : List QuietRun) → forgotten < next → All (λ (k : QuietRun). k.since ≤ forgotten) ks → All (IsKnown names literals assumed base next next) ks
+known_void names literals assumed base forgotten next ks later h =
+    All-weaker (λ (k : QuietRun). k.since ≤ forgotten) (IsKnown names literals assumed base next next)
+    (λ k t. record { past = omega (arith, t, later); new = λ e. absurd (omega (arith, t, later, e)); rule = λ old le. absurd (omega (arith, t, later, old)) }) ks h
 
 -- ---- what stands in a table
 
 pub at_index : {X : Type 0} (P : X → Type 0) (xs : List X) (i : ℕ) (x : X) → slice_get xs i ≡ Some x → All P xs → P x
 at_index P xs i x e h = subst P (get_or_from_slice_get xs i x x e) (h i x (slice_get_within xs i x e))
-
-pub name_known : (names : List Symbol) (literals : List LiteralText) (known : Known) (i number : ℕ) (k : QuietName) → AreTrue names literals known → slice_get known.names.items i ≡ Some k → k.since ≡ known.forgotten → k.number ≡ number
-    → is_quiet_number names literals k.depth number ≡ true
-name_known names literals known i number k h e now same =
-    ap (is_quiet_number names literals k.depth) (sym same) ∙ (at_index (IsKnownName names literals known.forgotten) known.names.items i k e h.of_names).1 now
-
-pub piece_known : (names : List Symbol) (literals : List LiteralText) (known : Known) (i : ℕ) (k : QuietRun) → AreTrue names literals known → slice_get known.pieces.items i ≡ Some k → k.since ≡ known.forgotten → IsQuietRun literals k.run
-piece_known names literals known i k h e now = (at_index (IsKnownRun literals known.forgotten) known.pieces.items i k e h.of_pieces).1 now
 
 -- ---- tokens by their numbers
 
@@ -106,7 +299,7 @@ one_by_number names literals d n s h k =
 all_taken : (test : Symbol → Bool) (n : ℕ) (xs : List Symbol) → ((p : ℕ) (s : Symbol) → p < n → slice_get xs p ≡ Some s → test s ≡ true) → list_all test (take n xs) ≡ true
 all_taken test zero xs f = refl
 all_taken test (suc n) [] f = refl
-all_taken test (suc n) (x ∷ xs) f = and_both (test x) (list_all test (take n xs)) (f 0 x (omega arith) refl) (all_taken test n xs (λ p s lt e. f (suc p) s (omega (arith, lt)) e))
+all_taken test (suc n) (x ∷ xs) f = and_from (test x) (list_all test (take n xs)) (f 0 x (omega arith) refl) (all_taken test n xs (λ p s lt e. f (suc p) s (omega (arith, lt)) e))
 
 behind : (k p : ℕ) (xs : List Symbol) → slice_get (drop k xs) p ≡ slice_get xs (k + p)
 behind zero p xs = let same : 0 + p ≡ p = omega arith in ap (slice_get xs) (sym same)
@@ -121,31 +314,46 @@ text_there tokens p s e = by_found (slice_get tokens p) refl (sym (slice_get-map
   where
     by_found : (found : Option NamedToken) → slice_get tokens p ≡ found → option_map named_symbol found ≡ Some s → (t : NamedToken) × (slice_get tokens p ≡ Some t) × (named_symbol t ≡ s)
     by_found None g h = absurd (cc h)
-    by_found (Some t) g h = (t, g, some_is (named_symbol t) s h)
+    by_found (Some t) g h = (t, g, same_Some (named_symbol t) s h)
 
--- one token by its number
-pub token_by_number : (names : List Symbol) (literals : List LiteralText) (tokens : List NamedToken) (numbers : List (Option ℕ)) (at n d : ℕ) → HaveNumbers names tokens numbers → slice_get numbers at ≡ Some (Some n)
-    → is_quiet_number names literals d n ≡ true → is_quiet_text d literals (slice_range (map named_symbol tokens) at (at + 1)) ≡ true
-token_by_number names literals tokens numbers at n d have there quiet =
-    range_all (is_quiet d literals) (map named_symbol tokens) at (at + 1) (λ p s le lt e.
+text_there_is : (ls : List Literal) (i : ℕ) (l : Literal) → slice_get ls i ≡ Some l → text_at (map literal_text ls) i ≡ map named_symbol l.text.now.tokens.items
+text_there_is ls i l e = ap text_of (slice_get-map literal_text ls i ∙ ap (option_map literal_text) e)
+
+is_numbered : (names : List Symbol) (ls : List Literal) (i : ℕ) (l : Literal) → slice_get ls i ≡ Some l → All (λ l. IsNumbered names l) ls → IsNumbered names l
+is_numbered names ls i l e h = at_index (λ (x : Literal). IsNumbered names x) ls i l e h
+
+-- the number of a token
+pub number_is_at : (names : List Symbol) (ls : List Literal) (i at : ℕ) (l : Literal) (x : Option ℕ) → slice_get ls i ≡ Some l → slice_get l.numbers.items at ≡ Some x → All (λ l. IsNumbered names l) ls
+    → IfSome x (IsNumberAt names (map literal_text ls) i at)
+number_is_at names ls i at l None here there numbered = tt
+number_is_at names ls i at l (Some n) here there numbered = λ s e.
+    let tokens = l.text.now.tokens.items in
+    let t = text_there tokens at s (ap (λ (ss : List Symbol). slice_get ss at) (sym (text_there_is ls i l here)) ∙ e) in
+    ap (is_number names n) (sym t.2) ∙ (is_numbered names ls i l here numbered).text at (Some n) t.0 there t.1
+
+taken : (literals : List LiteralText) (n i : ℕ) → i < n → slice_get (take n literals) i ≡ slice_get literals i
+taken [] zero i lt = refl
+taken [] (suc n) i lt = refl
+taken (l ∷ ls) zero i lt = absurd (omega (arith, lt))
+taken (l ∷ ls) (suc n) zero lt = refl
+taken (l ∷ ls) (suc n) (suc i) lt = taken ls n i (omega (arith, lt))
+
+-- a literal among the first, whatever stands behind these
+first_there : (literals rest : List LiteralText) (level i : ℕ) (l : LiteralText) → i < level → slice_get literals i ≡ Some l → slice_get (take level literals ++ rest) i ≡ Some l
+first_there literals rest level i l lt e = among_more (take level literals) rest i l (taken literals level i lt ∙ e)
+
+first_text : (literals rest : List LiteralText) (level i : ℕ) → i < level → level ≤ length literals → text_at (take level literals ++ rest) i ≡ text_at literals i
+first_text literals rest level i lt le =
+    let there = some_at literals i (omega (arith, lt, le)) in
+    ap text_of (first_there literals rest level i there.0 lt there.1) ∙ ap text_of (sym there.1)
+
+-- one token whose name puts nothing out
+token_turn : (names all : List Symbol) (literals : List LiteralText) (literal at n d : ℕ) → take (length names) all ≡ names → (others : List LiteralText) → text_at others literal ≡ text_at literals literal
+    → IsNumberAt names literals literal at n → is_quiet_number all others d n ≡ true → is_quiet_range d others literal at (at + 1) ≡ true
+token_turn names all literals literal at n d kept others same is quiet =
+    range_all (is_quiet d others) (text_at others literal) at (at + 1) (λ p s le lt e.
     let here : p ≡ at = omega (arith, le, lt) in
-    let t = text_there tokens p s e in
-    ap (is_quiet d literals) (sym t.2) ∙ one_by_number names literals d n (named_symbol t.0) (have p (Some n) t.0 (ap (slice_get numbers) here ∙ there) t.1) quiet)
-
-piece_number : (test : ℕ → Bool) (numbers : List (Option ℕ)) (p : ℕ) → passes test (get_or numbers p None) ≡ true → (n : ℕ) × (slice_get numbers p ≡ Some (Some n)) × (test n ≡ true)
-piece_number test [] p h = absurd (cc h)
-piece_number test (None ∷ ns) zero h = absurd (cc h)
-piece_number test (Some n ∷ ns) zero h = (n, refl, h)
-piece_number test (x ∷ ns) (suc p) h = piece_number test ns p h
-
--- the tokens of a piece by the names in it
-pub piece_by_numbers : (names : List Symbol) (literals : List LiteralText) (tokens : List NamedToken) (numbers : List (Option ℕ)) (piece : Piece) (d : ℕ) → HaveNumbers names tokens numbers → IsPiece numbers piece
-    → All (WordPasses (λ n. is_quiet_number names literals d n)) piece.words.items → is_quiet_text d literals (slice_range (map named_symbol tokens) piece.from piece.to) ≡ true
-piece_by_numbers names literals tokens numbers piece d have is quiet =
-    range_all (is_quiet d literals) (map named_symbol tokens) piece.from piece.to (λ p s le lt e.
-    let number = piece_number (λ n. is_quiet_number names literals d n) numbers p (is (λ n. is_quiet_number names literals d n) quiet p None le lt) in
-    let t = text_there tokens p s e in
-    ap (is_quiet d literals) (sym t.2) ∙ one_by_number names literals d number.0 (named_symbol t.0) (have p (Some number.0) t.0 number.1 t.1) number.2)
+    one_by_number all others d n s (number_still names all n s kept (is s (ap (λ (ss : List Symbol). slice_get ss at) (sym same) ∙ ap (slice_get (text_at others literal)) (sym here) ∙ e))) quiet)
 
 -- ---- a name by the text of its literal
 
@@ -165,117 +373,184 @@ number_by_text names literals number i d to stands lt quiet whole =
     ∙ ap (each_quiet (is_quiet d literals)) (sym stands.2 ∙ there.1)
     ∙ all
 
--- ---- runs one behind the other
-
-pub ranges_joined : (literals : List LiteralText) (i a b from at to : ℕ) → from ≤ at → at ≤ to → is_quiet_range a literals i from at ≡ true → is_quiet_range b literals i at to ≡ true → is_quiet_range (max a b) literals i from to ≡ true
-ranges_joined literals i a b from at to le le' h k =
-    quiet_both (max a b) literals (text_at literals i) from at to le le'
-    (text_with_more literals a (max a b) (slice_range (text_at literals i) from at) (le-max_left a b) h)
-    (text_with_more literals b (max a b) (slice_range (text_at literals i) at to) (le-max_right a b) k)
-
-pub no_tokens : (d : ℕ) (literals : List LiteralText) (i at : ℕ) → is_quiet_range d literals i at at ≡ true
-no_tokens d literals i at = let none : at - at ≡ 0 = omega arith in ap (λ (n : ℕ). is_quiet_text d literals (take n (drop at (text_at literals i)))) none
-
--- ---- names in words
-
--- the names that are in one of two words
-pub words_joined : (names : List Symbol) (literals : List LiteralText) (d e index a b : ℕ) → d ≤ e → WordPasses (λ n. is_quiet_number names literals d n) (record { index = index; names = a }) → WordPasses (λ n. is_quiet_number names literals e n) (record { index = index; names = b })
-    → WordPasses (λ n. is_quiet_number names literals e n) (record { index = index; names = bit_or a b })
-words_joined names literals d e index a b le h k i lt bit = by_first (bit_at a i) refl
+find_passes : (test : LiteralText → Bool) (ls : List LiteralText) (l : LiteralText) → find test ls ≡ Some l → test l ≡ true
+find_passes test [] l e = absurd (cc e)
+find_passes test (x ∷ xs) l e = by_test (find_passes test xs l) (test x) refl e
   where
-    one : max (bit_at a i) (bit_at b i) ≡ 1
-    one = sym (bit_at_or a b i) ∙ bit
+    by_test : (find test xs ≡ Some l → test l ≡ true) → (b : Bool) → test x ≡ b → cond b (Some x) (find test xs) ≡ Some l → test l ≡ true
+    by_test further true t k = let same : x ≡ l = cc k in ap test (sym same) ∙ t
+    by_test further false t k = further k
 
-    by_first : (x : ℕ) → bit_at a i ≡ x → is_quiet_number names literals e (index * 64 + i) ≡ true
-    by_first zero z = k i lt (omega (arith, one, z))
-    by_first (suc x) z = number_with_more names literals d e (index * 64 + i) le (h i lt (omega (arith, z, bit_at-lt a i)))
-
--- a word whose names are all among others
-pub word_within : (names : List Symbol) (literals : List LiteralText) (d index a b : ℕ) → bit_and a b ≡ b → WordPasses (λ n. is_quiet_number names literals d n) (record { index = index; names = a })
-    → WordPasses (λ n. is_quiet_number names literals d n) (record { index = index; names = b })
-word_within names literals d index a b e h i lt bit =
-    let both : min (bit_at a i) (bit_at b i) ≡ 1 = sym (bit_at_and a b i) ∙ ap (λ (n : ℕ). bit_at n i) e ∙ bit in
-    h i lt (omega (arith, both, bit, bit_at-lt a i))
-
--- a word of one name
-pub one_in_word : (names : List Symbol) (literals : List LiteralText) (d number : ℕ) → is_quiet_number names literals d number ≡ true → WordPasses (λ n. is_quiet_number names literals d n) (record { index = number / 64; names = 2 ^ (number % 64) })
-one_in_word names literals d number h i lt bit = by_place (nat_eq i (number % 64)) refl
+find_there : (test : LiteralText → Bool) (ls : List LiteralText) (i : ℕ) (l : LiteralText) → slice_get ls i ≡ Some l → test l ≡ true → (r : LiteralText) × (find test ls ≡ Some r)
+find_there test [] i l e t = absurd (cc e)
+find_there test (x ∷ xs) i l e t = by_test (λ j f. find_there test xs j l f t) (test x) refl i e
   where
-    by_place : (b : Bool) → nat_eq i (number % 64) ≡ b → is_quiet_number names literals d (number / 64 * 64 + i) ≡ true
-    by_place true e =
-        let at : i ≡ number % 64 = eqb-true i (number % 64) e in
-        let whole : number / 64 * 64 + i ≡ number = omega (arith, at) in
-        ap (is_quiet_number names literals d) whole ∙ h
-    by_place false e =
-        let none : bit_at (2 ^ (number % 64)) i ≡ 0 = bit_at-pow_other (number % 64) i (eqb-false i (number % 64) e) in
-        let bad : 0 ≡ 1 = sym none ∙ bit in
-        absurd (omega (arith, bad))
+    by_test : ((j : ℕ) → slice_get xs j ≡ Some l → (r : LiteralText) × (find test xs ≡ Some r)) → (b : Bool) → test x ≡ b → (i : ℕ) → slice_get (x ∷ xs) i ≡ Some l → (r : LiteralText) × (cond b (Some x) (find test xs) ≡ Some r)
+    by_test further true k i f = (x, refl)
+    by_test further false k zero f = let same : x ≡ l = cc f in let bad : false ≡ true = sym k ∙ ap test same ∙ t in absurd (cc bad)
+    by_test further false k (suc i) f = further i f
 
-pub words_now : (names : List Symbol) (literals : List LiteralText) (d index a b c : ℕ) → bit_and (bit_or a b) c ≡ c → WordPasses (λ n. is_quiet_number names literals d n) (record { index = index; names = a })
-    → WordPasses (λ n. is_quiet_number names literals d n) (record { index = index; names = b }) → WordPasses (λ n. is_quiet_number names literals d n) (record { index = index; names = c })
-words_now names literals d index a b c e h k =
-    word_within names literals d index (bit_or a b) c e (words_joined names literals d d index a b (omega arith) h k)
+-- the first literal of a name that is among the first literals
+found_first : (test : LiteralText → Bool) (literals rest : List LiteralText) (level i : ℕ) (l : LiteralText) → i < level → slice_get literals i ≡ Some l → find test literals ≡ Some l → find test (take level literals ++ rest) ≡ Some l
+found_first test literals rest level i l lt at e =
+    let firsts : List LiteralText = take level literals in
+    let there = find_there test firsts i l (taken literals level i lt ∙ at) (find_passes test literals l e) in
+    let own : Some there.0 ≡ Some l
+    = sym (ap (λ (o : Option LiteralText). option_or o (find test (drop level literals))) there.1)
+    ∙ sym (find-append test firsts (drop level literals))
+    ∙ ap (find test) (take-append-drop level literals)
+    ∙ e in
+    find-append test firsts rest ∙ ap (λ (o : Option LiteralText). option_or o (find test rest)) there.1 ∙ own
 
-pub words_next : (names : List Symbol) (literals : List LiteralText) (d index a b : ℕ) → WordPasses (λ n. is_quiet_number names literals d n) (record { index = index; names = a })
-    → WordPasses (λ n. is_quiet_number names literals d n) (record { index = index; names = b }) → WordPasses (λ n. is_quiet_number names literals (d + 1) n) (record { index = index; names = bit_or a b })
-words_next names literals d index a b h k i lt bit = number_with_more names literals d (d + 1) (index * 64 + i) (omega arith) (words_joined names literals d d index a b (omega arith) h k i lt bit)
+found_kind : (b : Bool) (test : LiteralText → Bool) (literals rest : List LiteralText) (level i : ℕ) (l : LiteralText) → i < level → slice_get literals i ≡ Some l → cond b (find test literals) None ≡ Some l
+    → cond b (find test (take level literals ++ rest)) None ≡ Some l
+found_kind true test literals rest level i l lt at e = found_first test literals rest level i l lt at e
+found_kind false test literals rest level i l lt at e = absurd (cc e)
 
--- no names
-pub no_names : (names : List Symbol) (literals : List LiteralText) (d index : ℕ) → WordPasses (λ n. is_quiet_number names literals d n) (record { index = index; names = 0 })
-no_names names literals d index i lt bit = let bad : 0 ≡ 1 = sym (bit_at-zero i) ∙ bit in absurd (omega (arith, bad))
-
--- a word and one more name
-pub learned_word : (names : List Symbol) (literals : List LiteralText) (d number a : ℕ) → WordPasses (λ n. is_quiet_number names literals d n) (record { index = number / 64; names = a }) → is_quiet_number names literals d number ≡ true
-    → WordPasses (λ n. is_quiet_number names literals d n) (record { index = number / 64; names = bit_or a (2 ^ (number % 64)) })
-learned_word names literals d number a h k = words_joined names literals d d (number / 64) a (2 ^ (number % 64)) (omega arith) h (one_in_word names literals d number k)
-
--- words all of whose names need more
-pub words_with_more : (names : List Symbol) (literals : List LiteralText) (d e : ℕ) (ws : List Word) → d ≤ e → All (WordPasses (λ n. is_quiet_number names literals d n)) ws → All (WordPasses (λ n. is_quiet_number names literals e n)) ws
-words_with_more names literals d e ws le h =
-    All-weaker (WordPasses (λ n. is_quiet_number names literals d n)) (WordPasses (λ n. is_quiet_number names literals e n)) (λ w k i lt bit. number_with_more names literals d e (w.index * 64 + i) le (k i lt bit)) ws h
-
--- one more word, and how many replacements the names of all need
-pub words_on : (names : List Symbol) (literals : List LiteralText) (ws : List Word) (at d e n : ℕ) → at < length ws → d ≤ n → e ≤ n → AllWithin (WordPasses (λ x. is_quiet_number names literals d x)) ws 0 at
-    → WordPasses (λ x. is_quiet_number names literals e x) (get_or ws at (record { index = 0; names = 0 })) → AllWithin (WordPasses (λ x. is_quiet_number names literals n x)) ws 0 (at + 1)
-words_on names literals ws at d e n lt le le' h k =
-    let w : Word = get_or ws at (record { index = 0; names = 0 }) in
-    AllWithin-more (WordPasses (λ x. is_quiet_number names literals n x)) ws 0 at
-    (λ p z lo hi i less bit. number_with_more names literals d n _ le (h p z lo hi i less bit))
-    (at_read ws (WordPasses (λ x. is_quiet_number names literals n x)) at w lt (get_or_default ws at (record { index = 0; names = 0 }) w lt)
-    (λ i less bit. number_with_more names literals e n (w.index * 64 + i) le' (k i less bit)))
-
--- ---- runs of a literal's text
-
-pub run_there : (literals : List LiteralText) (r : Run) (i from : ℕ) → r.literal ≡ i → r.from ≡ from → IsQuietRun literals r → is_quiet_range r.depth literals i from r.to ≡ true
-run_there literals r i from e f h =
-    subst (λ (x : ℕ). is_quiet_range r.depth literals x from r.to ≡ true) e
-    (subst (λ (x : ℕ). is_quiet_range r.depth literals r.literal x r.to ≡ true) f h.1)
-
-pub text_there_is : (ls : List Literal) (i : ℕ) (l : Literal) → slice_get ls i ≡ Some l → text_at (map literal_text ls) i ≡ map named_symbol l.text.now.tokens.items
-text_there_is ls i l e = ap text_of (slice_get-map literal_text ls i ∙ ap (option_map literal_text) e)
-
-pub is_numbered : (names : List Symbol) (ls : List Literal) (i : ℕ) (l : Literal) → slice_get ls i ≡ Some l → All (λ l. IsNumbered names l) ls → IsNumbered names l
-is_numbered names ls i l e h = at_index (λ (x : Literal). IsNumbered names x) ls i l e h
-
--- a piece all of whose names put nothing out
-pub piece_quiet : (names : List Symbol) (ls : List Literal) (i index from d : ℕ) (l : Literal) (piece : Piece) → slice_get ls i ≡ Some l → slice_get l.pieces.items index ≡ Some piece → piece.from ≡ from → All (λ l. IsNumbered names l) ls
-    → All (WordPasses (λ n. is_quiet_number names (map literal_text ls) d n)) piece.words.items → IsQuietRun (map literal_text ls) (record { literal = i; from = from; to = piece.to; depth = d })
-piece_quiet names ls i index from d l piece at there same numbered quiet =
-    let literals : List LiteralText = map literal_text ls in
-    let own = is_numbered names ls i l at numbered in (
-      omega (arith, slice_get_within ls i l at, length-map ls literal_text),
-      ap (λ (ss : List Symbol). is_quiet_text d literals (slice_range ss from piece.to)) (text_there_is ls i l at)
-          ∙ ap (λ (f : ℕ). is_quiet_text d literals (slice_range (map named_symbol l.text.now.tokens.items) f piece.to)) (sym same)
-          ∙ piece_by_numbers names literals l.text.now.tokens.items l.numbers.items piece d own.text (at_index (IsPiece l.numbers.items) l.pieces.items index piece there own.pieces) quiet,
+-- a name whose literal is among the first is that literal's whatever stands behind these
+stands_first : (names all : List Symbol) (literals rest : List LiteralText) (level number i : ℕ) → take (length names) all ≡ names → i < level → i < length literals → StandsAt names literals number i
+    → StandsAt all (take level literals ++ rest) number i
+stands_first names all literals rest level number i kept lt within h =
+    let there = some_at literals i within in (
+      h.0,
+      found_still names all number h.0 kept h.1,
+      first_there literals rest level i there.0 lt there.1
+          ∙ sym (found_kind (is_identifier h.0.kind) (λ l. names_equal l.name h.0.text) literals rest level i there.0 lt there.1 (sym h.2 ∙ there.1)),
     )
 
--- one token whose name puts nothing out
-pub token_quiet : (names : List Symbol) (ls : List Literal) (i at n d : ℕ) (l : Literal) (x : Option ℕ) → slice_get ls i ≡ Some l → slice_get l.numbers.items at ≡ Some x → x ≡ Some n → All (λ l. IsNumbered names l) ls
-    → is_quiet_number names (map literal_text ls) d n ≡ true → is_quiet_range d (map literal_text ls) i at (at + 1) ≡ true
-token_quiet names ls i at n d l x here there is numbered quiet =
-    ap (λ (ss : List Symbol). is_quiet_text d (map literal_text ls) (slice_range ss at (at + 1))) (text_there_is ls i l here)
-    ∙ token_by_number names (map literal_text ls) l.text.now.tokens.items l.numbers.items at n d (is_numbered names ls i l here numbered).text (there ∙ ap (λ (y : Option ℕ). Some y) is) quiet
+-- ---- what names and runs rest on
 
-pub text_over : (names : List Symbol) (ls : List Literal) (i to : ℕ) (l : Literal) → slice_get ls i ≡ Some l → All (λ l. IsNumbered names l) ls → length l.numbers.items ≤ to → length (text_at (map literal_text ls) i) ≤ to
-text_over names ls i to l here numbered le =
-    omega (arith, le, (is_numbered names ls i l here numbered).all, length-map l.text.now.tokens.items named_symbol, ap length (text_there_is ls i l here))
+-- a run, and what lies behind it
+founded_joined : (says : Saying) (names : List Symbol) (literals : List LiteralText) (assumed : List ℕ) (literal from at to : ℕ) (g h k : Grounds) → from ≤ at → at ≤ to → k.level ≡ max g.level h.level
+    → ((test : ℕ → ℕ → Bool) → Pass test k.assumed → Pass test g.assumed × Pass test h.assumed) → IsFounded (quiet_run literal from at) names literals assumed g → IsFounded says names literals assumed h
+    → ((all : List Symbol) (rest : List LiteralText) (d : ℕ) → take (length names) all ≡ names → says all (take k.level literals ++ rest) d ≡ true → is_quiet_range d (take k.level literals ++ rest) literal at to ≡ true)
+    → IsFounded (quiet_run literal from to) names literals assumed k
+founded_joined says names literals assumed literal from at to g h k le le' level pass f f' turn =
+    let one : g.level ≤ k.level = omega (arith, level, le-max_left g.level h.level) in
+    let two : h.level ≤ k.level = omega (arith, level, le-max_right g.level h.level) in record {
+      within = omega (arith, level, f.within, f'.within);
+      rule = record {
+        follows = λ all rest d kept hold.
+            let both = pass (λ j bit. is_assumed all (take k.level literals ++ rest) assumed (d - j) bit) hold in
+            quiet_both d (take k.level literals ++ rest) (text_at (take k.level literals ++ rest) literal) from at to le le'
+            ((rule_more (quiet_run literal from at) names literals assumed g.assumed g.level k.level one f.rule).follows all rest d kept both.0)
+            (turn all rest d kept ((rule_more says names literals assumed h.assumed h.level k.level two f'.rule).follows all rest d kept both.1));
+      };
+    }
+
+-- a run, and another behind it
+pub runs_joined : (scope : Scope) (depth literal from : ℕ) (r next new : Run) → new.literal ≡ r.literal → new.from ≡ r.from → new.to ≡ next.to → new.grounds.level ≡ max r.grounds.level next.grounds.level
+    → ((test : ℕ → ℕ → Bool) → Pass test new.grounds.assumed → Pass test r.grounds.assumed × Pass test next.grounds.assumed) → IsQuietRun scope depth literal from r → IsQuietRun scope depth literal r.to next → IsQuietRun scope depth literal from new
+runs_joined scope depth literal from r next new e f g level pass a b =
+    let names = names_in scope.names in
+    let literals : List LiteralText = map literal_text scope.literals.items in
+    let order : r.to ≤ new.to = omega (arith, b.is_run.order, g) in record {
+      is_run = record {
+        of_literal = e ∙ a.is_run.of_literal;
+        of_token = f ∙ a.is_run.of_token;
+        order = omega (arith, a.is_run.order, order);
+        inside = omega (arith, a.is_run.inside, level, le-max_left r.grounds.level next.grounds.level);
+        founded = founded_joined (quiet_run literal r.to next.to) names literals scope.assumed.items literal from r.to new.to r.grounds next.grounds new.grounds a.is_run.order order level pass a.is_run.founded b.is_run.founded
+            (λ all rest d kept q. ap (is_quiet_range d (take new.grounds.level literals ++ rest) literal r.to) g ∙ q);
+      };
+      now = quiet_both depth literals (text_at literals literal) from r.to new.to a.is_run.order order a.now (ap (is_quiet_range depth literals literal r.to) g ∙ b.now);
+    }
+
+-- a run, and a name behind it
+pub name_joined : (scope : Scope) (depth literal from number : ℕ) (r new : Run) (g : Grounds) → new.literal ≡ r.literal → new.from ≡ r.from → new.to ≡ r.to + 1 → new.grounds.level ≡ max r.grounds.level g.level
+    → ((test : ℕ → ℕ → Bool) → Pass test new.grounds.assumed → Pass test r.grounds.assumed × Pass test g.assumed) → IsQuietRun scope depth literal from r → IsNumberAt (names_in scope.names) (map literal_text scope.literals.items) literal r.to number
+    → IsQuietName scope depth number g → IsQuietRun scope depth literal from new
+name_joined scope depth literal from number r new g e f t level pass a is b =
+    let names = names_in scope.names in
+    let literals : List LiteralText = map literal_text scope.literals.items in
+    let order : r.to ≤ new.to = omega (arith, t) in
+    let inside : literal < new.grounds.level = omega (arith, a.is_run.inside, level, le-max_left r.grounds.level g.level) in
+    let within : new.grounds.level ≤ length literals = omega (arith, level, a.is_run.founded.within, b.founded.within) in record {
+      is_run = record {
+        of_literal = e ∙ a.is_run.of_literal;
+        of_token = f ∙ a.is_run.of_token;
+        order = omega (arith, a.is_run.order, order);
+        inside = inside;
+        founded = founded_joined (quiet_name number) names literals scope.assumed.items literal from r.to new.to r.grounds g new.grounds a.is_run.order order level pass a.is_run.founded b.founded
+            (λ all rest d kept q. ap (is_quiet_range d (take new.grounds.level literals ++ rest) literal r.to) t
+            ∙ token_turn names all literals literal r.to number d kept (take new.grounds.level literals ++ rest) (first_text literals rest new.grounds.level literal inside within) is q);
+      };
+      now = quiet_both depth literals (text_at literals literal) from r.to new.to a.is_run.order order a.now
+          (ap (is_quiet_range depth literals literal r.to) t ∙ token_turn names names literals literal r.to number depth (kept_all names) literals refl is b.now);
+    }
+
+-- a run that is known, whose assumptions hold here
+pub run_here : (scope : Scope) (depth literal from : ℕ) (r : Run) (holds : List ℕ) → Pass (is_assumed (names_in scope.names) (map literal_text scope.literals.items) scope.assumed.items) holds
+    → IsRun (names_in scope.names) (map literal_text scope.literals.items) scope.assumed.items literal from r → ((test : ℕ → ℕ → Bool) → Pass test holds → Pass (λ k bit. test (depth - k) bit) r.grounds.assumed) → IsQuietRun scope depth literal from r
+run_here scope depth literal from r holds h is all =
+    let names = names_in scope.names in
+    let literals : List LiteralText = map literal_text scope.literals.items in record {
+      is_run = is;
+      now = rule_now (quiet_run literal from r.to) names literals scope.assumed.items depth r.grounds is.founded (all (is_assumed names literals scope.assumed.items) h);
+    }
+
+-- a run says itself what it is of
+pub own_run : (names : List Symbol) (literals : List LiteralText) (assumed : List ℕ) (literal from : ℕ) (r : Run) → IsRun names literals assumed literal from r → IsRun names literals assumed r.literal r.from r
+own_run names literals assumed literal from r h =
+    subst (λ (i : ℕ). IsRun names literals assumed i r.from r) (sym h.of_literal) (subst (λ (f : ℕ). IsRun names literals assumed literal f r) (sym h.of_token) h)
+
+-- a name whose literal's text is a run
+pub name_now : (scope : Scope) (depth fewer number literal size : ℕ) (r : Run) → depth ≡ fewer + 1 → HasLiteral scope literal → StandsAt (names_in scope.names) (map literal_text scope.literals.items) number literal
+    → length (text_at (map literal_text scope.literals.items) literal) ≡ size → size ≤ r.to → IsQuietRun scope fewer literal 0 r → is_quiet_number (names_in scope.names) (map literal_text scope.literals.items) depth number ≡ true
+name_now scope depth fewer number literal size r more has stands all_of long a =
+    let names = names_in scope.names in
+    let literals : List LiteralText = map literal_text scope.literals.items in
+    subst (λ (n : ℕ). is_quiet_number names literals n number ≡ true) (sym more) (number_by_text names literals number literal fewer r.to stands has.inside a.now (omega (arith, long, all_of)))
+
+-- a name by the run that is its literal's text
+pub name_of_run : (scope : Scope) (depth fewer number literal size : ℕ) (r : Run) (g : Grounds) → depth ≡ fewer + 1 → HasLiteral scope literal → StandsAt (names_in scope.names) (map literal_text scope.literals.items) number literal
+    → length (text_at (map literal_text scope.literals.items) literal) ≡ size → size ≤ r.to → IsQuietRun scope fewer literal 0 r → g.level ≡ r.grounds.level
+    → ((test : ℕ → ℕ → Bool) → Pass test g.assumed → Pass (λ k bit. test (k + 1) bit) r.grounds.assumed × (test 0 63 ≡ true)) → IsQuietName scope depth number g
+name_of_run scope depth fewer number literal size r g more has stands all_of long a level pass =
+    let names = names_in scope.names in
+    let literals : List LiteralText = map literal_text scope.literals.items in
+    let there : literal < length literals = has.inside in
+    let rule : IsRule (quiet_run literal 0 r.to) names (take g.level literals) scope.assumed.items r.grounds.assumed
+    = subst (λ (n : ℕ). IsRule (quiet_run literal 0 r.to) names (take n literals) scope.assumed.items r.grounds.assumed) (sym level) a.is_run.founded.rule in
+    let within : g.level ≤ length literals = omega (arith, level, a.is_run.founded.within) in
+    let inside : literal < g.level = omega (arith, level, a.is_run.inside) in record {
+      founded = record {
+        within = within;
+        rule = record {
+          follows = λ all rest d kept hold.
+              let others : List LiteralText = take g.level literals ++ rest in
+              let both = pass (λ k bit. is_assumed all others scope.assumed.items (d - k) bit) hold in
+              let some : 0 < d = omega (arith, ltb-true 0 (d - 0) (and_first (nat_lt 0 (d - 0)) true both.1)) in
+              let back : d - 1 + 1 ≡ d = omega (arith, some) in
+              let quiet = rule.follows all rest (d - 1) kept (λ k bit l b. let same : d - (k + 1) ≡ d - 1 - k = omega arith in subst (λ (n : ℕ). is_assumed all others scope.assumed.items n bit ≡ true) same (both.0 k bit l b)) in
+              subst (λ (n : ℕ). is_quiet_number all others n number ≡ true) back
+              (number_by_text all others number literal (d - 1) r.to (stands_first names all literals rest g.level number literal kept inside there stands)
+              (omega (arith, inside, within, length-append (take g.level literals) rest, length-take-le g.level literals within)) quiet
+              (omega (arith, long, ap length (first_text literals rest g.level literal inside within), all_of)));
+        };
+      };
+      now = name_now scope depth fewer number literal size r more has stands all_of long a;
+    }
+
+pub name_of_run_if : (scope : Scope) (depth fewer number literal size : ℕ) (r : Run) (found : Option Grounds) → depth ≡ fewer + 1 → HasLiteral scope literal → StandsAt (names_in scope.names) (map literal_text scope.literals.items) number literal
+    → length (text_at (map literal_text scope.literals.items) literal) ≡ size → size ≤ r.to → IsQuietRun scope fewer literal 0 r → IfSome found (λ g. g.level ≡ r.grounds.level)
+    → IfSome found (λ g. (test : ℕ → ℕ → Bool) → Pass test g.assumed → Pass (λ k bit. test (k + 1) bit) r.grounds.assumed × (test 0 63 ≡ true)) → IfSome found (IsQuietName scope depth number)
+name_of_run_if scope depth fewer number literal size r None more has stands all_of long a level pass = tt
+name_of_run_if scope depth fewer number literal size r (Some g) more has stands all_of long a level pass = name_of_run scope depth fewer number literal size r g more has stands all_of long a level pass
+
+-- a name by its bit
+pub name_of_bit : (scope : Scope) (depth number bit : ℕ) (g : Grounds) → bit < 63 → slice_get scope.assumed.items bit ≡ Some number → g.level ≡ 0 → ((test : ℕ → ℕ → Bool) → Pass test g.assumed → test 0 bit ≡ true)
+    → is_quiet_number (names_in scope.names) (map literal_text scope.literals.items) depth number ≡ true → IsQuietName scope depth number g
+name_of_bit scope depth number bit g less at level pass quiet = record {
+  founded = record {
+    within = omega (arith, level);
+    rule = record {
+      follows = λ all rest d kept hold.
+          let others : List LiteralText = take g.level (map literal_text scope.literals.items) ++ rest in
+          let same : d - 0 ≡ d = omega arith in
+          subst (λ (n : ℕ). is_quiet_number all others n number ≡ true) same
+          (assumed_is all others scope.assumed.items (d - 0) bit number less at (pass (λ k b. is_assumed all others scope.assumed.items (d - k) b) hold));
+    };
+  };
+  now = quiet;
+}

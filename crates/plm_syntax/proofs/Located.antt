@@ -6,7 +6,7 @@ use Rattle.std.specs.Bool.{if◌then◌else◌}
 use Rattle.std.specs.Prelude.{nat_lt, ◌<◌}
 use Rattle.std.proofs.lemmas.Slice.Eq.{bytes_eq-Decides}
 use Rattle.std.proofs.lemmas.Bool.{ltb-true}
-use Rattle.std.proofs.lemmas.Option.{slice_get_read}
+use Rattle.std.proofs.lemmas.Option.{slice_get_read, same_Some}
 use Rattle.plm_token.specs.Names.{normal, names_equal}
 use Rattle.plm_syntax.specs.declared.scope.Literal.{Literal}
 use Rattle.plm_syntax.specs.Literals.{LiteralText}
@@ -14,9 +14,6 @@ use Rattle.plm_syntax.specs.Inner.Scope.{letters_of, literal_text, literal_at, h
 use Rattle.std.specs.HashMap.{HashMap}
 use Rattle.std.specs.Map.{lookup}
 use denote.Ref.{Bor}
-
-some_same : (x y : ℕ) → Some x ≡ Some y → x ≡ y
-some_same x y e = cc e
 
 after_more : (o : Option ℕ) (p : ℕ) → option_map (λ i. suc i) o ≡ Some p → (q : ℕ) × (o ≡ Some q) × (p ≡ suc q)
 after_more None p e = absurd (cc e)
@@ -33,7 +30,7 @@ found_named name (x ∷ xs) p l e at = by_test (λ q. found_named name xs q l) (
     by_test : ((q : ℕ) → first_named name xs ≡ Some q → slice_get xs q ≡ Some l → has_name name l ≡ true) → (b : Bool) → has_name name x ≡ b
         → cond b (Some 0) (option_map (λ i. suc i) (first_named name xs)) ≡ Some p → has_name name l ≡ true
     by_test further true t k =
-        let here : 0 ≡ p = some_same 0 p k in
+        let here : 0 ≡ p = same_Some 0 p k in
         sym (same_test name x l (ap (slice_get (x ∷ xs)) here ∙ at)) ∙ t
     by_test further false t k = let behind = after_more (first_named name xs) p k in further behind.0 behind.1 (ap (slice_get (x ∷ xs)) (sym behind.2) ∙ at)
 
@@ -65,7 +62,7 @@ pub first_pushed : (name : List ℕ) (ls : List Literal) (l : Literal) (p : ℕ)
 first_pushed name [] l p e = by_test (has_name name l) refl e
   where
     by_test : (b : Bool) → has_name name l ≡ b → cond b (Some 0) None ≡ Some p → (first_named name [] ≡ Some p) ⊎ ((first_named name [] ≡ None) × (has_name name l ≡ true) × (p ≡ 0))
-    by_test true t k = inr (let r : (first_named name [] ≡ None) × (has_name name l ≡ true) × (p ≡ 0) = (refl, t, sym (some_same 0 p k)) in r)
+    by_test true t k = inr (let r : (first_named name [] ≡ None) × (has_name name l ≡ true) × (p ≡ 0) = (refl, t, sym (same_Some 0 p k)) in r)
     by_test false t k = absurd (cc k)
 first_pushed name (x ∷ xs) l p e = by_test (first_pushed name xs l) (has_name name x) e
   where
@@ -86,7 +83,7 @@ first_inside name (x ∷ xs) p e at = by_test (first_inside name xs) (has_name n
   where
     by_test : ((q : ℕ) → first_named name xs ≡ Some q → slice_get xs q ≡ None → ⊥) → (b : Bool) → cond b (Some 0) (option_map (λ i. suc i) (first_named name xs)) ≡ Some p → ⊥
     by_test further true k =
-        let here : 0 ≡ p = some_same 0 p k in
+        let here : 0 ≡ p = same_Some 0 p k in
         let none : Some x ≡ None = ap (slice_get (x ∷ xs)) here ∙ at in
         cc none
     by_test further false k = let behind = after_more (first_named name xs) p k in further behind.0 behind.1 (ap (slice_get (x ∷ xs)) (sym behind.2) ∙ at)
@@ -188,7 +185,7 @@ HasOther name (Some l) = has_name name l ≡ false
 pub at_place : (name : List ℕ) (ls : List Literal) (place_of : List ℕ → Option ℕ) (p : ℕ) (found : Option Literal) → place_of name ≡ Some p → slice_get ls p ≡ found → HasOther name found
     → (q : ℕ) (l : Literal) → place_of name ≡ Some q → slice_get ls q ≡ Some l → has_name name l ≡ false
 at_place name ls place_of p found e at other q l f here =
-    let same : p ≡ q = some_same p q (sym e ∙ f) in
+    let same : p ≡ q = same_Some p q (sym e ∙ f) in
     by_found found (sym at ∙ ap (slice_get ls) same ∙ here) other
   where
     by_found : (o : Option Literal) → o ≡ Some l → HasOther name o → has_name name l ≡ false

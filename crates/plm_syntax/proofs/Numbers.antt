@@ -1,14 +1,12 @@
 -- Numbers of names, and the first literals of names.
-use Rattle.std.proofs.Common.{◌≡◌, ◌∙◌, ℕ, zero, suc, ◌+◌, ◌*◌, ◌/◌, ◌%◌, ◌^◌, ◌<◌, List, [], ◌∷◌, ◌++◌, Bool, true, false, not, cond, ◌&&◌, Option, Some, None, is_some, find, length, map, set, take, option_map, get_or, ap, refl, sym, subst, arith, ◌⊎◌, inl, inr}
-use Rattle.std.specs.Prelude.{nat_lt, nat_eq, bytes_eq}
-use Rattle.std.specs.Int.RustNames.{bit_or}
-use Rattle.std.proofs.lemmas.Nat.Bits.{bit_at_or, bit_at-lt, bit_at-pow_same}
+use Rattle.std.proofs.Common.{◌≡◌, ◌∙◌, ℕ, zero, suc, ◌<◌, List, [], ◌∷◌, ◌++◌, Bool, true, false, not, cond, ◌&&◌, Option, Some, None, is_some, find, length, map, take, option_map, get_or, ap, refl, sym, subst, arith, ◌⊎◌, inl, inr}
+use Rattle.std.specs.Prelude.{nat_lt, bytes_eq}
 use Rattle.std.specs.Bool.{if◌then◌else◌}
 use Rattle.std.specs.List.{All, slice_get}
-use Rattle.std.proofs.lemmas.Bool.{ltb-true, eqb-true, eqb-false}
+use Rattle.std.proofs.lemmas.Bool.{ltb-true, and_from}
 use Rattle.std.proofs.lemmas.Slice.Eq.{bytes_eq-Decides}
-use Rattle.std.proofs.lemmas.Option.{slice_get-map, slice_get_read, slice_get_within, get_or_from_slice_get}
-use Rattle.std.proofs.lemmas.List.{get_or-set_same, get_or-set_other, length-set, get_or_append_left, get_or_push, length-append, map-append, take-append-le, take_all}
+use Rattle.std.proofs.lemmas.Option.{slice_get-map, slice_get_read, slice_get_within, get_or_from_slice_get, same_Some}
+use Rattle.std.proofs.lemmas.List.{map-append, take-append-le, take_all}
 use Rattle.std.proofs.lemmas.List.Elements.{All-weaker, All-push}
 use Rattle.plm_token.specs.Names.{normal, names_equal}
 use Rattle.plm_token.specs.Literals.{Symbol}
@@ -16,12 +14,11 @@ use Rattle.plm_syntax.specs.declared.named_token.NamedToken.{NamedToken}
 use Rattle.plm_syntax.specs.declared.names.FirstToken.{FirstToken}
 use Rattle.plm_syntax.specs.declared.names.Names.{Names}
 use Rattle.plm_syntax.specs.declared.scope.Literal.{Literal}
-use Rattle.plm_syntax.specs.declared.scope.Word.{Word}
 use Rattle.plm_syntax.specs.Literals.{is_identifier}
 use Rattle.plm_syntax.specs.Inner.NamedToken.{named_symbol, IsSameName, is_same_name}
 use Rattle.plm_syntax.specs.Inner.Names.{names_in, passes_one, is_number, has_number}
-use Rattle.plm_syntax.specs.Inner.Scope.{letters_of, literal_text, literal_at, has_name, first_named, StandsAt, AreFirst, WordPasses, HaveNumbers, IsPiece, IsNumbered}
-use Rattle.plm_syntax.proofs.Quiet.{and_first, and_second, and_both}
+use Rattle.plm_syntax.specs.Inner.Scope.{letters_of, literal_text, literal_at, has_name, first_named, StandsAt, AreFirst, HaveNumbers, IsNumbered}
+use Rattle.plm_syntax.proofs.Quiet.{and_first, and_second}
 use Rattle.plm_syntax.proofs.Located.{first_of_all, text_found}
 
 -- ---- what is read
@@ -31,9 +28,6 @@ pub read_at : {X : Type 0} (xs ys : List X) (p : ℕ) (x : X) → xs ≡ ys → 
 read_at {X = X} xs ys p x same lt e =
     let inside : p < length xs = ltb-true p (length xs) (sym lt) in
     ap (λ (zs : List X). slice_get zs p) (sym same) ∙ slice_get_read xs (length xs) p x refl inside e
-
-pub some_is : {X : Type 0} (x y : X) → Some x ≡ Some y → x ≡ y
-some_is x y e = cc e
 
 pub got_pushed : {X : Type 0} (xs : List X) (y : X) (i : ℕ) (x : X) → slice_get (xs ++ y ∷ []) i ≡ Some x → ((slice_get xs i ≡ Some x) × (i < length xs)) ⊎ ((i ≡ length xs) × (y ≡ x))
 got_pushed [] y zero x e = inr (refl, cc e)
@@ -62,8 +56,8 @@ got_last (x ∷ xs) y (suc i) e = got_last xs y i (omega (arith, e))
 
 pub same_name_so : (a b : Symbol) → IsSameName a b → is_same_name a b ≡ true
 same_name_so a b h =
-    and_both (is_identifier a.kind) (is_identifier b.kind && bytes_eq (normal a.text) (normal b.text)) h.first
-    (and_both (is_identifier b.kind) (bytes_eq (normal a.text) (normal b.text)) h.second ((bytes_eq-Decides (normal a.text) (normal b.text)).1 h.same))
+    and_from (is_identifier a.kind) (is_identifier b.kind && bytes_eq (normal a.text) (normal b.text)) h.first
+    (and_from (is_identifier b.kind) (bytes_eq (normal a.text) (normal b.text)) h.second ((bytes_eq-Decides (normal a.text) (normal b.text)).1 h.same))
 
 pub same_name_is : (a b : Symbol) → is_same_name a b ≡ true → IsSameName a b
 same_name_is a b h =
@@ -107,8 +101,8 @@ names_kept_so true tokens t = names_kept tokens t
 
 -- ---- once there are more names
 
-pub found_still : (names more : List Symbol) (n : ℕ) (r : Symbol) → take (length names) more ≡ names → slice_get names n ≡ Some r → slice_get more n ≡ Some r
-found_still names more n r kept e = (got_first more (length names) n r (ap (λ (ss : List Symbol). slice_get ss n) kept ∙ e)).0
+pub found_still : {X : Type 0} (xs more : List X) (n : ℕ) (x : X) → take (length xs) more ≡ xs → slice_get xs n ≡ Some x → slice_get more n ≡ Some x
+found_still {X = X} xs more n x kept e = (got_first more (length xs) n x (ap (λ (ys : List X). slice_get ys n) kept ∙ e)).0
 
 pub number_still : (names more : List Symbol) (n : ℕ) (s : Symbol) → take (length names) more ≡ names → is_number names n s ≡ true → is_number more n s ≡ true
 number_still names more n s kept h =
@@ -129,7 +123,6 @@ numbered_still names more literals kept h =
       name = has_still names more (named_symbol l.name.now) l.number kept k.name;
       text = numbers_still names more l.text.now.tokens.items l.numbers.items kept k.text;
       all = k.all;
-      pieces = k.pieces;
     })
     literals h
 
@@ -159,7 +152,7 @@ numbers_more names tokens numbers i t number at lt is this h p n x e f = by_case
     by_case (inl k) = h p n x k.0 f
     by_case (inr k) =
         let here : p ≡ i = k.0 ∙ at in
-        let same : t ≡ x = some_is t x (sym there ∙ ap (slice_get tokens) (sym here) ∙ f) in
+        let same : t ≡ x = same_Some t x (sym there ∙ ap (slice_get tokens) (sym here) ∙ f) in
         ap (λ (y : NamedToken). has_number names (named_symbol y) n) (sym same) ∙ ap (has_number names (named_symbol t)) (sym k.1) ∙ this
 
 -- the literal of a number is the one that its name stands for
@@ -178,47 +171,6 @@ stands_at names literals number i l at is same first numbered =
           ∙ text_found r.0.text literals
           ∙ ap (λ (b : Bool). cond b (find (λ t. names_equal t.name r.0.text) (map literal_text literals)) None) (sym r.2.first),
     )
-
--- ---- names in words
-
-number_whole : (number : ℕ) → number / 64 * 64 + number % 64 ≡ number
-number_whole number = omega arith
-
--- a word that has one more name
-pub word_grown : (words : List Word) (at number : ℕ) (w : Word) → at < length words → w ≡ get_or words at w → w.index ≡ number / 64 → (test : ℕ → Bool)
-    → All (WordPasses test) (set words at (record { index = number / 64; names = bit_or w.names (2 ^ (number % 64)) })) → All (WordPasses test) words × (test number ≡ true)
-word_grown words at number w lt is e test h = (λ k d less. by_place k d less (nat_eq k at) refl, sym (ap test (number_whole number)) ∙ here (number % 64) (omega arith) (omega (arith, bit_at_or w.names (2 ^ (number % 64)) (number % 64), bit_at-pow_same (number % 64), bit_at-lt w.names (number % 64))))
-  where
-    new : Word
-    new = record { index = number / 64; names = bit_or w.names (2 ^ (number % 64)) }
-
-    here : WordPasses test new
-    here = subst (WordPasses test) (get_or-set_same words at new new lt) (h at new (omega (arith, length-set words at new, lt)))
-
-    old : WordPasses test w
-    old i less bit =
-        ap test (ap (λ (m : ℕ). m * 64 + i) e)
-        ∙ here i less (omega (arith, bit_at_or w.names (2 ^ (number % 64)) i, bit, bit_at-lt (2 ^ (number % 64)) i))
-
-    by_place : (k : ℕ) (d : Word) → k < length words → (b : Bool) → nat_eq k at ≡ b → WordPasses test (get_or words k d)
-    by_place k d less true same =
-        let there : get_or words k d ≡ w = ap (λ (m : ℕ). get_or words m d) (eqb-true k at same) ∙ get_or_from_slice_get words at w d (slice_get_read words (length words) at w refl lt is) in
-        subst (WordPasses test) (sym there) old
-    by_place k d less false other =
-        subst (WordPasses test) (get_or-set_other words at k new d (eqb-false k at other)) (h k d (omega (arith, length-set words at new, less)))
-
--- one more word, of one name
-pub word_pushed : (words : List Word) (number : ℕ) (test : ℕ → Bool) → All (WordPasses test) (words ++ record { index = number / 64; names = 2 ^ (number % 64) } ∷ []) → All (WordPasses test) words × (test number ≡ true)
-word_pushed words number test h = (
-  λ k d less. subst (WordPasses test) (get_or_append_left words (new ∷ []) d k less) (h k d (omega (arith, less, length-append words (new ∷ [])))),
-  sym (ap test (number_whole number)) ∙ last (number % 64) (omega arith) (bit_at-pow_same (number % 64)),
-)
-  where
-    new : Word
-    new = record { index = number / 64; names = 2 ^ (number % 64) }
-
-    last : WordPasses test new
-    last = subst (WordPasses test) (get_or_push words new new (length words) refl) (h (length words) new (omega (arith, length-append words (new ∷ []))))
 
 -- ---- the first literals of their names
 
@@ -248,7 +200,7 @@ first_among name (suc n) (x ∷ xs) p lt e = by_test (further (λ q less k. firs
         → option_map (λ i. suc i) (first_named name (take n xs)) ≡ Some p
     further among None k f = absurd (cc f)
     further among (Some q) k f =
-        let one : suc q ≡ p = some_is (suc q) p f in
+        let one : suc q ≡ p = same_Some (suc q) p f in
         ap (λ (o : Option ℕ). option_map (λ i. suc i) o) (among q (omega (arith, lt, one)) k) ∙ f
 
     by_test : (option_map (λ i. suc i) (first_named name xs) ≡ Some p → option_map (λ i. suc i) (first_named name (take n xs)) ≡ Some p) → (b : Bool) → cond b (Some 0) (option_map (λ i. suc i) (first_named name xs)) ≡ Some p → cond b (Some 0) (option_map (λ i. suc i) (first_named name (take n xs))) ≡ Some p
@@ -289,11 +241,10 @@ none_there (Some i) true e h = absurd (cc e)
 none_there (Some i) false e h = absurd (cc h)
 
 -- what a new literal has
-pub numbered_new : (a b : Names) (all : List Symbol) (l : Literal) (tokens : List NamedToken) (numbers : List (Option ℕ)) → b ≡ a → has_number (names_in a) (named_symbol l.name.now) l.number ≡ true → take (length (names_in b)) all ≡ names_in b
-    → tokens ≡ l.text.now.tokens.items → HaveNumbers all tokens l.numbers.items → length l.numbers.items ≡ length tokens → numbers ≡ l.numbers.items → All (IsPiece numbers) l.pieces.items → IsNumbered all l
-numbered_new a b all l tokens numbers same name kept text have every ns pieces = record {
+pub numbered_new : (a b : Names) (all : List Symbol) (l : Literal) (tokens : List NamedToken) → b ≡ a → has_number (names_in a) (named_symbol l.name.now) l.number ≡ true → take (length (names_in b)) all ≡ names_in b
+    → tokens ≡ l.text.now.tokens.items → HaveNumbers all tokens l.numbers.items → length l.numbers.items ≡ length tokens → IsNumbered all l
+numbered_new a b all l tokens same name kept text have every = record {
   name = has_still (names_in b) all (named_symbol l.name.now) l.number kept (subst (λ (n : Names). has_number (names_in n) (named_symbol l.name.now) l.number ≡ true) (sym same) name);
   text = subst (λ (ts : List NamedToken). HaveNumbers all ts l.numbers.items) text have;
   all = every ∙ ap length text;
-  pieces = subst (λ (xs : List (Option ℕ)). All (IsPiece xs) l.pieces.items) ns pieces;
 }

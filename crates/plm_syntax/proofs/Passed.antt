@@ -1,4 +1,5 @@
 -- Runs of a text that put nothing out, and a text put out token by token.
+use Rattle.std.proofs.lemmas.Bool.{and_from}
 use Rattle.std.proofs.Common.{◌≡◌, ◌∙◌, ℕ, zero, suc, ◌+◌, ◌-◌, ◌<◌, ◌≤◌, List, [], ◌∷◌, ◌++◌, Bool, true, false, cond, ◌&&◌, Option, Some, None, length, map, fold, take, drop, option_map, get_or, ap, refl, sym, arith}
 use Rattle.std.specs.List.{slice_get, slice_range}
 use Rattle.std.proofs.Math.Seq.{drop-cons}
@@ -16,7 +17,7 @@ use Rattle.plm_syntax.specs.Literals.{LiteralText, Blocks, Out, opens, is_keywor
 use Rattle.plm_syntax.specs.Inner.Scope.{named_symbol, literal_text, text_of, text_at}
 use Rattle.plm_syntax.specs.Inner.Known.{is_quiet, is_quiet_text}
 use Rattle.plm_syntax.proofs.Replaced.{some_at}
-use Rattle.plm_syntax.proofs.Quiet.{and_both, quiet_text_out}
+use Rattle.plm_syntax.proofs.Quiet.{quiet_text_out}
 
 -- ---- a literal by its place
 
@@ -40,7 +41,7 @@ range_quiet d ls text f g t le le' = ap (is_quiet_text d ls) (range_joined text 
 
 pub quiet_both : (d : ℕ) (ls : List LiteralText) (text : List Symbol) (f g t : ℕ) → f ≤ g → g ≤ t → is_quiet_text d ls (slice_range text f g) ≡ true → is_quiet_text d ls (slice_range text g t) ≡ true
     → is_quiet_text d ls (slice_range text f t) ≡ true
-quiet_both d ls text f g t le le' h k = range_quiet d ls text f g t le le' ∙ and_both (is_quiet_text d ls (slice_range text f g)) (is_quiet_text d ls (slice_range text g t)) h k
+quiet_both d ls text f g t le le' h k = range_quiet d ls text f g t le le' ∙ and_from (is_quiet_text d ls (slice_range text f g)) (is_quiet_text d ls (slice_range text g t)) h k
 
 -- ---- literals go, and none comes
 
@@ -54,7 +55,7 @@ fewer_same o q e = ([], e ∙ sym (append-nil q.blocks.literals))
 pub fewer_along : (a b c : Out) → Fewer a b → Fewer b c → Fewer a c
 fewer_along a b c f g = (g.0 ++ f.0, f.1 ∙ ap (λ (ls : List LiteralText). ls ++ f.0) g.1 ∙ append_assoc c.blocks.literals g.0 f.0)
 
-fewer_closed : (literals : List LiteralText) (starts : List ℕ) → (more : List LiteralText) × (literals ≡ (closed literals starts).literals ++ more)
+pub fewer_closed : (literals : List LiteralText) (starts : List ℕ) → (more : List LiteralText) × (literals ≡ (closed literals starts).literals ++ more)
 fewer_closed literals [] = ([], sym (append-nil literals))
 fewer_closed literals (n ∷ ns) = (drop n literals, sym (take-append-drop n literals))
 
@@ -97,13 +98,6 @@ kept depth line text before after i l e h =
 
 -- ---- a text put out token by token
 
-pub the_literal : (literals : List Literal) (i : ℕ) (l : Literal) → i < length literals → l ≡ get_or literals i l → (t : LiteralText) → slice_get (map literal_text literals) i ≡ Some t
-    → t.text ≡ map named_symbol l.text.now.tokens.items
-the_literal literals i l lt e t h =
-    let found : slice_get (map literal_text literals) i ≡ Some (literal_text l) = slice_get-map literal_text literals i ∙ ap (option_map literal_text) (slice_get_read literals (length literals) i l refl lt e) in
-    let same : Some t ≡ Some (literal_text l) = sym h ∙ found in
-    ap text_of same
-
 -- one of the tokens
 pub one_token : (text : List NamedToken) (at : ℕ) (d : NamedToken) → at < length text → d ≡ get_or text at d → slice_range (map named_symbol text) at (at + 1) ≡ named_symbol d ∷ []
 one_token text at d lt is =
@@ -121,9 +115,6 @@ token_out depth line text at d o next lt is e = e ∙ ap (λ (ss : List Symbol).
 pub record Putting (depth line : ℕ) (text : List Symbol) (i at : ℕ) (first o : Out) : Type 0 where
   pub rest : text_out depth line text first ≡ text_out depth line (drop at text) o
   pub same : (t : LiteralText) → slice_get o.blocks.literals i ≡ Some t → t.text ≡ text
-
-pub put_first : (depth line : ℕ) (text : List Symbol) (i : ℕ) (first : Out) → ((t : LiteralText) → slice_get first.blocks.literals i ≡ Some t → t.text ≡ text) → Putting depth line text i 0 first first
-put_first depth line text i first same = record { rest = refl; same = same }
 
 pub put_on : (depth line : ℕ) (text : List Symbol) (i at to : ℕ) (first o next : Out) → Putting depth line text i at first o → at < to → next ≡ text_out depth line (slice_range text at to) o
     → Putting depth line text i to first next

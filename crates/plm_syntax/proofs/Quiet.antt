@@ -1,5 +1,6 @@
 -- Tokens of literals that put nothing out, and what that rests on.
-use Rattle.std.proofs.Common.{◌≡◌, ◌∙◌, ℕ, zero, suc, ◌≤◌, List, [], ◌∷◌, ◌++◌, Bool, true, false, cond, ◌&&◌, Option, Some, None, find, fold, ap, refl, sym, arith}
+use Rattle.std.proofs.lemmas.Bool.{and_from}
+use Rattle.std.proofs.Common.{◌≡◌, ◌∙◌, ℕ, zero, suc, List, [], ◌∷◌, ◌++◌, Bool, true, false, cond, ◌&&◌, Option, Some, None, find, fold, ap, refl, sym}
 use Rattle.std.specs.List.{list_all}
 use Rattle.std.specs.Option.{option_or}
 use Rattle.std.specs.Prelude.{bytes_eq}
@@ -21,25 +22,11 @@ pub and_second : (a b : Bool) → (a && b) ≡ true → b ≡ true
 and_second true b h = h
 and_second false b h = absurd (cc h)
 
-pub and_both : (a b : Bool) → a ≡ true → b ≡ true → (a && b) ≡ true
-and_both true b g h = h
-and_both false b g h = g
-
 pub all_along : {A : Type 0} (p q : A → Bool) → ((x : A) → p x ≡ true → q x ≡ true) → (xs : List A) → list_all p xs ≡ true → list_all q xs ≡ true
 all_along p q f [] h = refl
-all_along p q f (x ∷ xs) h = and_both (q x) (list_all q xs) (f x (and_first (p x) (list_all p xs) h)) (all_along p q f xs (and_second (p x) (list_all p xs) h))
+all_along p q f (x ∷ xs) h = and_from (q x) (list_all q xs) (f x (and_first (p x) (list_all p xs) h)) (all_along p q f xs (and_second (p x) (list_all p xs) h))
 
 -- ---- more replacements, and more literals
-
-pub named_along : (p q : Symbol → Bool) → ((s : Symbol) → p s ≡ true → q s ≡ true) → (found : Option LiteralText) → each_quiet p found ≡ true → each_quiet q found ≡ true
-named_along p q f None h = h
-named_along p q f (Some l) h = all_along p q f l.text h
-
-pub quiet_with_more : (n m : ℕ) (literals : List LiteralText) → n ≤ m → (s : Symbol) → is_quiet n literals s ≡ true → is_quiet m literals s ≡ true
-unfolding is_quiet
-quiet_with_more zero m literals le s h = absurd (cc h)
-quiet_with_more (suc n) zero literals le s h = absurd (omega (arith, le))
-quiet_with_more (suc n) (suc m) literals le s h = named_along (is_quiet n literals) (is_quiet m literals) (quiet_with_more n m literals (omega (arith, le))) (literal_for literals s.kind s.text) h
 
 found_still : (literals more : List LiteralText) (s : Symbol) (l : LiteralText) → literal_for literals s.kind s.text ≡ Some l → literal_for (literals ++ more) s.kind s.text ≡ Some l
 found_still literals more s l e = by_kind (is_identifier s.kind) e

@@ -1,316 +1,272 @@
-//! What is known of the texts of literals that put nothing out, as long as no literal goes.
+//! What is known of the texts of literals that put nothing out, and what it rests on.
 
-ghost use Rattle.std.specs.Prelude.{◌≡◌, ◌<◌, ◌≤◌, ℕ, List, true, length, map, max, IfSome, IfErr};
+ghost use Rattle.std.specs.Prelude.{◌≡◌, ◌+◌, ◌-◌, ◌^◌, ◌<◌, ◌≤◌, ℕ, List, ◌++◌, Bool, true, take, length, max, get_or, IfSome, IfErr};
 ghost use Rattle.std.specs.List.{All};
+ghost use Rattle.std.specs.Int.{bit_at};
 ghost use Rattle.word86.specs.declared.fault.Fault.TheVariants.{Memory};
 ghost use Rattle.plm_token.specs.Literals.{Symbol};
 ghost use Rattle.plm_syntax.specs.Literals.{LiteralText};
-ghost use Rattle.plm_syntax.specs.Inner.Names.{names_in};
-ghost use Rattle.plm_syntax.specs.Inner.Scope.{literal_text, WordPasses};
-ghost use Rattle.plm_syntax.specs.Inner.Known.{AreKnown, AreTrue, IsKnownName, IsKnownWord, IsKnownRun, is_quiet_number, is_quiet_range, IsQuietRun};
+ghost use Rattle.plm_syntax.specs.Inner.Known.{Pass, HasLiteral, AreKnown, AreTrue, IsKnown, IsQuietName, IsQuietRun, IsRun, is_assumed};
 
-use crate::scope::{PIECE, Scope, WORD, Word, bit_of};
+use crate::scope::{GRAIN, Scope};
 use std::alloc::Global;
 use word86::Fault;
 
-/// How many replacements may be made one inside the other.
+/// For how many numbers of replacements assumptions are told apart.
 const DEPTHS: usize = 8;
 
-/// A name that puts nothing out, by its number: how many replacements may be made one inside the other, and since which forgetting it was known.
+/// How many tokens of a text are looked into at a time.
+const PIECE: usize = 256;
+
+/// Says that a replacement may be made, and no more: the bit of no name.
+const ONE_MORE: u64 = 1 << 63;
+
+/// What nothing but the number of replacements tells: that one may be made.
+const NO_NAME: [u64; DEPTHS] = [
+    0, ONE_MORE, ONE_MORE, ONE_MORE, ONE_MORE, ONE_MORE, ONE_MORE, ONE_MORE,
+];
+
+/// What a fact rests on, whatever number of replacements may be made: the oldest literals, `level` of them, and names that are assumed to put nothing out,
+/// each by its bit. Those of the word at k are assumed to do so where k replacements fewer may be made.
 #[derive(Clone, Copy)]
-pub struct QuietName {
-    pub number: usize,
-    pub depth: u8,
-    pub since: usize,
+pub struct Grounds {
+    pub level: usize,
+    pub assumed: [u64; DEPTHS],
 }
 
-/// Those names of a word that put nothing out where so many replacements may be made, and since which forgetting they were known.
-#[derive(Clone, Copy)]
-pub struct QuietWord {
-    pub word: Word,
-    pub depth: u8,
-    pub since: usize,
-}
-
-/// Tokens of a literal's text, from one up to another, that put nothing out: how many replacements may be made one inside the other.
+/// Tokens of a literal's text, from one up to another, that put nothing out, and what that rests on.
 #[derive(Clone, Copy)]
 pub struct Run {
     pub literal: usize,
     pub from: usize,
     pub to: usize,
-    pub depth: u8,
+    pub grounds: Grounds,
 }
 
-/// A run, and since which forgetting it was known.
+/// A run, and after how many forgettings it was known.
 #[derive(Clone, Copy)]
 pub struct QuietRun {
     pub run: Run,
     pub since: usize,
 }
 
-/// What is known to put nothing out: of names, each at its number, of these by words, eight places for each, one for each depth, and of the pieces
-/// of texts, each at its place among all pieces. All is forgotten where a literal goes; what stands here since an earlier forgetting is void.
+/// What is known to put nothing out: runs of texts. Each says itself what it is of, so that it may stand anywhere.
 ///
-/// Each says itself what it is of, so that it may stand anywhere.
+/// A run that rests on no more than the literals whose names are not assumed is a rule, and stays as long as these do; what else a block's end leaves is
+/// forgotten. What is known since before `oldest` is void.
 ///
-/// `loud` has for each name how many literals had been declared when it was last found that something comes of it. That only saves looking again:
-/// where it is wrong, the name is replaced as any other.
+/// `holds` has the assumptions that hold now, in the word at e where e replacements may be made.
 #[derive(Drop)]
 pub struct Known {
-    pub declared: usize,
-    pub loud: Vec<usize>,
-    pub names: Vec<QuietName>,
-    pub words: Vec<QuietWord>,
-    pub pieces: Vec<QuietRun>,
+    pub runs: Vec<QuietRun>,
+    pub holds: [u64; DEPTHS],
+    pub oldest: usize,
     pub forgotten: usize,
 }
 
-/// What is known of no name.
-const NO_NAME: QuietName = QuietName {
-    number: 0,
-    depth: 0,
-    since: 0,
-};
-
-/// What is known of no word.
-const NO_WORD: QuietWord = QuietWord {
-    word: Word { index: 0, names: 0 },
-    depth: 0,
-    since: 0,
-};
-
-/// What is known of no piece.
-const NO_PIECE: QuietRun = QuietRun {
+/// What is known of no run.
+const NO_RUN: QuietRun = QuietRun {
     run: Run {
         literal: 0,
         from: 0,
         to: 0,
-        depth: 0,
+        grounds: Grounds {
+            level: 0,
+            assumed: [0; DEPTHS],
+        },
     },
     since: 0,
 };
 
-/// Makes room for the marks of so many names.
-fn more_marks(table: &mut Vec<usize>, count: usize) -> Result<(), Fault>
+/// Makes room for so many runs.
+fn more_runs(table: &mut Vec<QuietRun>, count: usize) -> Result<(), Fault>
+    ensures known { (names : List Symbol) (literals : List LiteralText) (assumed : List ℕ) (base oldest forgotten : ℕ) → 0 < oldest → oldest ≤ forgotten → All (IsKnown names literals assumed base oldest forgotten) table.old.items → All (IsKnown names literals assumed base oldest forgotten) table.new.items }
     ensures err { IfErr result (λ f. f ≡ Memory) }
 {
     if table.len() < count {
-        table.resize(count, 0)?;
+        table.resize(count, NO_RUN)?;
     }
     Ok(())
 }
 
-/// Makes room for so many names.
-fn more_names(table: &mut Vec<QuietName>, count: usize) -> Result<(), Fault>
-    ensures known { (names : List Symbol) (literals : List LiteralText) (forgotten : ℕ) → 0 < forgotten → All (IsKnownName names literals forgotten) table.old.items → All (IsKnownName names literals forgotten) table.new.items }
-    ensures err { IfErr result (λ f. f ≡ Memory) }
+/// A word of one bit.
+fn one_bit(at: usize) -> u64
+    requires { at < 64 }
+    ensures { result ≡ 2 ^ at }
 {
-    if table.len() < count {
-        table.resize(count, NO_NAME)?;
-    }
-    Ok(())
+    1 << at
 }
 
-/// Makes room for so many words.
-fn more_words(table: &mut Vec<QuietWord>, count: usize) -> Result<(), Fault>
-    ensures known { (names : List Symbol) (literals : List LiteralText) (forgotten : ℕ) → 0 < forgotten → All (IsKnownWord names literals forgotten) table.old.items → All (IsKnownWord names literals forgotten) table.new.items }
-    ensures err { IfErr result (λ f. f ≡ Memory) }
-{
-    if table.len() < count {
-        table.resize(count, NO_WORD)?;
-    }
-    Ok(())
+/// Whether tokens of a text, from one up to another, are to be known as a run: where they begin the text, or are many.
+fn is_worth_keeping(from: usize, to: usize) -> bool {
+    from == 0 || to.saturating_sub(from) >= GRAIN
 }
 
-/// Makes room for so many pieces.
-fn more_pieces(table: &mut Vec<QuietRun>, count: usize) -> Result<(), Fault>
-    ensures known { (literals : List LiteralText) (forgotten : ℕ) → 0 < forgotten → All (IsKnownRun literals forgotten) table.old.items → All (IsKnownRun literals forgotten) table.new.items }
-    ensures err { IfErr result (λ f. f ≡ Memory) }
-{
-    if table.len() < count {
-        table.resize(count, NO_PIECE)?;
-    }
-    Ok(())
-}
-
-/// The greater of two counts of replacements.
-fn greater(a: u8, b: u8) -> u8
+/// The greater of two numbers of literals.
+fn greater(a: usize, b: usize) -> usize
     ensures { result ≡ max a b }
 {
     if a < b { b } else { a }
 }
 
+impl Grounds {
+    /// Takes on the assumptions of another, as they are where so many replacements fewer may be made.
+    fn add(&mut self, other: &Grounds, fewer: usize)
+        ensures level { self.new.level ≡ self.old.level }
+        ensures pass { (test : ℕ → ℕ → Bool) → Pass test self.new.assumed → Pass test self.old.assumed × ((k bit : ℕ) → k + fewer < 8 → bit_at (get_or other.now.assumed k 0) bit ≡ 1 → test (k + fewer) bit ≡ true) }
+    {
+        for k in fewer..DEPTHS {
+            self.assumed[k] |= other.assumed[k - fewer];
+        }
+    }
+
+    /// What a name rests on whose text rests on this.
+    fn deeper(&self) -> Option<Grounds>
+        ensures level { IfSome result (λ g. g.level ≡ self.now.level) }
+        ensures pass { IfSome result (λ g. (test : ℕ → ℕ → Bool) → Pass test g.assumed → Pass (λ k bit. test (k + 1) bit) self.now.assumed × (test 0 63 ≡ true)) }
+    {
+        if self.assumed[DEPTHS - 1] != 0 {
+            return None;
+        }
+        let mut grounds = Grounds {
+            level: self.level,
+            assumed: [ONE_MORE, 0, 0, 0, 0, 0, 0, 0],
+        };
+        grounds.add(self, 1);
+        Some(grounds)
+    }
+
+    /// What a name rests on that is assumed.
+    fn of_bit(bit: usize) -> Grounds
+        requires { bit < 63 }
+        ensures level { result.level ≡ 0 }
+        ensures pass { (test : ℕ → ℕ → Bool) → Pass test result.assumed → test 0 bit ≡ true }
+    {
+        Grounds {
+            level: 0,
+            assumed: [one_bit(bit), 0, 0, 0, 0, 0, 0, 0],
+        }
+    }
+}
+
+impl Run {
+    /// No tokens of a literal's text.
+    fn empty(literal: usize, at: usize) -> Run
+        requires { literal + 1 < 2 ^ 64 }
+        ensures literal { result.literal ≡ literal }
+        ensures from { result.from ≡ at }
+        ensures to { result.to ≡ at }
+        ensures level { result.grounds.level ≡ literal + 1 }
+    {
+        Run {
+            literal,
+            from: at,
+            to: at,
+            grounds: Grounds {
+                level: literal + 1,
+                assumed: [0; DEPTHS],
+            },
+        }
+    }
+
+    /// Goes on up to a token, and rests on this too.
+    fn extend(&mut self, to: usize, grounds: &Grounds)
+        ensures literal { self.new.literal ≡ self.old.literal }
+        ensures from { self.new.from ≡ self.old.from }
+        ensures to { self.new.to ≡ to }
+        ensures level { self.new.grounds.level ≡ max self.old.grounds.level grounds.now.level }
+        ensures pass { (test : ℕ → ℕ → Bool) → Pass test self.new.grounds.assumed → Pass test self.old.grounds.assumed × Pass test grounds.now.assumed }
+    {
+        self.to = to;
+        self.grounds.level = greater(self.grounds.level, grounds.level);
+        self.grounds.add(grounds, 0);
+    }
+}
+
 impl Known {
     /// Nothing.
     pub(crate) fn new(alloc: Global) -> Self
-        ensures { (names : List Symbol) (literals : List LiteralText) → AreTrue names literals result }
+        ensures { (names : List Symbol) (literals : List LiteralText) (assumed : List ℕ) (base : ℕ) → AreTrue names literals assumed base result }
     {
         Known {
-            declared: 1,
-            loud: Vec::new(alloc),
-            names: Vec::new(alloc),
-            words: Vec::new(alloc),
-            pieces: Vec::new(alloc),
+            runs: Vec::new(alloc),
+            holds: NO_NAME,
+            oldest: 1,
             forgotten: 1,
+        }
+    }
+
+    /// Forgets what rests on more than the oldest literals, as literals go.
+    pub(crate) fn end_block(&mut self)
+        ensures { (names : List Symbol) (fewer more : List LiteralText) (assumed : List ℕ) (base : ℕ) → base ≤ length fewer → AreTrue names (fewer ++ more) assumed base self.old → AreTrue names fewer assumed base self.new }
+    {
+        self.holds = NO_NAME;
+        match self.forgotten.checked_add(1) {
+            Some(next) => self.forgotten = next,
+            None => self.runs.clear(),
         }
     }
 
     /// Forgets all.
     pub(crate) fn forget(&mut self)
-        requires some { 0 < self.old.forgotten }
-        requires names { All (λ k. k.since ≤ self.old.forgotten) self.old.names.items }
-        requires words { All (λ k. k.since ≤ self.old.forgotten) self.old.words.items }
-        requires pieces { All (λ k. k.since ≤ self.old.forgotten) self.old.pieces.items }
-        ensures { (names : List Symbol) (literals : List LiteralText) → AreTrue names literals self.new }
+        requires some { 0 < self.old.oldest }
+        requires order { self.old.oldest ≤ self.old.forgotten }
+        requires runs { All (λ k. k.since ≤ self.old.forgotten) self.old.runs.items }
+        ensures { (names : List Symbol) (literals : List LiteralText) (assumed : List ℕ) (base : ℕ) → AreTrue names literals assumed base self.new }
     {
+        self.holds = NO_NAME;
         match self.forgotten.checked_add(1) {
-            Some(next) => self.forgotten = next,
-            None => {
-                self.names.clear();
-                self.words.clear();
-                self.pieces.clear();
+            Some(next) => {
+                self.forgotten = next;
+                self.oldest = next;
             }
+            None => self.runs.clear(),
         }
     }
 
-    /// Makes room for so many names and so many pieces, once one more literal is declared.
-    pub(crate) fn make_room(&mut self, names: usize, pieces: usize) -> Result<(), Fault>
-        ensures known { (all : List Symbol) (literals : List LiteralText) → AreTrue all literals self.old → AreTrue all literals self.new }
+    /// Makes room for what is known at so many places, as another name may be assumed.
+    pub(crate) fn make_room(&mut self, places: usize) -> Result<(), Fault>
+        ensures known { (names : List Symbol) (literals : List LiteralText) (assumed more : List ℕ) (base : ℕ) → take (length assumed) more ≡ assumed → AreTrue names literals assumed base self.old → AreTrue names literals more base self.new }
         ensures err { IfErr result (λ f. f ≡ Memory) }
     {
-        self.declared = self.declared.saturating_add(1);
-        more_marks(&mut self.loud, names)?;
-        more_names(&mut self.names, names)?;
-        more_words(
-            &mut self.words,
-            (names / WORD).saturating_add(2).saturating_mul(DEPTHS),
-        )?;
-        more_pieces(&mut self.pieces, pieces)
+        self.holds = NO_NAME;
+        more_runs(&mut self.runs, places)
     }
 
-    /// How many replacements a name needs that is known to put nothing out.
-    fn name(&self, number: usize) -> Option<u8>
-        ensures { (names : List Symbol) (literals : List LiteralText) → AreTrue names literals self.now → IfSome result (λ d. is_quiet_number names literals d number ≡ true) }
+    /// Which assumptions hold where so many replacements may be made.
+    fn holding(&self, depth: usize) -> u64
+        ensures { (test : ℕ → ℕ → Bool) → Pass test self.now.holds → (bit : ℕ) → bit_at result bit ≡ 1 → test depth bit ≡ true }
     {
-        let known = self.names.get(number)?;
-        if known.since == self.forgotten && known.number == number {
-            Some(known.depth)
-        } else {
-            None
-        }
+        if depth < DEPTHS { self.holds[depth] } else { 0 }
     }
 
-    /// Where what is known stands of the names of a word that need so many replacements.
-    fn place_of(index: usize, depth: u8) -> usize {
-        index.wrapping_mul(DEPTHS).wrapping_add(usize::from(depth))
-    }
-
-    /// The names of a word that are known to put nothing out where so many replacements may be made; others may need fewer.
-    fn word(&self, index: usize, depth: u8) -> u64
-        ensures { (names : List Symbol) (literals : List LiteralText) → AreTrue names literals self.now → WordPasses (λ n. is_quiet_number names literals depth n) (record { index = index; names = result }) }
+    /// Whether what a fact rests on is assumed and holds, where so many replacements may be made.
+    fn all_hold(&self, grounds: &Grounds, depth: usize) -> bool
+        ensures { result ≡ true → (test : ℕ → ℕ → Bool) → Pass test self.now.holds → Pass (λ k bit. test (depth - k) bit) grounds.now.assumed }
     {
-        match self.words.get(Known::place_of(index, depth)) {
-            Some(known)
-                if known.since == self.forgotten
-                    && known.word.index == index
-                    && known.depth == depth => { known.word.names }
-            _ => 0,
-        }
-    }
-
-    /// How many replacements names of a word need, if all are known to put nothing out. That it is this many is tried first.
-    #[tactic(auto, using(crate::proofs::Facts::words_now, crate::proofs::Facts::words_next, crate::proofs::Facts::no_names))]
-    fn word_depth(&self, word: Word, likely: u8) -> Option<u8>
-        ensures { (names : List Symbol) (literals : List LiteralText) → AreTrue names literals self.now → IfSome result (λ d. WordPasses (λ n. is_quiet_number names literals d n) word) }
-    {
-        if self.word(word.index, likely) & word.names == word.names {
-            return Some(likely);
-        }
-        let mut found = 0;
-        let mut depth = 1u8;
-        while depth <= 8 {
-            found |= self.word(word.index, depth);
-            if found & word.names == word.names {
-                return Some(depth);
+        for k in 0..DEPTHS {
+            let word = grounds.assumed[k];
+            if self.holding(depth.saturating_sub(k)) & word != word {
+                return false;
             }
-            depth += 1;
         }
-        None
+        true
     }
 
-    /// Those names of a word of which nothing is known.
-    fn unknown(&self, word: Word) -> u64 {
-        let mut unknown = word.names;
-        for depth in 1..9u8 {
-            unknown &= !self.word(word.index, depth);
-        }
-        unknown
-    }
-
-    /// How many replacements names need, if all are known to put nothing out.
-    fn all_words(&self, words: &[Word]) -> Option<u8>
-        ensures { (names : List Symbol) (literals : List LiteralText) → AreTrue names literals self.now → IfSome result (λ d. All (WordPasses (λ n. is_quiet_number names literals d n)) words.now) }
+    /// Says that an assumption holds where so many replacements may be made.
+    fn hold(&mut self, bit: usize, depth: usize)
+        requires { bit < 63 }
+        ensures { (names : List Symbol) (literals : List LiteralText) (assumed : List ℕ) (base : ℕ) → AreTrue names literals assumed base self.old → is_assumed names literals assumed depth bit ≡ true → AreTrue names literals assumed base self.new }
     {
-        let mut depth = 0;
-        let mut at = 0;
-        while at < words.len() {
-            let word = words[at];
-            let needs = self.word_depth(word, depth)?;
-            depth = greater(depth, needs);
-            at += 1;
+        if depth < DEPTHS {
+            self.holds[depth] |= one_bit(bit);
         }
-        Some(depth)
     }
 
-    #[tactic(auto, using(crate::proofs::Facts::learned_word))]
-    fn learn_word(&mut self, number: usize, depth: u8)
-        ensures { (names : List Symbol) (literals : List LiteralText) → AreTrue names literals self.old → is_quiet_number names literals depth number ≡ true → AreTrue names literals self.new }
+    fn learn(&mut self, place: usize, run: Run)
+        ensures { (names : List Symbol) (literals : List LiteralText) (assumed : List ℕ) (base : ℕ) → AreTrue names literals assumed base self.old → IsRun names literals assumed run.literal run.from run → AreTrue names literals assumed base self.new }
     {
-        let index = number / WORD;
-        let names = self.word(index, depth) | bit_of(number);
-        let since = self.forgotten;
-        if let Some(known) = self.words.get_mut(Known::place_of(index, depth)) {
-            *known = QuietWord {
-                word: Word { index, names },
-                depth,
-                since,
-            };
-        }
-    }
-
-    /// Whether something came of a name, and no literal was declared since.
-    fn is_loud(&self, number: usize) -> bool {
-        match self.loud.get(number) {
-            Some(declared) => *declared == self.declared,
-            None => false,
-        }
-    }
-
-    fn set_loud(&mut self, number: usize)
-        ensures { (names : List Symbol) (literals : List LiteralText) → AreTrue names literals self.old → AreTrue names literals self.new }
-    {
-        let declared = self.declared;
-        if let Some(found) = self.loud.get_mut(number) {
-            *found = declared;
-        }
-    }
-
-    fn learn_name(&mut self, number: usize, depth: u8)
-        ensures { (names : List Symbol) (literals : List LiteralText) → AreTrue names literals self.old → is_quiet_number names literals depth number ≡ true → AreTrue names literals self.new }
-    {
-        if let Some(known) = self.names.get_mut(number) {
-            *known = QuietName {
-                number,
-                depth,
-                since: self.forgotten,
-            };
-        }
-    }
-
-    fn learn_piece(&mut self, place: usize, run: Run)
-        ensures { (names : List Symbol) (literals : List LiteralText) → AreTrue names literals self.old → IsQuietRun literals run → AreTrue names literals self.new }
-    {
-        if let Some(known) = self.pieces.get_mut(place) {
+        if let Some(known) = self.runs.get_mut(place) {
             *known = QuietRun {
                 run,
                 since: self.forgotten,
@@ -318,151 +274,227 @@ impl Known {
         }
     }
 
-    /// The piece at a token of a literal's text, if it is known to put nothing out.
-    fn piece(&self, place: usize, literal: usize, from: usize) -> Option<Run>
-        ensures run { (names : List Symbol) (literals : List LiteralText) → AreTrue names literals self.now → IfSome result (IsQuietRun literals) }
-        ensures place { IfSome result (λ r. (r.literal ≡ literal) × (r.from ≡ from) × (from < r.to)) }
+    /// The run at a token of a literal's text that is known by a place.
+    fn run_at(&self, base: usize, place: usize, literal: usize, from: usize) -> Option<&Run>
+        ensures { (names : List Symbol) (literals : List LiteralText) (assumed : List ℕ) → AreTrue names literals assumed base self.now → IfSome result (λ r. IsRun names literals assumed literal from r.now) }
     {
-        let known = self.pieces.get(place)?;
-        let run = known.run;
-        if known.since == self.forgotten
-            && run.literal == literal
-            && run.from == from
-            && from < run.to
-        {
+        let known = self.runs.get(place)?;
+        let run = &known.run;
+        if run.literal != literal || run.from != from {
+            return None;
+        }
+        let is_rule = self.oldest <= known.since && run.grounds.level <= base;
+        if is_rule || known.since == self.forgotten {
             Some(run)
         } else {
             None
         }
     }
 
-    /// How many replacements a name needs that puts nothing out where so many may be made.
-    #[cycle(quiet)]
-    fn quiet_name(&mut self, scope: &Scope<'_, '_>, number: usize, depth: u8) -> Option<u8>
-        requires { AreKnown scope.now self.old }
-        ensures known { AreKnown scope.now self.new }
-        ensures name { IfSome result (λ d. is_quiet_number (names_in scope.now.names) (map literal_text scope.now.literals.items) d number ≡ true) }
-        ensures within { IfSome result (λ d. d ≤ depth) }
+    /// What a name rests on, if it is assumed or its literal's text is known, and that holds where so many replacements may be made.
+    fn known_name(&self, scope: &Scope<'_, '_>, number: usize, depth: usize) -> Option<Grounds>
+        requires { AreKnown scope.now self.now }
+        ensures { IfSome result (IsQuietName scope.now depth number) }
     {
-        if let Some(needs) = self.name(number) {
-            return (needs <= depth).then_some(needs);
+        let Some(bit) = scope.bit_of(number) else {
+            return self.known_text(scope, number, depth);
+        };
+        if (self.holding(depth) >> bit) & 1 == 1 {
+            Some(Grounds::of_bit(bit))
+        } else {
+            None
         }
-        if depth == 0 || self.is_loud(number) {
-            return None;
-        }
-        let literal = scope.numbered(number)?;
-        let run = self.quiet_from(scope, literal, 0, depth - 1);
-        if run.to < scope.literals.get(literal)?.numbers.len() {
-            self.set_loud(number);
-            return None;
-        }
-        let needs = run.depth + 1;
-        self.learn_name(number, needs);
-        self.learn_word(number, needs);
-        Some(needs)
     }
 
-    /// Looks into those names of a word of which nothing is known, up to one that is not found to put nothing out.
+    /// What a name rests on, if its literal's text is known, and that holds where so many replacements may be made.
+    fn known_text(&self, scope: &Scope<'_, '_>, number: usize, depth: usize) -> Option<Grounds>
+        requires { AreKnown scope.now self.now }
+        ensures { IfSome result (IsQuietName scope.now depth number) }
+    {
+        let fewer = depth.checked_sub(1)?;
+        let literal = scope.numbered(number)?;
+        let size = scope.size(literal)?;
+        let run = self.run_at(scope.base, scope.place(literal, 0), literal, 0)?;
+        if run.to < size {
+            return None;
+        }
+        if self.all_hold(&run.grounds, fewer) {
+            run.grounds.deeper()
+        } else {
+            None
+        }
+    }
+
+    /// What a name rests on that puts nothing out where so many replacements may be made.
     #[cycle(quiet)]
-    fn look_into(&mut self, scope: &Scope<'_, '_>, word: Word, depth: u8) -> Option<()>
+    fn quiet_name(&mut self, scope: &Scope<'_, '_>, number: usize, depth: usize) -> Option<Grounds>
+        requires { AreKnown scope.now self.old }
+        ensures known { AreKnown scope.now self.new }
+        ensures name { IfSome result (IsQuietName scope.now depth number) }
+    {
+        if let Some(grounds) = self.known_name(scope, number, depth) {
+            return Some(grounds);
+        }
+        let fewer = depth.checked_sub(1)?;
+        let literal = scope.numbered(number)?;
+        let run = self.quiet_from(scope, literal, 0, fewer)?;
+        let (to, grounds) = (run.to, run.grounds);
+        if to < scope.size(literal)? {
+            return None;
+        }
+        match scope.bit_of(number) {
+            None => grounds.deeper(),
+            Some(bit) => {
+                self.hold(bit, depth);
+                Some(Grounds::of_bit(bit))
+            }
+        }
+    }
+
+    /// Looks into those names of a word of assumptions of which it is not known that they hold, up to one that does not.
+    #[cycle(quiet)]
+    fn look_into(&mut self, scope: &Scope<'_, '_>, word: u64, depth: usize) -> Option<()>
         requires { AreKnown scope.now self.old }
         ensures { AreKnown scope.now self.new }
     {
-        let mut unknown = self.unknown(word);
-        for _ in 0..WORD {
+        let mut unknown = word & !self.holding(depth);
+        for _ in 0..u64::BITS {
             if unknown == 0 {
                 return Some(());
             }
-            let name = unknown.trailing_zeros() as usize;
-            let number = word.index.wrapping_mul(WORD).wrapping_add(name);
+            let bit = unknown.trailing_zeros() as usize;
+            let number = *scope.assumed.get(bit)?;
             self.quiet_name(scope, number, depth)?;
             unknown &= unknown.wrapping_sub(1);
         }
         Some(())
     }
 
-    /// The same for words.
+    /// The same for all that a fact rests on.
     #[cycle(quiet)]
-    fn look_into_all(&mut self, scope: &Scope<'_, '_>, words: &[Word], depth: u8) -> Option<()>
+    fn look_into_all(
+        &mut self,
+        scope: &Scope<'_, '_>,
+        grounds: &Grounds,
+        depth: usize,
+    ) -> Option<()>
         requires { AreKnown scope.now self.old }
         ensures { AreKnown scope.now self.new }
     {
-        for word in words {
-            self.look_into(scope, *word, depth)?;
+        for k in 0..DEPTHS {
+            let word = grounds.assumed[k];
+            self.look_into(scope, word, depth.saturating_sub(k))?;
         }
         Some(())
     }
 
-    /// How many replacements names need, if all put nothing out where so many may be made.
+    /// The run at a token of a literal's text that is known by a place, if it puts nothing out where so many replacements may be made, or else none of its
+    /// tokens.
     #[cycle(quiet)]
-    fn quiet_words(&mut self, scope: &Scope<'_, '_>, words: &[Word], depth: u8) -> Option<u8>
-        requires { AreKnown scope.now self.old }
+    fn known_run(
+        &mut self,
+        scope: &Scope<'_, '_>,
+        place: usize,
+        literal: usize,
+        from: usize,
+        depth: usize,
+    ) -> Run
+        requires known { AreKnown scope.now self.old }
+        requires there { HasLiteral scope.now literal }
         ensures known { AreKnown scope.now self.new }
-        ensures words { IfSome result (λ d. All (WordPasses (λ n. is_quiet_number (names_in scope.now.names) (map literal_text scope.now.literals.items) d n)) words.now) }
+        ensures run { IsQuietRun scope.now depth literal from result }
     {
-        if let Some(needs) = self.all_words(words) {
-            return Some(needs);
+        let Some(found) = self.run_at(scope.base, place, literal, from) else {
+            return Run::empty(literal, from);
+        };
+        let run = *found;
+        let grounds = run.grounds;
+        if self.all_hold(&grounds, depth) {
+            return run;
         }
-        self.look_into_all(scope, words, depth)?;
-        self.all_words(words)
+        if self.look_into_all(scope, &grounds, depth).is_none() {
+            return Run::empty(literal, from);
+        }
+        if self.all_hold(&grounds, depth) {
+            run
+        } else {
+            Run::empty(literal, from)
+        }
     }
 
-    /// The piece that begins at a token of a literal's text, if each name in it puts nothing out where so many replacements may be made.
+    /// The tokens of a literal's text from one on, up to another at most, that put nothing out where so many replacements may be made.
     #[cycle(quiet)]
-    fn quiet_piece(
+    fn walk(
         &mut self,
         scope: &Scope<'_, '_>,
         literal: usize,
         from: usize,
-        depth: u8,
-    ) -> Option<Run>
-        requires { AreKnown scope.now self.old }
+        end: usize,
+        depth: usize,
+    ) -> Run
+        requires known { AreKnown scope.now self.old }
+        requires there { HasLiteral scope.now literal }
         ensures known { AreKnown scope.now self.new }
-        ensures run { IfSome result (λ r. is_quiet_range r.depth (map literal_text scope.now.literals.items) literal from r.to ≡ true) }
-        ensures later { IfSome result (λ r. from < r.to) }
+        ensures run { IsQuietRun scope.now depth literal from result }
     {
-        let found = scope.literals.get(literal)?;
-        let index = from / PIECE;
-        let piece = found.pieces.get(index)?;
-        let place = found.first_piece.checked_add(index)?;
-        if let Some(run) = self.piece(place, literal, from) {
-            return Some(run);
+        let mut run = Run::empty(literal, from);
+        for _ in from..end {
+            let at = run.to;
+            let Some(number) = scope.number_at(literal, at) else {
+                return run;
+            };
+            let Some(grounds) = self.quiet_name(scope, number, depth) else {
+                return run;
+            };
+            run.extend(at + 1, &grounds);
         }
-        if piece.from != from || piece.to <= from {
-            return None;
-        }
-        let run = Run {
-            literal,
-            from,
-            to: piece.to,
-            depth: self.quiet_words(scope, piece.words.as_slice(), depth)?,
-        };
-        self.learn_piece(place, run);
-        Some(run)
+        run
     }
 
-    /// The piece that begins at a token of a literal's text, or the token alone, if it puts nothing out where so many replacements may be made.
+    /// The tokens of a piece of a literal's text from one on that put nothing out where so many replacements may be made.
     #[cycle(quiet)]
-    fn next(&mut self, scope: &Scope<'_, '_>, literal: usize, from: usize, depth: u8) -> Option<Run>
-        requires { AreKnown scope.now self.old }
+    fn next(&mut self, scope: &Scope<'_, '_>, literal: usize, from: usize, depth: usize) -> Run
+        requires known { AreKnown scope.now self.old }
+        requires there { HasLiteral scope.now literal }
         ensures known { AreKnown scope.now self.new }
-        ensures run { IfSome result (λ r. is_quiet_range r.depth (map literal_text scope.now.literals.items) literal from r.to ≡ true) }
-        ensures later { IfSome result (λ r. from < r.to) }
-        ensures within { IfSome result (λ r. r.depth ≤ depth) }
+        ensures run { IsQuietRun scope.now depth literal from result }
     {
-        if let Some(run) = self.quiet_piece(scope, literal, from, depth) {
-            if run.depth <= depth {
-                return Some(run);
-            }
+        let place = scope.place(literal, from);
+        let run = self.known_run(scope, place, literal, from, depth);
+        let to = run.to;
+        if from < to {
+            return run;
         }
-        let number = (*scope.literals.get(literal)?.numbers.get(from)?)?;
-        let needs = self.quiet_name(scope, number, depth)?;
-        Some(Run {
-            literal,
-            from,
-            to: from + 1,
-            depth: needs,
-        })
+        let end = (from / PIECE).saturating_add(1).saturating_mul(PIECE);
+        let run = self.walk(scope, literal, from, end, depth);
+        let to = run.to;
+        if is_worth_keeping(from, to) {
+            self.learn(place, run);
+        }
+        run
+    }
+
+    /// A run of a literal's text, and the tokens behind it, up to another at most, that put nothing out where so many replacements may be made.
+    #[cycle(quiet)]
+    fn rest(&mut self, scope: &Scope<'_, '_>, first: Run, end: usize, depth: usize) -> Run
+        requires known { AreKnown scope.now self.old }
+        requires there { HasLiteral scope.now first.literal }
+        requires run { IsQuietRun scope.now depth first.literal first.from first }
+        ensures known { AreKnown scope.now self.new }
+        ensures run { IsQuietRun scope.now depth first.literal first.from result }
+    {
+        let literal = first.literal;
+        let mut run = first;
+        for _ in first.to..end {
+            let at = run.to;
+            let next = self.next(scope, literal, at, depth);
+            let (to, grounds) = (next.to, next.grounds);
+            if to <= at {
+                return run;
+            }
+            run.extend(to, &grounds);
+        }
+        run
     }
 
     /// The tokens of a literal's text from one on that put nothing out where so many replacements may be made.
@@ -472,31 +504,20 @@ impl Known {
         scope: &Scope<'_, '_>,
         literal: usize,
         from: usize,
-        depth: u8,
-    ) -> Run
+        depth: usize,
+    ) -> Option<Run>
         requires { AreKnown scope.now self.old }
         ensures known { AreKnown scope.now self.new }
-        ensures run { is_quiet_range result.depth (map literal_text scope.now.literals.items) literal from result.to ≡ true }
-        ensures order { from ≤ result.to }
-        ensures there { from < result.to → literal < length scope.now.literals.items }
-        ensures within { result.depth ≤ depth }
+        ensures run { IfSome result (IsQuietRun scope.now depth literal from) }
     {
-        let mut run = Run {
-            literal,
-            from,
-            to: from,
-            depth: 0,
-        };
-        let Some(found) = scope.literals.get(literal) else {
-            return run;
-        };
-        for _ in from..found.numbers.len() {
-            let Some(next) = self.next(scope, literal, run.to, depth) else {
-                return run;
-            };
-            run.to = next.to;
-            run.depth = greater(run.depth, next.depth);
+        let size = scope.size(literal)?;
+        let place = scope.place(literal, from);
+        let first = self.known_run(scope, place, literal, from, depth);
+        let run = self.rest(scope, first, size, depth);
+        let to = run.to;
+        if is_worth_keeping(from, to) {
+            self.learn(place, run);
         }
-        run
+        Some(run)
     }
 }

@@ -65,10 +65,10 @@ impl<'t, 'a> OpenBlocks<'t, 'a> {
         ensures ok { OnOk result (blocks_of self.new ≡ with_literal (record { name = name.now.token.text.now; text = map named_symbol text.now.tokens.items }) (blocks_of self.old)) }
         ensures err { IfErr result (λ f. f ≡ Memory) }
     {
+        let literal = self.scope.literals.len();
         self.scope.declare(name, text)?;
-        let (names, pieces) = (self.scope.names.tokens.len(), self.scope.pieces());
-        self.known.make_room(names, pieces)?;
-        Ok(())
+        self.known.make_room(self.scope.places())?;
+        self.scope.assume(literal)
     }
 
     /// Up to where a literal's tokens from one on put nothing out, where so many replacements may be made.
@@ -77,19 +77,32 @@ impl<'t, 'a> OpenBlocks<'t, 'a> {
         ensures there { from < result → literal < length self.old.scope.literals.items }
         ensures same { blocks_of self.new ≡ blocks_of self.old }
     {
-        self.known.quiet_from(&self.scope, literal, from, depth).to
+        match self
+            .known
+            .quiet_from(&self.scope, literal, from, usize::from(depth))
+        {
+            None => from,
+            Some(run) => run.to,
+        }
     }
 
-    /// Closes the innermost block, and forgets what is known if literals go with it.
-    fn close(&mut self)
-        ensures { blocks_of self.new ≡ closed (blocks_of self.old).literals (blocks_of self.old).starts }
+    /// Closes the innermost block, and forgets what no longer holds if literals go with it.
+    fn close(&mut self) -> Result<(), Fault>
+        ensures ok { OnOk result (blocks_of self.new ≡ closed (blocks_of self.old).literals (blocks_of self.old).starts) }
+        ensures err { IfErr result (λ f. f ≡ Memory) }
     {
-        if self.scope.ends_literals() {
-            self.known.forget();
+        if !self.scope.ends_literals() {
             self.scope.close();
-        } else {
-            self.scope.close();
+            return Ok(());
         }
+        if self.scope.keeps_base() {
+            self.known.end_block();
+            self.scope.close();
+            return Ok(());
+        }
+        self.known.forget();
+        self.scope.close();
+        self.scope.rebase()
     }
 
     /// Opens or closes a block after a token; ending says that a semicolon ends one here.
@@ -100,7 +113,7 @@ impl<'t, 'a> OpenBlocks<'t, 'a> {
         if opens_block(kind) {
             self.scope.open()?;
         } else if is_semicolon(kind) && ending {
-            self.close();
+            self.close()?;
         }
         Ok(())
     }

@@ -1,17 +1,14 @@
 -- The literals of the open blocks, their places, and the numbers of the names in their texts.
-use Rattle.std.specs.Prelude.{◌≡◌, ◌<◌, ◌+◌, ◌*◌, ℕ, suc, ◌++◌, List, [], ◌∷◌, length, map, Bool, true, false, cond, bytes_eq, Option, Some, None}
+use Rattle.std.specs.Prelude.{◌≡◌, ◌<◌, ◌+◌, ◌^◌, ℕ, suc, ◌++◌, List, [], ◌∷◌, length, map, Bool, true, cond, bytes_eq, Option, Some, None}
 use Rattle.std.specs.Option.{option_map}
-use Rattle.std.specs.List.{All, AllWithin, slice_get}
-use Rattle.std.specs.Int.{bit_at}
+use Rattle.std.specs.List.{slice_get}
 use Rattle.std.specs.HashMap.{HashMap, get_by}
 use denote.Ref.{Bor}
 use Rattle.plm_token.specs.Literals.{Symbol}
 use Rattle.plm_syntax.specs.declared.named_token.NamedToken.{NamedToken}
 use Rattle.plm_syntax.specs.declared.scope.Literal.{Literal}
-use Rattle.plm_syntax.specs.declared.scope.Piece.{Piece}
-use Rattle.plm_syntax.specs.declared.scope.Word.{Word}
 use Rattle.plm_syntax.specs.Literals.{LiteralText, literal_for}
-use Rattle.plm_syntax.specs.Inner.Names.{has_number}
+use Rattle.plm_syntax.specs.Inner.Names.{is_number, has_number}
 pub use Rattle.plm_syntax.specs.Inner.NamedToken.{symbol, named_symbol}
 pub use Rattle.plm_syntax.specs.Inner.Name.{letters_of}
 
@@ -63,26 +60,21 @@ AreFirst literals = (i : ℕ) (l : Literal) → slice_get literals i ≡ Some l 
 abbrev pub HaveNumbers : List Symbol → List NamedToken → List (Option ℕ) → Type 0
 HaveNumbers names tokens numbers = (p : ℕ) (number : Option ℕ) (t : NamedToken) → slice_get numbers p ≡ Some number → slice_get tokens p ≡ Some t → has_number names (named_symbol t) number ≡ true
 
--- whether a token has a number that passes a test
-abbrev pub passes : (ℕ → Bool) → Option ℕ → Bool
-passes test None = false
-passes test (Some n) = test n
-
--- the names of a word pass a test
-abbrev pub WordPasses : (ℕ → Bool) → Word → Type 0
-WordPasses test w = (i : ℕ) → i < 64 → bit_at w.names i ≡ 1 → test (w.index * 64 + i) ≡ true
-
--- where the names of a piece pass a test, each of its tokens has a number that does
-abbrev pub IsPiece : List (Option ℕ) → Piece → Type 0
-IsPiece numbers piece = (test : ℕ → Bool) → All (WordPasses test) piece.words.items → AllWithin (λ n. passes test n ≡ true) numbers piece.from piece.to
-
--- the numbers and pieces of a literal
+-- the numbers of a literal
 pub record IsNumbered (names : List Symbol) (l : Literal) : Type 0 where
   pub name : has_number names (named_symbol l.name.now) l.number ≡ true
   pub text : HaveNumbers names l.text.now.tokens.items l.numbers.items
   pub all : length l.numbers.items ≡ length l.text.now.tokens.items
-  pub pieces : All (IsPiece l.numbers.items) l.pieces.items
 
 -- the literal at a place is the one that the name of a number stands for
 abbrev pub StandsAt : List Symbol → List LiteralText → ℕ → ℕ → Type 0
 StandsAt names literals number i = (s : Symbol) × (slice_get names number ≡ Some s) × (slice_get literals i ≡ literal_for literals s.kind s.text)
+
+-- the token at a place of a literal's text has the name of a number
+abbrev pub IsNumberAt : List Symbol → List LiteralText → ℕ → ℕ → ℕ → Type 0
+IsNumberAt names literals literal at number = (s : Symbol) → slice_get (text_at literals literal) at ≡ Some s → is_number names number s ≡ true
+
+-- there is a literal of this number
+pub record IsThere (literals : List LiteralText) (literal : ℕ) : Type 0 where
+  pub inside : literal < length literals
+  pub fits : literal + 1 < 2 ^ 64

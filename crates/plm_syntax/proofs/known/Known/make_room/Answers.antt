@@ -1,25 +1,12 @@
+use Rattle.plm_syntax.proofs.Facts.{without_names, known_more}
 use Rattle.plm_syntax.proofs.known.Known.make_room.Goals as goal
 
-pub returns-in_err-more_names-clause-known : goal.returns-in_err-more_names-clause-known
-returns-in_err-more_names-clause-known c = λ all literals h.
-    record { some = h.some; of_names = c.more_names.ensures.known all literals c.args.self.now.forgotten h.some h.of_names; of_words = h.of_words; of_pieces = h.of_pieces }
-
-pub returns-in_err-more_words-clause-known : goal.returns-in_err-more_words-clause-known
-returns-in_err-more_words-clause-known c = λ all literals h.
-    let forgotten = c.args.self.now.forgotten in
-    record {
-      some = h.some;
-      of_names = c.more_names.ensures.known all literals forgotten h.some h.of_names;
-      of_words = c.more_words.ensures.known all literals forgotten h.some h.of_words;
-      of_pieces = h.of_pieces;
-    }
-
 pub returns-clause-known : goal.returns-clause-known
-returns-clause-known c = λ all literals h.
-    let forgotten = c.args.self.now.forgotten in
+returns-clause-known c = λ names literals assumed more base same h.
+    let self = c.args.self.now in
     record {
       some = h.some;
-      of_names = c.more_names.ensures.known all literals forgotten h.some h.of_names;
-      of_words = c.more_words.ensures.known all literals forgotten h.some h.of_words;
-      of_pieces = c.more_pieces.ensures.known literals forgotten h.some h.of_pieces;
+      order = h.order;
+      holds = without_names names literals more;
+      runs = c.more_runs.ensures.known names literals more base self.oldest self.forgotten h.some h.order (known_more names literals assumed more base self.oldest self.forgotten self.runs.items same h.runs);
     }

@@ -17,11 +17,6 @@ invariant_of-self-in-Break-branch-4 c =
     let self = c.enter.new.self in
     record { placed = self.placed; first = self.first; numbered = numbered_still (names_in self.names) (names_in c.numbers_of.new.names) self.literals.items c.numbers_of.ensures.kept self.numbered }
 
-pub invariant_of-self-in-Break-branch-5 : goal.invariant_of-self-in-Break-branch-5
-invariant_of-self-in-Break-branch-5 c =
-    let self = c.enter.new.self in
-    record { placed = self.placed; first = self.first; numbered = numbered_still (names_in self.names) (names_in c.numbers_of.new.names) self.literals.items c.numbers_of.ensures.kept self.numbered }
-
 pub invariant_of-self-2 : goal.invariant_of-self-2
 invariant_of-self-2 c =
     let self = c.args.self.now in
@@ -38,12 +33,11 @@ invariant_of-self-3 c =
       number = c.in_ok-number.number;
       is_first = c.is_none-is_first.result;
       numbers = c.in_ok-numbers.numbers;
-      pieces = c.in_ok-pieces.pieces;
-      first_piece = c.pieces-first_piece.result;
+      place = c.places-place.result;
     } in
     let new : IsNumbered names literal
-    = numbered_new c.number.new.self self.names names literal c.as_slice.result.now c.as_slice-2.result.now c.in_ok-enter.ensures.names c.in_ok-number.ensures.number c.numbers_of.ensures.kept
-    c.as_slice.ensures.value c.in_ok-numbers.ensures.numbers c.in_ok-numbers.ensures.all c.as_slice-2.ensures.value c.in_ok-pieces.ensures.ok in
+    = numbered_new c.number.new.self self.names names literal c.as_slice.result.now c.in_ok-enter.ensures.names c.in_ok-number.ensures.number c.numbers_of.ensures.kept
+    c.as_slice.ensures.value c.in_ok-numbers.ensures.numbers c.in_ok-numbers.ensures.all in
     let found : c.named.result ≡ first_named (letters_of literal.name.now.name) ls
     = c.named.ensures.named
     ∙ ap (λ (name : List ℕ). first_named name c.args.self.now.literals.items) c.letters.ensures
