@@ -1,4 +1,5 @@
 -- The order of priority: what a search over the places of it finds.
+use Rattle.std.proofs.lemmas.Bool.{or_left, lt-ltb, ltb-true, false_from_ne_true, or_parts, and_parts, not-true, and_from}
 use Rattle.std.proofs.Common.{◌≡◌, ℕ, zero, suc, ◌+◌, ◌-◌, ◌<◌, ◌≤◌, ◌⊎◌, inl, inr, Bool, true, false, not, ◌&&◌, ◌||◌, refl, sym, ap, ◌∙◌, subst, arith, mod-lt, Option, Some, None, find, map, nat_lt, List, IfSome}
 use Rattle.std.specs.Prelude.{if◌then◌else◌, is_some, unwrap_or}
 use Rattle.std.specs.List.{list_all, range_with_len}
@@ -140,25 +141,12 @@ or_not : (x a : Bool) → a ≡ false → (x || not a) ≡ true
 or_not true a h = refl
 or_not false a h = ap not h
 
-or_left : (x y : Bool) → x ≡ true → (x || y) ≡ true
-or_left x y h = ap (λ b. b || y) h
-
-less_test : (i j : ℕ) → i < j → nat_lt i j ≡ true
-less_test i j h = grind (arith, nat_tests)
-
-less_of : (i j : ℕ) → nat_lt i j ≡ true → i < j
-less_of i j h = grind (arith, nat_tests)
-
 or_served_at : (x a : Bool) → (x || not a) ≡ true → a ≡ true → x ≡ true
 or_served_at true a h e = refl
 or_served_at false a h e = absurd (clash (sym h ∙ ap not e))
 
 or_served : (i j : ℕ) (a : Bool) → (nat_lt i j || not a) ≡ true → a ≡ true → i < j
-or_served i j a h e = less_of i j (or_served_at (nat_lt i j) a h e)
-
-not_true : (b : Bool) → (b ≡ true → ⊥) → b ≡ false
-not_true true f = absurd (f refl)
-not_true false f = refl
+or_served i j a h e = ltb-true i j (or_served_at (nat_lt i j) a h e)
 
 -- the level that is next, from the first one that is in service or wanted
 above_first : (lowest place : ℕ) (a : ℕ → Bool) → lowest < 8 → place < 8 → a (level_at lowest place) ≡ false → ((j : ℕ) → 0 ≤ j → j < place → a (level_at lowest j) ≡ false) → is_above lowest a (level_at lowest place) ≡ true
@@ -170,22 +158,18 @@ above_first lowest place a below small here before =
     elim split [
       | inl less ↦ or_not (nat_lt (rank lowest (level_at lowest place)) (rank lowest (level_at lowest j))) (a (level_at lowest j)) (before j c less)
       | inr (inl same) ↦ or_not (nat_lt (rank lowest (level_at lowest place)) (rank lowest (level_at lowest j))) (a (level_at lowest j)) (ap (λ x. a (level_at lowest x)) same ∙ here)
-      | inr (inr more) ↦ or_left (nat_lt (rank lowest (level_at lowest place)) (rank lowest (level_at lowest j))) (not (a (level_at lowest j))) (less_test (rank lowest (level_at lowest place)) (rank lowest (level_at lowest j)) (omega (arith, mine, its, more)))
+      | inr (inr more) ↦ or_left (nat_lt (rank lowest (level_at lowest place)) (rank lowest (level_at lowest j))) (not (a (level_at lowest j))) (lt-ltb (rank lowest (level_at lowest place)) (rank lowest (level_at lowest j)) (omega (arith, mine, its, more)))
     ])
 
 -- a level in service leaves none below it, nor itself
 above_served : (lowest place i : ℕ) (a : ℕ → Bool) → lowest < 8 → place < 8 → i < 8 → place ≤ i → a (level_at lowest place) ≡ true → is_above lowest a (level_at lowest i) ≡ false
 above_served lowest place i a below small small_i le served =
-    not_true (is_above lowest a (level_at lowest i)) (λ h.
+    false_from_ne_true (is_above lowest a (level_at lowest i)) (λ h.
     let at_place = all_at lowest (λ j. nat_lt (rank lowest (level_at lowest i)) (rank lowest j) || not (a j)) 8 0 place h (omega arith) (omega arith) in
     let mine : rank lowest (level_at lowest i) ≡ i = rank_at lowest i below small_i in
     let its : rank lowest (level_at lowest place) ≡ place = rank_at lowest place below small in
     let less : rank lowest (level_at lowest i) < rank lowest (level_at lowest place) = or_served (rank lowest (level_at lowest i)) (rank lowest (level_at lowest place)) (a (level_at lowest place)) at_place served in
     omega (arith, mine, its, less, le))
-
-or_false : (x y : Bool) → (x || y) ≡ false → (x ≡ false) × (y ≡ false)
-or_false true y h = absurd (clash h)
-or_false false y h = (refl, h)
 
 or_rest : (x y : Bool) → x ≡ false → (x || y) ≡ true → y ≡ true
 or_rest x y e h = sym (ap (λ b. b || y) e) ∙ h
@@ -196,7 +180,7 @@ unfolding highest
 next_none lowest a w h =
     find_nothing lowest (λ k. is_above lowest a k && w k) 8 0 (λ j c d.
     let none = find_none lowest (λ k. a k || w k) 8 0 h j c d in
-    ap (λ b. is_above lowest a (level_at lowest j) && b) (or_false (a (level_at lowest j)) (w (level_at lowest j)) none).1 ∙ and_false (is_above lowest a (level_at lowest j)))
+    ap (λ b. is_above lowest a (level_at lowest j) && b) (or_parts (a (level_at lowest j)) (w (level_at lowest j)) none).1 ∙ and_false (is_above lowest a (level_at lowest j)))
 
 -- the first active level is in service: nothing is next
 pub next_served : (lowest : ℕ) (a w : ℕ → Bool) (k : ℕ) → lowest < 8 → highest lowest (λ k. a k || w k) ≡ Some k → a k ≡ true → highest lowest (λ k. is_above lowest a k && w k) ≡ None
@@ -208,7 +192,7 @@ next_served lowest a w k below h served =
     find_nothing lowest (λ k. is_above lowest a k && w k) 8 0 (λ j c d.
     let split : (j < r.place) ⊎ (r.place ≤ j) = grind arith in
     elim split [
-      | inl less ↦ ap (λ b. is_above lowest a (level_at lowest j) && b) (or_false (a (level_at lowest j)) (w (level_at lowest j)) (r.none_before j c less)).1 ∙ and_false (is_above lowest a (level_at lowest j))
+      | inl less ↦ ap (λ b. is_above lowest a (level_at lowest j) && b) (or_parts (a (level_at lowest j)) (w (level_at lowest j)) (r.none_before j c less)).1 ∙ and_false (is_above lowest a (level_at lowest j))
       | inr more ↦ ap (λ b. b && w (level_at lowest j)) (above_served lowest r.place j a below small (omega arith) more served_there)
     ])
 
@@ -219,11 +203,11 @@ next_wanted lowest a w k below h unserved =
     let r = find_some lowest (λ k. a k || w k) 8 0 k h in
     let small : r.place < 8 = omega (arith, r.within) in
     let unserved_there : a (level_at lowest r.place) ≡ false = sym (ap a r.level_is) ∙ unserved in
-    let above : is_above lowest a (level_at lowest r.place) ≡ true = above_first lowest r.place a below small unserved_there (λ j c d. (or_false (a (level_at lowest j)) (w (level_at lowest j)) (r.none_before j c d)).0) in
+    let above : is_above lowest a (level_at lowest r.place) ≡ true = above_first lowest r.place a below small unserved_there (λ j c d. (or_parts (a (level_at lowest j)) (w (level_at lowest j)) (r.none_before j c d)).0) in
     let wanted : w (level_at lowest r.place) ≡ true = or_rest (a (level_at lowest r.place)) (w (level_at lowest r.place)) unserved_there r.passes in
     find_make lowest (λ k. is_above lowest a k && w k) 8 0 r.place r.from r.within
     (ap (λ b. b && w (level_at lowest r.place)) above ∙ wanted)
-    (λ j c d. ap (λ b. is_above lowest a (level_at lowest j) && b) (or_false (a (level_at lowest j)) (w (level_at lowest j)) (r.none_before j c d)).1 ∙ and_false (is_above lowest a (level_at lowest j)))
+    (λ j c d. ap (λ b. is_above lowest a (level_at lowest j) && b) (or_parts (a (level_at lowest j)) (w (level_at lowest j)) (r.none_before j c d)).1 ∙ and_false (is_above lowest a (level_at lowest j)))
     ∙ ap Some (sym r.level_is)
 
 -- the same, of a controller
@@ -241,13 +225,6 @@ pending_wanted s k below h e = next_wanted s.lowest (has s.in_service) (is_wante
 
 pub ruleset next_level = (pending_none, pending_served, pending_wanted)
 
-and_parts : (a b : Bool) → (a && b) ≡ true → (a ≡ true) × (b ≡ true)
-and_parts a b h = (and_left a b h, and_right a b h)
-
-not_of_not : (b : Bool) → not b ≡ true → b ≡ false
-not_of_not true h = absurd (clash (sym h))
-not_of_not false h = refl
-
 above_levels : (lowest : ℕ) (a : ℕ → Bool) (k : ℕ) → lowest < 8 → is_above lowest a k ≡ true → (j : ℕ) → j < 8 → a j ≡ true → rank lowest k < rank lowest j
 above_levels lowest a k below h j small served =
     let there = all_at lowest (λ j. nat_lt (rank lowest k) (rank lowest j) || not (a j)) 8 0 (rank lowest j) h (omega arith) (rank_below lowest j) in
@@ -257,7 +234,7 @@ above_levels lowest a k below h j small served =
 higher_at : (less : Bool) (served : Bool) (r q m : ℕ) → less ≡ nat_lt q m → q < r → (served ≡ true → r < m) → (less || not served) ≡ true
 higher_at true served r q m e a f = refl
 higher_at false false r q m e a f = refl
-higher_at false true r q m e a f = absurd (clash (sym (less_test q m (omega (arith, a, f refl))) ∙ sym e))
+higher_at false true r q m e a f = absurd (clash (sym (lt-ltb q m (omega (arith, a, f refl))) ∙ sym e))
 
 higher_is_above : (lowest : ℕ) (a : ℕ → Bool) (k j i : ℕ) → rank lowest j < rank lowest k → (a i ≡ true → rank lowest k < rank lowest i) → (nat_lt (rank lowest j) (rank lowest i) || not (a i)) ≡ true
 higher_is_above lowest a k j i less f = higher_at (nat_lt (rank lowest j) (rank lowest i)) (a i) (rank lowest k) (rank lowest j) (rank lowest i) refl less f
@@ -283,7 +260,7 @@ pending_is_next s k below h =
     record {
       is_level = top.is_level;
       requested = and_left (has s.requested k) (not (has s.masked k)) parts.1;
-      unmasked = not_of_not (has s.masked k) (and_right (has s.requested k) (not (has s.masked k)) parts.1);
+      unmasked = not-true (has s.masked k) (and_right (has s.requested k) (not (has s.masked k)) parts.1);
       above_service = above_levels s.lowest (has s.in_service) k below parts.0;
       highest = λ j small asked free. wanted_above s.lowest (has s.in_service) (is_wanted s) k below top j small (ap (λ b. b && not (has s.masked j)) asked ∙ ap not free);
     }
@@ -297,7 +274,7 @@ none_passes lowest t below h k small =
 above_test : (less served : Bool) (q m : ℕ) → less ≡ nat_lt q m → (served ≡ true → q < m) → (less || not served) ≡ true
 above_test true served q m e f = refl
 above_test false false q m e f = refl
-above_test false true q m e f = absurd (clash (sym (less_test q m (f refl)) ∙ sym e))
+above_test false true q m e f = absurd (clash (sym (lt-ltb q m (f refl)) ∙ sym e))
 
 above_of : (lowest : ℕ) (a : ℕ → Bool) (k : ℕ) → ((j : ℕ) → j < 8 → a j ≡ true → rank lowest k < rank lowest j) → is_above lowest a k ≡ true
 above_of lowest a k f =
@@ -305,14 +282,11 @@ above_of lowest a k f =
     above_test (nat_lt (rank lowest k) (rank lowest (level_at lowest i))) (a (level_at lowest i)) (rank lowest k) (rank lowest (level_at lowest i)) refl
     (f (level_at lowest i) (mod-lt (lowest + 1 + i) (omega arith))))
 
-and_both : (a b : Bool) → a ≡ true → b ≡ true → (a && b) ≡ true
-and_both a b e f = ap (λ x. x && b) e ∙ f
-
 -- a level that may interrupt passes the search's test
 may_pass : (s : Controller) (k : ℕ) → MayInterrupt s k → (is_above s.lowest (has s.in_service) k && is_wanted s k) ≡ true
 may_pass s k h =
-    and_both (is_above s.lowest (has s.in_service) k) (is_wanted s k) (above_of s.lowest (has s.in_service) k h.above_service)
-    (and_both (has s.requested k) (not (has s.masked k)) h.requested (ap not h.unmasked))
+    and_from (is_above s.lowest (has s.in_service) k) (is_wanted s k) (above_of s.lowest (has s.in_service) k h.above_service)
+    (and_from (has s.requested k) (not (has s.masked k)) h.requested (ap not h.unmasked))
 
 not_none : (s : Controller) (k : ℕ) → s.lowest < 8 → MayInterrupt s k → pending s ≡ None → ⊥
 unfolding pending
@@ -344,7 +318,7 @@ some_up None f = absurd (f refl)
 some_up (Some k) f = refl
 
 pub line_up : (s : Controller) (k : ℕ) → s.lowest < 8 → s.mode_8086 ≡ true → MayInterrupt s k → int_line s ≡ true
-line_up s k below mode h = and_both s.mode_8086 (is_some (pending s)) mode (some_up (pending s) (not_none s k below h))
+line_up s k below mode h = and_from s.mode_8086 (is_some (pending s)) mode (some_up (pending s) (not_none s k below h))
 
 pub line_mode : (s : Controller) → int_line s ≡ true → s.mode_8086 ≡ true
 line_mode s h = and_left s.mode_8086 (is_some (pending s)) h

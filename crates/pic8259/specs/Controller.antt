@@ -13,6 +13,7 @@ pub record Controller : Type 0 where
   pub base : ℕ  -- the vector of level 0, a multiple of 8
   pub reads_service : Bool  -- which register is read at A0 = 0
   pub automatic : Bool  -- end of interrupt by the acknowledgement itself
+  pub rotates : Bool  -- that end makes the acknowledged level lowest
   pub mode_8086 : Bool
   pub awaits_vector : Bool  -- the initialisation words ICW2, ICW3 and ICW4 still to come
   pub awaits_cascade : Bool
@@ -20,7 +21,7 @@ pub record Controller : Type 0 where
 
 -- at reset IR7 is the lowest level, IR0 the highest
 abbrev pub reset : Controller
-reset = record { requested = 0; in_service = 0; masked = 0; lowest = 7; base = 0; reads_service = false; automatic = false; mode_8086 = false; awaits_vector = false; awaits_cascade = false; awaits_mode = false }
+reset = record { requested = 0; in_service = 0; masked = 0; lowest = 7; base = 0; reads_service = false; automatic = false; rotates = false; mode_8086 = false; awaits_vector = false; awaits_cascade = false; awaits_mode = false }
 
 -- request line k rises: the request stays until it is acknowledged, or until ICW1; there are the lines 0 to 7 alone
 abbrev pub pulsed : ℕ → Controller → Controller
@@ -61,15 +62,19 @@ int_line s = s.mode_8086 && is_some (pending s)
 abbrev pub vector : Controller → ℕ
 vector s = s.base + unwrap_or (pending s) 0
 
--- a level is taken: its request ends, and it is in service unless its end is automatic
+-- a level is taken: its request ends, and it is in service unless its end is automatic, which with rotation makes it lowest
 abbrev pub taken : Option ℕ → Controller → Controller
 taken None s = s
-taken (Some k) s = record s { requested = without_level k s.requested; in_service = if s.automatic then s.in_service else with_level k s.in_service }
+taken (Some k) s = record s {
+  requested = without_level k s.requested;
+  in_service = if s.automatic then s.in_service else with_level k s.in_service;
+  lowest = if s.automatic && s.rotates then k else s.lowest;
+}
 
 abbrev pub acknowledged : Controller → Controller
 acknowledged s = taken (pending s) s
 
--- ICW1: bit 0 announces ICW4, bit 1 says that there is no ICW3; the vector stays
+-- ICW1: bit 0 announces ICW4, bit 1 says that there is no ICW3; IR7 is lowest and nothing rotates; the vector stays
 abbrev pub initialised : ℕ → Controller → Controller
 initialised v s = record {
   requested = 0;
@@ -79,6 +84,7 @@ initialised v s = record {
   base = s.base;
   reads_service = false;
   automatic = false;
+  rotates = false;
   mode_8086 = false;
   awaits_vector = true;
   awaits_cascade = not (is_set v 1);
@@ -94,11 +100,27 @@ abbrev pub retired : Option ℕ → Controller → Controller
 retired None s = s
 retired (Some k) s = record s { in_service = without_level k s.in_service }
 
--- OCW2: bits 7 to 5 are 001 for the end of the highest level in service, and 011 for that of the level of bits 2 to 0
+-- a level, if there is one, is lowest: the order of priority begins behind it
+abbrev pub placed_last : Option ℕ → Controller → Controller
+placed_last None s = s
+placed_last (Some k) s = record s { lowest = k }
+
+-- the highest level in service
+abbrev pub first_in_service : Controller → Option ℕ
+first_in_service s = highest s.lowest (has s.in_service)
+
+-- OCW2: bits 7 to 5 are 001 for the end of the highest level in service, and 011 for that of the level of bits 2 to 0; 101 and
+-- 111 are the same ends, each with rotation: the level that is ended is lowest. 110 makes the level of bits 2 to 0 lowest, and
+-- 100 and 000 set and clear rotation at the automatic end; 010 does nothing
 abbrev pub ended : ℕ → Controller → Controller
 ended v s =
-    if v / 32 == 1 then retired (highest s.lowest (has s.in_service)) s
+    if v / 32 == 0 then record s { rotates = false }
+    else if v / 32 == 1 then retired (first_in_service s) s
     else if v / 32 == 3 then retired (Some (v % 8)) s
+    else if v / 32 == 4 then record s { rotates = true }
+    else if v / 32 == 5 then placed_last (first_in_service s) (retired (first_in_service s) s)
+    else if v / 32 == 6 then placed_last (Some (v % 8)) s
+    else if v / 32 == 7 then placed_last (Some (v % 8)) (retired (Some (v % 8)) s)
     else s
 
 -- a word at A0 = 0: ICW1 with bit 4, else OCW3 with bit 3, else OCW2

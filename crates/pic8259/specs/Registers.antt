@@ -11,6 +11,7 @@ shown r = record {
   base = r.base;
   reads_service = r.reads_service;
   automatic = r.automatic;
+  rotates = r.rotates;
   mode_8086 = r.mode_8086;
   awaits_vector = r.awaits_vector;
   awaits_cascade = r.awaits_cascade;

@@ -1,8 +1,8 @@
 //! The laws: over every list of calls, and of the sets and their order.
 
-ghost use Rattle.std.specs.Prelude.{◌≡◌, ℕ, ◌<◌, ◌+◌, Bool, true, false, ◌==◌, not, ◌&&◌, ◌||◌, Some, None, length};
+ghost use Rattle.std.specs.Prelude.{◌≡◌, ℕ, ◌<◌, ◌+◌, ◌%◌, List, Bool, true, false, ◌==◌, not, ◌&&◌, ◌||◌, Some, None, length};
 ghost use Rattle.pic8259.specs.Levels.{has, with_level, without_level, rank, highest, IsHighest};
-ghost use Rattle.pic8259.specs.Controller.{Controller, reset, pending, MayInterrupt, IsNext, int_line, vector, acknowledged, taken};
+ghost use Rattle.pic8259.specs.Controller.{Controller, reset, pending, MayInterrupt, IsNext, int_line, vector, acknowledged, taken, first_in_service, ended};
 ghost use Rattle.pic8259.specs.Pic.{controller_of};
 ghost use Rattle.pic8259.specs.Calls.{after, after_one, reply_of, replies_of};
 
@@ -98,4 +98,15 @@ pub fn line_law()
     ensures up { (s : Controller) (k : ℕ) → s.lowest < 8 → s.mode_8086 ≡ true → MayInterrupt s k → int_line s ≡ true }
     ensures mode { (s : Controller) → int_line s ≡ true → s.mode_8086 ≡ true }
     ensures level { (s : Controller) → s.lowest < 8 → int_line s ≡ true → (k : ℕ) × IsNext s k × (vector s ≡ s.base + k) × (acknowledged s ≡ taken (Some k) s) }
+{}
+
+/// The law of rotation: after any calls the lowest level is one; a level made lowest stands last in the order of priority, and the
+/// one behind it, 0 after 7, first. The end of the highest level in service with rotation takes that level out of service and
+/// makes it lowest; with none in service it does nothing.
+pub fn rotation_law()
+    ensures level { (calls : List Call) → (after calls reset).lowest < 8 }
+    ensures last { (k : ℕ) → k < 8 → rank k k ≡ 7 }
+    ensures first { (k : ℕ) → k < 8 → rank k ((k + 1) % 8) ≡ 0 }
+    ensures ended { (s : Controller) (k : ℕ) → first_in_service s ≡ Some k → ended 160 s ≡ record s { in_service = without_level k s.in_service; lowest = k } }
+    ensures none { (s : Controller) → first_in_service s ≡ None → ended 160 s ≡ s }
 {}

@@ -20,6 +20,8 @@ pub struct Registers {
     reads_service: bool,
     /// The acknowledgement itself ends an interrupt.
     automatic: bool,
+    /// That end makes the acknowledged level lowest.
+    rotates: bool,
     mode_8086: bool,
     awaits_vector: bool,
     awaits_cascade: bool,
@@ -29,7 +31,7 @@ pub struct Registers {
 }
 
 impl Registers {
-    ghost use Rattle.pic8259.specs.Controller.{reset, pulsed, is_wanted, pending, taken, initialised, selected, ended, commanded, configured, written, answer};
+    ghost use Rattle.pic8259.specs.Controller.{reset, pulsed, is_wanted, pending, taken, initialised, selected, retired, placed_last, ended, commanded, configured, written, answer};
     ghost use Rattle.pic8259.specs.Registers.{shown};
     ghost use Rattle.pic8259.specs.Levels.{highest};
     ghost use Rattle.std.specs.Prelude.{Some};
@@ -46,6 +48,7 @@ impl Registers {
             base: 0,
             reads_service: false,
             automatic: false,
+            rotates: false,
             mode_8086: false,
             awaits_vector: false,
             awaits_cascade: false,
@@ -115,6 +118,8 @@ impl Registers {
         self.requested = self.requested.without(level);
         if !self.automatic {
             self.in_service = self.in_service.with(level);
+        } else if self.rotates {
+            self.lowest = level;
         }
     }
 
@@ -167,6 +172,7 @@ impl Registers {
             base: self.base,
             reads_service: false,
             automatic: false,
+            rotates: false,
             mode_8086: false,
             awaits_vector: true,
             awaits_cascade: !is_set(v, 1),
@@ -185,18 +191,52 @@ impl Registers {
     }
 
     /// OCW2 (8259A data sheet, "Operation Command Word Format"): bits 7 to 5 are 001 for the end of the highest level in
-    /// service, 011 for that of the level of bits 2 to 0. The rotating commands do nothing.
+    /// service, 011 for that of the level of bits 2 to 0, 101 and 111 for the same ends with rotation, 110 for rotation alone,
+    /// 100 and 000 for the start and the end of rotation at the automatic end. 010 does nothing.
     fn end(&mut self, v: u8)
         ensures { shown self.new ≡ ended v (shown self.old) }
     {
-        let level = match v / 32 {
-            1 => self.in_service.highest(self.lowest),
-            3 => Some(v % 8),
-            _ => None,
-        };
+        let first = self.in_service.highest(self.lowest);
+        let named = Some(v % 8);
+        match v / 32 {
+            0 => self.rotates = false,
+            1 => self.retire(first),
+            3 => self.retire(named),
+            4 => self.rotates = true,
+            5 => self.retire_last(first),
+            6 => self.place_last(named),
+            7 => self.retire_last(named),
+            _ => {}
+        }
+    }
+
+    /// A level, if there is one, is no longer in service.
+    fn retire(&mut self, level: Option<u8>)
+        requires { IfSome level (λ k. k < 8) }
+        ensures { shown self.new ≡ retired level (shown self.old) }
+    {
         if let Some(level) = level {
             self.in_service = self.in_service.without(level);
         }
+    }
+
+    /// A level, if there is one, is lowest.
+    fn place_last(&mut self, level: Option<u8>)
+        requires { IfSome level (λ k. k < 8) }
+        ensures { shown self.new ≡ placed_last level (shown self.old) }
+    {
+        if let Some(level) = level {
+            self.lowest = level;
+        }
+    }
+
+    /// A level, if there is one, is no longer in service, and is lowest.
+    fn retire_last(&mut self, level: Option<u8>)
+        requires { IfSome level (λ k. k < 8) }
+        ensures { shown self.new ≡ placed_last level (retired level (shown self.old)) }
+    {
+        self.retire(level);
+        self.place_last(level);
     }
 
     /// A word at A0 = 1: ICW2 to ICW4 while they are awaited (8259A data sheet, "Initialization Sequence"), else OCW1, the mask.

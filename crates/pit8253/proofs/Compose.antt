@@ -1,4 +1,5 @@
 -- Pulses one after another.
+use Rattle.std.proofs.lemmas.Bool.{cases_lt}
 use Rattle.std.proofs.Common.{mod-lt, ◌<◌, ◌%◌, ◌≡◌, ℕ, zero, suc, ◌+◌, ◌-◌, ◌≤◌, Bool, true, false, not, ◌||◌, ◌&&◌, ◌⊎◌, sym, ap, ◌∙◌, subst, inl, inr, arith, add-zero, MatchBool}
 use Rattle.std.specs.Prelude.{is_some}
 use Rattle.pit8253.specs.Progress.{Progress, is_high, Alike}
@@ -10,7 +11,6 @@ use Rattle.pit8253.specs.declared.channel.Channel.{Channel}
 use Rattle.pit8253.specs.Channel.{IsPart, IsPartOf, shown}
 use Rattle.pit8253.specs.Inner.Segment.{IsStart}
 use Rattle.pit8253.specs.Element.{element_view}
-use Rattle.pit8253.proofs.Phases.{split}
 
 moved_alike : (b : Bool) (m n : Progress) → Alike m n → Alike (moved b m) (moved b n)
 moved_alike true m n h = alike_one m n h
@@ -67,7 +67,7 @@ rises_later j k s (i, below, low, high) =
 
 pub rises_split : (j k : ℕ) (s : Counter) → Rises (j + k) s → Rises j s ⊎ Rises k (pulses j s)
 rises_split j k s (i, below, low, high) =
-    elim (split i j) [
+    elim (cases_lt i j) [
       | inl lt ↦ inl (i, lt, low, high)
       | inr ge ↦
           let x : i ≡ j + (i - j) = omega arith in
@@ -129,7 +129,7 @@ part_one_of : (e : Element) → IsPartOf 1 (element_view e)
 part_one_of (code.Still high) = tt
 part_one_of (code.Once c) = tt
 part_one_of (code.Again c) =
-    elim (split 0 (c.pulses % c.period)) [
+    elim (cases_lt 0 (c.pulses % c.period)) [
       | inl inside ↦
           let below : c.pulses % c.period < c.period = mod-lt c.pulses c.period_fits.0 in
           inl ((λ e. omega arith), omega arith)

@@ -1,4 +1,5 @@
 -- From what is counted to the channel around it.
+use Rattle.std.proofs.lemmas.Bool.{cases_Bool}
 use Rattle.std.proofs.Common.{◌≡◌, ℕ, zero, suc, Bool, true, false, not, ◌&&◌, ◌||◌, ◌⊎◌, refl, sym, ap, ◌∙◌, subst, inl, inr, MatchBool}
 use Rattle.std.specs.Prelude.{is_some}
 use Rattle.pit8253.specs.Progress.{Progress, Still, Once, Again, one, is_high, Alike}
@@ -71,14 +72,10 @@ still_moved k b = subst (λ x. Alike (Still b) x) (sym (pulses_still k b)) refl
 pub still_rises : (k : ℕ) (b : Bool) → many.Rises k (Still b) → ⊥
 still_rises k b (i, below, low, high) = clash (sym high ∙ (ap is_high (pulses_still (suc i) b) ∙ (sym (ap is_high (pulses_still i b)) ∙ low)))
 
-pub choice : (b : Bool) → (b ≡ true) ⊎ (b ≡ false)
-choice true = inl refl
-choice false = inr refl
-
 -- what is known of the progress after k pulses holds of the channel
 pub progress_lift : (P : Progress → Type 0) (k : ℕ) (s : Counter) → (is_counting s ≡ true → P (many.pulses k s.progress)) → is_counting (pulses k s) ≡ true → P (pulses k s).progress
 progress_lift P k s f h =
-    elim (choice (is_counting s)) [
+    elim (cases_Bool (is_counting s)) [
       | inl on ↦ subst (λ x. P x.progress) (sym (pulses_counting k s on)) (f on)
       | inr off ↦ absurd (clash (sym h ∙ (ap is_counting (pulses_stuck k s off) ∙ off)))
     ]

@@ -1,4 +1,5 @@
 -- Periods, phases and rises.
+use Rattle.std.proofs.lemmas.Bool.{cases_lt}
 use Rattle.std.proofs.Common.{◌≡◌, ℕ, zero, suc, ◌+◌, ◌-◌, ◌*◌, ◌/◌, ◌%◌, ◌<◌, ◌≤◌, Bool, true, false, not, ◌||◌, nat_eq, nat_lt, ◌≢◌, ◌⊎◌, refl, sym, ap, ◌∙◌, subst, inl, inr, arith, add-zero, mod-eq_of_lt, mod-lt}
 use Rattle.std.proofs.Math.Nat.{mod_self, mod-one, zero-mod, div-add-mod, add-mul-mod_self_left, mul-mod_right}
 use Rattle.std.specs.Prelude.{◌==◌, Option, Some, None, if◌then◌else◌}
@@ -113,16 +114,13 @@ two_periods m k a b =
 pub clash : true ≡ false → ⊥
 clash e = cc
 
-pub split : (a b : ℕ) → (a < b) ⊎ (b ≤ a)
-split a b = grind arith
-
 -- a rise among k pulses from a period's start, counted from its end
 rise_later : (s : Waveform) (m k i : ℕ) → 0 < m → suc i < k → (k ≤ m) ⊎ (k % m ≡ 0) → wave s m (suc i) ≡ false → wave s m (suc i + 1) ≡ true → (2 ≤ m) × (2 * m ≤ k)
 rise_later s m k i pm below parts low high =
-    elim (split (suc i) m) [
+    elim (cases_lt (suc i) m) [
       | inl lt ↦ absurd (wave_falls s m (suc i) (omega arith) lt low high)
       | inr ge ↦ (
-        elim (split 1 m) [
+        elim (cases_lt 1 m) [
           | inl more ↦ more
           | inr single ↦
               let e : m ≡ 1 = omega arith in
@@ -204,7 +202,7 @@ not_start_pos n (suc p) h = omega arith
 -- inside a period the phase is the number itself
 pub inside_at : (n p k : ℕ) → p ≤ n → p % n ≢ 0 → p % n + k ≤ n → p + k ≤ n
 inside_at n p k a b c =
-    elim (split p n) [
+    elim (cases_lt p n) [
       | inl lt ↦ let x : p % n ≡ p = mod-eq_of_lt lt in omega arith
       | inr ge ↦ absurd (b (ap (λ x. x % n) (let y : p ≡ n = omega arith in y) ∙ mod_self n))
     ]

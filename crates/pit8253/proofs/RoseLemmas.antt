@@ -1,8 +1,8 @@
 -- The test and the fact.
+use Rattle.std.proofs.lemmas.Bool.{cases_lt, or_right, or_from}
 use Rattle.std.proofs.Common.{◌≡◌, ℕ, zero, suc, Bool, true, false, not, ◌||◌, ◌&&◌, refl, sym, ap, ◌∙◌, inl, inr, arith, MatchBool}
 use Rattle.pit8253.specs.Timer.{Counter, pulses, Rises, out}
 use Rattle.pit8253.specs.Timer.{rose}
-use Rattle.pit8253.proofs.Phases.{split}
 use Rattle.pit8253.proofs.Compose.{rises_earlier}
 
 step_none : (a b : Bool) → (a ≡ false → b ≡ true → ⊥) → (not a && b) ≡ false
@@ -13,18 +13,11 @@ step_none false false h = refl
 step_some : (a b : Bool) → a ≡ false → b ≡ true → (not a && b) ≡ true
 step_some a b p q = ap (λ x. not x && b) p ∙ q
 
-or_right : (a b : Bool) → b ≡ true → (a || b) ≡ true
-or_right true b h = refl
-or_right false b h = h
-
-or_both : (a b : Bool) → a ≡ false → b ≡ false → (a || b) ≡ false
-or_both a b p q = ap (λ x. x || b) p ∙ q
-
 pub rose_true : (k : ℕ) (s : Counter) → Rises k s → rose k s ≡ true
 unfolding rose
 rose_true zero s (i, below, low, high) = absurd (omega arith)
 rose_true (suc k) s (i, below, low, high) =
-    elim (split i k) [
+    elim (cases_lt i k) [
       | inl lt ↦ ap (λ x. x || (not (out (pulses k s)) && out (pulses (suc k) s))) (rose_true k s (i, lt, low, high))
       | inr ge ↦
           let e : i ≡ k = omega arith in
@@ -36,7 +29,7 @@ pub rose_false : (k : ℕ) (s : Counter) → (Rises k s → ⊥) → rose k s �
 unfolding rose
 rose_false zero s f = refl
 rose_false (suc k) s f =
-    or_both (rose k s) (not (out (pulses k s)) && out (pulses (suc k) s))
+    or_from (rose k s) (not (out (pulses k s)) && out (pulses (suc k) s))
     (rose_false k s (λ r. f (rises_earlier k (suc k) s (omega arith) r)))
     (step_none (out (pulses k s)) (out (pulses (suc k) s)) (λ low high. f (k, omega arith, low, high)))
 
