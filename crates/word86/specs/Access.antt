@@ -2,11 +2,12 @@
 use Rattle.std.specs.Prelude.{ℕ}
 use Rattle.word86.specs.declared.width.Width.{Width}
 use Rattle.word86.specs.declared.width.Width.TheVariants as widths
+use Rattle.word86.specs.declared.page.Page.{Page}
 
--- a byte of an object in RAM, or of the screen
+-- a byte of an object in RAM, or of a page of the screen
 pub data Where : Type 0 where
   In : (object index : ℕ) → Where
-  Screen : (index : ℕ) → Where
+  Screen : Page → (index : ℕ) → Where
 
 pub data Access : Type 0 where
   Read : Width → Where → Access

@@ -8,4 +8,7 @@ pub mod Bytes
 pub mod Sink
 pub mod Event
 pub mod Operation
+pub mod MemoryMap
+pub mod Page
+pub mod PowerOn
 pub mod Place

@@ -11,7 +11,7 @@ use Rattle.word86.specs.Access as access
 
 abbrev pub where_of : Place → Where
 where_of (Ram k i) = In k i
-where_of (Screen i) = access.Screen i
+where_of (Screen page i) = access.Screen page i
 
 abbrev pub access_of : declared_access.Access → Access
 access_of (declared_accesses.Read width x) = Read width (where_of x)
@@ -32,10 +32,3 @@ abbrev pub held : (k : ℕ) (offsets sizes : List ℕ) → (address count : ℕ)
 held k [] sizes address count = None
 held k (o ∷ os) [] address count = None
 held k (o ∷ os) (s ∷ ss) address count = if covers o s address count then Some (In k (address - o)) else held (suc k) os ss address count
-
--- the screen's segment begins at 0B000H, the screen at 0B8000H; it has 4,000 bytes
-abbrev pub screen_begins : ℕ
-screen_begins = 0x8000
-
-abbrev pub screen_size : ℕ
-screen_size = 4000

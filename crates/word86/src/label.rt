@@ -11,10 +11,14 @@ pub enum Label {
     Out(u16, u8),
     /// A word written to a port and the one above it.
     OutW(u16, u16),
-    /// A byte stored on the screen, at its offset from 0B8000H.
+    /// A byte stored in the colour page, at its offset from 0B8000H.
     Scr(u16, u8),
-    /// A word stored on the screen, at the offset of its low byte from 0B8000H.
+    /// A word stored in the colour page, at the offset of its low byte from 0B8000H.
     ScrW(u16, u16),
+    /// A byte stored in the monochrome page, at its offset from 0B0000H.
+    Mono(u16, u8),
+    /// A word stored in the monochrome page, at the offset of its low byte from 0B0000H.
+    MonoW(u16, u16),
     /// An interrupt acknowledged, with its vector.
     Ack(u8),
     /// Clock pulses that came.

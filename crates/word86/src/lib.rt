@@ -8,8 +8,10 @@ mod bytes;
 mod event;
 mod fault;
 mod label;
+mod memory_map;
 mod number;
 mod operation;
+mod page;
 mod place;
 mod power_on;
 mod sink;
@@ -21,9 +23,14 @@ pub use bytes::{is_set, put_word, word_at};
 pub use event::Event;
 pub use fault::Fault;
 pub use label::Label;
+pub use memory_map::{
+    CODE_SEGMENT, DATA_END, DATA_ROOM, DATA_SEGMENT, DATA_START, FIRST_OFFSET, RAM_SIZE,
+    RESET_OFFSET, SCREEN_SEGMENT, STACK_ROOM, STACK_TOP, VECTORS_SIZE,
+};
 pub use number::Number;
 pub use operation::{BinaryOperation, UnaryOperation};
+pub use page::{PAGE_SIZE, Page};
 pub use place::Place;
-pub use power_on::{PowerOn, RAM_LENGTH, SCREEN_LENGTH};
+pub use power_on::PowerOn;
 pub use sink::{CutSink, Sink, SinkFault, WriterSink, put_all};
 pub use width::Width;
