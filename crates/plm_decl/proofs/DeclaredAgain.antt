@@ -6,6 +6,8 @@ use Rattle.std.proofs.lemmas.List.{append-nil, append_assoc, map-append}
 use Rattle.std.proofs.lemmas.List.Elements.{filter-append}
 use Rattle.word86.specs.declared.number.Number.{Number}
 use Rattle.word86.specs.declared.number.Number.TheVariants.{E301, E302, E303, E304, E305, E306, E307, E308, E310}
+use Rattle.word86.specs.declared.page.Page.{Page}
+use Rattle.word86.specs.Page.{page_size}
 use Rattle.plm_token.specs.Names.{normal}
 use Rattle.plm_token.specs.Strings.{string_characters}
 use Rattle.plm_syntax.specs.declared.tree.Position.{Position}
@@ -256,16 +258,16 @@ own_quiet : (b : Bool) (o : ObjectR) (k : Known) → Quiet k (cond {A = Region �
 own_quiet true o k = quiet k
 own_quiet false o k = record { same_module = refl; same_seconds = refl; same_whole = refl }
 
-screen_name_quiet : (frames : List Frame) (name : List ℕ) (size offset : ℕ) (k : Known) → Quiet k (with_screen_name frames name size offset k)
-screen_name_quiet frames name size offset k = quiet_unless (is_external frames) k _ (record { same_module = refl; same_seconds = refl; same_whole = refl })
+screen_name_quiet : (frames : List Frame) (name : List ℕ) (size : ℕ) (page : Page) (offset : ℕ) (k : Known) → Quiet k (with_screen_name frames name size page offset k)
+screen_name_quiet frames name size page offset k = quiet_unless (is_external frames) k _ (record { same_module = refl; same_seconds = refl; same_whole = refl })
 
 region_quiet : (frames : List Frame) (n : NameT) (name : List ℕ) (size : ℕ) (s : Site) (k : Known) → Quiet k (region_for frames n name size s k).1
 region_quiet frames n name size site.Own k = own_quiet (is_external frames) _ k
 region_quiet frames n name size site.Nowhere k = quiet k
 region_quiet frames n name size site.Outside k = note_quiet E303 n.place k refl
 region_quiet frames n name size (site.Ram object offset) k = note_unless_quiet (nat_le (counted (offset + size)) (size_at k.objects object)) E303 n.place k refl
-region_quiet frames n name size (site.Screen offset) k =
-    quiet_then (note_unless_quiet (nat_le (counted (offset + size)) 4000) E303 n.place k refl) (screen_name_quiet frames name size offset _)
+region_quiet frames n name size (site.Screen page offset) k =
+    quiet_then (note_unless_quiet (nat_le (counted (offset + size)) page_size) E303 n.place k refl) (screen_name_quiet frames name size page offset _)
 
 region_of_quiet : (frames : List Frame) (n : NameT) (base : Option NameT) (t : Traits) (s : Site) (k : Known) → Quiet k (region_of_variable frames n base t s k).1
 region_of_quiet frames n (Some base) t s k = base_quiet frames n base t.has_attribute k
@@ -332,7 +334,7 @@ given_at_quiet object d (Some o) k = record { same_module = refl; same_seconds =
 
 given_in_quiet : (r : Region) (d : Datum) (k : Known) → Quiet k (given_in r d k)
 given_in_quiet (region.Ram o x) d k = given_at_quiet o d (slice_get k.objects o) k
-given_in_quiet (region.Screen x) d k = quiet k
+given_in_quiet (region.Screen page x) d k = quiet k
 given_in_quiet (region.Based v) d k = quiet k
 given_in_quiet region.Nowhere d k = quiet k
 

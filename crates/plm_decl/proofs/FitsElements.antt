@@ -4,6 +4,8 @@ use Rattle.std.specs.List.{list_all}
 use Rattle.std.proofs.lemmas.List.{append-nil, length-append, drop_at}
 use Rattle.std.proofs.lemmas.List.Folds.{list_all-append}
 use Rattle.word86.specs.declared.number.Number.TheVariants.{E301, E302, E303, E304, E305}
+use Rattle.word86.specs.declared.page.Page.{Page}
+use Rattle.word86.specs.Page.{page_size}
 use Rattle.plm_token.specs.Names.{normal}
 use Rattle.plm_syntax.specs.declared.tree.Position.{Position}
 use Rattle.plm_syntax.specs.declared.tree.Linkage.{Linkage}
@@ -93,16 +95,16 @@ own_extends false path size k =
     let o : ObjectR = record { path = path; size = size; initial = [] } in
     record { variables = refl; structures = refl; made = o ∷ []; objects = refl; fit = both (fits_where o (λ h. omega arith)) refl }
 
-screen_same : (frames : List Frame) (name : List ℕ) (size offset : ℕ) (k : Known) → SameTables k (with_screen_name frames name size offset k)
-screen_same frames name size offset k = unless_same (is_external frames) k _ (record { variables = refl; structures = refl; objects = refl })
+screen_same : (frames : List Frame) (name : List ℕ) (size : ℕ) (page : Page) (offset : ℕ) (k : Known) → SameTables k (with_screen_name frames name size page offset k)
+screen_same frames name size page offset k = unless_same (is_external frames) k _ (record { variables = refl; structures = refl; objects = refl })
 
 region_extends : (frames : List Frame) (n : NameT) (name : List ℕ) (size : ℕ) (s : Site) (k : Known) → Extends k (region_for frames n name size s k).1
 region_extends frames n name size site.Own k = own_extends (is_external frames) (name_after (path_in frames) name) size k
 region_extends frames n name size site.Nowhere k = extends_none k
 region_extends frames n name size site.Outside k = extends (record { variables = refl; structures = refl; objects = refl })
 region_extends frames n name size (site.Ram object offset) k = extends (noted_same (nat_le (counted (offset + size)) (size_at k.objects object)) E303 n.place k)
-region_extends frames n name size (site.Screen offset) k =
-    extends (same_then (noted_same (nat_le (counted (offset + size)) 4000) E303 n.place k) (screen_same frames name size offset (note_unless (nat_le (counted (offset + size)) 4000) E303 n.place k)))
+region_extends frames n name size (site.Screen page offset) k =
+    extends (same_then (noted_same (nat_le (counted (offset + size)) page_size) E303 n.place k) (screen_same frames name size page offset (note_unless (nat_le (counted (offset + size)) page_size) E303 n.place k)))
 
 variable_extends : (frames : List Frame) (n : NameT) (base : Option NameT) (t : Traits) (s : Site) (k : Known) → Extends k (region_of_variable frames n base t s k).1
 variable_extends frames n (Some base) t s k = extends (base_same frames n base t.has_attribute k)

@@ -12,6 +12,7 @@ use Rattle.plm_token.specs.Names.{normal}
 use Rattle.plm_token.specs.Strings.{string_characters}
 use Rattle.plm_syntax.specs.declared.tree.Position.{Position}
 use Rattle.plm_syntax.specs.declared.tree.LocationForm.{LocationForm}
+use Rattle.plm_syntax.specs.declared.tree.LocationForm.TheVariants as form
 use Rattle.plm_syntax.specs.Terminal.{NameT}
 use Rattle.plm_syntax.specs.Tree.{ExpressionT, NumeralE, TextE, ReferenceE, LocationE, ParenthesisedE, EmbeddedE, UnaryE, BinaryE, ReferenceT, ReferenceOf, ExpressionsT, SelectorT, LocationT, ValueT, NumeralV, NegativeV, TextV, LocationV, VariableT}
 use Rattle.plm_syntax.specs.Tree as tree
@@ -188,7 +189,7 @@ address_at_pair n (Some d) = refl
 
 address_pair : (n : ℕ) (r : Region) (d : Option ℕ) → maybe is_pair (address_datum n r d) ≡ true
 address_pair n (region.Ram o x) d = address_at_pair n d
-address_pair n (region.Screen x) d = address_at_pair n d
+address_pair n (region.Screen page x) d = address_at_pair n d
 address_pair n (region.Based v) d = refl
 address_pair n region.Nowhere d = address_at_pair n d
 
@@ -208,7 +209,8 @@ location_pair k (ConstantsOf p f o) = refl
 
 -- a BYTE takes no location
 location_fits : (s : ScalarType) (f : LocationForm) (d : Option Datum) → maybe is_pair d ≡ true → maybe (datum_fits s) (cond (takes s f) d None) ≡ true
-location_fits Byte f d h = refl
+location_fits Byte form.Offset d h = refl
+location_fits Byte form.Pointer d h = refl
 location_fits Word f d h = maybe_unless is_pair (takes Word f) d h
 location_fits Pointer f d h = maybe_unless is_pair (takes Pointer f) d h
 
@@ -230,7 +232,7 @@ pub record Holds (os : List ObjectR) (size most o : ℕ) : Type 0 where
 -- the objects of some variables, one after another from this number on, with a limit to the bytes of the first
 abbrev pub PendingAt : List ObjectR → ℕ → ℕ → ℕ → Region → (ℕ → Type 0) → Type 0
 PendingAt os size most low (region.Ram o x) rest = (low ≤ o) × Holds os size most o × rest (suc o)
-PendingAt os size most low (region.Screen x) rest = rest low
+PendingAt os size most low (region.Screen page x) rest = rest low
 PendingAt os size most low (region.Based v) rest = rest low
 PendingAt os size most low region.Nowhere rest = rest low
 
@@ -252,7 +254,7 @@ at_map : (os more : List ObjectR) (size most top low : ℕ) (r : Region) (P Q : 
     → ((o : ℕ) → low ≤ o → Holds os size most o → Holds more size top o) → ((n : ℕ) → low ≤ n → P n → Q n)
     → PendingAt os size most low r P → PendingAt more size top low r Q
 at_map os more size most top low (region.Ram o x) P Q f g h = let l : low ≤ o = h.0 in (l, f o l h.1, g (suc o) (omega (arith, l)) h.2)
-at_map os more size most top low (region.Screen x) P Q f g h = g low (omega arith) h
+at_map os more size most top low (region.Screen page x) P Q f g h = g low (omega arith) h
 at_map os more size most top low (region.Based v) P Q f g h = g low (omega arith) h
 at_map os more size most top low region.Nowhere P Q f g h = g low (omega arith) h
 
@@ -287,7 +289,7 @@ ready_more os size most top low vs m h =
 
 next_at : (os : List ObjectR) (size most low : ℕ) (r : Region) (P : ℕ → Type 0) → PendingAt os size most low r P → (l : ℕ) × P l
 next_at os size most low (region.Ram o x) P h = (suc o, h.2)
-next_at os size most low (region.Screen x) P h = (low, h)
+next_at os size most low (region.Screen page x) P h = (low, h)
 next_at os size most low (region.Based v) P h = (low, h)
 next_at os size most low region.Nowhere P h = (low, h)
 
@@ -356,7 +358,7 @@ given_region size most b low (region.Ram o x) vs d k h room g fit =
     let made = given_object size most b low o vs d k here.object h room g.0 here.got here.bytes here.few g.2 fit in
     let all : GivenAt size (most + b) low (region.Ram o x) vs (given_at o d (Some here.object) k) = record { fit = made.fit; ready = made.ready } in
     subst (λ (at : Option ObjectR). GivenAt size (most + b) low (region.Ram o x) vs (given_at o d at k)) (sym here.got) all
-given_region size most b low (region.Screen x) vs d k h room g fit = record { fit = fit; ready = g }
+given_region size most b low (region.Screen page x) vs d k h room g fit = record { fit = fit; ready = g }
 given_region size most b low (region.Based v) vs d k h room g fit = record { fit = fit; ready = g }
 given_region size most b low region.Nowhere vs d k h room g fit = record { fit = fit; ready = g }
 
@@ -380,7 +382,7 @@ object_names o d (Some x) k = record { variables = refl; structures = refl }
 
 region_names : (r : Region) (d : Datum) (k : Known) → SameNames k (given_in r d k)
 region_names (region.Ram o x) d k = object_names o d (slice_get k.objects o) k
-region_names (region.Screen x) d k = record { variables = refl; structures = refl }
+region_names (region.Screen page x) d k = record { variables = refl; structures = refl }
 region_names (region.Based v) d k = record { variables = refl; structures = refl }
 region_names region.Nowhere d k = record { variables = refl; structures = refl }
 

@@ -7,6 +7,7 @@ use Rattle.std.proofs.lemmas.List.Sums.{sum_by-cons}
 use Rattle.std.proofs.lemmas.List.Elements.{All-nil, All-cons}
 use Rattle.std.proofs.lemmas.Bool.Decides.{nat_tests}
 use Rattle.word86.specs.declared.number.Number.TheVariants.{E302, E308, E310}
+use Rattle.word86.specs.MemoryMap.{data_room}
 use Rattle.plm_token.specs.Names.{normal}
 use Rattle.plm_syntax.specs.declared.tree.Position.{Position}
 use Rattle.plm_syntax.specs.declared.tree.Linkage.{Linkage}
@@ -231,20 +232,20 @@ first_bytes_of b [] = omega arith
 first_bytes_of b (o ∷ os) = let rest = first_bytes_of (counted (b + o.size)) os in omega (arith, rest)
 
 -- objects that have room in RAM are small enough
-small_fit : (b : ℕ) (os : List ObjectR) → bytes_from b os ≤ 61438 → list_all fits os ≡ true → list_all values_fit os ≡ true
+small_fit : (b : ℕ) (os : List ObjectR) → bytes_from b os ≤ data_room → list_all fits os ≡ true → list_all values_fit os ≡ true
 small_fit b [] h f = refl
 small_fit b (o ∷ os) h f =
     let first = first_bytes_of (counted (b + o.size)) os in
-    let small : o.size ≤ 61438 = omega (arith, first, h) in
+    let small : o.size ≤ data_room = omega (arith, first, h) in
     both (here o small (left (fits o) (list_all fits os) f)) (small_fit (counted (b + o.size)) os h (right (fits o) (list_all fits os) f))
   where
-    here : (o : ObjectR) → o.size ≤ 61438 → fits o ≡ true → values_fit o ≡ true
+    here : (o : ObjectR) → o.size ≤ data_room → fits o ≡ true → values_fit o ≡ true
     here o small f = grind (arith, nat_tests)
 
 -- what is read
 pub known_fit : (ms : List ModuleT) → length (known_from ms).variables < 18446744073709551616 → have_room (known_from ms).objects ≡ true → list_all values_fit (known_from ms).objects ≡ true
 known_fit ms short room =
-    let most : bytes_from 0 (known_from ms).objects ≤ 61438 = grind (arith, nat_tests) in
+    let most : bytes_from 0 (known_from ms).objects ≤ data_room = grind (arith, nat_tests) in
     small_fit 0 (known_from ms).objects most ((modules_fit 0 ms nothing_known).fit short refl)
 
 -- and what is joined of it

@@ -4,6 +4,8 @@ use Rattle.std.specs.Prelude.{slice_get, slice_set}
 use Rattle.std.specs.List.{list_all}
 use Rattle.std.proofs.lemmas.Bool.Decides.{nat_tests}
 use Rattle.word86.specs.declared.number.Number.{Number}
+use Rattle.word86.specs.MemoryMap.{data_room}
+use Rattle.word86.specs.Page.{page_size}
 use Rattle.plm_syntax.specs.declared.tree.Position.{Position}
 use Rattle.plm_decl.specs.declared.names.Region.{Region}
 use Rattle.plm_decl.specs.declared.names.Region.TheVariants as region
@@ -25,7 +27,7 @@ all_weaker p q (x ∷ xs) f h = both (f x (left (p x) (list_all p xs) h)) (all_w
 
 holds_more : (os more : List ObjectR) (size : ℕ) (r : Region) → ((i : ℕ) → size_at os i ≤ size_at more i) → counted_holds os size r ≡ true → counted_holds more size r ≡ true
 holds_more os more size (region.Ram object offset) f h = le_more (counted (offset + size)) (size_at os object) (size_at more object) h (f object)
-holds_more os more size (region.Screen offset) f h = h
+holds_more os more size (region.Screen page offset) f h = h
 holds_more os more size (region.Based v) f h = refl
 holds_more os more size region.Nowhere f h = refl
 
@@ -95,27 +97,27 @@ same_span k v w h =
 pub joined_lies : (k : Known) (os : List ObjectR) (v w : Variable) → same_type k (Some v) (Some w) ≡ true → lies_in os w ≡ true → lies_in os (with_region w.region v) ≡ true
 joined_lies k os v w h g = ap (λ (n : ℕ). counted_holds os n w.region) (same_span k v w h) ∙ g
 
--- ---- the finished tables, in which no number of bytes is above 61,438
+-- ---- the finished tables, in which no number of bytes is above the room for data
 
 first_bytes : (b : ℕ) (os : List ObjectR) → counted b ≤ bytes_from b os
 first_bytes b [] = omega arith
 first_bytes b (o ∷ os) = let rest = first_bytes (counted (b + o.size)) os in omega (arith, rest)
 
-size_most : (b : ℕ) (os : List ObjectR) (i : ℕ) → bytes_from b os ≤ 61438 → size_at os i ≤ 61438
+size_most : (b : ℕ) (os : List ObjectR) (i : ℕ) → bytes_from b os ≤ data_room → size_at os i ≤ data_room
 size_most b [] i h = omega arith
 size_most b (o ∷ os) zero h = let first = first_bytes (counted (b + o.size)) os in omega (arith, first, h)
 size_most b (o ∷ os) (suc i) h = size_most (counted (b + o.size)) os i h
 
-uncounted : (offset size most : ℕ) → most ≤ 61438 → nat_le (counted (offset + counted size)) most ≡ true → nat_le (offset + size) most ≡ true
+uncounted : (offset size most : ℕ) → most ≤ data_room → nat_le (counted (offset + counted size)) most ≡ true → nat_le (offset + size) most ≡ true
 uncounted offset size most h g = grind (arith, nat_tests)
 
-holds_plainly : (os : List ObjectR) (size : ℕ) (r : Region) → ((i : ℕ) → size_at os i ≤ 61438) → counted_holds os (counted size) r ≡ true → region_holds os size r ≡ true
+holds_plainly : (os : List ObjectR) (size : ℕ) (r : Region) → ((i : ℕ) → size_at os i ≤ data_room) → counted_holds os (counted size) r ≡ true → region_holds os size r ≡ true
 holds_plainly os size (region.Ram object offset) f h = uncounted offset size (size_at os object) (f object) h
-holds_plainly os size (region.Screen offset) f h = uncounted offset size 4000 (omega arith) h
+holds_plainly os size (region.Screen page offset) f h = uncounted offset size page_size (omega arith) h
 holds_plainly os size (region.Based v) f h = refl
 holds_plainly os size region.Nowhere f h = refl
 
 pub lie_plainly : (os : List ObjectR) (vs : List Variable) → have_room os ≡ true → list_all (lies_in os) vs ≡ true → views_lie os vs ≡ true
 lie_plainly os vs room h =
-    let most : bytes_from 0 os ≤ 61438 = grind (arith, nat_tests) in
+    let most : bytes_from 0 os ≤ data_room = grind (arith, nat_tests) in
     all_weaker (lies_in os) (view_lies os) vs (λ v. holds_plainly os (v.stride * elements v.dimension) v.region (λ i. size_most 0 os i most)) h

@@ -7,6 +7,8 @@ use Rattle.std.proofs.lemmas.List.{append-nil, append_assoc, map-append, length-
 use Rattle.std.proofs.lemmas.List.Kept.{AllPairs-from_increasing}
 use Rattle.word86.specs.declared.number.Number.{Number}
 use Rattle.word86.specs.declared.number.Number.TheVariants.{E301, E302, E303, E304, E305, E308}
+use Rattle.word86.specs.declared.page.Page.{Page}
+use Rattle.word86.specs.Page.{page_size}
 use Rattle.plm_token.specs.Names.{normal}
 use Rattle.plm_token.specs.Strings.{string_characters}
 use Rattle.plm_syntax.specs.declared.tree.Position.{Position}
@@ -215,16 +217,16 @@ own_still : (b : Bool) (o : ObjectR) (k : Known) → Still k (cond {A = Region �
 own_still true o k = still k
 own_still false o k = object_still o k
 
-screen_name_still : (frames : List Frame) (name : List ℕ) (size offset : ℕ) (k : Known) → Still k (with_screen_name frames name size offset k)
-screen_name_still frames name size offset k = still_unless (is_external frames) k _ (kept refl refl refl refl refl refl)
+screen_name_still : (frames : List Frame) (name : List ℕ) (size : ℕ) (page : Page) (offset : ℕ) (k : Known) → Still k (with_screen_name frames name size page offset k)
+screen_name_still frames name size page offset k = still_unless (is_external frames) k _ (kept refl refl refl refl refl refl)
 
 region_still : (frames : List Frame) (n : NameT) (name : List ℕ) (size : ℕ) (s : Site) (k : Known) → Still k (region_for frames n name size s k).1
 region_still frames n name size site.Own k = own_still (is_external frames) _ k
 region_still frames n name size site.Nowhere k = still k
 region_still frames n name size site.Outside k = note_still E303 n.place k
 region_still frames n name size (site.Ram object offset) k = note_unless_still (nat_le (counted (offset + size)) (size_at k.objects object)) E303 n.place k
-region_still frames n name size (site.Screen offset) k =
-    still_then (note_unless_still (nat_le (counted (offset + size)) 4000) E303 n.place k) (screen_name_still frames name size offset _)
+region_still frames n name size (site.Screen page offset) k =
+    still_then (note_unless_still (nat_le (counted (offset + size)) page_size) E303 n.place k) (screen_name_still frames name size page offset _)
 
 region_of_still : (frames : List Frame) (n : NameT) (base : Option NameT) (t : Traits) (s : Site) (k : Known) → Still k (region_of_variable frames n base t s k).1
 region_of_still frames n (Some base) t s k = base_still frames n base t.has_attribute k
@@ -250,7 +252,7 @@ given_at_still object d (Some o) k = kept refl refl refl refl (length-set k.obje
 
 given_in_still : (r : Region) (d : Datum) (k : Known) → Still k (given_in r d k)
 given_in_still (region.Ram o x) d k = given_at_still o d (slice_get k.objects o) k
-given_in_still (region.Screen x) d k = still k
+given_in_still (region.Screen page x) d k = still k
 given_in_still (region.Based v) d k = still k
 given_in_still region.Nowhere d k = still k
 

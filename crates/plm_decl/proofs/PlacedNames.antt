@@ -1,10 +1,13 @@
 -- Names of an element with AT lie where its location says.
-use Rattle.std.proofs.Common.{◌≡◌, ℕ, ◌+◌, ◌-◌, ◌*◌, ◌≤◌, List, [], ◌∷◌, ◌++◌, length, Bool, true, false, cond, Option, Some, None, refl, sym, ap, subst, ◌∙◌, append_assoc, true≢false, nat_le}
+use Rattle.std.proofs.Common.{◌≡◌, ℕ, ◌+◌, ◌-◌, ◌*◌, ◌<◌, ◌≤◌, List, [], ◌∷◌, ◌++◌, length, Bool, true, false, ◌&&◌, cond, Option, Some, None, refl, sym, ap, subst, ◌∙◌, append_assoc, true≢false, nat_le, nat_lt, arith}
 use Rattle.std.specs.Prelude.{slice_get}
 use Rattle.std.specs.List.{list_all}
 use Rattle.std.proofs.lemmas.List.{append-nil, map-append}
-use Rattle.std.proofs.lemmas.Bool.{le-leb}
+use Rattle.std.proofs.lemmas.Bool.Decides.{nat_tests}
 use Rattle.word86.specs.declared.number.Number.TheVariants.{E302, E303}
+use Rattle.word86.specs.declared.page.Page.{Page}
+use Rattle.word86.specs.declared.page.Page.TheVariants.{Monochrome, Colour}
+use Rattle.word86.specs.Page.{page_at, page_size}
 use Rattle.plm_token.specs.Names.{normal}
 use Rattle.plm_syntax.specs.declared.tree.Position.{Position}
 use Rattle.plm_syntax.specs.declared.tree.Linkage.{Linkage}
@@ -28,10 +31,11 @@ use Rattle.plm_decl.specs.Resolved.{ExpressionsR, SelectorR, ReferenceR', Use}
 use Rattle.plm_decl.specs.Lists.{bind}
 use Rattle.plm_decl.specs.Expressions.{reference}
 use Rattle.plm_decl.specs.Shape.{size_of_shape, shape_for}
-use Rattle.plm_decl.specs.Elements.{first_number, member_distance, distance, is_unplaced, has_shape, unplaced_site, site_within, variable_site, site_of, site_after, screen_site, at_site, element_values, region_for, with_public, linked, with_variable, variable_in, declared_variable, declared_variables}
+use Rattle.plm_decl.specs.Elements.{first_number, member_distance, distance, is_unplaced, has_shape, unplaced_site, site_within, variable_site, site_of, site_after, is_in_page, page_site, screen_site, at_site, element_values, region_for, with_public, linked, with_variable, variable_in, declared_variable, declared_variables}
 use Rattle.plm_decl.specs.Fill.{traits_for, declared_at}
 use Rattle.plm_decl.specs.Laws.{has_no_base}
 use Rattle.plm_decl.specs.PlacedNames.{regions_of, behind, one_behind_the_other, place_at, HasAt}
+use Rattle.plm_decl.proofs.Kept.{both, left, right}
 use Rattle.plm_decl.proofs.OwnNames.{at_still, shape_still, filled_still}
 
 -- ---- where a location leads
@@ -39,7 +43,7 @@ use Rattle.plm_decl.proofs.OwnNames.{at_still, shape_still, filled_still}
 abbrev IsElsewhere : Site → Type 0
 IsElsewhere site.Own = ⊥
 IsElsewhere (site.Ram object offset) = Unit {0}
-IsElsewhere (site.Screen offset) = Unit {0}
+IsElsewhere (site.Screen page offset) = Unit {0}
 IsElsewhere site.Nowhere = Unit {0}
 IsElsewhere site.Outside = Unit {0}
 
@@ -54,7 +58,7 @@ unplaced_elsewhere None = tt
 within_elsewhere : (r : Region) (d : Option ℕ) → IsElsewhere (site_within r d)
 within_elsewhere (region.Ram object offset) (Some d) = tt
 within_elsewhere (region.Ram object offset) None = tt
-within_elsewhere (region.Screen offset) d = tt
+within_elsewhere (region.Screen page offset) d = tt
 within_elsewhere (region.Based v) d = tt
 within_elsewhere region.Nowhere d = tt
 
@@ -68,14 +72,77 @@ reference_elsewhere k (Use p (binding.Procedure q) es s) = tt
 reference_elsewhere k (Use p (binding.Builtin b) es s) = tt
 reference_elsewhere k (Use p binding.Nothing es s) = tt
 
+number_elsewhere : (n : ℕ) → IsElsewhere (screen_site n)
+number_elsewhere n =
+    either_elsewhere (is_in_page Monochrome n) (site.Screen Monochrome (n - page_at Monochrome)) (page_site Colour n site.Outside) tt (
+    either_elsewhere (is_in_page Colour n) (site.Screen Colour (n - page_at Colour)) site.Outside tt
+    tt)
+
 at_elsewhere : (frames : List Frame) (at : AtT) (k : Known) → HasAt at → IsElsewhere (at_site frames at k).0
 at_elsewhere frames no_at k h = absurd h
-at_elsewhere frames (at_number n) k h = either_elsewhere (nat_le 0xB8000 n.value) (site.Screen (n.value - 0xB8000)) site.Outside tt tt
+at_elsewhere frames (at_number n) k h = number_elsewhere n.value
 at_elsewhere frames (at_location (tree.ConstantsOf p f vs)) k h = tt
 at_elsewhere frames (at_location (tree.LocationOf p f x)) k h = let r = reference frames x k in reference_elsewhere r.1 r.0
 
-pub on_the_screen : (n : ℕ) → 0xB8000 ≤ n → place_at (screen_site n) ≡ region.Screen (n - 0xB8000)
-on_the_screen n h = ap (λ (b : Bool). place_at (cond b (site.Screen (n - 0xB8000)) site.Outside)) (le-leb 0xB8000 n h)
+-- ---- the pages of the screen
+
+is_there : (begins size offset : ℕ) → offset < size → (nat_le begins (begins + offset) && nat_lt (begins + offset - begins) size) ≡ true
+is_there begins size offset h = both (here begins offset) (below begins size offset h)
+  where
+    here : (begins offset : ℕ) → nat_le begins (begins + offset) ≡ true
+    here begins offset = grind (arith, nat_tests)
+
+    below : (begins size offset : ℕ) → offset < size → nat_lt (begins + offset - begins) size ≡ true
+    below begins size offset h = grind (arith, nat_tests)
+
+is_behind : (begins size n : ℕ) → begins + size ≤ n → (nat_le begins n && nat_lt (n - begins) size) ≡ false
+is_behind begins size n h = no_right (nat_le begins n) (nat_lt (n - begins) size) (past begins size n h)
+  where
+    no_right : (a b : Bool) → b ≡ false → (a && b) ≡ false
+    no_right true b h = h
+    no_right false b h = refl
+
+    past : (begins size n : ℕ) → begins + size ≤ n → nat_lt (n - begins) size ≡ false
+    past begins size n h = grind (arith, nat_tests)
+
+taken : (b : Bool) (page : Page) (n offset : ℕ) (other : Site) → b ≡ true → n ≡ offset → place_at (cond b (site.Screen page n) other) ≡ region.Screen page offset
+taken true page n offset other h e = ap (λ (i : ℕ). region.Screen page i) e
+taken false page n offset other h e = absurd (true≢false (sym h))
+
+passed : (b : Bool) (s other : Site) → b ≡ false → cond b s other ≡ other
+passed true s other h = absurd (true≢false h)
+passed false s other h = refl
+
+back : (begins offset : ℕ) → begins + offset - begins ≡ offset
+back begins offset = omega arith
+
+pub on_the_screen : (page : Page) (offset : ℕ) → offset < page_size → place_at (screen_site (page_at page + offset)) ≡ region.Screen page offset
+on_the_screen Monochrome offset h =
+    let n = page_at Monochrome + offset in
+    taken (is_in_page Monochrome n) Monochrome (n - page_at Monochrome) offset (page_site Colour n site.Outside) (is_there (page_at Monochrome) page_size offset h) (back (page_at Monochrome) offset)
+on_the_screen Colour offset h =
+    let n = page_at Colour + offset in
+    ap place_at (passed (is_in_page Monochrome n) (site.Screen Monochrome (n - page_at Monochrome)) (page_site Colour n site.Outside) (is_behind (page_at Monochrome) page_size n (omega arith)))
+    ∙ taken (is_in_page Colour n) Colour (n - page_at Colour) offset site.Outside (is_there (page_at Colour) page_size offset h) (back (page_at Colour) offset)
+
+-- it is in no page that has no byte there
+none_there : (begins size n : ℕ) → ((offset : ℕ) → offset < size → ¬ (n ≡ begins + offset)) → (nat_le begins n && nat_lt (n - begins) size) ≡ false
+none_there begins size n none = decide (nat_le begins n && nat_lt (n - begins) size) refl
+  where
+    below : (m : ℕ) → nat_lt m size ≡ true → m < size
+    below m e = grind (arith, nat_tests)
+
+    again : nat_le begins n ≡ true → n ≡ begins + (n - begins)
+    again e = grind (arith, nat_tests)
+
+    decide : (b : Bool) → (nat_le begins n && nat_lt (n - begins) size) ≡ b → (nat_le begins n && nat_lt (n - begins) size) ≡ false
+    decide false e = e
+    decide true e = absurd (none (n - begins) (below (n - begins) (right (nat_le begins n) (nat_lt (n - begins) size) e)) (again (left (nat_le begins n) (nat_lt (n - begins) size) e)))
+
+pub outside_the_screen : (n : ℕ) → ((page : Page) (offset : ℕ) → offset < page_size → ¬ (n ≡ page_at page + offset)) → screen_site n ≡ site.Outside
+outside_the_screen n none =
+    passed (is_in_page Monochrome n) (site.Screen Monochrome (n - page_at Monochrome)) (page_site Colour n site.Outside) (none_there (page_at Monochrome) page_size n (none Monochrome))
+    ∙ passed (is_in_page Colour n) (site.Screen Colour (n - page_at Colour)) site.Outside (none_there (page_at Colour) page_size n (none Colour))
 
 -- how far a reference lies behind its variable's first byte
 distance_is : (o : Option Variable) (v : Variable) (a b : Option ℕ) (element member : ℕ) → o ≡ Some v → a ≡ Some element → b ≡ Some member
@@ -132,7 +199,7 @@ region_is frames n name size site.Own k h = absurd h
 region_is frames n name size site.Nowhere k h = (refl, refl)
 region_is frames n name size site.Outside k h = (refl, refl)
 region_is frames n name size (site.Ram object offset) k h = (refl, misplaced _ n.place k)
-region_is frames n name size (site.Screen offset) k h = (refl, unless_kept (is_external frames) _ _ refl ∙ misplaced _ n.place k)
+region_is frames n name size (site.Screen page offset) k h = (refl, unless_kept (is_external frames) _ _ refl ∙ misplaced _ n.place k)
 
 one_lies : (n : NameT) (t : Traits) (s : Site) (frames : List Frame) (k : Known) → IsElsewhere s
     → regions_of (declared_variable (VariableOf n None) t s frames k).1.variables ≡ regions_of k.variables ++ place_at s ∷ []
@@ -152,14 +219,14 @@ one_lies n t s frames k h =
 after_elsewhere : (s : Site) (size : ℕ) → IsElsewhere s → IsElsewhere (site_after s size)
 after_elsewhere site.Own size h = h
 after_elsewhere (site.Ram object offset) size h = tt
-after_elsewhere (site.Screen offset) size h = tt
+after_elsewhere (site.Screen page offset) size h = tt
 after_elsewhere site.Nowhere size h = tt
 after_elsewhere site.Outside size h = tt
 
 after_is : (s : Site) (size : ℕ) → place_at (site_after s size) ≡ behind (place_at s) size
 after_is site.Own size = refl
 after_is (site.Ram object offset) size = refl
-after_is (site.Screen offset) size = refl
+after_is (site.Screen page offset) size = refl
 after_is site.Nowhere size = refl
 after_is site.Outside size = refl
 

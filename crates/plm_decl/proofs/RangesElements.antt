@@ -1,7 +1,10 @@
 -- Declared variables are within the final counts.
-use Rattle.std.proofs.Common.{◌≡◌, ℕ, ◌+◌, List, [], ◌∷◌, ◌++◌, length, Bool, true, false, cond, Option, Some, None, nat_lt, nat_le, refl, ap, ◌∙◌}
+use Rattle.std.proofs.Common.{◌≡◌, ℕ, ◌+◌, ◌-◌, List, [], ◌∷◌, ◌++◌, length, Bool, true, false, cond, Option, Some, None, nat_lt, nat_le, refl, ap, ◌∙◌}
 use Rattle.std.specs.Prelude.{slice_get}
 use Rattle.word86.specs.declared.number.Number.TheVariants.{E302, E303, E304}
+use Rattle.word86.specs.declared.page.Page.{Page}
+use Rattle.word86.specs.declared.page.Page.TheVariants.{Monochrome, Colour}
+use Rattle.word86.specs.Page.{page_at, page_size}
 use Rattle.plm_token.specs.Names.{normal}
 use Rattle.plm_syntax.specs.declared.tree.Linkage.{Linkage}
 use Rattle.plm_syntax.specs.declared.tree.Linkage.TheVariants as linkage
@@ -26,7 +29,7 @@ use Rattle.plm_decl.specs.Uses.{used}
 use Rattle.plm_decl.specs.Resolved.{ReferenceR', Use, ExpressionsR, SelectorR}
 use Rattle.plm_decl.specs.Expressions.{reference}
 use Rattle.plm_decl.specs.Shape.{size_of_shape}
-use Rattle.plm_decl.specs.Elements.{site_after, site_within, has_shape, is_unplaced, unplaced_site, variable_site, site_of, location_site, at_site, first_site, based_region, base_for, with_screen_name, region_for, with_public, with_external, linked, declared, with_variable, variable_in, region_of_variable, variable_declared, declared_variable, declared_variables}
+use Rattle.plm_decl.specs.Elements.{site_after, site_within, has_shape, is_unplaced, unplaced_site, variable_site, site_of, is_in_page, page_site, screen_site, location_site, at_site, first_site, based_region, base_for, with_screen_name, region_for, with_public, with_external, linked, declared, with_variable, variable_in, region_of_variable, variable_declared, declared_variable, declared_variables}
 use Rattle.plm_decl.specs.Ranges.{Counts, form_within, region_within, variable_within, binding_within}
 use Rattle.plm_decl.specs.Inner.Ranges.{Within, item_within}
 use Rattle.plm_decl.specs.Names.{ObjectR}
@@ -42,21 +45,21 @@ use Rattle.plm_decl.proofs.RangesExpressions.{reference_kept, reference_is_withi
 abbrev pub site_is_within : Counts → Site → Bool
 site_is_within c site.Own = true
 site_is_within c (site.Ram object offset) = nat_lt object c.objects
-site_is_within c (site.Screen offset) = true
+site_is_within c (site.Screen page offset) = true
 site_is_within c site.Nowhere = true
 site_is_within c site.Outside = true
 
 pub after_within : (c : Counts) (s : Site) (n : ℕ) → site_is_within c s ≡ true → site_is_within c (site_after s n) ≡ true
 after_within c site.Own n h = refl
 after_within c (site.Ram object offset) n h = h
-after_within c (site.Screen offset) n h = refl
+after_within c (site.Screen page offset) n h = refl
 after_within c site.Nowhere n h = refl
 after_within c site.Outside n h = refl
 
 inside_within : (c : Counts) (r : Region) (d : Option ℕ) → region_within c r ≡ true → site_is_within c (site_within r d) ≡ true
 inside_within c (region.Ram object offset) None h = refl
 inside_within c (region.Ram object offset) (Some d) h = h
-inside_within c (region.Screen offset) d h = refl
+inside_within c (region.Screen page offset) d h = refl
 inside_within c (region.Based v) d h = refl
 inside_within c region.Nowhere d h = refl
 
@@ -81,9 +84,15 @@ site_of_within c k (Use p (binding.Procedure q) es s) w = refl
 site_of_within c k (Use p (binding.Builtin b) es s) w = refl
 site_of_within c k (Use p binding.Nothing es s) w = refl
 
-number_site : (c : Counts) (b : Bool) (n : ℕ) → site_is_within c (cond b (site.Screen n) site.Outside) ≡ true
-number_site c true n = refl
-number_site c false n = refl
+page_site_within : (c : Counts) (b : Bool) (page : Page) (n : ℕ) (other : Site) → site_is_within c other ≡ true → site_is_within c (cond b (site.Screen page n) other) ≡ true
+page_site_within c true page n other h = refl
+page_site_within c false page n other h = h
+
+number_site : (c : Counts) (n : ℕ) → site_is_within c (screen_site n) ≡ true
+number_site c n =
+    page_site_within c (is_in_page Monochrome n) Monochrome (n - page_at Monochrome) (page_site Colour n site.Outside) (
+    page_site_within c (is_in_page Colour n) Colour (n - page_at Colour) site.Outside
+    refl)
 
 location_site_reads : (c : Counts) (frames : List Frame) (l : LocationT) (k : Known) → Reads c frames k (location_site frames l k).1
 location_site_reads c frames (tree.ConstantsOf p f vs) k = reads (kept c k)
@@ -106,7 +115,7 @@ at_reads c frames (at_location l) k = location_site_reads c frames l k
 
 at_within : (c : Counts) (frames : List Frame) (a : AtT) (k : Known) → Ends c (at_site frames a k).1 → Within c k → site_is_within c (at_site frames a k).0 ≡ true
 at_within c frames no_at k e w = refl
-at_within c frames (at_number n) k e w = number_site c (nat_le 0xB8000 n.value) _
+at_within c frames (at_number n) k e w = number_site c n.value
 at_within c frames (at_location l) k e w = location_site_within c frames l k e w
 
 pub first_reads : (c : Counts) (frames : List Frame) (a : AttributesT) (k : Known) → Reads c frames k (first_site frames a k).1
@@ -146,9 +155,9 @@ object_within_region : (c : Counts) (b : Bool) (path : List ℕ) (size : ℕ) (k
 object_within_region c true path size k e = refl
 object_within_region c false path size k e = pushed_below k.objects _ c.objects e.2
 
-screen_name_kept : (c : Counts) (frames : List Frame) (name : List ℕ) (size offset : ℕ) (k : Known) → Kept c k (with_screen_name frames name size offset k)
-screen_name_kept c frames name size offset k =
-    let q : Known = record k { screen_names = k.screen_names ++ record { path = name_after (path_in frames) name; size = size; offset = offset; objects_before = length k.objects } ∷ [] } in
+screen_name_kept : (c : Counts) (frames : List Frame) (name : List ℕ) (size : ℕ) (page : Page) (offset : ℕ) (k : Known) → Kept c k (with_screen_name frames name size page offset k)
+screen_name_kept c frames name size page offset k =
+    let q : Known = record k { screen_names = k.screen_names ++ record { path = name_after (path_in frames) name; size = size; page = page; offset = offset; objects_before = length k.objects } ∷ [] } in
     let here : Kept c k q = record { ends = λ e. e; within = λ e w. w } in
     unless_kept c (is_external frames) k q here
 
@@ -157,7 +166,7 @@ region_kept c frames n name size site.Own k = object_kept c (is_external frames)
 region_kept c frames n name size site.Nowhere k = kept c k
 region_kept c frames n name size site.Outside k = note_kept c E303 n.place k
 region_kept c frames n name size (site.Ram object offset) k = note_unless_kept c (nat_le (counted (offset + size)) (size_at k.objects object)) E303 n.place k
-region_kept c frames n name size (site.Screen offset) k = kept_then (note_unless_kept c (nat_le (counted (offset + size)) 4000) E303 n.place k) (screen_name_kept c frames name size offset _)
+region_kept c frames n name size (site.Screen page offset) k = kept_then (note_unless_kept c (nat_le (counted (offset + size)) page_size) E303 n.place k) (screen_name_kept c frames name size page offset _)
 
 region_is_within : (c : Counts) (frames : List Frame) (n : NameT) (name : List ℕ) (size : ℕ) (s : Site) (k : Known)
     → site_is_within c s ≡ true → Ends c (region_for frames n name size s k).1 → region_within c (region_for frames n name size s k).0 ≡ true
@@ -165,7 +174,7 @@ region_is_within c frames n name size site.Own k h e = object_within_region c (i
 region_is_within c frames n name size site.Nowhere k h e = refl
 region_is_within c frames n name size site.Outside k h e = refl
 region_is_within c frames n name size (site.Ram object offset) k h e = h
-region_is_within c frames n name size (site.Screen offset) k h e = refl
+region_is_within c frames n name size (site.Screen page offset) k h e = refl
 
 -- ---- names of several modules
 
@@ -242,9 +251,9 @@ region_lies c frames n name size site.Outside k e = refl
 region_lies c frames n name size (site.Ram object offset) k e =
     let fits = nat_le (counted (offset + size)) (size_at k.objects object) in
     ap (λ (os : List ObjectR). nat_le (counted (offset + size)) (size_at os object)) (noted_objects fits E303 n.place k) ∙ note_unless_holds c fits E303 n.place k e
-region_lies c frames n name size (site.Screen offset) k e =
-    let fits = nat_le (counted (offset + size)) 4000 in
-    note_unless_holds c fits E303 n.place k ((screen_name_kept c frames name size offset (note_unless fits E303 n.place k)).ends e)
+region_lies c frames n name size (site.Screen page offset) k e =
+    let fits = nat_le (counted (offset + size)) page_size in
+    note_unless_holds c fits E303 n.place k ((screen_name_kept c frames name size page offset (note_unless fits E303 n.place k)).ends e)
 
 region_of_lies : (c : Counts) (frames : List Frame) (n : NameT) (base : Option NameT) (t : Traits) (s : Site) (k : Known)
     → Ends c (region_of_variable frames n base t s k).1 → counted_holds (region_of_variable frames n base t s k).1.objects (size_of_shape t.shape) (region_of_variable frames n base t s k).0 ≡ true

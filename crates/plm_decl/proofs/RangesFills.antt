@@ -42,7 +42,7 @@ address_at_within c n (Some d) h = h
 
 address_within : (c : Counts) (n : ℕ) (r : Region) (d : Option ℕ) → nat_lt n c.variables ≡ true → maybe (datum_within c) (address_datum n r d) ≡ true
 address_within c n (region.Ram o x) d h = address_at_within c n d h
-address_within c n (region.Screen x) d h = address_at_within c n d h
+address_within c n (region.Screen page x) d h = address_at_within c n d h
 address_within c n (region.Based v) d h = refl
 address_within c n region.Nowhere d h = address_at_within c n d h
 
@@ -130,13 +130,13 @@ given_at_within c o d (Some x) k is h g w = (w.0, all_set (object_within c) k.ob
 
 given_in_ends : (c : Counts) (r : Region) (d : Datum) (k : Known) → Ends c (given_in r d k) → Ends c k
 given_in_ends c (region.Ram o x) d k e = given_at_ends c o d (slice_get k.objects o) k e
-given_in_ends c (region.Screen x) d k e = e
+given_in_ends c (region.Screen page x) d k e = e
 given_in_ends c (region.Based v) d k e = e
 given_in_ends c region.Nowhere d k e = e
 
 given_in_within : (c : Counts) (r : Region) (d : Datum) (k : Known) → datum_within c d ≡ true → Within c k → Within c (given_in r d k)
 given_in_within c (region.Ram o x) d k h w = given_at_within c o d (slice_get k.objects o) k refl h (got (object_within c) k.objects o w.1) w
-given_in_within c (region.Screen x) d k h w = w
+given_in_within c (region.Screen page x) d k h w = w
 given_in_within c (region.Based v) d k h w = w
 given_in_within c region.Nowhere d k h w = w
 

@@ -6,6 +6,7 @@ use Rattle.std.proofs.lemmas.List.{length-set}
 use Rattle.std.proofs.lemmas.List.Sums.{sum_by-cons}
 use Rattle.std.proofs.lemmas.Bool.Decides.{nat_tests}
 use Rattle.word86.specs.declared.number.Number.TheVariants.{E308, E310}
+use Rattle.word86.specs.MemoryMap.{data_room}
 use Rattle.plm_token.specs.Names.{normal}
 use Rattle.plm_syntax.specs.Tree.{ModuleT, ModuleOf}
 use Rattle.plm_decl.specs.declared.names.Variable.{Variable}
@@ -170,9 +171,9 @@ joined_room k e =
     let p = program_fault (nat_eq (length q.mains) 1) (record { «module» = 0; place = start; number = E308 }) q in
     ap have_room (fault_objects (have_room p.objects) (record { «module» = 0; place = start; number = E310 }) p) ∙ fault_holds (have_room p.objects) (record { «module» = 0; place = start; number = E310 }) p e
 
-sizes_from : (b : ℕ) (os : List Object) → bytes_from b (map object_of os) ≤ 61438 → b + sum_by (λ o. o.size) os ≤ 61438
+sizes_from : (b : ℕ) (os : List Object) → bytes_from b (map object_of os) ≤ data_room → b + sum_by (λ o. o.size) os ≤ data_room
 sizes_from b [] h = omega arith
 sizes_from b (o ∷ os) h = let rest = sizes_from (counted (b + o.size)) os h in omega (arith, rest, sum_by-cons (λ (o : Object). o.size) o os)
 
-pub sizes_within : (os : List Object) → have_room (map object_of os) ≡ true → sum_by (λ o. o.size) os ≤ 61438
-sizes_within os h = let here : bytes_from 0 (map object_of os) ≤ 61438 = grind (arith, nat_tests) in omega (arith, sizes_from 0 os here)
+pub sizes_within : (os : List Object) → have_room (map object_of os) ≡ true → sum_by (λ o. o.size) os ≤ data_room
+sizes_within os h = let here : bytes_from 0 (map object_of os) ≤ data_room = grind (arith, nat_tests) in omega (arith, sizes_from 0 os here)

@@ -5,7 +5,7 @@ use Rattle.plm_token.specs.Names.{normal}
 use Rattle.plm_syntax.specs.declared.tree.Position.{Position}
 use Rattle.plm_syntax.specs.declared.tree.Linkage.TheVariants as linkage
 use Rattle.plm_syntax.specs.Terminal.{NameT}
-use Rattle.plm_syntax.specs.Tree.{VariableT, DimensionT, TypeT, AttributesT, ElementT, LiteralElement, VariableElement, BasicT, IfS, IfElseS, DoS, WhileS, CaseS, IterateS, StatementT, Labelled, StatementsT, BlockT, BlockOf, ItemsT, no_items, items, ItemT, DeclareI, ProcedureI, ModuleT, ModuleOf}
+use Rattle.plm_syntax.specs.Tree.{VariableT, DimensionT, TypeT, AttributesT, ElementT, LiteralElement, VariableElement, BasicT, EmptyS, AssignS, CallS, ReturnS, ReturnValueS, EnableS, DisableS, HaltS, IfS, IfElseS, DoS, WhileS, CaseS, IterateS, StatementT, Labelled, StatementsT, BlockT, BlockOf, ItemsT, no_items, items, ItemT, DeclareI, ProcedureI, ModuleT, ModuleOf}
 use Rattle.plm_syntax.specs.Tree as tree
 use Rattle.plm_decl.specs.declared.layout.ScalarType.TheVariants.{Byte}
 use Rattle.plm_decl.specs.declared.layout.Form.TheVariants as form
@@ -115,7 +115,14 @@ abbrev mutual
   basic_in blocks label (IterateS p i a b s ss n) k =
       let m = used (scope_at blocks) i k in let r = expression (scope_at blocks) a m.1 in let q = expression (scope_at blocks) b r.1 in
       let u = step_for (scope_at blocks) s q.1 in let w = statements_in blocks ss u.1 in (IterateR p i.place m.0 r.0 q.0 u.0 w.0, w.1)
-  basic_in blocks label b k = basic (scope_at blocks) label b k
+  basic_in blocks label (EmptyS p) k = basic (scope_at blocks) label (EmptyS p) k
+  basic_in blocks label (AssignS xs e) k = basic (scope_at blocks) label (AssignS xs e) k
+  basic_in blocks label (CallS p x) k = basic (scope_at blocks) label (CallS p x) k
+  basic_in blocks label (ReturnS p) k = basic (scope_at blocks) label (ReturnS p) k
+  basic_in blocks label (ReturnValueS p e) k = basic (scope_at blocks) label (ReturnValueS p e) k
+  basic_in blocks label (EnableS p) k = basic (scope_at blocks) label (EnableS p) k
+  basic_in blocks label (DisableS p) k = basic (scope_at blocks) label (DisableS p) k
+  basic_in blocks label (HaltS p) k = basic (scope_at blocks) label (HaltS p) k
 
   pub statements_in : List Before → StatementsT → Known → StatementsR × Known
   statements_in blocks tree.no_statements k = (no_statements, k)

@@ -41,7 +41,8 @@ character_datum Pointer c = None
 
 -- a WORD takes an offset, a POINTER a location
 abbrev pub takes : ScalarType → LocationForm → Bool
-takes Byte f = false
+takes Byte form.Offset = false
+takes Byte form.Pointer = false
 takes Word form.Offset = true
 takes Word form.Pointer = false
 takes Pointer form.Offset = false

@@ -1,14 +1,15 @@
 -- The names that a program declares again, read off its trees alone: each has the normal form of an earlier name of the same
 -- block, list of parameters or structure. They come in the order of reading: members before the names of their element, and
 -- what stands in a procedure before its parameters.
-use Rattle.std.specs.Prelude.{ℕ, ◌+◌, List, [], ◌∷◌, ◌++◌, map, filter, Bool, true, false, cond}
+use Rattle.std.specs.Prelude.{ℕ, ◌+◌, List, [], ◌∷◌, ◌++◌, map, filter, Bool, cond, nat_eq}
 use Rattle.word86.specs.declared.number.Number.{Number}
 use Rattle.word86.specs.declared.number.Number.TheVariants.{E302}
 use Rattle.plm_token.specs.Names.{normal}
 use Rattle.plm_syntax.specs.declared.tree.Position.{Position}
 use Rattle.plm_syntax.specs.Terminal.{NameT}
-use Rattle.plm_syntax.specs.Tree.{VariableT, MemberT, TypeT, ScalarType, StructureType, ElementT, LiteralElement, VariableElement, BasicT, IfS, IfElseS, DoS, WhileS, CaseS, IterateS, StatementT, Labelled, StatementsT, no_statements, statements, BlockT, BlockOf, ItemsT, no_items, items, ItemT, DeclareI, ProcedureI, ModuleT, ModuleOf}
+use Rattle.plm_syntax.specs.Tree.{VariableT, MemberT, TypeT, ScalarType, StructureType, ElementT, LiteralElement, VariableElement, BasicT, EmptyS, AssignS, CallS, ReturnS, ReturnValueS, EnableS, DisableS, HaltS, IfS, IfElseS, DoS, WhileS, CaseS, IterateS, StatementT, Labelled, StatementsT, no_statements, statements, BlockT, BlockOf, ItemsT, no_items, items, ItemT, DeclareI, ProcedureI, ModuleT, ModuleOf}
 use Rattle.plm_decl.specs.declared.found.Found.{Found}
+use Rattle.plm_decl.specs.Found.{code_of}
 use Rattle.plm_decl.specs.Lists.{name_list, member_list, element_list}
 use Rattle.plm_decl.specs.Shape.{member_names}
 use Rattle.plm_decl.specs.Elements.{declared_list}
@@ -75,7 +76,14 @@ abbrev mutual
   again_in_basic (WhileS p e ss n) = again_in_statements ss
   again_in_basic (CaseS p e ss n) = again_in_statements ss
   again_in_basic (IterateS p i a b s ss n) = again_in_statements ss
-  again_in_basic b = []
+  again_in_basic (EmptyS p) = []
+  again_in_basic (AssignS xs e) = []
+  again_in_basic (CallS p x) = []
+  again_in_basic (ReturnS p) = []
+  again_in_basic (ReturnValueS p e) = []
+  again_in_basic (EnableS p) = []
+  again_in_basic (DisableS p) = []
+  again_in_basic (HaltS p) = []
 
 -- ---- programs
 
@@ -97,8 +105,7 @@ declared_again ms = again_from 0 ms
 -- ---- among faults
 
 abbrev pub is_twice : Number → Bool
-is_twice E302 = true
-is_twice n = false
+is_twice n = nat_eq (code_of n) (code_of E302)
 
 -- the E302 among some faults
 abbrev pub second_declarations : List Found → List Found

@@ -1,10 +1,13 @@
 -- Declarations of variables.
-use Rattle.std.specs.Prelude.{ℕ, ◌+◌, ◌*◌, ◌-◌, List, [], ◌∷◌, ◌++◌, length, slice_get, Bool, true, false, not, cond, ◌&&◌, ◌||◌, nat_eq, nat_le, is_some, Option, Some, None}
+use Rattle.std.specs.Prelude.{ℕ, ◌+◌, ◌*◌, ◌-◌, List, [], ◌∷◌, ◌++◌, length, slice_get, Bool, true, false, not, cond, ◌&&◌, ◌||◌, nat_eq, nat_le, nat_lt, is_some, Option, Some, None}
 use Rattle.plm_decl.specs.Lists.{bind}
 use Rattle.std.specs.List.{list_any}
 use Rattle.std.specs.Option.{option_map_or}
 use Rattle.word86.specs.declared.number.Number.{Number}
 use Rattle.word86.specs.declared.number.Number.TheVariants.{E302, E303, E304, E307}
+use Rattle.word86.specs.declared.page.Page.{Page}
+use Rattle.word86.specs.declared.page.Page.TheVariants.{Monochrome, Colour}
+use Rattle.word86.specs.Page.{page_at, page_size}
 use Rattle.plm_token.specs.Names.{normal}
 use Rattle.plm_syntax.specs.declared.tree.Position.{Position}
 use Rattle.plm_syntax.specs.declared.tree.Linkage.{Linkage}
@@ -33,7 +36,7 @@ use Rattle.plm_decl.specs.Regions.{size_at}
 use Rattle.plm_decl.specs.Resolver.{Known, note, note_unless, note_whole}
 use Rattle.plm_decl.specs.Lists.{value_list, variable_list}
 use Rattle.plm_decl.specs.Uses.{used}
-use Rattle.plm_decl.specs.Resolved.{ExpressionR, NumberR, ExpressionsR, no_expressions, expressions, SelectorR, no_member, member, member_at, ReferenceR', Use, LocationOf}
+use Rattle.plm_decl.specs.Resolved.{ExpressionR, NumberR, TextR, ReferenceR, LocationR, ParenthesisedR, EmbeddedR, UnaryR, BinaryR, ExpressionsR, no_expressions, expressions, SelectorR, no_member, member, member_at, ReferenceR', Use, LocationOf}
 use Rattle.plm_decl.specs.Expressions.{variable_meant, reference}
 use Rattle.plm_decl.specs.Shape.{size_of_shape}
 
@@ -41,7 +44,13 @@ use Rattle.plm_decl.specs.Shape.{size_of_shape}
 
 abbrev pub number_in : ExpressionR → Option ℕ
 number_in (NumberR n) = Some n.value
-number_in e = None
+number_in (TextR p s) = None
+number_in (ReferenceR x) = None
+number_in (LocationR l) = None
+number_in (ParenthesisedR p e) = None
+number_in (EmbeddedR p x e) = None
+number_in (UnaryR p o e) = None
+number_in (BinaryR p o a b) = None
 
 abbrev pub are_numbers : ExpressionsR → Bool
 are_numbers no_expressions = true
@@ -69,7 +78,7 @@ distance k (Use p m es s) =
 -- the next name of an element stands after this one
 abbrev pub site_after : Site → ℕ → Site
 site_after (site.Ram object offset) size = site.Ram object (counted (offset + size))
-site_after (site.Screen offset) size = site.Screen (counted (offset + size))
+site_after (site.Screen page offset) size = site.Screen page (counted (offset + size))
 site_after site.Own size = site.Own
 site_after site.Nowhere size = site.Nowhere
 site_after site.Outside size = site.Outside
@@ -77,7 +86,7 @@ site_after site.Outside size = site.Outside
 abbrev pub site_within : Region → Option ℕ → Site
 site_within (region.Ram object offset) (Some d) = site.Ram object (counted (offset + d))
 site_within (region.Ram object offset) None = site.Outside
-site_within (region.Screen offset) d = site.Outside
+site_within (region.Screen page offset) d = site.Outside
 site_within (region.Based v) d = site.Outside
 site_within region.Nowhere d = site.Outside
 
@@ -124,9 +133,19 @@ site_of k (Use p (binding.Procedure q) es s) = site.Outside
 site_of k (Use p (binding.Builtin b) es s) = site.Outside
 site_of k (Use p binding.Nothing es s) = site.Nowhere
 
--- the screen begins at 0B8000H
+-- a number is the address of a byte of this page
+abbrev pub is_in_page : Page → ℕ → Bool
+is_in_page page n = nat_le (page_at page) n && nat_lt (n - page_at page) page_size
+
+abbrev pub page_site : Page → ℕ → Site → Site
+page_site page n other = cond (is_in_page page n) (site.Screen page (n - page_at page)) other
+
+-- AT of a number: onto the byte of a page that has this address
 abbrev pub screen_site : ℕ → Site
-screen_site n = cond (nat_le 0xB8000 n) (site.Screen (n - 0xB8000)) site.Outside
+screen_site n =
+    page_site Monochrome n (
+    page_site Colour n
+    site.Outside)
 
 abbrev pub location_site : List Frame → LocationT → Known → Site × Known
 location_site frames (tree.ConstantsOf p f vs) k = (site.Outside, k)
@@ -155,7 +174,7 @@ is_plain_form (form.Structure n) = false
 abbrev pub is_based : Region → Bool
 is_based (region.Based v) = true
 is_based (region.Ram o n) = false
-is_based (region.Screen n) = false
+is_based (region.Screen page n) = false
 is_based region.Nowhere = false
 
 -- a plain scalar, WORD or POINTER, that is not itself based
@@ -187,18 +206,18 @@ own_region frames name size k = cond (is_external frames) (region.Nowhere, k)
     (region.Ram (length k.objects) 0, record k { objects = k.objects ++ record { path = name_after (path_in frames) name; size = size; initial = [] } ∷ [] })
 
 -- what an EXTERNAL procedure declares is no name of the program's on the screen
-abbrev pub with_screen_name : List Frame → List ℕ → ℕ → ℕ → Known → Known
-with_screen_name frames name size offset k = cond (is_external frames) k
-    (record k { screen_names = k.screen_names ++ record { path = name_after (path_in frames) name; size = size; offset = offset; objects_before = length k.objects } ∷ [] })
+abbrev pub with_screen_name : List Frame → List ℕ → ℕ → Page → ℕ → Known → Known
+with_screen_name frames name size page offset k = cond (is_external frames) k
+    (record k { screen_names = k.screen_names ++ record { path = name_after (path_in frames) name; size = size; page = page; offset = offset; objects_before = length k.objects } ∷ [] })
 
--- a name that is not based lies wholly in its object, or in the screen's 4,000 bytes
+-- a name that is not based lies wholly in its object, or in its page of the screen
 abbrev pub region_for : List Frame → NameT → List ℕ → ℕ → Site → Known → Region × Known
 region_for frames n name size site.Own k = own_region frames name size k
 region_for frames n name size site.Nowhere k = (region.Nowhere, k)
 region_for frames n name size site.Outside k = (region.Nowhere, note E303 n.place k)
 region_for frames n name size (site.Ram object offset) k = (region.Ram object offset, note_unless (nat_le (counted (offset + size)) (size_at k.objects object)) E303 n.place k)
-region_for frames n name size (site.Screen offset) k =
-    (region.Screen offset, with_screen_name frames name size offset (note_unless (nat_le (counted (offset + size)) 4000) E303 n.place k))
+region_for frames n name size (site.Screen page offset) k =
+    (region.Screen page offset, with_screen_name frames name size page offset (note_unless (nat_le (counted (offset + size)) page_size) E303 n.place k))
 
 -- ---- names of several modules
 
@@ -252,7 +271,7 @@ variable_declared n t r frames =
 abbrev pub is_nowhere : Site → Bool
 is_nowhere site.Own = false
 is_nowhere (site.Ram object offset) = false
-is_nowhere (site.Screen offset) = false
+is_nowhere (site.Screen page offset) = false
 is_nowhere site.Nowhere = true
 is_nowhere site.Outside = false
 

@@ -37,7 +37,7 @@ address_at n (Some d) = Some (datum.Variable n (d % 65536))
 abbrev pub address_datum : ℕ → Region → Option ℕ → Option Datum
 address_datum n (region.Based v) d = None
 address_datum n (region.Ram o x) d = address_at n d
-address_datum n (region.Screen x) d = address_at n d
+address_datum n (region.Screen page x) d = address_at n d
 address_datum n region.Nowhere d = address_at n d
 
 abbrev pub variable_datum : ℕ → Option Variable → Option ℕ → Option Datum
@@ -90,7 +90,7 @@ given_at object d (Some o) k = record k { objects = slice_set k.objects object (
 
 abbrev pub given_in : Region → Datum → Known → Known
 given_in (region.Ram object offset) d k = given_at object d (slice_get k.objects object) k
-given_in (region.Screen offset) d k = k
+given_in (region.Screen page offset) d k = k
 given_in (region.Based v) d k = k
 given_in region.Nowhere d k = k
 

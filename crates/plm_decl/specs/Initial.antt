@@ -14,7 +14,7 @@ module _ (offsets : List ℕ) (variables : List Variable) where
   -- where a variable lies in the data segment
   abbrev pub region_address : Region → ℕ
   region_address (region.Ram k start) = slice_index offsets k + start
-  region_address (region.Screen start) = 0
+  region_address (region.Screen page start) = 0
   region_address (region.Based b) = 0
   region_address region.Nowhere = 0
 

@@ -1,6 +1,7 @@
 -- What joins the modules: EXTERNAL names and their PUBLIC ones, and the faults of the whole program.
 use Rattle.std.specs.Prelude.{ℕ, ◌+◌, List, [], ◌∷◌, ◌++◌, length, slice_get, slice_set, Bool, true, false, cond, ◌&&◌, nat_eq, nat_le, Option, Some, None}
 use Rattle.word86.specs.declared.number.Number.TheVariants.{E306, E308, E310}
+use Rattle.word86.specs.MemoryMap.{data_room}
 use Rattle.plm_syntax.specs.Tree.{ModuleT, ModuleOf, BlockT, BlockOf, no_statements, statements}
 use Rattle.plm_token.specs.Names.{normal}
 use Rattle.plm_decl.specs.declared.layout.ScalarType.{ScalarType}
@@ -26,9 +27,14 @@ use Rattle.plm_decl.specs.Statements.{block}
 
 abbrev pub same_scalar : ScalarType → ScalarType → Bool
 same_scalar Byte Byte = true
+same_scalar Byte Word = false
+same_scalar Byte Pointer = false
+same_scalar Word Byte = false
 same_scalar Word Word = true
+same_scalar Word Pointer = false
+same_scalar Pointer Byte = false
+same_scalar Pointer Word = false
 same_scalar Pointer Pointer = true
-same_scalar a b = false
 
 abbrev pub same_dimension : Option ℕ → Option ℕ → Bool
 same_dimension None None = true
@@ -135,9 +141,9 @@ abbrev pub bytes_from : ℕ → List ObjectR → ℕ
 bytes_from before [] = before
 bytes_from before (o ∷ os) = bytes_from (counted (before + o.size)) os
 
--- RAM objects have together at most 61,438 bytes
+-- RAM objects have room together
 abbrev pub have_room : List ObjectR → Bool
-have_room os = nat_le (bytes_from 0 os) 61438
+have_room os = nat_le (bytes_from 0 os) data_room
 
 abbrev pub program_fault : Bool → Found → Known → Known
 program_fault holds f k = cond holds k (note_whole f k)

@@ -1,5 +1,6 @@
 -- What `Names` holds, as plain values.
 use Rattle.std.specs.Prelude.{ℕ, List, Option}
+use Rattle.word86.specs.declared.page.Page.{Page}
 use Rattle.plm_syntax.specs.declared.tree.Position.{Position}
 use Rattle.plm_syntax.specs.declared.tree.Linkage.{Linkage}
 use Rattle.plm_decl.specs.declared.layout.ScalarType.{ScalarType}
@@ -18,10 +19,11 @@ pub record ObjectR : Type 0 where
   pub size : ℕ
   pub initial : List Datum
 
--- a name on the screen, how many bytes after 0B8000H it begins, and how many RAM objects are declared before it
+-- a name on a page of the screen, how many bytes after the page's first it begins, and how many RAM objects are declared before it
 pub record ScreenNameR : Type 0 where
   pub path : List ℕ
   pub size : ℕ
+  pub page : Page
   pub offset : ℕ
   pub objects_before : ℕ
 
@@ -53,7 +55,7 @@ abbrev pub object_of : Object → ObjectR
 object_of o = record { path = o.path.items; size = o.size; initial = o.initial.items }
 
 abbrev pub screen_name_of : ScreenName → ScreenNameR
-screen_name_of s = record { path = s.path.items; size = s.size; offset = s.offset; objects_before = s.objects_before }
+screen_name_of s = record { path = s.path.items; size = s.size; page = s.page; offset = s.offset; objects_before = s.objects_before }
 
 abbrev pub procedure_of : Procedure → ProcedureR
 procedure_of p = record {

@@ -3,7 +3,7 @@
 use Rattle.std.specs.Prelude.{◌≡◌, ℕ, ◌+◌, ◌<◌, List, [], ◌∷◌, ◌++◌, map, Bool, true, false, not, cond, ◌||◌, Some, None}
 use Rattle.std.specs.List.{AllPairs}
 use Rattle.plm_syntax.specs.declared.tree.Position.{Position}
-use Rattle.plm_syntax.specs.Tree.{VariableT, VariableOf, no_at, at_number, at_location, AttributesT, External, Attributes, ElementT, LiteralElement, VariableElement, BasicT, IfS, IfElseS, DoS, WhileS, CaseS, IterateS, StatementT, Labelled, StatementsT, no_statements, statements, BlockT, BlockOf, ItemsT, no_items, items, ItemT, DeclareI, ProcedureI, ModuleT, ModuleOf}
+use Rattle.plm_syntax.specs.Tree.{VariableT, VariableOf, no_at, at_number, at_location, AttributesT, External, Attributes, ElementT, LiteralElement, VariableElement, BasicT, EmptyS, AssignS, CallS, ReturnS, ReturnValueS, EnableS, DisableS, HaltS, IfS, IfElseS, DoS, WhileS, CaseS, IterateS, StatementT, Labelled, StatementsT, no_statements, statements, BlockT, BlockOf, ItemsT, no_items, items, ItemT, DeclareI, ProcedureI, ModuleT, ModuleOf}
 use Rattle.plm_decl.specs.declared.names.Region.TheVariants as region
 use Rattle.plm_decl.specs.declared.names.Variable.{Variable}
 use Rattle.plm_decl.specs.declared.names.Names.{Names}
@@ -66,7 +66,14 @@ abbrev mutual
   own_in_basic external (WhileS p e ss n) = own_in_statements external ss
   own_in_basic external (CaseS p e ss n) = own_in_statements external ss
   own_in_basic external (IterateS p i a b s ss n) = own_in_statements external ss
-  own_in_basic external b = []
+  own_in_basic external (EmptyS p) = []
+  own_in_basic external (AssignS xs e) = []
+  own_in_basic external (CallS p x) = []
+  own_in_basic external (ReturnS p) = []
+  own_in_basic external (ReturnValueS p e) = []
+  own_in_basic external (EnableS p) = []
+  own_in_basic external (DisableS p) = []
+  own_in_basic external (HaltS p) = []
 
 -- ---- programs
 

@@ -1,6 +1,8 @@
 -- Where the names of an element with AT lie: the first one where its location says, each other one behind the one before it.
-use Rattle.std.specs.Prelude.{◌≡◌, ℕ, ◌+◌, ◌-◌, ◌*◌, ◌≤◌, List, [], ◌∷◌, ◌++◌, map, length, slice_get, Bool, true, false, Some}
+use Rattle.std.specs.Prelude.{◌≡◌, ℕ, ◌+◌, ◌*◌, ◌<◌, List, [], ◌∷◌, ◌++◌, map, length, slice_get, Bool, true, false, Some}
 use Rattle.std.specs.List.{list_all}
+use Rattle.word86.specs.declared.page.Page.{Page}
+use Rattle.word86.specs.Page.{page_at, page_size}
 use Rattle.plm_syntax.specs.declared.tree.Position.{Position}
 use Rattle.plm_syntax.specs.Tree.{VariableT, DimensionT, TypeT, AtT, no_at, at_number, at_location, InitialT, Attributes}
 use Rattle.plm_decl.specs.declared.names.Region.{Region}
@@ -24,7 +26,7 @@ regions_of vs = map (λ v. v.region) vs
 -- where what begins behind so many bytes lies
 abbrev pub behind : Region → ℕ → Region
 behind (region.Ram object offset) bytes = region.Ram object (counted (offset + bytes))
-behind (region.Screen offset) bytes = region.Screen (counted (offset + bytes))
+behind (region.Screen page offset) bytes = region.Screen page (counted (offset + bytes))
 behind (region.Based v) bytes = region.Based v
 behind region.Nowhere bytes = region.Nowhere
 
@@ -35,7 +37,7 @@ one_behind_the_other here size (v ∷ vs) = here ∷ one_behind_the_other (behin
 
 abbrev pub place_at : Site → Region
 place_at (site.Ram object offset) = region.Ram object offset
-place_at (site.Screen offset) = region.Screen offset
+place_at (site.Screen page offset) = region.Screen page offset
 place_at site.Own = region.Nowhere
 place_at site.Nowhere = region.Nowhere
 place_at site.Outside = region.Nowhere
@@ -45,9 +47,13 @@ HasAt no_at = ⊥
 HasAt (at_number n) = Unit {0}
 HasAt (at_location l) = Unit {0}
 
--- AT of a number names a byte of the screen, which begins at 0B8000H
+-- AT of a number names the byte of a page that has this address
 abbrev pub NumberIsOnTheScreen : Type 0
-NumberIsOnTheScreen = (n : ℕ) → 0xB8000 ≤ n → place_at (screen_site n) ≡ region.Screen (n - 0xB8000)
+NumberIsOnTheScreen = (page : Page) (offset : ℕ) → offset < page_size → place_at (screen_site (page_at page + offset)) ≡ region.Screen page offset
+
+-- a number that is the address of no byte of a page, as those before the pages and between them, names no place
+abbrev pub NumberIsOutside : Type 0
+NumberIsOutside = (n : ℕ) → ((page : Page) (offset : ℕ) → offset < page_size → ¬ (n ≡ page_at page + offset)) → screen_site n ≡ site.Outside
 
 -- AT of a variable names the first of the variable's bytes in its object, further on by the elements before the one of its subscript, and
 -- by the bytes before its member

@@ -94,7 +94,7 @@ form_within c (form.Structure n) = nat_lt n c.structures
 
 abbrev pub region_within : Counts → Region → Bool
 region_within c (region.Ram object offset) = nat_lt object c.objects
-region_within c (region.Screen offset) = true
+region_within c (region.Screen page offset) = true
 region_within c (region.Based v) = nat_lt v c.variables
 region_within c region.Nowhere = true
 

@@ -2,6 +2,7 @@
 use Rattle.std.specs.Prelude.{ℕ, ◌+◌, ◌*◌, List, slice_get, Bool, true, nat_le}
 use Rattle.std.specs.List.{list_all}
 use Rattle.std.specs.Option.{option_map_or}
+use Rattle.word86.specs.Page.{page_size}
 use Rattle.plm_decl.specs.declared.names.Region.{Region}
 use Rattle.plm_decl.specs.declared.names.Region.TheVariants as region
 use Rattle.plm_decl.specs.declared.names.Variable.{Variable}
@@ -12,10 +13,10 @@ use Rattle.plm_decl.specs.Names.{ObjectR}
 abbrev pub size_at : List ObjectR → ℕ → ℕ
 size_at os object = option_map_or (λ o. o.size) (slice_get os object) 0
 
--- this many bytes from the first of a region on lie in its RAM object, or in the screen's 4,000 bytes
+-- this many bytes from the first of a region on lie in its RAM object, or in its page of the screen
 abbrev pub region_holds : List ObjectR → ℕ → Region → Bool
 region_holds os size (region.Ram object offset) = nat_le (offset + size) (size_at os object)
-region_holds os size (region.Screen offset) = nat_le (offset + size) 4000
+region_holds os size (region.Screen page offset) = nat_le (offset + size) page_size
 region_holds os size (region.Based v) = true
 region_holds os size region.Nowhere = true
 

@@ -1,7 +1,7 @@
 //! What a value fills a scalar with.
 
 ghost use Rattle.std.specs.Prelude.{◌≡◌};
-ghost use Rattle.plm_decl.specs.Datum.{character_datum, number_datum, takes, text_datum};
+ghost use Rattle.plm_decl.specs.Datum.{character_datum, number_datum, takes, text_datum, word_datum};
 
 use crate::layout::ScalarType;
 use crate::names::Datum;
@@ -24,13 +24,10 @@ pub fn number_datum(scalar: ScalarType, value: u32, negative: bool) -> Option<Da
     }
 }
 
-/// A string in a WORD: one character, or two with the first high.
-pub fn text_datum(scalar: ScalarType, characters: &[u8]) -> Option<Datum>
-    ensures { result ≡ text_datum scalar characters.now }
+/// The characters of a string in a WORD: one, or two with the first high.
+fn word_datum(characters: &[u8]) -> Option<Datum>
+    ensures { result ≡ word_datum characters.now }
 {
-    if scalar != ScalarType::Word {
-        return None;
-    }
     match characters {
         [low] => Some(Datum::Word(u16::from(*low))),
         [high, low] => Some(Datum::Word(u16::from(*high) * 256 + u16::from(*low))),
@@ -38,13 +35,26 @@ pub fn text_datum(scalar: ScalarType, characters: &[u8]) -> Option<Datum>
     }
 }
 
+/// A string in a scalar.
+pub fn text_datum(scalar: ScalarType, characters: &[u8]) -> Option<Datum>
+    ensures { result ≡ text_datum scalar characters.now }
+{
+    match scalar {
+        ScalarType::Word => word_datum(characters),
+        ScalarType::Byte | ScalarType::Pointer => None,
+    }
+}
+
 /// Whether a location of this form goes into this scalar.
 pub fn takes(scalar: ScalarType, form: LocationForm) -> bool
     ensures { result ≡ takes scalar form }
 {
-    match form {
-        LocationForm::Pointer => scalar == ScalarType::Pointer,
-        LocationForm::Offset => scalar == ScalarType::Word,
+    match (scalar, form) {
+        (ScalarType::Word, LocationForm::Offset) => true,
+        (ScalarType::Pointer, LocationForm::Pointer) => true,
+        (ScalarType::Byte, LocationForm::Offset | LocationForm::Pointer) => false,
+        (ScalarType::Word, LocationForm::Pointer) => false,
+        (ScalarType::Pointer, LocationForm::Offset) => false,
     }
 }
 

@@ -28,12 +28,7 @@ use plm_syntax::{
 use plm_token::normal;
 use std::alloc::AllocError;
 use std::slice;
-use word86::Number;
-
-/// The first address of the screen, and its bytes.
-const SCREEN: u32 = 0xB_8000;
-
-const SCREEN_LENGTH: u64 = 4000;
+use word86::{Number, PAGE_SIZE, Page};
 
 /// Where the next name of an element goes.
 #[derive(Clone, Copy)]
@@ -42,8 +37,8 @@ enum Site {
     Own,
     /// Into a RAM object, this many bytes after its first.
     Ram(usize, u64),
-    /// Onto the screen, this many bytes after its first.
-    Screen(u64),
+    /// Onto a page of the screen, this many bytes after its first.
+    Screen(Page, u64),
     /// Nowhere: it is EXTERNAL, or the location of its AT is faulty itself.
     Nowhere,
     /// AT names a place where no name may lie.
@@ -66,10 +61,42 @@ impl Site {
     {
         match self {
             Site::Ram(object, offset) => Site::Ram(object, offset.saturating_add(size)),
-            Site::Screen(offset) => Site::Screen(offset.saturating_add(size)),
-            other => other,
+            Site::Screen(page, offset) => Site::Screen(page, offset.saturating_add(size)),
+            Site::Own => Site::Own,
+            Site::Nowhere => Site::Nowhere,
+            Site::Outside => Site::Outside,
         }
     }
+
+    /// Whether it is nowhere.
+    fn is_nowhere(self) -> bool
+        ensures { result ≡ spec.is_nowhere self }
+    {
+        match self {
+            Site::Nowhere => true,
+            Site::Own | Site::Ram(..) | Site::Screen(..) | Site::Outside => false,
+        }
+    }
+}
+
+/// The byte of this page that has this address, or else the other site.
+fn page_site(page: Page, address: u32, other: Site) -> Site
+    ensures { result ≡ spec.page_site page address other }
+{
+    let begins = page.address();
+    if begins <= address && address - begins < PAGE_SIZE as u32 {
+        Site::Screen(page, u64::from(address - begins))
+    } else {
+        other
+    }
+}
+
+/// The byte of the screen that has this address.
+fn screen_site(address: u32) -> Site
+    ensures { result ≡ spec.screen_site address }
+{
+    let other = page_site(Page::Colour, address, Site::Outside);
+    page_site(Page::Monochrome, address, other)
 }
 
 #[tactic(auto, using(crate::proofs::ListViews::variable_list_from))]
@@ -100,13 +127,13 @@ fn values<'v, 'a>(attributes: &'v Attributes<'a>) -> &'v [Value<'a>]
 fn is_data(attributes: &Attributes<'_>) -> bool
     ensures { result ≡ spec.is_data (attributes_of attributes.now) }
 {
-    matches!(
-        attributes,
-        Attributes::Own {
-            initial: Initial::Data(_),
-            ..
-        }
-    )
+    match attributes {
+        Attributes::External => false,
+        Attributes::Own { initial, .. } => match initial {
+            Initial::None | Initial::Initial(_) => false,
+            Initial::Data(_) => true,
+        },
+    }
 }
 
 fn is_placed(attributes: &Attributes<'_>) -> bool
@@ -114,7 +141,10 @@ fn is_placed(attributes: &Attributes<'_>) -> bool
 {
     match attributes {
         Attributes::External => false,
-        Attributes::Own { at, .. } => !matches!(at, At::None),
+        Attributes::Own { at, .. } => match at {
+            At::None => false,
+            At::Numeral(_) | At::Location(_) => true,
+        },
     }
 }
 
@@ -133,7 +163,10 @@ fn has_values(attributes: &Attributes<'_>) -> bool
 {
     match attributes {
         Attributes::External => false,
-        Attributes::Own { initial, .. } => !matches!(initial, Initial::None),
+        Attributes::Own { initial, .. } => match initial {
+            Initial::None => false,
+            Initial::Initial(_) | Initial::Data(_) => true,
+        },
     }
 }
 
@@ -162,7 +195,12 @@ fn number(e: &Expression) -> Option<u64>
         } else {
             None
         },
-        _ => None,
+        Expression::Text(..)
+        | Expression::Reference(_)
+        | Expression::Location(_)
+        | Expression::Parenthesised(..)
+        | Expression::Embedded(..)
+        | Expression::Unary(..) => None,
     }
 }
 
@@ -237,8 +275,8 @@ fn takes_member(form: Form, selector: &Selector) -> bool
     ensures { result ≡ spec.takes_member form (view.selector_of selector.now) }
 {
     match (form, selector) {
-        (_, Selector::None) => true,
-        (Form::Scalar(_), _) => false,
+        (Form::Scalar(_) | Form::Structure(_), Selector::None) => true,
+        (Form::Scalar(_), Selector::Member(..) | Selector::Element(..)) => false,
         (Form::Structure(_), Selector::Member(_, member)) => member.is_some(),
         (Form::Structure(_), Selector::Element(_, Some(member), _)) => member.dimension.is_some(),
         (Form::Structure(_), Selector::Element(_, None, _)) => false,
@@ -256,12 +294,12 @@ fn has_shape(variable: &Variable, subscripts: &[Expression], selector: &Selector
 fn site_within(region: Region, distance: Option<u64>) -> Site
     ensures { result ≡ spec.site_within region distance }
 {
-    match (region, distance) {
-        (Region::Ram(object, offset), Some(distance)) => Site::Ram(
-            object,
-            offset.saturating_add(distance),
-        ),
-        _ => Site::Outside,
+    match region {
+        Region::Ram(object, offset) => match distance {
+            Some(distance) => Site::Ram(object, offset.saturating_add(distance)),
+            None => Site::Outside,
+        },
+        Region::Screen(..) | Region::Based(_) | Region::Nowhere => Site::Outside,
     }
 }
 
@@ -275,14 +313,40 @@ fn unplaced_site(distance: Option<u64>) -> Site
     }
 }
 
+/// Whether elements of this form are plain scalars, WORD or POINTER.
+fn is_plain_form(form: Form) -> bool
+    ensures { result ≡ spec.is_plain_form form }
+{
+    match form {
+        Form::Scalar(ScalarType::Word | ScalarType::Pointer) => true,
+        Form::Scalar(ScalarType::Byte) | Form::Structure(_) => false,
+    }
+}
+
+/// Whether it lies where another variable says.
+fn is_based(region: Region) -> bool
+    ensures { result ≡ spec.is_based region }
+{
+    match region {
+        Region::Based(_) => true,
+        Region::Ram(..) | Region::Screen(..) | Region::Nowhere => false,
+    }
+}
+
+/// Whether a base may be this variable.
+fn is_plain_base(variable: &Variable) -> bool
+    ensures { result ≡ spec.is_plain_base variable.now }
+{
+    variable.dimension.is_none() && is_plain_form(variable.form) && !is_based(variable.region)
+}
+
 /// Whether AT of a name of this linkage names no place. An EXTERNAL name goes nowhere too, without AT.
 fn names_no_place(linkage: Linkage, site: Site) -> bool
     ensures { result ≡ spec.names_no_place linkage site }
 {
-    match (linkage, site) {
-        (Linkage::External, _) => false,
-        (_, Site::Nowhere) => true,
-        _ => false,
+    match linkage {
+        Linkage::External => false,
+        Linkage::None | Linkage::Public => site.is_nowhere(),
     }
 }
 
@@ -363,36 +427,27 @@ impl Resolver {
     fn site(&mut self, scope: &Scope<'_>, attributes: &Attributes<'_>) -> Result<Site, AllocError>
         ensures { IfOk result (λ r. (r, known_of self.new) ≡ spec.first_site (frames_of scope.now) (attributes_of attributes.now) (known_of self.old)) }
     {
-        let Attributes::Own { at, .. } = attributes else {
-            return Ok(Site::Nowhere);
-        };
-        match at {
-            At::None => Ok(Site::Own),
-            At::Numeral(number) if number.value >= SCREEN => Ok(Site::Screen(u64::from(
-                number.value - SCREEN,
-            ))),
-            At::Numeral(_) => Ok(Site::Outside),
-            At::Location(location) => self.location_site(scope, location),
+        match attributes {
+            Attributes::External => Ok(Site::Nowhere),
+            Attributes::Own { at, .. } => match at {
+                At::None => Ok(Site::Own),
+                At::Numeral(number) => Ok(screen_site(number.value)),
+                At::Location(location) => self.location_site(scope, location),
+            },
         }
     }
 
-    /// Whether a base may be this: a plain scalar, WORD or POINTER, that is not itself based.
+    /// Whether a base may be this: a plain scalar, WORD or POINTER, that is not itself based. An undeclared one is no bad one.
     fn is_base(&self, binding: Binding) -> bool
         ensures { result ≡ spec.is_base (known_of self.now) binding }
     {
-        let Binding::Variable(number) = binding else {
-            return matches!(binding, Binding::Nothing);
-        };
-        match self.variables.get(number) {
-            Some(variable) => {
-                variable.dimension.is_none()
-                    && matches!(
-                        variable.form,
-                        Form::Scalar(ScalarType::Word | ScalarType::Pointer)
-                    )
-                    && !matches!(variable.region, Region::Based(_))
-            }
-            None => false,
+        match binding {
+            Binding::Variable(number) => match self.variables.get(number) {
+                Some(variable) => is_plain_base(variable),
+                None => false,
+            },
+            Binding::Procedure(_) | Binding::Builtin(_) => false,
+            Binding::Nothing => true,
         }
     }
 
@@ -411,7 +466,7 @@ impl Resolver {
         self.note_unless(is_base && !has_attribute, Number::E304, name.place)?;
         match binding {
             Binding::Variable(variable) => Ok(Region::Based(variable)),
-            _ => Ok(Region::Nowhere),
+            Binding::Procedure(_) | Binding::Builtin(_) | Binding::Nothing => Ok(Region::Nowhere),
         }
     }
 
@@ -453,9 +508,10 @@ impl Resolver {
         scope: &Scope<'_>,
         name: &[u8],
         size: u64,
+        page: Page,
         offset: u64,
     ) -> Result<(), AllocError>
-        ensures { OnOk result (known_of self.new ≡ spec.with_screen_name (frames_of scope.now) name.now size offset (known_of self.old)) }
+        ensures { OnOk result (known_of self.new ≡ spec.with_screen_name (frames_of scope.now) name.now size page offset (known_of self.old)) }
     {
         if scope.is_external() {
             return Ok(());
@@ -465,6 +521,7 @@ impl Resolver {
         self.screen_names.push(ScreenName {
             path,
             size,
+            page,
             offset,
             objects_before,
         })?;
@@ -498,14 +555,14 @@ impl Resolver {
                 )?;
                 Ok(Region::Ram(object, offset))
             }
-            Site::Screen(offset) => {
+            Site::Screen(page, offset) => {
                 self.note_unless(
-                    offset.saturating_add(size) <= SCREEN_LENGTH,
+                    offset.saturating_add(size) <= PAGE_SIZE as u64,
                     Number::E303,
                     name.place,
                 )?;
-                self.put_screen_name(scope, key, size, offset)?;
-                Ok(Region::Screen(offset))
+                self.put_screen_name(scope, key, size, page, offset)?;
+                Ok(Region::Screen(page, offset))
             }
         }
     }
@@ -567,7 +624,7 @@ impl Resolver {
         match (linkage, scope.is_external()) {
             (Linkage::Public, false) => self.put_public(name, item),
             (Linkage::External, false) => self.put_external(name, item),
-            _ => Ok(()),
+            (Linkage::None, _) | (Linkage::Public | Linkage::External, true) => Ok(()),
         }
     }
 

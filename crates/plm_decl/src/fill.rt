@@ -11,7 +11,7 @@ ghost use Rattle.plm_decl.specs.Inner.Fill.{filling_of};
 
 use crate::datum::{character_datum, number_datum, takes, text_datum};
 use crate::layout::ScalarType;
-use crate::names::{Datum, DeclaredLocation, Region, Variable};
+use crate::names::{Datum, DeclaredLocation, Region};
 use crate::resolved::{Binding, Location};
 use crate::resolver::Resolver;
 use crate::scope::Scope;
@@ -56,14 +56,23 @@ impl Cursor {
     }
 }
 
+/// The address that lies this many bytes after the first of a variable.
+fn address_at(variable: usize, distance: Option<u64>) -> Option<Datum>
+    ensures { result ≡ spec.address_at variable distance }
+{
+    match distance {
+        Some(distance) => Some(Datum::Variable(variable, (distance % 0x1_0000) as u16)),
+        None => None,
+    }
+}
+
 /// The address of a variable's byte; a based one has none.
 fn address_datum(variable: usize, region: Region, distance: Option<u64>) -> Option<Datum>
     ensures { result ≡ spec.address_datum variable region distance }
 {
-    match (region, distance) {
-        (Region::Based(_), _) => None,
-        (_, Some(distance)) => Some(Datum::Variable(variable, (distance % 0x1_0000) as u16)),
-        (_, None) => None,
+    match region {
+        Region::Based(_) => None,
+        Region::Ram(..) | Region::Screen(..) | Region::Nowhere => address_at(variable, distance),
     }
 }
 
@@ -138,16 +147,13 @@ impl Resolver {
     fn give(&mut self, variable: usize, datum: Datum) -> Result<(), AllocError>
         ensures { OnOk result (known_of self.new ≡ spec.given variable datum (known_of self.old)) }
     {
-        let object = match self.variables.get(variable) {
-            Some(
-                Variable {
-                    region: Region::Ram(object, _),
-                    ..
-                },
-            ) => *object,
-            _ => return Ok(()),
-        };
-        self.give_object(object, datum)
+        match self.variables.get(variable) {
+            Some(variable) => match variable.region {
+                Region::Ram(object, _) => self.give_object(object, datum),
+                Region::Screen(..) | Region::Based(_) | Region::Nowhere => Ok(()),
+            },
+            None => Ok(()),
+        }
     }
 
     /// Gives the name of this number among those that are filled one more initial value.
@@ -248,6 +254,21 @@ impl Resolver {
         Ok(cursor)
     }
 
+    /// Fills the scalar at the cursor with a value.
+    fn put_single(
+        &mut self,
+        scope: &Scope<'_>,
+        filling: Filling<'_, '_>,
+        cursor: Cursor,
+        value: &Value<'_>,
+    ) -> Result<Cursor, AllocError>
+        ensures { IfOk result (λ r. (r, known_of self.new) ≡ spec.put_single (frames_of scope.now) (filling_of filling.entry) cursor (value_of value.now) (known_of self.old)) }
+    {
+        let scalar = self.scalar_at(filling.shape.form, cursor.scalar);
+        let datum = self.datum(scope, scalar, value)?;
+        self.put(filling, cursor, datum)
+    }
+
     /// Fills with a value from the cursor on.
     fn value(
         &mut self,
@@ -258,17 +279,18 @@ impl Resolver {
     ) -> Result<Cursor, AllocError>
         ensures { IfOk result (λ r. (r, known_of self.new) ≡ spec.filled_with (frames_of scope.now) (filling_of filling.entry) cursor (value_of value.now) (known_of self.old)) }
     {
-        let scalar = self.scalar_at(filling.shape.form, cursor.scalar);
         match value {
-            Value::Text(text) if scalar == ScalarType::Byte => {
+            Value::Text(text) => {
+                if !self.scalar_at(filling.shape.form, cursor.scalar).is_byte() {
+                    return self.put_single(scope, filling, cursor, value);
+                }
                 let characters = string_value(self.alloc, text.text)?;
                 self.note_past(filling, cursor)?;
                 self.put_characters(filling, cursor, &characters)
             }
-            _ => {
-                let datum = self.datum(scope, scalar, value)?;
-                self.put(filling, cursor, datum)
-            }
+            Value::Numeral(_) | Value::Negative(_) | Value::Location(_) => self.put_single(
+                scope, filling, cursor, value,
+            ),
         }
     }
 

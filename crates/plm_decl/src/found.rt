@@ -1,7 +1,7 @@
 //! Faults where they stand, and the least of them.
 
-ghost use Rattle.std.specs.Prelude.{◌≡◌, [], IfNone, IfSome, min, None};
-ghost use Rattle.plm_decl.specs.Found.{code_of, precedes, least, IsLeast, fault_at};
+ghost use Rattle.std.specs.Prelude.{◌≡◌, [], IfNone, IfSome, None, Some};
+ghost use Rattle.plm_decl.specs.Found.{code_of, precedes, sooner, least, IsLeast, fault_at};
 
 use plm_syntax::Position;
 use word86::{Fault, Number};
@@ -14,10 +14,23 @@ pub struct Found {
     pub number: Number,
 }
 
+/// Its place in the order of faults; the one warning is none.
 fn code(number: Number) -> u16
     ensures { result ≡ code_of number }
 {
     match number {
+        Number::E101 => 101,
+        Number::E102 => 102,
+        Number::E103 => 103,
+        Number::E104 => 104,
+        Number::E105 => 105,
+        Number::E106 => 106,
+        Number::E107 => 107,
+        Number::E201 => 201,
+        Number::E202 => 202,
+        Number::E203 => 203,
+        Number::E204 => 204,
+        Number::E205 => 205,
         Number::E301 => 301,
         Number::E302 => 302,
         Number::E303 => 303,
@@ -34,7 +47,14 @@ fn code(number: Number) -> u16
         Number::E404 => 404,
         Number::E405 => 405,
         Number::E406 => 406,
-        _ => 999,
+        Number::E501 => 501,
+        Number::E601 => 601,
+        Number::E701 => 701,
+        Number::E702 => 702,
+        Number::E703 => 703,
+        Number::E704 => 704,
+        Number::E705 => 705,
+        Number::W1 => 999,
     }
 }
 
@@ -64,6 +84,17 @@ impl Found {
     }
 }
 
+/// Of two faults the one that is answered before the other, of equal ones the first.
+fn sooner(first: Found, second: Found) -> Found
+    ensures { Some result ≡ sooner (Some first) second }
+{
+    if second.precedes(&first) {
+        second
+    } else {
+        first
+    }
+}
+
 /// The least of the faults, the first of equal ones; `None` where there is none.
 pub fn least(faults: &[Found]) -> Option<Found>
     ensures value { result ≡ least None faults.now }
@@ -72,10 +103,10 @@ pub fn least(faults: &[Found]) -> Option<Found>
 {
     let mut first: Option<Found> = None;
     for found in faults {
-        first = match first {
-            Some(other) if !found.precedes(&other) => Some(other),
-            _ => Some(*found),
-        };
+        first = Some(match first {
+            Some(other) => sooner(other, *found),
+            None => *found,
+        });
     }
     first
 }

@@ -3,6 +3,7 @@
 ghost use Rattle.std.specs.Prelude.{◌≡◌, IfOk, OnOk, map, slice_get};
 ghost use Rattle.plm_decl.specs.Layout.{field_of};
 ghost use Rattle.plm_decl.specs.Inner.Resolver.{known_of, external_of};
+ghost use Rattle.plm_decl.specs.Resolver.{note_whole};
 ghost use Rattle.plm_decl.specs.Joins as spec;
 
 use crate::found::Found;
@@ -12,10 +13,7 @@ use crate::resolver::{External, Resolver};
 use plm_syntax::Position;
 use std::alloc::AllocError;
 use std::mem::replace;
-use word86::Number;
-
-/// The most bytes that RAM objects may have together.
-const DATA_LIMIT: u64 = 61_438;
+use word86::{DATA_ROOM, Number};
 
 /// The token before a program's first.
 const START: Position = Position { token: 0, line: 1 };
@@ -56,9 +54,9 @@ impl Resolver {
                 self.structures.get(b),
             ) {
                 (Some(a), Some(b)) => self.same_members(&a.fields, &b.fields),
-                _ => false,
+                (None, _) | (Some(_), None) => false,
             },
-            _ => false,
+            (Form::Scalar(_), Form::Structure(_)) | (Form::Structure(_), Form::Scalar(_)) => false,
         }
     }
 
@@ -70,7 +68,7 @@ impl Resolver {
             (Some(a), Some(b)) => a.dimension == b.dimension
                 && a.stride == b.stride
                 && self.same_form(a.form, b.form),
-            _ => false,
+            (None, _) | (Some(_), None) => false,
         }
     }
 
@@ -98,7 +96,7 @@ impl Resolver {
         match (self.procedures.get(a), self.procedures.get(b)) {
             (Some(a), Some(b)) => a.returned == b.returned
                 && self.same_parameters(&a.parameters, &b.parameters),
-            _ => false,
+            (None, _) | (Some(_), None) => false,
         }
     }
 
@@ -109,7 +107,8 @@ impl Resolver {
         match (external, public) {
             (Item::Variable(a), Item::Variable(b)) => self.same_variable(a, b),
             (Item::Procedure(a), Item::Procedure(b)) => self.same_procedure(a, b),
-            _ => false,
+            (Item::Variable(_), Item::Procedure(_)) | (Item::Procedure(_), Item::Variable(_)) =>
+                false,
         }
     }
 
@@ -131,7 +130,7 @@ impl Resolver {
                     procedure.entry = b;
                 }
             }
-            _ => {}
+            (Item::Variable(_), Item::Procedure(_)) | (Item::Procedure(_), Item::Variable(_)) => {}
         }
     }
 
@@ -149,19 +148,27 @@ impl Resolver {
         }
     }
 
+    /// Notes the fault of an EXTERNAL name without its PUBLIC, or unlike it.
+    fn note_unjoined(&mut self, external: Item, public: Option<Item>) -> Result<(), AllocError>
+        ensures { OnOk result (known_of self.new ≡ note_whole (spec.unjoined (known_of self.old) external public) (known_of self.old)) }
+    {
+        let found = self.unjoined(external, public);
+        self.note_whole(found)
+    }
+
     /// Joins one EXTERNAL name.
     fn join_external(&mut self, external: Item, public: Option<Item>) -> Result<(), AllocError>
         ensures { OnOk result (known_of self.new ≡ spec.external_joined external public (known_of self.old)) }
     {
         match public {
-            Some(public) if self.agree(external, public) => {
-                self.join(external, public);
-                Ok(())
+            Some(public) => {
+                if self.agree(external, public) {
+                    self.join(external, public);
+                    return Ok(());
+                }
+                self.note_unjoined(external, Some(public))
             }
-            _ => {
-                let found = self.unjoined(external, public);
-                self.note_whole(found)
-            }
+            None => self.note_unjoined(external, None),
         }
     }
 
@@ -184,7 +191,7 @@ impl Resolver {
         for object in &self.objects {
             size = size.saturating_add(object.size);
         }
-        size <= DATA_LIMIT
+        size <= DATA_ROOM as u64
     }
 
     /// Joins the modules.

@@ -4,7 +4,7 @@ ghost use Rattle.plm_decl.specs.ByPlaces.{ReadByPlaces};
 ghost use Rattle.plm_decl.specs.JoinedNames.{ExternalsAreJoined};
 ghost use Rattle.plm_decl.specs.Laws.{ConstantsFill, DeclaredIsFound, DeclaresOnce, HaveOwnObjects, InitialBytesFit, InitialValuesFit, InnermostMeans, ListsOnce, MembersOnce, NothingElseTwice, StandsInside, StandsOutside};
 ghost use Rattle.plm_decl.specs.OwnNames.{OwnNamesHaveObjects};
-ghost use Rattle.plm_decl.specs.PlacedNames.{LocationIsInItsVariable, NamesLieAtTheirLocation, NumberIsOnTheScreen};
+ghost use Rattle.plm_decl.specs.PlacedNames.{LocationIsInItsVariable, NamesLieAtTheirLocation, NumberIsOnTheScreen, NumberIsOutside};
 
 /// The law of second declarations: after some items of a block, some elements of a DECLARE and some names of an element, the
 /// next name that is declared there is a fault (E302) exactly where one of those before it has its normal form. The same
@@ -44,11 +44,13 @@ pub fn names_have_own_objects()
     ensures program { OwnNamesHaveObjects }
 {}
 
-/// The law of AT: the names of an element with AT lie where its location says, one behind the other. A number of 0B8000H and above is a byte
-/// of the screen, which begins there. A location of a variable in a RAM object, with numbers for subscripts, is the byte of that object at
+/// The law of AT: the names of an element with AT lie where its location says, one behind the other. A number is the address of a byte of
+/// the screen: of the monochrome page, 0B0000H to 0B0F9FH, or of the colour page, 0B8000H to 0B8F9FH; any other number names no place.
+/// A location of a variable in a RAM object, with numbers for subscripts, is the byte of that object at
 /// which the variable begins, further on by the elements before the subscript's one and by the bytes before the member.
 pub fn names_lie_where_at_says()
     ensures number { NumberIsOnTheScreen }
+    ensures outside { NumberIsOutside }
     ensures location { LocationIsInItsVariable }
     ensures names { NamesLieAtTheirLocation }
 {}

@@ -2,6 +2,7 @@
 
 ghost use Rattle.std.specs.Prelude.{◌≡◌};
 ghost use Rattle.plm_decl.specs.Layout.{scalar_of, width_of, size_of};
+ghost use Rattle.plm_decl.specs.Datum.{is_byte};
 
 use plm_syntax::Scalar;
 use word86::Width;
@@ -24,6 +25,16 @@ impl ScalarType {
             Scalar::Byte => ScalarType::Byte,
             Scalar::Word | Scalar::Address => ScalarType::Word,
             Scalar::Pointer => ScalarType::Pointer,
+        }
+    }
+
+    /// Whether it is a BYTE, which takes a character of a string.
+    pub(crate) fn is_byte(self) -> bool
+        ensures { result ≡ is_byte self }
+    {
+        match self {
+            ScalarType::Byte => true,
+            ScalarType::Word | ScalarType::Pointer => false,
         }
     }
 

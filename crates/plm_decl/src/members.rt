@@ -14,6 +14,7 @@ pub struct MemberTable {
 }
 
 impl MemberTable {
+    /// A table with no member in it. It takes no memory.
     pub fn new(alloc: Global) -> MemberTable
         ensures { members_of result ≡ [] }
     {

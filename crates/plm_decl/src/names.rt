@@ -2,6 +2,7 @@
 
 ghost use Rattle.std.specs.Prelude.{◌≡◌, ◌≤◌, map, true};
 ghost use Rattle.std.specs.List.{list_all, sum_by};
+ghost use Rattle.word86.specs.MemoryMap.{data_room};
 ghost use Rattle.plm_decl.specs.Layout.{structure_of};
 ghost use Rattle.plm_decl.specs.Names.{object_of, procedure_of, declared_location_of, main_of};
 ghost use Rattle.plm_decl.specs.Ranges.{names_within};
@@ -12,14 +13,15 @@ use crate::layout::{Form, ScalarType};
 use crate::resolved::{Location, Statement};
 use crate::structure::Structure;
 use plm_syntax::{Linkage, Position};
+use word86::Page;
 
 /// Where a variable's bytes lie.
 #[derive(Debug, Clone, Copy, PartialEq, Eq)]
 pub enum Region {
     /// In a RAM object, by its number, from this many bytes after its first on.
     Ram(usize, u64),
-    /// On the screen, this many bytes after 0B8000H.
-    Screen(u64),
+    /// On a page of the screen, this many bytes after its first, which has the address 0B0000H (monochrome) or 0B8000H (colour).
+    Screen(Page, u64),
     /// Where the variable of this number says.
     Based(usize),
     /// Nowhere: an EXTERNAL name before it is joined with its PUBLIC, or what an EXTERNAL procedure declares.
@@ -67,11 +69,13 @@ pub struct Object {
     pub initial: Vec<Datum>,
 }
 
-/// A name that is placed on the screen: its bytes, and how many RAM objects are declared before it.
+/// A name that is placed on the screen: its bytes, its page, how many bytes after the page's first it begins, and how many RAM
+/// objects are declared before it.
 #[derive(Drop)]
 pub struct ScreenName {
     pub path: Vec<u8>,
     pub size: u64,
+    pub page: Page,
     pub offset: u64,
     pub objects_before: usize,
 }
@@ -121,10 +125,10 @@ pub struct Names {
     pub main: Main,
     // Each number that stands in the tables and in main's statements is below the length of the table that it is of.
     ghost in_range: { names_within variables.items (map structure_of structures.items) (map object_of objects.items) (map procedure_of procedures.items) (map declared_location_of locations.items) (main_of main) ≡ true },
-    // All bytes of a variable in RAM lie in its object, and those of one on the screen in the screen.
+    // All bytes of a variable in RAM lie in its object, and those of one on the screen in its page.
     ghost views_lie: { views_lie (map object_of objects.items) variables.items ≡ true },
-    // The objects have together at most 61,438 bytes.
-    ghost has_room: { sum_by (λ o. o.size) objects.items ≤ 61438 },
+    // The objects have room together.
+    ghost has_room: { sum_by (λ o. o.size) objects.items ≤ data_room },
     // The initial values of each object have room in it.
     ghost values_fit: { list_all values_fit (map object_of objects.items) ≡ true },
 }

@@ -1,10 +1,12 @@
 //! Where the objects of a program lie.
 
 ghost use Rattle.std.specs.Prelude.{◌≡◌, ℕ, ◌+◌, ◌<◌, ◌≤◌, ◌↔◌, IsTrue, map, length, slice_index};
+ghost use Rattle.word86.specs.MemoryMap.{first_offset, data_end};
 ghost use Rattle.plm_decl.specs.Placement.{Has, IsApart, IsPlacement};
 ghost use Rattle.plm_decl.specs.Placement.{sizes_of};
 
 use crate::names::{Names, Object};
+use word86::{DATA_END, FIRST_OFFSET};
 
 /// An offset in the data segment for each RAM object, in order of declaration.
 #[derive(Debug, Drop)]
@@ -82,9 +84,9 @@ impl Placement {
 
 // Whether all its bytes lie within the room for data.
 fn lies_within(offset: u16, size: u64) -> bool
-    ensures { IsTrue result ↔ ((b : ℕ) → Has offset size b → (2 ≤ b) × (b < 0xF000)) }
+    ensures { IsTrue result ↔ ((b : ℕ) → Has offset size b → (first_offset ≤ b) × (b < data_end)) }
 {
-    size == 0 || (2 <= offset && offset < 0xF000 && size <= 0xF000 - u64::from(offset))
+    size == 0 || (FIRST_OFFSET <= offset && offset < DATA_END && size <= (DATA_END - offset) as u64)
 }
 
 // Whether two objects share no byte.

@@ -107,8 +107,14 @@ impl Structure {
             .partition_point(|field| field.scalars_before <= position);
         let (_, members) = self.fields.split_at(begun.saturating_sub(1));
         match members.first() {
-            Some(field) if field.begins_by(position) => (members, position - field.scalars_before),
-            _ => (self.fields.as_slice(), position),
+            Some(field) => {
+                if field.begins_by(position) {
+                    (members, position - field.scalars_before)
+                } else {
+                    (self.fields.as_slice(), position)
+                }
+            }
+            None => (self.fields.as_slice(), position),
         }
     }
 
@@ -125,6 +131,17 @@ impl Structure {
             left -= count;
         }
         ScalarType::Byte
+    }
+
+    /// The scalar that stands this many scalars after the first of structures one behind the other.
+    fn scalar_in_row(&self, position: u64) -> ScalarType
+        ensures { result ≡ shape.scalar_of_structure (structure_of self.now) position }
+    {
+        if self.scalars > 0 {
+            self.scalar_at(position % self.scalars)
+        } else {
+            ScalarType::Byte
+        }
     }
 
     /// Puts a member after the others.
@@ -280,10 +297,8 @@ impl Resolver {
         match form {
             Form::Scalar(scalar) => scalar,
             Form::Structure(number) => match self.structures.get(number) {
-                Some(structure) if structure.scalars > 0 => structure.scalar_at(
-                    position % structure.scalars,
-                ),
-                _ => ScalarType::Byte,
+                Some(structure) => structure.scalar_in_row(position),
+                None => ScalarType::Byte,
             },
         }
     }
@@ -298,10 +313,12 @@ impl Resolver {
         ensures { IfOk result (λ n. n ≡ shape.scalars_filled (known_of self.now) form position (value_of value.now)) }
     {
         match value {
-            Value::Text(text) if self.scalar_at(form, position) == ScalarType::Byte => Ok(
-                string_value(self.alloc, text.text)?.len() as u64,
-            ),
-            _ => Ok(1),
+            Value::Text(text) => if self.scalar_at(form, position).is_byte() {
+                Ok(string_value(self.alloc, text.text)?.len() as u64)
+            } else {
+                Ok(1)
+            },
+            Value::Numeral(_) | Value::Negative(_) | Value::Location(_) => Ok(1),
         }
     }
 

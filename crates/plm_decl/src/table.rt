@@ -15,6 +15,7 @@ pub struct Table {
 }
 
 impl Table {
+    /// A table with no name in it. It takes no memory.
     pub fn new(alloc: Global) -> Table
         ensures { entries_of result ≡ [] }
     {

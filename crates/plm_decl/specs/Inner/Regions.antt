@@ -1,5 +1,6 @@
 -- Where the bytes of variables lie while trees are read: bytes are counted up to 2^64 - 1.
 use Rattle.std.specs.Prelude.{ℕ, ◌+◌, ◌*◌, List, Bool, true, nat_le}
+use Rattle.word86.specs.Page.{page_size}
 use Rattle.plm_decl.specs.declared.names.Region.{Region}
 use Rattle.plm_decl.specs.declared.names.Region.TheVariants as region
 use Rattle.plm_decl.specs.declared.names.Variable.{Variable}
@@ -9,7 +10,7 @@ use Rattle.plm_decl.specs.Regions.{size_at}
 
 abbrev pub counted_holds : List ObjectR → ℕ → Region → Bool
 counted_holds os size (region.Ram object offset) = nat_le (counted (offset + size)) (size_at os object)
-counted_holds os size (region.Screen offset) = nat_le (counted (offset + size)) 4000
+counted_holds os size (region.Screen page offset) = nat_le (counted (offset + size)) page_size
 counted_holds os size (region.Based v) = true
 counted_holds os size region.Nowhere = true
 
