@@ -1,6 +1,6 @@
 -- The object that holds the bytes of an access is the owner of the first.
 use Rattle.std.proofs.Common.{◌≡◌, ◌≢◌, ℕ, zero, suc, ◌+◌, ◌-◌, ◌<◌, ◌≤◌, ◌&&◌, nat_le, Bool, true, false, cond, List, [], ◌∷◌, Some, None, refl, sym, ap, ◌∙◌, subst, length, slice_index, arith, inl, inr, ◌⊎◌, tests}
-use Rattle.std.proofs.lemmas.Bool.{leb-true, cases_lt, cases_eq}
+use Rattle.std.proofs.lemmas.Bool.{leb-true, cases_lt, cases_eq, and_parts, cases_Bool}
 use Rattle.std.proofs.lemmas.List.{get_or_past}
 use Rattle.word86.specs.Access.{Where, In}
 use Rattle.word86.specs.Place.{covers, held}
@@ -27,27 +27,19 @@ held_by (suc k) i (o ∷ os) (s ∷ ss) a n below within h e =
     ∙ held_by k (suc i) os ss a n (omega (arith, below)) (omega (arith, within)) (λ j lt. h (suc j) (omega (arith, lt))) e
     ∙ ap (λ (j : ℕ). Some (In j (a - slice_index os k))) there
 
-both : (p q : Bool) → (p && q) ≡ true → (p ≡ true) × (q ≡ true)
-both true q e = (refl, e)
-both false q e = absurd cc
-
 -- of bytes that it holds the first is among its own
 first_is_held : (o s a n : ℕ) → 0 < n → covers o s a n ≡ true → Has o s a
 first_is_held o s a n some e =
-    let t = both (nat_le o a) (nat_le (a + n) (o + s)) e in
+    let t = and_parts (nat_le o a) (nat_le (a + n) (o + s)) e in
     let low : o ≤ a = leb-true o a t.0 in
     let high : a + n ≤ o + s = leb-true (a + n) (o + s) t.1 in
     (low, omega (arith, high, some))
-
-true_or_false : (b : Bool) → (b ≡ true) ⊎ (b ≡ false)
-true_or_false true = inl refl
-true_or_false false = inr refl
 
 module _ (owners os ss : List ℕ) (a n : ℕ) (are : AreOwners owners os ss) (known : a < length owners) (some : 0 < n) where
   -- no other object than the owner holds the bytes
   other_not : (j : ℕ) → j < length ss → j ≢ slice_index owners a → covers (slice_index os j) (slice_index ss j) a n ≡ false
   other_not j lt other =
-      elim (true_or_false (covers (slice_index os j) (slice_index ss j) a n)) [
+      elim (cases_Bool (covers (slice_index os j) (slice_index ss j) a n)) [
         | inl e ↦ absurd (other (sym (are.own j lt a known (first_is_held (slice_index os j) (slice_index ss j) a n some e))))
         | inr e ↦ e
       ]

@@ -42,7 +42,7 @@ statements_in (ToRun ss) = ss
 
 abbrev pub origin_of : Origin → Anchor
 origin_of (origin.Ram k start size) = InObject k start size
-origin_of (origin.Screen start size) = OnScreen start size
+origin_of (origin.Screen page start size) = OnScreen page start size
 origin_of (origin.There address) = There address
 
 -- a target of a value

@@ -20,6 +20,7 @@ use Rattle.plm_meaning.specs.declared.meaning.Choice.TheVariants as choice
 use Rattle.plm_meaning.specs.declared.meaning.Stop as declared_stop
 use Rattle.plm_meaning.specs.declared.meaning.Stop.TheVariants as stop
 use Rattle.plm_meaning.specs.Opening.{first_store}
+use Rattle.word86.specs.PowerOn.{pages_of}
 use Rattle.plm_meaning.specs.Store.{Store, shared}
 use Rattle.plm_meaning.specs.System.{Choice, Program, Occurs, Enter, Leave, Idle, System, State, Taken, Makes, BadAt, Refused, first_state, taken}
 use Rattle.plm_meaning.specs.Context.{to_run_of}
@@ -40,7 +41,7 @@ module _ (names : Names) (placement : Placement) where
   abbrev pub first_of : PowerOn → System (Store ChipState) Rest
   first_of power =
       first_state (main_rest names)
-      (first_store power.ram.items power.screen.items placement.offsets.items names.variables.items (map object_of names.objects.items) reset)
+      (first_store power.ram.items (pages_of power) placement.offsets.items names.variables.items (map object_of names.objects.items) reset)
 
   -- what a choice leads to
   abbrev pub leads : Choice Event → System (Store ChipState) Rest → Taken (Store ChipState) Rest Label

@@ -1,5 +1,7 @@
 -- The store when the power comes on.
 use Rattle.std.specs.Prelude.{ℕ, ◌+◌, List, [], ◌∷◌, ◌++◌, length, drop, slice_range}
+use Rattle.word86.specs.MemoryMap.{data_start}
+use Rattle.word86.specs.Page.{Pages}
 use Rattle.plm_decl.specs.declared.names.Variable.{Variable}
 use Rattle.plm_decl.specs.Names.{ObjectR}
 use Rattle.plm_decl.specs.Initial.{initial_bytes}
@@ -7,9 +9,9 @@ use Rattle.plm_meaning.specs.Store.{Store}
 
 -- the objects lie at these offsets
 module _ (offsets : List ℕ) (variables : List Variable) where
-  -- the data segment is 0040H
+  -- what RAM holds from an offset of the data segment on
   abbrev pub bytes_at : List ℕ → ℕ → ℕ → List ℕ
-  bytes_at ram offset size = slice_range ram (0x400 + offset) (0x400 + offset + size)
+  bytes_at ram offset size = slice_range ram (data_start + offset) (data_start + offset + size)
 
   -- an object has its initial bytes, and after them what RAM holds at its place
   abbrev pub object_at : List ℕ → ℕ → ObjectR → List ℕ
@@ -20,6 +22,6 @@ module _ (offsets : List ℕ) (variables : List Variable) where
   objects_at ram (offset ∷ more) [] = []
   objects_at ram (offset ∷ more) (o ∷ objects) = object_at ram offset o ∷ objects_at ram more objects
 
-abbrev pub first_store : {P : Type 0} → (ram screen offsets : List ℕ) → List Variable → List ObjectR → P → Store P
+abbrev pub first_store : {P : Type 0} → (ram : List ℕ) (screen : Pages) (offsets : List ℕ) → List Variable → List ObjectR → P → Store P
 first_store ram screen offsets variables objects chips =
     record { objects = objects_at offsets variables ram offsets objects; screen = screen; chips = chips }

@@ -11,15 +11,15 @@ ghost use Rattle.plm_meaning.specs.Inner.Owners.{AreOwners};
 
 use plm_decl::{Object, Placement};
 use plm_type::{Place, Program};
-use word86::Width;
+use word86::{Page, Width};
 
 /// Where a reference's bytes begin, once its base is read.
 #[derive(Clone, Copy)]
 pub enum Origin {
     /// In a RAM object: its number, the index of the first byte in it, and the size in bytes of what the name declares.
     Ram(usize, u64, u64),
-    /// On the screen: how many bytes after 0B8000H the first lies, and the size in bytes.
-    Screen(u64, u64),
+    /// On this page of the screen: how many bytes after the page's first they begin, and the size in bytes of what the name declares.
+    Screen(Page, u64, u64),
     /// At the address that the base held.
     There(u16),
 }
@@ -102,7 +102,7 @@ impl PlacedObjects<'_> {
     {
         let begin = match origin {
             Origin::Ram(object, start, _) => u128::from(self.offset(object)) + u128::from(start),
-            Origin::Screen(start, _) => 0x8000 + u128::from(start),
+            Origin::Screen(page, start, _) => u128::from(page.begins()) + u128::from(start),
             Origin::There(address) => u128::from(address),
         };
         ((begin + u128::from(offset)) % 0x1_0000) as u16
@@ -146,9 +146,15 @@ impl PlacedObjects<'_> {
     {
         match origin {
             Origin::Ram(object, start, size) => self.in_object(width, object, start, size, address),
-            Origin::Screen(start, size) => {
-                if covers(0x8000 + u128::from(start), size, address, bytes(width)) {
-                    Some(Place::Screen(address - 0x8000))
+            Origin::Screen(page, start, size) => {
+                let begins = page.begins();
+                if covers(
+                    u128::from(begins) + u128::from(start),
+                    size,
+                    address,
+                    bytes(width),
+                ) {
+                    Some(Place::Screen(page, address - begins))
                 } else {
                     None
                 }

@@ -104,7 +104,7 @@ impl<'a> Meaning<'a> {
         ensures refused { IfErr result (λ f. f ≡ fault.Memory) }
     {
         let around = Surroundings::new(alloc, program, placement)?;
-        let (ram, screen) = power.into_parts();
+        let (ram, colour, monochrome) = power.into_parts();
         let objects = first_objects(alloc, &around, &ram)?;
         let main = around.main();
         Ok(Meaning {
@@ -119,7 +119,8 @@ impl<'a> Meaning<'a> {
             halted: false,
             store: Store {
                 objects,
-                screen,
+                colour,
+                monochrome,
                 ports: Ports::reset(),
             },
             silents: 0,

@@ -10,9 +10,7 @@ ghost use Rattle.plm_meaning.specs.Inner.Redex.{offsets_of};
 use crate::around::Surroundings;
 use plm_decl::{Datum, Object, Region};
 use std::alloc::{AllocError, Global};
-
-// Where the data segment begins in RAM.
-const DATA: usize = 0x400;
+use word86::DATA_START;
 
 // The first `count` bytes, or all where there are fewer.
 fn first(bytes: &[u8], count: usize) -> &[u8]
@@ -55,7 +53,7 @@ impl Surroundings<'_> {
             None => 0,
             Some(variable) => match variable.region {
                 Region::Ram(object, start) => u128::from(self.offset(object)) + u128::from(start),
-                Region::Screen(_) | Region::Based(_) | Region::Nowhere => 0,
+                Region::Screen(_, _) | Region::Based(_) | Region::Nowhere => 0,
             },
         }
     }
@@ -93,7 +91,7 @@ impl Surroundings<'_> {
             self.put_datum(&mut bytes, *datum)?;
         }
         let held = first(
-            without_first(ram, DATA + usize::from(offset)),
+            without_first(ram, DATA_START as usize + usize::from(offset)),
             object.size as usize,
         );
         let initial = bytes.len();

@@ -16,17 +16,17 @@ fn refer<'a>(purpose: Purpose<'a>, line: Line, anchor: Anchor, offset: u64) -> R
     ensures { redex_part result ≡ purposed purpose.entry (Refer line.module line.line (anchor_of anchor) offset NoSubscripts) }
 {
     match anchor {
-        Anchor::Based(base) => Redex::Base(purpose, line, base, offset),
-        Anchor::Ram(object, start, size) => Redex::Refer(
+        Anchor::Behind(base) => Redex::Base(purpose, line, base, offset),
+        Anchor::InObject(object, start, size) => Redex::Refer(
             purpose,
             line,
             Origin::Ram(object, start, size),
             offset,
         ),
-        Anchor::Screen(start, size) => Redex::Refer(
+        Anchor::OnScreen(page, start, size) => Redex::Refer(
             purpose,
             line,
-            Origin::Screen(start, size),
+            Origin::Screen(page, start, size),
             offset,
         ),
     }

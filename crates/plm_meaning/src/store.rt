@@ -1,25 +1,29 @@
-//! What main and the interrupt procedures share: the bytes of the RAM objects and of the screen, and the chips.
+//! What main and the interrupt procedures share: the bytes of the RAM objects and of the screen's pages, and the chips.
 
 ghost use Rattle.std.specs.Prelude.{◌≡◌, ◌%◌, ◌<◌, slice_index, slice_set};
 ghost use Rattle.word86.specs.Access.{Read, Write, values};
+ghost use Rattle.word86.specs.Page.{page_of, with_page};
 ghost use Rattle.word86.specs.Place.{where_of, access_of};
 ghost use Rattle.ppi_kbd.specs.Chips.{ChipState, value as port_value, reading, writing};
 ghost use Rattle.ppi_kbd.specs.Ports.{Shows};
 ghost use Rattle.ppi_kbd.specs.BoardChips.{board_chips};
 ghost use Rattle.plm_meaning.specs.Store.{value_at, with_value, screen_label, input_label, output_label, touch};
-ghost use Rattle.plm_meaning.specs.Shown.{store_of, labels_of};
+ghost use Rattle.plm_meaning.specs.Shown.{screen_of, store_of, labels_of};
 ghost use Rattle.plm_meaning.specs.Inner.Shown.{Leaves};
 ghost use Rattle.plm_meaning.specs.Inner.Redex.{Fits};
 
 use plm_type::Place;
 use ppi_kbd::Ports;
-use word86::{Access, Label, Width};
+use word86::{Access, Label, Page, Width};
 
-/// The bytes of each RAM object, those of the screen, and the chips.
+/// The bytes of each RAM object, those of the screen's pages, and the chips.
 #[derive(Drop)]
 pub struct Store {
     pub objects: Vec<Vec<u8>>,
-    pub screen: Vec<u8>,
+    /// The page from address 0B8000H on.
+    pub colour: Vec<u8>,
+    /// The page from address 0B0000H on.
+    pub monochrome: Vec<u8>,
     pub ports: Ports,
 }
 
@@ -66,22 +70,47 @@ fn put_value(bytes: &mut Vec<u8>, width: Width, at: u16, v: u16)
     }
 }
 
-fn screen_label(width: Width, at: u16, v: u16) -> Label
+fn screen_label(page: Page, width: Width, at: u16, v: u16) -> Label
     requires { v < values width }
-    ensures { result ≡ screen_label width at v }
+    ensures { result ≡ screen_label page width at v }
 {
-    match width {
-        Width::Byte => Label::Scr(at, v as u8),
-        Width::Word => Label::ScrW(at, v),
+    match (page, width) {
+        (Page::Monochrome, Width::Byte) => Label::Mono(at, v as u8),
+        (Page::Monochrome, Width::Word) => Label::MonoW(at, v),
+        (Page::Colour, Width::Byte) => Label::Scr(at, v as u8),
+        (Page::Colour, Width::Word) => Label::ScrW(at, v),
     }
 }
 
 impl Store {
+    // The bytes of a page of the screen.
+    fn page(&self, page: Page) -> &[u8]
+        ensures { result.now ≡ page_of page (screen_of self.now) }
+    {
+        match page {
+            Page::Monochrome => &self.monochrome,
+            Page::Colour => &self.colour,
+        }
+    }
+
+    // Stores a value in a page of the screen.
+    fn put_on_page(&mut self, page: Page, width: Width, at: u16, v: u16)
+        requires { v < values width }
+        ensures screen { screen_of self.new ≡ with_page page (with_value width (page_of page (screen_of self.old)) at v) (screen_of self.old) }
+        ensures objects { self.new.objects ≡ self.old.objects }
+        ensures ports { self.new.ports ≡ self.old.ports }
+    {
+        match page {
+            Page::Monochrome => put_value(&mut self.monochrome, width, at, v),
+            Page::Colour => put_value(&mut self.colour, width, at, v),
+        }
+    }
+
     fn read(&self, width: Width, place: Place) -> u16
         ensures { (c : ChipState) → result ≡ (touch board_chips (Read width (where_of place)) (store_of self.now c)).0 }
     {
         match place {
-            Place::Screen(at) => value(width, &self.screen, at),
+            Place::Screen(page, at) => value(width, self.page(page), at),
             Place::Ram(k, at) => match self.objects.get(k) {
                 None => value(width, &[], at),
                 Some(bytes) => value(width, bytes, at),
@@ -96,9 +125,9 @@ impl Store {
         ensures ports { self.new.ports ≡ self.old.ports }
     {
         match place {
-            Place::Screen(at) => {
-                put_value(&mut self.screen, width, at, v);
-                Some(screen_label(width, at, v))
+            Place::Screen(page, at) => {
+                self.put_on_page(page, width, at, v);
+                Some(screen_label(page, width, at, v))
             }
             Place::Ram(k, at) => {
                 if k < self.objects.len() {
@@ -115,7 +144,8 @@ impl Store {
         ensures label { result.1 ≡ input_label width port result.0 }
         ensures ports { (c : ChipState) → Shows self.old.ports c → Shows self.new.ports (reading c width port) }
         ensures objects { self.new.objects ≡ self.old.objects }
-        ensures screen { self.new.screen ≡ self.old.screen }
+        ensures colour { self.new.colour ≡ self.old.colour }
+        ensures monochrome { self.new.monochrome ≡ self.old.monochrome }
     {
         match width {
             Width::Byte => {
@@ -135,7 +165,8 @@ impl Store {
         ensures label { result ≡ output_label width port v }
         ensures ports { (c : ChipState) → Shows self.old.ports c → Shows self.new.ports (writing c width port v) }
         ensures objects { self.new.objects ≡ self.old.objects }
-        ensures screen { self.new.screen ≡ self.old.screen }
+        ensures colour { self.new.colour ≡ self.old.colour }
+        ensures monochrome { self.new.monochrome ≡ self.old.monochrome }
     {
         match width {
             Width::Byte => {

@@ -1,4 +1,5 @@
 -- What the search knows, and that it finds all.
+use Rattle.std.proofs.lemmas.Bool.{cases_lt}
 use Rattle.std.proofs.Common.{◌≡◌, ℕ, zero, suc, ◌<◌, ◌≤◌, List, [], ◌∷◌, ◌++◌, Bool, true, false, true≢false, ◌⊎◌, inl, inr, length, slice_get, take, ◌-◌, Contains, refl, sym, ap, subst, ◌∙◌, arith, ◌↔◌, nat_lt}
 use Rattle.std.proofs.Math.ListN.{replicate}
 use Rattle.std.proofs.lemmas.Bool.Decides.{nat_tests}
@@ -59,18 +60,11 @@ explored_more g first m n w v p s t = record {
   ];
 }
 
-within_or_not : (a b : ℕ) → (a < b) ⊎ (b ≤ a)
-within_or_not a b = by (nat_lt a b) refl
-  where
-    by : (t : Bool) → nat_lt a b ≡ t → (a < b) ⊎ (b ≤ a)
-    by true e = inl (grind (arith, nat_tests))
-    by false e = inr (grind (arith, nat_tests))
-
 complete : (g : Graph) (first : List ℕ) (marks : List Bool) → Explored g first marks [] → (n : ℕ) (called : List ℕ) → ((k : ℕ) → k < length g → Contains called k → IsMarked marks k)
     → (q : ℕ) → q < length g → LeadsBy g n called q → IsMarked marks q
 complete g first marks s zero called h q within c = h q within c
 complete g first marks s (suc n) called h q within c =
-    elim (within_or_not c.0 (length g)) [
+    elim (cases_lt c.0 (length g)) [
       | inl l ↦ elim (s.closed c.0 (h c.0 l c.1)) [
         | inl o ↦ absurd (omega (arith, o.1))
         | inr f ↦ complete g first marks s n (row_of (slice_get g c.0)) f q within c.2
@@ -89,4 +83,4 @@ pub none_past : (g : Graph) (q : ℕ) → length g ≤ q → ¬ IsOnCycle g q
 none_past g q past c = leads_none g c.0 q (subst (λ row. LeadsBy g c.0 (row_of row) q) (slice_get_past g q past) c.1)
 
 pub none_until : (g : Graph) (n : ℕ) → length g ≡ n → ((q : ℕ) → q < n → ¬ IsOnCycle g q) → (q : ℕ) → ¬ IsOnCycle g q
-none_until g n long h q = elim (within_or_not q n) [ inl l ↦ h q l | inr l ↦ none_past g q (subst (λ m. m ≤ q) (sym long) l) ]
+none_until g n long h q = elim (cases_lt q n) [ inl l ↦ h q l | inr l ↦ none_past g q (subst (λ m. m ≤ q) (sym long) l) ]

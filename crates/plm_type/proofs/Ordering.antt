@@ -1,5 +1,6 @@
 -- Where each procedure stands above those that it calls, none reaches itself, and their order by rank is one in which each stands
 -- after those that it calls.
+use Rattle.std.proofs.lemmas.Bool.{cases_lt}
 use Rattle.std.proofs.Common.{◌≡◌, ℕ, zero, suc, ◌+◌, ◌<◌, ◌≤◌, List, [], ◌∷◌, ◌++◌, Bool, true, false, true≢false, cond, ◌⊎◌, inl, inr, length, nat_eq, nat_lt, count_by, slice_get, slice_index_or, Option, Some, None, Contains, refl, sym, ap, subst, ◌∙◌, arith, ◌↔◌}
 use Rattle.std.specs.List.{range_with_len}
 use Rattle.std.proofs.lemmas.Bool.Decides.{nat_tests}
@@ -24,13 +25,6 @@ pub no_cycle : (ranks : List ℕ) (g : Graph) → AreRanks ranks g → (p : ℕ)
 no_cycle ranks g above p cycle = let below = led_below ranks g above cycle.0 p p cycle.1 in omega (arith, below)
 
 -- ---- what a procedure reaches counts for its rank
-
-within_or_not : (a b : ℕ) → (a < b) ⊎ (b ≤ a)
-within_or_not a b = by (nat_lt a b) refl
-  where
-    by : (t : Bool) → nat_lt a b ≡ t → (a < b) ⊎ (b ≤ a)
-    by true e = inl (grind (arith, nat_tests))
-    by false e = inr (grind (arith, nat_tests))
 
 -- what a search from a procedure found, and the rank that it gave
 pub record Ranked (g : Graph) (ranks : List ℕ) (p : ℕ) : Type 0 where
@@ -98,8 +92,8 @@ called_below g ranks p q a b within called =
     omega (arith, less, a.rank, b.rank)
 
 pub all_ranked : (g : Graph) (ranks : List ℕ) → length ranks ≡ length g → ((q : ℕ) → q < length g → Ranked g ranks q) → AreRanks ranks g
-all_ranked g ranks long ranked p q called = elim (within_or_not p (length g)) [
-  | inl h ↦ elim (within_or_not q (length g)) [
+all_ranked g ranks long ranked p q called = elim (cases_lt p (length g)) [
+  | inl h ↦ elim (cases_lt q (length g)) [
     | inl k ↦ called_below g ranks p q (ranked p h) (ranked q k) k called
     | inr k ↦ let none = rank_past ranks q (omega (arith, k, long)) in let one = (ranked p h).rank in omega (arith, none, one)
   ]
@@ -156,7 +150,7 @@ one_of_each a (suc n) p h k = elim (same_or_not a p) [
       omega (arith, here, others)
   | inr s ↦
       let here = not_here a (range_with_len (a + 1) n) p s.0 in
-      let later : a + 1 ≤ p = elim (within_or_not a p) [
+      let later : a + 1 ≤ p = elim (cases_lt a p) [
         | inl less ↦ omega (arith, less)
         | inr more ↦ absurd (s.1 (omega (arith, h, more)))
       ] in
@@ -228,7 +222,7 @@ none_from a (suc n) p h =
     ]
 
 at_most_once : (ranks order : List ℕ) → IsOrdered ranks order → (p : ℕ) → count_by (λ x. nat_eq x p) order ≤ 1
-at_most_once ranks order o p = elim (within_or_not p (length ranks)) [
+at_most_once ranks order o p = elim (cases_lt p (length ranks)) [
   | inl h ↦ let one = counted_once ranks order o p h in omega (arith, one)
   | inr h ↦
       let none = sum_by-IsPermutation (λ x. cond (nat_eq x p) 1 0) (range_with_len 0 (length ranks)) order o.all ∙ none_from 0 (length ranks) p (omega (arith, h)) in
@@ -243,7 +237,7 @@ order_from_ranks ranks order g long above o =
       only = length_permutation (range_with_len 0 (length ranks)) order o.all ∙ length-range_with_len 0 (length ranks) ∙ long;
       each = finds;
       once = λ i p e. only_place order i p (at_most_once ranks order o p) e;
-      later = λ p q h k called. elim (within_or_not (place_in order q) (place_in order p)) [
+      later = λ p q h k called. elim (cases_lt (place_in order q) (place_in order p)) [
         | inl before ↦ before
         | inr after ↦
             let below = above p q called in

@@ -58,7 +58,7 @@ not_two module_index line o w (e ∷ d ∷ f ∷ es) h = refl
 pub moved : (n module_index line : ℕ) (a : rest.Anchor) (offset : ℕ) (ss : List Subscript) → (length ss ≡ 0 → ⊥) → fixed_place n (rest.Refer module_index line a offset (subscripts_of ss)) ≡ None
 moved n module_index line a offset [] h = absurd (h refl)
 moved n module_index line (rest.InObject k start size) offset (s ∷ ss) h = refl
-moved n module_index line (rest.OnScreen start size) offset (s ∷ ss) h = refl
+moved n module_index line (rest.OnScreen page start size) offset (s ∷ ss) h = refl
 moved n module_index line (rest.Behind b) offset (s ∷ ss) h = refl
 moved n module_index line (rest.There b) offset (s ∷ ss) h = refl
 

@@ -106,7 +106,7 @@ indexed module_index line anchor offset stride None e more = Refer module_index 
 abbrev pub next_anchor : (module_index line : ℕ) → Anchor → (offset : ℕ) → Action Access Reference
 next_anchor module_index line (Behind base) offset = Touch (Read widths.Word base) (λ v. Refer module_index line (There v) offset NoSubscripts)
 next_anchor module_index line (InObject k start size) offset = Over
-next_anchor module_index line (OnScreen start size) offset = Over
+next_anchor module_index line (OnScreen page start size) offset = Over
 next_anchor module_index line (There address) offset = Over
 
 -- ---- an access at a place, or a Bad step

@@ -4,13 +4,14 @@ use Rattle.std.specs.Prelude.{ℕ, List}
 use Rattle.word86.specs.declared.width.Width.{Width}
 use Rattle.word86.specs.declared.operation.UnaryOperation.{UnaryOperation}
 use Rattle.word86.specs.declared.operation.BinaryOperation.{BinaryOperation}
+use Rattle.word86.specs.declared.page.Page.{Page}
 use Rattle.word86.specs.Access.{Where}
 
--- where a variable's bytes begin: at this index of a RAM object or of the screen, with the size of what its declaration takes, or
+-- where a variable's bytes begin: at this index of a RAM object or of a page of the screen, with the size of what its declaration takes, or
 -- at the address that its base holds
 pub data Anchor : Type 0 where
   InObject : (object start size : ℕ) → Anchor
-  OnScreen : (start size : ℕ) → Anchor
+  OnScreen : Page → (start size : ℕ) → Anchor
   Behind : (base : Where) → Anchor
   -- in rests only: the base has been read
   There : (address : ℕ) → Anchor

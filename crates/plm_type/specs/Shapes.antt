@@ -80,14 +80,14 @@ member_stride (member p m) = 0
 member_stride (member_at p (Some m) e) = size_of m.scalar
 member_stride (member_at p None e) = 0
 
--- the index of a byte: an object and the screen have fewer bytes than that, so no accepted program has a greater one
+-- the index of a byte: an object and a page of the screen have fewer bytes than that, so no accepted program has a greater one
 abbrev pub capped : ℕ → ℕ
 capped i = min i 0xFFFF
 
 -- where a scalar lies that is not based
 abbrev pub where_at : Region → Where
 where_at (region.Ram k i) = In k (capped i)
-where_at (region.Screen i) = Screen (capped i)
+where_at (region.Screen page i) = Screen page (capped i)
 where_at (region.Based b) = In 0 0
 where_at region.Nowhere = In 0 0
 
@@ -96,10 +96,10 @@ abbrev pub scalar_size : Option ScalarType → ℕ
 scalar_size (Some t) = size_of t
 scalar_size None = 0
 
--- in RAM or on the screen
+-- in RAM or on a page of the screen
 abbrev pub lies_somewhere : Region → Bool
 lies_somewhere (region.Ram k i) = true
-lies_somewhere (region.Screen i) = true
+lies_somewhere (region.Screen page i) = true
 lies_somewhere (region.Based b) = false
 lies_somewhere region.Nowhere = false
 
@@ -118,7 +118,7 @@ behind None = nowhere
 
 abbrev pub anchor_at : List Variable → Region → ℕ → Anchor
 anchor_at variables (region.Ram k i) size = InObject k i size
-anchor_at variables (region.Screen i) size = OnScreen i size
+anchor_at variables (region.Screen page i) size = OnScreen page i size
 anchor_at variables (region.Based b) size = behind (slice_get variables b)
 anchor_at variables region.Nowhere size = nowhere
 
@@ -130,22 +130,22 @@ scalar_for v = record { width = width_of (form_type v.form); place = where_at v.
 
 abbrev pub is_on_screen : Region → Bool
 is_on_screen (region.Ram k i) = false
-is_on_screen (region.Screen i) = true
+is_on_screen (region.Screen page i) = true
 is_on_screen (region.Based b) = false
 is_on_screen region.Nowhere = false
 
 abbrev pub is_based : Region → Bool
 is_based (region.Ram k i) = false
-is_based (region.Screen i) = false
+is_based (region.Screen page i) = false
 is_based (region.Based b) = true
 is_based region.Nowhere = false
 
 -- a place that no subscript and no base moves, where n bytes are among those declared
 abbrev pub fixed_place : ℕ → Reference → Option Where
 fixed_place n (Refer module_index line (InObject k start size) offset NoSubscripts) = cond (nat_le (offset + n) size) (Some (In k (capped (start + offset)))) None
-fixed_place n (Refer module_index line (OnScreen start size) offset NoSubscripts) = cond (nat_le (offset + n) size) (Some (Screen (capped (start + offset)))) None
+fixed_place n (Refer module_index line (OnScreen page start size) offset NoSubscripts) = cond (nat_le (offset + n) size) (Some (Screen page (capped (start + offset)))) None
 fixed_place n (Refer module_index line (InObject k start size) offset (Subscript stride e more)) = None
-fixed_place n (Refer module_index line (OnScreen start size) offset (Subscript stride e more)) = None
+fixed_place n (Refer module_index line (OnScreen page start size) offset (Subscript stride e more)) = None
 fixed_place n (Refer module_index line (Behind base) offset s) = None
 fixed_place n (Refer module_index line (There address) offset s) = None
 

@@ -168,7 +168,7 @@ measure_type b v s ts us = given_if (use_fits true v s ts us) (number_type (meas
 abbrev pub builtin_fits : Builtin → SelectorR → List (Option ScalarType) → Bool
 builtin_fits b s ts = is_plain s && (nat_eq (length ts) (arity b) && are_known_numbers ts)
 
--- a location of what is on the screen is refused
+-- a location of what is on a page of the screen is refused
 abbrev pub may_be_located : Option Variable → Bool
 may_be_located None = true
 may_be_located (Some v) = not (is_on_screen v.region)

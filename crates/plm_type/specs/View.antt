@@ -25,9 +25,9 @@ abbrev pub scalar_of : declared_scalar.Scalar → Scalar
 scalar_of x = record { width = x.width; place = where_of x.place }
 
 abbrev pub anchor_of : declared_anchor.Anchor → Anchor
-anchor_of (anchor.Ram k start size) = InObject k start size
-anchor_of (anchor.Screen start size) = OnScreen start size
-anchor_of (anchor.Based base) = Behind (where_of base)
+anchor_of (anchor.InObject k start size) = InObject k start size
+anchor_of (anchor.OnScreen page start size) = OnScreen page start size
+anchor_of (anchor.Behind base) = Behind (where_of base)
 
 abbrev mutual
   pub expression_of : declared_expression.Expression → Expression

@@ -196,7 +196,7 @@ impl Typer<'_> {
         Typed {
             tree: Expression::Location(Reference {
                 line: self.line(place),
-                anchor: Anchor::Ram(object, 0, size),
+                anchor: Anchor::InObject(object, 0, size),
                 offset: 0,
                 subscripts: Vec::new(self.alloc),
             }),

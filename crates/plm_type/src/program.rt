@@ -1,7 +1,7 @@
 //! Statements and expressions whose types are known and whose names stand for places: what the meaning runs, and what is
 //! lowered to code.
 
-use word86::{BinaryOperation, Place, UnaryOperation, Width};
+use word86::{BinaryOperation, Page, Place, UnaryOperation, Width};
 
 /// A module, from 0, and a line of its text, from 1.
 #[derive(Debug, Clone, Copy, PartialEq, Eq)]
@@ -21,11 +21,11 @@ pub struct Scalar {
 #[derive(Debug, Clone, Copy, PartialEq, Eq)]
 pub enum Anchor {
     /// In a RAM object: its number, the index of the first byte in it, and the size in bytes.
-    Ram(usize, u64, u64),
-    /// On the screen: how many bytes after 0B8000H the first lies, and the size in bytes.
-    Screen(u64, u64),
+    InObject(usize, u64, u64),
+    /// On this page of the screen: how many bytes after the page's first they begin, and the size in bytes.
+    OnScreen(Page, u64, u64),
     /// At the address that the base holds.
-    Based(Place),
+    Behind(Place),
 }
 
 /// An expression. Operands of one precedence are a list, however many they are.

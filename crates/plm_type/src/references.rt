@@ -233,7 +233,7 @@ impl Typer<'_> {
         let Some(variable) = variable else {
             return Ok(Reference {
                 line,
-                anchor: Anchor::Ram(0, 0, 0),
+                anchor: Anchor::InObject(0, 0, 0),
                 offset: 0,
                 subscripts,
             });

@@ -132,7 +132,7 @@ pub fn member_stride(selector: &Selector) -> u64
     }
 }
 
-/// The index of a byte. An object and the screen have fewer bytes than that: no accepted program has a greater index.
+/// The index of a byte. An object and a page of the screen have fewer bytes than that: no accepted program has a greater index.
 fn capped(index: u64) -> u16
     ensures { result ≡ spec.capped index }
 {
@@ -145,7 +145,7 @@ fn place_at(region: Region) -> Place
 {
     match region {
         Region::Ram(object, start) => Place::Ram(object, capped(start)),
-        Region::Screen(start) => Place::Screen(capped(start)),
+        Region::Screen(page, start) => Place::Screen(page, capped(start)),
         Region::Based(_) | Region::Nowhere => Place::Ram(0, 0),
     }
 }
@@ -160,12 +160,12 @@ pub fn scalar_size(scalar: Option<ScalarType>) -> u64
     }
 }
 
-/// Whether it lies in RAM or on the screen.
+/// Whether it lies in RAM or on a page of the screen.
 fn lies_somewhere(region: Region) -> bool
     ensures { result ≡ spec.lies_somewhere region }
 {
     match region {
-        Region::Ram(_, _) | Region::Screen(_) => true,
+        Region::Ram(_, _) | Region::Screen(_, _) => true,
         Region::Based(_) | Region::Nowhere => false,
     }
 }
@@ -182,8 +182,8 @@ fn behind(base: Option<Variable>) -> Anchor
     ensures { view.anchor_of result ≡ spec.behind base }
 {
     match base {
-        Some(base) if has_room(2, &base) => Anchor::Based(place_at(base.region)),
-        Some(_) | None => Anchor::Ram(0, 0, 0),
+        Some(base) if has_room(2, &base) => Anchor::Behind(place_at(base.region)),
+        Some(_) | None => Anchor::InObject(0, 0, 0),
     }
 }
 
@@ -192,10 +192,10 @@ pub fn anchor(variables: &[Variable], variable: &Variable) -> Anchor
     ensures { view.anchor_of result ≡ spec.anchor_for variables.now variable.now }
 {
     match variable.region {
-        Region::Ram(object, start) => Anchor::Ram(object, start, span(variable)),
-        Region::Screen(start) => Anchor::Screen(start, span(variable)),
+        Region::Ram(object, start) => Anchor::InObject(object, start, span(variable)),
+        Region::Screen(page, start) => Anchor::OnScreen(page, start, span(variable)),
         Region::Based(base) => behind(variables.get(base).copied()),
-        Region::Nowhere => Anchor::Ram(0, 0, 0),
+        Region::Nowhere => Anchor::InObject(0, 0, 0),
     }
 }
 
@@ -209,12 +209,12 @@ pub fn scalar(variable: &Variable) -> Scalar
     }
 }
 
-/// Whether it is on the screen.
+/// Whether it is on a page of the screen.
 pub fn is_on_screen(region: Region) -> bool
     ensures { result ≡ spec.is_on_screen region }
 {
     match region {
-        Region::Screen(_) => true,
+        Region::Screen(_, _) => true,
         Region::Ram(_, _) | Region::Based(_) | Region::Nowhere => false,
     }
 }
@@ -225,7 +225,7 @@ pub fn is_based(region: Region) -> bool
 {
     match region {
         Region::Based(_) => true,
-        Region::Ram(_, _) | Region::Screen(_) | Region::Nowhere => false,
+        Region::Ram(_, _) | Region::Screen(_, _) | Region::Nowhere => false,
     }
 }
 
@@ -244,13 +244,13 @@ fn fixed_place(bytes: u64, reference: &Reference) -> Option<Place>
         return None;
     }
     match reference.anchor {
-        Anchor::Ram(object, start, size) => fits(bytes, reference.offset, size).then_some(
+        Anchor::InObject(object, start, size) => fits(bytes, reference.offset, size).then_some(
             Place::Ram(object, capped(start.saturating_add(reference.offset))),
         ),
-        Anchor::Screen(start, size) => fits(bytes, reference.offset, size).then_some(Place::Screen(
-            capped(start.saturating_add(reference.offset)),
-        )),
-        Anchor::Based(_) => None,
+        Anchor::OnScreen(page, start, size) => fits(bytes, reference.offset, size).then_some(
+            Place::Screen(page, capped(start.saturating_add(reference.offset))),
+        ),
+        Anchor::Behind(_) => None,
     }
 }
 

@@ -9,6 +9,6 @@ pub returns : goal.returns
 returns c =
     let k = c.args.object in
     let made = c.line.ensures in
-    let tree = ap rest.Location (reference_made c.line.result (anchor.Ram k 0 c.object_size-size.result) 0 c.new.result
+    let tree = ap rest.Location (reference_made c.line.result (anchor.InObject k 0 c.object_size-size.result) 0 c.new.result
     ∙ (λ j. rest.Refer (made.module j) (made.line j) (rest.InObject k 0 (c.object_size-size.ensures j)) 0 (view.subscripts_of (c.new.ensures.items j)))) in
     λ j. record { tree = tree j; scalar = Some (c.location_type.ensures j); faults = [] }

@@ -20,7 +20,7 @@ returns-in_default c =
     let es = view.expressions_of c.args.parts.subscripts.trees.items in
     let fs = view.expressions_of c.args.parts.member.trees.items in
     let made = c.line-line.ensures in
-    reference_made c.line-line.result (anchor.Ram 0 0 0) 0 c.new-subscripts.result
+    reference_made c.line-line.result (anchor.InObject 0 0 0) 0 c.new-subscripts.result
     ∙ (λ j. rest.Refer (made.module j) (made.line j) (rest.InObject 0 0 0) 0 (view.subscripts_of (c.new-subscripts.ensures.items j)))
     ∙ sym (ap (λ (v : Option Variable). spec.refer (variables c.args.self.now) c.args.self.now.module c.args.place.line v s es fs) c.in_default.is)
 
