@@ -1,7 +1,7 @@
 -- No run has more words on its stack than the paths of calls push.
 use Rattle.std.proofs.Common.{◌≡◌, ℕ, zero, suc, ◌+◌, ◌-◌, ◌≤◌, ◌<◌, Bool, true, false, if◌then◌else◌, List, [], ◌∷◌, length, take, drop, Option, Some, None, slice_get, refl, sym, ap, ◌∙◌, subst, arith, ◌⊎◌, inl, inr}
 use Rattle.std.specs.Prelude.{nat_lt, nat_le}
-use Rattle.std.proofs.lemmas.Option.{none-some}
+use Rattle.std.proofs.lemmas.Option.{none-some, same_Some}
 use Rattle.word86.specs.declared.width.Width.{Width}
 use Rattle.word86.specs.Access.{Access, Where}
 use Rattle.word86.specs.Action.{Action, Silent, Touch, Enable, Disable, Halt, Over, Bad}
@@ -42,12 +42,9 @@ led P (Bad module_index line) d h e = absurd e
 
 -- ---- heights along the code
 
-some_is : {A : Type 0} (x y : A) → Some x ≡ Some y → x ≡ y
-some_is x y e = grind (arith, e)
-
 height_next : (h k : ℕ) (all : List Instruction) (x : Instruction) → slice_get all k ≡ Some x → behind h (take (suc k) all) ≡ after x (behind h (take k all))
 height_next h k [] x e = absurd (none-some x e)
-height_next h zero (y ∷ all) x e = ap (λ z. after z h) (some_is y x e)
+height_next h zero (y ∷ all) x e = ap (λ z. after z h) (same_Some y x e)
 height_next h (suc k) (y ∷ all) x e = height_next (after y h) k all x e
 
 pub next_height : (k : ℕ) (all : List Instruction) (x : Instruction) → slice_get all k ≡ Some x → height all (k + 1) ≡ after x (height all k)

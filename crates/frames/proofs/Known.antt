@@ -2,7 +2,7 @@
 use Rattle.std.proofs.Common.{◌≡◌, ℕ, zero, suc, ◌+◌, ◌*◌, ◌≤◌, ◌<◌, List, [], ◌∷◌, length, Option, Some, None, slice_get, refl, sym, ap, ◌∙◌, subst, arith, ◌⊎◌, inl, inr}
 use Rattle.std.specs.Prelude.{slice_set}
 use Rattle.std.proofs.lemmas.Bool.{cases_lt}
-use Rattle.std.proofs.lemmas.Option.{slice_get_past, slice_get_within}
+use Rattle.std.proofs.lemmas.Option.{slice_get_past, slice_get_within, same_Some}
 use Rattle.icode.specs.declared.instruction.Instruction.{Instruction}
 use Rattle.icode.specs.declared.instruction.Instruction.TheVariants as op
 use Rattle.icode.specs.declared.code.Procedure as declared
@@ -13,7 +13,7 @@ use Rattle.icode.specs.Code.{code_of}
 use Rattle.icode.specs.Heights.{instructions_of, place_in}
 use Rattle.frames.specs.declared.need.Need.{Need}
 use Rattle.frames.specs.Inner.Need.{nothing, need, need_or, need_at, AreKnown}
-use Rattle.frames.proofs.Needing.{some_is, same_need, few}
+use Rattle.frames.proofs.Needing.{same_need, few}
 
 at_same : (t : List Need) (p : ℕ) (n : Need) → p < length t → need_at (slice_set t p n) p ≡ n
 at_same [] p n h = absurd (omega (arith, h))
@@ -81,7 +81,7 @@ module _ (c : Code) (t : List Need) (i p : ℕ) (here : slice_get c.order.items 
       sym (kept r (λ small s. omega (arith, ap place s, c.ordered.once i p here, less))) ∙ known r lt less ∙ same r (omega (arith, less))
   known_by known r lt le (inr ge) =
       let e : place r ≡ i = omega (arith, le, ge) in
-      let s : p ≡ r = some_is p r (sym here ∙ ap (slice_get c.order.items) (sym e) ∙ c.ordered.each r lt) in
+      let s : p ≡ r = same_Some p r (sym here ∙ ap (slice_get c.order.items) (sym e) ∙ c.ordered.each r lt) in
       let inside : p < length t = omega (arith, s, lt, size) in
       ap (need_at table) (sym s) ∙ at_same t p found inside ∙ ap (λ z. need (need_at t) 0 (code_of c (Procedure z))) s ∙ same r (omega (arith, e))
 

@@ -3,7 +3,7 @@ use Rattle.std.proofs.Common.{◌≡◌, ℕ, zero, suc, ◌+◌, ◌≤◌, ◌
 use Rattle.std.specs.Prelude.{slice_index_or}
 use Rattle.std.proofs.Common.{drop-cons}
 use Rattle.std.proofs.lemmas.Bool.{cases_lt}
-use Rattle.std.proofs.lemmas.Option.{none-some}
+use Rattle.std.proofs.lemmas.Option.{none-some, same_Some}
 use Rattle.icode.specs.declared.instruction.Instruction.{Instruction}
 use Rattle.icode.specs.declared.instruction.Instruction.TheVariants as op
 use Rattle.icode.specs.declared.registers.Registers.{Registers}
@@ -12,9 +12,6 @@ use Rattle.icode.specs.Registers.{none, joined, changes}
 use Rattle.frames.specs.declared.need.Need.{Need}
 use Rattle.frames.specs.Inner.Need.{nothing, both, met, need}
 use Rattle.frames.proofs.Registers.{joined_parts, joined_none, has_left, has_right, has_self, has_through, has_both}
-
-pub some_is : {A : Type 0} (x y : A) → Some x ≡ Some y → x ≡ y
-some_is x y e = grind (arith, e)
 
 max_parts : (a b c : ℕ) → max (max a b) c ≡ max a (max b c)
 max_parts a b c = omega arith
@@ -50,7 +47,7 @@ module _ (t : ℕ → Need) where
 
   pub calls : (h : ℕ) (xs : List Instruction) (k q : ℕ) → slice_get xs k ≡ Some (op.Invoke q) → behind h (take k xs) + 1 + (t q).words ≤ (need t h xs).words
   calls h [] k q e = absurd (none-some _ e)
-  calls h (x ∷ xs) zero q e = subst (λ y. h + 1 + (t q).words ≤ (need t h (y ∷ xs)).words) (sym (some_is x (op.Invoke q) e)) (left_le _ _)
+  calls h (x ∷ xs) zero q e = subst (λ y. h + 1 + (t q).words ≤ (need t h (y ∷ xs)).words) (sym (same_Some x (op.Invoke q) e)) (left_le _ _)
   calls h (x ∷ xs) (suc k) q e = at_most _ _ _ (calls (after x h) xs k q e)
 
   -- the words are those at some place, or at some call with those of the callee
@@ -89,7 +86,7 @@ module _ (t : ℕ → Need) where
   has_changes h (y ∷ xs) zero x e =
       let m = (met t y h).registers in
       let r = (need t (after y h) xs).registers in
-      subst (λ z. joined (joined m r) (changes z) ≡ joined m r) (some_is y x e) (has_through (joined m r) m (changes y) (has_left m r) (met_changes y h))
+      subst (λ z. joined (joined m r) (changes z) ≡ joined m r) (same_Some y x e) (has_through (joined m r) m (changes y) (has_left m r) (met_changes y h))
   has_changes h (y ∷ xs) (suc k) x e =
       let m = (met t y h).registers in
       let r = (need t (after y h) xs).registers in
@@ -98,7 +95,7 @@ module _ (t : ℕ → Need) where
   pub has_callees : (h : ℕ) (xs : List Instruction) (k q : ℕ) → slice_get xs k ≡ Some (op.Invoke q) → joined (need t h xs).registers (t q).registers ≡ (need t h xs).registers
   has_callees h [] k q e = absurd (none-some _ e)
   has_callees h (y ∷ xs) zero q e =
-      subst (λ z. joined (need t h (z ∷ xs)).registers (t q).registers ≡ (need t h (z ∷ xs)).registers) (sym (some_is y (op.Invoke q) e)) (has_left (t q).registers (need t (after (op.Invoke q) h) xs).registers)
+      subst (λ z. joined (need t h (z ∷ xs)).registers (t q).registers ≡ (need t h (z ∷ xs)).registers) (sym (same_Some y (op.Invoke q) e)) (has_left (t q).registers (need t (after (op.Invoke q) h) xs).registers)
   has_callees h (y ∷ xs) (suc k) q e =
       let m = (met t y h).registers in
       let r = (need t (after y h) xs).registers in

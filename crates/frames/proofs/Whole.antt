@@ -4,7 +4,7 @@ use Rattle.std.specs.Prelude.{map, position, slice_index_or, Result, Ok, Err, If
 use Rattle.std.specs.Global.{Vec}
 use Rattle.word86.specs.declared.fault.Fault.{Fault}
 use Rattle.std.proofs.lemmas.Bool.{cases_lt, true≢false}
-use Rattle.std.proofs.lemmas.Option.{none-some, slice_get-get_or}
+use Rattle.std.proofs.lemmas.Option.{none-some, slice_get-get_or, same_Some}
 use Rattle.std.proofs.lemmas.List.Quantifiers.{position-Some}
 use Rattle.icode.specs.declared.instruction.Instruction.{Instruction}
 use Rattle.icode.specs.declared.instruction.Instruction.TheVariants as op
@@ -23,7 +23,6 @@ use Rattle.icode.specs.Runs.{Comes}
 use Rattle.frames.specs.declared.need.Need.{Need}
 use Rattle.frames.specs.Counting.{NoRunPasses, AreSaved}
 use Rattle.frames.specs.Inner.Need.{need, need_at, room_of, largest_room, AreKnown}
-use Rattle.frames.proofs.Needing.{some_is}
 use Rattle.frames.proofs.Registers.{joined_other}
 use Rattle.frames.proofs.Depths as depths
 use Rattle.frames.proofs.Bounded as bounded
@@ -108,7 +107,7 @@ module _ (c : Code) where
   unserved_drops (suc k) n e = absurd (none-some (op.Drop n) e)
 
   unserved_flat : (k t : ℕ) (x : Instruction) → slice_get (op.Finish ∷ []) k ≡ Some x → target x (k + 1) ≡ Some t → (height (op.Finish ∷ []) (k + 1) ≡ 0) × (height (op.Finish ∷ []) t ≡ 0)
-  unserved_flat zero t x e f = absurd (none-some t (ap (λ y. target y 1) (some_is op.Finish x e) ∙ f))
+  unserved_flat zero t x e f = absurd (none-some t (ap (λ y. target y 1) (same_Some op.Finish x e) ∙ f))
   unserved_flat (suc k) t x e f = absurd (none-some x e)
 
   has_heights : (r : Routine) → HasHeights (code_of c r)

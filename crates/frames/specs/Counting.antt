@@ -3,6 +3,7 @@ use Rattle.std.specs.Prelude.{◌≡◌, ℕ, ◌+◌, ◌*◌, ◌≤◌, ◌<�
 use Rattle.word86.specs.declared.fault.Fault.{Fault}
 use Rattle.word86.specs.declared.fault.Fault.TheVariants as fault
 use Rattle.word86.specs.declared.number.Number.TheVariants.{E501}
+use Rattle.word86.specs.MemoryMap.{stack_room}
 use Rattle.icode.specs.declared.instruction.Instruction.{Instruction}
 use Rattle.icode.specs.declared.code.Routine.{Routine}
 use Rattle.icode.specs.declared.code.Routine.TheVariants.{Main, Procedure}
@@ -35,7 +36,7 @@ pub record IsPastRoom (c : Code) : Type 0 where
   pub main : ℕ
   pub handler : ℕ
   pub is_counted : IsCounted c main handler
-  pub is_past : 4094 < main + handler
+  pub is_past : stack_room < main + handler
 
 -- Memory, or E501, which stands at the first line of the first module, where the stack has no room
 abbrev pub IsRefusal : Code → Fault → Type 0

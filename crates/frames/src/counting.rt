@@ -2,6 +2,7 @@
 
 ghost use Rattle.std.specs.Prelude.{◌≡◌, ℕ, ◌+◌, ◌*◌, ◌^◌, ◌<◌, ◌≤◌, max, map, length, IfOk, IfErr, IfSome, IfNone};
 ghost use Rattle.word86.specs.declared.fault.Fault.TheVariants.{Memory};
+ghost use Rattle.word86.specs.MemoryMap.{stack_room};
 ghost use Rattle.icode.specs.Counted.{one_if, number_of, IsCounted};
 ghost use Rattle.frames.specs.Counting.{NoRunPasses, IsRefusal, AreSaved};
 ghost use Rattle.frames.specs.Inner.Need.{need_at, room_of, largest_room, AreKnown};
@@ -9,7 +10,7 @@ ghost use Rattle.frames.specs.Inner.Need.{need_at, room_of, largest_room, AreKno
 use crate::need::{Need, keep};
 use icode::{Code, Registers, Routine};
 use std::alloc::Global;
-use word86::{Fault, Number};
+use word86::{Fault, Number, STACK_ROOM};
 
 /// How much of the stack main and an interrupt take at most, in bytes.
 #[derive(Debug, Clone, Copy, PartialEq, Eq)]
@@ -19,7 +20,7 @@ pub struct Stack {
 }
 
 // In words: what main and an interrupt may take together.
-const ROOM: u128 = 2047;
+const ROOM: u128 = (STACK_ROOM / 2) as u128;
 
 // What an interrupt pushes first: the flags and where main goes on.
 const ENTRY: u128 = 3;
@@ -83,8 +84,8 @@ fn largest_room(needs: &[Need], code: &Code) -> u128
 fn in_bytes(main: u128, handler: u128) -> Option<Stack>
     ensures main { IfSome result (λ s. s.main ≡ 2 * main) }
     ensures handler { IfSome result (λ s. s.handler ≡ 2 * handler) }
-    ensures fits { IfSome result (λ s. s.main + s.handler ≤ 4094) }
-    ensures past { IfNone result (4094 < 2 * main + 2 * handler) }
+    ensures fits { IfSome result (λ s. s.main + s.handler ≤ stack_room) }
+    ensures past { IfNone result (stack_room < 2 * main + 2 * handler) }
 {
     if ROOM < main || ROOM - main < handler {
         return None;
@@ -101,10 +102,10 @@ fn in_bytes(main: u128, handler: u128) -> Option<Stack>
 ///
 /// # Errors
 ///
-/// E501, at the first line of the first module, where both together are more than 4,094 bytes; `Memory`.
+/// E501, at the first line of the first module, where both together are more than the 4,094 bytes of the stack's room; `Memory`.
 pub fn count(alloc: Global, code: &Code) -> Result<Stack, Fault>
     ensures counted { IfOk result (λ s. IsCounted code.now s.main s.handler) }
-    ensures fits { IfOk result (λ s. s.main + s.handler ≤ 4094) }
+    ensures fits { IfOk result (λ s. s.main + s.handler ≤ stack_room) }
     ensures runs { IfOk result (λ s. NoRunPasses code.now s.main s.handler) }
     ensures refused { IfErr result (λ f. IsRefusal code.now f) }
 {

@@ -1,4 +1,5 @@
 -- No form of an instruction is better than the one that is written.
+use Rattle.std.proofs.lemmas.Option.{same_Some}
 use Rattle.std.proofs.Common.{◌≡◌, ℕ, zero, suc, ◌<◌, ◌≤◌, ◌+◌, ◌*◌, ◌%◌, ◌==◌, ◌&&◌, not, Bool, true, false, cond, Option, Some, None, List, refl, sym, ◌∙◌, subst, arith, inl, inr}
 use Rattle.std.specs.Prelude.{nat_lt}
 use Rattle.word86.specs.declared.width.Width.TheVariants as widths
@@ -47,7 +48,6 @@ use Rattle.i86_code.specs.Writing.{prefix_for, prefix_at, prefix_of, is_near, ad
 use Rattle.std.proofs.lemmas.Bool.{lt-leb}
 use Rattle.i86_code.proofs.WrittenForms.{chosen, al_or, ax_or}
 use Rattle.i86_code.proofs.WrittenForms.{written}
-use Rattle.i86_code.proofs.Places.{some_is}
 use Rattle.i86_code.proofs.Costs.{place_length, field_length, prefix_length, cost_is, cost_least, direct_light, weight, place_light, never_address, memory_cost, addressed_cost, byte_cost, word_cost, group_cost, plain_cost, from_register_cost, accumulator_cost, near_byte, not_first, of_not_first, weight_is}
 
 -- ---- what the forms of an instruction cost
@@ -196,7 +196,7 @@ accumulator_exchange_cost laws Di = words_short (word_pair Ax Di) Di (laws.first
 -- ---- rows that say one thing or none
 
 at_some : (n : ℕ) (x y : Instr) → Some x ≡ Some y → Cheap n x → Cheap n y
-at_some n x y e h = subst (λ (z : Instr). Cheap n z) (some_is x y e) h
+at_some n x y e h = subst (λ (z : Instr). Cheap n z) (same_Some x y e) h
 
 -- a row that says this where a test holds
 pick : (n : ℕ) (b : Bool) (x y : Instr) (rest : Option Instr) → Cheap n x → (rest ≡ Some y → Cheap n y) → cond b (Some x) rest ≡ Some y → Cheap n y

@@ -1,4 +1,5 @@
 -- What is decoded is spelt by its bytes.
+use Rattle.std.proofs.lemmas.Option.{same_Some}
 use Rattle.std.proofs.Common.{◌≡◌, ℕ, ◌-◌, ◌<◌, ◌≤◌, Option, Some, None, List, ◌∷◌, length, take, ap, subst, arith}
 use Rattle.std.specs.Prelude.{IfSome}
 use Rattle.std.proofs.lemmas.List.{length-append, length-take}
@@ -9,12 +10,11 @@ use Rattle.i86_code.specs.Reading.{Read, form_at}
 use Rattle.i86_code.specs.Instructions.{instruction_of}
 use Rattle.i86_code.specs.Decoding.{decoded, form_then, instruction_then}
 use Rattle.i86_code.specs.Coding.{DecodedSpells}
-use Rattle.i86_code.proofs.Places.{some_is}
 use Rattle.i86_code.proofs.DecodeLaws.{decoded_found}
 
 said_within : (o : Option Instr) (k m : ℕ) (d : Instr × ℕ) → k ≤ m → instruction_then o k ≡ Some d → d.1 ≤ m
 said_within None k m d h e = absurd (let wrong = e in cc)
-said_within (Some j) k m d h e = subst (λ (x : Instr × ℕ). x.1 ≤ m) (some_is (j, k) d e) h
+said_within (Some j) k m d h e = subst (λ (x : Instr × ℕ). x.1 ≤ m) (same_Some (j, k) d e) h
 
 within : (bytes : List ℕ) (o : Read Form) (d : Instr × ℕ) → form_then bytes o ≡ Some d → d.1 ≤ length bytes
 within bytes None d e = absurd (let wrong = e in cc)

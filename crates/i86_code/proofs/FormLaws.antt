@@ -1,4 +1,5 @@
 -- Each form that is read is the one that was written, and no other.
+use Rattle.std.proofs.lemmas.Option.{same_Some}
 use Rattle.std.proofs.Common.{◌≡◌, ℕ, ◌<◌, ◌^◌, Bool, true, false, cond, Option, Some, None, List, [], ◌∷◌, ◌++◌, refl, sym, ap, ◌∙◌, subst, arith, inl, inr, append_assoc, nat_eq}
 use Rattle.std.proofs.lemmas.Bool.{ne_eqb}
 use Rattle.std.proofs.lemmas.Bool.Decides.{eqb_tells}
@@ -20,7 +21,7 @@ use Rattle.i86_code.specs.Forms.{word_bytes, place_bytes, field_bytes, kind_of_f
 use Rattle.i86_code.specs.Reading.{segment_at, word_at, byte_at, place_at, fields_at, test_then, group_then, prefixes_at, repeat_then, override_then, opcode_then, after_repeat, body_at, form_at, Read, then_read, then_place}
 use Rattle.i86_code.specs.Coding.{AreBytes}
 use Rattle.i86_code.proofs.Table.{opcode_found, opcode_again, repeat_is_none, override_is_none}
-use Rattle.i86_code.proofs.Places.{IsBytes-rest, some_is, halves, word_found, place_again, place_found, Found, not_chosen}
+use Rattle.i86_code.proofs.Places.{IsBytes-rest, halves, word_found, place_again, place_found, Found, not_chosen}
 
 -- ---- fields
 
@@ -51,7 +52,7 @@ pub record FieldsFound (l : FieldKind) (source : List ℕ) (f : Fields) (after :
   pub bytes : AreBytes after
 
 found_same : (l : FieldKind) (source : List ℕ) (x y : Fields × List ℕ) → Some x ≡ Some y → FieldsFound l source x.0 x.1 → FieldsFound l source y.0 y.1
-found_same l source x y e s = subst (λ (z : Fields × List ℕ). FieldsFound l source z.0 z.1) (some_is x y e) s
+found_same l source x y e s = subst (λ (z : Fields × List ℕ). FieldsFound l source z.0 z.1) (same_Some x y e) s
 
 then_read_some : {A B : Type 0} (o : Read A) (f : A → List ℕ → Option B) (y : B) → then_read o f ≡ Some y → (x : A × List ℕ) × (o ≡ Some x) × (f x.0 x.1 ≡ Some y)
 then_read_some None f y e = absurd cc
@@ -64,7 +65,7 @@ then_place_some (Some x) f y e = (x, refl, e)
 byte_found : (bytes : List ℕ) (n : ℕ) (rest : List ℕ) → AreBytes bytes → byte_at bytes ≡ Some (n, rest) → (bytes ≡ n ∷ rest) × (n < 2 ^ 8) × AreBytes rest
 byte_found [] n rest h e = absurd cc
 byte_found (b ∷ t) n rest h e =
-    let p = some_is (b, t) (n, rest) e in
+    let p = same_Some (b, t) (n, rest) e in
     let n-is : b ≡ n = ap (λ (x : ℕ × List ℕ). x.0) p in
     let rest-is : t ≡ rest = ap (λ (x : ℕ × List ℕ). x.1) p in
     let fits : b < 256 = h 0 in
@@ -185,13 +186,13 @@ prefixes_again (prefixes.RepeatOverride segments.Ds) b rest n = refl
 segment_found : (n : ℕ) (s : Segment) → segment_at n ≡ Some s → n ≡ prefix_code s
 segment_found n s e =
     elim (eqb_tells n 0x26) [
-      | inl at ↦ at.1 ∙ ap prefix_code (some_is segments.Es s (subst (λ (j : ℕ). segment_at j ≡ Some s) at.1 e))
+      | inl at ↦ at.1 ∙ ap prefix_code (same_Some segments.Es s (subst (λ (j : ℕ). segment_at j ≡ Some s) at.1 e))
       | inr a ↦ elim (eqb_tells n 0x2E) [
-        | inl at ↦ at.1 ∙ ap prefix_code (some_is segments.Cs s (subst (λ (j : ℕ). segment_at j ≡ Some s) at.1 e))
+        | inl at ↦ at.1 ∙ ap prefix_code (same_Some segments.Cs s (subst (λ (j : ℕ). segment_at j ≡ Some s) at.1 e))
         | inr b ↦ elim (eqb_tells n 0x36) [
-          | inl at ↦ at.1 ∙ ap prefix_code (some_is segments.Ss s (subst (λ (j : ℕ). segment_at j ≡ Some s) at.1 e))
+          | inl at ↦ at.1 ∙ ap prefix_code (same_Some segments.Ss s (subst (λ (j : ℕ). segment_at j ≡ Some s) at.1 e))
           | inr c ↦ elim (eqb_tells n 0x3E) [
-            | inl at ↦ at.1 ∙ ap prefix_code (some_is segments.Ds s (subst (λ (j : ℕ). segment_at j ≡ Some s) at.1 e))
+            | inl at ↦ at.1 ∙ ap prefix_code (same_Some segments.Ds s (subst (λ (j : ℕ). segment_at j ≡ Some s) at.1 e))
             | inr d ↦ absurd (let f = rw (a.0, b.0, c.0, d.0) at e in cc)
           ]
         ]
@@ -252,7 +253,7 @@ opcode_then_some : (o : Option Opcode) (p : Prefixes) (rest : List ℕ) (y : For
 opcode_then_some None p rest y e = absurd cc
 opcode_then_some (Some k) p rest y e =
     let x = then_read_some (fields_at (field_kind_of k) rest) (λ fs after. Some (record { prefixes = p; opcode = k; fields = fs }, after)) y e in
-    (k, x.0, refl, x.1, some_is _ _ x.2)
+    (k, x.0, refl, x.1, same_Some _ _ x.2)
 
 body_found : (p : Prefixes) (bytes : List ℕ) (f : Form) (after : List ℕ) → AreBytes bytes → body_at p bytes ≡ Some (f, after) → FormFound (prefix_bytes p ++ bytes) f after
 body_found p [] f after h e = absurd cc

@@ -1,4 +1,5 @@
 -- An address byte with its displacement that is read is the one that was written, and what was written is read again.
+use Rattle.std.proofs.lemmas.Option.{same_Some}
 use Rattle.std.proofs.Common.{◌≡◌, ℕ, zero, suc, ◌<◌, ◌+◌, ◌*◌, ◌/◌, ◌%◌, ◌^◌, Bool, true, false, cond, Option, Some, None, List, [], ◌∷◌, ◌++◌, refl, sym, ap, ◌∙◌, subst, arith, inl, inr, nat_eq}
 use Rattle.std.proofs.lemmas.Bool.{ne_eqb}
 use Rattle.std.proofs.lemmas.Bool.Decides.{eqb_tells}
@@ -13,9 +14,6 @@ use Rattle.i86_code.specs.Coding.{AreBytes}
 
 pub IsBytes-rest : (b : ℕ) (bytes : List ℕ) → AreBytes (b ∷ bytes) → AreBytes bytes
 IsBytes-rest b bytes h i = h (suc i)
-
-pub some_is : {A : Type 0} (x y : A) → Some x ≡ Some y → x ≡ y
-some_is x y e = cc
 
 pub base_again : (b : Base) → base_at (base_code b) ≡ b
 base_again bases.BxSi = refl
@@ -60,7 +58,7 @@ word_found (a ∷ []) n rest h e = absurd cc
 word_found (a ∷ b ∷ t) n rest h e =
     let low : a < 256 = h 0 in
     let high : b < 256 = h 1 in
-    let p = some_is (a + 256 * b, t) (n, rest) e in
+    let p = same_Some (a + 256 * b, t) (n, rest) e in
     let n-is : a + 256 * b ≡ n = ap (λ (x : ℕ × List ℕ). x.0) p in
     let rest-is : t ≡ rest = ap (λ (x : ℕ × List ℕ). x.1) p in
     let a-is : n % 256 ≡ a = omega arith in
@@ -100,7 +98,7 @@ record Spells (first : ℕ → ℕ) (rest : List ℕ) (p : RegisterOrMemory) (af
   pub bytes : AreBytes after
 
 spells_same : (first : ℕ → ℕ) (rest : List ℕ) (x y : RegisterOrMemory × List ℕ) → Some x ≡ Some y → Spells first rest x.0 x.1 → Spells first rest y.0 y.1
-spells_same first rest x y e s = subst (λ (z : RegisterOrMemory × List ℕ). Spells first rest z.0 z.1) (some_is x y e) s
+spells_same first rest x y e s = subst (λ (z : RegisterOrMemory × List ℕ). Spells first rest z.0 z.1) (same_Some x y e) s
 
 memory_found : (m c : ℕ) (rest : List ℕ) (p : RegisterOrMemory) (after : List ℕ) → m < 4 → c < 8 → AreBytes rest → memory_at m c rest ≡ Some (p, after) → Spells (λ r. 64 * m + 8 * r + c) rest p after
 memory_found zero c rest p after hm hc h e =
@@ -141,7 +139,7 @@ pub record Found (source : List ℕ) (r : ℕ) (p : RegisterOrMemory) (after : L
 
 option_map_some : {A B : Type 0} (f : A → B) (o : Option A) (y : B) → option_map f o ≡ Some y → (x : A) × (o ≡ Some x) × (f x ≡ y)
 option_map_some f None y e = absurd cc
-option_map_some f (Some x) y e = (x, refl, some_is _ _ e)
+option_map_some f (Some x) y e = (x, refl, same_Some _ _ e)
 
 pub place_found : (bytes : List ℕ) (r : ℕ) (p : RegisterOrMemory) (after : List ℕ) → AreBytes bytes → place_at bytes ≡ Some (r, p, after) → Found bytes r p after
 unfolding place_at

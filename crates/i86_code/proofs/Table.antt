@@ -1,6 +1,6 @@
 -- The table of opcodes: each byte is at most one opcode's, and each opcode is found at its byte.
 use Rattle.std.proofs.Common.{◌≡◌, ℕ, zero, suc, ◌<◌, ◌==◌, ◌&&◌, Bool, true, false, Option, Some, None, refl, subst, arith, inl, inr}
-use Rattle.std.proofs.lemmas.Bool.{cases_lt}
+use Rattle.std.proofs.lemmas.Bool.{cases_lt, and_parts}
 use Rattle.i86_table.specs.declared.instruction.AluOperation.TheVariants.{Add, Or, Adc, Sbb, And, Sub, Xor, Cmp}
 use Rattle.i86_table.specs.declared.instruction.Condition.TheVariants as conditions
 use Rattle.i86_table.specs.declared.instruction.Count.TheVariants as counts
@@ -19,16 +19,12 @@ abbrev below : ℕ → (ℕ → Bool) → Bool
 below zero t = true
 below (suc n) t = t n && below n t
 
-both : (a b : Bool) → (a && b) ≡ true → (a ≡ true) × (b ≡ true)
-both true b e = (refl, e)
-both false b e = absurd cc
-
 below-at : (n : ℕ) (t : ℕ → Bool) (k : ℕ) → below n t ≡ true → k < n → t k ≡ true
 below-at zero t k e lt = absurd (omega arith)
 below-at (suc n) t k e lt =
     elim (cases_lt k n) [
-      | inl less ↦ below-at n t k (both (t n) (below n t) e).1 less
-      | inr le ↦ let same : n ≡ k = omega arith in subst (λ (j : ℕ). t j ≡ true) same (both (t n) (below n t) e).0
+      | inl less ↦ below-at n t k (and_parts (t n) (below n t) e).1 less
+      | inr le ↦ let same : n ≡ k = omega arith in subst (λ (j : ℕ). t j ≡ true) same (and_parts (t n) (below n t) e).0
     ]
 
 -- the opcode found at a byte has that byte

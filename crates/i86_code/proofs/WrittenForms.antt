@@ -1,4 +1,5 @@
 -- The form that is written for an instruction says that instruction.
+use Rattle.std.proofs.lemmas.Bool.{and_parts, not-true}
 use Rattle.std.proofs.Common.{◌≡◌, ◌≢◌, ℕ, ◌<◌, ◌%◌, ◌^◌, ◌==◌, ◌&&◌, not, Bool, true, false, cond, Option, Some, List, ◌++◌, refl, sym, ap, ◌∙◌, subst, arith, inl, inr, ◌⊎◌}
 use Rattle.std.specs.Prelude.{length}
 use Rattle.word86.specs.declared.width.Width.{Width}
@@ -163,15 +164,11 @@ ax_or (rm.Register Di) = inr refl
 near_again : (d : ℕ) → d < 2 ^ 16 → is_near d ≡ true → sign_extended (d % 256) ≡ d
 near_again d fits near = grind (arith, near)
 
-pub both : (a b : Bool) → (a && b) ≡ true → (a ≡ true) × (b ≡ true)
-both true b e = (refl, e)
-both false b e = absurd cc
-
 based_place : {R : Type 0} (at : ℕ → R) (p : Prefixes) (base : Base) (d : ℕ) → d < 2 ^ 16 → operand at p (based_form base d) ≡ rm.Memory (based p base d)
 unfolding based_form
 based_place at p base d fits =
     elim (chosen (d == 0 && not (is_bp base)) (Indirect base) (cond (is_near d) (Near base (d % 256)) (Far base d))) [
-      | inl bare ↦ let test = both (d == 0) (not (is_bp base)) bare.0 in let none : d ≡ 0 = grind (arith, test) in
+      | inl bare ↦ let test = and_parts (d == 0) (not (is_bp base)) bare.0 in let none : d ≡ 0 = grind (arith, test) in
           ap (λ (x : RegisterOrMemory). operand at p x) bare.1 ∙ ap (λ (n : ℕ). rm.Memory (based p base n)) (sym none)
       | inr with_displacement ↦
           elim (chosen (is_near d) (Near base (d % 256)) (Far base d)) [
@@ -184,7 +181,7 @@ based_is_place : (base : Base) (d : ℕ) → d < 2 ^ 16 → IsPlace (based_form 
 unfolding based_form
 based_is_place base d fits =
     elim (chosen (d == 0 && not (is_bp base)) (Indirect base) (cond (is_near d) (Near base (d % 256)) (Far base d))) [
-      | inl bare ↦ subst IsPlace (sym bare.1) (not_six base (both (d == 0) (not (is_bp base)) bare.0).1)
+      | inl bare ↦ subst IsPlace (sym bare.1) (not_six base (and_parts (d == 0) (not (is_bp base)) bare.0).1)
       | inr with_displacement ↦
           elim (chosen (is_near d) (Near base (d % 256)) (Far base d)) [
             | inl near ↦ subst IsPlace (sym (with_displacement.1 ∙ near.1)) (omega arith)
@@ -289,7 +286,7 @@ alu_immediate_again o p n fits =
     let again = word_place_again p fits.0 in
     elim (chosen (is_short (operation_code o) && is_near n) (with_byte word_register_code op.AluShort (operation_code o) p (n % 256)) (with_word (op.AluImmediate widths.Word) (operation_code o) p n)) [
       | inl short ↦
-          let test = both (is_short (operation_code o)) (is_near n) short.0 in
+          let test = and_parts (is_short (operation_code o)) (is_near n) short.0 in
           let near = near_again n (omega (arith, fits.1)) test.1 in
           subst (λ (f : Form). Says f (i.AluWord o (Immediate p n))) (sym short.1)
           (said _ _ _ _ again.once
@@ -488,18 +485,14 @@ accumulator_exchanged a Bp e f = rw (ax_is a e) refl
 accumulator_exchanged a Si e f = rw (ax_is a e) refl
 accumulator_exchanged a Di e f = rw (ax_is a e) refl
 
-not_true : (b : Bool) → not b ≡ true → b ≡ false
-not_true true e = absurd cc
-not_true false e = refl
-
 exchange_words_again : WordPairLaws → (p : WordPair) → Says (exchange_words_of p.first p.second) (i.ExchangeWords p)
 unfolding instruction_from addressed_instruction plain_instruction
 exchange_words_again laws p =
     elim (chosen (is_ax p.first && not (is_ax p.second)) (plain (op.ExchangeAccumulator p.second) fields.Nothing) (plain (op.Exchange widths.Word) (fields.Address (word_register_code p.first) (Register (word_register_code p.second))))) [
       | inl short ↦
-          let test = both (is_ax p.first) (not (is_ax p.second)) short.0 in
+          let test = and_parts (is_ax p.first) (not (is_ax p.second)) short.0 in
           subst (λ (f : Form). Says f (i.ExchangeWords p)) (sym short.1)
-          (said _ _ _ _ refl (ap (λ (x : Instr). Some x) (accumulator_exchanged p.first p.second test.0 (not_true (is_ax p.second) test.1)) ∙ ap (λ (x : WordPair). Some (i.ExchangeWords x)) (laws.again p)) refl tt)
+          (said _ _ _ _ refl (ap (λ (x : Instr). Some x) (accumulator_exchanged p.first p.second test.0 (not-true (is_ax p.second) test.1)) ∙ ap (λ (x : WordPair). Some (i.ExchangeWords x)) (laws.again p)) refl tt)
       | inr long ↦
           subst (λ (f : Form). Says f (i.ExchangeWords p)) (sym long.1)
           (said _ _ _ _ refl (rw (word_again p.first, word_again p.second) (ap (λ (x : WordPair). Some (i.ExchangeWords x)) (laws.again p))) refl (word_below p.first, word_below p.second))

@@ -4,9 +4,13 @@
 use Rattle.std.specs.Prelude.{ℕ, Bool, true, false, not, ◌==◌, ◌+◌, ◌-◌, ◌*◌, ◌%◌, ◌/◌, ◌&&◌, nat_lt, nat_le, if◌then◌else◌, Option, Some, None, List, [], ◌∷◌, length, drop}
 use Rattle.word86.specs.declared.width.Width.{Width}
 use Rattle.word86.specs.declared.width.Width.TheVariants as widths
+use Rattle.word86.specs.declared.page.Page.TheVariants.{Monochrome, Colour}
 use Rattle.word86.specs.Access.{Access, Where, In, Screen, Read, Write, Input, Output}
 use Rattle.word86.specs.Action.{Silent, Touch, Enable, Disable, Halt, Over, Bad}
 use Rattle.word86.specs.Following.{Offer, Does, Arms}
+use Rattle.word86.specs.MemoryMap.{screen_segment, code_segment, data_segment, stack_top}
+use Rattle.word86.specs.Page.{page_begins, page_size}
+use Rattle.word86.specs.Place.{covers}
 use Rattle.i86_table.specs.declared.registers.Regs.{Regs}
 use Rattle.i86_table.specs.declared.registers.Register16.{Register16}
 use Rattle.i86_table.specs.declared.registers.Register16.TheVariants.{Ax, Dx, Sp}
@@ -49,7 +53,7 @@ pub record Working : Type 0 where
 
 -- all registers, at this place and this stack pointer; code, data, stack and screen keep their segments
 abbrev pub all_registers : (place : ℕ) → Working → (sp : ℕ) → Regs
-all_registers place g sp = record { ax = g.ax; cx = g.cx; dx = g.dx; bx = g.bx; sp = sp; bp = g.bp; si = g.si; di = g.di; es = 0xB000; cs = 0xF000; ss = 0x40; ds = 0x40; ip = place; flags = g.flags }
+all_registers place g sp = record { ax = g.ax; cx = g.cx; dx = g.dx; bx = g.bx; sp = sp; bp = g.bp; si = g.si; di = g.di; es = screen_segment; cs = code_segment; ss = data_segment; ds = data_segment; ip = place; flags = g.flags }
 
 abbrev pub working : Regs → Working
 working r = record { ax = r.ax; cx = r.cx; dx = r.dx; bx = r.bx; bp = r.bp; si = r.si; di = r.di; flags = r.flags }
@@ -94,9 +98,9 @@ abbrev pub room : (main handler : ℕ) → Option Given → ℕ
 room main handler None = main
 room main handler (Some s) = handler
 
--- where the stack pointer stands while a context has no word on the stack: main's begins at 0FFFEH
+-- where the stack pointer stands while a context has no word on the stack: main's begins behind the stack's room
 abbrev pub top_of : Option Given → ℕ
-top_of None = 0xFFFE
+top_of None = stack_top
 top_of (Some s) = s.top
 
 -- where it stands below the context's words
@@ -129,9 +133,12 @@ abbrev pub in_object : Option (ℕ × ℕ) → Option Where
 in_object None = None
 in_object (Some x) = Some (In x.0 x.1)
 
--- n bytes from this offset of segment 0B000H, where all of them are on the screen
+-- the page that has all of n bytes from this offset of the screen's segment, and the index of the first of them there
 abbrev pub on_screen : (offset n : ℕ) → Option Where
-on_screen offset n = if nat_le 0x8000 offset && nat_le (offset + n) 0x8FA0 then Some (Screen (offset - 0x8000)) else None
+on_screen offset n =
+    if covers (page_begins Monochrome) page_size offset n then Some (Screen Monochrome (offset - page_begins Monochrome))
+    else if covers (page_begins Colour) page_size offset n then Some (Screen Colour (offset - page_begins Colour))
+    else None
 
 -- a place this distance on, modulo 65,536
 abbrev pub further : (place distance : ℕ) → ℕ

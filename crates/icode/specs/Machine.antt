@@ -10,7 +10,8 @@ use Rattle.word86.specs.Access as access
 use Rattle.word86.specs.Action.{Action, Silent, Touch, Enable, Disable, Halt, Over, Bad}
 use Rattle.word86.specs.Arithmetic.{low}
 use Rattle.word86.specs.Operation.{unary_value, binary_value}
-use Rattle.word86.specs.Place.{bytes, covers, held, screen_begins, screen_size}
+use Rattle.word86.specs.Page.{page_begins, page_size}
+use Rattle.word86.specs.Place.{bytes, covers, held}
 use Rattle.icode.specs.declared.instruction.Instruction.{Instruction}
 use Rattle.icode.specs.declared.instruction.Instruction.TheVariants as op
 use Rattle.icode.specs.declared.instruction.Relation.{Relation}
@@ -135,15 +136,15 @@ switched None r p a ws = Bad 0 0
 
 -- the objects' offsets and sizes
 module _ (offsets sizes : List ℕ) where
-  -- the address this number of bytes after a place
+  -- the address this number of bytes after a place, in the segment of the objects or in the screen's
   abbrev pub address : Place → ℕ → ℕ
   address (place.Ram k i) more = (slice_index offsets k + i + more) % 65536
-  address (place.Screen i) more = (screen_begins + i + more) % 65536
+  address (place.Screen page i) more = (page_begins page + i + more) % 65536
 
-  -- what lies at an address in the segment of a place
+  -- what lies at an address: in an object or, for a place on the screen, in the page of that place
   abbrev pub found : Width → Place → ℕ → Option Where
   found width (place.Ram k i) a = held 0 offsets sizes a (bytes width)
-  found width (place.Screen i) a = if covers screen_begins screen_size a (bytes width) then Some (access.Screen (a - screen_begins)) else None
+  found width (place.Screen page i) a = if covers (page_begins page) page_size a (bytes width) then Some (access.Screen page (a - page_begins page)) else None
 
   -- a jump to q unless the test holds, else on at p
   abbrev pub jumped : Test → Routine → (p q accumulator : ℕ) → List Word → Action Access Context

@@ -4,7 +4,7 @@ ghost use Rattle.std.specs.Prelude.{◌≡◌, slice_index, option_map};
 ghost use Rattle.word86.specs.Place.{bytes, covers, held, where_of};
 ghost use Rattle.icode.specs.Machine.{address, found};
 
-use word86::{Place, Width};
+use word86::{PAGE_SIZE, Place, Width};
 
 /// The RAM objects' offsets in their segment, and their sizes in bytes.
 #[derive(Clone, Copy)]
@@ -48,7 +48,7 @@ impl RamObjects<'_> {
     {
         let begin = match place {
             Place::Ram(object, index) => u32::from(self.offset(object)) + u32::from(index),
-            Place::Screen(index) => 0x8000 + u32::from(index),
+            Place::Screen(page, index) => u32::from(page.begins()) + u32::from(index),
         };
         ((begin + u32::from(more)) % 0x1_0000) as u16
     }
@@ -69,15 +69,16 @@ impl RamObjects<'_> {
         None
     }
 
-    /// What lies at an address in the segment of a place.
+    /// What lies at an address: in a RAM object or, for a place on the screen, in the page of that place.
     pub fn found(self, width: Width, place: Place, address: u16) -> Option<Place>
         ensures { option_map where_of result ≡ found self.entry.offsets.now self.entry.sizes.now width place address }
     {
         match place {
             Place::Ram(_, _) => self.held(width, address),
-            Place::Screen(_) => {
-                if covers(0x8000, 4000, address, bytes(width)) {
-                    Some(Place::Screen(address - 0x8000))
+            Place::Screen(page, _) => {
+                let begins = page.begins();
+                if covers(begins, PAGE_SIZE as u64, address, bytes(width)) {
+                    Some(Place::Screen(page, address - begins))
                 } else {
                     None
                 }

@@ -1,7 +1,7 @@
 -- What start-up's tasks touch, and how many turns they take.
 use Rattle.std.proofs.Common.{◌≡◌, ℕ, zero, suc, ◌+◌, ◌-◌, ◌*◌, ◌<◌, ◌≤◌, ◌&&◌, Bool, true, false, List, [], ◌∷◌, ◌++◌, length, map, Option, Some, None, refl, sym, ap, subst, arith, length-append}
 use Rattle.std.specs.Prelude.{if◌then◌else◌, nat_lt, nat_le}
-use Rattle.std.proofs.lemmas.Bool.{leb-true, ltb-true}
+use Rattle.std.proofs.lemmas.Bool.{leb-true, ltb-true, and_parts}
 use Rattle.std.specs.List.{All, sum_by}
 use Rattle.std.proofs.lemmas.List.Elements.{All-head, All-tail}
 use Rattle.std.proofs.lemmas.List.Sums.{sum_by-cons}
@@ -49,10 +49,6 @@ puts_turns to [] = omega arith
 puts_turns to (a ∷ []) = omega arith
 puts_turns to (a ∷ b ∷ rest) = let h = puts_turns (to + 2) rest in omega (arith, h)
 
-both : (a b : Bool) → (a && b) ≡ true → (a ≡ true) × (b ≡ true)
-both true b e = (refl, e)
-both false b e = absurd cc
-
 -- a stretch is copied, or not
 record Cases (copies : ℕ) (bytes : List ℕ) : Type 0 where
   pub tasks_are : (at to : ℕ) → stretch_tasks at copies to bytes ≡ tasks.Copy at to (length bytes - 1) ∷ []
@@ -72,7 +68,7 @@ module _ (P : ℕ → List ℕ → Type 0) where
     where
       decided : (b : Bool) → is_copied copies (length bytes) ≡ b → P copies bytes
       decided true e =
-          let t = both (nat_lt copies 840) (nat_le 5 (length bytes)) e in
+          let t = and_parts (nat_lt copies 840) (nat_le 5 (length bytes)) e in
           f (record {
             tasks_are = λ at to. ap (λ (c : Bool). if c then tasks.Copy at to (length bytes - 1) ∷ [] else puts to bytes) e;
             copied_are = ap (λ (c : Bool). if c then bytes else []) e;

@@ -1,5 +1,6 @@
 -- The instructions of start-up, where they stand.
 use Rattle.std.proofs.Common.{◌≡◌, ℕ, suc, ◌+◌, ◌%◌, ◌<◌, ◌≤◌, List, [], ◌∷◌, ◌++◌, length, map, Option, Some, refl, sym, ap, ◌∙◌, subst, arith, append_assoc, length-append}
+use Rattle.word86.specs.MemoryMap.{code_segment, reset_offset}
 use Rattle.i86_table.specs.declared.registers.Register16.TheVariants.{Cx, Si, Di}
 use Rattle.i86_table.specs.declared.instruction.Instr.{Instr}
 use Rattle.i86_table.specs.declared.instruction.Instr.TheVariants as i
@@ -119,8 +120,8 @@ module _ (code : ℕ → Option (Instr × ℕ)) where
 
   -- ---- the whole
 
-  pub starts_up : (base entry : ℕ) (places : List ℕ) (from : ℕ) (ts : List Task) (distance main_at : ℕ) → TasksFit from ts → base + start_up_bytes ts ≤ 0xFFF0
-      → (length : ℕ) × (code 0xFFF0 ≡ Some (i.JumpFar base 0xF000, length)) → further (base + start_up_bytes ts) distance ≡ main_at
+  pub starts_up : (base entry : ℕ) (places : List ℕ) (from : ℕ) (ts : List Task) (distance main_at : ℕ) → TasksFit from ts → base + start_up_bytes ts ≤ reset_offset
+      → (length : ℕ) × (code reset_offset ≡ Some (i.JumpFar base code_segment, length)) → further (base + start_up_bytes ts) distance ≡ main_at
       → StandInOrder code base (start_up entry places from ts distance) → HasStartUpBefore (base + start_up_bytes ts) code entry (map (placed places from) ts) main_at
   unfolding form_of move_byte_of move_word_of alu_byte_of alu_word_of based_form opcode_byte
   starts_up base entry places from ts distance main_at f le reset leads all =
@@ -132,7 +133,7 @@ module _ (code : ℕ → Option (Instr × ℕ)) where
       let e : base + 24 + length (all_bytes (all_of places from ts)) ≡ base + 24 + n = omega (arith, long) in
       let z = subst (λ x. StandInOrder code x (to_main distance)) e (behind code (base + 24) (all_of places from ts) (to_main distance) rest) in
       let q = base + 24 + n in
-      let low : q + 18 ≤ 0xFFF0 = omega (arith, le) in
+      let low : q + 18 ≤ reset_offset = omega (arith, le) in
       let lead : further (further (q + 15) 3) distance ≡ main_at = let same : further (q + 15) 3 ≡ base + (42 + n) = omega (arith, le) in ap (λ x. further x distance) same ∙ leads in (
         record {
           begin = base;

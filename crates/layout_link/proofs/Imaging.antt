@@ -2,6 +2,7 @@
 use Rattle.std.proofs.Common.{◌≡◌, ℕ, zero, suc, ◌+◌, ◌-◌, ◌%◌, ◌≤◌, List, [], ◌∷◌, length, map, get_or, Option, Some, None, refl, ap, ap₂, ◌∙◌, subst, arith}
 use Rattle.std.specs.Option.{option_map_or}
 use Rattle.std.specs.Prelude.{Bool, position, slice_index}
+use Rattle.word86.specs.MemoryMap.{code_segment, reset_offset}
 use Rattle.i86_table.specs.declared.instruction.Instr.{Instr}
 use Rattle.i86_table.specs.declared.instruction.Instr.TheVariants as i
 use Rattle.i86_table.specs.Contexts.{further}
@@ -55,7 +56,7 @@ module _ (parts : List Part) (tasks : List Task) (base : ℕ) where
   at is = place_in places parts is
 
   pub rom_starts : (code : ℕ → Option (Instr × ℕ)) (items : List Instr) (unserved main from b : ℕ) (ps : List ℕ)
-      → TasksFit end tasks → end ≤ 0xFFF0 → code 0xFFF0 ≡ Some (i.JumpFar base 0xF000, 5)
+      → TasksFit end tasks → end ≤ reset_offset → code reset_offset ≡ Some (i.JumpFar base code_segment, 5)
       → unserved ≡ at is_unserved → main ≡ at is_main → ps ≡ places → from ≡ end → b ≡ begin
       → items ≡ start_up unserved ps from tasks ((main + (65536 - b)) % 65536) → StandInOrder code base items
       → HasStartUpBefore begin code (at is_unserved) (map (placed places end) tasks) (at is_main)

@@ -4,6 +4,7 @@ use Rattle.std.specs.Prelude.{◌==◌, if◌then◌else◌}
 use Rattle.std.specs.List.{All}
 use Rattle.std.proofs.lemmas.Bool.{eqb-true}
 use Rattle.std.proofs.lemmas.List.Elements.{All-head, All-tail}
+use Rattle.word86.specs.MemoryMap.{data_start, data_end}
 use Rattle.plm_decl.specs.declared.names.Object.{Object}
 use Rattle.plm_decl.specs.declared.names.Variable.{Variable}
 use Rattle.layout_link.specs.Initial.{Stretch, stretch, joined, object_bytes, stretches, count_of}
@@ -46,22 +47,22 @@ low_joined a xs (stretch b ys ∷ rest) lt low =
 module _ (offsets : List ℕ) (variables : List Variable) where
   pub total_is : (k : ℕ) (os : List Object) → total (stretches offsets variables k os) ≡ count_of offsets variables os
   total_is k [] = refl
-  total_is k (o ∷ os) = let h = total_is (k + 1) os in total_joined (1024 + get_or offsets k 0) (object_bytes offsets variables o) (stretches offsets variables (k + 1) os) ∙ omega (arith, h)
+  total_is k (o ∷ os) = let h = total_is (k + 1) os in total_joined (data_start + get_or offsets k 0) (object_bytes offsets variables o) (stretches offsets variables (k + 1) os) ∙ omega (arith, h)
 
   -- an object has room for its initial bytes
   abbrev pub HasRoom : Object → Type 0
   HasRoom o = length (object_bytes offsets variables o) ≤ o.size
 
-  pub are_low : (k : ℕ) (os : List Object) → All HasRoom os → ((i : ℕ) → get_or offsets (k + i) 0 + get_or (map (λ o. o.size) os) i 0 ≤ 61440) → AreLow (stretches offsets variables k os)
+  pub are_low : (k : ℕ) (os : List Object) → All HasRoom os → ((i : ℕ) → get_or offsets (k + i) 0 + get_or (map (λ o. o.size) os) i 0 ≤ data_end) → AreLow (stretches offsets variables k os)
   are_low k [] fit room = tt
   are_low k (o ∷ os) fit room =
       let here : k + 0 ≡ k = omega arith in
       let r = room 0 in
       let at_k = ap (λ n. get_or offsets n 0) here in
-      let rest_room : (i : ℕ) → get_or offsets (k + 1 + i) 0 + get_or (map (λ x. x.size) os) i 0 ≤ 61440 = λ i.
+      let rest_room : (i : ℕ) → get_or offsets (k + 1 + i) 0 + get_or (map (λ x. x.size) os) i 0 ≤ data_end = λ i.
       let e : k + suc i ≡ k + 1 + i = omega arith in
       let p = ap (λ n. get_or offsets n 0) e in
       let q = room (suc i) in
       omega (arith, p, q) in
-      low_joined (1024 + get_or offsets k 0) (object_bytes offsets variables o) (stretches offsets variables (k + 1) os)
+      low_joined (data_start + get_or offsets k 0) (object_bytes offsets variables o) (stretches offsets variables (k + 1) os)
       (omega (arith, r, at_k, All-head HasRoom o os fit)) (are_low (k + 1) os (All-tail HasRoom o os fit) rest_room)

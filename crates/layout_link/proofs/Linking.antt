@@ -1,5 +1,6 @@
 -- What is linked fits, and takes few turns.
 use Rattle.std.proofs.Common.{◌≡◌, ℕ, ◌+◌, ◌<◌, ◌≤◌, ◌++◌, List, length, map, get_or, ap, ap₂, ◌∙◌, subst, arith}
+use Rattle.word86.specs.MemoryMap.{first_offset, data_end}
 use Rattle.plm_decl.specs.declared.names.Names.{Names}
 use Rattle.plm_decl.specs.declared.names.Object.{Object}
 use Rattle.plm_decl.specs.Placement.{IsPlacement, sizes_of}
@@ -24,15 +25,15 @@ pub vectors_are : (parts ps : List Part) (ts : List Task) → ps ≡ parts → t
 vectors_are parts ps ts p e = e ∙ ap (λ l. vector_tasks l 0 256) p
 
 module _ (names : Names) where
-  pub offsets_are : (os : List Object) (offsets : List ℕ) → os ≡ names.objects.items → offsets ≡ offsets_from 2 (map (λ o. o.size) os) → offsets ≡ offsets_in names
-  offsets_are os offsets o e = e ∙ ap (λ l. offsets_from 2 (map (λ x. x.size) l)) o
+  pub offsets_are : (os : List Object) (offsets : List ℕ) → os ≡ names.objects.items → offsets ≡ offsets_from first_offset (map (λ o. o.size) os) → offsets ≡ offsets_in names
+  offsets_are os offsets o e = e ∙ ap (λ l. offsets_from first_offset (map (λ x. x.size) l)) o
 
   pub tasks_are : (parts : List Part) (offsets : List ℕ) (vectors ts : List Task) → offsets ≡ offsets_in names → vectors ≡ vector_tasks parts 0 256
       → ts ≡ vectors ++ data_tasks 0 0 (stretches offsets names.variables.items 0 names.objects.items) → ts ≡ tasks_in names parts
   tasks_are parts offsets vectors ts o v e = e ∙ ap₂ (λ a b. a ++ data_tasks 0 0 (stretches b names.variables.items 0 names.objects.items)) v o
 
-  pub room : (k : ℕ) → get_or (offsets_in names) k 0 + get_or (sizes_of names) k 0 ≤ 61440
-  room k = let b = below 2 (sizes_of names) k in let s = sum_sizes names.objects.items in let r = names.has_room in omega (arith, b, s, r)
+  pub room : (k : ℕ) → get_or (offsets_in names) k 0 + get_or (sizes_of names) k 0 ≤ data_end
+  room k = let b = below first_offset (sizes_of names) k in let s = sum_sizes names.objects.items in let r = names.has_room in omega (arith, b, s, r)
 
   pub placed_well : IsPlacement (offsets_in names) (sizes_of names)
   placed_well = let s = sum_sizes names.objects.items in let r = names.has_room in is_placement (sizes_of names) (omega (arith, s, r))

@@ -3,6 +3,7 @@ use Rattle.std.proofs.Common.{◌≡◌, ℕ, zero, suc, ◌+◌, ◌<◌, ◌�
 use Rattle.std.specs.Prelude.{sum}
 use Rattle.std.specs.List.{sum_by}
 use Rattle.std.proofs.lemmas.List.Sums.{sum_by-cons}
+use Rattle.word86.specs.MemoryMap.{first_offset, data_room}
 use Rattle.plm_decl.specs.declared.names.Object.{Object}
 use Rattle.plm_decl.specs.Placement.{IsPlacement}
 use Rattle.layout_link.specs.Objects.{offsets_from}
@@ -29,11 +30,11 @@ in_order from (n ∷ ns) j zero l lt = absurd (omega arith)
 in_order from (n ∷ ns) zero (suc k) l lt = above (from + n) ns k (omega (arith, lt))
 in_order from (n ∷ ns) (suc j) (suc k) l lt = in_order (from + n) ns j k (omega (arith, l)) (omega (arith, lt))
 
-pub is_placement : (sizes : List ℕ) → sum sizes ≤ 61438 → IsPlacement (offsets_from 2 sizes) sizes
+pub is_placement : (sizes : List ℕ) → sum sizes ≤ data_room → IsPlacement (offsets_from first_offset sizes) sizes
 is_placement sizes room = record {
-  each = long 2 sizes;
-  within = λ k lt b h. let a = above 2 sizes k lt in let e = below 2 sizes k in (omega (arith, a, h.0), omega (arith, e, h.1, room));
-  apart = λ k lt j l b hj hk. let o = in_order 2 sizes j k l lt in absurd (omega (arith, o, hj.1, hk.0));
+  each = long first_offset sizes;
+  within = λ k lt b h. let a = above first_offset sizes k lt in let e = below first_offset sizes k in (omega (arith, a, h.0), omega (arith, e, h.1, room));
+  apart = λ k lt j l b hj hk. let o = in_order first_offset sizes j k l lt in absurd (omega (arith, o, hj.1, hk.0));
 }
 
 pub sum_sizes : (os : List Object) → sum (map (λ o. o.size) os) ≡ sum_by (λ o. o.size) os

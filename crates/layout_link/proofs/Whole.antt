@@ -3,6 +3,7 @@ use Rattle.std.proofs.Common.{◌≡◌, ℕ, zero, suc, ◌+◌, ◌-◌, ◌%�
 use Rattle.std.specs.Prelude.{nat_lt, if◌then◌else◌, slice_index, slice_get, replicate}
 use Rattle.std.proofs.lemmas.List.{length-replicate, length-map, get_or-append-add, get_or_append_left}
 use Rattle.std.proofs.lemmas.List.Sums.{sum_by-take-le}
+use Rattle.word86.specs.MemoryMap.{code_segment, reset_offset}
 use Rattle.i86_table.specs.declared.instruction.Instr.{Instr}
 use Rattle.i86_table.specs.declared.instruction.Instr.TheVariants as i
 use Rattle.i86_code.specs.Forms.{Spells}
@@ -111,12 +112,12 @@ regroup a b c d e f = simp append_assoc
 
 module _ (only : IsOneForm) (head : List Instr) (parts : List Part) (offsets places initial : List ℕ) (size base : ℕ) (rom : List ℕ) (base_is : base + size ≡ 65536)
     (fits : length (all_bytes head) + total_of parts + length initial + 16 ≤ size) (coded : AreCoded head)
-    (is : rom ≡ rom_bytes (all_bytes head) (all_filled offsets places 0 parts) initial (bytes_of (i.JumpFar base 0xF000)) size) where
+    (is : rom ≡ rom_bytes (all_bytes head) (all_filled offsets places 0 parts) initial (bytes_of (i.JumpFar base code_segment)) size) where
   abbrev code : List ℕ
   code = all_filled offsets places 0 parts
 
   abbrev jump : List ℕ
-  jump = bytes_of (i.JumpFar base 0xF000)
+  jump = bytes_of (i.JumpFar base code_segment)
 
   abbrev front : List ℕ
   front = all_bytes head ++ code ++ initial
@@ -164,11 +165,11 @@ module _ (only : IsOneForm) (head : List Instr) (parts : List Part) (offsets pla
   unfolded : rom ≡ all_bytes head ++ (code ++ (initial ++ (gap ++ (jump ++ tail))))
   unfolded = is ∙ regroup (all_bytes head) code initial gap jump tail
 
-  pub resets : Spells jump (i.JumpFar base 0xF000) → rom_code rom 0xFFF0 ≡ Some (i.JumpFar base 0xF000, 5)
+  pub resets : Spells jump (i.JumpFar base code_segment) → rom_code rom reset_offset ≡ Some (i.JumpFar base code_segment, 5)
   resets spells =
       let l = before_jump in
-      code_at only rom base ends (front ++ gap) jump tail 0xFFF0 (i.JumpFar base 0xF000) (is ∙ append_assoc (front ++ gap) jump tail) (omega (arith, l, fits, base_is)) spells
-      ∙ ap (λ n. Some (i.JumpFar base 0xF000, n)) jump_long
+      code_at only rom base ends (front ++ gap) jump tail reset_offset (i.JumpFar base code_segment) (is ∙ append_assoc (front ++ gap) jump tail) (omega (arith, l, fits, base_is)) spells
+      ∙ ap (λ n. Some (i.JumpFar base code_segment, n)) jump_long
 
   pub initial_there : (i : ℕ) → i < length initial → rom_byte rom (base + length (all_bytes head) + total_of parts + i) ≡ slice_index initial i
   initial_there i lt =

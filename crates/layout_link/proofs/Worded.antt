@@ -2,12 +2,9 @@
 use Rattle.std.proofs.Common.{◌≡◌, ℕ, zero, suc, ◌+◌, ◌-◌, ◌%◌, ◌/◌, ◌<◌, ◌≤◌, List, [], ◌∷◌, length, get_or, Some, None, inl, inr, sym, ap, ap₂, ◌∙◌, arith}
 use Rattle.std.specs.Prelude.{nat_lt, ◌||◌, if◌then◌else◌}
 use Rattle.std.proofs.lemmas.Bool.{cases_lt, lt-ltb, le-ltb}
-use Rattle.std.proofs.lemmas.Option.{none-some}
+use Rattle.std.proofs.lemmas.Option.{none-some, same_Some}
 use Rattle.i86_code.specs.Coding.{AreBytes}
 use Rattle.layout_link.specs.Rom.{rom_byte, Written, WordsInRom, word_in, rom_words}
-
-some_is : (m n : ℕ) → Some m ≡ Some n → m ≡ n
-some_is m n e = cc
 
 module _ (rom : List ℕ) (small : AreBytes rom) (size : length rom ≤ 65536) where
   abbrev at : ℕ → ℕ
@@ -37,6 +34,6 @@ module _ (rom : List ℕ) (small : AreBytes rom) (size : length rom ≤ 65536) w
             let first = le-ltb (p + length rom) 65536 ge in
             elim (cases_lt 65534 p) [
               | inl lt ↦ absurd (none-some v (sym (ap₂ (λ x y. if x || y then None else Some (word_in rom (at p))) first (lt-ltb 65534 p lt)) ∙ e))
-              | inr le ↦ word_written p v ge le (some_is (word_in rom (at p)) v (sym (ap₂ (λ x y. if x || y then None else Some (word_in rom (at p))) first (le-ltb 65534 p le)) ∙ e))
+              | inr le ↦ word_written p v ge le (same_Some (word_in rom (at p)) v (sym (ap₂ (λ x y. if x || y then None else Some (word_in rom (at p))) first (le-ltb 65534 p le)) ∙ e))
             ]
       ]

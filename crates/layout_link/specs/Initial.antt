@@ -1,5 +1,6 @@
 -- The bytes that the objects of a program have at start, and how start-up puts them there: stretch by stretch.
 use Rattle.std.specs.Prelude.{ℕ, ◌+◌, ◌*◌, ◌-◌, ◌==◌, ◌&&◌, nat_lt, nat_le, if◌then◌else◌, Bool, List, [], ◌∷◌, ◌++◌, length, slice_index}
+use Rattle.word86.specs.MemoryMap.{data_start}
 use Rattle.plm_decl.specs.declared.names.Variable.{Variable}
 use Rattle.plm_decl.specs.declared.names.Object.{Object}
 use Rattle.plm_decl.specs.Initial.{initial_bytes}
@@ -59,10 +60,10 @@ module _ (offsets : List ℕ) (variables : List Variable) where
   HaveBytes [] = Unit {0}
   HaveBytes (o ∷ os) = AreBytes (object_bytes o) × HaveBytes os
 
-  -- the stretches of the objects from the k-th on; the data segment is 0040H
+  -- the stretches of the objects from the k-th on, by their addresses
   abbrev pub stretches : (k : ℕ) → List Object → List Stretch
   stretches k [] = []
-  stretches k (o ∷ os) = joined (1024 + slice_index offsets k) (object_bytes o) (stretches (k + 1) os)
+  stretches k (o ∷ os) = joined (data_start + slice_index offsets k) (object_bytes o) (stretches (k + 1) os)
 
   -- how many bytes the objects have at start
   abbrev pub count_of : List Object → ℕ

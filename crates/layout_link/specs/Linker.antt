@@ -1,6 +1,7 @@
 -- What is linked: where the objects and the parts of a program lie, and what start-up does.
 use Rattle.std.specs.Prelude.{ℕ, ◌≡◌, ◌+◌, ◌<◌, Bool, List, ◌++◌, length, map, position, slice_index}
 use Rattle.std.specs.Option.{option_map_or}
+use Rattle.word86.specs.MemoryMap.{first_offset}
 use Rattle.select.specs.declared.part.Entry.{Entry}
 use Rattle.select.specs.declared.part.Part.{Part}
 use Rattle.plm_decl.specs.declared.names.Names.{Names}
@@ -20,9 +21,9 @@ abbrev pub place_in : (places : List ℕ) → List Part → (Entry → Bool) →
 place_in places parts is = option_map_or (λ k. slice_index places k) (position (λ p. is p.entry) parts) 0
 
 module _ (names : Names) where
-  -- the objects lie one after another from 0002H on
+  -- the objects lie one after another from the first offset on
   abbrev pub offsets_in : List ℕ
-  offsets_in = offsets_from 2 (sizes_of names)
+  offsets_in = offsets_from first_offset (sizes_of names)
 
   -- the initial bytes, stretch by stretch
   abbrev pub stretches_in : List Stretch

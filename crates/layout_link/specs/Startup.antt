@@ -2,6 +2,7 @@
 -- RAM, loads the segments and the stack pointer, and goes on to main.
 use Rattle.std.specs.Prelude.{ℕ, suc, ◌≡◌, ◌+◌, ◌<◌, Option, Some, List, [], ◌∷◌}
 use Rattle.word86.specs.declared.width.Width.TheVariants as widths
+use Rattle.word86.specs.MemoryMap.{vectors_size, data_segment, screen_segment, code_segment, stack_top, reset_offset}
 use Rattle.i86_table.specs.declared.registers.Register16.{Register16}
 use Rattle.i86_table.specs.declared.registers.Register16.TheVariants.{Ax, Cx, Dx, Bx, Sp, Si, Di}
 use Rattle.i86_table.specs.declared.registers.Segment.TheVariants as segments
@@ -54,13 +55,13 @@ module _ (code : (place : ℕ) → Option (Instr × ℕ)) where
   abbrev pub Stands : (here : ℕ) → Instr → (there : ℕ) → Type 0
   Stands here instruction there = (length : ℕ) × (code here ≡ Some (instruction, length)) × (further here length ≡ there) × (here < there)
 
-  -- all vectors, by a loop of five instructions: MOV [BX],AX; MOV [BX+2],DX; ADD BX,4; CMP BX,1024; JNE back
+  -- all vectors, by a loop of five instructions: MOV [BX],AX; MOV [BX+2],DX; ADD BX,4; CMP BX,vectors_size; JNE back
   pub record HasLoop (l back : ℕ) : Type 0 where
     pub fits : l + 14 < 65536
     pub first : code l ≡ Some (low_half, 2)
     pub second : code (l + 2) ≡ Some (high_half, 3)
     pub third : code (l + 5) ≡ Some (i.AluWord Add (Immediate (places.Register Bx) 4), 3)
-    pub fourth : code (l + 8) ≡ Some (i.AluWord Cmp (Immediate (places.Register Bx) 1024), 4)
+    pub fourth : code (l + 8) ≡ Some (i.AluWord Cmp (Immediate (places.Register Bx) vectors_size), 4)
     pub fifth : code (l + 12) ≡ Some (i.JumpIf conditions.NotEqual back, 2)
     pub again : further (l + 14) (sign_extended back) ≡ l
 
@@ -96,8 +97,8 @@ turns_of_all (act ∷ acts) = turns_of act + turns_of_all acts
 
 -- ---- the whole
 
--- The far jump at 0FFFF0H; MOV AX,entry; MOV DX,0F000H; MOV BX,0; the loop; CLD; the acts; MOV AX,0040H; MOV DS,AX; MOV SS,AX;
--- MOV AX,0B000H; MOV ES,AX; MOV SP,0FFFEH; JMP to main. Each register that is read was loaded.
+-- The far jump of the reset; MOV AX,entry; MOV DX,code_segment; MOV BX,0; the loop; CLD; the acts; MOV AX,data_segment; MOV DS,AX;
+-- MOV SS,AX; MOV AX,screen_segment; MOV ES,AX; MOV SP,stack_top; JMP to main. Each register that is read was loaded.
 pub record HasStartUp (code : (place : ℕ) → Option (Instr × ℕ)) (entry : ℕ) (acts : List Act) (main_at : ℕ) : Type 0 where
   pub begin : ℕ
   pub second : ℕ
@@ -113,19 +114,19 @@ pub record HasStartUp (code : (place : ℕ) → Option (Instr × ℕ)) (entry : 
   pub p5 : ℕ
   pub p6 : ℕ
   pub distance : ℕ
-  pub reset : (length : ℕ) × (code 0xFFF0 ≡ Some (i.JumpFar begin 0xF000, length))
+  pub reset : (length : ℕ) × (code reset_offset ≡ Some (i.JumpFar begin code_segment, length))
   pub load_entry : Stands code begin (load_word Ax entry) second
-  pub load_segment : Stands code second (load_word Dx 0xF000) third
+  pub load_segment : Stands code second (load_word Dx code_segment) third
   pub load_first : Stands code third (load_word Bx 0) loop
   pub sets_vectors : HasLoop code loop back
   pub clear : Stands code (loop + 14) i.ClearDirection acting
   pub has_acts : HasActs code acting acts acted
-  pub load_data : Stands code acted (load_word Ax 0x40) p1
+  pub load_data : Stands code acted (load_word Ax data_segment) p1
   pub to_ds : Stands code p1 (i.MoveToSegment loadables.Ds (places.Register Ax)) p2
   pub to_ss : Stands code p2 (i.MoveToSegment loadables.Ss (places.Register Ax)) p3
-  pub load_screen : Stands code p3 (load_word Ax 0xB000) p4
+  pub load_screen : Stands code p3 (load_word Ax screen_segment) p4
   pub to_es : Stands code p4 (i.MoveToSegment loadables.Es (places.Register Ax)) p5
-  pub load_stack : Stands code p5 (load_word Sp 0xFFFE) p6
+  pub load_stack : Stands code p5 (load_word Sp stack_top) p6
   pub goes : (length : ℕ) × (code p6 ≡ Some (i.Jump distance, length)) × (further (further p6 length) distance ≡ main_at)
 
 -- and its last instruction, the jump to main, stands before this place

@@ -1,6 +1,7 @@
 //! The bytes that the objects of a program have at start.
 
 ghost use Rattle.std.specs.Prelude.{◌≡◌, ◌+◌, ◌-◌, ◌<◌, ◌≤◌, ◌^◌, ◌++◌, ℕ, List, IfOk, OnOk, IsOkUnless, length, map, slice_get, slice_index};
+ghost use Rattle.word86.specs.MemoryMap.{data_end};
 ghost use Rattle.i86_code.specs.Coding.{AreBytes};
 ghost use Rattle.plm_decl.specs.Initial.{word, variable_address, datum_bytes, initial_bytes};
 ghost use Rattle.layout_link.specs.Initial.{Stretch, joined, puts, is_copied, stretch_tasks, copied, copies_with, object_bytes, HaveBytes, stretches, data_tasks, copied_bytes};
@@ -9,10 +10,7 @@ use crate::tasks::Task;
 use crate::words::number_at;
 use plm_decl::{Datum, Names, Object, Region, initial_values_fit};
 use std::alloc::Global;
-use word86::Fault;
-
-/// The address of the data segment, 0040H.
-const DATA: u16 = 0x400;
+use word86::{DATA_START, Fault};
 
 /// The stretches that are copied at most.
 const COPIES: usize = 840;
@@ -38,7 +36,7 @@ fn address_of(names: &Names, offsets: &[u16], variable: usize) -> u128
             Region::Ram(object, start) => {
                 u128::from(number_at(offsets, object)) + u128::from(start)
             }
-            Region::Screen(_) | Region::Based(_) | Region::Nowhere => 0,
+            Region::Screen(_, _) | Region::Based(_) | Region::Nowhere => 0,
         },
     }
 }
@@ -182,7 +180,7 @@ pub(crate) fn initial(
     offsets: &[u16],
     tasks: &mut Vec<Task>,
 ) -> Result<Vec<u8>, Fault>
-    requires { (k : ℕ) → slice_index offsets.now k + slice_index (map (λ o. o.size) names.now.objects.items) k ≤ 61440 }
+    requires { (k : ℕ) → slice_index offsets.now k + slice_index (map (λ o. o.size) names.now.objects.items) k ≤ data_end }
     ensures tasks { OnOk result (tasks.new.items ≡ tasks.old.items ++ data_tasks 0 0 (stretches offsets.now names.now.variables.items 0 names.now.objects.items)) }
     ensures bytes { IfOk result (λ bytes. bytes.items ≡ copied_bytes 0 (stretches offsets.now names.now.variables.items 0 names.now.objects.items)) }
     ensures small { OnOk result (HaveBytes offsets.now names.now.variables.items names.now.objects.items) }
@@ -192,12 +190,12 @@ pub(crate) fn initial(
     let mut bytes = Vec::new(alloc);
     let mut copies = 0;
     let mut stretch = OpenStretch {
-        to: DATA,
+        to: DATA_START,
         bytes: Vec::new(alloc),
     };
     for (k, object) in names.objects.iter().enumerate() {
         let first = first_of(alloc, names, offsets, object)?;
-        let to = DATA + number_at(offsets, k);
+        let to = DATA_START + number_at(offsets, k);
         copies = go_on(tasks, &mut bytes, copies, &mut stretch, to, &first)?;
     }
     add(tasks, &mut bytes, copies, stretch.to, &stretch.bytes)?;

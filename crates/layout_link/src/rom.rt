@@ -1,6 +1,7 @@
 //! The bytes of a ROM.
 
 ghost use Rattle.std.specs.Prelude.{◌≡◌, ◌++◌, ◌+◌, ◌-◌, ◌<◌, ◌≤◌, ℕ, OnOk, IfOk, IsOkUnless, Some, length, replicate, slice_index, vec_len};
+ghost use Rattle.word86.specs.MemoryMap.{code_segment, reset_offset};
 ghost use Rattle.i86_table.specs.declared.instruction.Instr.TheVariants as instructions;
 ghost use Rattle.i86_code.specs.Forms.{Spells};
 ghost use Rattle.i86_code.specs.Writing.{bytes_of};
@@ -17,10 +18,10 @@ use i86_code::{decoded_spells, encode, one_form};
 use i86_table::Instr;
 use select::Part;
 use std::alloc::Global;
-use word86::Fault;
+use word86::{CODE_SEGMENT, Fault, RESET_OFFSET};
 
 /// The bytes from the far jump of the reset on.
-pub(crate) const RESET: usize = 16;
+pub(crate) const RESET: usize = 0x1_0000 - RESET_OFFSET as usize;
 
 /// One more part, which begins at this place of the segment.
 fn write_part(
@@ -109,11 +110,11 @@ pub(crate) fn rom_of(
 ) -> Result<Vec<u8>, Fault>
     requires fits { length (all_bytes head.now) + total_of parts.now + length initial.now + 16 ≤ bytes_in size }
     requires places { places.now ≡ places_from (base_of size + length (all_bytes head.now)) parts.now }
-    ensures bytes { IfOk result (λ rom. rom.items ≡ rom_bytes (all_bytes head.now) (all_filled offsets.now places.now 0 parts.now) initial.now (bytes_of (instructions.JumpFar (base_of size) 0xF000)) (bytes_in size)) }
+    ensures bytes { IfOk result (λ rom. rom.items ≡ rom_bytes (all_bytes head.now) (all_filled offsets.now places.now 0 parts.now) initial.now (bytes_of (instructions.JumpFar (base_of size) code_segment)) (bytes_in size)) }
     ensures long { IfOk result (λ rom. length rom.items ≡ bytes_in size) }
     ensures initial { IfOk result (λ rom. (i : ℕ) → i < length initial.now → rom_byte rom.items (base_of size + length (all_bytes head.now) + total_of parts.now + i) ≡ slice_index initial.now i) }
     ensures start_up { IfOk result (λ rom. StandInOrder (rom_code rom.items) (base_of size) head.now) }
-    ensures reset { IfOk result (λ rom. rom_code rom.items 0xFFF0 ≡ Some (instructions.JumpFar (base_of size) 0xF000, 5)) }
+    ensures reset { IfOk result (λ rom. rom_code rom.items reset_offset ≡ Some (instructions.JumpFar (base_of size) code_segment, 5)) }
     ensures parts { IfOk result (λ rom. PartsStand (rom_code rom.items) (rom_words rom.items) offsets.now places.now parts.now) }
     ensures memory { IsOkUnless result Fault.Memory }
 {
@@ -126,7 +127,7 @@ pub(crate) fn rom_of(
     pad(&mut rom, bytes - RESET)?;
     let jump = Instr::JumpFar {
         offset: (0x1_0000 - bytes) as u16,
-        segment: 0xF000,
+        segment: CODE_SEGMENT,
     };
     write(&mut rom, jump)?;
     pad(&mut rom, bytes)?;

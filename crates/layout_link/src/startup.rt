@@ -14,7 +14,7 @@ use i86_table::{
     Repeat, RmOperand, Segment,
 };
 use std::alloc::Global;
-use word86::{Fault, Width};
+use word86::{CODE_SEGMENT, DATA_SEGMENT, Fault, SCREEN_SEGMENT, STACK_TOP, VECTORS_SIZE, Width};
 
 /// The bytes of start-up without its tasks.
 pub(crate) const START_UP: usize = 42;
@@ -80,12 +80,12 @@ fn to_entry(entry: u16) -> [Instr; 9]
     let bx = RmOperand::Register(Register16::Bx);
     [
         load(Register16::Ax, entry),
-        load(Register16::Dx, 0xF000),
+        load(Register16::Dx, CODE_SEGMENT),
         load(Register16::Bx, 0),
         Instr::MoveWord(Operands::FromRegister(RmOperand::Memory(at_bx(0)), Register16::Ax)),
         Instr::MoveWord(Operands::FromRegister(RmOperand::Memory(at_bx(2)), Register16::Dx)),
         Instr::AluWord(AluOperation::Add, Operands::Immediate(bx, 4)),
-        Instr::AluWord(AluOperation::Cmp, Operands::Immediate(bx, 1024)),
+        Instr::AluWord(AluOperation::Cmp, Operands::Immediate(bx, VECTORS_SIZE)),
         Instr::JumpIf(Condition::NotEqual, 242),
         Instr::ClearDirection,
     ]
@@ -97,12 +97,12 @@ fn to_main(distance: u16) -> [Instr; 7]
 {
     let ax = RmOperand::Register(Register16::Ax);
     [
-        load(Register16::Ax, 0x40),
+        load(Register16::Ax, DATA_SEGMENT),
         Instr::MoveToSegment(LoadableSegment::Ds, ax),
         Instr::MoveToSegment(LoadableSegment::Ss, ax),
-        load(Register16::Ax, 0xB000),
+        load(Register16::Ax, SCREEN_SEGMENT),
         Instr::MoveToSegment(LoadableSegment::Es, ax),
-        load(Register16::Sp, 0xFFFE),
+        load(Register16::Sp, STACK_TOP),
         Instr::Jump(distance),
     ]
 }

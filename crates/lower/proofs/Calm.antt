@@ -46,8 +46,8 @@ module _ (MayCall : ℕ → Type 0) (Enables Finishes : Type 0) (Spot : ℕ → 
   reading_calm w (Behind base) offset ss h = λ p. both h (based base offset ss) (op.LoadThere w ∷ []) (based_calm base offset ss h) (based_keeps base offset ss) (λ p. (tt, tt)) p
   reading_calm w (InObject k start size) offset NoSubscripts h = λ p. (tt, tt)
   reading_calm w (InObject k start size) offset (Subscript stride e more) h = λ p. (tt, tt)
-  reading_calm w (OnScreen start size) offset NoSubscripts h = λ p. (tt, tt)
-  reading_calm w (OnScreen start size) offset (Subscript stride e more) h = λ p. (tt, tt)
+  reading_calm w (OnScreen page start size) offset NoSubscripts h = λ p. (tt, tt)
+  reading_calm w (OnScreen page start size) offset (Subscript stride e more) h = λ p. (tt, tt)
   reading_calm w (There address) offset NoSubscripts h = λ p. (tt, tt)
   reading_calm w (There address) offset (Subscript stride e more) h = λ p. (tt, tt)
 
@@ -55,8 +55,8 @@ module _ (MayCall : ℕ → Type 0) (Enables Finishes : Type 0) (Spot : ℕ → 
   locating_calm (Behind base) offset ss h = λ p. based_calm base offset ss h p
   locating_calm (InObject k start size) offset NoSubscripts h = λ p. (tt, tt)
   locating_calm (InObject k start size) offset (Subscript stride e more) h = λ p. (tt, tt)
-  locating_calm (OnScreen start size) offset NoSubscripts h = λ p. (tt, tt)
-  locating_calm (OnScreen start size) offset (Subscript stride e more) h = λ p. (tt, tt)
+  locating_calm (OnScreen page start size) offset NoSubscripts h = λ p. (tt, tt)
+  locating_calm (OnScreen page start size) offset (Subscript stride e more) h = λ p. (tt, tt)
   locating_calm (There address) offset NoSubscripts h = λ p. (tt, tt)
   locating_calm (There address) offset (Subscript stride e more) h = λ p. (tt, tt)
 
@@ -68,9 +68,9 @@ module _ (MayCall : ℕ → Type 0) (Enables Finishes : Type 0) (Spot : ℕ → 
   writing_calm w (InObject k start size) offset (Subscript stride e more) code a f h =
       let last = op.StoreAt w (anchor_place (InObject k start size) offset) ∷ [] in
       pushes h (code ++ last) (both (suc h) code last (f (suc h)) a (λ p. (tt, tt)))
-  writing_calm w (OnScreen start size) offset NoSubscripts code a f h = λ p. (tt, tt)
-  writing_calm w (OnScreen start size) offset (Subscript stride e more) code a f h =
-      let last = op.StoreAt w (anchor_place (OnScreen start size) offset) ∷ [] in
+  writing_calm w (OnScreen page start size) offset NoSubscripts code a f h = λ p. (tt, tt)
+  writing_calm w (OnScreen page start size) offset (Subscript stride e more) code a f h =
+      let last = op.StoreAt w (anchor_place (OnScreen page start size) offset) ∷ [] in
       pushes h (code ++ last) (both (suc h) code last (f (suc h)) a (λ p. (tt, tt)))
   writing_calm w (There address) offset NoSubscripts code a f h = λ p. (tt, tt)
   writing_calm w (There address) offset (Subscript stride e more) code a f h =

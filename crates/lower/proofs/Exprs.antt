@@ -326,10 +326,10 @@ module _ (x : Setting) where
         fixed_read w (InObject k start size) lies tt offset further 0 (at_once offset further is) (At r p more ws) (p + 1) (acts x r p more ws (op.Load w (anchor_place (InObject k start size) offset)) has.0) after
     read_final w (InObject k start size) lies (Subscript stride e ss) offset further more is p has after =
         fixed_read w (InObject k start size) lies tt offset further more is (At r p more ws) (p + 1) (acts x r p more ws (op.LoadAt w (anchor_place (InObject k start size) offset)) has.0) after
-    read_final w (OnScreen start size) lies NoSubscripts offset further more is p has after =
-        fixed_read w (OnScreen start size) lies tt offset further 0 (at_once offset further is) (At r p more ws) (p + 1) (acts x r p more ws (op.Load w (anchor_place (OnScreen start size) offset)) has.0) after
-    read_final w (OnScreen start size) lies (Subscript stride e ss) offset further more is p has after =
-        fixed_read w (OnScreen start size) lies tt offset further more is (At r p more ws) (p + 1) (acts x r p more ws (op.LoadAt w (anchor_place (OnScreen start size) offset)) has.0) after
+    read_final w (OnScreen page start size) lies NoSubscripts offset further more is p has after =
+        fixed_read w (OnScreen page start size) lies tt offset further 0 (at_once offset further is) (At r p more ws) (p + 1) (acts x r p more ws (op.Load w (anchor_place (OnScreen page start size) offset)) has.0) after
+    read_final w (OnScreen page start size) lies (Subscript stride e ss) offset further more is p has after =
+        fixed_read w (OnScreen page start size) lies tt offset further more is (At r p more ws) (p + 1) (acts x r p more ws (op.LoadAt w (anchor_place (OnScreen page start size) offset)) has.0) after
     read_final w (Behind base) lies ss offset further more is p has after =
         let cb = based base offset ss in
         let h = has_back (x.code r) p cb (op.LoadThere w ∷ []) has in
@@ -345,7 +345,7 @@ module _ (x : Setting) where
 
     address_small : (y : Place) (more : ℕ) → address x.offsets x.sizes y more < 65536
     address_small (places.Ram k i) more = omega arith
-    address_small (places.Screen i) more = omega arith
+    address_small (places.Screen page i) more = omega arith
 
     fixed_located : (anchor : Anchor) → IsFixed anchor → (offset further more : ℕ) → (offset + more) % 65536 ≡ further % 65536 → (i : Context) (p : ℕ)
         → X x i ≡ Silent (At r p (address x.offsets x.sizes (anchor_place anchor offset) more) ws) → After n C r p ws → S x 2 n 0 (C (Location (Refer m l anchor further NoSubscripts))) i
@@ -359,10 +359,10 @@ module _ (x : Setting) where
         fixed_located (InObject k start size) tt offset further 0 (at_once offset further is) (At r p more ws) (p + 1) (acts x r p more ws (op.Locate (anchor_place (InObject k start size) offset)) has.0) after
     locate_final (InObject k start size) lies (Subscript stride e ss) offset further more is p has after =
         fixed_located (InObject k start size) tt offset further more is (At r p more ws) (p + 1) (acts x r p more ws (op.LocateAt (anchor_place (InObject k start size) offset)) has.0) after
-    locate_final (OnScreen start size) lies NoSubscripts offset further more is p has after =
-        fixed_located (OnScreen start size) tt offset further 0 (at_once offset further is) (At r p more ws) (p + 1) (acts x r p more ws (op.Locate (anchor_place (OnScreen start size) offset)) has.0) after
-    locate_final (OnScreen start size) lies (Subscript stride e ss) offset further more is p has after =
-        fixed_located (OnScreen start size) tt offset further more is (At r p more ws) (p + 1) (acts x r p more ws (op.LocateAt (anchor_place (OnScreen start size) offset)) has.0) after
+    locate_final (OnScreen page start size) lies NoSubscripts offset further more is p has after =
+        fixed_located (OnScreen page start size) tt offset further 0 (at_once offset further is) (At r p more ws) (p + 1) (acts x r p more ws (op.Locate (anchor_place (OnScreen page start size) offset)) has.0) after
+    locate_final (OnScreen page start size) lies (Subscript stride e ss) offset further more is p has after =
+        fixed_located (OnScreen page start size) tt offset further more is (At r p more ws) (p + 1) (acts x r p more ws (op.LocateAt (anchor_place (OnScreen page start size) offset)) has.0) after
     locate_final (Behind base) lies ss offset further more is p has after =
         behind_then n (λ q. C (Location q)) (in_location x C cx) m l base lies ss offset further more is r p ws has.0
         (λ b c still on. located_then n offset c ((b + further) % 65536) (nat_eq offset 0) refl (C (Location (Refer m l (There b) further NoSubscripts))) (C (Value ((b + further) % 65536))) (location_is (There b) further ((b + further) % 65536) refl) r (p + 1) ws still on has.1

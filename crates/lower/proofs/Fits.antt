@@ -1,4 +1,5 @@
 -- Instructions as they have to be where they stand, one after another.
+use Rattle.std.proofs.lemmas.Option.{same_Some}
 use Rattle.std.proofs.Common.{◌≡◌, ℕ, zero, suc, ◌+◌, ◌-◌, ◌<◌, ◌≤◌, Bool, true, false, List, [], ◌∷◌, ◌++◌, length, Some, refl, sym, ap, ◌∙◌, subst, arith, slice_get, length-append}
 use Rattle.std.proofs.lemmas.List.{take-append-le}
 use Rattle.std.proofs.Math.Seq.{take-append-add, take-length}
@@ -11,9 +12,6 @@ use Rattle.icode.specs.Made.{asked_constant, is_case}
 use Rattle.plm_type.specs.Rest.{Scalar}
 use Rattle.lower.specs.Code.{Operand, Number, Name, Computed, next_round, add_pushed, over, failing, choosing, all_of, entries, switching, exit_before, place_of}
 use Rattle.lower.proofs.Heights.{Keeps, behind_append}
-
-some_same : (x y : Instruction) → Some x ≡ Some y → x ≡ y
-some_same x y e = cc
 
 -- a constant operand is a word
 abbrev pub IsWord : Operand → Type 0
@@ -118,7 +116,7 @@ module _ (MayCall : ℕ → Type 0) (Enables Finishes : Type 0) (Spot : ℕ → 
   -- one of them
   pub fit_at : (p h k : ℕ) (xs : List Instruction) (x : Instruction) → Fits p h xs → slice_get xs k ≡ Some x → Fit (p + k) (behind h (take k xs)) x (drop (suc k) xs)
   fit_at p h k [] x f e = absurd cc
-  fit_at p h zero (y ∷ xs) x f e = subst (λ z. Fit (p + 0) h z xs) (some_same y x e) (subst (λ q. Fit q h y xs) (omega arith) f.0)
+  fit_at p h zero (y ∷ xs) x f e = subst (λ z. Fit (p + 0) h z xs) (same_Some y x e) (subst (λ q. Fit q h y xs) (omega arith) f.0)
   fit_at p h (suc k) (y ∷ xs) x f e = subst (λ q. Fit q (behind (after y h) (take k xs)) x (drop (suc k) xs)) (omega arith) (fit_at (suc p) (after y h) k xs x f.1 e)
 
   -- ---- where jumps may lead in a piece of code at an index: wherever no value is pushed, its end among these places

@@ -48,8 +48,8 @@ reading_keeps : (w : Width) (anchor : Anchor) (offset : ℕ) (ss : Subscripts) �
 reading_keeps w (Behind base) offset ss h = keeps_then (based base offset ss) (op.LoadThere w ∷ []) (based_keeps base offset ss) h h refl
 reading_keeps w (InObject k start size) offset NoSubscripts h = refl
 reading_keeps w (InObject k start size) offset (Subscript stride e more) h = refl
-reading_keeps w (OnScreen start size) offset NoSubscripts h = refl
-reading_keeps w (OnScreen start size) offset (Subscript stride e more) h = refl
+reading_keeps w (OnScreen page start size) offset NoSubscripts h = refl
+reading_keeps w (OnScreen page start size) offset (Subscript stride e more) h = refl
 reading_keeps w (There address) offset NoSubscripts h = refl
 reading_keeps w (There address) offset (Subscript stride e more) h = refl
 
@@ -57,8 +57,8 @@ locating_keeps : (anchor : Anchor) (offset : ℕ) (ss : Subscripts) → Keeps (l
 locating_keeps (Behind base) offset ss h = based_keeps base offset ss h
 locating_keeps (InObject k start size) offset NoSubscripts h = refl
 locating_keeps (InObject k start size) offset (Subscript stride e more) h = refl
-locating_keeps (OnScreen start size) offset NoSubscripts h = refl
-locating_keeps (OnScreen start size) offset (Subscript stride e more) h = refl
+locating_keeps (OnScreen page start size) offset NoSubscripts h = refl
+locating_keeps (OnScreen page start size) offset (Subscript stride e more) h = refl
 locating_keeps (There address) offset NoSubscripts h = refl
 locating_keeps (There address) offset (Subscript stride e more) h = refl
 
@@ -67,8 +67,8 @@ writing_keeps w (Behind base) offset ss code a h =
     keeps_then code (based base offset ss ++ op.StoreThere w ∷ []) a (suc h) h (keeps_then (based base offset ss) (op.StoreThere w ∷ []) (based_keeps base offset ss) (suc h) h (omega arith))
 writing_keeps w (InObject k start size) offset NoSubscripts code a h = refl
 writing_keeps w (InObject k start size) offset (Subscript stride e more) code a h = keeps_then code (op.StoreAt w (anchor_place (InObject k start size) offset) ∷ []) a (suc h) h (omega arith)
-writing_keeps w (OnScreen start size) offset NoSubscripts code a h = refl
-writing_keeps w (OnScreen start size) offset (Subscript stride e more) code a h = keeps_then code (op.StoreAt w (anchor_place (OnScreen start size) offset) ∷ []) a (suc h) h (omega arith)
+writing_keeps w (OnScreen page start size) offset NoSubscripts code a h = refl
+writing_keeps w (OnScreen page start size) offset (Subscript stride e more) code a h = keeps_then code (op.StoreAt w (anchor_place (OnScreen page start size) offset) ∷ []) a (suc h) h (omega arith)
 writing_keeps w (There address) offset NoSubscripts code a h = refl
 writing_keeps w (There address) offset (Subscript stride e more) code a h = keeps_then code (op.StoreAt w (anchor_place (There address) offset) ∷ []) a (suc h) h (omega arith)
 

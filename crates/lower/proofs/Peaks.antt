@@ -127,8 +127,8 @@ reading_stays : (m h : ℕ) (width : Width) (anchor : Anchor) (offset : ℕ) (ss
 reading_stays m h width (Behind base) offset ss le = then_stays m h h h (based base offset ss) (op.LoadThere width ∷ []) (based_stays m h base offset ss le) (last_stays m h h (op.LoadThere width) le refl le)
 reading_stays m h width (InObject k start size) offset NoSubscripts le = last_stays m h h (op.Load width (anchor_place (InObject k start size) offset)) le refl le
 reading_stays m h width (InObject k start size) offset (Subscript stride e more) le = last_stays m h h (op.LoadAt width (anchor_place (InObject k start size) offset)) le refl le
-reading_stays m h width (OnScreen start size) offset NoSubscripts le = last_stays m h h (op.Load width (anchor_place (OnScreen start size) offset)) le refl le
-reading_stays m h width (OnScreen start size) offset (Subscript stride e more) le = last_stays m h h (op.LoadAt width (anchor_place (OnScreen start size) offset)) le refl le
+reading_stays m h width (OnScreen page start size) offset NoSubscripts le = last_stays m h h (op.Load width (anchor_place (OnScreen page start size) offset)) le refl le
+reading_stays m h width (OnScreen page start size) offset (Subscript stride e more) le = last_stays m h h (op.LoadAt width (anchor_place (OnScreen page start size) offset)) le refl le
 reading_stays m h width (There address) offset NoSubscripts le = last_stays m h h (op.Load width (anchor_place (There address) offset)) le refl le
 reading_stays m h width (There address) offset (Subscript stride e more) le = last_stays m h h (op.LoadAt width (anchor_place (There address) offset)) le refl le
 
@@ -136,8 +136,8 @@ locating_stays : (m h : ℕ) (anchor : Anchor) (offset : ℕ) (ss : Subscripts) 
 locating_stays m h (Behind base) offset ss le = based_stays m h base offset ss le
 locating_stays m h (InObject k start size) offset NoSubscripts le = last_stays m h h (op.Locate (anchor_place (InObject k start size) offset)) le refl le
 locating_stays m h (InObject k start size) offset (Subscript stride e more) le = last_stays m h h (op.LocateAt (anchor_place (InObject k start size) offset)) le refl le
-locating_stays m h (OnScreen start size) offset NoSubscripts le = last_stays m h h (op.Locate (anchor_place (OnScreen start size) offset)) le refl le
-locating_stays m h (OnScreen start size) offset (Subscript stride e more) le = last_stays m h h (op.LocateAt (anchor_place (OnScreen start size) offset)) le refl le
+locating_stays m h (OnScreen page start size) offset NoSubscripts le = last_stays m h h (op.Locate (anchor_place (OnScreen page start size) offset)) le refl le
+locating_stays m h (OnScreen page start size) offset (Subscript stride e more) le = last_stays m h h (op.LocateAt (anchor_place (OnScreen page start size) offset)) le refl le
 locating_stays m h (There address) offset NoSubscripts le = last_stays m h h (op.Locate (anchor_place (There address) offset)) le refl le
 locating_stays m h (There address) offset (Subscript stride e more) le = last_stays m h h (op.LocateAt (anchor_place (There address) offset)) le refl le
 
@@ -161,9 +161,9 @@ writing_stays m h width (Behind base) offset ss code s =
 writing_stays m h width (InObject k start size) offset NoSubscripts code s =
     let le = begins m (suc h) (suc h) code s in last_stays m h h (op.Store width (anchor_place (InObject k start size) offset)) (omega (arith, le)) refl (omega (arith, le))
 writing_stays m h width (InObject k start size) offset (Subscript stride e more) code s = at_stays m h width (InObject k start size) offset code s
-writing_stays m h width (OnScreen start size) offset NoSubscripts code s =
-    let le = begins m (suc h) (suc h) code s in last_stays m h h (op.Store width (anchor_place (OnScreen start size) offset)) (omega (arith, le)) refl (omega (arith, le))
-writing_stays m h width (OnScreen start size) offset (Subscript stride e more) code s = at_stays m h width (OnScreen start size) offset code s
+writing_stays m h width (OnScreen page start size) offset NoSubscripts code s =
+    let le = begins m (suc h) (suc h) code s in last_stays m h h (op.Store width (anchor_place (OnScreen page start size) offset)) (omega (arith, le)) refl (omega (arith, le))
+writing_stays m h width (OnScreen page start size) offset (Subscript stride e more) code s = at_stays m h width (OnScreen page start size) offset code s
 writing_stays m h width (There address) offset NoSubscripts code s =
     let le = begins m (suc h) (suc h) code s in last_stays m h h (op.Store width (anchor_place (There address) offset)) (omega (arith, le)) refl (omega (arith, le))
 writing_stays m h width (There address) offset (Subscript stride e more) code s = at_stays m h width (There address) offset code s

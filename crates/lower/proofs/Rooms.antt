@@ -117,8 +117,8 @@ reading_room width (Behind base) offset ss =
     let h = room_append (based base offset ss) (op.LoadThere width ∷ []) in let k = based_room base offset ss in omega (arith, h, k)
 reading_room width (InObject k start size) offset NoSubscripts = omega arith
 reading_room width (InObject k start size) offset (Subscript stride e more) = omega arith
-reading_room width (OnScreen start size) offset NoSubscripts = omega arith
-reading_room width (OnScreen start size) offset (Subscript stride e more) = omega arith
+reading_room width (OnScreen page start size) offset NoSubscripts = omega arith
+reading_room width (OnScreen page start size) offset (Subscript stride e more) = omega arith
 reading_room width (There address) offset NoSubscripts = omega arith
 reading_room width (There address) offset (Subscript stride e more) = omega arith
 
@@ -126,8 +126,8 @@ locating_room : (anchor : Anchor) (offset : ℕ) (ss : Subscripts) → room_in (
 locating_room (Behind base) offset ss = let k = based_room base offset ss in omega (arith, k)
 locating_room (InObject k start size) offset NoSubscripts = omega arith
 locating_room (InObject k start size) offset (Subscript stride e more) = omega arith
-locating_room (OnScreen start size) offset NoSubscripts = omega arith
-locating_room (OnScreen start size) offset (Subscript stride e more) = omega arith
+locating_room (OnScreen page start size) offset NoSubscripts = omega arith
+locating_room (OnScreen page start size) offset (Subscript stride e more) = omega arith
 locating_room (There address) offset NoSubscripts = omega arith
 locating_room (There address) offset (Subscript stride e more) = omega arith
 
@@ -141,9 +141,9 @@ writing_room width (Behind base) offset ss code =
 writing_room width (InObject k start size) offset NoSubscripts code = omega arith
 writing_room width (InObject k start size) offset (Subscript stride e more) code =
     let h = room_append code (op.StoreAt width (anchor_place (InObject k start size) offset) ∷ []) in omega (arith, h)
-writing_room width (OnScreen start size) offset NoSubscripts code = omega arith
-writing_room width (OnScreen start size) offset (Subscript stride e more) code =
-    let h = room_append code (op.StoreAt width (anchor_place (OnScreen start size) offset) ∷ []) in omega (arith, h)
+writing_room width (OnScreen page start size) offset NoSubscripts code = omega arith
+writing_room width (OnScreen page start size) offset (Subscript stride e more) code =
+    let h = room_append code (op.StoreAt width (anchor_place (OnScreen page start size) offset) ∷ []) in omega (arith, h)
 writing_room width (There address) offset NoSubscripts code = omega arith
 writing_room width (There address) offset (Subscript stride e more) code =
     let h = room_append code (op.StoreAt width (anchor_place (There address) offset) ∷ []) in omega (arith, h)

@@ -3,7 +3,7 @@ use Rattle.std.proofs.Common.{◌≡◌, ℕ, zero, suc, ◌+◌, ◌-◌, ◌<�
 use Rattle.std.specs.Prelude.{take, drop, Contains, option_map}
 use Rattle.std.proofs.lemmas.List.{take-append-le}
 use Rattle.std.proofs.Math.Seq.{take-length}
-use Rattle.std.proofs.lemmas.Option.{slice_get-map}
+use Rattle.std.proofs.lemmas.Option.{slice_get-map, none-some, same_Some}
 use Rattle.plm_type.specs.Rest.{Statements, Procedure}
 use Rattle.plm_type.specs.Next.{body_of}
 use Rattle.plm_type.specs.Calls.{statements_calls, graph_of}
@@ -17,7 +17,6 @@ use Rattle.icode.specs.Made.{constant_in, cases_of, is_case, IsMade}
 use Rattle.lower.specs.Code.{Kind, OfMain, Called, Giving, Serving, kind_of, gives, are_giving, serves, ending, statements_code, routine_code, procedure_code, code}
 use Rattle.lower.specs.Well.{AreStatements}
 use Rattle.lower.specs.Tracking.{IsProgram}
-use Rattle.lower.proofs.Bools.{none_some}
 use Rattle.lower.proofs.Ordered.{statements_all}
 use Rattle.lower.proofs.Fits.{Fit, Fits, Spots, fit_at, fits_then}
 use Rattle.lower.proofs.Fitting.{Let, IsServing, statements_level, statements_fit}
@@ -27,9 +26,6 @@ abbrev pub Lands : List Instruction → ℕ → Type 0
 Lands all t = (height all t ≡ 0) × (t < length all)
 
 -- ---- what code is that is as it has to be
-
-some_same : (a b : ℕ) → Some a ≡ Some b → a ≡ b
-some_same a b e = cc
 
 behind_more : (h k : ℕ) (xs : List Instruction) (x : Instruction) → slice_get xs k ≡ Some x → behind h (take (suc k) xs) ≡ after x (behind h (take k xs))
 behind_more h k [] x e = absurd cc
@@ -59,13 +55,13 @@ get_drop (suc n) j (x ∷ xs) = get_drop n j xs ∙ ap (slice_get (x ∷ xs)) (p
 module _ (MayCall : ℕ → Type 0) (Enables Finishes : Type 0) where
   module _ (Spot : ℕ → Type 0) where
     jump_fits : (x : Instruction) (p h t : ℕ) (more : List Instruction) → Fit MayCall Enables Finishes Spot p h x more → target x (p + 1) ≡ Some t → (after x h ≡ 0) × Spot t
-    jump_fits (op.Ahead n) p h t more f e = (f.0, subst Spot (some_same (p + 1 + n) t e) f.1)
-    jump_fits (op.AheadUnless c n) p h t more f e = (f.0, subst Spot (some_same (p + 1 + n) t e) f.1)
-    jump_fits (op.Back n) p h t more f e = (f.0, subst Spot (some_same (p + 1 - n) t e) f.1)
-    jump_fits (op.BackUnless c n) p h t more f e = (f.0, subst Spot (some_same (p + 1 - n) t e) f.1)
-    jump_fits (op.Switch n) p h t more f e = (f.0, subst Spot (some_same (p + 1 + n) t e) f.1)
-    jump_fits (op.Case n) p h t more f e = (f.0, subst Spot (some_same (p + 1 + n) t e) f.1)
-    jump_fits _ p h t more f e = absurd (none_some t e)
+    jump_fits (op.Ahead n) p h t more f e = (f.0, subst Spot (same_Some (p + 1 + n) t e) f.1)
+    jump_fits (op.AheadUnless c n) p h t more f e = (f.0, subst Spot (same_Some (p + 1 + n) t e) f.1)
+    jump_fits (op.Back n) p h t more f e = (f.0, subst Spot (same_Some (p + 1 - n) t e) f.1)
+    jump_fits (op.BackUnless c n) p h t more f e = (f.0, subst Spot (same_Some (p + 1 - n) t e) f.1)
+    jump_fits (op.Switch n) p h t more f e = (f.0, subst Spot (same_Some (p + 1 + n) t e) f.1)
+    jump_fits (op.Case n) p h t more f e = (f.0, subst Spot (same_Some (p + 1 + n) t e) f.1)
+    jump_fits _ p h t more f e = absurd (none-some t e)
 
     constant_fits : (x : Instruction) (p h : ℕ) (more : List Instruction) → Fit MayCall Enables Finishes Spot p h x more → constant_in x < 65536
     constant_fits (op.Constant k) p h more f = f

@@ -1,4 +1,5 @@
 -- The code of statements does what their rest does.
+use Rattle.std.proofs.lemmas.Bool.{and_parts, ltb-true, ltb-false}
 use Rattle.std.proofs.Common.{◌≡◌, ℕ, zero, suc, ◌+◌, ◌-◌, ◌%◌, ◌<◌, ◌≤◌, Bool, true, false, List, [], ◌∷◌, ◌++◌, length, Some, refl, sym, ap, ◌∙◌, subst, arith, slice_get, length-append}
 use Rattle.std.specs.Prelude.{if◌then◌else◌, nat_lt, not, ◌&&◌}
 use Rattle.std.proofs.lemmas.Bool.Decides.{nat_tests}
@@ -24,7 +25,7 @@ use Rattle.lower.specs.Well.{Lies, IsExpression, AreTargets, MayReturn, MayRetur
 use Rattle.lower.proofs.Setting.{Setting}
 use Rattle.lower.proofs.Sim.{N, X, S, fewer, eased, then_, up, down, down_more, both, both_more, touches, enables, disables, halts}
 use Rattle.lower.proofs.Holes.{IsBody, in_assign, in_evaluate, in_return, in_if, in_while, in_case, in_iterate, in_comparing, in_stepping, in_only, in_also, acts, HasAt, has_front, has_back}
-use Rattle.lower.proofs.Bools.{both_true, true_false}
+use Rattle.lower.proofs.Bools.{true_false}
 use Rattle.lower.proofs.Memory.{found_plain}
 use Rattle.lower.proofs.Values.{low_word}
 use Rattle.lower.proofs.Exprs.{IsOperand, operand_is, Left, ProcedureRuns, moved_to, has_at, rise, soon, push_then}
@@ -66,7 +67,7 @@ module _ (procedures : List Rattle.plm_type.specs.Rest.Procedure) (around : Kind
     pub silents_code : (ss : Statements) → are_silent ss ≡ true → (exit : ℕ) → statements_code procedures around exit ss ≡ []
     silents_code End h exit = refl
     silents_code (Then s later) h exit =
-        let b = both_true (is_silent s) (are_silent later) h in
+        let b = and_parts (is_silent s) (are_silent later) h in
         ap (λ c. c ++ statements_code procedures around exit later) (silent_code s b.0 (exit_before (are_silent later) exit)) ∙ silents_code later b.1 exit
     silents_code (Returned v) h exit = absurd (true_false (sym h))
 
@@ -74,24 +75,17 @@ low_twice : (w : Width) (v : ℕ) → low w (low w v) ≡ low w v
 low_twice widths.Byte v = omega arith
 low_twice widths.Word v = omega arith
 
--- a sum wrapped where it is below the step
-lt_of : (a b : ℕ) → nat_lt a b ≡ true → a < b
-lt_of a b e = grind (arith, nat_tests)
-
-ge_of : (a b : ℕ) → nat_lt a b ≡ false → b ≤ a
-ge_of a b e = grind (arith, nat_tests)
-
 below_byte : (i s : ℕ) (a b : Bool) → i < 256 → nat_lt ((i + s) % 256) s ≡ a → nat_lt (i + s) 256 ≡ b → a ≡ not b
 below_byte i s true false h e f = refl
 below_byte i s false true h e f = refl
-below_byte i s true true h e f = absurd (omega (arith, h, lt_of ((i + s) % 256) s e, lt_of (i + s) 256 f))
-below_byte i s false false h e f = absurd (omega (arith, h, ge_of ((i + s) % 256) s e, ge_of (i + s) 256 f))
+below_byte i s true true h e f = absurd (omega (arith, h, ltb-true ((i + s) % 256) s e, ltb-true (i + s) 256 f))
+below_byte i s false false h e f = absurd (omega (arith, h, ltb-false ((i + s) % 256) s e, ltb-false (i + s) 256 f))
 
 below_word : (i s : ℕ) (a b : Bool) → i < 65536 → nat_lt ((i + s) % 65536) s ≡ a → nat_lt (i + s) 65536 ≡ b → a ≡ not b
 below_word i s true false h e f = refl
 below_word i s false true h e f = refl
-below_word i s true true h e f = absurd (omega (arith, h, lt_of ((i + s) % 65536) s e, lt_of (i + s) 65536 f))
-below_word i s false false h e f = absurd (omega (arith, h, ge_of ((i + s) % 65536) s e, ge_of (i + s) 65536 f))
+below_word i s true true h e f = absurd (omega (arith, h, ltb-true ((i + s) % 65536) s e, ltb-true (i + s) 65536 f))
+below_word i s false false h e f = absurd (omega (arith, h, ltb-false ((i + s) % 65536) s e, ltb-false (i + s) 65536 f))
 
 below_sum : (w : Width) (i s : ℕ) → i < values w → nat_lt (low w (i + s)) s ≡ not (nat_lt (i + s) (values w))
 below_sum widths.Byte i s h = below_byte i s _ _ h refl refl
@@ -165,7 +159,7 @@ module _ (x : Setting) (MayCall : ℕ → Type 0) (calls : (q : ℕ) → MayCall
     silents_sim : (ss : Statements) → are_silent ss ≡ true → (n k f : ℕ) (later : Statements) (p : ℕ) → f ≤ 2 → K k f n later p → K (k + leads ss) f n (behind ss later) p
     silents_sim End h n k f later p le go = k_more k (k + 0) f f n later p (omega arith) (omega arith) go
     silents_sim (Then s rest) h n k f later p le go =
-        let b = both_true (is_silent s) (are_silent rest) h in
+        let b = and_parts (is_silent s) (are_silent rest) h in
         k_more (k + leads rest + lead s) (k + (lead s + leads rest + 1)) f f n (Then s (behind rest later)) p (omega arith) (omega arith)
         (silent_sim s b.0 n (k + leads rest) f (behind rest later) p le (silents_sim rest b.1 n k f later p le go))
     silents_sim (Returned v) h n k f later p le go = absurd (true_false (sym h))
@@ -529,7 +523,7 @@ module _ (x : Setting) (MayCall : ℕ → Type 0) (calls : (q : ℕ) → MayCall
           → K k 1 n later (p + 1 + length (cases_at exit ss) + 1 + length (all_of (cases_at exit ss)) + exit) → S x 2 n 0 (D (Then (Case (Value v) ss) later)) (At r p v ws)
       by true e done act h1 h2 out' =
           let m = length (cases_at exit ss) in
-          let t = taken ss runs n ret exit k later 0 (p + 1) (p + 1 + m + 1) v (p + 1 + m + 1 + length (all_of (cases_at exit ss)) + exit) (omega (arith, small)) (lt_of v m e) h1 h2.1 (omega arith) refl out' in
+          let t = taken ss runs n ret exit k later 0 (p + 1) (p + 1 + m + 1) v (p + 1 + m + 1 + length (all_of (cases_at exit ss)) + exit) (omega (arith, small)) (ltb-true v m e) h1 h2.1 (omega arith) refl out' in
           done (p + 1 + suc v + t.0)
           (act ∙ ap (λ c. if c then switched (slice_get (x.code r) (p + 1 + v)) r (p + 1 + suc v) v ws else Silent (At r (p + 1 + m) v ws)) e ∙ ap (λ o. switched o r (p + 1 + suc v) v ws) t.1.0) t.1.1
       by false e done act h1 h2 out' =
@@ -537,7 +531,7 @@ module _ (x : Setting) (MayCall : ℕ → Type 0) (calls : (q : ℕ) → MayCall
           let d = length (all_of (cases_at exit ss)) + exit in
           let pj = p + 1 + m in
           done pj (act ∙ ap (λ c. if c then switched (slice_get (x.code r) (p + 1 + v)) r (p + 1 + suc v) v ws else Silent (At r pj v ws)) e)
-          (missed ss runs n exit k later pj v (ge_of v m e)
+          (missed ss runs n exit k later pj v (ltb-false v m e)
           (λ a. down x k n 1 (D later) (At r pj a ws) (At r (pj + 1 + d) a ws) (acts x r pj a ws (op.Ahead d) h2.0) (then_ x k n 1 1 (D later) (At r (pj + 1 + d) a ws) (omega (arith, small)) (omega arith) (k_at k 1 n later (pj + 1 + length (all_of (cases_at exit ss)) + exit) (pj + 1 + d) (omega arith) out' a))))
 
   switch_runs : (e : Expression) (ss : Statements) → IsExpression x.sizes x.procedures MayCall e → CasesRun ss → StatementRuns (Case e ss)

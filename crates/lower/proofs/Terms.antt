@@ -1,4 +1,5 @@
 -- The code of expressions, references, targets and calls does what their rests do.
+use Rattle.std.proofs.lemmas.Bool.{le-leb}
 use Rattle.std.proofs.Common.{◌≡◌, ℕ, suc, ◌+◌, ◌*◌, ◌%◌, ◌≤◌, List, [], ◌∷◌, ◌++◌, length, drop, Some, None, refl, sym, ap, ◌∙◌, subst, arith, slice_get, length-append}
 use Rattle.std.specs.Prelude.{if◌then◌else◌, nat_eq}
 use Rattle.word86.specs.declared.width.Width.{Width}
@@ -22,7 +23,6 @@ use Rattle.lower.specs.Well.{AllLie, IsExpression, AreExpressions, AreSubscripts
 use Rattle.lower.proofs.Setting.{Setting}
 use Rattle.lower.proofs.Sim.{N, S, eased, then_, up, down, both, touches}
 use Rattle.lower.proofs.Holes.{IsHole, AreHoles, IsReferenceHole, IsTargetHole, in_unary, in_left, in_right, in_input, in_embedded, in_arguments, in_variable, in_location, in_embedded_target, in_first, in_others, in_subscript, acts, HasAt, has_front, has_back}
-use Rattle.lower.proofs.Bools.{to_le}
 use Rattle.lower.proofs.Memory.{found_plain}
 use Rattle.lower.proofs.Values.{values_small}
 use Rattle.lower.proofs.Exprs.{IsOperand, operand_is, of_values, pushed, values_back, get_pushed, drop_pushed, length_pushed, Reached, one_sum, two_sums, After, Left, ProcedureRuns, moved_to, after_at, left_at, used_then, rise, ended, soon, push_then, constant_then, plain_then, unary_then, right_then, scaled_then, read_final, locate_final, fixed_written, behind_written}
@@ -133,7 +133,7 @@ module _ (x : Setting) (MayCall : ℕ → Type 0) (calls : (q : ℕ) → MayCall
       → (p a : ℕ) → HasAt (x.code r) p (passing xs ++ op.Drop total ∷ op.Invoke q ∷ []) → back ≡ p + length (passing xs) + 2 → S x 2 n 1 R (At r p a (pushed vs us))
   passed q procedure got may n C cx r ws total back after [] [] us len lie dr le R u p a has at =
       down x 2 n 0 R (At r p a us) (At r (p + 1) a ws)
-      (acts x r p a us (op.Drop total) has.0 ∙ ap (λ b. if b then Silent (At r (p + 1) a (drop total us)) else Bad 0 0) (to_le total (length us) le) ∙ ap (λ w. Silent (At r (p + 1) a w)) dr)
+      (acts x r p a us (op.Drop total) has.0 ∙ ap (λ b. if b then Silent (At r (p + 1) a (drop total us)) else Bad 0 0) (le-leb total (length us) le) ∙ ap (λ w. Silent (At r (p + 1) a w)) dr)
       (soon x n 0 0 R (At r (p + 1) a ws) (omega arith) (invoked q procedure got may n C cx R u r (p + 1) a ws has.1.0 (left_at x (are_giving procedure.body) n C r back (p + 1 + 1) ws (omega (arith, at)) after)))
   passed q procedure got may n C cx r ws total back after (y ∷ xs) (v ∷ vs) us len lie dr le R u p a has at =
       let st = pushed vs (words.Value v ∷ us) in
@@ -336,9 +336,9 @@ module _ (x : Setting) (MayCall : ℕ → Type 0) (calls : (q : ℕ) → MayCall
     target_sim (ToVariable w (Refer m l (InObject k start size) offset NoSubscripts)) good n v C done tx r p ws has after =
         eased x 2 2 n 0 2 (C (ToVariable w (Refer m l (InObject k start size) offset NoSubscripts))) (At r p v ws) (omega arith) (omega arith)
         (fixed_written x n v C done tx r ws m l w (InObject k start size) good.0 tt offset offset 0 (omega arith) (At r p v ws) (p + 1) (acts x r p v ws (op.Store w (anchor_place (InObject k start size) offset)) has.0) after)
-    target_sim (ToVariable w (Refer m l (OnScreen start size) offset NoSubscripts)) good n v C done tx r p ws has after =
-        eased x 2 2 n 0 2 (C (ToVariable w (Refer m l (OnScreen start size) offset NoSubscripts))) (At r p v ws) (omega arith) (omega arith)
-        (fixed_written x n v C done tx r ws m l w (OnScreen start size) good.0 tt offset offset 0 (omega arith) (At r p v ws) (p + 1) (acts x r p v ws (op.Store w (anchor_place (OnScreen start size) offset)) has.0) after)
+    target_sim (ToVariable w (Refer m l (OnScreen page start size) offset NoSubscripts)) good n v C done tx r p ws has after =
+        eased x 2 2 n 0 2 (C (ToVariable w (Refer m l (OnScreen page start size) offset NoSubscripts))) (At r p v ws) (omega arith) (omega arith)
+        (fixed_written x n v C done tx r ws m l w (OnScreen page start size) good.0 tt offset offset 0 (omega arith) (At r p v ws) (p + 1) (acts x r p v ws (op.Store w (anchor_place (OnScreen page start size) offset)) has.0) after)
     target_sim (ToVariable w (Refer m l (InObject k start size) offset (Subscript s e ss))) good n v C done tx r p ws has after =
         let anchor = InObject k start size in
         let q = Subscript s e ss in
@@ -351,17 +351,17 @@ module _ (x : Setting) (MayCall : ℕ → Type 0) (calls : (q : ℕ) → MayCall
         (subscripts_sim (Subscript s e ss) good.1 n (λ y. C (ToVariable w y)) (tx.part w) m l (InObject k start size) offset r (p + 1) st (has_front (x.code r) (p + 1) cs cw has.1)
         (λ further more is. fixed_written x n v C done tx r ws m l w (InObject k start size) good.0 tt offset further more is (At r pc more st) (pc + 1) (acts x r pc more st (op.StoreAt w (anchor_place (InObject k start size) offset)) (has_back (x.code r) (p + 1) cs cw has.1).0)
         (moved_to x x.room n 2 done r (p + length (op.Push ∷ (cs ++ cw))) (pc + 1) v ws (omega (arith, length-append cs cw)) after)) v))
-    target_sim (ToVariable w (Refer m l (OnScreen start size) offset (Subscript s e ss))) good n v C done tx r p ws has after =
-        let anchor = OnScreen start size in
+    target_sim (ToVariable w (Refer m l (OnScreen page start size) offset (Subscript s e ss))) good n v C done tx r p ws has after =
+        let anchor = OnScreen page start size in
         let q = Subscript s e ss in
         let cs = subscripts_code x.procedures (Subscript s e ss) in
-        let cw = op.StoreAt w (anchor_place (OnScreen start size) offset) ∷ [] in
+        let cw = op.StoreAt w (anchor_place (OnScreen page start size) offset) ∷ [] in
         let st = words.Value v ∷ ws in
         let pc = p + 1 + length cs in
         push_then x 2 n 1 (C (ToVariable w (Refer m l anchor offset q))) r p v ws has.0
         (soon x n 0 1 (C (ToVariable w (Refer m l anchor offset q))) (At r (p + 1) v st) (omega arith)
-        (subscripts_sim (Subscript s e ss) good.1 n (λ y. C (ToVariable w y)) (tx.part w) m l (OnScreen start size) offset r (p + 1) st (has_front (x.code r) (p + 1) cs cw has.1)
-        (λ further more is. fixed_written x n v C done tx r ws m l w (OnScreen start size) good.0 tt offset further more is (At r pc more st) (pc + 1) (acts x r pc more st (op.StoreAt w (anchor_place (OnScreen start size) offset)) (has_back (x.code r) (p + 1) cs cw has.1).0)
+        (subscripts_sim (Subscript s e ss) good.1 n (λ y. C (ToVariable w y)) (tx.part w) m l (OnScreen page start size) offset r (p + 1) st (has_front (x.code r) (p + 1) cs cw has.1)
+        (λ further more is. fixed_written x n v C done tx r ws m l w (OnScreen page start size) good.0 tt offset further more is (At r pc more st) (pc + 1) (acts x r pc more st (op.StoreAt w (anchor_place (OnScreen page start size) offset)) (has_back (x.code r) (p + 1) cs cw has.1).0)
         (moved_to x x.room n 2 done r (p + length (op.Push ∷ (cs ++ cw))) (pc + 1) v ws (omega (arith, length-append cs cw)) after)) v))
     target_sim (ToVariable w (Refer m l (There b) offset ss)) good n v C done tx r p ws has after = absurd good.0
     target_sim (ToPort w e) good n v C done tx r p ws has after =

@@ -1,4 +1,5 @@
 -- Conditions, and the jumps that test them.
+use Rattle.std.proofs.lemmas.Option.{none-some, same_Some}
 use Rattle.std.proofs.Common.{◌≡◌, ℕ, zero, suc, ◌+◌, ◌%◌, ◌<◌, ◌≤◌, Bool, true, false, List, [], ◌∷◌, ◌++◌, length, Option, Some, None, refl, sym, ap, ◌∙◌, subst, arith, slice_get, length-append}
 use Rattle.std.specs.Prelude.{if◌then◌else◌, nat_le, nat_lt, not}
 use Rattle.word86.specs.declared.width.Width.{Width}
@@ -22,13 +23,10 @@ use Rattle.lower.specs.Well.{Lies, IsExpression}
 use Rattle.lower.proofs.Setting.{Setting}
 use Rattle.lower.proofs.Sim.{N, X, T, S, eased, then_, up, both, touches}
 use Rattle.lower.proofs.Holes.{IsHole, in_left, in_right, acts, HasAt, has_front, has_back}
-use Rattle.lower.proofs.Bools.{none_some, not_less}
+use Rattle.lower.proofs.Bools.{not_less}
 use Rattle.lower.proofs.Memory.{found_plain}
 use Rattle.lower.proofs.Exprs.{IsOperand, operand_is, ProcedureRuns, rise, soon, push_then}
 use Rattle.lower.proofs.Terms.{expression_sim}
-
-some_same : (a b : Relation) → Some a ≡ Some b → a ≡ b
-some_same a b e = ap (λ (o : Option Relation). elim o [ Some y ↦ y | None ↦ a ]) e
 
 odd_truth : (b : Bool) → is_odd (truth b) ≡ b
 odd_truth true = refl
@@ -36,24 +34,24 @@ odd_truth false = refl
 
 -- an operator that is a relation answers whether it holds
 relation_is : (o : BinaryOperation) (q : Relation) → relation_of o ≡ Some q → (w : Width) (u v : ℕ) → binary_value o w u v ≡ Some (truth (stands q u v))
-relation_is binary.Equal q h w u v = ap (λ y. Some (truth (stands y u v))) (some_same relation.Equal q h)
-relation_is binary.NotEqual q h w u v = ap (λ y. Some (truth (stands y u v))) (some_same relation.NotEqual q h)
-relation_is binary.Less q h w u v = ap (λ y. Some (truth (stands y u v))) (some_same relation.Less q h)
-relation_is binary.LessEqual q h w u v = ap (λ y. Some (truth (stands y u v))) (some_same relation.LessEqual q h)
-relation_is binary.Greater q h w u v = ap (λ y. Some (truth (stands y u v))) (some_same relation.Greater q h)
-relation_is binary.GreaterEqual q h w u v = ap (λ y. Some (truth (stands y u v))) (some_same relation.GreaterEqual q h)
-relation_is binary.Multiply q h w u v = absurd (none_some q h)
-relation_is binary.Divide q h w u v = absurd (none_some q h)
-relation_is binary.Modulo q h w u v = absurd (none_some q h)
-relation_is binary.Add q h w u v = absurd (none_some q h)
-relation_is binary.Subtract q h w u v = absurd (none_some q h)
-relation_is binary.And q h w u v = absurd (none_some q h)
-relation_is binary.Or q h w u v = absurd (none_some q h)
-relation_is binary.ExclusiveOr q h w u v = absurd (none_some q h)
-relation_is binary.ShiftLeft q h w u v = absurd (none_some q h)
-relation_is binary.ShiftRight q h w u v = absurd (none_some q h)
-relation_is binary.RotateLeft q h w u v = absurd (none_some q h)
-relation_is binary.RotateRight q h w u v = absurd (none_some q h)
+relation_is binary.Equal q h w u v = ap (λ y. Some (truth (stands y u v))) (same_Some relation.Equal q h)
+relation_is binary.NotEqual q h w u v = ap (λ y. Some (truth (stands y u v))) (same_Some relation.NotEqual q h)
+relation_is binary.Less q h w u v = ap (λ y. Some (truth (stands y u v))) (same_Some relation.Less q h)
+relation_is binary.LessEqual q h w u v = ap (λ y. Some (truth (stands y u v))) (same_Some relation.LessEqual q h)
+relation_is binary.Greater q h w u v = ap (λ y. Some (truth (stands y u v))) (same_Some relation.Greater q h)
+relation_is binary.GreaterEqual q h w u v = ap (λ y. Some (truth (stands y u v))) (same_Some relation.GreaterEqual q h)
+relation_is binary.Multiply q h w u v = absurd (none-some q h)
+relation_is binary.Divide q h w u v = absurd (none-some q h)
+relation_is binary.Modulo q h w u v = absurd (none-some q h)
+relation_is binary.Add q h w u v = absurd (none-some q h)
+relation_is binary.Subtract q h w u v = absurd (none-some q h)
+relation_is binary.And q h w u v = absurd (none-some q h)
+relation_is binary.Or q h w u v = absurd (none-some q h)
+relation_is binary.ExclusiveOr q h w u v = absurd (none-some q h)
+relation_is binary.ShiftLeft q h w u v = absurd (none-some q h)
+relation_is binary.ShiftRight q h w u v = absurd (none-some q h)
+relation_is binary.RotateLeft q h w u v = absurd (none-some q h)
+relation_is binary.RotateRight q h w u v = absurd (none-some q h)
 
 module _ (x : Setting) (MayCall : ℕ → Type 0) (calls : (q : ℕ) → MayCall q → ProcedureRuns x q) where
   -- where a test leads: on where it holds, else further

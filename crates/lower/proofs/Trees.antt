@@ -4,6 +4,7 @@ use Rattle.word86.specs.declared.width.Width.{Width}
 use Rattle.word86.specs.declared.width.Width.TheVariants as widths
 use Rattle.word86.specs.declared.operation.BinaryOperation.TheVariants as binary
 use Rattle.word86.specs.Place.{where_of}
+use Rattle.word86.specs.declared.page.Page.{Page}
 use Rattle.word86.specs.declared.place.Place.{Place}
 use Rattle.word86.specs.declared.place.Place.TheVariants as places
 use Rattle.plm_type.specs.declared.program.Operation.{Operation}
@@ -21,7 +22,7 @@ use Rattle.lower.specs.Inner.Chains.{operation_code, chain_code, others_code}
 
 pub same_place : (p : Place) → place_of (where_of p) ≡ p
 same_place (places.Ram k i) = refl
-same_place (places.Screen i) = refl
+same_place (places.Screen page i) = refl
 
 -- operators of one precedence: the left operand's code, then theirs
 pub chain_coded : (ps : List Procedure) (e : Expression) (os : List Operation) → expression_code ps (chained e os) ≡ expression_code ps e ++ chain_code ps os
@@ -70,32 +71,32 @@ pub based_behind : (base : Place) (offset : ℕ) (ss : List Subscript) → 1 ≤
 based_behind base offset [] h = absurd (omega (arith, h))
 based_behind base offset (s ∷ ss) h = ap (λ p. op.BinaryPlain binary.Add widths.Word widths.Word p ∷ moved offset) (same_place base)
 
--- an anchor of an object or of the screen is no base
-pub not_based : (a : declared_anchor.Anchor) → ((k : ℕ) × (start : ℕ) × (size : ℕ) × (a ≡ anchors.Ram k start size)) ⊎ ((start : ℕ) × (size : ℕ) × (a ≡ anchors.Screen start size)) → (base : Place) → a ≡ anchors.Based base → ⊥
-not_based a (inl x) base e = let f : anchors.Based base ≡ anchors.Ram x.0 x.1 x.2 = sym e ∙ x.3 in absurd (cc)
-not_based a (inr x) base e = let f : anchors.Based base ≡ anchors.Screen x.0 x.1 = sym e ∙ x.2 in absurd (cc)
+-- an anchor in an object or on the screen is no base
+pub not_based : (a : declared_anchor.Anchor) → ((k : ℕ) × (start : ℕ) × (size : ℕ) × (a ≡ anchors.InObject k start size)) ⊎ ((page : Page) × (start : ℕ) × (size : ℕ) × (a ≡ anchors.OnScreen page start size)) → (base : Place) → a ≡ anchors.Behind base → ⊥
+not_based a (inl x) base e = let f : anchors.Behind base ≡ anchors.InObject x.0 x.1 x.2 = sym e ∙ x.3 in absurd (cc)
+not_based a (inr x) base e = let f : anchors.Behind base ≡ anchors.OnScreen x.0 x.1 x.2 = sym e ∙ x.3 in absurd (cc)
 
 -- after subscripts at a fixed place
-pub reading_behind : (width : Width) (a : declared_anchor.Anchor) (offset : ℕ) (ss : List Subscript) → ((base : Place) → a ≡ anchors.Based base → ⊥) → 1 ≤ length ss
+pub reading_behind : (width : Width) (a : declared_anchor.Anchor) (offset : ℕ) (ss : List Subscript) → ((base : Place) → a ≡ anchors.Behind base → ⊥) → 1 ≤ length ss
     → reading width (anchor_of a) offset (subscripts_of ss) ≡ op.LoadAt width (anchor_place (anchor_of a) offset) ∷ []
 reading_behind width a offset [] fixed h = absurd (omega (arith, h))
-reading_behind width (anchors.Ram k start size) offset (s ∷ ss) fixed h = refl
-reading_behind width (anchors.Screen start size) offset (s ∷ ss) fixed h = refl
-reading_behind width (anchors.Based base) offset (s ∷ ss) fixed h = absurd (fixed base refl)
+reading_behind width (anchors.InObject k start size) offset (s ∷ ss) fixed h = refl
+reading_behind width (anchors.OnScreen page start size) offset (s ∷ ss) fixed h = refl
+reading_behind width (anchors.Behind base) offset (s ∷ ss) fixed h = absurd (fixed base refl)
 
-pub locating_behind : (a : declared_anchor.Anchor) (offset : ℕ) (ss : List Subscript) → ((base : Place) → a ≡ anchors.Based base → ⊥) → 1 ≤ length ss
+pub locating_behind : (a : declared_anchor.Anchor) (offset : ℕ) (ss : List Subscript) → ((base : Place) → a ≡ anchors.Behind base → ⊥) → 1 ≤ length ss
     → locating (anchor_of a) offset (subscripts_of ss) ≡ op.LocateAt (anchor_place (anchor_of a) offset) ∷ []
 locating_behind a offset [] fixed h = absurd (omega (arith, h))
-locating_behind (anchors.Ram k start size) offset (s ∷ ss) fixed h = refl
-locating_behind (anchors.Screen start size) offset (s ∷ ss) fixed h = refl
-locating_behind (anchors.Based base) offset (s ∷ ss) fixed h = absurd (fixed base refl)
+locating_behind (anchors.InObject k start size) offset (s ∷ ss) fixed h = refl
+locating_behind (anchors.OnScreen page start size) offset (s ∷ ss) fixed h = refl
+locating_behind (anchors.Behind base) offset (s ∷ ss) fixed h = absurd (fixed base refl)
 
-pub writing_behind : (width : Width) (a : declared_anchor.Anchor) (offset : ℕ) (ss : List Subscript) (code : List Instruction) → ((base : Place) → a ≡ anchors.Based base → ⊥) → 1 ≤ length ss
+pub writing_behind : (width : Width) (a : declared_anchor.Anchor) (offset : ℕ) (ss : List Subscript) (code : List Instruction) → ((base : Place) → a ≡ anchors.Behind base → ⊥) → 1 ≤ length ss
     → writing width (anchor_of a) offset (subscripts_of ss) code ≡ op.Push ∷ (code ++ op.StoreAt width (anchor_place (anchor_of a) offset) ∷ [])
 writing_behind width a offset [] code fixed h = absurd (omega (arith, h))
-writing_behind width (anchors.Ram k start size) offset (s ∷ ss) code fixed h = refl
-writing_behind width (anchors.Screen start size) offset (s ∷ ss) code fixed h = refl
-writing_behind width (anchors.Based base) offset (s ∷ ss) code fixed h = absurd (fixed base refl)
+writing_behind width (anchors.InObject k start size) offset (s ∷ ss) code fixed h = refl
+writing_behind width (anchors.OnScreen page start size) offset (s ∷ ss) code fixed h = refl
+writing_behind width (anchors.Behind base) offset (s ∷ ss) code fixed h = absurd (fixed base refl)
 
 -- the first target, then the others
 pub targets_coded : (ps : List Procedure) (t : Target) (us : List declared_target.Target) → targets_code ps (targets_of t us) ≡ target_code ps t ++ others_code ps us

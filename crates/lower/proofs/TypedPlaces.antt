@@ -1,8 +1,10 @@
--- Of a program without faults of types: what its variables stand for lies in objects, or on the screen.
+-- Of a program without faults of types: what its variables stand for lies in objects, or in pages of the screen.
+use Rattle.std.proofs.lemmas.Bool.{and_parts, leb-true}
 use Rattle.std.proofs.Common.{◌≡◌, ℕ, ◌+◌, ◌*◌, ◌-◌, ◌^◌, ◌≤◌, Bool, true, false, not, cond, List, [], ◌∷◌, ◌++◌, slice_get, Option, Some, None, is_some, refl, sym, arith}
 use Rattle.std.specs.Prelude.{◌&&◌, nat_le, slice_index}
 use Rattle.std.proofs.Math.Nat.{min-le_left}
 use Rattle.word86.specs.declared.number.Number.{Number}
+use Rattle.word86.specs.Page.{page_size}
 use Rattle.word86.specs.Place.{bytes}
 use Rattle.plm_syntax.specs.declared.tree.Position.{Position}
 use Rattle.plm_decl.specs.declared.layout.Form.{Form}
@@ -20,7 +22,7 @@ use Rattle.plm_type.specs.Shapes.{form_type, span, where_at, is_based, capped, s
 use Rattle.plm_type.specs.Statements.{is_plain_scalar, is_placed_scalar}
 use Rattle.plm_type.specs.Faults.{fault_unless}
 use Rattle.lower.specs.Well.{Lies, ScalarLies, AnchorLies}
-use Rattle.lower.proofs.Bools.{true_false, both_true, le_of}
+use Rattle.lower.proofs.Bools.{true_false}
 
 -- ---- no fault
 
@@ -45,7 +47,7 @@ capped_least i = min-le_left i 0xFFFF
 -- all bytes of what its declaration takes lie there
 abbrev pub LiesAt : List ℕ → ℕ → Region → Type 0
 LiesAt sizes n (region.Ram k i) = i + n ≤ slice_index sizes k
-LiesAt sizes n (region.Screen i) = i + n ≤ 4000
+LiesAt sizes n (region.Screen page i) = i + n ≤ page_size
 LiesAt sizes n (region.Based b) = Unit {0}
 LiesAt sizes n region.Nowhere = Unit {0}
 
@@ -61,15 +63,15 @@ span_least v = min-le_left (v.stride * elements v.dimension) (2 ^ 64 - 1)
 module _ (sizes : List ℕ) where
   placed_at : (v : Variable) (r : Region) (t : ScalarType) → LiesAt sizes (v.stride * elements v.dimension) r → lies_somewhere r ≡ true → size_of t ≤ span v → Lies sizes (width_of (Some t)) (where_at r)
   placed_at v (region.Ram k i) t lies e room = omega (arith, lies, room, width_bytes t, capped_least i, span_least v)
-  placed_at v (region.Screen i) t lies e room = omega (arith, lies, room, width_bytes t, capped_least i, span_least v)
+  placed_at v (region.Screen page i) t lies e room = omega (arith, lies, room, width_bytes t, capped_least i, span_least v)
   placed_at v (region.Based b) t lies e room = absurd (true_false (sym e))
   placed_at v region.Nowhere t lies e room = absurd (true_false (sym e))
 
   -- where the region has room for the scalar's bytes, the scalar lies in it
   pub with_room : (v : Variable) (t : ScalarType) → IsLying sizes v → has_room (size_of t) v ≡ true → Lies sizes (width_of (Some t)) (where_at v.region)
   with_room v t lies h =
-      let both = both_true (lies_somewhere v.region) (nat_le (size_of t) (span v)) h in
-      placed_at v v.region t lies both.0 (le_of (size_of t) (span v) both.1)
+      let both = and_parts (lies_somewhere v.region) (nat_le (size_of t) (span v)) h in
+      placed_at v v.region t lies both.0 (leb-true (size_of t) (span v) both.1)
 
   scalar_of_form : (v : Variable) (f : Form) → IsLying sizes v → is_some (form_type f) ≡ true → has_room (scalar_size (form_type f)) v ≡ true → Lies sizes (width_of (form_type f)) (where_at v.region)
   scalar_of_form v (form.Scalar t) lies e h = with_room v t lies h
@@ -78,8 +80,8 @@ module _ (sizes : List ℕ) where
   -- a placed scalar lies
   pub placed_lies : (v : Variable) → IsLying sizes v → is_placed_scalar v ≡ true → ScalarLies sizes (scalar_for v)
   placed_lies v lies h =
-      let both = both_true (is_plain_scalar v) (has_room (scalar_size (form_type v.form)) v) h in
-      let plain = both_true (is_some (form_type v.form)) (not (is_some v.dimension) && not (is_based v.region)) both.0 in
+      let both = and_parts (is_plain_scalar v) (has_room (scalar_size (form_type v.form)) v) h in
+      let plain = and_parts (is_some (form_type v.form)) (not (is_some v.dimension) && not (is_based v.region)) both.0 in
       scalar_of_form v v.form lies plain.0 both.1
 
   -- ---- anchors
@@ -94,7 +96,7 @@ module _ (sizes : List ℕ) where
 
   region_lies : (vs : List Variable) → AreLying sizes vs → (v : Variable) (r : Region) → LiesAt sizes (v.stride * elements v.dimension) r → AnchorLies sizes (anchor_at vs r (span v))
   region_lies vs all v (region.Ram k i) lies = omega (arith, lies, span_least v)
-  region_lies vs all v (region.Screen i) lies = omega (arith, lies, span_least v)
+  region_lies vs all v (region.Screen page i) lies = omega (arith, lies, span_least v)
   region_lies vs all v (region.Based b) lies = behind_lies (slice_get vs b) (all b)
   region_lies vs all v region.Nowhere lies = omega arith
 

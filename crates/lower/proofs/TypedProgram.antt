@@ -1,12 +1,14 @@
 -- A checked program has well-formed trees.
+use Rattle.std.proofs.lemmas.Bool.{and_parts, leb-true, false_from_ne_true, not-true, eqb-true}
 use Rattle.std.proofs.Common.{◌≡◌, ℕ, zero, suc, ◌+◌, ◌*◌, Bool, true, false, not, cond, nat_eq, List, [], ◌∷◌, map, length, slice_get, Option, Some, None, is_some, option_map, inl, inr, refl, sym, ap, ◌∙◌, subst, arith}
 use Rattle.std.specs.Prelude.{◌&&◌, ◌||◌, nat_lt, slice_index, Contains}
 use Rattle.std.specs.List.{list_all}
 use Rattle.std.proofs.lemmas.Bool.Decides.{nat_tests}
 use Rattle.std.proofs.lemmas.List.{length-map}
 use Rattle.std.proofs.lemmas.List.Elements.{Contains-append_right}
-use Rattle.std.proofs.lemmas.Option.{slice_get-map, same_Some}
+use Rattle.std.proofs.lemmas.Option.{slice_get-map, same_Some, none-some}
 use Rattle.word86.specs.declared.number.Number.TheVariants.{E401}
+use Rattle.word86.specs.Page.{page_size}
 use Rattle.plm_decl.specs.declared.layout.ScalarType.{ScalarType}
 use Rattle.plm_decl.specs.declared.names.Names.{Names}
 use Rattle.plm_decl.specs.declared.names.Object.{Object}
@@ -36,9 +38,9 @@ use Rattle.lower.specs.Code.{Kind, OfMain, are_giving, has_vector, serves, kind_
 use Rattle.lower.specs.Lowered.{vector_of, vectors_of}
 use Rattle.lower.specs.Checked.{IsWellFormed, CheckedLaw}
 use Rattle.lower.specs.Well.{AllLie, ScalarLies, IsCall, MayReturn, MayReturnValue, AreStatements}
-use Rattle.lower.proofs.Bools.{true_false, both_true, none_some, le_of}
+use Rattle.lower.proofs.Bools.{true_false}
 use Rattle.lower.proofs.TypedPlaces.{none_both, holds_there, LiesAt, IsLying, AreLying, placed_lies}
-use Rattle.lower.proofs.TypedTrees.{nat_same, Callable, AllCallable}
+use Rattle.lower.proofs.TypedTrees.{Callable, AllCallable}
 use Rattle.lower.proofs.TypedStatements.{statements_well}
 use Rattle.lower.proofs.Unvalued.{settled}
 
@@ -46,9 +48,9 @@ use Rattle.lower.proofs.Unvalued.{settled}
 
 -- what a test finds of all is so of each
 all_at : {X : Type 0} (f : X → Bool) (xs : List X) (k : ℕ) (x : X) → list_all f xs ≡ true → slice_get xs k ≡ Some x → f x ≡ true
-all_at f [] k x h e = absurd (none_some x e)
-all_at f (y ∷ ys) zero x h e = subst (λ z. f z ≡ true) (same_Some y x e) (both_true (f y) (list_all f ys) h).0
-all_at f (y ∷ ys) (suc k) x h e = all_at f ys k x (both_true (f y) (list_all f ys) h).1 e
+all_at f [] k x h e = absurd (none-some x e)
+all_at f (y ∷ ys) zero x h e = subst (λ z. f z ≡ true) (same_Some y x e) (and_parts (f y) (list_all f ys) h).0
+all_at f (y ∷ ys) (suc k) x h e = all_at f ys k x (and_parts (f y) (list_all f ys) h).1 e
 
 there : {X : Type 0} (xs : List X) (k : ℕ) → nat_lt k (length xs) ≡ true → (x : X) × (slice_get xs k ≡ Some x)
 there [] k h = absurd (grind (arith, nat_tests))
@@ -63,8 +65,8 @@ size_is (o ∷ os) zero = refl
 size_is (o ∷ os) (suc k) = size_is os k
 
 held_lies : (os : List Object) (n : ℕ) (r : Region) → region_holds (map object_of os) n r ≡ true → LiesAt (map (λ o. o.size) os) n r
-held_lies os n (region.Ram k i) h = let le = le_of (i + n) (size_at (map object_of os) k) h in omega (arith, le, size_is os k)
-held_lies os n (region.Screen i) h = le_of (i + n) 4000 h
+held_lies os n (region.Ram k i) h = let le = leb-true (i + n) (size_at (map object_of os) k) h in omega (arith, le, size_is os k)
+held_lies os n (region.Screen page i) h = leb-true (i + n) page_size h
 held_lies os n (region.Based b) h = tt
 held_lies os n region.Nowhere h = tt
 
@@ -74,14 +76,14 @@ are_lying names k v e = held_lies names.objects.items (v.stride * elements v.dim
 -- ---- parameters
 
 parameter_lies : (sizes : List ℕ) (m : ℕ) (o : Option Variable) (v : Variable) → o ≡ Some v → IsLying sizes v → of_parameter false m o ≡ [] → ScalarLies sizes (index_for o)
-parameter_lies sizes m None v e lies f = absurd (none_some v e)
+parameter_lies sizes m None v e lies f = absurd (none-some v e)
 parameter_lies sizes m (Some w) v e lies f = placed_lies sizes w (subst (IsLying sizes) (sym (same_Some w v e)) lies) (holds_there m (is_placed_scalar w) E401 w.place f)
 
 parameters_lie : (sizes : List ℕ) (vs : List Variable) → AreLying sizes vs → (m : ℕ) (xs : List ℕ) → of_parameters vs false m xs ≡ [] → list_all (λ x. nat_lt x (length vs)) xs ≡ true → AllLie sizes (parameters_for vs xs)
 parameters_lie sizes vs all m [] f h = tt
 parameters_lie sizes vs all m (x ∷ xs) f h =
     let both = none_both (of_parameter false m (slice_get vs x)) (of_parameters vs false m xs) f in
-    let within = both_true (nat_lt x (length vs)) (list_all (λ y. nat_lt y (length vs)) xs) h in
+    let within = and_parts (nat_lt x (length vs)) (list_all (λ y. nat_lt y (length vs)) xs) h in
     let at = there vs x within.0 in
     (parameter_lies sizes m (slice_get vs x) at.0 at.1 (all x at.0 at.1) both.0, parameters_lie sizes vs all m xs both.1 within.1)
 
@@ -90,14 +92,6 @@ as_many_parameters vs [] = refl
 as_many_parameters vs (x ∷ xs) = ap suc (as_many_parameters vs xs)
 
 -- ---- tests
-
-false_true : (b : Bool) → (b ≡ true → ⊥) → b ≡ false
-false_true true h = absurd (h refl)
-false_true false h = refl
-
-not_true : (b : Bool) → not b ≡ true → b ≡ false
-not_true true h = absurd (true_false (sym h))
-not_true false h = refl
 
 unserved : (external : Bool) (i : Option ℕ) → is_some i ≡ false → has_vector (Some (cond external None i)) ≡ false
 unserved true i h = refl
@@ -130,7 +124,7 @@ module _ (program : Program) (names : Names) (typed : AreTyped program names) wh
   sound_parts = none_both _ _ (none_both (of_locations vs ps (sizes_of names) (map declared_location_of names.locations.items)) _ typed.no_fault).1
 
   each_sound : (qs : List ProcedureR) → of_procedures vs ps (sizes_of names) qs ≡ [] → (k : ℕ) (p : ProcedureR) → slice_get qs k ≡ Some p → of_procedure vs ps (sizes_of names) p ≡ []
-  each_sound [] f k p e = absurd (none_some p e)
+  each_sound [] f k p e = absurd (none-some p e)
   each_sound (q ∷ qs) f zero p e = subst (λ (z : ProcedureR). of_procedure vs ps (sizes_of names) z ≡ []) (same_Some q p e) (none_both (of_procedure vs ps (sizes_of names) q) (of_procedures vs ps (sizes_of names) qs) f).0
   each_sound (q ∷ qs) f (suc k) p e = each_sound qs (none_both (of_procedure vs ps (sizes_of names) q) (of_procedures vs ps (sizes_of names) qs) f).1 k p e
 
@@ -140,10 +134,10 @@ module _ (program : Program) (names : Names) (typed : AreTyped program names) wh
   within : (k : ℕ) (p : ProcedureR) → slice_get ps k ≡ Some p → list_all (λ x. nat_lt x (length vs)) p.parameters ≡ true
   within k p e =
       let c : Counts = record { variables = length vs; structures = length (map structure_of names.structures.items); objects = length (map object_of names.objects.items); procedures = length ps } in
-      let first = both_true (list_all (variable_within c) vs) _ names.in_range in
-      let second = both_true (list_all (object_within c) (map object_of names.objects.items)) _ first.1 in
-      let third = both_true (list_all (procedure_within c) ps) _ second.1 in
-      (both_true (list_all (λ x. nat_lt x (length vs)) p.parameters) _ (all_at (procedure_within c) ps k p third.0 e)).0
+      let first = and_parts (list_all (variable_within c) vs) _ names.in_range in
+      let second = and_parts (list_all (object_within c) (map object_of names.objects.items)) _ first.1 in
+      let third = and_parts (list_all (procedure_within c) ps) _ second.1 in
+      (and_parts (list_all (λ x. nat_lt x (length vs)) p.parameters) _ (all_at (procedure_within c) ps k p third.0 e)).0
 
   -- ---- calls
 
@@ -158,11 +152,11 @@ module _ (program : Program) (names : Names) (typed : AreTyped program names) wh
   entered : (n k : ℕ) (o : Option ProcedureR) → slice_get ps k ≡ o → is_entry n o ≡ true → is_for_interrupt o ≡ false → IsCall (sizes_of names) (procedures_of names) MayCall k n
   entered n k None e h i = absurd (true_false (sym h))
   entered n k (Some p) e h i =
-      let both = both_true (not (is_external p.linkage)) (nat_eq (length p.parameters) n) h in (
+      let both = and_parts (not (is_external p.linkage)) (nat_eq (length p.parameters) n) h in (
         procedure_for vs ps (sizes_of names) p,
         slice_get-map (procedure_for vs ps (sizes_of names)) ps k ∙ ap (option_map (procedure_for vs ps (sizes_of names))) e,
-        as_many_parameters vs p.parameters ∙ nat_same (length p.parameters) n both.1,
-        own_parameters k p e (not_true (is_external p.linkage) both.0),
+        as_many_parameters vs p.parameters ∙ eqb-true (length p.parameters) n both.1,
+        own_parameters k p e (not-true (is_external p.linkage) both.0),
         ap has_vector (vector_at k p e) ∙ unserved (is_external p.linkage) p.interrupt i,
       )
 
@@ -185,7 +179,7 @@ module _ (program : Program) (names : Names) (typed : AreTyped program names) wh
   texts_callable (Enables ∷ es) h = texts_callable es h
 
   uncalled : (k : ℕ) → IsCalled names k → is_for_interrupt (slice_get ps k) ≡ false
-  uncalled k c = false_true (is_for_interrupt (slice_get ps k)) (λ h. typed.none_misused k (inr (h, c)))
+  uncalled k c = false_from_ne_true (is_for_interrupt (slice_get ps k)) (λ h. typed.none_misused k (inr (h, c)))
 
   -- ---- bodies
 
@@ -222,7 +216,7 @@ module _ (program : Program) (names : Names) (typed : AreTyped program names) wh
       faultless calls
 
   body_at : (q : ℕ) (y : Procedure) (o : Option ProcedureR) → slice_get ps q ≡ o → option_map (procedure_for vs ps (sizes_of names)) o ≡ Some y → AreStatements (sizes_of names) (procedures_of names) MayCall (kind_of (serves (vectors_of names) q) (are_giving y.body)) y.body
-  body_at q y None e h = absurd (none_some y h)
+  body_at q y None e h = absurd (none-some y h)
   body_at q y (Some p) e h = subst (λ (z : Procedure). AreStatements (sizes_of names) (procedures_of names) MayCall (kind_of (serves (vectors_of names) q) (are_giving z.body)) z.body) (same_Some _ y h)
       (settled (sizes_of names) (procedures_of names) MayCall (serves (vectors_of names) q) (body_for vs ps (sizes_of names) p) (own_body q p e))
 

@@ -1,4 +1,6 @@
 -- Of a program without faults of types: the trees of its statements are well formed.
+use Rattle.std.proofs.lemmas.Bool.{and_parts}
+use Rattle.std.proofs.lemmas.Option.{none-some}
 use Rattle.std.proofs.Common.{◌≡◌, ℕ, true, List, [], slice_get, Option, Some, None, refl, sym, arith}
 use Rattle.word86.specs.declared.number.Number.TheVariants.{E401}
 use Rattle.plm_syntax.specs.declared.tree.Position.{Position}
@@ -17,7 +19,7 @@ use Rattle.plm_type.specs.Statements.{may_return, may_return_value, is_placed_sc
 use Rattle.lower.proofs.Typed.{tree_of, target_of, type_of, types_of, faults_of, faults_in, target_faults, of_number, target_trees, of_targets, called, of_call, of_index, step_for, of_step, statement_for, statements_for, of_statement, of_statements}
 use Rattle.lower.specs.Code.{Kind}
 use Rattle.lower.specs.Well.{ScalarLies, IsExpression, AreTargets, MayReturn, MayReturnValue, IsStatement, AreStatements}
-use Rattle.lower.proofs.Bools.{true_false, both_true, none_some}
+use Rattle.lower.proofs.Bools.{true_false}
 use Rattle.lower.proofs.TypedPlaces.{none_both, holds_there, IsLying, AreLying, placed_lies}
 use Rattle.lower.proofs.TypedTrees.{zero_well, AllCallable, parted, call_well, as_many, tree_well, trees_well, target_well}
 
@@ -26,13 +28,13 @@ module _ (ps : List ProcedureR) (sizes : List ℕ) (trees : List Procedure) (May
 
   index_lies : (o : Option Variable) → ((v : Variable) → o ≡ Some v → IsLying sizes v) → is_index o ≡ true → ScalarLies sizes (index_for o)
   index_lies None lies h = absurd (true_false (sym h))
-  index_lies (Some v) lies h = placed_lies sizes v (lies v refl) (both_true (is_placed_scalar v) (may_be_number (form_type v.form)) h).0
+  index_lies (Some v) lies h = placed_lies sizes v (lies v refl) (and_parts (is_placed_scalar v) (may_be_number (form_type v.form)) h).0
 
   meant_lies : (b : Binding) (v : Variable) → variable_meant vs b ≡ Some v → IsLying sizes v
   meant_lies (binding.Variable k) v e = all k v e
-  meant_lies (binding.Procedure q) v e = absurd (none_some v e)
-  meant_lies (binding.Builtin b) v e = absurd (none_some v e)
-  meant_lies binding.Nothing v e = absurd (none_some v e)
+  meant_lies (binding.Procedure q) v e = absurd (none-some v e)
+  meant_lies (binding.Builtin b) v e = absurd (none-some v e)
+  meant_lies binding.Nothing v e = absurd (none-some v e)
 
   number_well : (p : Position) (e : ExpressionR) → of_number vs ps sizes m p e ≡ [] → AllCallable ps sizes trees MayCall (effects.of_expression e) → IsExpression sizes trees MayCall (tree_of vs ps sizes m e)
   number_well p e f g = tree_well ps sizes trees MayCall vs all m e (none_both (faults_of vs ps sizes m e) _ f).0 g

@@ -1,8 +1,10 @@
 -- Of a program without faults of types: the trees of its expressions are well formed.
+use Rattle.std.proofs.lemmas.Bool.{and_parts, leb-true, eqb-true}
 use Rattle.std.proofs.Common.{◌≡◌, ℕ, zero, suc, ◌+◌, ◌≤◌, ◌<◌, Bool, true, false, not, cond, nat_eq, List, [], ◌∷◌, ◌++◌, length, slice_get, Option, Some, None, refl, sym, ap, ◌∙◌, subst, arith}
 use Rattle.std.specs.Prelude.{nat_le, slice_index}
 use Rattle.std.proofs.lemmas.Bool.Decides.{nat_tests}
 use Rattle.word86.specs.declared.number.Number.TheVariants.{E401, E402}
+use Rattle.word86.specs.declared.page.Page.{Page}
 use Rattle.word86.specs.declared.width.Width.{Width}
 use Rattle.word86.specs.declared.operation.UnaryOperation.{UnaryOperation}
 use Rattle.word86.specs.declared.operation.BinaryOperation.{BinaryOperation}
@@ -24,6 +26,7 @@ use Rattle.word86.specs.declared.width.Width.TheVariants as widths
 use Rattle.word86.specs.declared.operation.UnaryOperation.TheVariants as unary
 use Rattle.word86.specs.declared.operation.BinaryOperation.TheVariants as binary
 use Rattle.word86.specs.Access.{Where, In, Screen}
+use Rattle.word86.specs.Page.{page_size}
 use Rattle.plm_type.specs.Rest as rest
 use Rattle.plm_type.specs.Rest.{Anchor, InObject, OnScreen, Behind, There, Expression, Constant, Expressions, NoMore, More, Reference, Refer, Subscripts, NoSubscripts, Subscript, Target, Scalar, Procedure}
 use Rattle.plm_type.specs.Types.{width_of}
@@ -34,7 +37,7 @@ use Rattle.plm_type.specs.Trees.{constant, text_value, operated, read_port, to_p
 use Rattle.lower.proofs.Typed.{tree_of, trees_of, selector_trees, value_of, location_of, target_of, types_of, selector_types, faults_of, faults_in, selector_faults, value_faults, location_faults, target_faults, measured_value, argument_value, reference_value}
 use Rattle.lower.specs.Code.{count_of}
 use Rattle.lower.specs.Well.{Lies, IsCall, IsExpression, AreExpressions, IsReference, AreSubscripts, IsTarget}
-use Rattle.lower.proofs.Bools.{true_false, both_true, le_of}
+use Rattle.lower.proofs.Bools.{true_false}
 use Rattle.lower.proofs.TypedPlaces.{none_both, holds_there, width_bytes, capped_least, IsLying, AreLying, anchor_lies}
 
 -- ---- parts
@@ -58,7 +61,7 @@ module _ (sizes : List ℕ) (trees : List Procedure) (MayCall : ℕ → Type 0) 
   zero_well = omega arith
 
   constant_if : (n : ℕ) (c : Bool) → nat_le n 65535 ≡ c → cond c n 0 < 65536
-  constant_if n true h = let le = le_of n 65535 h in omega (arith, le)
+  constant_if n true h = let le = leb-true n 65535 h in omega (arith, le)
   constant_if n false h = omega arith
 
   constant_well : (n : ℕ) → IsExpression sizes trees MayCall (constant n)
@@ -70,8 +73,8 @@ module _ (sizes : List ℕ) (trees : List Procedure) (MayCall : ℕ → Type 0) 
       → length ts ≡ count_of es → count_of fs ≤ 1 → may_be_used part o s ts us ≡ true → AreExpressions sizes trees MayCall es → AreExpressions sizes trees MayCall fs → IsReference sizes trees MayCall (refer vs m line o s es fs)
   refer_well vs all m line part None lies s es fs ts us len few used h g = absurd (true_false (sym used))
   refer_well vs all m line part (Some v) lies s es fs ts us len few used h g =
-      let shape = both_true (shape_fits part v (length ts) s) _ used in
-      let fit = both_true (subscripts_fit part v.dimension (length ts)) (selector_fits part v.form s) shape.0 in
+      let shape = and_parts (shape_fits part v (length ts) s) _ used in
+      let fit = and_parts (subscripts_fit part v.dimension (length ts)) (selector_fits part v.form s) shape.0 in
       let least = subscripts_few part v.dimension (length ts) fit.0 in
       (anchor_lies sizes vs all v (lies v refl), two_strided v.stride (member_stride s) es fs (omega (arith, least, len)) few h g)
 
@@ -86,24 +89,24 @@ module _ (sizes : List ℕ) (trees : List Procedure) (MayCall : ℕ → Type 0) 
   store_if t r place false h lies = h
 
   in_object : (t : ScalarType) (k start offset size : ℕ) → start + size ≤ slice_index sizes k → nat_le (offset + size_of t) size ≡ true → Lies sizes (width_of (Some t)) (In k (capped (start + offset)))
-  in_object t k start offset size h e = let le = le_of (offset + size_of t) size e in omega (arith, h, le, width_bytes t, capped_least (start + offset))
+  in_object t k start offset size h e = let le = leb-true (offset + size_of t) size e in omega (arith, h, le, width_bytes t, capped_least (start + offset))
 
-  on_screen : (t : ScalarType) (start offset size : ℕ) → start + size ≤ 4000 → nat_le (offset + size_of t) size ≡ true → Lies sizes (width_of (Some t)) (Screen (capped (start + offset)))
-  on_screen t start offset size h e = let le = le_of (offset + size_of t) size e in omega (arith, h, le, width_bytes t, capped_least (start + offset))
+  on_screen : (page : Page) (t : ScalarType) (start offset size : ℕ) → start + size ≤ page_size → nat_le (offset + size_of t) size ≡ true → Lies sizes (width_of (Some t)) (Screen page (capped (start + offset)))
+  on_screen page t start offset size h e = let le = leb-true (offset + size_of t) size e in omega (arith, h, le, width_bytes t, capped_least (start + offset))
 
   read_well : (t : ScalarType) (r : Reference) → IsReference sizes trees MayCall r → IsExpression sizes trees MayCall (read_of t r)
   read_well t (Refer m line (InObject k start size) offset NoSubscripts) h = read_if t _ _ (nat_le (offset + size_of t) size) h (in_object t k start offset size h.0)
-  read_well t (Refer m line (OnScreen start size) offset NoSubscripts) h = read_if t _ _ (nat_le (offset + size_of t) size) h (on_screen t start offset size h.0)
+  read_well t (Refer m line (OnScreen page start size) offset NoSubscripts) h = read_if t _ _ (nat_le (offset + size_of t) size) h (on_screen page t start offset size h.0)
   read_well t (Refer m line (InObject k start size) offset (Subscript stride e ss)) h = h
-  read_well t (Refer m line (OnScreen start size) offset (Subscript stride e ss)) h = h
+  read_well t (Refer m line (OnScreen page start size) offset (Subscript stride e ss)) h = h
   read_well t (Refer m line (Behind b) offset ss) h = h
   read_well t (Refer m line (There a) offset ss) h = absurd h.0
 
   store_well : (t : ScalarType) (r : Reference) → IsReference sizes trees MayCall r → IsTarget sizes trees MayCall (store_to t r)
   store_well t (Refer m line (InObject k start size) offset NoSubscripts) h = store_if t _ _ (nat_le (offset + size_of t) size) h (in_object t k start offset size h.0)
-  store_well t (Refer m line (OnScreen start size) offset NoSubscripts) h = store_if t _ _ (nat_le (offset + size_of t) size) h (on_screen t start offset size h.0)
+  store_well t (Refer m line (OnScreen page start size) offset NoSubscripts) h = store_if t _ _ (nat_le (offset + size_of t) size) h (on_screen page t start offset size h.0)
   store_well t (Refer m line (InObject k start size) offset (Subscript stride e ss)) h = h
-  store_well t (Refer m line (OnScreen start size) offset (Subscript stride e ss)) h = h
+  store_well t (Refer m line (OnScreen page start size) offset (Subscript stride e ss)) h = h
   store_well t (Refer m line (Behind b) offset ss) h = h
   store_well t (Refer m line (There a) offset ss) h = absurd h.0
 
@@ -209,9 +212,6 @@ targets_evaluate builtin.InputWord h = refl
 
 -- ---- calls
 
-pub nat_same : (a b : ℕ) → nat_eq a b ≡ true → a ≡ b
-nat_same a b h = grind (arith, nat_tests)
-
 module _ (ps : List ProcedureR) (sizes : List ℕ) (trees : List Procedure) (MayCall : ℕ → Type 0) where
   -- a call of this procedure, with as many arguments as it has parameters
   abbrev pub Callable : Option ProcedureR → Type 0
@@ -235,7 +235,7 @@ module _ (ps : List ProcedureR) (sizes : List ℕ) (trees : List Procedure) (May
   call_well vs m place (Some q) s ts n len h f =
       let behind = (none_both _ _ f).1 in
       let count = holds_there m (nat_eq (length q.parameters) (length ts)) E402 place (none_both _ _ behind).0 in
-      subst (λ (k : ℕ). IsCall sizes trees MayCall q.entry k) (nat_same (length q.parameters) (length ts) count ∙ len) h
+      subst (λ (k : ℕ). IsCall sizes trees MayCall q.entry k) (eqb-true (length q.parameters) (length ts) count ∙ len) h
 
   builtin_if : (c : Bool) (x y : Expression) (others own : List Found) (texts : List Effect)
       → IsExpression sizes trees MayCall x → (own ≡ [] → AllCallable texts → IsExpression sizes trees MayCall y) → cond c others own ≡ [] → AllCallable (cond c [] texts) → IsExpression sizes trees MayCall (cond c x y)

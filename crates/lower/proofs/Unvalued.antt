@@ -1,9 +1,10 @@
 -- Statements in which no RETURN has a value are those of a procedure that gives none.
+use Rattle.std.proofs.lemmas.Bool.{or_parts}
 use Rattle.std.proofs.Common.{◌≡◌, ℕ, Bool, true, false, List, refl}
 use Rattle.plm_type.specs.Rest.{Count, Statement, Empty, Assign, Evaluate, Return, ReturnValue, Enabling, Disabling, Halting, If, Block, While, Case, Iterate, Leaving, Round, Comparing, Stepping, Adding, Storing, Ending, Statements, End, Then, Returned, Procedure}
 use Rattle.lower.specs.Code.{Called, Giving, kind_of, is_giving, are_giving}
 use Rattle.lower.specs.Well.{IsStatement, AreStatements}
-use Rattle.lower.proofs.Bools.{true_false, neither_true}
+use Rattle.lower.proofs.Bools.{true_false}
 
 module _ (sizes : List ℕ) (procedures : List Procedure) (MayCall : ℕ → Type 0) where
   abbrev Was : Statement → Type 0
@@ -22,7 +23,7 @@ module _ (sizes : List ℕ) (procedures : List Procedure) (MayCall : ℕ → Typ
     statement_called Enabling lacks good = tt
     statement_called Disabling lacks good = tt
     statement_called Halting lacks good = tt
-    statement_called (If c arm other) lacks good = let n = neither_true (are_giving arm) (are_giving other) lacks in (good.0, statements_called arm n.0 good.1, statements_called other n.1 good.2)
+    statement_called (If c arm other) lacks good = let n = or_parts (are_giving arm) (are_giving other) lacks in (good.0, statements_called arm n.0 good.1, statements_called other n.1 good.2)
     statement_called (Block ss) lacks good = statements_called ss lacks good
     statement_called (While l c ss) lacks good = (good.0, good.1, statements_called ss lacks good.2)
     statement_called (Case e ss) lacks good = (good.0, statements_called ss lacks good.1)
@@ -37,7 +38,7 @@ module _ (sizes : List ℕ) (procedures : List Procedure) (MayCall : ℕ → Typ
 
     statements_called : (ss : Statements) → are_giving ss ≡ false → AreStatements sizes procedures MayCall Giving ss → AreStatements sizes procedures MayCall Called ss
     statements_called End lacks good = tt
-    statements_called (Then s later) lacks good = let n = neither_true (is_giving s) (are_giving later) lacks in (statement_called s n.0 good.0, statements_called later n.1 good.1)
+    statements_called (Then s later) lacks good = let n = or_parts (is_giving s) (are_giving later) lacks in (statement_called s n.0 good.0, statements_called later n.1 good.1)
     statements_called (Returned v) lacks good = absurd good
 
   giving_settled : (g : Bool) (ss : Statements) → are_giving ss ≡ g → AreStatements sizes procedures MayCall Giving ss → AreStatements sizes procedures MayCall (kind_of false g) ss

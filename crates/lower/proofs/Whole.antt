@@ -18,7 +18,7 @@ use Rattle.lower.specs.Code.{OfMain, Called, Giving, Serving, kind_of, are_givin
 use Rattle.lower.specs.Well.{AreStatements}
 use Rattle.lower.specs.Tracking.{IsProgram, CodeTracks, LoweringTracks}
 use Rattle.std.specs.Prelude.{get_or}
-use Rattle.std.proofs.lemmas.Option.{slice_get-get_or}
+use Rattle.std.proofs.lemmas.Option.{slice_get-get_or, same_Some}
 use Rattle.std.proofs.lemmas.List.Quantifiers.{position-Some}
 use Rattle.lower.proofs.Setting.{Setting}
 use Rattle.lower.proofs.Sim.{N, T, S, eased, then_, down, both, halts_more, ends}
@@ -158,12 +158,9 @@ abbrev NoProcedure : Option Procedure → Type 0
 NoProcedure None = Unit {0}
 NoProcedure (Some p) = ⊥
 
-some_same : (a b : Procedure) → Some a ≡ Some b → a ≡ b
-some_same a b e = ap (λ (o : Option Procedure). elim o [ Some y ↦ y | None ↦ a ]) e
-
 among : (ps : List Procedure) (q : ℕ) (procedure : Procedure) → slice_get ps q ≡ Some procedure → leads procedure.body ≤ all_leads ps
 among [] q procedure h = absurd (subst (λ o. NoProcedure o) h tt)
-among (p ∷ ps) zero procedure h = subst (λ (y : Procedure). leads y.body ≤ leads p.body + all_leads ps) (some_same p procedure h) (omega arith)
+among (p ∷ ps) zero procedure h = subst (λ (y : Procedure). leads y.body ≤ leads p.body + all_leads ps) (same_Some p procedure h) (omega arith)
 among (p ∷ ps) (suc q) procedure h = omega (arith, among ps q procedure h)
 
 pub program_tracks : (sizes : List ℕ) (procedures : List Procedure) (vectors : List (Option ℕ)) (order : List ℕ) (main : Statements) → IsProgram sizes procedures vectors main → IsOrder order (graph_of procedures) → LoweringTracks sizes procedures vectors main

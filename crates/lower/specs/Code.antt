@@ -27,7 +27,7 @@ pub use Rattle.lower.specs.declared.kind.Kind.TheVariants.{OfMain, Called, Givin
 
 abbrev pub place_of : Where → Place
 place_of (In k i) = places.Ram k i
-place_of (access.Screen i) = places.Screen i
+place_of (access.Screen page i) = places.Screen page i
 
 -- a constant and a plain scalar are operands of an instruction; what else there is is computed
 pub data Operand : Type 0 where
@@ -65,9 +65,9 @@ operation o width Computed = op.Binary o width
 -- the place at this offset from an anchor that lies at a fixed place
 abbrev pub anchor_place : Anchor → ℕ → Place
 anchor_place (InObject k start size) offset = places.Ram k ((start + offset) % 65536)
-anchor_place (OnScreen start size) offset = places.Screen ((start + offset) % 65536)
+anchor_place (OnScreen page start size) offset = places.Screen page ((start + offset) % 65536)
 anchor_place (Behind base) offset = place_of base
-anchor_place (There address) offset = places.Screen 0
+anchor_place (There address) offset = places.Ram 0 0
 
 -- the accumulator counts elements of this number of bytes
 abbrev pub scaled : ℕ → List Instruction
@@ -90,8 +90,8 @@ abbrev pub reading : Width → Anchor → ℕ → Subscripts → List Instructio
 reading width (Behind base) offset ss = based base offset ss ++ op.LoadThere width ∷ []
 reading width (InObject k start size) offset NoSubscripts = op.Load width (anchor_place (InObject k start size) offset) ∷ []
 reading width (InObject k start size) offset (Subscript stride e more) = op.LoadAt width (anchor_place (InObject k start size) offset) ∷ []
-reading width (OnScreen start size) offset NoSubscripts = op.Load width (anchor_place (OnScreen start size) offset) ∷ []
-reading width (OnScreen start size) offset (Subscript stride e more) = op.LoadAt width (anchor_place (OnScreen start size) offset) ∷ []
+reading width (OnScreen page start size) offset NoSubscripts = op.Load width (anchor_place (OnScreen page start size) offset) ∷ []
+reading width (OnScreen page start size) offset (Subscript stride e more) = op.LoadAt width (anchor_place (OnScreen page start size) offset) ∷ []
 reading width (There address) offset NoSubscripts = op.Load width (anchor_place (There address) offset) ∷ []
 reading width (There address) offset (Subscript stride e more) = op.LoadAt width (anchor_place (There address) offset) ∷ []
 
@@ -99,8 +99,8 @@ abbrev pub locating : Anchor → ℕ → Subscripts → List Instruction
 locating (Behind base) offset ss = based base offset ss
 locating (InObject k start size) offset NoSubscripts = op.Locate (anchor_place (InObject k start size) offset) ∷ []
 locating (InObject k start size) offset (Subscript stride e more) = op.LocateAt (anchor_place (InObject k start size) offset) ∷ []
-locating (OnScreen start size) offset NoSubscripts = op.Locate (anchor_place (OnScreen start size) offset) ∷ []
-locating (OnScreen start size) offset (Subscript stride e more) = op.LocateAt (anchor_place (OnScreen start size) offset) ∷ []
+locating (OnScreen page start size) offset NoSubscripts = op.Locate (anchor_place (OnScreen page start size) offset) ∷ []
+locating (OnScreen page start size) offset (Subscript stride e more) = op.LocateAt (anchor_place (OnScreen page start size) offset) ∷ []
 locating (There address) offset NoSubscripts = op.Locate (anchor_place (There address) offset) ∷ []
 locating (There address) offset (Subscript stride e more) = op.LocateAt (anchor_place (There address) offset) ∷ []
 
@@ -109,8 +109,8 @@ abbrev pub writing : Width → Anchor → ℕ → Subscripts → List Instructio
 writing width (Behind base) offset ss code = op.Push ∷ (code ++ (based base offset ss ++ op.StoreThere width ∷ []))
 writing width (InObject k start size) offset NoSubscripts code = op.Store width (anchor_place (InObject k start size) offset) ∷ []
 writing width (InObject k start size) offset (Subscript stride e more) code = op.Push ∷ (code ++ op.StoreAt width (anchor_place (InObject k start size) offset) ∷ [])
-writing width (OnScreen start size) offset NoSubscripts code = op.Store width (anchor_place (OnScreen start size) offset) ∷ []
-writing width (OnScreen start size) offset (Subscript stride e more) code = op.Push ∷ (code ++ op.StoreAt width (anchor_place (OnScreen start size) offset) ∷ [])
+writing width (OnScreen page start size) offset NoSubscripts code = op.Store width (anchor_place (OnScreen page start size) offset) ∷ []
+writing width (OnScreen page start size) offset (Subscript stride e more) code = op.Push ∷ (code ++ op.StoreAt width (anchor_place (OnScreen page start size) offset) ∷ [])
 writing width (There address) offset NoSubscripts code = op.Store width (anchor_place (There address) offset) ∷ []
 writing width (There address) offset (Subscript stride e more) code = op.Push ∷ (code ++ op.StoreAt width (anchor_place (There address) offset) ∷ [])
 

@@ -3,16 +3,17 @@ use Rattle.std.specs.Prelude.{◌≡◌, ℕ, zero, suc, ◌+◌, ◌≤◌, ◌
 use Rattle.word86.specs.declared.width.Width.{Width}
 use Rattle.word86.specs.declared.width.Width.TheVariants as widths
 use Rattle.word86.specs.Access.{Where, In, Screen}
-use Rattle.word86.specs.Place.{bytes, screen_size}
+use Rattle.word86.specs.Page.{page_size}
+use Rattle.word86.specs.Place.{bytes}
 use Rattle.plm_type.specs.Rest.{Anchor, InObject, OnScreen, Behind, There, Scalar, Expression, Constant, Plain, Variable, Location, Unary, Binary, Embedded, Input, Call, Value, Passing, Running, Expressions, NoMore, More, Reference, Refer, Subscripts, NoSubscripts, Subscript, Target, ToPlain, ToVariable, ToPort, Targets, Only, Also, Loop, Count, Statement, Empty, Assign, Evaluate, Return, ReturnValue, Enabling, Disabling, Halting, If, Block, While, Case, Iterate, Leaving, Round, Comparing, Stepping, Adding, Storing, Ending, Statements, End, Then, Returned, Procedure}
 use Rattle.lower.specs.Code.{Kind, OfMain, Called, Giving, Serving, count_of}
 
 -- the objects' sizes
 module _ (sizes : List ℕ) where
-  -- what is read or written with this width lies in its object, or on the screen
+  -- what is read or written with this width lies in its object, or in its page of the screen
   abbrev pub Lies : Width → Where → Type 0
   Lies width (In k i) = i + bytes width ≤ slice_index sizes k
-  Lies width (Screen i) = i + bytes width ≤ screen_size
+  Lies width (Screen page i) = i + bytes width ≤ page_size
 
   abbrev pub ScalarLies : Scalar → Type 0
   ScalarLies x = Lies x.width x.place
@@ -21,10 +22,10 @@ module _ (sizes : List ℕ) where
   AllLie [] = Unit {0}
   AllLie (x ∷ xs) = ScalarLies x × AllLie xs
 
-  -- a variable's bytes lie in its object, or on the screen; its base is a word
+  -- a variable's bytes lie in its object, or in its page of the screen; its base is a word
   abbrev pub AnchorLies : Anchor → Type 0
   AnchorLies (InObject k start size) = start + size ≤ slice_index sizes k
-  AnchorLies (OnScreen start size) = start + size ≤ screen_size
+  AnchorLies (OnScreen page start size) = start + size ≤ page_size
   AnchorLies (Behind base) = Lies widths.Word base
   AnchorLies (There address) = ⊥
 

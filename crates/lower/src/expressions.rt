@@ -31,11 +31,13 @@ fn anchor_place(anchor: Anchor, offset: u64) -> Place
     ensures { result ≡ anchor_place (anchor_of anchor) offset }
 {
     match anchor {
-        Anchor::Ram(object, start, _) => {
+        Anchor::InObject(object, start, _) => {
             Place::Ram(object, low(u128::from(start) + u128::from(offset)))
         }
-        Anchor::Screen(start, _) => Place::Screen(low(u128::from(start) + u128::from(offset))),
-        Anchor::Based(base) => base,
+        Anchor::OnScreen(page, start, _) => {
+            Place::Screen(page, low(u128::from(start) + u128::from(offset)))
+        }
+        Anchor::Behind(base) => base,
     }
 }
 
@@ -172,11 +174,11 @@ fn read(
 {
     let at = anchor_place(anchor, offset);
     match anchor {
-        Anchor::Based(base) => {
+        Anchor::Behind(base) => {
             follow(code, base, offset, subscripts)?;
             put(code, Instruction::LoadThere(width))
         }
-        Anchor::Ram(_, _, _) | Anchor::Screen(_, _) => match subscripts {
+        Anchor::InObject(_, _, _) | Anchor::OnScreen(_, _, _) => match subscripts {
             [] => put(code, Instruction::Load(width, at)),
             [_, ..] => put(code, Instruction::LoadAt(width, at)),
         },
@@ -195,8 +197,8 @@ fn locate(
 {
     let at = anchor_place(anchor, offset);
     match anchor {
-        Anchor::Based(base) => follow(code, base, offset, subscripts),
-        Anchor::Ram(_, _, _) | Anchor::Screen(_, _) => match subscripts {
+        Anchor::Behind(base) => follow(code, base, offset, subscripts),
+        Anchor::InObject(_, _, _) | Anchor::OnScreen(_, _, _) => match subscripts {
             [] => put(code, Instruction::Locate(at)),
             [_, ..] => put(code, Instruction::LocateAt(at)),
         },
@@ -423,13 +425,13 @@ fn write(
 {
     let at = anchor_place(anchor, offset);
     match anchor {
-        Anchor::Based(base) => {
+        Anchor::Behind(base) => {
             put(code, Instruction::Push)?;
             subscripts(code, callees, list)?;
             follow(code, base, offset, list)?;
             put(code, Instruction::StoreThere(width))
         }
-        Anchor::Ram(_, _, _) | Anchor::Screen(_, _) => match list {
+        Anchor::InObject(_, _, _) | Anchor::OnScreen(_, _, _) => match list {
             [] => put(code, Instruction::Store(width, at)),
             [_, ..] => {
                 put(code, Instruction::Push)?;

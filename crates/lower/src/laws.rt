@@ -14,9 +14,9 @@ pub fn lowering_tracks()
     ensures { LoweringLaw }
 {}
 
-/// The trees of a checked program are well formed: what is read or written at a fixed place lies in its object or on the screen,
-/// a variable's bytes do, a base is a word that does, and what is called has as many parameters as there are arguments and serves
-/// no interrupt.
+/// The trees of a checked program are well formed: what is read or written at a fixed place lies in its object or in its page of the
+/// screen, a variable's bytes do, a base is a word that does, and what is called has as many parameters as there are arguments and
+/// serves no interrupt.
 pub fn checked_trees_are_well_formed()
     ensures { CheckedLaw }
 {}

@@ -3,7 +3,7 @@ use Rattle.std.proofs.Common.{◌≡◌, ℕ, suc, ◌+◌, ◌%◌, ◌<◌, Li
 use Rattle.std.specs.Prelude.{slice_index}
 use Rattle.word86.specs.declared.place.Place.{Place}
 use Rattle.word86.specs.declared.place.Place.TheVariants as place
-use Rattle.word86.specs.Place.{screen_begins}
+use Rattle.word86.specs.Page.{page_begins}
 use Rattle.i86_table.specs.declared.registers.Segment.{Segment}
 use Rattle.i86_table.specs.declared.registers.Segment.TheVariants as segments
 use Rattle.i86_table.specs.declared.instruction.Instr.{Instr}
@@ -53,8 +53,8 @@ module _ (code : ℕ → Option (Instr × ℕ)) (words : ℕ → Option ℕ) (of
       where
         sum_turned : (a b : ℕ) → a + b ≡ b + a + 0
         sum_turned a b = omega arith
-    on_it f (place.Screen n) p m t s =
-        let e : (screen_begins + n) % 65536 ≡ (screen_begins + n + 0) % 65536 = ap (λ z. z % 65536) (same_sum (screen_begins + n)) in
+    on_it f (place.Screen page n) p m t s =
+        let e : (page_begins page + n) % 65536 ≡ (page_begins page + n + 0) % 65536 = ap (λ z. z % 65536) (same_sum (page_begins page + n)) in
         subst (λ z. StandsAt code p (closed (f segments.Es) z) m) e s
       where
         same_sum : (a : ℕ) → a ≡ a + 0

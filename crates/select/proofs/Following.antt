@@ -2,22 +2,27 @@
 use Rattle.std.proofs.Common.{◌≡◌, ℕ, zero, suc, ◌+◌, ◌-◌, ◌*◌, ◌/◌, ◌%◌, ◌^◌, ◌<◌, ◌≤◌, ◌⊎◌, inl, inr, Bool, true, false, List, [], ◌∷◌, ◌++◌, length, drop, Option, Some, None, refl, sym, ap, ◌∙◌, subst, arith, slice_get}
 use Rattle.std.specs.Prelude.{not, if◌then◌else◌, nat_le, nat_lt, nat_eq, ◌==◌, ◌&&◌, slice_index}
 use Rattle.std.specs.Int.RustNames.{bit_and}
-use Rattle.std.proofs.lemmas.Bool.{cases_lt, lt-ltb, le-ltb, le-leb, lt-leb, eq-eqb, ne_eqb, eqb-true}
+use Rattle.std.proofs.lemmas.Bool.{cases_lt, lt-ltb, le-ltb, le-leb, lt-leb, leb-true, eq-eqb, ne_eqb, eqb-true}
+use Rattle.std.proofs.lemmas.Option.{none-some}
 use Rattle.std.proofs.lemmas.Nat.{and_mask}
 use Rattle.word86.specs.declared.width.Width.{Width}
 use Rattle.word86.specs.declared.width.Width.TheVariants as widths
+use Rattle.word86.specs.declared.page.Page.{Page}
+use Rattle.word86.specs.declared.page.Page.TheVariants.{Monochrome, Colour}
 use Rattle.word86.specs.declared.place.Place.{Place}
 use Rattle.word86.specs.declared.place.Place.TheVariants as word_place
 use Rattle.word86.specs.declared.operation.BinaryOperation.{BinaryOperation}
 use Rattle.word86.specs.declared.operation.BinaryOperation.TheVariants as binary
 use Rattle.word86.specs.declared.operation.UnaryOperation.{UnaryOperation}
 use Rattle.word86.specs.declared.operation.UnaryOperation.TheVariants as unary
-use Rattle.word86.specs.Access.{Access, Where, Read, Write, Input, Output, answers, values}
+use Rattle.word86.specs.Access.{Access, Where, Screen, Read, Write, Input, Output, answers, values}
 use Rattle.word86.specs.Action.{Action, Silent, Touch, Enable, Disable, Halt, Over, Bad, IsBad}
 use Rattle.word86.specs.Following.{Does}
 use Rattle.word86.specs.Arithmetic.{low}
 use Rattle.word86.specs.Operation.{unary_value, binary_value}
-use Rattle.word86.specs.Place.{held}
+use Rattle.word86.specs.MemoryMap.{stack_room}
+use Rattle.word86.specs.Page.{page_begins, page_size}
+use Rattle.word86.specs.Place.{covers, held}
 use Rattle.word86.specs.Place as word_places
 use Rattle.i86_table.specs.declared.registers.Register16.TheVariants.{Ax, Bx, Cx, Dx, Bp, Sp}
 use Rattle.i86_table.specs.declared.registers.Register8.TheVariants.{Al, Ah, Cl, Ch}
@@ -42,7 +47,7 @@ use Rattle.i86_table.specs.Open.{closed}
 use Rattle.i86_table.specs.Condition.{holds}
 use Rattle.i86_table.specs.Arithmetic.{has, with_flag, flag_bit, tested, operated, shifted}
 use Rattle.i86_table.specs.Arithmetic as i86_arithmetic
-use Rattle.i86_table.specs.Contexts.{Context, Own, Working, Given, further, set_word, set_byte, set_flags, word_result, alu_word, room, bytes, place_in, in_object, reads, writes, pushes, refused, offered, input_gives, output_takes, top_of, stack_pointer, takes, silently}
+use Rattle.i86_table.specs.Contexts.{Context, Own, Working, Given, further, set_word, set_byte, set_flags, word_result, alu_word, room, bytes, place_in, in_object, on_screen, reads, writes, pushes, refused, offered, input_gives, output_takes, top_of, stack_pointer, takes, silently}
 use Rattle.icode.specs.declared.instruction.Instruction.{Instruction}
 use Rattle.icode.specs.declared.instruction.Instruction.TheVariants as op
 use Rattle.icode.specs.declared.instruction.Relation.{Relation}
@@ -82,7 +87,7 @@ use Rattle.select.proofs.Offers.{right_gives}
 module _ (laws : Laws) (x : Image) (all : IsSelected x)
     (rows_stand : (r : Routine) (k : ℕ) (ins : Instruction) → slice_get (x.icode r) k ≡ Some ins → Chains.From x.code x.words x.offsets x.places (x.at r) (place_of x r k) (row (first_of (x.saves r) (x.icode r)) x.part (x.saves r) (k + 1) ins) (place_of x r (k + 1)))
     (given : Option Given) (base : List ℕ) (begin : machine.Context) (most : ℕ)
-    (counted : Counted (next_of x) begin (is_main given) most) (enough : most + length base ≤ room x.main x.handler given) (few : room x.main x.handler given ≤ 2047) (top_small : top_of given < 65536)
+    (counted : Counted (next_of x) begin (is_main given) most) (enough : most + length base ≤ room x.main x.handler given) (few : room x.main x.handler given ≤ stack_room / 2) (top_small : top_of given < 65536)
     (Inv : Working → Type 0)
     (keeps : (n : ℕ) (r : Routine) (k b : ℕ) (ws : List Word) (ins : Instruction) → Comes (next_of x) begin n (At r k b ws) → slice_get (x.icode r) k ≡ Some ins → (g h : Working) → OnlyChanges (changes ins) g h → Inv g → Inv h) where
   abbrev next : machine.Context → Action Access machine.Context
@@ -141,21 +146,44 @@ module _ (laws : Laws) (x : Image) (all : IsSelected x)
 
   address_small : (y : Place) (m : ℕ) → address x.offsets x.sizes y m < 65536
   address_small (word_place.Ram j z) m = omega arith
-  address_small (word_place.Screen z) m = omega arith
+  address_small (word_place.Screen page z) m = omega arith
 
   address_on : (y : Place) (m : ℕ) → (m + address x.offsets x.sizes y 0) % 65536 ≡ address x.offsets x.sizes y m
   address_on (word_place.Ram j z) m = omega arith
-  address_on (word_place.Screen z) m = omega arith
+  address_on (word_place.Screen page z) m = omega arith
 
-  -- what lies at an address in a place's segment
-  place_found : (width : Width) (y : Place) (a : ℕ) → place_in x.find (segment_of y) a (bytes width) ≡ found x.offsets x.sizes width y a
-  place_found widths.Byte (word_place.Ram j z) a = all.finds a 1
-  place_found widths.Word (word_place.Ram j z) a = all.finds a 2
-  place_found widths.Byte (word_place.Screen z) a = refl
-  place_found widths.Word (word_place.Screen z) a = refl
+  first_holds : (b c : Bool) → (b && c) ≡ true → b ≡ true
+  first_holds true c h = refl
+  first_holds false c h = h
 
-  behind_found : (width : Width) (y : Place) (m : ℕ) → place_in x.find (segment_of y) ((m + address x.offsets x.sizes y 0) % 65536) (bytes width) ≡ found x.offsets x.sizes width y (address x.offsets x.sizes y m)
-  behind_found width y m = ap (λ z. place_in x.find (segment_of y) z (bytes width)) (address_on y m) ∙ place_found width y (address x.offsets x.sizes y m)
+  second_fails : (b c : Bool) → c ≡ false → (b && c) ≡ false
+  second_fails true c h = h
+  second_fails false c h = refl
+
+  abbrev colour_at : (a n : ℕ) → Bool → Option Where
+  colour_at a n c = if c then Some (Screen Colour (a - page_begins Colour)) else None
+
+  -- what lies in a page is found there
+  page_found : (page : Page) (a n : ℕ) (w : Where) (b : Bool) → covers (page_begins page) page_size a n ≡ b
+      → (if b then Some (Screen page (a - page_begins page)) else None) ≡ Some w → on_screen a n ≡ (if b then Some (Screen page (a - page_begins page)) else None)
+  page_found page a n w false e h = absurd (none-some w h)
+  page_found Monochrome a n w true e h = ap (λ (c : Bool). if c then Some (Screen Monochrome (a - page_begins Monochrome)) else colour_at a n (covers (page_begins Colour) page_size a n)) e
+  page_found Colour a n w true e h =
+      let begins : nat_le (page_begins Colour) a ≡ true = first_holds (nat_le (page_begins Colour) a) (nat_le (a + n) (page_begins Colour + page_size)) e in
+      let behind : page_begins Colour ≤ a = leb-true (page_begins Colour) a begins in
+      let past : covers (page_begins Monochrome) page_size a n ≡ false = second_fails (nat_le (page_begins Monochrome) a) (nat_le (a + n) (page_begins Monochrome + page_size)) (lt-leb (a + n) (page_begins Monochrome + page_size) (omega (arith, behind))) in
+      ap (λ (c : Bool). if c then Some (Screen Monochrome (a - page_begins Monochrome)) else colour_at a n (covers (page_begins Colour) page_size a n)) past ∙ ap (colour_at a n) e
+
+  -- where the code finds a place's byte, the processor does
+  place_found : (width : Width) (y : Place) (a : ℕ) (w : Where) → found x.offsets x.sizes width y a ≡ Some w → place_in x.find (segment_of y) a (bytes width) ≡ found x.offsets x.sizes width y a
+  place_found widths.Byte (word_place.Ram j z) a w h = all.finds a 1
+  place_found widths.Word (word_place.Ram j z) a w h = all.finds a 2
+  place_found widths.Byte (word_place.Screen page z) a w h = page_found page a 1 w _ refl h
+  place_found widths.Word (word_place.Screen page z) a w h = page_found page a 2 w _ refl h
+
+  behind_found : (width : Width) (y : Place) (m : ℕ) (w : Where) → found x.offsets x.sizes width y (address x.offsets x.sizes y m) ≡ Some w
+      → place_in x.find (segment_of y) ((m + address x.offsets x.sizes y 0) % 65536) (bytes width) ≡ found x.offsets x.sizes width y (address x.offsets x.sizes y m)
+  behind_found width y m w h = ap (λ z. place_in x.find (segment_of y) z (bytes width)) (address_on y m) ∙ place_found width y (address x.offsets x.sizes y m) w h
 
   there_found : (width : Width) (m : ℕ) → m < 65536 → in_object (x.find ((m + 0) % 65536) (bytes width)) ≡ held 0 x.offsets x.sizes m (word_places.bytes width)
   there_found widths.Byte m l = let e : (m + 0) % 65536 ≡ m = omega (arith, l) in ap (λ z. in_object (x.find z 1)) e ∙ all.finds m 1
@@ -230,10 +258,10 @@ module _ (laws : Laws) (x : Image) (all : IsSelected x)
     -- a read, if there is a place, and whatever comes after it
     reading : (width : Width) (before : List Instr) (y : Instr) (xs : List Step) (q : ℕ) (o : Option Where) (d : ℕ → machine.Context) (g1 : Working) (after : ℕ → Working)
         → does_so ≡ loaded width o d → Chain r (place r k) (plain before ++ Plain y ∷ xs) q → with_each before 0 ≤ 8 → Str before g (stack_of ws) g1 (stack_of ws)
-        → ((z : ℕ) → offered x.find x.words x.main x.handler y z g1 (stack_of ws) false given ≡ reads o width (λ v. Own z (after v) (stack_of ws) false given))
+        → ((w : Where) → o ≡ Some w → (z : ℕ) → offered x.find x.words x.main x.handler y z g1 (stack_of ws) false given ≡ reads o width (λ v. Own z (after v) (stack_of ws) false given))
         → ((w : Where) → o ≡ Some w → (z : ℕ) → Chain r z xs q → (v : ℕ) → v < values width → (m : ℕ) → m < n → Fl m 20 (d v) (Own z (after v) (stack_of ws) false given)) → Goal
     reading width before y xs q None d g1 after u c le s off go2 = bad u
-    reading width before y xs q (Some w) d g1 after u c le s off go2 = touching before y xs q (Read width w) d g1 (stack_of ws) after u c le s off (go2 w refl)
+    reading width before y xs q (Some w) d g1 after u c le s off go2 = touching before y xs q (Read width w) d g1 (stack_of ws) after u c le s (off w refl) (go2 w refl)
 
     -- a jump where the test fails: the code is at one of two instructions
     branches : (cond : Condition) (b : Bool) (c : Action Access machine.Context) → does_so ≡ c → (t v : ℕ) (ws2 : List Word) (h : Working) → Leads c (At r (if b then k + 1 else t) v ws2)
@@ -250,10 +278,10 @@ module _ (laws : Laws) (x : Image) (all : IsSelected x)
     read_on : (width : Width) (before : List Instr) (y : Instr) (behind : List Instr) (o : Option Where) (v2 : ℕ → ℕ) (g1 : Working) (after : ℕ → Working)
         → does_so ≡ loaded width o (λ v. At r (k + 1) (v2 v) ws) → Chain r (place r k) (plain before ++ Plain y ∷ plain behind) (place r (k + 1))
         → with_each before 0 ≤ 8 → with_each behind 8 ≤ 20 → Str before g (stack_of ws) g1 (stack_of ws)
-        → ((z : ℕ) → offered x.find x.words x.main x.handler y z g1 (stack_of ws) false given ≡ reads o width (λ v. Own z (after v) (stack_of ws) false given))
+        → ((w : Where) → o ≡ Some w → (z : ℕ) → offered x.find x.words x.main x.handler y z g1 (stack_of ws) false given ≡ reads o width (λ v. Own z (after v) (stack_of ws) false given))
         → ((v : ℕ) → v < values width → (h : Working) × Str behind (after v) (stack_of ws) h (stack_of ws) × (h.ax ≡ v2 v) × (v2 v < 65536) × OnlyChanges (changes ins) g h) → Goal
     read_on width before y behind None v2 g1 after u c le1 le2 s off rest = bad u
-    read_on width before y behind (Some w) v2 g1 after u c le1 le2 s off rest = accessing before y behind (Read width w) v2 ws g1 (stack_of ws) after u c le1 le2 s off small rest
+    read_on width before y behind (Some w) v2 g1 after u c le1 le2 s off rest = accessing before y behind (Read width w) v2 ws g1 (stack_of ws) after u c le1 le2 s (off w refl) small rest
 
     -- an operator's value after instructions of which the first comes with the step
     computing : (y : Instr) (ns : List Instr) (v : Option ℕ) (ws2 : List Word) (s : Registers) (g1 : Working) (ms : List Instr)
@@ -271,7 +299,7 @@ module _ (laws : Laws) (x : Image) (all : IsSelected x)
         lt-ltb (length (stack_of ws)) (room x.main x.handler given) (omega (arith, l, enough, counted.few p2.0 d p2.1))
 
     -- the stack's words are few
-    stack_few : length (stack_of ws) ≤ 2047
+    stack_few : length (stack_of ws) ≤ stack_room / 2
     stack_few = omega (arith, Stacks.stack_length place base ws, enough, few, counted.few p.0 here p.1)
 
   -- ---- the rows
@@ -319,7 +347,7 @@ module _ (laws : Laws) (x : Image) (all : IsSelected x)
       read_on r k (op.Load width y) e g n go a inv ws p sm width [] (closed (loads width None (segment_of y)) v0) (narrow width) (found x.offsets x.sizes width y v0) (λ v. v) g (λ v. input_gives width g v) refl
       (Chains.settled x.code x.words x.offsets x.places (x.at r) x.sizes (loads width None) y (plain (narrow width)) (place r k) (place r (k + 1)) (rows_stand r k (op.Load width y) e))
       (omega arith) (narrow_pace width) (refl, refl)
-      (λ z. Offers.load_offered x.find x.words x.main x.handler given width y None v0 z g (stack_of ws) ∙ ap (λ o. reads o width (λ v. Own z (input_gives width g v) (stack_of ws) false given)) (place_found width y v0))
+      (λ at is z. Offers.load_offered x.find x.words x.main x.handler given width y None v0 z g (stack_of ws) ∙ ap (λ o. reads o width (λ v. Own z (input_gives width g v) (stack_of ws) false given)) (place_found width y v0 at is))
       (narrowed width g (stack_of ws))
 
   abbrev addressed : Registers
@@ -333,7 +361,7 @@ module _ (laws : Laws) (x : Image) (all : IsSelected x)
       read_on r k (op.LoadAt width y) e g n go a inv ws p sm width (exchange Bx ∷ []) (closed (loads width (Some bases.Bx) (segment_of y)) v0) (narrow width) (found x.offsets x.sizes width y (address x.offsets x.sizes y g.ax)) (λ v. v) g1 (λ v. input_gives width g1 v) refl
       (c.0, c.1, c.2, Chains.settled x.code x.words x.offsets x.places (x.at r) x.sizes (loads width (Some bases.Bx)) y (plain (narrow width)) c.0 (place r (k + 1)) c.3)
       (omega arith) (narrow_pace width) (g1, stack_of ws, Cores.exchanges laws x.find x.words x.main x.handler given Bx refl refl g (stack_of ws), (refl, refl))
-      (λ z. Offers.load_offered x.find x.words x.main x.handler given width y (Some bases.Bx) v0 z g1 (stack_of ws) ∙ ap (λ o. reads o width (λ v. Own z (input_gives width g1 v) (stack_of ws) false given)) (behind_found width y g.ax))
+      (λ at is z. Offers.load_offered x.find x.words x.main x.handler given width y (Some bases.Bx) v0 z g1 (stack_of ws) ∙ ap (λ o. reads o width (λ v. Own z (input_gives width g1 v) (stack_of ws) false given)) (behind_found width y g.ax at is))
       (λ v lt. let w = narrowed width g1 (stack_of ws) v lt in (w.0, w.1, w.2, w.3, changes_then addressed g g1 w.0 (tt, refl, refl, tt, refl, refl, refl) (changes_wider addressed just_accumulator g1 w.0 refl w.4)))
 
   there : Place
@@ -346,7 +374,7 @@ module _ (laws : Laws) (x : Image) (all : IsSelected x)
       read_on r k (op.LoadThere width) e g n go a inv ws p sm width (exchange Bx ∷ []) (closed (loads width (Some bases.Bx) segments.Ds) 0) (narrow width) (held 0 x.offsets x.sizes g.ax (word_places.bytes width)) (λ v. v) g1 (λ v. input_gives width g1 v) refl
       (rows_stand r k (op.LoadThere width) e)
       (omega arith) (narrow_pace width) (g1, stack_of ws, Cores.exchanges laws x.find x.words x.main x.handler given Bx refl refl g (stack_of ws), (refl, refl))
-      (λ z. Offers.load_offered x.find x.words x.main x.handler given width there (Some bases.Bx) 0 z g1 (stack_of ws) ∙ ap (λ o. reads o width (λ v. Own z (input_gives width g1 v) (stack_of ws) false given)) (there_found width g.ax a))
+      (λ at is z. Offers.load_offered x.find x.words x.main x.handler given width there (Some bases.Bx) 0 z g1 (stack_of ws) ∙ ap (λ o. reads o width (λ v. Own z (input_gives width g1 v) (stack_of ws) false given)) (there_found width g.ax a))
       (λ v lt. let w = narrowed width g1 (stack_of ws) v lt in (w.0, w.1, w.2, w.3, changes_then addressed g g1 w.0 (tt, refl, refl, tt, refl, refl, refl) (changes_wider addressed just_accumulator g1 w.0 refl w.4)))
 
   pushes_is : (st : List ℕ) (c : Context) → nat_lt (length st) (room x.main x.handler given) ≡ true → pushes x.find x.words x.main x.handler st given c ≡ Does (Silent c)
@@ -369,7 +397,7 @@ module _ (laws : Laws) (x : Image) (all : IsSelected x)
       by (Some (Return q)) is = bad r k (op.Pick m) e g n go a inv ws p sm (ap (λ z. with_value (value_in z) (λ v. Silent (At r (k + 1) v ws))) is)
       by (Some (Value v)) is = of_count (nat_eq m 0) refl
         where
-          no_wrap : (top len sp ws base : ℕ) → sp ≡ top - 2 * len → len ≡ ws + base → m < ws → len ≤ 2047 → top < 65536 → (sp + 2 * m % 65536) % 65536 ≡ sp + 2 * m
+          no_wrap : (top len sp ws base : ℕ) → sp ≡ top - 2 * len → len ≡ ws + base → m < ws → len ≤ stack_room / 2 → top < 65536 → (sp + 2 * m % 65536) % 65536 ≡ sp + 2 * m
           no_wrap top len sp ws base es el lt few small = omega (arith, es, el, lt, few, small)
 
           u : does_so r k (op.Pick m) e g n go a inv ws p sm ≡ Silent (At r (k + 1) v ws)
@@ -565,7 +593,7 @@ module _ (laws : Laws) (x : Image) (all : IsSelected x)
       reading r k (op.BinaryPlain o width widths.Byte y) e g n go a inv ws p sm widths.Byte [] (closed (loads_right widths.Byte (segment_of y)) v0) (plain ns) (place r (k + 1)) (found x.offsets x.sizes widths.Byte y v0) (λ v. computed (binary_value o width g.ax v) r (k + 1) ws) g (λ v. set_byte g Cl v) refl
       (Chains.settled x.code x.words x.offsets x.places (x.at r) x.sizes (loads_right widths.Byte) y (plain ns) (place r k) (place r (k + 1)) (rows_stand r k (op.BinaryPlain o width widths.Byte y) e))
       (omega arith) (refl, refl)
-      (λ z. Offers.right_offered x.find x.words x.main x.handler given widths.Byte y v0 z g (stack_of ws) ∙ ap (λ o. reads o widths.Byte (λ v. Own z (set_byte g Cl v) (stack_of ws) false given)) (place_found widths.Byte y v0))
+      (λ at is z. Offers.right_offered x.find x.words x.main x.handler given widths.Byte y v0 z g (stack_of ws) ∙ ap (λ o. reads o widths.Byte (λ v. Own z (set_byte g Cl v) (stack_of ws) false given)) (place_found widths.Byte y v0 at is))
       (λ w ow z c v lt m l. after_read o width widths.Byte y r k e g n go a inv ws p sm w ow v lt m l z (set_byte g Cl v) ns c (let s = Cores.short o width in omega (arith, s)) (binary_value o width g.ax v) refl
       (λ u is. byte_gives v lt u is))
     where
@@ -609,14 +637,14 @@ module _ (laws : Laws) (x : Image) (all : IsSelected x)
           reading r k (op.BinaryPlain o width widths.Word y) e g n go a inv ws p sm widths.Word [] (closed (opens.Word (Operate (direct o)) Ax (spot None (segment_of y))) v0) (plain (narrow_sum o width)) (place r (k + 1)) (found x.offsets x.sizes widths.Word y v0) (λ v. computed (binary_value o width g.ax v) r (k + 1) ws) g (λ v. alu_word (direct o) Ax v g) refl
           (Chains.settled x.code x.words x.offsets x.places (x.at r) x.sizes (λ s. opens.Word (Operate (direct o)) Ax (spot None s)) y (plain (narrow_sum o width)) (place r k) (place r (k + 1)) (stands_so true d))
           (omega arith) (refl, refl)
-          (λ z. Offers.alu_offered x.find x.words x.main x.handler given (direct o) y v0 z g (stack_of ws) ∙ ap (λ q. reads q widths.Word (λ v. Own z (alu_word (direct o) Ax v g) (stack_of ws) false given)) (place_found widths.Word y v0))
+          (λ at is z. Offers.alu_offered x.find x.words x.main x.handler given (direct o) y v0 z g (stack_of ws) ∙ ap (λ q. reads q widths.Word (λ v. Own z (alu_word (direct o) Ax v g) (stack_of ws) false given)) (place_found widths.Word y v0 at is))
           (λ w ow z c v lt m l. after_read o width widths.Word y r k e g n go a inv ws p sm w ow v lt m l z (alu_word (direct o) Ax v g) (narrow_sum o width) c (sum_pace o width) (binary_value o width g.ax v) refl
           (λ u is. direct_gives d v lt u (binary_value o width g.ax v) is (Cores.after_direct laws x.find x.words x.main x.handler given o width g (stack_of ws) v d a lt)))
       by false d =
           reading r k (op.BinaryPlain o width widths.Word y) e g n go a inv ws p sm widths.Word [] (closed (loads_right widths.Word (segment_of y)) v0) (plain (core o width)) (place r (k + 1)) (found x.offsets x.sizes widths.Word y v0) (λ v. computed (binary_value o width g.ax v) r (k + 1) ws) g (λ v. set_word g Cx v) refl
           (Chains.settled x.code x.words x.offsets x.places (x.at r) x.sizes (loads_right widths.Word) y (plain (core o width)) (place r k) (place r (k + 1)) (stands_so false d))
           (omega arith) (refl, refl)
-          (λ z. Offers.right_offered x.find x.words x.main x.handler given widths.Word y v0 z g (stack_of ws) ∙ ap (λ q. reads q widths.Word (λ v. Own z (set_word g Cx v) (stack_of ws) false given)) (place_found widths.Word y v0))
+          (λ at is z. Offers.right_offered x.find x.words x.main x.handler given widths.Word y v0 z g (stack_of ws) ∙ ap (λ q. reads q widths.Word (λ v. Own z (set_word g Cx v) (stack_of ws) false given)) (place_found widths.Word y v0 at is))
           (λ w ow z c v lt m l. after_read o width widths.Word y r k e g n go a inv ws p sm w ow v lt m l z (set_word g Cx v) (core o width) c (let s = Cores.short o width in omega (arith, s)) (binary_value o width g.ax v) refl
           (λ u is. word_gives d v lt u is))
 
@@ -630,12 +658,12 @@ module _ (laws : Laws) (x : Image) (all : IsSelected x)
     -- a write, if there is a place
     storing : (width : Width) (before : List Instr) (y : Instr) (o : Option Where) (v : ℕ) (ws2 : List Word) (g1 : Working) → does_so r k ins e g n go a inv ws p sm ≡ stored width o v (At r (k + 1) v ws2)
         → Chain r (place r k) (plain before ++ Plain y ∷ []) (place r (k + 1)) → with_each before 0 ≤ 8 → Str before g (stack_of ws) g1 (stack_of ws2) → g1.ax ≡ v → v < 65536 → Small ws2 → OnlyChanges (changes ins) g g1
-        → ((z : ℕ) → offered x.find x.words x.main x.handler y z g1 (stack_of ws2) false given ≡ writes o width (output_takes width g1) (Own z g1 (stack_of ws2) false given)) → Fl n 8 (At r k g.ax ws) (Own (place r k) g (stack_of ws) false given)
+        → ((w : Where) → o ≡ Some w → (z : ℕ) → offered x.find x.words x.main x.handler y z g1 (stack_of ws2) false given ≡ writes o width (output_takes width g1) (Own z g1 (stack_of ws2) false given)) → Fl n 8 (At r k g.ax ws) (Own (place r k) g (stack_of ws) false given)
     storing width before y None v ws2 g1 u c le s is lt sm2 keep off = bad r k ins e g n go a inv ws p sm u
     storing width before y (Some w) v ws2 g1 u c le s is lt sm2 keep off =
         let taken : output_takes width g1 ≡ low width v = takes_low width g1 (omega (arith, is, lt)) ∙ ap (low width) is in
         accessing r k ins e g n go a inv ws p sm before y [] (Write width w (low width v)) (λ _. v) ws2 g1 (stack_of ws2) (λ _. g1) u c le (omega arith) s
-        (λ z. off z ∙ ap (λ q. Does (Touch (Write width w q) (λ _. Own z g1 (stack_of ws2) false given))) taken) sm2
+        (λ z. off w refl z ∙ ap (λ q. Does (Touch (Write width w q) (λ _. Own z g1 (stack_of ws2) false given))) taken) sm2
         (λ v2 lt2. (g1, (refl, refl), is, lt, keep))
 
   store_row : (width : Width) (y : Place) → RowFollows (op.Store width y)
@@ -644,7 +672,7 @@ module _ (laws : Laws) (x : Image) (all : IsSelected x)
       storing r k (op.Store width y) e g n go a inv ws p sm width [] (closed (stores width None (segment_of y)) v0) (found x.offsets x.sizes width y v0) g.ax ws g refl
       (Chains.settled x.code x.words x.offsets x.places (x.at r) x.sizes (stores width None) y [] (place r k) (place r (k + 1)) (rows_stand r k (op.Store width y) e))
       (omega arith) (refl, refl) refl a sm (stays none g)
-      (λ z. Offers.store_offered x.find x.words x.main x.handler given width y None v0 z g (stack_of ws) ∙ ap (λ q. writes q width (output_takes width g) (Own z g (stack_of ws) false given)) (place_found width y v0))
+      (λ at is z. Offers.store_offered x.find x.words x.main x.handler given width y None v0 z g (stack_of ws) ∙ ap (λ q. writes q width (output_takes width g) (Own z g (stack_of ws) false given)) (place_found width y v0 at is))
 
   store_at_row : (width : Width) (y : Place) → RowFollows (op.StoreAt width y)
   store_at_row width y r k e g n go a inv [] p sm = bad r k (op.StoreAt width y) e g n go a inv [] p sm refl
@@ -657,7 +685,7 @@ module _ (laws : Laws) (x : Image) (all : IsSelected x)
       storing r k (op.StoreAt width y) e g n go a inv (Value v ∷ ws) p sm width (exchange Bx ∷ pop Ax ∷ []) (closed (stores width (Some bases.Bx) (segment_of y)) v0) (found x.offsets x.sizes width y (address x.offsets x.sizes y g.ax)) v ws g1 refl
       (c.0, c.1, c.2, (c.3.0, c.3.1, c.3.2, Chains.settled x.code x.words x.offsets x.places (x.at r) x.sizes (stores width (Some bases.Bx)) y [] c.3.0 (place r (k + 1)) c.3.3))
       (omega arith) (g0, v ∷ stack_of ws, Cores.exchanges laws x.find x.words x.main x.handler given Bx refl refl g (v ∷ stack_of ws), (g1, stack_of ws, λ q. refl, (refl, refl))) refl sm.0 sm.1 (tt, refl, refl, tt, refl, refl, refl)
-      (λ z. Offers.store_offered x.find x.words x.main x.handler given width y (Some bases.Bx) v0 z g1 (stack_of ws) ∙ ap (λ q. writes q width (output_takes width g1) (Own z g1 (stack_of ws) false given)) (behind_found width y g.ax))
+      (λ at is z. Offers.store_offered x.find x.words x.main x.handler given width y (Some bases.Bx) v0 z g1 (stack_of ws) ∙ ap (λ q. writes q width (output_takes width g1) (Own z g1 (stack_of ws) false given)) (behind_found width y g.ax at is))
 
   store_there_row : (width : Width) → RowFollows (op.StoreThere width)
   unfolding there
@@ -669,7 +697,7 @@ module _ (laws : Laws) (x : Image) (all : IsSelected x)
       storing r k (op.StoreThere width) e g n go a inv (Value v ∷ ws) p sm width (exchange Bx ∷ pop Ax ∷ []) (closed (stores width (Some bases.Bx) segments.Ds) 0) (held 0 x.offsets x.sizes g.ax (word_places.bytes width)) v ws g1 refl
       (rows_stand r k (op.StoreThere width) e)
       (omega arith) (g0, v ∷ stack_of ws, Cores.exchanges laws x.find x.words x.main x.handler given Bx refl refl g (v ∷ stack_of ws), (g1, stack_of ws, λ q. refl, (refl, refl))) refl sm.0 sm.1 (tt, refl, refl, tt, refl, refl, refl)
-      (λ z. Offers.store_offered x.find x.words x.main x.handler given width there (Some bases.Bx) 0 z g1 (stack_of ws) ∙ ap (λ q. writes q width (output_takes width g1) (Own z g1 (stack_of ws) false given)) (there_found width g.ax a))
+      (λ at is z. Offers.store_offered x.find x.words x.main x.handler given width there (Some bases.Bx) 0 z g1 (stack_of ws) ∙ ap (λ q. writes q width (output_takes width g1) (Own z g1 (stack_of ws) false given)) (there_found width g.ax a))
 
   abbrev ported : Registers
   ported = record none { accumulator = true; high = true }
@@ -796,7 +824,7 @@ module _ (laws : Laws) (x : Image) (all : IsSelected x)
         let d = λ (v : ℕ). At r (if stands o g.ax v then k + 1 else t) g.ax ws in
         reading r k ins e g n go a inv ws p sm widths.Word [] (closed (opens.Word (Operate Cmp) Ax (spot None (segment_of y))) v0) (GotoIf (fails o) (first r t) ∷ []) (place r (k + 1)) (found x.offsets x.sizes widths.Word y v0) d g compared u
         (Chains.settled x.code x.words x.offsets x.places (x.at r) x.sizes (λ s. opens.Word (Operate Cmp) Ax (spot None s)) y (GotoIf (fails o) (first r t) ∷ []) (place r k) (place r (k + 1)) c) (omega arith) (refl, refl)
-        (λ z. Offers.alu_offered x.find x.words x.main x.handler given Cmp y v0 z g (stack_of ws) ∙ ap (λ q. reads q widths.Word (λ v. Own z (compared v) (stack_of ws) false given)) (place_found widths.Word y v0))
+        (λ at is z. Offers.alu_offered x.find x.words x.main x.handler given Cmp y v0 z g (stack_of ws) ∙ ap (λ q. reads q widths.Word (λ v. Own z (compared v) (stack_of ws) false given)) (place_found widths.Word y v0 at is))
         (λ w ow z c2 v lt m l. looser m 10 20 (d v) (Own z (compared v) (stack_of ws) false given) (omega arith)
         (branches r k ins e g n go a inv ws p sm (fails o) (stands o g.ax v) (Touch (Read widths.Word w) d) (u ∙ ap (λ q. loaded widths.Word q d) ow) t g.ax ws (compared v) (v, lt, refl) (Flags.fails_where laws o g.ax v g.flags a lt) refl a sm (stays (changes ins) g) z c2 m l))
 
@@ -808,7 +836,7 @@ module _ (laws : Laws) (x : Image) (all : IsSelected x)
         let jump = GotoIf (fails o) (first r t) ∷ [] in
         reading r k ins e g n go a inv ws p sm widths.Byte [] (closed (loads_right widths.Byte (segment_of y)) v0) (plain ns ++ jump) (place r (k + 1)) (found x.offsets x.sizes widths.Byte y v0) d g (λ v. set_byte g Cl v) u
         (Chains.settled x.code x.words x.offsets x.places (x.at r) x.sizes (loads_right widths.Byte) y (plain ns ++ jump) (place r k) (place r (k + 1)) c) (omega arith) (refl, refl)
-        (λ z. Offers.right_offered x.find x.words x.main x.handler given widths.Byte y v0 z g (stack_of ws) ∙ ap (λ q. reads q widths.Byte (λ v. Own z (set_byte g Cl v) (stack_of ws) false given)) (place_found widths.Byte y v0))
+        (λ at is z. Offers.right_offered x.find x.words x.main x.handler given widths.Byte y v0 z g (stack_of ws) ∙ ap (λ q. reads q widths.Byte (λ v. Own z (set_byte g Cl v) (stack_of ws) false given)) (place_found widths.Byte y v0 at is))
         (λ w ow z c2 v lt m l.
         let h1 = set_byte (set_byte g Cl v) Ch 0 in
         let h = set_flags h1 (operated Cmp widths.Word h1.ax h1.cx h1.flags).flags in

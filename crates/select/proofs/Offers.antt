@@ -29,13 +29,13 @@ module _ (find : ℕ → ℕ → Option (ℕ × ℕ)) (words : ℕ → Option �
       → offered find words main handler (closed (loads width base (segment_of y)) m) q g st false given ≡ reads (where_at width (segment_of y) base m g) width (λ v. Own q (input_gives width g v) st false given)
   load_offered widths.Byte y base m q g st = refl
   load_offered widths.Word (place.Ram k n) base m q g st = refl
-  load_offered widths.Word (place.Screen n) base m q g st = refl
+  load_offered widths.Word (place.Screen page n) base m q g st = refl
 
   pub right_offered : (width : Width) (y : Place) (m q : ℕ) (g : Working) (st : List ℕ)
       → offered find words main handler (closed (loads_right width (segment_of y)) m) q g st false given ≡ reads (where_at width (segment_of y) Rattle.std.specs.Prelude.None m g) width (λ v. Own q (right_gives width g v) st false given)
   right_offered widths.Byte y m q g st = refl
   right_offered widths.Word (place.Ram k n) m q g st = refl
-  right_offered widths.Word (place.Screen n) m q g st = refl
+  right_offered widths.Word (place.Screen page n) m q g st = refl
 
   pub store_offered : (width : Width) (y : Place) (base : Option Base) (m q : ℕ) (g : Working) (st : List ℕ)
       → offered find words main handler (closed (stores width base (segment_of y)) m) q g st false given ≡ writes (where_at width (segment_of y) base m g) width (output_takes width g) (Own q g st false given)

@@ -11,7 +11,7 @@ use Rattle.word86.specs.declared.operation.BinaryOperation.{BinaryOperation}
 use Rattle.word86.specs.declared.operation.BinaryOperation.TheVariants as binary
 use Rattle.word86.specs.declared.place.Place.{Place}
 use Rattle.word86.specs.declared.place.Place.TheVariants as place
-use Rattle.word86.specs.Place.{screen_begins}
+use Rattle.word86.specs.Page.{page_begins}
 use Rattle.i86_table.specs.declared.registers.Register16.{Register16}
 use Rattle.i86_table.specs.declared.registers.Register16.TheVariants.{Ax, Bx, Cx, Dx, Bp, Sp}
 use Rattle.i86_table.specs.declared.registers.Segment.{Segment}
@@ -113,7 +113,7 @@ IsWithin x n = (length (front_of (x segments.Ds)) + 2 ≤ n) × ((k : ℕ) → l
 
 on_place_room : (x : Segment → Open) (n : ℕ) (p : Place) → IsWithin x n → room_of_step (on_place x p) ≤ n
 on_place_room x n (place.Ram k m) h = h.0
-on_place_room x n (place.Screen m) h = h.1 ((screen_begins + m) % 65536)
+on_place_room x n (place.Screen page m) h = h.1 ((page_begins page + m) % 65536)
 
 locate_within : IsWithin (λ s. opens.Number Ax) 3
 unfolding form_of move_word_of

@@ -1,6 +1,6 @@
 -- The registers that are saved, and those of the routine for vectors without a procedure.
 use Rattle.std.proofs.Common.{◌≡◌, ℕ, zero, suc, ◌+◌, ◌≤◌, Bool, true, false, List, [], ◌∷◌, length, Some, slice_get, refl, sym, ap, ◌∙◌, ap₂, subst, arith}
-use Rattle.std.proofs.lemmas.Option.{none-some}
+use Rattle.std.proofs.lemmas.Option.{none-some, same_Some}
 use Rattle.std.specs.Prelude.{◌||◌}
 use Rattle.i86_table.specs.declared.registers.Register16.{Register16}
 use Rattle.i86_table.specs.declared.registers.Register16.TheVariants.{Ax, Bx, Cx, Dx, Bp}
@@ -40,11 +40,8 @@ few_registers g = omega (arith, counted g, one_few g.accumulator, one_few g.righ
 
 -- ---- a routine that is used up at once
 
-some_is : (x y : Instruction) → Some x ≡ Some y → x ≡ y
-some_is x y e = cc
-
 only_finish : (k : ℕ) (x : Instruction) → slice_get (op.Finish ∷ []) k ≡ Some x → op.Finish ≡ x
-only_finish zero x e = some_is op.Finish x e
+only_finish zero x e = same_Some op.Finish x e
 only_finish (suc k) x e = absurd (none-some x e)
 
 no_call : (q : ℕ) → op.Finish ≡ op.Invoke q → ⊥

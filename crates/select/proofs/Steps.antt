@@ -189,7 +189,7 @@ plain_inside many (n ∷ ns) = (tt, plain_inside many ns)
 
 place_inside : (many : ℕ) (x : Place) (ram screen : Open) → IsStepOf many (placed x ram screen)
 place_inside many (places.Ram k n) ram screen = tt
-place_inside many (places.Screen n) ram screen = tt
+place_inside many (places.Screen page n) ram screen = tt
 
 test_inside : (many : ℕ) (t : Test) (a : ℕ) → a < many → Inside many (unless t a)
 test_inside many test.Odd a l = (tt, (l, tt))

@@ -1,7 +1,7 @@
 -- Main and the interrupt procedures follow their code.
 use Rattle.std.proofs.Common.{◌≡◌, ℕ, suc, ◌+◌, ◌-◌, ◌%◌, ◌<◌, ◌≤◌, Bool, true, false, List, [], ◌∷◌, ◌++◌, length, Option, Some, None, refl, sym, ap, ◌∙◌, subst, arith, slice_get}
 use Rattle.std.specs.Prelude.{◌==◌, ◌&&◌, if◌then◌else◌}
-use Rattle.std.proofs.lemmas.Bool.{lt-ltb, eq-eqb}
+use Rattle.std.proofs.lemmas.Bool.{lt-ltb, eq-eqb, and_from}
 use Rattle.word86.specs.Access.{Access, answers}
 use Rattle.word86.specs.Action.{Action, Silent, Over}
 use Rattle.word86.specs.Following.{Follows, Does}
@@ -34,10 +34,6 @@ use Rattle.select.proofs.Arming
 use Rattle.select.proofs.Arming.{is_main}
 use Rattle.select.proofs.Routines
 use Rattle.select.proofs.Following
-
-both : (a b : Bool) → a ≡ true → b ≡ true → (a && b) ≡ true
-both true b x y = y
-both false b x y = absurd (cc)
 
 -- the stack pointer is not among them
 abbrev NoSp : List Register16 → Type 0
@@ -209,12 +205,12 @@ module _ (laws : Laws) (x : Image) (all : IsSelected x) where
 
     gives : (h : Working) → Inv h → gives_back g (restored rs g h) [] ≡ true
     gives h o =
-        both (g.ax == (restored rs g h).ax) _ (eq-eqb g.ax (restored rs g h).ax (sym ax_back))
-        (both (g.cx == (restored rs g h).cx) _ (eq-eqb g.cx (restored rs g h).cx (sym cx_back))
-        (both (g.dx == (restored rs g h).dx) _ (eq-eqb g.dx (restored rs g h).dx (sym dx_back))
-        (both (g.bx == (restored rs g h).bx) _ (eq-eqb g.bx (restored rs g h).bx (sym bx_back))
-        (both (g.bp == (restored rs g h).bp) _ (eq-eqb g.bp (restored rs g h).bp (sym bp_back))
-        (both (g.si == (restored rs g h).si) _ (eq-eqb g.si (restored rs g h).si (sym si_back))
+        and_from (g.ax == (restored rs g h).ax) _ (eq-eqb g.ax (restored rs g h).ax (sym ax_back))
+        (and_from (g.cx == (restored rs g h).cx) _ (eq-eqb g.cx (restored rs g h).cx (sym cx_back))
+        (and_from (g.dx == (restored rs g h).dx) _ (eq-eqb g.dx (restored rs g h).dx (sym dx_back))
+        (and_from (g.bx == (restored rs g h).bx) _ (eq-eqb g.bx (restored rs g h).bx (sym bx_back))
+        (and_from (g.bp == (restored rs g h).bp) _ (eq-eqb g.bp (restored rs g h).bp (sym bp_back))
+        (and_from (g.si == (restored rs g h).si) _ (eq-eqb g.si (restored rs g h).si (sym si_back))
         (eq-eqb g.di (restored rs g h).di (sym di_back)))))))
       where
         r5 : List Register16

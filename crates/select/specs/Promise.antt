@@ -1,8 +1,9 @@
 -- What the instructions promise of the intermediate code.
-use Rattle.std.specs.Prelude.{◌≡◌, ℕ, ◌+◌, ◌<◌, ◌≤◌, Bool, true, false, List, [], length, Option, Some, None, slice_get, slice_index}
+use Rattle.std.specs.Prelude.{◌≡◌, ℕ, ◌+◌, ◌/◌, ◌<◌, ◌≤◌, Bool, true, false, List, [], length, Option, Some, None, slice_get, slice_index}
 use Rattle.word86.specs.Access.{Access, answers}
 use Rattle.word86.specs.Action.{Action, Silent, Touch, Enable, Disable, Halt, Over, Bad}
 use Rattle.word86.specs.Following.{Follows}
+use Rattle.word86.specs.MemoryMap.{stack_room}
 use Rattle.word86.specs.Place.{held}
 use Rattle.i86_table.specs.declared.instruction.Instr.{Instr}
 use Rattle.i86_table.specs.Contexts.{Context, Own, Working, in_object, offer, start}
@@ -103,7 +104,7 @@ pub record IsSelected (x : Image) : Type 0 where
   -- main saves nothing, and begins with its first row; an interrupt procedure begins with what it saves
   pub begins : x.main_at ≡ place_of x Main 0
   pub starts : (v : ℕ) → x.entry v ≡ x.at (x.serving v) 0
-  pub few : x.main + x.handler ≤ 2047
+  pub few : x.main + x.handler ≤ stack_room / 2
 
 -- An interrupt procedure's code, wherever it comes to: it has few words, changes no register that is not saved, and ends in its
 -- own routine alone.

@@ -9,7 +9,7 @@ use Rattle.word86.specs.declared.operation.BinaryOperation.{BinaryOperation}
 use Rattle.word86.specs.declared.operation.BinaryOperation.TheVariants as binary
 use Rattle.word86.specs.declared.place.Place.{Place}
 use Rattle.word86.specs.declared.place.Place.TheVariants as place
-use Rattle.word86.specs.Place.{screen_begins}
+use Rattle.word86.specs.Page.{page_begins}
 use Rattle.i86_table.specs.declared.registers.Register16.{Register16}
 use Rattle.i86_table.specs.declared.registers.Register16.TheVariants.{Ax, Bx, Cx, Dx, Bp, Sp}
 use Rattle.i86_table.specs.declared.registers.Register8.{Register8}
@@ -317,7 +317,7 @@ stores = access Store Al Ax
 -- an instruction on a place, in the data's segment or in the screen's: an object's offset is added when the parts are placed
 abbrev pub placed : Place → (ram screen : Open) → Step
 placed (place.Ram k n) ram screen = Refer ram n Offset k
-placed (place.Screen n) ram screen = Plain (closed screen ((screen_begins + n) % 65536))
+placed (place.Screen page n) ram screen = Plain (closed screen ((page_begins page + n) % 65536))
 
 abbrev pub on_place : (Segment → Open) → Place → Step
 on_place x at = placed at (x segments.Ds) (x segments.Es)
@@ -385,7 +385,8 @@ finished saves = plain (given_back (registers_of saves) ++ i.InterruptReturn ∷
 
 -- The step at which each row of the routine begins, by its index; the part of each procedure; the registers that the routine saves.
 module _ (first : ℕ → ℕ) (part : ℕ → ℕ) (saves : Registers) where
-  -- an instruction's row, where this is the index after it
+  -- An instruction's row, where this is the index after it. The registers that its instructions can change, and the bytes that they take at
+  -- most, stand in icode's Registers and Room, in the same order.
   abbrev pub row : (next : ℕ) → Instruction → List Step
   row p (op.Constant k) = Plain (accumulator_gets k) ∷ []
   row p (op.Locate x) = on_place (λ s. opens.Number Ax) x ∷ []

@@ -160,7 +160,9 @@ pub(crate) fn placed(place: Place, ram: Open, screen: Open) -> Step
             kind: Kind::Offset,
             name: object,
         },
-        Place::Screen(index) => Step::Plain(screen.closed(0x8000_u16.wrapping_add(index))),
+        Place::Screen(page, index) => {
+            Step::Plain(screen.closed(page.begins().wrapping_add(index)))
+        }
     }
 }
 

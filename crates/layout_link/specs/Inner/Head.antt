@@ -1,5 +1,6 @@
 -- The instructions of start-up.
 use Rattle.std.specs.Prelude.{ℕ, suc, ◌+◌, ◌*◌, ◌%◌, ◌<◌, List, [], ◌∷◌, ◌++◌}
+use Rattle.word86.specs.MemoryMap.{vectors_size, data_segment, screen_segment, code_segment, stack_top}
 use Rattle.i86_table.specs.declared.registers.Register16.TheVariants.{Ax, Cx, Dx, Bx, Sp, Si, Di}
 use Rattle.i86_table.specs.declared.registers.LoadableSegment.TheVariants as loadables
 use Rattle.i86_table.specs.declared.instruction.RmOperand.TheVariants as places
@@ -16,8 +17,8 @@ use Rattle.layout_link.specs.Tasks.{placed}
 -- all vectors get this entry
 abbrev pub to_entry : (entry : ℕ) → List Instr
 to_entry entry =
-    load_word Ax entry ∷ load_word Dx 0xF000 ∷ load_word Bx 0
-    ∷ low_half ∷ high_half ∷ i.AluWord Add (Immediate (places.Register Bx) 4) ∷ i.AluWord Cmp (Immediate (places.Register Bx) 1024) ∷ i.JumpIf conditions.NotEqual 242
+    load_word Ax entry ∷ load_word Dx code_segment ∷ load_word Bx 0
+    ∷ low_half ∷ high_half ∷ i.AluWord Add (Immediate (places.Register Bx) 4) ∷ i.AluWord Cmp (Immediate (places.Register Bx) vectors_size) ∷ i.JumpIf conditions.NotEqual 242
     ∷ i.ClearDirection ∷ []
 
 abbrev pub instructions_of : Act → List Instr
@@ -32,8 +33,8 @@ all_of places from (t ∷ ts) = instructions_of (placed places from t) ++ all_of
 -- the segments and the stack pointer are loaded, and main comes next
 abbrev pub to_main : (distance : ℕ) → List Instr
 to_main distance =
-    load_word Ax 0x40 ∷ i.MoveToSegment loadables.Ds (places.Register Ax) ∷ i.MoveToSegment loadables.Ss (places.Register Ax)
-    ∷ load_word Ax 0xB000 ∷ i.MoveToSegment loadables.Es (places.Register Ax) ∷ load_word Sp 0xFFFE ∷ i.Jump distance ∷ []
+    load_word Ax data_segment ∷ i.MoveToSegment loadables.Ds (places.Register Ax) ∷ i.MoveToSegment loadables.Ss (places.Register Ax)
+    ∷ load_word Ax screen_segment ∷ i.MoveToSegment loadables.Es (places.Register Ax) ∷ load_word Sp stack_top ∷ i.Jump distance ∷ []
 
 abbrev pub start_up : (entry : ℕ) (places : List ℕ) (from : ℕ) → List Task → (distance : ℕ) → List Instr
 start_up entry places from ts distance = to_entry entry ++ (all_of places from ts ++ to_main distance)

@@ -6,4 +6,4 @@ use Rattle.i86_table.specs.declared.registers.Segment.TheVariants as segments
 
 abbrev pub segment_of : Place → Segment
 segment_of (place.Ram k x) = segments.Ds
-segment_of (place.Screen x) = segments.Es
+segment_of (place.Screen page x) = segments.Es

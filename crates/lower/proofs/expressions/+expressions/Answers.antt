@@ -57,5 +57,5 @@ write-returns-in_ok-subscripts-in-len1-up-clause-code t c =
     let after = c.put-in-len1-up-2 in
     let ss = c.args.list.now in
     let behind = subscripts_code (procedures_of c.args.callees.procedures.now) (subscripts_of ss) in
-    let is = writing_behind c.args.width c.args.anchor c.args.offset ss behind (not_based c.args.anchor c.in-Ram.is) c.in-len1-up.len_at_least in
+    let is = writing_behind c.args.width c.args.anchor c.args.offset ss behind (not_based c.args.anchor c.in-InObject.is) c.in-len1-up.len_at_least in
     subst (λ e. OnOk after.result (after.new.code.items ≡ c.args.code.now.items ++ e)) (sym is) (grind (arith, common_steps))

@@ -6,5 +6,5 @@ use Rattle.lower.proofs.expressions.read.Goals as goal
 pub returns-in-len1-up-clause-code : goal.returns-in-len1-up-clause-code
 returns-in-len1-up-clause-code c =
     let after = c.put-in-len1-up in
-    let is = reading_behind c.args.width c.args.anchor c.args.offset c.args.subscripts.now (not_based c.args.anchor c.in-Ram.is) c.in-len1-up.len_at_least in
+    let is = reading_behind c.args.width c.args.anchor c.args.offset c.args.subscripts.now (not_based c.args.anchor c.in-InObject.is) c.in-len1-up.len_at_least in
     subst (λ e. OnOk after.result (after.new.code.items ≡ c.args.code.now.items ++ e)) (sym is) (grind (arith, common_steps))
