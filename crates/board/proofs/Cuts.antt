@@ -1,12 +1,10 @@
 -- Where a turn cuts the timetable: of rising turns, those before it, those at it and those after it.
+use Rattle.std.proofs.lemmas.Bool.{cases_lt}
 use Rattle.std.proofs.Common.{◌≡◌, ◌≢◌, ◌∙◌, ◌<◌, ◌≤◌, ◌-◌, ℕ, zero, suc, true, false, List, [], ◌∷◌, length, take, drop, ap, sym, refl, slice_index, arith, nat_eq, inl, inr, ◌⊎◌}
 use Rattle.std.specs.List.Sorted.{IsNonDecreasingBy}
 use Rattle.board.specs.Timetable.{due_at}
 use Rattle.std.proofs.lemmas.List.{get_or-drop, length-drop}
 use Rattle.std.proofs.Common.{◌+◌}
-
-two_ways : (i j : ℕ) → (i < j) ⊎ (j ≤ i)
-two_ways i j = grind arith
 
 -- turns that differ do not count
 pub due_after : {A : Type 0} (t : ℕ) (ns : List ℕ) (es : List A) (a : ℕ) → ((i : ℕ) → i < a → i < length ns → slice_index ns i ≢ t) → length es ≡ length ns
@@ -61,7 +59,7 @@ due_between {A = A} t ns es a b le p below from to past =
 -- between a turn and the next one of rising turns stands none
 pub gap : (ns : List ℕ) (next turn t i : ℕ) → IsNonDecreasingBy (λ n. n) ns → ((j : ℕ) → j < next → j < length ns → slice_index ns j ≤ turn) → turn < t → t < slice_index ns next → i < length ns → slice_index ns i ≢ t
 gap ns next turn t i sorted below lt before len same =
-    elim (two_ways i next) [
+    elim (cases_lt i next) [
       | inl lower ↦ let x = below i lower len in absurd (omega arith)
       | inr upper ↦ let x = sorted next i 0 upper len in absurd (omega arith)
     ]

@@ -1,4 +1,6 @@
 -- Which fault a text has: the fold over its lines against the format's own terms.
+use Rattle.std.proofs.lemmas.Bool.{ltb-false, or_right}
+use Rattle.std.proofs.lemmas.Option.{same_Some, none-some}
 use Rattle.std.proofs.Common.{◌≡◌, ◌∙◌, ℕ, zero, suc, ◌+◌, ◌-◌, ◌^◌, ◌<◌, ◌≤◌, ◌++◌, ◌==◌, min, max, Bool, true, false, cond, List, [], ◌∷◌, Option, Some, None, length, refl, sym, ap, ap₂, subst, arith, inl, inr, ◌⊎◌, append_assoc}
 use Rattle.std.specs.Prelude.{not, ◌&&◌, ◌||◌, nat_lt, nat_le, is_some, map, fold, if◌then◌else◌}
 use Rattle.std.specs.List.{list_any}
@@ -16,12 +18,12 @@ use Rattle.board.specs.Schedule.{Text, View, item_of, is_skipped, start, with_it
 use Rattle.board.specs.Spelling.{said, lines_in}
 use Rattle.board.specs.Format.{IsLineOf, forbids, is_out_of_order, AreInOrder, Spell, Say, is_stop, line_number, HasFault, NoItem, OutOfOrder, NoStop}
 use Rattle.board.proofs.LineForms.{line_is, line_from, no_line}
-use Rattle.board.proofs.Spelled.{Core, core, bad, add, adds, Goes, after, counted, with_core, refused_item, none_some, true_false, lt-true, cons_nil, head_same, tail_same, line_skipped, line_said, line_taken, stuck, forward, Said, backward, middle, grown, either_right, last_append}
+use Rattle.board.proofs.Spelled.{Core, core, bad, add, adds, Goes, after, counted, with_core, refused_item, true_false, cons_nil, head_same, tail_same, line_skipped, line_said, line_taken, stuck, forward, Said, backward, middle, grown, last_append}
 
 -- ---- items out of order
 
 or_true : (a : Bool) → (a || true) ≡ true
-or_true a = either_right a true refl
+or_true a = or_right a true refl
 
 or_false : (a : Bool) → (a || false) ≡ a
 or_false true = refl
@@ -51,7 +53,7 @@ with_implied false false x h = refl
 
 -- the last turn is not above this one, where one stands before
 last_below : (ts : List ℕ) (m : ℕ) → (not (length ts == 0) && nat_lt m (last_turn ts)) ≡ false → not (length ts == 0) ≡ true → last_turn ts ≤ m
-last_below ts m h some = lt-true m (last_turn ts) (ap (λ t. t && nat_lt m (last_turn ts)) (sym some) ∙ h)
+last_below ts m h some = ltb-false m (last_turn ts) (ap (λ t. t && nat_lt m (last_turn ts)) (sym some) ∙ h)
 
 below_too : (n l m : ℕ) → nat_lt n l ≡ true → l ≤ m → nat_lt n m ≡ true
 below_too n l m e le = grind (arith, nat_tests)
@@ -156,7 +158,7 @@ line_counted false l v none e = ap (λ (u : View). u.line) (line_said l v none e
 
 fault_before : (o : Option (ℕ × Number)) (ls : List Text) (u : View) → u.fault ≡ o → (after ls u).fault ≡ None → o ≡ None
 fault_before None ls u e h = refl
-fault_before (Some f) ls u e h = absurd (none_some f (sym h ∙ (ap (λ (x : View). x.fault) (stuck ls u (ap is_some e)) ∙ e)))
+fault_before (Some f) ls u e h = absurd (none-some f (sym h ∙ (ap (λ (x : View). x.fault) (stuck ls u (ap is_some e)) ∙ e)))
 
 capped : (a b n m c : ℕ) → b ≡ min (a + 1) c → m ≡ suc n → min (b + n) c ≡ min (a + m) c
 capped a b n m c e f = omega (arith, e, f)
@@ -341,7 +343,7 @@ breaks_line true l ls more e v earlier g none t end =
 breaks_line false l ls more e v earlier g none t end = breaks_said (item_of l) l ls more e refl v earlier g none t end
 
 breaks : (ls : List Text) → Breaks ls
-breaks [] v earlier g none t end = absurd (none_some g (sym none ∙ end))
+breaks [] v earlier g none t end = absurd (none-some g (sym none ∙ end))
 breaks (l ∷ ls) v earlier g none t end = breaks_line (is_skipped l) l ls (breaks ls) refl v earlier g none t end
 
 -- a fault with its line and number, in the format's terms
@@ -349,7 +351,7 @@ abbrev Has : List Text → Fault → Type 0
 Has lines f = (line : ℕ) × (number : Number) × (f ≡ Fault-At 0 line number) × HasFault lines line number
 
 nothing_spelled : (l : Text) → item_of l ≡ None → (x : Item) → IsLineOf x l → ⊥
-nothing_spelled l none x h = none_some x (sym none ∙ line_from x l h)
+nothing_spelled l none x h = none-some x (sym none ∙ line_from x l h)
 
 line_from_zero : (n k c : ℕ) → n ≡ min (0 + k) c → n ≡ min k c
 line_from_zero n k c e = omega (arith, e)
@@ -367,19 +369,16 @@ stop_kept : (xs : List Item) (c : Core) → (adds xs c).stop ≡ None → c.stop
 stop_kept [] c h = h
 stop_kept (Fill b ∷ xs) c h = stop_kept xs (add (Fill b) c) h
 stop_kept (At n e ∷ xs) c h = stop_kept xs (add (At n e) c) h
-stop_kept (Stop n ∷ xs) c h = absurd (none_some n (sym (stop_kept xs (add (Stop n) c) h)))
+stop_kept (Stop n ∷ xs) c h = absurd (none-some n (sym (stop_kept xs (add (Stop n) c) h)))
 
 stop_missing : (xs : List Item) (c : Core) → (adds xs c).stop ≡ None → list_any is_stop xs ≡ false
 stop_missing [] c h = refl
 stop_missing (Fill b ∷ xs) c h = stop_missing xs (add (Fill b) c) h
 stop_missing (At n e ∷ xs) c h = stop_missing xs (add (At n e) c) h
-stop_missing (Stop n ∷ xs) c h = absurd (none_some n (sym (stop_kept xs (add (Stop n) c) h)))
-
-fault_same : (f g : Fault) → Some f ≡ Some g → f ≡ g
-fault_same f g e = cc
+stop_missing (Stop n ∷ xs) c h = absurd (none-some n (sym (stop_kept xs (add (Stop n) c) h)))
 
 moved : (lines : List Text) (f g : Fault) → Has lines f → Some f ≡ Some g → Has lines g
-moved lines f g h e = (h.0, h.1, sym (fault_same f g e) ∙ h.2, h.3)
+moved lines f g h e = (h.0, h.1, sym (same_Some f g e) ∙ h.2, h.3)
 
 ended_has : (lines : List Text) → (after lines start).fault ≡ None → (after lines start).stop ≡ None → Has lines (Fault-At 0 (max (after lines start).line 1) E703)
 ended_has lines none stop =
@@ -395,7 +394,7 @@ ended_has lines none stop =
 has_of : (o : Option (ℕ × Number)) (s : Option ℕ) (lines : List Text) (f : Fault) → (after lines start).fault ≡ o → (after lines start).stop ≡ s → fault_from (after lines start).line o s ≡ Some f → Has lines f
 has_of (Some g) s lines f e d h = moved lines (Fault-At 0 g.0 g.1) f (broken_has lines g (breaks lines start [] g refl tied_start e)) h
 has_of None None lines f e d h = moved lines (Fault-At 0 (max (after lines start).line 1) E703) f (ended_has lines e d) h
-has_of None (Some n) lines f e d h = absurd (none_some f h)
+has_of None (Some n) lines f e d h = absurd (none-some f h)
 
 pub has : (lines : List Text) (f : Fault) → fault_of (after lines start) ≡ Some f → Has lines f
 has lines f h = has_of (after lines start).fault (after lines start).stop lines f refl refl h

@@ -1,4 +1,6 @@
 -- Which lines spell which items.
+use Rattle.std.proofs.lemmas.Bool.{and_parts, and_from, leb-true, le-leb, ltb-true, lt-ltb, lt-leb, and_right}
+use Rattle.std.proofs.lemmas.Option.{none-some, same_Some}
 use Rattle.std.proofs.Common.{◌≡◌, ◌∙◌, ℕ, zero, suc, ◌+◌, ◌-◌, ◌*◌, ◌^◌, ◌<◌, ◌≤◌, ◌++◌, ◌==◌, Bool, true, false, cond, List, [], ◌∷◌, Option, Some, None, length, refl, sym, ap, subst, arith, inl, inr, ◌⊎◌, take, drop}
 use Rattle.std.specs.Prelude.{not, ◌&&◌, if◌then◌else◌, nat_lt, nat_le, fold, codes, option_map, option_and_then}
 use Rattle.std.specs.Str.{bytes_eq}
@@ -13,45 +15,17 @@ use Rattle.board.specs.declared.reading.Item.TheVariants.{Fill, At, Stop}
 use Rattle.board.specs.Schedule.{Text, after_word, is_digit, with_digit, number_of, hex_value, hex_of, word_len, tick_of, event_of_rest, event_of, at_of, item_from, item_of}
 use Rattle.board.specs.Format.{AreDigits, spelled_from, IsNumber, IsHexDigit, IsHexByte, IsEventOf, IsLineOf}
 
-none_some : {A : Type 0} (a : A) → None ≡ Some a → ⊥
-none_some a e = cc
-
-some_same : {A : Type 0} (a b : A) → Some a ≡ Some b → a ≡ b
-some_same a b e = cc
-
 true_false : true ≡ false → ⊥
 true_false e = cc
-
-both : (a b : Bool) → (a && b) ≡ true → (a ≡ true) × (b ≡ true)
-both true b e = (refl, e)
-both false b e = absurd (true_false (sym e))
-
-join : (a b : Bool) → a ≡ true → b ≡ true → (a && b) ≡ true
-join a b e f = ap (λ x. x && b) e ∙ f
-
-le_of : (a b : ℕ) → nat_le a b ≡ true → a ≤ b
-le_of a b e = grind (arith, nat_tests)
-
-to_le : (a b : ℕ) → a ≤ b → nat_le a b ≡ true
-to_le a b e = grind (arith, nat_tests)
-
-lt_of : (a b : ℕ) → nat_lt a b ≡ true → a < b
-lt_of a b e = grind (arith, nat_tests)
-
-to_lt : (a b : ℕ) → a < b → nat_lt a b ≡ true
-to_lt a b e = grind (arith, nat_tests)
-
-to_not_le : (a b : ℕ) → b < a → nat_le a b ≡ false
-to_not_le a b e = grind (arith, nat_tests)
 
 -- ---- a word at the beginning
 
 word_cut : (t : Bool) (w l r : Text) → bytes_eq (take (length w) l) w ≡ t → (if t then Some (drop (length w) l) else None) ≡ Some r → l ≡ w ++ r
 word_cut true w l r e h =
     let front : take (length w) l ≡ w = (bytes_eq-Decides (take (length w) l) w).0 e in
-    let back : drop (length w) l ≡ r = some_same (drop (length w) l) r h in
+    let back : drop (length w) l ≡ r = same_Some (drop (length w) l) r h in
     sym (take-append-drop (length w) l) ∙ (ap (λ (x : Text). x ++ drop (length w) l) front ∙ ap (λ (x : Text). w ++ x) back)
-word_cut false w l r e h = absurd (none_some r h)
+word_cut false w l r e h = absurd (none-some r h)
 
 after_word_is : (w l r : Text) → after_word w l ≡ Some r → l ≡ w ++ r
 after_word_is w l r h = word_cut (bytes_eq (take (length w) l) w) w l r refl h
@@ -80,14 +54,14 @@ Reading ds = (m n : ℕ) → m < 2 ^ 32 → fold with_digit (Some m) ds ≡ Some
 
 reading_digit : (t : Bool) (ds : Text) (m d n : ℕ) → Reading ds → (is_digit d && nat_lt (next m d) (2 ^ 32)) ≡ t → fold with_digit (if t then Some (next m d) else None) ds ≡ Some n → Read m (d ∷ ds) n
 reading_digit true ds m d n more e h =
-    let parts = both (is_digit d) (nat_lt (next m d) (2 ^ 32)) e in
-    let digit = both (nat_le 48 d) (nat_le d 57) parts.0 in
-    let r = more (next m d) n (lt_of (next m d) (2 ^ 32) parts.1) h in
-    record { digits = (le_of 48 d digit.0, le_of d 57 digit.1, r.digits); value = r.value; fits = r.fits }
-reading_digit false ds m d n more e h = absurd (none_some n (sym (no_digits ds) ∙ h))
+    let parts = and_parts (is_digit d) (nat_lt (next m d) (2 ^ 32)) e in
+    let digit = and_parts (nat_le 48 d) (nat_le d 57) parts.0 in
+    let r = more (next m d) n (ltb-true (next m d) (2 ^ 32) parts.1) h in
+    record { digits = (leb-true 48 d digit.0, leb-true d 57 digit.1, r.digits); value = r.value; fits = r.fits }
+reading_digit false ds m d n more e h = absurd (none-some n (sym (no_digits ds) ∙ h))
 
 reading : (ds : Text) → Reading ds
-reading [] m n below h = let e = some_same m n h in record { digits = tt; value = e; fits = subst (λ x. x < 2 ^ 32) e below }
+reading [] m n below h = let e = same_Some m n h in record { digits = tt; value = e; fits = subst (λ x. x < 2 ^ 32) e below }
 reading (d ∷ ds) m n below h = reading_digit (is_digit d && nat_lt (next m d) (2 ^ 32)) ds m d n (reading ds) refl h
 
 grows : (ds : Text) (m : ℕ) → m ≤ spelled_from m ds
@@ -100,7 +74,7 @@ writing (d ∷ ds) m n digits e below =
     let more = grows ds (next m d) in
     let small : next m d < 2 ^ 32 = subst (λ x. x < 2 ^ 32 → next m d < 2 ^ 32) e (λ lt. omega (arith, more, lt)) below in
     let test : (is_digit d && nat_lt (next m d) (2 ^ 32)) ≡ true =
-    join (is_digit d) (nat_lt (next m d) (2 ^ 32)) (join (nat_le 48 d) (nat_le d 57) (to_le 48 d digits.0) (to_le d 57 digits.1)) (to_lt (next m d) (2 ^ 32) small) in
+    and_from (is_digit d) (nat_lt (next m d) (2 ^ 32)) (and_from (nat_le 48 d) (nat_le d 57) (le-leb 48 d digits.0) (le-leb d 57 digits.1)) (lt-ltb (next m d) (2 ^ 32) small) in
     ap (λ t. fold with_digit (if t then Some (next m d) else None) ds) test ∙ writing ds (next m d) n digits.2 e below
 
 positive : (d : ℕ) (ds : Text) → 0 < length (d ∷ ds)
@@ -113,7 +87,7 @@ zero_small : 0 < 2 ^ 32
 zero_small = omega arith
 
 pub number_is : (ds : Text) (n : ℕ) → number_of ds ≡ Some n → IsNumber ds n
-number_is [] n h = absurd (none_some n h)
+number_is [] n h = absurd (none-some n h)
 number_is (d ∷ ds) n h =
     let e : fold with_digit (Some 0) (d ∷ ds) ≡ Some n = sym (ap (λ t. if t then None else fold with_digit (Some 0) (d ∷ ds)) (not_empty d ds)) ∙ h in
     let r = reading (d ∷ ds) 0 n zero_small e in
@@ -128,28 +102,28 @@ number_from (d ∷ ds) n h =
 
 hex_small : (t : Bool) (d v : ℕ) → (nat_le 97 d && nat_le d 102) ≡ t → (if t then Some (d - 87) else None) ≡ Some v → IsHexDigit d v
 hex_small true d v e h =
-    let parts = both (nat_le 97 d) (nat_le d 102) e in
-    let low = le_of 97 d parts.0 in
-    let high = le_of d 102 parts.1 in
-    let is = some_same (d - 87) v h in
+    let parts = and_parts (nat_le 97 d) (nat_le d 102) e in
+    let low = leb-true 97 d parts.0 in
+    let high = leb-true d 102 parts.1 in
+    let is = same_Some (d - 87) v h in
     inr (omega (arith, low, high, is), omega (arith, low, high, is), inr (omega (arith, low, high, is)))
-hex_small false d v e h = absurd (none_some v h)
+hex_small false d v e h = absurd (none-some v h)
 
 hex_capital : (t : Bool) (d v : ℕ) → (nat_le 65 d && nat_le d 70) ≡ t → (if t then Some (d - 55) else if nat_le 97 d && nat_le d 102 then Some (d - 87) else None) ≡ Some v → IsHexDigit d v
 hex_capital true d v e h =
-    let parts = both (nat_le 65 d) (nat_le d 70) e in
-    let low = le_of 65 d parts.0 in
-    let high = le_of d 70 parts.1 in
-    let is = some_same (d - 55) v h in
+    let parts = and_parts (nat_le 65 d) (nat_le d 70) e in
+    let low = leb-true 65 d parts.0 in
+    let high = leb-true d 70 parts.1 in
+    let is = same_Some (d - 55) v h in
     inr (omega (arith, low, high, is), omega (arith, low, high, is), inl (omega (arith, low, high, is)))
 hex_capital false d v e h = hex_small (nat_le 97 d && nat_le d 102) d v refl h
 
 hex_decimal : (t : Bool) (d v : ℕ) → (nat_le 48 d && nat_le d 57) ≡ t → (if t then Some (d - 48) else if nat_le 65 d && nat_le d 70 then Some (d - 55) else if nat_le 97 d && nat_le d 102 then Some (d - 87) else None) ≡ Some v → IsHexDigit d v
 hex_decimal true d v e h =
-    let parts = both (nat_le 48 d) (nat_le d 57) e in
-    let low = le_of 48 d parts.0 in
-    let high = le_of d 57 parts.1 in
-    let is = some_same (d - 48) v h in
+    let parts = and_parts (nat_le 48 d) (nat_le d 57) e in
+    let low = leb-true 48 d parts.0 in
+    let high = leb-true d 57 parts.1 in
+    let is = same_Some (d - 48) v h in
     inl (omega (arith, low, high, is), omega (arith, low, high, is))
 hex_decimal false d v e h = hex_capital (nat_le 65 d && nat_le d 70) d v refl h
 
@@ -157,14 +131,10 @@ digit_is : (d v : ℕ) → hex_value d ≡ Some v → IsHexDigit d v
 digit_is d v h = hex_decimal (nat_le 48 d && nat_le d 57) d v refl h
 
 within : (a b d : ℕ) → a ≤ d → d ≤ b → (nat_le a d && nat_le d b) ≡ true
-within a b d x y = join (nat_le a d) (nat_le d b) (to_le a d x) (to_le d b y)
-
-right_false : (a b : Bool) → b ≡ false → (a && b) ≡ false
-right_false true b e = e
-right_false false b e = refl
+within a b d x y = and_from (nat_le a d) (nat_le d b) (le-leb a d x) (le-leb d b y)
 
 above : (a b d : ℕ) → b < d → (nat_le a d && nat_le d b) ≡ false
-above a b d x = right_false (nat_le a d) (nat_le d b) (to_not_le d b x)
+above a b d x = and_right (nat_le a d) (nat_le d b) (lt-leb d b x)
 
 by_decimal : (t : Bool) (d : ℕ) → (nat_le 48 d && nat_le d 57) ≡ t → hex_value d ≡ (if t then Some (d - 48) else if nat_le 65 d && nat_le d 70 then Some (d - 55) else if nat_le 97 d && nat_le d 102 then Some (d - 87) else None)
 by_decimal t d e = ap (λ t. if t then Some (d - 48) else if nat_le 65 d && nat_le d 70 then Some (d - 55) else if nat_le 97 d && nat_le d 102 then Some (d - 87) else None) e
@@ -183,20 +153,20 @@ digit_from d v (inr (ten, sixteen, inr is)) =
     ∙ ap (λ x. Some x) (let e : d - 87 ≡ v = omega (arith, is) in e)))
 
 byte_is : (o p : Option ℕ) (h l b : ℕ) → hex_value h ≡ o → hex_value l ≡ p → option_and_then (λ x. option_map (λ y. x * 16 + y) p) o ≡ Some b → IsHexByte (h ∷ l ∷ []) b
-byte_is None p h l b e f g = absurd (none_some b g)
-byte_is (Some x) None h l b e f g = absurd (none_some b g)
+byte_is None p h l b e f g = absurd (none-some b g)
+byte_is (Some x) None h l b e f g = absurd (none-some b g)
 byte_is (Some x) (Some y) h l b e f g =
-    record { high = h; low = l; high_value = x; low_value = y; text_is = refl; high_is = digit_is h x e; low_is = digit_is l y f; byte_is = sym (some_same (x * 16 + y) b g) }
+    record { high = h; low = l; high_value = x; low_value = y; text_is = refl; high_is = digit_is h x e; low_is = digit_is l y f; byte_is = sym (same_Some (x * 16 + y) b g) }
 
 longer : (a b c : ℕ) (t : Text) → (length (a ∷ b ∷ c ∷ t) == 2) ≡ false
 longer a b c t = let lt : 2 < length (a ∷ b ∷ c ∷ t) = omega arith in grind (arith, nat_tests)
 
 pub hex_is : (t : Text) (b : ℕ) → hex_of t ≡ Some b → IsHexByte t b
-hex_is [] b h = absurd (none_some b h)
-hex_is (x ∷ []) b h = absurd (none_some b h)
+hex_is [] b h = absurd (none-some b h)
+hex_is (x ∷ []) b h = absurd (none-some b h)
 hex_is (x ∷ y ∷ []) b h = byte_is (hex_value x) (hex_value y) x y b refl refl h
 hex_is (x ∷ y ∷ z ∷ t) b h =
-    absurd (none_some b (sym (ap (λ (s : Bool). if s then option_and_then (λ p. option_map (λ q. p * 16 + q) (hex_value y)) (hex_value x) else None) (longer x y z t)) ∙ h))
+    absurd (none-some b (sym (ap (λ (s : Bool). if s then option_and_then (λ p. option_map (λ q. p * 16 + q) (hex_value y)) (hex_value x) else None) (longer x y z t)) ∙ h))
 
 byte_from : (h l x y : ℕ) → IsHexDigit h x → IsHexDigit l y → hex_of (h ∷ l ∷ []) ≡ Some (x * 16 + y)
 byte_from h l x y e f =
@@ -211,22 +181,22 @@ hex_from t b h =
 
 tick_test : (t : Bool) (k : ℕ) (e : Event) (ds l : Text) → (nat_le 1 k && nat_le k 65535) ≡ t → (if t then Some (Tick k) else None) ≡ Some e → IsNumber ds k → l ≡ codes " TICK " ++ ds → IsEventOf e l
 tick_test true k e ds l w h n is =
-    let parts = both (nat_le 1 k) (nat_le k 65535) w in
-    subst (λ x. IsEventOf x l) (some_same (Tick k) e h) (ds, n, le_of 1 k parts.0, le_of k 65535 parts.1, is)
-tick_test false k e ds l w h n is = absurd (none_some e h)
+    let parts = and_parts (nat_le 1 k) (nat_le k 65535) w in
+    subst (λ x. IsEventOf x l) (same_Some (Tick k) e h) (ds, n, leb-true 1 k parts.0, leb-true k 65535 parts.1, is)
+tick_test false k e ds l w h n is = absurd (none-some e h)
 
 tick_is : (o : Option ℕ) (e : Event) (ds l : Text) → number_of ds ≡ o → tick_of o ≡ Some e → l ≡ codes " TICK " ++ ds → IsEventOf e l
-tick_is None e ds l w h is = absurd (none_some e h)
+tick_is None e ds l w h is = absurd (none-some e h)
 tick_is (Some k) e ds l w h is = tick_test (nat_le 1 k && nat_le k 65535) k e ds l refl h (number_is ds k w) is
 
 key_is : (o : Option ℕ) (e : Event) (hs l : Text) → hex_of hs ≡ o → option_map Key o ≡ Some e → l ≡ codes " KEY " ++ hs → IsEventOf e l
-key_is None e hs l w h is = absurd (none_some e h)
-key_is (Some b) e hs l w h is = subst (λ x. IsEventOf x l) (some_same (Key b) e h) (hs, hex_is hs b w, is)
+key_is None e hs l w h is = absurd (none-some e h)
+key_is (Some b) e hs l w h is = subst (λ x. IsEventOf x l) (same_Some (Key b) e h) (hs, hex_is hs b w, is)
 
 event_by : (o p : Option Text) (e : Event) (l : Text) → after_word (codes " TICK ") l ≡ o → after_word (codes " KEY ") l ≡ p → event_of_rest o p ≡ Some e → IsEventOf e l
 event_by (Some ds) p e l w v h = tick_is (number_of ds) e ds l refl h (after_word_is (codes " TICK ") l ds w)
 event_by None (Some hs) e l w v h = key_is (hex_of hs) e hs l refl h (after_word_is (codes " KEY ") l hs v)
-event_by None None e l w v h = absurd (none_some e h)
+event_by None None e l w v h = absurd (none-some e h)
 
 pub event_is : (l : Text) (e : Event) → event_of l ≡ Some e → IsEventOf e l
 event_is l e h = event_by (after_word (codes " TICK ") l) (after_word (codes " KEY ") l) e l refl refl h
@@ -247,17 +217,17 @@ event_from (Key b) l (hs, x, is) =
 -- ---- items
 
 fill_is : (o : Option ℕ) (x : Item) (hs l : Text) → hex_of hs ≡ o → option_map Fill o ≡ Some x → l ≡ codes "FILL " ++ hs → IsLineOf x l
-fill_is None x hs l w h is = absurd (none_some x h)
-fill_is (Some b) x hs l w h is = subst (λ y. IsLineOf y l) (some_same (Fill b) x h) (hs, hex_is hs b w, is)
+fill_is None x hs l w h is = absurd (none-some x h)
+fill_is (Some b) x hs l w h is = subst (λ y. IsLineOf y l) (same_Some (Fill b) x h) (hs, hex_is hs b w, is)
 
 stop_is : (o : Option ℕ) (x : Item) (ds l : Text) → number_of ds ≡ o → option_map Stop o ≡ Some x → l ≡ codes "STOP " ++ ds → IsLineOf x l
-stop_is None x ds l w h is = absurd (none_some x h)
-stop_is (Some n) x ds l w h is = subst (λ y. IsLineOf y l) (some_same (Stop n) x h) (ds, number_is ds n w, is)
+stop_is None x ds l w h is = absurd (none-some x h)
+stop_is (Some n) x ds l w h is = subst (λ y. IsLineOf y l) (same_Some (Stop n) x h) (ds, number_is ds n w, is)
 
 at_is : (o : Option ℕ) (p : Option Event) (x : Item) (ds rest l : Text) → number_of ds ≡ o → event_of rest ≡ p → at_of o p ≡ Some x → l ≡ codes "AT " ++ (ds ++ rest) → IsLineOf x l
-at_is None p x ds rest l w v h is = absurd (none_some x h)
-at_is (Some n) None x ds rest l w v h is = absurd (none_some x h)
-at_is (Some n) (Some e) x ds rest l w v h is = subst (λ y. IsLineOf y l) (some_same (At n e) x h) (ds, rest, number_is ds n w, event_is rest e v, is)
+at_is None p x ds rest l w v h is = absurd (none-some x h)
+at_is (Some n) None x ds rest l w v h is = absurd (none-some x h)
+at_is (Some n) (Some e) x ds rest l w v h is = subst (λ y. IsLineOf y l) (same_Some (At n e) x h) (ds, rest, number_is ds n w, event_is rest e v, is)
 
 item_by : (o p q : Option Text) (x : Item) (l : Text) → after_word (codes "FILL ") l ≡ o → after_word (codes "STOP ") l ≡ p → after_word (codes "AT ") l ≡ q → item_from o p q ≡ Some x → IsLineOf x l
 item_by (Some hs) p q x l w v u h = fill_is (hex_of hs) x hs l refl h (after_word_is (codes "FILL ") l hs w)
@@ -265,7 +235,7 @@ item_by None (Some ds) q x l w v u h = stop_is (number_of ds) x ds l refl h (aft
 item_by None None (Some r) x l w v u h =
     at_is (number_of (take (word_len r) r)) (event_of (drop (word_len r) r)) x (take (word_len r) r) (drop (word_len r) r) l refl refl h
     (after_word_is (codes "AT ") l r u ∙ ap (λ (s : Text). codes "AT " ++ s) (sym (take-append-drop (word_len r) r)))
-item_by None None None x l w v u h = absurd (none_some x h)
+item_by None None None x l w v u h = absurd (none-some x h)
 
 pub line_is : (l : Text) (x : Item) → item_of l ≡ Some x → IsLineOf x l
 line_is l x h = item_by (after_word (codes "FILL ") l) (after_word (codes "STOP ") l) (after_word (codes "AT ") l) x l refl refl refl h

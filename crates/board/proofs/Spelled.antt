@@ -1,4 +1,6 @@
 -- A text is read without a fault exactly where it spells a schedule.
+use Rattle.std.proofs.lemmas.Bool.{lt-leb, le-ltb, leb-false, ltb-false, and_right, or_right}
+use Rattle.std.proofs.lemmas.Option.{none-some, same_Some}
 use Rattle.std.proofs.Common.{◌≡◌, ◌∙◌, ℕ, ◌+◌, ◌-◌, ◌^◌, ◌<◌, ◌≤◌, ◌++◌, ◌==◌, min, Bool, true, false, cond, List, [], ◌∷◌, Option, Some, None, length, refl, sym, ap, ap₂, subst, arith, inl, inr, ◌⊎◌, append_assoc, append-nil, length-append}
 use Rattle.std.specs.Prelude.{not, ◌&&◌, ◌||◌, nat_lt, nat_le, is_some, map, fold, slice_index, if◌then◌else◌}
 use Rattle.std.proofs.lemmas.Bool.Decides.{nat_tests}
@@ -51,23 +53,8 @@ refused_item (Fill b) v e = ap (λ t. if t then failed E702 v else record v { fi
 refused_item (At n d) v e = ap (λ t. if t then failed E702 v else record v { turns = v.turns ++ n ∷ []; events = v.events ++ d ∷ [] }) e
 refused_item (Stop n) v e = ap (λ t. if t then failed E702 v else record v { stop = Some n }) e
 
-pub none_some : {A : Type 0} (a : A) → None ≡ Some a → ⊥
-none_some a e = cc
-
 pub true_false : true ≡ false → ⊥
 true_false e = cc
-
-le-false : (n m : ℕ) → m < n → nat_le n m ≡ false
-le-false n m lt = grind (arith, nat_tests)
-
-lt-false : (n m : ℕ) → m ≤ n → nat_lt n m ≡ false
-lt-false n m le = grind (arith, nat_tests)
-
-pub le-true : (n m : ℕ) → nat_le n m ≡ false → m < n
-le-true n m e = grind (arith, nat_tests)
-
-pub lt-true : (n m : ℕ) → nat_lt n m ≡ false → m ≤ n
-lt-true n m e = grind (arith, nat_tests)
 
 positive : (n : ℕ) → 0 < n → not (n == 0) ≡ true
 positive n lt = ap not (let x : (n == 0) ≡ false = grind (arith, nat_tests) in x)
@@ -88,9 +75,6 @@ head_same x y xs ys e = cc
 
 pub tail_same : {A : Type 0} (x y : A) (xs ys : List A) → x ∷ xs ≡ y ∷ ys → xs ≡ ys
 tail_same x y xs ys e = cc
-
-some_same : (m n : ℕ) → Some m ≡ Some n → m ≡ n
-some_same m n e = cc
 
 -- ---- lines and items
 
@@ -201,20 +185,16 @@ last_append ts n =
     let e : length (ts ++ n ∷ []) - 1 ≡ length ts = omega (arith, length-append ts (n ∷ [])) in
     ap (λ (i : ℕ). slice_index (ts ++ n ∷ []) i) e ∙ get_or-append_seam ts n [] 0
 
-and_false : (a b : Bool) → b ≡ false → (a && b) ≡ false
-and_false true b e = e
-and_false false b e = refl
-
 -- there is no turn yet, or the last one is below
 abbrev Below : List ℕ → ℕ → Type 0
 Below ts n = ((length ts == 0) ≡ true) ⊎ (last_turn ts < n)
 
 stop_fits : (ts : List ℕ) (n : ℕ) → Below ts n → (not (length ts == 0) && nat_le n (last_turn ts)) ≡ false
 stop_fits ts n (inl e) = ap (λ t. not t && nat_le n (last_turn ts)) e
-stop_fits ts n (inr lt) = and_false (not (length ts == 0)) (nat_le n (last_turn ts)) (le-false n (last_turn ts) lt)
+stop_fits ts n (inr lt) = and_right (not (length ts == 0)) (nat_le n (last_turn ts)) (lt-leb n (last_turn ts) lt)
 
 at_fits : (ts : List ℕ) (n : ℕ) → last_turn ts ≤ n → (not (length ts == 0) && nat_lt n (last_turn ts)) ≡ false
-at_fits ts n le = and_false (not (length ts == 0)) (nat_lt n (last_turn ts)) (lt-false n (last_turn ts) le)
+at_fits ts n le = and_right (not (length ts == 0)) (nat_lt n (last_turn ts)) (le-ltb n (last_turn ts) le)
 
 abbrev items_from : List Due → ℕ → List Item
 items_from ds stop = map (λ d. At d.turn d.event) ds ++ (Stop stop ∷ [])
@@ -290,11 +270,11 @@ ended (Stop m ∷ xs) c n s g = absurd (true_false (sym (ap (λ o. is_some o || 
 
 below_from : (t : Bool) (ts : List ℕ) (n : ℕ) → (length ts == 0) ≡ t → (not t && nat_le n (last_turn ts)) ≡ false → Below ts n
 below_from true ts n e h = inl e
-below_from false ts n e h = inr (le-true n (last_turn ts) h)
+below_from false ts n e h = inr (leb-false n (last_turn ts) h)
 
 order_from : (t : Bool) (ts : List ℕ) (n : ℕ) → (length ts == 0) ≡ t → (not t && nat_lt n (last_turn ts)) ≡ false → last_turn ts ≤ n
 order_from true ts n e h = none_yet ts n e
-order_from false ts n e h = lt-true n (last_turn ts) h
+order_from false ts n e h = ltb-false n (last_turn ts) h
 
 later : (s x : Bool) → (s || x) ≡ false → x ≡ false
 later true x e = absurd (true_false e)
@@ -309,10 +289,6 @@ record Ordered (items : List Item) (c : Core) (n : ℕ) : Type 0 where
 pub grown : (ts : List ℕ) (n : ℕ) → not (length (ts ++ n ∷ []) == 0) ≡ true
 grown ts n = let e : 0 < length (ts ++ n ∷ []) = omega (arith, length-append ts (n ∷ [])) in positive (length (ts ++ n ∷ [])) e
 
-pub either_right : (a b : Bool) → b ≡ true → (a || b) ≡ true
-either_right true b e = refl
-either_right false b e = e
-
 below_next : (ts : List ℕ) (m n : ℕ) → Below (ts ++ m ∷ []) n → m < n
 below_next ts m n (inl e) = absurd (true_false (sym (grown ts m) ∙ ap not e))
 below_next ts m n (inr lt) = subst (λ k. k < n) (last_append ts m) lt
@@ -322,11 +298,11 @@ below_before true ts m n e le lt = inl e
 below_before false ts m n e le lt = inr (omega (arith, le, lt))
 
 ordered : (items : List Item) (c : Core) (n : ℕ) → c.stop ≡ None → NoFill items c → Goes items c → (adds items c).stop ≡ Some n → Ordered items c n
-ordered [] c n none free g end = absurd (none_some n (sym none ∙ end))
+ordered [] c n none free g end = absurd (none-some n (sym none ∙ end))
 ordered (Fill b ∷ xs) c n none free g end = absurd (clash (is_some c.fill) (is_some c.stop) (not (length c.turns == 0)) g.0 free)
 ordered (Stop m ∷ xs) c n none free g end =
     let alone : xs ≡ [] = ended xs (add (Stop m) c) m refl g.1 in
-    let same : m ≡ n = some_same m n (sym (ap (λ (l : List Item). (adds l (add (Stop m) c)).stop) alone) ∙ end) in
+    let same : m ≡ n = same_Some m n (sym (ap (λ (l : List Item). (adds l (add (Stop m) c)).stop) alone) ∙ end) in
     record {
       due = [];
       items_are = ap₂ (λ (k : ℕ) (l : List Item). Stop k ∷ l) same alone;
@@ -335,7 +311,7 @@ ordered (Stop m ∷ xs) c n none free g end =
     }
 ordered (At m e ∷ xs) c n none free g end =
     let k = add (At m e) c in
-    let r = ordered xs k n none (no_fill xs k (either_right (is_some c.fill) _ (grown c.turns m))) g.1 end in
+    let r = ordered xs k n none (no_fill xs k (or_right (is_some c.fill) _ (grown c.turns m))) g.1 end in
     let le = order_from (length c.turns == 0) c.turns m refl (later (is_some c.stop) _ g.0) in
     let lt = below_next c.turns m n r.below in
     record {
@@ -346,12 +322,12 @@ ordered (At m e ∷ xs) c n none free g end =
     }
 
 stop_of : (o : Option ℕ) (f : Option (ℕ × Number)) (line : ℕ) → fault_from line f o ≡ None → (f ≡ None) × ((n : ℕ) × (o ≡ Some n))
-stop_of o (Some f) line e = absurd (none_some _ (sym e))
-stop_of None None line e = absurd (none_some _ (sym e))
+stop_of o (Some f) line e = absurd (none-some _ (sym e))
+stop_of None None line e = absurd (none-some _ (sym e))
 stop_of (Some n) None line e = (refl, (n, refl))
 
 planned : (items : List Item) (n : ℕ) → Goes items (fresh None) → (adds items (fresh None)).stop ≡ Some n → (p : Plan) × (items ≡ items_of p) × IsInOrder 0 p.events p.stop
-planned [] n g end = absurd (none_some n end)
+planned [] n g end = absurd (none-some n end)
 planned (Fill b ∷ xs) n g end =
     let r = ordered xs (fresh (Some b)) n refl (no_fill xs (fresh (Some b)) refl) g.1 end in
     (record { fill = Some b; events = r.due; stop = n }, ap (λ (l : List Item). Fill b ∷ l) r.items_are, r.in_order)

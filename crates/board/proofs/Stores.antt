@@ -1,23 +1,84 @@
--- A store below the screen leaves it, and shows nothing.
-use Rattle.std.proofs.Common.{◌≡◌, ℕ, ◌+◌, ◌-◌, ◌<◌, ◌%◌, ◌/◌, List, length, false, arith, ap, sym, ◌∙◌}
-use Rattle.std.specs.Prelude.{slice_set, nat_lt, nat_le, ◌&&◌, if◌then◌else◌, Some, None}
-use Rattle.std.proofs.lemmas.Bool.{lt-leb}
-use Rattle.word86.specs.declared.label.Label.TheVariants as labels
+-- A store below the screen leaves and_parts pages, and shows nothing. A word has its bytes side by side on one page, or not and_parts on one.
+use Rattle.std.proofs.Common.{◌≡◌, ℕ, ◌+◌, ◌-◌, ◌<◌, Bool, true, false, List, length, arith, ap, sym, subst, refl, ◌∙◌}
+use Rattle.std.specs.Prelude.{slice_set, nat_lt, nat_le, ◌&&◌, if◌then◌else◌, Option, Some, None}
+use Rattle.std.proofs.lemmas.Bool.{lt-leb, ltb-true, leb-true, and_parts}
+use Rattle.word86.specs.declared.page.Page.{Page}
+use Rattle.word86.specs.declared.page.Page.TheVariants.{Monochrome, Colour}
+use Rattle.word86.specs.MemoryMap.{ram_size}
+use Rattle.word86.specs.Page.{page_at, page_size}
 use Rattle.cpu8086.specs.declared.bus.Store.TheVariants as stores
-use Rattle.board.specs.World.{put, shown_store, screen_at, is_on_screen}
+use Rattle.cpu8086.specs.Machine.{physical, next_offset}
+use Rattle.board.specs.World.{put, is_on, spot, byte_shown, word_shown, shown_store}
 
-pub below_screen : (l : List ℕ) (a v : ℕ) → a < 131072 → put 0xB8000 l a v ≡ l
-below_screen l a v lt =
-    ap (λ t. if t && nat_lt a (0xB8000 + length l) then slice_set l (a - 0xB8000) v else l) (lt-leb 0xB8000 a (omega (arith, lt)))
+below_region : (base : ℕ) (l : List ℕ) (a v : ℕ) → a < base → put base l a v ≡ l
+below_region base l a v lt = ap (λ t. if t && nat_lt a (base + length l) then slice_set l (a - base) v else l) (lt-leb base a lt)
 
-off_screen : (a : ℕ) → a < 131072 → nat_le screen_at a ≡ false
-off_screen a lt = lt-leb screen_at a (omega (arith, lt))
+pub below_monochrome : (l : List ℕ) (a v : ℕ) → a < ram_size → put (page_at Monochrome) l a v ≡ l
+below_monochrome l a v lt = below_region (page_at Monochrome) l a v (omega (arith, lt))
 
-pub unseen_byte : (a v : ℕ) → a < 131072 → None ≡ shown_store (stores.Byte a v)
-unseen_byte a v lt = sym (ap (λ t. if t && nat_lt a (screen_at + 4000) then Some (labels.Scr (a - screen_at) v) else None) (off_screen a lt))
+pub below_colour : (l : List ℕ) (a v : ℕ) → a < ram_size → put (page_at Colour) l a v ≡ l
+below_colour l a v lt = below_region (page_at Colour) l a v (omega (arith, lt))
 
-pub unseen_word : (low high v : ℕ) → low < 131072 → high < 131072 → None ≡ shown_store (stores.Word low high v)
-unseen_word low high v lt next =
-    sym (ap (λ t. if t && nat_lt low (screen_at + 4000) then (if is_on_screen high then Some (labels.ScrW (low - screen_at) v) else Some (labels.Scr (low - screen_at) (v % 256)))
-    else if is_on_screen high then Some (labels.Scr (high - screen_at) (v / 256)) else None) (off_screen low lt)
-    ∙ ap (λ t. if t && nat_lt high (screen_at + 4000) then Some (labels.Scr (high - screen_at) (v / 256)) else None) (off_screen high next))
+-- what lies below a page is not on it
+below_page : (page : Page) (a : ℕ) → a < page_at page → is_on page a ≡ false
+below_page page a lt = ap (λ t. t && nat_lt a (page_at page + page_size)) (lt-leb (page_at page) a lt)
+
+abbrev some_at : Page → ℕ → Option (Page × ℕ)
+some_at page i = Some (page, i)
+
+no_spot : (a : ℕ) → a < ram_size → spot a ≡ None
+no_spot a lt =
+    ap (λ t. if t then some_at Monochrome (a - page_at Monochrome) else if is_on Colour a then some_at Colour (a - page_at Colour) else None) (below_page Monochrome a (omega (arith, lt)))
+    ∙ ap (λ t. if t then some_at Colour (a - page_at Colour) else None) (below_page Colour a (omega (arith, lt)))
+
+pub unseen_byte : (a v : ℕ) → a < ram_size → None ≡ shown_store (stores.Byte a v)
+unseen_byte a v lt = sym (ap (λ s. byte_shown s v) (no_spot a lt))
+
+pub unseen_word : (low high v : ℕ) → low < ram_size → high < ram_size → None ≡ shown_store (stores.Word low high v)
+unseen_word low high v lt next = sym (ap (λ s. word_shown s (spot high) v) (no_spot low lt) ∙ ap (λ s. word_shown None s v) (no_spot high next))
+
+-- ---- where the bytes of a word are
+
+-- an address on a page, by the page and the offset in it
+record Lies (a : ℕ) (page : Page) (i : ℕ) : Type 0 where
+  at : a ≡ page_at page + i
+  inside : i < page_size
+
+within : (page : Page) (a : ℕ) → is_on page a ≡ true → Lies a page (a - page_at page)
+within page a e =
+    let t = and_parts (nat_le (page_at page) a) (nat_lt a (page_at page + page_size)) e in
+    let low = leb-true (page_at page) a t.0 in
+    let high = ltb-true a (page_at page + page_size) t.1 in
+    record { at = omega arith; inside = omega arith }
+
+abbrev the : Option (Page × ℕ) → Page × ℕ
+the None = (Monochrome, 0)
+the (Some x) = x
+
+found : (a : ℕ) (p page : Page) (k i : ℕ) → Lies a p k → some_at p k ≡ some_at page i → Lies a page i
+found a p page k i l e =
+    let same : p ≡ page = ap (λ (z : Option (Page × ℕ)). (the z).0) e in
+    let at : k ≡ i = ap (λ (z : Option (Page × ℕ)). (the z).1) e in
+    subst (λ (x : Page). Lies a x i) same (subst (λ (n : ℕ). Lies a p n) at l)
+
+-- what `spot` answers, by its two tests
+by_tests : (a : ℕ) (page : Page) (i : ℕ) (t u : Bool) → is_on Monochrome a ≡ t → is_on Colour a ≡ u
+    → (if t then some_at Monochrome (a - page_at Monochrome) else if u then some_at Colour (a - page_at Colour) else None) ≡ some_at page i → Lies a page i
+by_tests a page i true u x y e = found a Monochrome page (a - page_at Monochrome) i (within Monochrome a x) e
+by_tests a page i false true x y e = found a Colour page (a - page_at Colour) i (within Colour a y) e
+by_tests a page i false false x y e = absurd cc
+
+spot_lies : (a : ℕ) (page : Page) (i : ℕ) → spot a ≡ Some (page, i) → Lies a page i
+spot_lies a page i e = by_tests a page i (is_on Monochrome a) (is_on Colour a) refl refl e
+
+-- the pages are 32,768 addresses apart, and the bytes of a word 1 or, where its offset wraps, 65,535
+side_by_side : (segment offset : ℕ) → offset < 65536 → (p q : Page) (i j : ℕ) → Lies (physical segment offset) p i → Lies (physical segment (next_offset offset)) q j → (q ≡ p) × (j ≡ i + 1)
+side_by_side segment offset lt Monochrome Monochrome i j x y = (refl, omega (arith, lt, x.at, x.inside, y.at, y.inside))
+side_by_side segment offset lt Monochrome Colour i j x y = absurd (omega (arith, lt, x.at, x.inside, y.at, y.inside))
+side_by_side segment offset lt Colour Monochrome i j x y = absurd (omega (arith, lt, x.at, x.inside, y.at, y.inside))
+side_by_side segment offset lt Colour Colour i j x y = (refl, omega (arith, lt, x.at, x.inside, y.at, y.inside))
+
+pub no_word_on_two_pages : (segment offset : ℕ) → offset < 65536 → (p q : Page) (i j : ℕ)
+    → spot (physical segment offset) ≡ Some (p, i) → spot (physical segment (next_offset offset)) ≡ Some (q, j) → (q ≡ p) × (j ≡ i + 1)
+no_word_on_two_pages segment offset lt p q i j x y =
+    side_by_side segment offset lt p q i j (spot_lies (physical segment offset) p i x) (spot_lies (physical segment (next_offset offset)) q j y)

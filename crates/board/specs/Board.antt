@@ -10,6 +10,7 @@ use Rattle.board.specs.Machine.{Board}
 pub record Shows (p : code.Board) (b : Board (World ChipState)) : Type 0 where
   pub cpu : p.cpu ≡ b.cpu
   pub ram : p.attached.ram.items ≡ b.world.ram
-  pub screen : p.attached.screen.items ≡ b.world.screen
+  pub monochrome : p.attached.monochrome.items ≡ b.world.screen.monochrome
+  pub colour : p.attached.colour.items ≡ b.world.screen.colour
   pub rom : p.attached.rom.items ≡ b.world.rom
   pub chips : ports.Shows p.attached.ports b.world.chips

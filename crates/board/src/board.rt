@@ -13,6 +13,7 @@ ghost use Rattle.board.specs.Machine.{all_occur, power_on as powered_on};
 ghost use Rattle.board.specs.Machine.{Board as State, turn, turn_kind};
 ghost use Rattle.board.specs.Rom.{is_rom_length};
 ghost use Rattle.board.specs.Inner.Settled.{settled_chips};
+ghost use Rattle.word86.specs.PowerOn.{pages_of};
 ghost use Rattle.board.specs.Board.{Shows};
 ghost use Rattle.board.specs.Inner.Attached.{world_of};
 
@@ -27,8 +28,9 @@ use word86::{Event, Fault, Label, Number, PowerOn};
 
 /// The board: an 8086, memory, and the chips on its ports (IBM PC Technical Reference, "Memory Map" and "I/O Address Map").
 ///
-/// RAM is 00000H to 1FFFFH, the screen 0B8000H to 0B8F9FH, and the ROM ends at 0FFFFFH. Other memory reads 0FFH; stores there
-/// and into the ROM are lost. What a call does is stated for every state of the definition that the board shows.
+/// RAM is 00000H to 1FFFFH, the monochrome page of the screen 0B0000H to 0B0F9FH, its colour page 0B8000H to 0B8F9FH, and the ROM
+/// ends at 0FFFFFH. Other memory reads 0FFH; stores there and into the ROM are lost. What a call does is stated for every state
+/// of the definition that the board shows.
 #[derive(Drop)]
 pub struct Board {
     pub(crate) cpu: Cpu,
@@ -60,7 +62,7 @@ impl Board {
     pub fn new(alloc: Global, rom: &[u8], power_on: PowerOn) -> Result<Board, Fault>
         ensures refused { is_rom_length (length rom.now) ≡ false → result ≡ Err (At 0 1 E705) }
         ensures taken { is_rom_length (length rom.now) ≡ true → IfErr result (λ e. e ≡ Memory) }
-        ensures reset { IfOk result (λ b. Shows b (powered_on zeros rom.now power_on.ram.items power_on.screen.items reset)) }
+        ensures reset { IfOk result (λ b. Shows b (powered_on zeros rom.now power_on.ram.items (pages_of power_on) reset)) }
     {
         if !is_rom_length(rom.len()) {
             return Err(Fault::At(0, 1, Number::E705));
@@ -68,12 +70,13 @@ impl Board {
         let rom_start = 1_048_576 - rom.len() as u32;
         let rom = rom.to_vec(alloc)?;
         let cache = DecodeCache::new(alloc)?;
-        let (ram, screen) = power_on.into_parts();
+        let (ram, colour, monochrome) = power_on.into_parts();
         Ok(Board {
             cpu: Cpu::reset(),
             attached: Attached {
                 ram,
-                screen,
+                monochrome,
+                colour,
                 rom,
                 rom_start,
                 ports: Ports::reset(),

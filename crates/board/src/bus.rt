@@ -3,6 +3,9 @@
 ghost use Rattle.std.specs.Prelude.{◌≡◌, ◌++◌, ◌<◌};
 ghost use Rattle.ppi_kbd.specs.Chips.{ChipState};
 ghost use Rattle.word86.specs.declared.width.Width.TheVariants.{Word};
+ghost use Rattle.word86.specs.declared.page.Page.TheVariants.{Monochrome, Colour};
+ghost use Rattle.word86.specs.MemoryMap.{ram_size};
+ghost use Rattle.word86.specs.Page.{page_at};
 ghost use Rattle.cpu8086.specs.declared.bus.Store.TheVariants.{Byte};
 ghost use Rattle.cpu8086.specs.Machine.{access_at, loaded_word};
 ghost use Rattle.board.specs.World.{World, board_model, put, shown_store};
@@ -12,29 +15,34 @@ ghost use Rattle.board.specs.Inner.LawfulMemory.{load_after_store_law, ports_law
 
 use crate::attached::Attached;
 use crate::chips::{acknowledge, int_line, read_port, write_port};
-use crate::regions::{RAM_SIZE, SCREEN_START, byte_in, put, shown_store, word_in_ram};
+use crate::regions::{byte_in, put, shown_store, word_in_ram};
 use cpu8086::{Bus, Store, physical};
-use word86::{Label, Width};
+use word86::{Label, Page, RAM_SIZE, Width};
 
 impl Attached {
-    /// Stores a byte where RAM or the screen holds the address.
+    /// Stores a byte where RAM or a page holds the address.
     fn put(&mut self, address: u32, value: u8)
         ensures ram { self.new.ram.items ≡ put 0 self.old.ram.items address value }
-        ensures screen { self.new.screen.items ≡ put 0xB8000 self.old.screen.items address value }
+        ensures monochrome { self.new.monochrome.items ≡ put (page_at Monochrome) self.old.monochrome.items address value }
+        ensures colour { self.new.colour.items ≡ put (page_at Colour) self.old.colour.items address value }
         ensures rom { self.new.rom ≡ self.old.rom }
         ensures ports { self.new.ports ≡ self.old.ports }
     {
         put(self.ram.as_mut_slice(), 0, address, value);
-        put(self.screen.as_mut_slice(), SCREEN_START, address, value);
+        let monochrome = Page::Monochrome.address();
+        put(self.monochrome.as_mut_slice(), monochrome, address, value);
+        let colour = Page::Colour.address();
+        put(self.colour.as_mut_slice(), colour, address, value);
     }
 
     /// Stores a byte in RAM, as most stores do: the screen is not looked at.
-    #[tactic(auto, using(crate::proofs::Stores::below_screen))]
+    #[tactic(auto, using(crate::proofs::Stores::below_monochrome, crate::proofs::Stores::below_colour))]
     #[inline(always)]
     fn put_in_ram(&mut self, address: u32, value: u8)
-        requires { address < 131072 }
+        requires { address < ram_size }
         ensures ram { self.new.ram.items ≡ put 0 self.old.ram.items address value }
-        ensures screen { self.new.screen.items ≡ put 0xB8000 self.old.screen.items address value }
+        ensures monochrome { self.new.monochrome.items ≡ put (page_at Monochrome) self.old.monochrome.items address value }
+        ensures colour { self.new.colour.items ≡ put (page_at Colour) self.old.colour.items address value }
         ensures rom { self.new.rom ≡ self.old.rom }
         ensures ports { self.new.ports ≡ self.old.ports }
     {
@@ -103,7 +111,12 @@ impl Bus for Attached {
         if let Some(byte) = byte_in(self.ram.as_slice(), 0, address) {
             return byte;
         }
-        if let Some(byte) = byte_in(self.screen.as_slice(), SCREEN_START, address) {
+        let monochrome = Page::Monochrome.address();
+        if let Some(byte) = byte_in(self.monochrome.as_slice(), monochrome, address) {
+            return byte;
+        }
+        let colour = Page::Colour.address();
+        if let Some(byte) = byte_in(self.colour.as_slice(), colour, address) {
             return byte;
         }
         if let Some(byte) = byte_in(self.rom.as_slice(), self.rom_start, address) {
@@ -129,7 +142,7 @@ impl Bus for Attached {
     fn store(&mut self, store: Store) -> Option<Label> {
         match store {
             Store::Byte { address, value } => {
-                if address < RAM_SIZE {
+                if (address as usize) < RAM_SIZE {
                     self.put_in_ram(address, value);
                     None
                 } else {

@@ -10,9 +10,10 @@ ghost use Rattle.board.specs.Schedule.{Text, item_of, read_lines, fault_of};
 ghost use Rattle.board.specs.Spelling.{Plan, Spells, IsPlan, lines_in};
 ghost use Rattle.board.specs.Format.{IsLineOf, HasFault};
 
-/// The laws of the board's memory: an address in RAM or on the screen has after a store what the store left there, each other
-/// address has what it had, and no store makes RAM or the screen longer or shorter. They rule out a store into the ROM that is
-/// kept, a store that changes another byte, and a region that a store moves.
+/// The laws of the board's memory: an address in RAM or on a page of the screen has after a store what the store left there, each
+/// other address has what it had, no store makes RAM or a page longer or shorter, and a word that has both bytes on the screen has
+/// them side by side on one page. They rule out a store into the ROM that is kept, a store that changes another byte, a region
+/// that a store moves, and a word's label for bytes that are apart.
 pub fn memory_laws()
     ensures { MemoryLaws }
 {}

@@ -1,26 +1,22 @@
 //! Regions of memory: bytes from an address on.
 
 ghost use Rattle.std.specs.Prelude.{◌≡◌, ◌+◌, ◌*◌, ◌-◌, ◌<◌, ◌≤◌, ◌^◌, Some, None, IfSome, if◌then◌else◌, slice_index, length};
-ghost use Rattle.board.specs.World.{lies_in, put, shown_store, screen_at, is_on_screen};
+ghost use Rattle.word86.specs.MemoryMap.{ram_size};
+ghost use Rattle.word86.specs.Page.{page_at};
+ghost use Rattle.board.specs.World.{lies_in, put, is_on, spot, byte_label, word_label, shown_store};
 
 use cpu8086::Store;
-use word86::Label;
-
-/// How many bytes RAM has, from address 0 on.
-pub(crate) const RAM_SIZE: u32 = 0x2_0000;
-
-/// The address of the screen's first byte.
-pub(crate) const SCREEN_START: u32 = 0xB_8000;
+use word86::{Label, PAGE_SIZE, Page, RAM_SIZE};
 
 /// The address of the word at an offset in a segment, if it lies in RAM and does not wrap.
 #[inline(always)]
 pub(crate) fn word_in_ram(segment: u16, offset: u16) -> Option<u32>
     ensures place { IfSome result (λ a. a ≡ segment * 16 + offset) }
-    ensures within { IfSome result (λ a. a < 131071) }
+    ensures within { IfSome result (λ a. a + 1 < ram_size) }
     ensures inside { IfSome result (λ a. offset < 65535) }
 {
     let address = u32::from(segment) * 16 + u32::from(offset);
-    if offset < 65535 && address < RAM_SIZE - 1 {
+    if offset < 65535 && (address as usize) < RAM_SIZE - 1 {
         Some(address)
     } else {
         None
@@ -47,27 +43,62 @@ pub(crate) fn put(bytes: &mut [u8], start: u32, address: u32, value: u8)
     }
 }
 
-/// The offset on the screen, if the address is there.
-fn screen_offset(address: u32) -> Option<u16>
-    ensures { result ≡ (if is_on_screen address then Some (address - screen_at) else None) }
+/// The offset in this page, if the address is there.
+fn offset_on(page: Page, address: u32) -> Option<u16>
+    ensures { result ≡ (if is_on page address then Some (address - page_at page) else None) }
 {
-    if SCREEN_START <= address && address - SCREEN_START < 4000 {
-        Some((address - SCREEN_START) as u16)
+    let start = page.address();
+    if start <= address && ((address - start) as usize) < PAGE_SIZE {
+        Some((address - start) as u16)
     } else {
         None
     }
 }
 
-/// What a store shows: a word with one byte on the screen shows that byte.
+/// The page that holds the address, and the offset in it, if one does.
+fn spot(address: u32) -> Option<(Page, u16)>
+    ensures { result ≡ spot address }
+{
+    if let Some(offset) = offset_on(Page::Monochrome, address) {
+        return Some((Page::Monochrome, offset));
+    }
+    let offset = offset_on(Page::Colour, address)?;
+    Some((Page::Colour, offset))
+}
+
+/// The label of a byte that was stored at this offset of the page.
+fn byte_label(page: Page, offset: u16, value: u8) -> Label
+    ensures { result ≡ byte_label page offset value }
+{
+    match page {
+        Page::Monochrome => Label::Mono(offset, value),
+        Page::Colour => Label::Scr(offset, value),
+    }
+}
+
+/// The label of a word that was stored with its low byte at this offset of the page.
+fn word_label(page: Page, offset: u16, value: u16) -> Label
+    ensures { result ≡ word_label page offset value }
+{
+    match page {
+        Page::Monochrome => Label::MonoW(offset, value),
+        Page::Colour => Label::ScrW(offset, value),
+    }
+}
+
+/// What a store shows: a word with one byte on a page shows that byte.
 pub(crate) fn shown_store(store: Store) -> Option<Label>
     ensures { result ≡ shown_store store }
 {
     match store {
-        Store::Byte { address, value } => Some(Label::Scr(screen_offset(address)?, value)),
-        Store::Word { low, high, value } => match (screen_offset(low), screen_offset(high)) {
-            (Some(offset), Some(_)) => Some(Label::ScrW(offset, value)),
-            (Some(offset), None) => Some(Label::Scr(offset, (value % 256) as u8)),
-            (None, Some(offset)) => Some(Label::Scr(offset, (value / 256) as u8)),
+        Store::Byte { address, value } => {
+            let (page, offset) = spot(address)?;
+            Some(byte_label(page, offset, value))
+        }
+        Store::Word { low, high, value } => match (spot(low), spot(high)) {
+            (Some((page, offset)), Some(_)) => Some(word_label(page, offset, value)),
+            (Some((page, offset)), None) => Some(byte_label(page, offset, (value % 256) as u8)),
+            (None, Some((page, offset))) => Some(byte_label(page, offset, (value / 256) as u8)),
             (None, None) => None,
         },
     }

@@ -19,7 +19,7 @@ pub struct Schedule {
 }
 
 impl Schedule {
-    /// The byte that every place of RAM and of the screen holds at power-on: FILL's, or 0.
+    /// The byte that every place of RAM and of both pages of the screen holds at power-on: FILL's, or 0.
     pub fn fill(&self) -> u8
         ensures { result ≡ self.now.fill }
     {

@@ -3,7 +3,7 @@ use Rattle.std.specs.Prelude.{ℕ, List, [], ◌∷◌, ◌++◌, ◌+◌, ◌/�
 use Rattle.word86.specs.Number.{number_text}
 use Rattle.word86.specs.declared.number.Number.{Number}
 use Rattle.word86.specs.declared.label.Label.{Label}
-use Rattle.word86.specs.declared.label.Label.TheVariants.{In, InW, Out, OutW, Scr, ScrW, Ack, Tick, Key}
+use Rattle.word86.specs.declared.label.Label.TheVariants.{In, InW, Out, OutW, Scr, ScrW, Mono, MonoW, Ack, Tick, Key}
 
 -- a hexadecimal digit in capitals, and numbers of two, four and five digits
 abbrev pub hex_digit : ℕ → ℕ
@@ -41,6 +41,8 @@ label_line (Out port v) = byte_line (codes "OUT ") port v
 label_line (OutW port v) = word_line (codes "OUTW ") port v
 label_line (Scr place v) = byte_line (codes "SCR ") place v
 label_line (ScrW place v) = word_line (codes "SCRW ") place v
+label_line (Mono place v) = byte_line (codes "MONO ") place v
+label_line (MonoW place v) = word_line (codes "MONOW ") place v
 label_line (Ack n) = short_line (codes "ACK ") n
 label_line (Tick k) = decimal_line (codes "TICK ") k
 label_line (Key h) = short_line (codes "KEY ") h

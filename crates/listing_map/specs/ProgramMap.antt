@@ -1,6 +1,8 @@
 -- The map of a program: its ROM, its names with their places, its handlers, its stack and its start.
 use Rattle.std.specs.Prelude.{ℕ, zero, suc, ◌+◌, ◌/◌, max, if◌then◌else◌, List, [], ◌∷◌, ◌++◌, length, drop, slice_index, slice_range, Option, Some, None, codes, decimal}
 use Rattle.std.specs.List.{concat}
+use Rattle.word86.specs.declared.page.Page.{Page}
+use Rattle.word86.specs.declared.page.Page.TheVariants.{Monochrome, Colour}
 use Rattle.frames.specs.declared.counting.Stack.{Stack}
 use Rattle.plm_decl.specs.declared.names.Names.{Names}
 use Rattle.plm_decl.specs.declared.names.Object.{Object}
@@ -24,8 +26,13 @@ abbrev pub object_lines : List ℕ → ℕ → List Object → List (List ℕ)
 object_lines offsets number [] = []
 object_lines offsets number (o ∷ os) = place_line (codes "OBJECT ") (slice_index offsets number) o.size o.path.items ∷ object_lines offsets (number + 1) os
 
+-- the word of a name on a page
+abbrev pub page_word : Page → List ℕ
+page_word Monochrome = codes "MONO "
+page_word Colour = codes "SCREEN "
+
 abbrev pub screen_line : ScreenName → List ℕ
-screen_line s = place_line (codes "SCREEN ") s.offset s.size s.path.items
+screen_line s = place_line (page_word s.page) s.offset s.size s.path.items
 
 -- the objects' lines but the first `done`; in front of a screen name's line stand those of all objects that are declared before it
 abbrev pub declared_lines : List (List ℕ) → ℕ → List ScreenName → List ℕ

@@ -48,6 +48,8 @@ pub fn put_label<S: Sink>(label: &Label, sink: &mut S) -> Result<(), SinkFault>
         Label::OutW(port, v) => put_whole_word_line(sink, b'O', b'U', b'T', b'W', port, v),
         Label::Scr(place, v) => put_whole_line(sink, b'S', b'C', b'R', place, v),
         Label::ScrW(place, v) => put_whole_word_line(sink, b'S', b'C', b'R', b'W', place, v),
+        Label::Mono(place, v) => put_byte_line(sink, b"MONO ", place, v),
+        Label::MonoW(place, v) => put_word_line(sink, b"MONOW ", place, v),
         Label::Ack(n) => put_short_line(sink, b"ACK ", n),
         Label::Tick(k) => put_decimal_line(sink, b"TICK ", u32::from(k)),
         Label::Key(h) => put_short_line(sink, b"KEY ", h),

@@ -7,7 +7,7 @@ ghost use Rattle.word86.specs.declared.fault.Fault.TheVariants.{At};
 ghost use Rattle.word86.specs.declared.number.Number.TheVariants.{E704};
 ghost use Rattle.plm_decl.specs.Names.{procedure_of};
 ghost use Rattle.plm_decl.specs.Statements as declared;
-ghost use Rattle.listing_map.specs.ProgramMap.{rom_line, place_line, object_lines, screen_line, declared_lines, handler_line, handler_lines, stack_line, start_line, map_text};
+ghost use Rattle.listing_map.specs.ProgramMap.{rom_line, place_line, object_lines, page_word, screen_line, declared_lines, handler_line, handler_lines, stack_line, start_line, map_text};
 ghost use Rattle.listing_map.specs.ProgramMap as spec;
 
 use crate::lines::CANNOT_WRITE;
@@ -17,11 +17,12 @@ use itoa::Buffer;
 use layout_link::Image;
 use plm_decl::{Names, Object, Procedure, ScreenName};
 use plm_syntax::Linkage;
-use word86::{Fault, Sink, SinkFault};
+use word86::{Fault, Page, Sink, SinkFault};
 
-/// Writes the map of a program: how large its ROM is, each object and each name on the screen with its place and its size, the
-/// procedures that handle interrupts, the most bytes on the stack, and the turns of its start. The one refusal is E704, where
-/// the sink failed; what it took is then a beginning of the text. It takes no memory.
+/// Writes the map of a program: how large its ROM is, each object and each name on a page of the screen with its place and its
+/// size, the procedures that handle interrupts, the most bytes on the stack, and the turns of its start. A name's place on a page
+/// counts from the page's first byte. The one refusal is E704, where the sink failed; what it took is then a beginning of the
+/// text. It takes no memory.
 pub fn map<S: Sink>(image: &Image, names: &Names, sink: &mut S) -> Result<(), Fault>
     ensures text { Writes (S.taken sink.old) (S.taken sink.new) (S.failures sink.old) (S.failures sink.new) (map_text image.now names.now) result }
     ensures fault { IfErr result (λ e. e ≡ At 0 1 E704) }
@@ -105,12 +106,22 @@ fn put_screen_name<S: Sink>(
     match put_objects(sink, offsets, objects, done, name.objects_before) {
         Ok(()) => put_place(
             sink,
-            b"SCREEN ",
+            page_word(name.page),
             name.offset,
             name.size,
             name.path.as_slice(),
         ),
         Err(fault) => Err(fault),
+    }
+}
+
+/// The word with which the line of a name on this page begins.
+fn page_word(page: Page) -> &'static [u8]
+    ensures { result.now ≡ page_word page }
+{
+    match page {
+        Page::Monochrome => b"MONO ",
+        Page::Colour => b"SCREEN ",
     }
 }
 

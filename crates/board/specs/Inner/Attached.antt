@@ -6,4 +6,4 @@ use Rattle.board.specs.Inner.Settled.{chips_of}
 
 -- memory, and the settled state of the chips
 abbrev pub world_of : Attached → World ChipState
-world_of a = record { ram = a.ram.items; screen = a.screen.items; rom = a.rom.items; chips = chips_of a.ports }
+world_of a = record { ram = a.ram.items; screen = record { monochrome = a.monochrome.items; colour = a.colour.items }; rom = a.rom.items; chips = chips_of a.ports }

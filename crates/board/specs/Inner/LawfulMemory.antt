@@ -8,7 +8,9 @@ use Rattle.cpu8086.specs.declared.bus.Store.{Store}
 use Rattle.cpu8086.specs.declared.bus.Store.TheVariants as stores
 use Rattle.cpu8086.specs.BusModel.{LoadAfterStore, PortsKeepMemory, stored}
 use Rattle.word86.specs.Chips.{Chips}
-use Rattle.board.specs.World.{lies_in, region, put, after_store, memory_byte, board_model, screen_at}
+use Rattle.word86.specs.declared.page.Page.TheVariants.{Monochrome, Colour}
+use Rattle.word86.specs.Page.{Pages, page_at}
+use Rattle.board.specs.World.{lies_in, region, put, after_store, memory_byte, is_kept, screen_after, board_model}
 
 chosen : {A : Type 0} (b : Bool) (x y : A) → ((b ≡ true) × (cond b x y ≡ x)) ⊎ ((b ≡ false) × (cond b x y ≡ y))
 chosen true x y = inl (refl, refl)
@@ -66,18 +68,27 @@ region_put base l s b beyond =
       | inr w ↦ ap (λ t. if t then slice_index (after_store base l s) (b - base) else beyond) (len ∙ w.0) ∙ sym w.1
     ]
 
-nested : (t u : Bool) (f : ℕ → ℕ) (x y z : ℕ) → cond t (f x) (cond u (f y) z) ≡ cond (t || u) (f (cond t x (cond u y z))) (cond t x (cond u y z))
-nested true u f x y z = refl
-nested false true f x y z = refl
-nested false false f x y z = refl
+nested : (t u v : Bool) (f : ℕ → ℕ) (x y z w : ℕ)
+    → cond t (f x) (cond u (f y) (cond v (f z) w)) ≡ cond (t || (u || v)) (f (cond t x (cond u y (cond v z w)))) (cond t x (cond u y (cond v z w)))
+nested true u v f x y z w = refl
+nested false true v f x y z w = refl
+nested false false true f x y z w = refl
+nested false false false f x y z w = refl
 
-pub byte_after_store : (ram screen rom : List ℕ) (s : Store) (a : ℕ)
-    → memory_byte (after_store 0 ram s) (after_store screen_at screen s) rom a ≡ (if lies_in 0 ram a || lies_in screen_at screen a then stored s a (memory_byte ram screen rom a) else memory_byte ram screen rom a)
+pub byte_after_store : (ram : List ℕ) (screen : Pages) (rom : List ℕ) (s : Store) (a : ℕ)
+    → memory_byte (after_store 0 ram s) (screen_after screen s) rom a ≡ (if is_kept ram screen a then stored s a (memory_byte ram screen rom a) else memory_byte ram screen rom a)
 byte_after_store ram screen rom s a =
     let beyond = region (0x100000 - length rom) rom a 255 in
-    region_put 0 ram s a (region screen_at (after_store screen_at screen s) a beyond)
-    ∙ ap (λ x. if lies_in 0 ram a then stored s a (slice_index ram (a - 0)) else x) (region_put screen_at screen s a beyond)
-    ∙ nested (lies_in 0 ram a) (lies_in screen_at screen a) (λ x. stored s a x) (slice_index ram (a - 0)) (slice_index screen (a - screen_at)) beyond
+    let low = page_at Monochrome in
+    let high = page_at Colour in
+    let in_ram = lies_in 0 ram a in
+    let in_low = lies_in low screen.monochrome a in
+    let byte = stored s a (slice_index ram (a - 0)) in
+    let low_byte = stored s a (slice_index screen.monochrome (a - low)) in
+    region_put 0 ram s a (region low (after_store low screen.monochrome s) a (region high (after_store high screen.colour s) a beyond))
+    ∙ ap (λ x. if in_ram then byte else x) (region_put low screen.monochrome s a (region high (after_store high screen.colour s) a beyond))
+    ∙ ap (λ x. if in_ram then byte else if in_low then low_byte else x) (region_put high screen.colour s a beyond)
+    ∙ nested in_ram in_low (lies_in high screen.colour a) (λ x. stored s a x) (slice_index ram (a - 0)) (slice_index screen.monochrome (a - low)) (slice_index screen.colour (a - high)) beyond
 
 pub load_after_store_law : {P : Type 0} (c : Chips P) → LoadAfterStore (board_model c)
 load_after_store_law c w s a h = byte_after_store w.ram w.screen w.rom s a

@@ -14,5 +14,6 @@ returns-then-self-address c =
     rw c.deref.ensures.value
     (rom_window settled_chips (world_of a) c.args.address (c.args.address - a.rom_start) a.rom_start (omega (arith, c.if-self-address.true)) (omega (arith, a.rom_ends))
     (omega (arith, a.ram_is_whole, a.rom_is_high, c.if-self-address.true))
-    (omega (arith, a.screen_is_whole, a.rom_is_high, c.if-self-address.true))
+    (record { monochrome = omega (arith, a.monochrome_is_whole, a.monochrome.ok.0); colour = omega (arith, a.colour_is_whole, a.colour.ok.0) })
+    (omega (arith, a.rom_is_high, c.if-self-address.true))
     (omega (arith, a.rom_ends, c.requires, c.if-self-address.true)))
