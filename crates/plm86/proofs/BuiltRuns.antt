@@ -10,6 +10,7 @@ use Rattle.cpu8086.specs.Turn.{zeros}
 use Rattle.ppi_kbd.specs.Chips.{reset}
 use Rattle.board.specs.declared.board.Board.{Board}
 use Rattle.board.specs.declared.run.End.{End}
+use Rattle.word86.specs.PowerOn.{pages_of}
 use Rattle.board.specs.Machine.{power_on as powered_on}
 use Rattle.board.specs.Rom.{is_rom_length}
 use Rattle.board.specs.Run.{Ran, Broke}
@@ -33,7 +34,7 @@ module _ (texts : List (List ℕ)) (size : RomSize) (memory : PowerOn) (due : �
 
   module _ (image : Image) (built : IsBuilt texts size image) (board : Board) (old new : Option (List ℕ)) (before after : ℕ) where
     abbrev RunIs : Result End Fault → Type 0
-    RunIs r = MatchResult r (Ran due stop (powered_on zeros image.rom.items memory.ram.items memory.screen.items reset) board old new before after) (λ f. Broke due stop (powered_on zeros image.rom.items memory.ram.items memory.screen.items reset) board old new before after)
+    RunIs r = MatchResult r (Ran due stop (powered_on zeros image.rom.items memory.ram.items (pages_of memory) reset) board old new before after) (λ f. Broke due stop (powered_on zeros image.rom.items memory.ram.items (pages_of memory) reset) board old new before after)
 
     pub has_run : (r : Result End Fault) → RunIs r → IfOk r (HasRun texts size memory due stop old new before after)
     has_run (Ok e) run = record { image = image; built = built; board = board; ran = run }

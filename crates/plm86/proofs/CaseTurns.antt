@@ -1,4 +1,5 @@
 -- A DO CASE in the language, in the intermediate code and in instructions.
+use Rattle.std.proofs.lemmas.Option.{same_Some}
 use Rattle.std.proofs.Common.{◌≡◌, ℕ, zero, suc, ◌+◌, ◌<◌, ◌≤◌, ◌⊎◌, ⊎_elim, inl, inr, List, [], ◌∷◌, ◌++◌, length, Option, Some, None, refl, sym, ap, ◌∙◌, subst, arith, slice_get, length-append}
 use Rattle.plm_type.specs.Rest.{Value, Statement, Case, Statements, End, Then, Returned, Procedure}
 use Rattle.i86_table.specs.Contexts.{Context, Working}
@@ -8,7 +9,7 @@ use Rattle.icode.specs.declared.code.Routine.{Routine}
 use Rattle.lower.specs.Code.{all_of, entries, switching, statement_code, cases_code}
 use Rattle.select.specs.Promise.{Image, IsSelected}
 use Rattle.select.specs.Cases.{SilentlyComes, LeadsSoon, CasesComeSoon}
-use Rattle.plm86.specs.Cases.{chosen, number_of, StandFrom, SilentlyBecomes, IsReachedSoon, IsPassedSoon, CasesAreReachedSoon}
+use Rattle.plm86.specs.Cases.{chosen, cases_after, number_of, StandFrom, behind_case, SilentlyBecomes, IsReachedSoon, IsPassedSoon, CasesAreReachedSoon}
 
 -- ---- options
 
@@ -19,12 +20,6 @@ IsStatement (Some s) = Unit {0}
 abbrev IsList : Option (List Instruction) → Type 0
 IsList None = ⊥
 IsList (Some c) = Unit {0}
-
-same_list : (b c : List Instruction) → Some b ≡ Some c → b ≡ c
-same_list b c e = ap (λ (o : Option (List Instruction)). elim o [ Some y ↦ y | None ↦ b ]) e
-
-same_statement : (s t : Statement) → Some s ≡ Some t → s ≡ t
-same_statement s t e = ap (λ (o : Option Statement). elim o [ Some y ↦ y | None ↦ s ]) e
 
 abbrev distance_of : Option Instruction → ℕ
 distance_of (Some (op.Case d)) = d
@@ -48,7 +43,7 @@ module _ (offsets sizes : List ℕ) (procedures : List Procedure) (later : State
   comes_to_case : (v : ℕ) (cases : Statements) (s : Statement) → chosen v cases ≡ Some s → SilentlyBecomes offsets sizes procedures (Then (Case (Value v) cases) later) (Then s later)
   comes_to_case v End s e = absurd (subst IsStatement (sym e) tt)
   comes_to_case v (Returned x) s e = absurd (subst IsStatement (sym e) tt)
-  comes_to_case zero (Then t cases) s e = (1, (Then t later, refl, ap (λ (y : Statement). Then y later) (same_statement t s e)))
+  comes_to_case zero (Then t cases) s e = (1, (Then t later, refl, ap (λ (y : Statement). Then y later) (same_Some t s e)))
   comes_to_case (suc v) (Then t cases) s e = let r = comes_to_case v cases s e in (suc r.0, (Then (Case (Value v) cases) later, refl, r.1))
 
   comes_past : (v : ℕ) (cases : Statements) → chosen v cases ≡ None → SilentlyBecomes offsets sizes procedures (Then (Case (Value v) cases) later) later
@@ -89,16 +84,20 @@ entry_at before (c ∷ cs) rest (suc v) lt = let r = entry_at (before + length c
 
 case_fits : (cs : List (List Instruction)) (v : ℕ) (c : List Instruction) → slice_get cs v ≡ Some c → before_case v cs + length c ≤ length (all_of cs)
 case_fits [] v c e = absurd (subst IsList (sym e) tt)
-case_fits (b ∷ cs) zero c e = let l = ap length (same_list b c e) in omega (arith, l, length-append b (all_of cs))
+case_fits (b ∷ cs) zero c e = let l = ap length (same_Some b c e) in omega (arith, l, length-append b (all_of cs))
 case_fits (b ∷ cs) (suc v) c e = omega (arith, case_fits cs v c e, length-append b (all_of cs))
 
 case_at : (cs : List (List Instruction)) (v : ℕ) (c : List Instruction) → slice_get cs v ≡ Some c → (i : ℕ) → i < length c → slice_get (all_of cs) (before_case v cs + i) ≡ slice_get c i
 case_at [] v c e i lt = absurd (subst IsList (sym e) tt)
 case_at (b ∷ cs) zero c e i lt =
-    let s = same_list b c e in
+    let s = same_Some b c e in
     let l = ap length s in
     ap (slice_get (b ++ all_of cs)) (omega arith) ∙ get_front b (all_of cs) i (omega (arith, lt, l)) ∙ ap (λ z. slice_get z i) s
 case_at (b ∷ cs) (suc v) c e i lt = get_back b (all_of cs) (before_case v cs + i) (length b + before_case v cs + i) (omega arith) ∙ case_at cs v c e i lt
+
+-- the code of a case, by where its statement ends, with the jump at its end
+abbrev with_jump : (behind : ℕ) → (ℕ → List Instruction) → List Instruction
+with_jump behind code = code (1 + behind) ++ op.Ahead behind ∷ []
 
 module _ (procedures : List Procedure) (around : _) where
   number_is : (exit : ℕ) (cases : Statements) → length (cases_code procedures around exit cases) ≡ number_of cases
@@ -106,14 +105,13 @@ module _ (procedures : List Procedure) (around : _) where
   number_is exit (Returned x) = refl
   number_is exit (Then s cases) = ap suc (number_is exit cases)
 
-  case_code : (exit v : ℕ) (cases : Statements) (s : Statement) → chosen v cases ≡ Some s
-      → (e : ℕ) × (more : List Instruction) × (slice_get (cases_code procedures around exit cases) v ≡ Some (statement_code procedures around e s ++ more))
-  case_code exit v End s h = absurd (subst IsStatement (sym h) tt)
-  case_code exit v (Returned x) s h = absurd (subst IsStatement (sym h) tt)
-  case_code exit zero (Then t cases) s h =
-      let behind = length (all_of (cases_code procedures around exit cases)) + exit in
-      (1 + behind, op.Ahead behind ∷ [], ap (λ (y : Statement). Some (statement_code procedures around (1 + behind) y ++ op.Ahead behind ∷ [])) (same_statement t s h))
-  case_code exit (suc v) (Then t cases) s h = case_code exit v cases s h
+  code_is : (exit v : ℕ) (cases : Statements) (s : Statement) → chosen v cases ≡ Some s
+      → slice_get (cases_code procedures around exit cases) v ≡ Some (with_jump (behind_case exit (cases_code procedures around exit (cases_after v cases))) (λ e. statement_code procedures around e s))
+  code_is exit v End s h = absurd (subst IsStatement (sym h) tt)
+  code_is exit v (Returned x) s h = absurd (subst IsStatement (sym h) tt)
+  code_is exit zero (Then t cases) s h =
+      ap (λ (y : Statement). Some (with_jump (behind_case exit (cases_code procedures around exit cases)) (λ e. statement_code procedures around e y))) (same_Some t s h)
+  code_is exit (suc v) (Then t cases) s h = code_is exit v cases s h
 
 -- what stands in a table and behind it
 in_cases : (all : List Instruction) (k exit : ℕ) (cs : List (List Instruction)) → StandFrom all k (switching cs exit) → (j : ℕ) → j < length (all_of cs) → slice_get all (k + (1 + (length cs + (1 + j)))) ≡ slice_get (all_of cs) j
@@ -155,7 +153,7 @@ module _ (law : CasesComeSoon) (x : Image) (all : IsSelected x) (procedures : Li
       let e : k + 1 + g.ax ≡ k + suc g.ax = omega arith in
       ap (slice_get (x.icode r)) e ∙ h (suc g.ax) (omega (arith, size, lt)) ∙ (entry_at 0 cs (op.Ahead (length (all_of cs) + exit) ∷ all_of cs) g.ax lt).1
 
-  reached : (s : Statement) → chosen g.ax cases ≡ Some s → IsReachedSoon x.offsets x.sizes procedures x around r k g cases later s
+  reached : (s : Statement) → chosen g.ax cases ≡ Some s → IsReachedSoon x.offsets x.sizes procedures x around exit r k g cases later s
   reached s is =
       let below = chosen_below g.ax cases s is in
       let number = number_is procedures around exit cases in
@@ -164,19 +162,17 @@ module _ (law : CasesComeSoon) (x : Image) (all : IsSelected x) (procedures : Li
       let leads = (law x all r k (length cs) table_at g small).0 lt in
       let same = ap distance_of (sym leads.1 ∙ entry_is lt) in
       let far = here.2 in
-      let case = case_code procedures around exit g.ax cases s is in
-      let c = statement_code procedures around case.0 s ++ case.1 in
-      let fits = case_fits cs g.ax c case.2 in
-      let both = length-append (statement_code procedures around case.0 s) case.1 in
+      let case = code_is procedures around exit g.ax cases s is in
+      let c = with_jump (behind_case exit (cases_code procedures around exit (cases_after g.ax cases))) (λ e. statement_code procedures around e s) in
+      let fits = case_fits cs g.ax c case in
       let place = k + 1 + g.ax + 1 + leads.0 in
       record {
         meant = comes_to_case x.offsets x.sizes procedures later g.ax cases s is;
-        exit = case.0;
         place = place;
         stands = λ i less.
             let j = before_case g.ax cs + i in
             let e : place + i ≡ k + (1 + (length cs + (1 + j))) = omega (arith, same, far) in
-            ap (slice_get (x.icode r)) e ∙ in_cases (x.icode r) k exit cs h j (omega (arith, fits, both, less)) ∙ case_at cs g.ax c case.2 i (omega (arith, both, less)) ∙ get_front (statement_code procedures around case.0 s) case.1 i less;
+            ap (slice_get (x.icode r)) e ∙ in_cases (x.icode r) k exit cs h j (omega (arith, fits, less)) ∙ case_at cs g.ax c case i less;
         turns = one_more x 7 r k place g (one_more x 6 r k place g (one_more x 5 r k place g leads.2));
       }
 

@@ -1,6 +1,7 @@
 -- What texts declare is one program: names that are declared by the same texts are alike, and what is asked of them has one answer.
 use Rattle.std.proofs.Common.{◌≡◌, ℕ, suc, ◌+◌, ◌<◌, ◌⊎◌, inl, inr, List, [], ◌∷◌, ◌++◌, length, map, get_or, refl, sym, ap, ap₂, ◌∙◌, subst}
 use Rattle.std.proofs.lemmas.Simd.{map-map}
+use Rattle.word86.specs.MemoryMap.{data_start}
 use Rattle.word86.specs.declared.fault.Fault.{Fault}
 use Rattle.plm_token.specs.Scanner.{Lexeme}
 use Rattle.plm_syntax.specs.Tree.{ModuleT}
@@ -68,11 +69,11 @@ declared_alike once texts a b x y =
 -- the stretches of objects, by what is told of these
 abbrev stretches_of : (offsets : List ℕ) (variables : List Variable) (k : ℕ) → List ObjectR → List Stretch
 stretches_of offsets variables k [] = []
-stretches_of offsets variables k (o ∷ os) = joined (1024 + slice_index offsets k) (initial_bytes offsets variables o.initial) (stretches_of offsets variables (k + 1) os)
+stretches_of offsets variables k (o ∷ os) = joined (data_start + slice_index offsets k) (initial_bytes offsets variables o.initial) (stretches_of offsets variables (k + 1) os)
 
 stretches_told : (offsets : List ℕ) (variables : List Variable) (k : ℕ) (os : List Object) → stretches offsets variables k os ≡ stretches_of offsets variables k (map object_of os)
 stretches_told offsets variables k [] = refl
-stretches_told offsets variables k (o ∷ os) = ap (joined (1024 + slice_index offsets k) (initial_bytes offsets variables o.initial.items)) (stretches_told offsets variables (k + 1) os)
+stretches_told offsets variables k (o ∷ os) = ap (joined (data_start + slice_index offsets k) (initial_bytes offsets variables o.initial.items)) (stretches_told offsets variables (k + 1) os)
 
 module _ (a b : Names) (h : AreAlike a b) where
   sizes_alike : sizes_of a ≡ sizes_of b

@@ -4,6 +4,7 @@ use Rattle.word86.specs.declared.fault.Fault.{Fault}
 use Rattle.word86.specs.declared.fault.Fault.TheVariants.{Memory, At}
 use Rattle.word86.specs.declared.number.Number.{Number}
 use Rattle.word86.specs.declared.number.Number.TheVariants.{E501, E601}
+use Rattle.word86.specs.MemoryMap.{vectors_size, data_start, stack_room}
 use Rattle.plm_token.specs.Scanner.{Lexeme, scan_of}
 use Rattle.plm_syntax.specs.Tree.{ModuleT}
 use Rattle.plm_syntax.specs.Literals.{expanded}
@@ -143,11 +144,11 @@ pub record MeansNames (names : Names) (image : Image) : Type 0 where
 -- the address of an initial byte of an object, where the objects lie at these offsets
 abbrev pub IsInitialByte : Names → (offsets : List ℕ) → (address : ℕ) → Type 0
 IsInitialByte names offsets a =
-    (k : ℕ) × (o : Object) × (slice_get names.objects.items k ≡ Some o) × (i : ℕ) × (i < length (initial_bytes offsets names.variables.items o.initial.items)) × (a ≡ 1024 + slice_index offsets k + i)
+    (k : ℕ) × (o : Object) × (slice_get names.objects.items k ≡ Some o) × (i : ℕ) × (i < length (initial_bytes offsets names.variables.items o.initial.items)) × (a ≡ data_start + slice_index offsets k + i)
 
 -- start-up sets the vectors and the objects' initial bytes
 abbrev pub IsSet : Names → (offsets : List ℕ) → (address : ℕ) → Type 0
-IsSet names offsets a = (a < 1024) ⊎ IsInitialByte names offsets a
+IsSet names offsets a = (a < vectors_size) ⊎ IsInitialByte names offsets a
 
 -- Start-up sets nothing else in RAM, makes no label but those of events, and leads to main, which begins at this place, in its turns and no
 -- sooner.
@@ -165,7 +166,7 @@ pub record IsBuilt (texts : List (List ℕ)) (size : RomSize) (image : Image) : 
   pub placement : IsPlacement image.placement.offsets.items (sizes_of names)
   pub size_is : length image.rom.items ≡ bytes_in size
   pub start : image.start_turns ≤ 4096 + initial_size names
-  pub stack : image.stack.main + image.stack.handler ≤ 4094
+  pub stack : image.stack.main + image.stack.handler ≤ stack_room
 
 -- the program has more than 16 nodes for each KiB of the ROM, or its initial bytes fill more than a quarter of it
 abbrev pub IsTooLarge : Names → RomSize → Type 0

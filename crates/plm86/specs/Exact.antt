@@ -4,6 +4,7 @@ use Rattle.std.specs.Prelude.{◌≡◌, ℕ, ◌+◌, ◌<◌, ◌⊎◌, List,
 use Rattle.word86.specs.declared.fault.Fault.{Fault}
 use Rattle.word86.specs.declared.fault.Fault.TheVariants.{Memory, At}
 use Rattle.word86.specs.declared.number.Number.TheVariants.{E501, E601}
+use Rattle.word86.specs.MemoryMap.{stack_room}
 use Rattle.plm_decl.specs.declared.names.Names.{Names}
 use Rattle.icode.specs.declared.code.Code.{Code}
 use Rattle.icode.specs.Counted.{IsCounted}
@@ -35,7 +36,7 @@ module _ (names : Names) where
 
   -- main and an interrupt take more of the stack together than there is
   abbrev pub IsTooDeep : Type 0
-  IsTooDeep = (main : ℕ) × (handler : ℕ) × TakesStack main handler × (4094 < main + handler)
+  IsTooDeep = (main : ℕ) × (handler : ℕ) × TakesStack main handler × (stack_room < main + handler)
 
   module _ (size : RomSize) where
     -- start-up, the parts, the initial bytes and the far jump of the reset do not fit the ROM

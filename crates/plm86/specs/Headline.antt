@@ -5,6 +5,8 @@ use Rattle.word86.specs.declared.label.Label.{Label}
 use Rattle.word86.specs.Access.{Access}
 use Rattle.word86.specs.Event.{event_label}
 use Rattle.word86.specs.Chips.{Chips}
+use Rattle.word86.specs.MemoryMap.{ram_size, data_segment, data_start, data_end, stack_top, screen_segment, code_segment}
+use Rattle.word86.specs.Page.{Pages, AreWhole}
 use Rattle.word86.specs.Action.{Shared, Action}
 use Rattle.plm_meaning.specs.System.{Choice, System, State, first_state, steps, FitsTurns, HasNoBad, KeepsPace, joined}
 use Rattle.plm_meaning.specs.Store.{Store, object, shared}
@@ -35,22 +37,22 @@ pub record Firmware : Type 0 where
 -- each vector leads to its entry
 pub record Vectors {W : Type 0} (m : BusModel W) (entry : ℕ → ℕ) (w : W) : Type 0 where
   pub offset : (n : ℕ) → n < 256 → loaded_word m w 0 (4 * n) ≡ entry n
-  pub segment : (n : ℕ) → n < 256 → loaded_word m w 0 (4 * n + 2) ≡ 0xF000
+  pub segment : (n : ℕ) → n < 256 → loaded_word m w 0 (4 * n + 2) ≡ code_segment
 
--- The board has this store: each object has its size, and its bytes are in RAM from its place in segment 0040H on; the screen's
--- memory is the store's screen; and the chips are the store's.
+-- The board has this store: each object has its size, and its bytes are in RAM from its place in segment 0040H on; both pages of the
+-- screen are the store's; and the chips are the store's.
 pub record HasStore {P : Type 0} (placed size : ℕ → ℕ) (s : Store P) (w : World P) : Type 0 where
   pub sizes : (k : ℕ) → length (object s k) ≡ size k
-  pub bytes : (k i : ℕ) → i < size k → slice_index w.ram (1024 + placed k + i) ≡ slice_index (object s k) i
+  pub bytes : (k i : ℕ) → i < size k → slice_index w.ram (data_start + placed k + i) ≡ slice_index (object s k) i
   pub screen : w.screen ≡ s.screen
   pub chips : w.chips ≡ s.chips
 
 -- code is in segment 0F000H, objects and the stack in 0040H, and the screen in 0B000H
 pub record HasSegments (r : Regs) : Type 0 where
-  pub cs : r.cs ≡ 0xF000
-  pub ds : r.ds ≡ 0x40
-  pub ss : r.ss ≡ 0x40
-  pub es : r.es ≡ 0xB000
+  pub cs : r.cs ≡ code_segment
+  pub ds : r.ds ≡ data_segment
+  pub ss : r.ss ≡ data_segment
+  pub es : r.es ≡ screen_segment
 
 -- the processor has not come to bytes that are no instruction
 abbrev pub IsGoing : Phase → Type 0
@@ -78,14 +80,14 @@ is_serving (State main (Some h) on halted w silents switches) = true
 -- `main_sp` is where the stack pointer is while main runs, and where it was when the interrupt procedure that runs was entered. It
 -- is at most main's bytes below the top of the stack, 0FFFEH, and an interrupt procedure goes at most its own bytes below it.
 abbrev pub IsBounded : (main handler main_sp : ℕ) → (serving : Bool) → (sp : ℕ) → Type 0
-IsBounded main handler main_sp false sp = (0xFFFE ≤ main_sp + main) × (sp ≡ main_sp)
-IsBounded main handler main_sp true sp = (0xFFFE ≤ main_sp + main) × (main_sp ≤ sp + handler)
+IsBounded main handler main_sp false sp = (stack_top ≤ main_sp + main) × (sp ≡ main_sp)
+IsBounded main handler main_sp true sp = (stack_top ≤ main_sp + main) × (main_sp ≤ sp + handler)
 
 module _ {P : Type 0} (c : Chips P) where
   abbrev pub board_turn : List Event → Board (World P) → Board (World P) × List Label
   board_turn es b = turn (board_model c) (occurs c) es b
 
-  -- RAM and screen have their sizes, and ROM and vectors are as they were; the board has the store of the run's state; the segments are
+  -- RAM and both pages have their sizes, and ROM and vectors are as they were; the board has the store of the run's state; the segments are
   -- the program's, in an interrupt procedure too; the processor goes on; and the stack pointer is in its bounds and in the stack's room
   pub record Stands {R : Type 0} (x : Firmware) (main_sp : ℕ) (s : System (Store P) R) (b : Board (World P)) : Type 0 where
     pub whole : Whole x.rom b.world
@@ -94,8 +96,8 @@ module _ {P : Type 0} (c : Chips P) where
     pub segments : HasSegments b.cpu.registers
     pub going : IsGoing b.cpu.phase
     pub bounded : IsBounded x.main x.handler main_sp (is_serving s) b.cpu.registers.sp
-    pub from_top : b.cpu.registers.sp ≤ 0xFFFE
-    pub in_room : 0xF000 ≤ b.cpu.registers.sp
+    pub from_top : b.cpu.registers.sp ≤ stack_top
+    pub in_room : data_end ≤ b.cpu.registers.sp
 
   -- no turn comes to bytes that are no instruction
   abbrev pub NeverStops : (due : List (List Event)) → Board (World P) → Type 0
@@ -141,16 +143,16 @@ module _ {P : Type 0} (c : Chips P) (x : Firmware) (R : Type 0) (next : R → Ac
 
   -- For every power-on memory, whatever words the general registers hold then, and whatever events are due turn by turn: the ROM does
   -- what the program means. The program's first store is told by the power-on memory.
-  abbrev pub RomIsCorrect : (chips : P) → (first_store : (ram screen : List ℕ) → Store P) → Type 0
+  abbrev pub RomIsCorrect : (chips : P) → (first_store : (ram : List ℕ) (screen : Pages) → Store P) → Type 0
   RomIsCorrect chips first_store =
-      (general : GeneralRegisters) (ram screen : List ℕ) → HoldWords general → length ram ≡ 0x20000 → length screen ≡ 4000
+      (general : GeneralRegisters) (ram : List ℕ) (screen : Pages) → HoldWords general → length ram ≡ ram_size → AreWhole screen
       → RunsProgram (power_on general x.rom ram screen chips) (first_store ram screen)
 
 -- ---- start-up
 
 -- the processor's next instruction is at this place of the code's segment
 abbrev pub IsAt : (place : ℕ) → Regs → Type 0
-IsAt place r = (r.cs ≡ 0xF000) × (r.ip ≡ place)
+IsAt place r = (r.cs ≡ code_segment) × (r.ip ≡ place)
 
 module _ {P : Type 0} (c : Chips P) (start_turns main_at : ℕ) where
   module _ (IsSet : (address : ℕ) → Type 0) where
@@ -161,17 +163,17 @@ module _ {P : Type 0} (c : Chips P) (start_turns main_at : ℕ) where
       pub quiet : (due : List (List Event)) → take start_turns (outputs (board_turn c) due reset) ≡ map (map event_label) (take start_turns due)
       pub orderly : (due : List (List Event)) → length due ≤ start_turns → NeverStops c due reset
       pub arrives : (due : List (List Event)) → length due ≡ start_turns → IsAt main_at (final (board_turn c) due reset).cpu.registers
-      pub keeps : (due : List (List Event)) → length due ≡ start_turns → (address : ℕ) → address < 0x20000 → ¬ IsSet address
+      pub keeps : (due : List (List Event)) → length due ≡ start_turns → (address : ℕ) → address < ram_size → ¬ IsSet address
           → slice_index (final (board_turn c) due reset).world.ram address ≡ slice_index reset.world.ram address
 
     -- for every power-on memory, whatever words the general registers hold
     abbrev pub StartsQuietly : (rom : List ℕ) (chips : P) → Type 0
     StartsQuietly rom chips =
-        (general : GeneralRegisters) (ram screen : List ℕ) → HoldWords general → length ram ≡ 0x20000 → length screen ≡ 4000
+        (general : GeneralRegisters) (ram : List ℕ) (screen : Pages) → HoldWords general → length ram ≡ ram_size → AreWhole screen
         → QuietStart (power_on general rom ram screen chips)
 
   -- before as many turns main's first instruction is never next
   abbrev pub StartsNoSooner : (rom : List ℕ) (chips : P) → Type 0
   StartsNoSooner rom chips =
-      (general : GeneralRegisters) (ram screen : List ℕ) → HoldWords general → length ram ≡ 0x20000 → length screen ≡ 4000
+      (general : GeneralRegisters) (ram : List ℕ) (screen : Pages) → HoldWords general → length ram ≡ ram_size → AreWhole screen
       → (due : List (List Event)) → length due < start_turns → ¬ IsAt main_at (final (board_turn c) due (power_on general rom ram screen chips)).cpu.registers

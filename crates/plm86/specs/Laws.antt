@@ -1,6 +1,9 @@
 -- The laws: what a ROM does on the board, from the promises on its code and on its start-up, whatever the code generator.
 use Rattle.std.specs.Prelude.{ℕ, suc, true, false, ◌≡◌, ◌+◌, ◌*◌, ◌/◌, ◌%◌, ◌<◌, ◌≤◌, Option, None, List, [], ◌∷◌, ◌⊎◌, length, slice_index}
+use Rattle.word86.specs.declared.page.Page.{Page}
 use Rattle.word86.specs.Access.{Access, answers}
+use Rattle.word86.specs.MemoryMap.{ram_size, vectors_size, data_start, code_segment, stack_top, stack_room}
+use Rattle.word86.specs.Page.{Pages, AreWhole, page_at, page_size, page_of}
 use Rattle.word86.specs.Chips.{Chips}
 use Rattle.word86.specs.Action.{Action}
 use Rattle.word86.specs.Following.{Offer, Tracks, Follows}
@@ -10,7 +13,7 @@ use Rattle.i86_table.specs.Contexts.{Context, Own, Working, all_registers, offer
 use Rattle.i86_table.specs.Words.{AreWords, HasWords}
 use Rattle.cpu8086.specs.declared.cpu.Phase.TheVariants.{Running}
 use Rattle.cpu8086.specs.Turn.{GeneralRegisters, HoldWords}
-use Rattle.board.specs.World.{World, Whole, board_model, memory_byte, screen_at}
+use Rattle.board.specs.World.{World, Whole, board_model, memory_byte}
 use Rattle.board.specs.Machine.{Board, power_on}
 use Rattle.plm86.specs.Boots.{Boots}
 use Rattle.plm86.specs.Headline.{Firmware, RomIsCorrect, StartsQuietly, board_turn}
@@ -34,13 +37,13 @@ pub record Assembly : Type 0 where
   pub main : ℕ
   pub handler : ℕ
 
--- Objects are apart in their room, what is found is there, and the stack's room holds both parts and the three words of an
--- interrupt's frame.
+-- Objects are apart in their room, what is found is there, and the stack's room, in words of two bytes, holds both parts and the three
+-- words of an interrupt's frame.
 pub record IsSound (x : Assembly) : Type 0 where
   pub is_placed : Placed x.placed x.size
   pub finds : Finds x.find x.placed x.size
   pub main_low : x.main_at < 65536
-  pub enough : x.main + 3 + x.handler ≤ 2047
+  pub enough : x.main + 3 + x.handler ≤ stack_room / 2
 
 abbrev pub offers_of : Assembly → Context → Offer Access Context
 offers_of x = offer x.code x.find x.words x.entry x.main x.handler
@@ -75,7 +78,7 @@ module _ {P : Type 0} (c : Chips P) where
   -- main's first instruction is next, with interrupts off, words in the registers and nothing on the stack
   pub record Begins (x : Assembly) (b : Board (World P)) (s : Store P) : Type 0 where
     pub registers : Working
-    pub is : b.cpu ≡ record { registers = all_registers x.main_at registers 0xFFFE; phase = Running }
+    pub is : b.cpu ≡ record { registers = all_registers x.main_at registers stack_top; phase = Running }
     pub words : AreWords registers
     pub flags : FlagsAre false registers.flags
     pub fine : Fine (board_model c) (λ w. w.chips) (Whole x.rom) x.code x.words x.entry x.placed x.size s b.world
@@ -85,17 +88,18 @@ module _ {P : Type 0} (c : Chips P) where
   BootsUp x start_turns reset state = Boots (shared c) (board_turn c) (Begins x) start_turns reset state
 
 -- the byte that the board has at an address when the power comes on
-abbrev pub power_on_memory : (rom ram screen : List ℕ) → ℕ → ℕ
+abbrev pub power_on_memory : (rom ram : List ℕ) (screen : Pages) → ℕ → ℕ
 power_on_memory rom ram screen a = memory_byte ram screen rom a
 
--- memory holds the vectors and the store: each vector has its entry's offset and segment 0F000H, each object its bytes in segment 0040H
+-- memory holds the vectors and the store: each vector has its entry's offset and the code's segment, low bytes first, each object its
+-- bytes in the data's segment, and each page its bytes
 pub record HoldsStore {P : Type 0} (x : Assembly) (s : Store P) (memory : ℕ → ℕ) : Type 0 where
   pub entries : (n : ℕ) → n < 256 → x.entry n < 65536
-  pub vectors : (n : ℕ) → n < 256 → (memory (4 * n) ≡ x.entry n % 256) × (memory (4 * n + 1) ≡ x.entry n / 256) × (memory (4 * n + 2) ≡ 0) × (memory (4 * n + 3) ≡ 240)
-  pub bytes : (k i : ℕ) → i < length (object s k) → memory (1024 + (x.placed k + i)) ≡ slice_index (object s k) i
-  pub screen : (i : ℕ) → i < 4000 → memory (screen_at + i) ≡ slice_index s.screen i
+  pub vectors : (n : ℕ) → n < 256 → (memory (4 * n) ≡ x.entry n % 256) × (memory (4 * n + 1) ≡ x.entry n / 256) × (memory (4 * n + 2) ≡ code_segment % 256) × (memory (4 * n + 3) ≡ code_segment / 256)
+  pub bytes : (k i : ℕ) → i < length (object s k) → memory (data_start + (x.placed k + i)) ≡ slice_index (object s k) i
+  pub screen : (page : Page) (i : ℕ) → i < page_size → memory (page_at page + i) ≡ slice_index (page_of page s.screen) i
   pub sizes : (k : ℕ) → length (object s k) ≡ x.size k
-  pub screen_size : length s.screen ≡ 4000
+  pub screen_size : AreWhole s.screen
 
 -- ---- from the layers to the board
 
@@ -108,8 +112,8 @@ FromLayers P R I =
     → Lowered Access answers R next first body I does Working Context begin procedure k1 m1
     → Compiled x I does begin procedure k2 m2
     → k1 * suc k2 + k2 < 64
-    → (start_turns : ℕ) (chips : P) (first_store : (ram screen : List ℕ) → Store P)
-    → ((general : GeneralRegisters) (ram screen : List ℕ) → HoldWords general → length ram ≡ 0x20000 → length screen ≡ 4000
+    → (start_turns : ℕ) (chips : P) (first_store : (ram : List ℕ) (screen : Pages) → Store P)
+    → ((general : GeneralRegisters) (ram : List ℕ) (screen : Pages) → HoldWords general → length ram ≡ ram_size → AreWhole screen
     → BootsUp c x start_turns (power_on general x.rom ram screen chips) (first_store ram screen))
     → RomIsCorrect c (firmware_of x) R next first body start_turns chips first_store
 
@@ -123,19 +127,19 @@ FromRom P R I =
     → Lowered Access answers R next first body I does Working Context begin procedure k1 m1
     → Compiled x I does begin procedure k2 m2
     → k1 * suc k2 + k2 < 64
-    → (chips : P) (first_store : (ram screen : List ℕ) → Store P)
-    → ((ram screen : List ℕ) → length ram ≡ 0x20000 → length screen ≡ 4000
+    → (chips : P) (first_store : (ram : List ℕ) (screen : Pages) → Store P)
+    → ((ram : List ℕ) (screen : Pages) → length ram ≡ ram_size → AreWhole screen
     → HoldsStore x (first_store ram screen) (after_acts acts (with_vectors entry 0 256 (power_on_memory x.rom ram screen))) × ((first_store ram screen).chips ≡ chips))
     → RomIsCorrect c (firmware_of x) R next first body (start_up_turns acts) chips first_store
 
--- what start-up sets in RAM: the vectors, and what its acts put
+-- the addresses of RAM that start-up may change: those of the vectors, and those at which its acts put something
 abbrev pub IsPut : Act → (address : ℕ) → Type 0
 IsPut (PutWord to value) address = (to ≤ address) × (address < to + 2)
 IsPut (PutByte to value) address = address ≡ to
 IsPut (Copy from to more) address = (to ≤ address) × (address < to + suc more)
 
 abbrev pub IsSetBy : List Act → (address : ℕ) → Type 0
-IsSetBy [] address = address < 1024
+IsSetBy [] address = address < vectors_size
 IsSetBy (act ∷ acts) address = IsPut act address ⊎ IsSetBy acts address
 
 -- The ROM has the code, and the code has a start-up. Then, whatever events are due, start-up makes no label but theirs, leads to main in

@@ -26,7 +26,8 @@ pub enum Destination<'a> {
     File(Inode),
     /// No file yet: one of this name would be made in this folder.
     New(Inode, &'a str),
-    /// A file that the caller has open, as behind `/dev/stdout`: bytes would be put at its end.
+    /// A file that the caller has open, as behind `/dev/stdout`: bytes would be put at its end. Or a block device. Several outputs may go
+    /// there, but a source that is read there would not stay what it is.
     Opened(Inode),
     /// Where bytes are not kept: a character device, a pipe or a socket, which passes them on; or a path in no folder, at which no
     /// file can be made.
@@ -34,14 +35,15 @@ pub enum Destination<'a> {
 }
 
 impl<'a> Destination<'a> {
-    /// Whether what is written by one of two names would be lost by the other.
-    pub fn clashes_with(&self, other: &Destination<'_>) -> bool
-        ensures { result ≡ clashes self.now other.now }
+    /// Whether an output to this would lose what is written by the other name, or what is read by it, where it is a source.
+    pub fn clashes_with(&self, other: &Destination<'_>, is_source: bool) -> bool
+        ensures { result ≡ clashes is_source self.now other.now }
     {
         match (self, other) {
             (Destination::File(one), Destination::File(two)) => one.is(*two),
             (Destination::File(one), Destination::Opened(two)) => one.is(*two),
             (Destination::Opened(one), Destination::File(two)) => one.is(*two),
+            (Destination::Opened(one), Destination::Opened(two)) => is_source && one.is(*two),
             (Destination::New(one, name), Destination::New(two, other_name)) => {
                 one.is(*two) && name == other_name
             }
@@ -50,10 +52,7 @@ impl<'a> Destination<'a> {
                 Destination::New(_, _),
                 Destination::File(_) | Destination::Opened(_) | Destination::Passing,
             ) => false,
-            (
-                Destination::Opened(_),
-                Destination::New(_, _) | Destination::Opened(_) | Destination::Passing,
-            ) => false,
+            (Destination::Opened(_), Destination::New(_, _) | Destination::Passing) => false,
             (
                 Destination::Passing,
                 Destination::File(_)
@@ -66,13 +65,13 @@ impl<'a> Destination<'a> {
 }
 
 // The first file after this one that clashes with it.
-fn clash_after(files: &[Destination<'_>], k: usize) -> Option<usize>
+fn clash_after(files: &[Destination<'_>], written: usize, k: usize) -> Option<usize>
     requires { k < length files.now }
-    ensures found { IfSome result (λ m. ClashesAt files.now k m × ((j : ℕ) → ClashesAt files.now k j → m ≤ j)) }
-    ensures none { IfNone result ((j : ℕ) → ClashesAt files.now k j → ⊥) }
+    ensures found { IfSome result (λ m. ClashesAt files.now written k m × ((j : ℕ) → ClashesAt files.now written k j → m ≤ j)) }
+    ensures none { IfNone result ((j : ℕ) → ClashesAt files.now written k j → ⊥) }
 {
     for (m, other) in files.iter().enumerate() {
-        if k < m && files[k].clashes_with(other) {
+        if k < m && files[k].clashes_with(other, written <= m) {
             return Some(m);
         }
     }
@@ -80,7 +79,8 @@ fn clash_after(files: &[Destination<'_>], k: usize) -> Option<usize>
 }
 
 /// The places of the first two files of which one would be lost by the other, where there are two: a file that is written, as the first
-/// `written` are, and one after it. Of two such pairs the first is the one of the earlier file, and then the one with the earlier other.
+/// `written` are, and one after it; those after the first `written` are sources. Of two such pairs the first is the one of the earlier
+/// file, and then the one with the earlier other.
 pub fn first_clash(files: &[Destination<'_>], written: usize) -> Option<(usize, usize)>
     ensures found { IfSome result (IsFirstClash files.now written) }
     ensures none { IfNone result ((k m : ℕ) → IsClash files.now written k m → ⊥) }
@@ -89,7 +89,7 @@ pub fn first_clash(files: &[Destination<'_>], written: usize) -> Option<(usize, 
         if k >= written {
             return None;
         }
-        if let Some(m) = clash_after(files, k) {
+        if let Some(m) = clash_after(files, written, k) {
             return Some((k, m));
         }
     }

@@ -37,8 +37,9 @@ pub(crate) fn laws_below()
 /// If the intermediate code tracks the program's rests, the instructions follow the intermediate code, and start-up leads from
 /// each power-on memory and all words in the general registers to main's first instruction, then, whatever events are due turn
 /// by turn, the board's labels are those of an allowed run of the program, interrupts included. From the end of start-up on that
-/// run makes a step in every 64 turns, and after each turn ROM and vectors stand, RAM, screen and chips are those of the run's state,
-/// the segments are the program's, and the stack pointer is in its bounds. No turn comes to bytes that are no instruction.
+/// run makes a step in every 64 turns, and after each turn ROM and vectors stand, RAM, both pages of the screen and the chips are those
+/// of the run's state, the segments are the program's, and the stack pointer is in its bounds. No turn comes to bytes that are no
+/// instruction.
 pub fn board_is_correct<L: Layers>()
     ensures { FromLayers L.Ports L.Rest L.Place }
 {

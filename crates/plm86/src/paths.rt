@@ -61,7 +61,9 @@ pub(crate) fn is_open_file(path: Path<'_>) -> bool {
 pub(crate) fn destination_of<'a, R: Files>(rt: &R, path: Path<'a>) -> Destination<'a> {
     match path.metadata(rt) {
         Ok(found) if is_passing(&found) => Destination::Passing,
-        Ok(found) if is_open_file(path) => Destination::Opened(inode_of(&found)),
+        Ok(found) if is_open_file(path) || found.file_type().is_block_device() => {
+            Destination::Opened(inode_of(&found))
+        }
         Ok(found) => Destination::File(inode_of(&found)),
         Err(_) => new_file(rt, path),
     }

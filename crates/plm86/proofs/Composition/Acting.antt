@@ -3,6 +3,7 @@ use Rattle.std.proofs.Common.{◌≡◌, ℕ, zero, suc, ◌+◌, ◌-◌, ◌*�
 use Rattle.std.specs.Prelude.{slice_index, if◌then◌else◌, nat_lt, nat_le}
 use Rattle.std.specs.Option.{option_map_or}
 use Rattle.std.proofs.lemmas.Bool.{cases_eq, leb-true, and_parts}
+use Rattle.word86.specs.MemoryMap.{code_start}
 use Rattle.i86_code.specs.Coding.{AreBytes}
 use Rattle.select.specs.declared.part.Part.{Part}
 use Rattle.layout_link.specs.declared.tasks.Task.{Task}
@@ -117,8 +118,8 @@ module _ (places : List ℕ) (from : ℕ) where
       by false e = puts_beside to bytes f a h
 
   -- and put its bytes, where those that are copied lie in the ROM
-  pub stretch_set : (at copies to : ℕ) (bytes : List ℕ) (f : ℕ → ℕ) (i : ℕ) → AreBytes bytes → to + length bytes ≤ 0xF0000
-      → (is_copied copies (length bytes) ≡ true → f (0xF0000 + (from + at + i)) ≡ slice_index bytes i)
+  pub stretch_set : (at copies to : ℕ) (bytes : List ℕ) (f : ℕ → ℕ) (i : ℕ) → AreBytes bytes → to + length bytes ≤ code_start
+      → (is_copied copies (length bytes) ≡ true → f (code_start + (from + at + i)) ≡ slice_index bytes i)
       → i < length bytes → done (stretch_tasks at copies to bytes) f (to + i) ≡ slice_index bytes i
   stretch_set at copies to bytes f i are low there lt = by (is_copied copies (length bytes)) refl
     where

@@ -2,6 +2,7 @@
 use Rattle.std.proofs.Common.{◌≡◌, ℕ, zero, suc, ◌+◌, ◌-◌, ◌*◌, ◌<◌, ◌≤◌, ◌⊎◌, ◌&&◌, Bool, true, false, List, [], ◌∷◌, ◌++◌, length, map, inl, inr, ⊎_elim, true≢false, refl, sym, ap, ◌∙◌, subst, arith, append_assoc, length-append}
 use Rattle.std.specs.Prelude.{◌==◌, cond, if◌then◌else◌, nat_lt, nat_le, slice_index}
 use Rattle.std.proofs.lemmas.Bool.{cases_lt, cases_eq, and_parts, eqb-true, ne_eqb, ltb-true, lt-ltb, le-ltb, le-leb, lt-leb}
+use Rattle.word86.specs.MemoryMap.{data_start}
 use Rattle.plm_decl.specs.declared.names.Datum.{Datum}
 use Rattle.plm_decl.specs.declared.names.Datum.TheVariants as datum
 use Rattle.plm_decl.specs.declared.names.Names.{Names}
@@ -153,7 +154,7 @@ module _ (offsets : List ℕ) where
     total_is k (o ∷ os) =
         let h = total_is (k + 1) os in
         let l = initial_length o.initial.items in
-        total_joined (1024 + slice_index offsets k) (object_bytes offsets variables o) (stretches offsets variables (k + 1) os) ∙ omega (arith, h, l)
+        total_joined (data_start + slice_index offsets k) (object_bytes offsets variables o) (stretches offsets variables (k + 1) os) ∙ omega (arith, h, l)
 
     -- ---- how many stretches begin
 
@@ -187,7 +188,7 @@ module _ (offsets : List ℕ) where
 
     -- so an object whose bytes begin a stretch ends where the next one begins, if RAM is filled up to its end
     ends_own : (k next : ℕ) (o : Object) (full : Bool) → slice_index offsets k ≡ next → (full ≡ true → ⊥) → is_filled full (object_of o) ≡ true
-        → (0 < length (object_bytes offsets variables o)) × (1024 + (next + o.size) ≡ 1024 + slice_index offsets k + length (object_bytes offsets variables o))
+        → (0 < length (object_bytes offsets variables o)) × (data_start + (next + o.size) ≡ data_start + slice_index offsets k + length (object_bytes offsets variables o))
     ends_own k next o full here not_full t =
         let end = ends o full t in
         let same = end.0 in
@@ -195,11 +196,11 @@ module _ (offsets : List ℕ) where
         (⊎_elim (λ before. absurd (not_full before)) (λ own. omega (arith, long, own)) end.1, omega (arith, long, same, here))
 
     -- bytes, and then the objects from the k-th on; `full` is true only if there are some and they end where the objects begin
-    filled_few : (k next : ℕ) (os : List Object) (a : ℕ) (xs : List ℕ) (full : Bool) → Lie k next os → (full ≡ true → (0 < length xs) × (1024 + next ≡ a + length xs))
+    filled_few : (k next : ℕ) (os : List Object) (a : ℕ) (xs : List ℕ) (full : Bool) → Lie k next os → (full ≡ true → (0 < length xs) × (data_start + next ≡ a + length xs))
         → filled (joined a xs (stretches offsets variables k os)) ≤ some (length xs) + stretches_nodes full (map object_of os)
     filled_few k next [] a xs full lie h = omega arith
     filled_few k next (o ∷ os) a xs full lie h =
-        let b = 1024 + slice_index offsets k in
+        let b = data_start + slice_index offsets k in
         let ys = object_bytes offsets variables o in
         let rest = stretches offsets variables (k + 1) os in
         let long = initial_length o.initial.items in
@@ -231,7 +232,7 @@ module _ (offsets : List ℕ) where
         let never : false ≡ true → ⊥ = λ t. true≢false (sym t) in
         let own_are : some (length (object_bytes offsets variables o)) ≡ some (size o) = ap some (initial_length o.initial.items) in
         let few = begins_own o false never in
-        let others = filled_few (0 + 1) (next + o.size) os (1024 + slice_index offsets 0) (object_bytes offsets variables o) (is_filled false (object_of o)) lie.1 (ends_own 0 next o false lie.0 never) in
+        let others = filled_few (0 + 1) (next + o.size) os (data_start + slice_index offsets 0) (object_bytes offsets variables o) (is_filled false (object_of o)) lie.1 (ends_own 0 next o false lie.0 never) in
         omega (arith, own_are, few, others)
 
 -- ---- all objects

@@ -1,7 +1,7 @@
 -- The stack of a shallow program has room.
 use Rattle.std.proofs.Common.{◌≡◌, ℕ, zero, suc, ◌+◌, ◌≤◌, Bool, true, false, List, [], ◌∷◌, length, slice_get, Option, Some, None, refl, sym, ap, ◌∙◌, subst, arith}
 use Rattle.std.specs.Prelude.{◌&&◌, not, cond, is_some, option_map, Contains}
-use Rattle.std.proofs.lemmas.Option.{slice_get-map}
+use Rattle.std.proofs.lemmas.Option.{slice_get-map, same_Some}
 use Rattle.plm_decl.specs.declared.names.Names.{Names}
 use Rattle.plm_decl.specs.Names.{ProcedureR}
 use Rattle.plm_type.specs.Calls.{graph_of, statements_calls}
@@ -32,14 +32,11 @@ own_vector true o v e = absurd cc
 own_vector false None v e = absurd cc
 own_vector false (Some w) v e = refl
 
-some_same : (a b : Option ℕ) → Some a ≡ Some b → a ≡ b
-some_same a b e = cc
-
 -- a procedure with a vector in the code is one that serves an interrupt
 serves : (o : Option declared.Procedure) (d : Option ProcedureR) → option_map (λ (p : declared.Procedure). p.vector) o ≡ option_map vector_of d → HasVector o → serves_interrupt d ≡ true
 serves None d e h = absurd h
 serves (Some p) None e h = absurd cc
-serves (Some p) (Some d) e h = own_vector (is_external d.linkage) d.interrupt h.0 (sym (some_same p.vector (vector_of d) e) ∙ h.1)
+serves (Some p) (Some d) e h = own_vector (is_external d.linkage) d.interrupt h.0 (sym (same_Some p.vector (vector_of d) e) ∙ h.1)
 
 -- ---- paths
 

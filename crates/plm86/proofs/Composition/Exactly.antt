@@ -1,6 +1,7 @@
 -- Which programs fit, and which are refused, exactly.
 use Rattle.std.proofs.Common.{◌≡◌, ℕ, ◌+◌, ◌<◌, ◌≤◌, ◌⊎◌, inl, inr, List, refl, sym, subst, arith}
 use Rattle.std.specs.Prelude.{Result, Ok, Err, IfErr}
+use Rattle.word86.specs.MemoryMap.{stack_room}
 use Rattle.word86.specs.declared.fault.Fault.{Fault}
 use Rattle.word86.specs.declared.fault.Fault.TheVariants.{Memory, At}
 use Rattle.word86.specs.declared.number.Number.TheVariants.{E601}
@@ -21,7 +22,7 @@ use Rattle.plm86.proofs.Composition.OneSize.{one_size}
 
 module _ (names : Names) (c : Code) (lowered : IsLowered names c) where
   -- what one code takes, every code of the program takes
-  pub in_stack : (main handler : ℕ) → IsCounted c main handler → main + handler ≤ 4094 → ¬ IsTooDeep names
+  pub in_stack : (main handler : ℕ) → IsCounted c main handler → main + handler ≤ stack_room → ¬ IsTooDeep names
   in_stack main handler counted enough deep =
       let stack = deep.2 in
       let past = deep.3 in
@@ -49,7 +50,7 @@ module _ (names : Names) (size : RomSize) where
     ]
 
     -- a refusal of the linker, after the stack was counted
-    module _ (main handler : ℕ) (counted : IsCounted c main handler) (enough : main + handler ≤ 4094) (parts : List Part) (are : AreParts c parts) where
+    module _ (main handler : ℕ) (counted : IsCounted c main handler) (enough : main + handler ≤ stack_room) (parts : List Part) (are : AreParts c parts) where
       lacks_rom_for : (f : Fault) → (f ≡ Memory) ⊎ ((f ≡ At 0 1 E601) × (bytes_in size < needed names parts)) → LacksRoom names size f
       lacks_rom_for f full = elim (full) [
         | inl e ↦ lacks_memory f e

@@ -5,6 +5,9 @@ use Rattle.std.specs.List.{All}
 use Rattle.std.specs.Option.{option_map_or}
 use Rattle.std.proofs.lemmas.Bool.{cases_lt, cases_order}
 use Rattle.std.proofs.lemmas.Option.{slice_get_within, get_or_from_slice_get}
+use Rattle.word86.specs.MemoryMap.{ram_size, vectors_size, code_segment, data_start, code_start, data_end}
+use Rattle.word86.specs.declared.page.Page.{Page}
+use Rattle.word86.specs.Page.{Pages, AreWhole, page_at, page_size, page_of}
 use Rattle.plm_decl.specs.declared.names.Names.{Names}
 use Rattle.plm_decl.specs.declared.names.Object.{Object}
 use Rattle.plm_decl.specs.Names.{object_of}
@@ -17,13 +20,12 @@ use Rattle.layout_link.specs.Image.{bytes_in}
 use Rattle.layout_link.specs.Tasks.{serving, is_unserved, vector_tasks}
 use Rattle.layout_link.specs.Initial.{object_bytes, HaveBytes, data_tasks}
 use Rattle.layout_link.specs.Linker.{offsets_in, stretches_in, needed, places_in, place_of, initial_at, acts_in, InitialStands}
-use Rattle.board.specs.World.{screen_at}
 use Rattle.plm86.specs.Startup.{with_vectors, after_acts}
 use Rattle.plm86.specs.Laws.{Assembly, power_on_memory, HoldsStore}
 use Rattle.plm86.proofs.Machine.Vectors.{rounds_set, rounds_beside}
 use Rattle.plm86.proofs.Composition.Acting.{done, done_append, vectors_beside, vectors_set}
 use Rattle.plm86.proofs.Composition.Storing.{AreApart, AreLow, AreInRom, objects_beside, objects_set}
-use Rattle.plm86.proofs.Composition.PowerOn.{in_ram, on_screen, in_rom}
+use Rattle.plm86.proofs.Composition.PowerOn.{in_ram, on_page, in_rom}
 use Rattle.plm86.proofs.Composition.Opening.{size_at, size_past, object_is, object_past, object_long, object_first, object_rest}
 
 -- a ROM has at most 64 KiB
@@ -42,9 +44,9 @@ chosen_small places (Some p) d all small = all p
 abbrev pub IsNoInitial : Names → (a : ℕ) → Type 0
 IsNoInitial names a =
     (k : ℕ) (o : Object) → slice_get names.objects.items k ≡ Some o
-    → (i : ℕ) → i < length (object_bytes (offsets_in names) names.variables.items o) → a ≡ 1024 + slice_index (offsets_in names) k + i → ⊥
+    → (i : ℕ) → i < length (object_bytes (offsets_in names) names.variables.items o) → a ≡ data_start + slice_index (offsets_in names) k + i → ⊥
 
-module _ (names : Names) (parts : List Part) (size : RomSize) (rom ram screen : List ℕ) (ram_long : length ram ≡ 0x20000) where
+module _ (names : Names) (parts : List Part) (size : RomSize) (rom ram : List ℕ) (screen : Pages) (ram_long : length ram ≡ ram_size) where
   abbrev places : List ℕ
   places = places_in names parts size
 
@@ -78,7 +80,7 @@ module _ (names : Names) (parts : List Part) (size : RomSize) (rom ram screen : 
   memory_is = done_append places (initial_at names parts size) (vector_tasks parts 0 256) (data_tasks 0 0 (stretches_in names)) looped
 
   -- above the vectors, memory is as it was
-  above : (a : ℕ) → 1024 ≤ a → served a ≡ powered a
+  above : (a : ℕ) → vectors_size ≤ a → served a ≡ powered a
   above a le =
       vectors_beside places (initial_at names parts size) parts 0 256 looped a (λ k ge lt. inr (omega (arith, le, lt)))
       ∙ rounds_beside unserved 0 256 powered a (inr (omega (arith, le)))
@@ -88,13 +90,13 @@ module _ (names : Names) (parts : List Part) (size : RomSize) (rom ram screen : 
   all_else a h =
       ap (λ m. m a) memory_is
       ∙ objects_beside places (initial_at names parts size) (offsets_in names) names.variables.items names.objects.items served a
-      (λ j o e i lt at. let same : 0 + j ≡ j = omega arith in h j o e i lt (at ∙ ap (λ z. 1024 + offset z + i) same))
+      (λ j o e i lt at. let same : 0 + j ≡ j = omega arith in h j o e i lt (at ∙ ap (λ z. data_start + offset z + i) same))
 
   -- an address of RAM that is neither a vector's nor an initial byte's
-  kept_beside : (a : ℕ) → 1024 ≤ a → a < 0x20000 → IsNoInitial names a → memory a ≡ slice_index ram a
+  kept_beside : (a : ℕ) → vectors_size ≤ a → a < ram_size → IsNoInitial names a → memory a ≡ slice_index ram a
   kept_beside a le lt h = all_else a h ∙ above a le ∙ in_ram rom ram screen ram_long a lt
 
-  module _ (screen_long : length screen ≡ 4000) (rom_long : length rom ≡ bytes_in size) (fits : needed names parts ≤ bytes_in size) (stands : InitialStands names parts size rom)
+  module _ (whole : AreWhole screen) (rom_long : length rom ≡ bytes_in size) (fits : needed names parts ≤ bytes_in size) (stands : InitialStands names parts size rom)
       (have : HaveBytes (offsets_in names) names.variables.items names.objects.items) (fit : All (λ (o : Object). length (initial o) ≤ o.size) names.objects.items)
       (is : IsPlacement (offsets_in names) (sizes_of names)) where
     -- the byte of an object, by its place in the placement
@@ -102,7 +104,7 @@ module _ (names : Names) (parts : List Part) (size : RomSize) (rom ram screen : 
     holds_byte k o e i lt = let s = size_at names.objects.items k o e in (omega arith, omega (arith, lt, s.1))
 
     -- all objects lie in the data's room, and no two share a byte
-    below : (k : ℕ) (o : Object) → slice_get names.objects.items k ≡ Some o → (i : ℕ) → i < o.size → offset k + i < 0xF000
+    below : (k : ℕ) (o : Object) → slice_get names.objects.items k ≡ Some o → (i : ℕ) → i < o.size → offset k + i < data_end
     below k o e i lt = (is.within k (size_at names.objects.items k o e).0 (offset k + i) (holds_byte k o e i lt)).1
 
     apart : (j k : ℕ) (o p : Object) → slice_get names.objects.items j ≡ Some o → slice_get names.objects.items k ≡ Some p → j < k → (i l : ℕ) → i < o.size → l < p.size → offset j + i ≡ offset k + l → ⊥
@@ -124,34 +126,34 @@ module _ (names : Names) (parts : List Part) (size : RomSize) (rom ram screen : 
         apart j h o p ej eh lt i l (has_room j o ej i lti) (has_room h p eh l ltl) (ap (λ z. offset z + i) (sym first) ∙ same ∙ ap (λ z. offset z + l) second)
 
     are_low : AreLow (offsets_in names) names.variables.items 0 names.objects.items
-    are_low j o e i lt = let same : j ≡ 0 + j = omega arith in subst (λ z. offset z + i < 0xF000) same (below j o e i (has_room j o e i lt))
+    are_low j o e i lt = let same : j ≡ 0 + j = omega arith in subst (λ z. offset z + i < data_end) same (below j o e i (has_room j o e i lt))
 
     -- the bytes that are copied are in the ROM
     are_in_rom : AreInRom places (initial_at names parts size) 0 0 (stretches_in names) served
     are_in_rom j lt =
         let place = initial_at names parts size + j in
         let small = rom_small size in
-        let here : 0xF0000 + (initial_at names parts size + 0 + j) ≡ 0xF0000 + place = omega arith in
-        ap served here ∙ above (0xF0000 + place) (omega arith)
-        ∙ in_rom rom ram screen ram_long screen_long place (omega (arith, lt, fits, small)) (omega (arith, rom_long, small)) (omega (arith, rom_long, small))
+        let here : code_start + (initial_at names parts size + 0 + j) ≡ code_start + place = omega arith in
+        ap served here ∙ above (code_start + place) (omega arith)
+        ∙ in_rom rom ram screen ram_long whole place (omega (arith, lt, fits, small)) (omega (arith, rom_long, small)) (omega (arith, rom_long, small))
         ∙ stands j lt
 
     -- an initial byte of an object
-    initial_set : (k : ℕ) (o : Object) → slice_get names.objects.items k ≡ Some o → (i : ℕ) → i < length (initial o) → memory (1024 + (offset k + i)) ≡ slice_index (initial o) i
+    initial_set : (k : ℕ) (o : Object) → slice_get names.objects.items k ≡ Some o → (i : ℕ) → i < length (initial o) → memory (data_start + (offset k + i)) ≡ slice_index (initial o) i
     initial_set k o e i lt =
         let same : k ≡ 0 + k = omega arith in
-        let here : 1024 + (offset k + i) ≡ 1024 + offset k + i = omega arith in
-        ap memory here ∙ ap (λ m. m (1024 + offset k + i)) memory_is ∙ ap (λ z. filled (1024 + offset z + i)) same
+        let here : data_start + (offset k + i) ≡ data_start + offset k + i = omega arith in
+        ap memory here ∙ ap (λ m. m (data_start + offset k + i)) memory_is ∙ ap (λ z. filled (data_start + offset z + i)) same
         ∙ objects_set places (initial_at names parts size) (offsets_in names) names.variables.items names.objects.items served have are_apart are_low are_in_rom k o e i lt
 
     -- another byte of an object
-    rest_kept : (k : ℕ) (o : Object) → slice_get names.objects.items k ≡ Some o → (i : ℕ) → length (initial o) ≤ i → i < o.size → memory (1024 + (offset k + i)) ≡ slice_index ram (0x400 + offset k + i)
+    rest_kept : (k : ℕ) (o : Object) → slice_get names.objects.items k ≡ Some o → (i : ℕ) → length (initial o) ≤ i → i < o.size → memory (data_start + (offset k + i)) ≡ slice_index ram (data_start + offset k + i)
     rest_kept k o e i le lt =
         let low = below k o e i lt in
-        let here : 1024 + (offset k + i) ≡ 0x400 + offset k + i = omega arith in
-        ap memory here ∙ kept_beside (0x400 + offset k + i) (omega arith) (omega (arith, low)) beside
+        let here : data_start + (offset k + i) ≡ data_start + offset k + i = omega arith in
+        ap memory here ∙ kept_beside (data_start + offset k + i) (omega arith) (omega (arith, low)) beside
       where
-        beside : IsNoInitial names (0x400 + offset k + i)
+        beside : IsNoInitial names (data_start + offset k + i)
         beside h p eh l ltl at =
             let clash : offset k + i ≡ offset h + l = omega (arith, at) in
             elim (cases_order h k) [
@@ -183,10 +185,10 @@ module _ (names : Names) (parts : List Part) (size : RomSize) (rom ram screen : 
             ap length (object_is (offsets_in names) names.variables.items ram (offsets_in names) names.objects.items k o is.each e)
             ∙ object_size k o e ∙ sym (size_at names.objects.items k o e).1
 
-    all_bytes : (k i : ℕ) → i < length (slice_index_or objects k []) → memory (1024 + (offset k + i)) ≡ slice_index (slice_index_or objects k []) i
+    all_bytes : (k i : ℕ) → i < length (slice_index_or objects k []) → memory (data_start + (offset k + i)) ≡ slice_index (slice_index_or objects k []) i
     all_bytes k i lt = by (slice_get names.objects.items k) refl
       where
-        by : (o : Option Object) → slice_get names.objects.items k ≡ o → memory (1024 + (offset k + i)) ≡ slice_index (slice_index_or objects k []) i
+        by : (o : Option Object) → slice_get names.objects.items k ≡ o → memory (data_start + (offset k + i)) ≡ slice_index (slice_index_or objects k []) i
         by None e = absurd (omega (arith, lt, ap length (object_past (offsets_in names) names.variables.items ram (offsets_in names) names.objects.items k e)))
         by (Some o) e =
             let here = object_is (offsets_in names) names.variables.items ram (offsets_in names) names.objects.items k o is.each e in
@@ -197,21 +199,21 @@ module _ (names : Names) (parts : List Part) (size : RomSize) (rom ram screen : 
               | inr rest ↦ rest_kept k o e i rest inside ∙ sym (ap (λ l. slice_index l i) here ∙ object_rest (offsets_in names) names.variables.items ram (offset k) (object_of o) i rest inside)
             ]
 
-    -- the screen is as it was
-    screen_kept : (i : ℕ) → i < 4000 → memory (screen_at + i) ≡ slice_index screen i
-    screen_kept i lt =
-        all_else (screen_at + i) (λ k o e j less at. let low = below k o e j (has_room k o e j less) in absurd (omega (arith, at, low)))
-        ∙ above (screen_at + i) (omega arith) ∙ on_screen rom ram screen ram_long screen_long i lt
+    -- the pages are as they were
+    page_kept : (page : Page) (i : ℕ) → i < page_size → memory (page_at page + i) ≡ slice_index (page_of page screen) i
+    page_kept page i lt =
+        all_else (page_at page + i) (λ k o e j less at. let low = below k o e j (has_room k o e j less) in absurd (omega (arith, at, low)))
+        ∙ above (page_at page + i) (omega arith) ∙ on_page rom ram screen ram_long whole page i lt
 
   -- the place to which a vector leads
   abbrev entry : ℕ → ℕ
   entry n = option_map_or (λ p. slice_index places p) (serving parts n) unserved
 
-  vector_kept : (a : ℕ) → a < 1024 → memory a ≡ served a
+  vector_kept : (a : ℕ) → a < vectors_size → memory a ≡ served a
   vector_kept a lt = all_else a (λ k o e i less at. absurd (omega (arith, at, lt)))
 
   -- each vector leads to its entry
-  vector_is : (n : ℕ) → n < 256 → (memory (4 * n) ≡ entry n % 256) × (memory (4 * n + 1) ≡ entry n / 256) × (memory (4 * n + 2) ≡ 0) × (memory (4 * n + 3) ≡ 240)
+  vector_is : (n : ℕ) → n < 256 → (memory (4 * n) ≡ entry n % 256) × (memory (4 * n + 1) ≡ entry n / 256) × (memory (4 * n + 2) ≡ code_segment % 256) × (memory (4 * n + 3) ≡ code_segment / 256)
   vector_is n lt =
       let loop = rounds_set unserved 0 256 powered n (omega arith) (omega (arith, lt)) in
       let set = vectors_set places (initial_at names parts size) parts 0 256 looped unserved n (omega arith) (omega (arith, lt)) loop.0 loop.1 in
@@ -227,8 +229,8 @@ module _ (names : Names) (parts : List Part) (size : RomSize) (rom ram screen : 
       )
 
 -- Where the linker's promises hold, start-up leaves the program's first store in memory, and the chips as they were.
-pub first_store_stands : {P : Type 0} (x : Assembly) (names : Names) (parts : List Part) (size : RomSize) (rom ram screen : List ℕ) (chips : P)
-    → length ram ≡ 0x20000 → length screen ≡ 4000 → length rom ≡ bytes_in size
+pub first_store_stands : {P : Type 0} (x : Assembly) (names : Names) (parts : List Part) (size : RomSize) (rom ram : List ℕ) (screen : Pages) (chips : P)
+    → length ram ≡ ram_size → AreWhole screen → length rom ≡ bytes_in size
     → needed names parts ≤ bytes_in size
     → InitialStands names parts size rom
     → HaveBytes (offsets_in names) names.variables.items names.objects.items
@@ -240,7 +242,7 @@ pub first_store_stands : {P : Type 0} (x : Assembly) (names : Names) (parts : Li
     → HoldsStore x (first_store ram screen (offsets_in names) names.variables.items (map object_of names.objects.items) chips)
     (after_acts (acts_in names parts size) (with_vectors (place_of names parts size is_unserved) 0 256 (power_on_memory rom ram screen)))
     × ((first_store ram screen (offsets_in names) names.variables.items (map object_of names.objects.items) chips).chips ≡ chips)
-first_store_stands x names parts size rom ram screen chips ram_long screen_long rom_long fits stands have fit is entries within placed sized =
+first_store_stands x names parts size rom ram screen chips ram_long whole rom_long fits stands have fit is entries within placed sized =
     let left = after_acts (acts_in names parts size) (with_vectors (place_of names parts size is_unserved) 0 256 (power_on_memory rom ram screen)) in
     let places = places_in names parts size in
     let unserved_small = chosen_small places (position (λ p. is_unserved p.entry) parts) 0 within (omega arith) in (
@@ -248,16 +250,16 @@ first_store_stands x names parts size rom ram screen chips ram_long screen_long 
         entries = λ n lt. let e = entries n in let small = chosen_small places (serving parts n) (place_of names parts size is_unserved) within unserved_small in omega (arith, e, small);
         vectors = λ n lt. let v = vector_is names parts size rom ram screen ram_long n lt in let e = entries n in
             (v.0 ∙ ap (λ z. z % 256) (sym e), v.1 ∙ ap (λ z. z / 256) (sym e), v.2, v.3);
-        bytes = λ k i lt. ap (λ z. left (1024 + (z + i))) (placed k) ∙ all_bytes names parts size rom ram screen ram_long screen_long rom_long fits stands have fit is k i lt;
-        screen = λ i lt. screen_kept names parts size rom ram screen ram_long screen_long rom_long fits stands have fit is i lt;
-        sizes = λ k. all_sizes names parts size rom ram screen ram_long screen_long rom_long fits stands have fit is k ∙ sym (sized k);
-        screen_size = screen_long;
+        bytes = λ k i lt. ap (λ z. left (data_start + (z + i))) (placed k) ∙ all_bytes names parts size rom ram screen ram_long whole rom_long fits stands have fit is k i lt;
+        screen = λ page i lt. page_kept names parts size rom ram screen ram_long whole rom_long fits stands have fit is page i lt;
+        sizes = λ k. all_sizes names parts size rom ram screen ram_long whole rom_long fits stands have fit is k ∙ sym (sized k);
+        screen_size = whole;
       },
       refl,
     )
 
 -- Start-up keeps each byte of RAM that is neither a vector's nor an initial byte's.
-pub keeps_others : (names : Names) (parts : List Part) (size : RomSize) (rom ram screen : List ℕ) → length ram ≡ 0x20000
-    → (a : ℕ) → 1024 ≤ a → a < 0x20000 → IsNoInitial names a
+pub keeps_others : (names : Names) (parts : List Part) (size : RomSize) (rom ram : List ℕ) (screen : Pages) → length ram ≡ ram_size
+    → (a : ℕ) → vectors_size ≤ a → a < ram_size → IsNoInitial names a
     → after_acts (acts_in names parts size) (with_vectors (place_of names parts size is_unserved) 0 256 (power_on_memory rom ram screen)) a ≡ slice_index ram a
 keeps_others names parts size rom ram screen ram_long a le lt h = kept_beside names parts size rom ram screen ram_long a le lt h

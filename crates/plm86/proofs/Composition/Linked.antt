@@ -1,6 +1,7 @@
 -- What `link` answers, and what follows from it, as clauses on an answer.
 use Rattle.std.proofs.Common.{◌≡◌, ℕ, ◌+◌, ◌≤◌, ◌<◌, List, length, sym, ap, subst, arith}
 use Rattle.std.specs.Prelude.{slice_index, Result, Ok, Err, IfOk, OnOk}
+use Rattle.word86.specs.MemoryMap.{stack_room}
 use Rattle.word86.specs.declared.fault.Fault.{Fault}
 use Rattle.plm_decl.specs.declared.names.Names.{Names}
 use Rattle.plm_decl.specs.Placement.{IsPlacement, sizes_of}
@@ -63,7 +64,7 @@ linked names parts stack size (Ok image) long code words start_up initial bytes 
   fits = fits;
 }
 
-module _ (promises : Promises) (program : Program) (names : Names) (typed : AreTyped program names) (c : Code) (lowered : IsLowered names c) (stack : Stack) (counted : IsCounted c stack.main stack.handler) (enough : stack.main + stack.handler ≤ 4094) (runs : NoRunPasses c stack.main stack.handler) (parts : List Part) (selected : AreParts c parts) (size : RomSize) where
+module _ (promises : Promises) (program : Program) (names : Names) (typed : AreTyped program names) (c : Code) (lowered : IsLowered names c) (stack : Stack) (counted : IsCounted c stack.main stack.handler) (enough : stack.main + stack.handler ≤ stack_room) (runs : NoRunPasses c stack.main stack.handler) (parts : List Part) (selected : AreParts c parts) (size : RomSize) where
   image_is : (image : Image) → IsLinked names parts stack size image → IsImage names size image
   image_is image is = record {
     means = means promises program names typed c lowered stack counted enough runs parts selected size image is;

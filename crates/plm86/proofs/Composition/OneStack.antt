@@ -1,7 +1,7 @@
 -- A program has one counted stack, whatever code it was lowered to.
 use Rattle.std.proofs.Common.{◌≡◌, ℕ, ◌≤◌, Bool, true, false, ◌||◌, List, option_map, Option, Some, None, slice_get, refl, sym, ap, ◌∙◌, subst, arith}
 use Rattle.std.proofs.Math.Path.{fun_ext}
-use Rattle.std.proofs.lemmas.Option.{slice_get-map}
+use Rattle.std.proofs.lemmas.Option.{slice_get-map, same_Some}
 use Rattle.plm_decl.specs.declared.names.Names.{Names}
 use Rattle.icode.specs.declared.instruction.Instruction.{Instruction}
 use Rattle.icode.specs.declared.code.Procedure as declared
@@ -46,13 +46,10 @@ one_changed code r g h d e = sym (e.least g d.all) ∙ joined_other g h ∙ d.le
 
 -- ---- of two
 
-some_same : (a b : Option ℕ) → Some a ≡ Some b → a ≡ b
-some_same a b e = cc
-
 vector_too : (o p : Option declared.Procedure) → option_map (λ (x : declared.Procedure). x.vector) o ≡ option_map (λ (x : declared.Procedure). x.vector) p → HasVector o → HasVector p
 vector_too None p e h = absurd h
 vector_too (Some x) None e h = absurd cc
-vector_too (Some x) (Some y) e h = (h.0, sym (some_same x.vector y.vector e) ∙ h.1)
+vector_too (Some x) (Some y) e h = (h.0, sym (same_Some x.vector y.vector e) ∙ h.1)
 
 module _ (names : Names) (c d : Code) (of_c : IsLowered names c) (of_d : IsLowered names d) where
   pub same_code : code_of c ≡ code_of d

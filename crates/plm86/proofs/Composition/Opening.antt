@@ -3,6 +3,7 @@ use Rattle.std.proofs.Common.{◌≡◌, ℕ, zero, suc, ◌+◌, ◌-◌, ◌<�
 use Rattle.std.specs.Prelude.{slice_get, slice_index, slice_index_or, slice_range}
 use Rattle.std.proofs.lemmas.Bool.{cases_lt}
 use Rattle.std.proofs.lemmas.List.{get_or-drop, get_or-take, length-take-le, length-drop, length-append, get_or_append_left, get_or-append_right}
+use Rattle.word86.specs.MemoryMap.{data_start}
 use Rattle.plm_decl.specs.declared.names.Object.{Object}
 use Rattle.plm_decl.specs.declared.names.Variable.{Variable}
 use Rattle.plm_decl.specs.Names.{ObjectR, object_of}
@@ -61,13 +62,13 @@ module _ (offsets : List ℕ) (variables : List Variable) (ram : List ℕ) where
     held = bytes_at offsets variables ram offset o.size
 
     -- it is as long as its size says, where it lies in RAM
-    pub object_long : length first ≤ o.size → (1 ≤ o.size → 0x400 + offset + o.size ≤ length ram) → length (object_at offsets variables ram offset o) ≡ o.size
+    pub object_long : length first ≤ o.size → (1 ≤ o.size → data_start + offset + o.size ≤ length ram) → length (object_at offsets variables ram offset o) ≡ o.size
     object_long fits inside =
         let behind = length-drop (length first) held in
         let all = length-append first (drop (length first) held) in
         let long : length held ≡ o.size = elim (cases_lt 0 o.size) [
-          | inl some ↦ range_long ram (0x400 + offset) o.size (inside (omega (arith, some)))
-          | inr none ↦ omega (arith, none, empty_range ram (0x400 + offset) o.size none)
+          | inl some ↦ range_long ram (data_start + offset) o.size (inside (omega (arith, some)))
+          | inr none ↦ omega (arith, none, empty_range ram (data_start + offset) o.size none)
         ] in
         omega (arith, fits, behind, all, long)
 
@@ -75,8 +76,8 @@ module _ (offsets : List ℕ) (variables : List Variable) (ram : List ℕ) where
     pub object_first : (i : ℕ) → i < length first → slice_index (object_at offsets variables ram offset o) i ≡ slice_index first i
     object_first i lt = get_or_append_left first (drop (length first) held) 0 i lt
 
-    pub object_rest : (i : ℕ) → length first ≤ i → i < o.size → slice_index (object_at offsets variables ram offset o) i ≡ slice_index ram (0x400 + offset + i)
+    pub object_rest : (i : ℕ) → length first ≤ i → i < o.size → slice_index (object_at offsets variables ram offset o) i ≡ slice_index ram (data_start + offset + i)
     object_rest i le lt =
         let n = length first in
         let same : n + (i - n) ≡ i = omega (arith, le) in
-        get_or-append_right first (drop n held) n i 0 (omega arith) le ∙ get_or-drop n held (i - n) 0 ∙ ap (slice_index held) same ∙ range_at ram (0x400 + offset) o.size i lt
+        get_or-append_right first (drop n held) n i 0 (omega arith) le ∙ get_or-drop n held (i - n) 0 ∙ ap (slice_index held) same ∙ range_at ram (data_start + offset) o.size i lt

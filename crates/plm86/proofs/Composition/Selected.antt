@@ -1,9 +1,10 @@
 -- The image of a program put together is as selection asks.
-use Rattle.std.proofs.Common.{◌≡◌, ℕ, zero, suc, ◌+◌, ◌-◌, ◌<◌, ◌≤◌, Bool, true, false, List, [], ◌∷◌, length, option_map, Option, Some, None, refl, sym, ap, ◌∙◌, subst, arith}
+use Rattle.std.proofs.Common.{◌≡◌, ℕ, zero, suc, ◌+◌, ◌-◌, ◌/◌, ◌<◌, ◌≤◌, Bool, true, false, List, [], ◌∷◌, length, option_map, Option, Some, None, refl, sym, ap, ◌∙◌, subst, arith}
 use Rattle.std.specs.Prelude.{slice_get, slice_index, position}
 use Rattle.std.specs.Option.{option_map_or}
 use Rattle.std.proofs.lemmas.List.Quantifiers.{position-Some}
 use Rattle.std.proofs.lemmas.Option.{none-some, slice_get-map}
+use Rattle.word86.specs.MemoryMap.{stack_room}
 use Rattle.icode.specs.declared.instruction.Instruction.{Instruction}
 use Rattle.icode.specs.declared.instruction.Instruction.TheVariants as op
 use Rattle.icode.specs.declared.code.Procedure as declared
@@ -185,7 +186,7 @@ module _ (names : Names) (c : Code) (parts : List Part) (size : RomSize) (rom : 
   pub three : 3 ≤ assembled.counted.largest
   three = omega (arith, assembled.counted.reached.2.is)
 
-  pub enough : assembled.counted.deepest + 3 + (assembled.counted.largest - 3) ≤ 2047
+  pub enough : assembled.counted.deepest + 3 + (assembled.counted.largest - 3) ≤ stack_room / 2
   enough = omega (arith, three, assembled.enough, assembled.counted.main_is, assembled.counted.handler_is)
 
   pub found : Finds (find_from 0 (offsets_in names) (sizes_of names)) (λ k. slice_index (offsets_in names) k) (λ k. slice_index (sizes_of names) k)

@@ -3,6 +3,7 @@ use Rattle.std.proofs.Common.{◌≡◌, ℕ, zero, suc, ◌+◌, ◌-◌, ◌<�
 use Rattle.std.specs.Prelude.{slice_get, slice_index, if◌then◌else◌}
 use Rattle.std.proofs.lemmas.Bool.{cases_lt}
 use Rattle.std.proofs.lemmas.List.{get_or_append_left, get_or-append-add, get_or-append_right, length-append}
+use Rattle.word86.specs.MemoryMap.{data_start, code_start, data_end}
 use Rattle.i86_code.specs.Coding.{AreBytes}
 use Rattle.plm_decl.specs.declared.names.Object.{Object}
 use Rattle.plm_decl.specs.declared.names.Variable.{Variable}
@@ -32,7 +33,7 @@ AreSmall (stretch to bytes ∷ rest) = AreBytes bytes × AreSmall rest
 
 -- they lie below the ROM
 abbrev LieLow : List Stretch → Type 0
-LieLow ss = (a v : ℕ) → Has ss a v → a < 0xF0000
+LieLow ss = (a v : ℕ) → Has ss a v → a < code_start
 
 -- ---- bytes that are joined with the stretches behind them
 
@@ -98,7 +99,7 @@ module _ (offsets : List ℕ) (variables : List Variable) where
 
   -- the address of no initial byte of these objects, which are the k-th and those after it
   abbrev pub IsBeside : (k : ℕ) → List Object → (a : ℕ) → Type 0
-  IsBeside k os a = (j : ℕ) (o : Object) → slice_get os j ≡ Some o → (i : ℕ) → i < length (bytes_of o) → a ≡ 1024 + slice_index offsets (k + j) + i → ⊥
+  IsBeside k os a = (j : ℕ) (o : Object) → slice_get os j ≡ Some o → (i : ℕ) → i < length (bytes_of o) → a ≡ data_start + slice_index offsets (k + j) + i → ⊥
 
   -- no two of these objects share an address of initial bytes
   abbrev pub AreApart : (k : ℕ) → List Object → Type 0
@@ -108,11 +109,11 @@ module _ (offsets : List ℕ) (variables : List Variable) where
 
   -- their initial bytes lie in the data's room
   abbrev pub AreLow : (k : ℕ) → List Object → Type 0
-  AreLow k os = (j : ℕ) (o : Object) → slice_get os j ≡ Some o → (i : ℕ) → i < length (bytes_of o) → slice_index offsets (k + j) + i < 0xF000
+  AreLow k os = (j : ℕ) (o : Object) → slice_get os j ≡ Some o → (i : ℕ) → i < length (bytes_of o) → slice_index offsets (k + j) + i < data_end
 
   -- an object of these has this initial byte at this address
   abbrev IsInitial : (k : ℕ) → List Object → (a v : ℕ) → Type 0
-  IsInitial k os a v = (j : ℕ) × (o : Object) × (slice_get os j ≡ Some o) × IsByte (1024 + slice_index offsets (k + j)) (bytes_of o) a v
+  IsInitial k os a v = (j : ℕ) × (o : Object) × (slice_get os j ≡ Some o) × IsByte (data_start + slice_index offsets (k + j)) (bytes_of o) a v
 
   abbrev all : ℕ → List Object → List Stretch
   all k os = stretches offsets variables k os
@@ -121,25 +122,25 @@ module _ (offsets : List ℕ) (variables : List Variable) where
   is_initial : (k : ℕ) (os : List Object) (a v : ℕ) → Has (all k os) a v → IsInitial k os a v
   is_initial k [] a v h = absurd h
   is_initial k (o ∷ os) a v h =
-      elim (joined_has (1024 + slice_index offsets k) (bytes_of o) (all (k + 1) os) a v h) [
-        | inl first ↦ (0, o, refl, let same : k ≡ k + 0 = omega arith in subst (λ n. IsByte (1024 + slice_index offsets n) (bytes_of o) a v) same first)
+      elim (joined_has (data_start + slice_index offsets k) (bytes_of o) (all (k + 1) os) a v h) [
+        | inl first ↦ (0, o, refl, let same : k ≡ k + 0 = omega arith in subst (λ n. IsByte (data_start + slice_index offsets n) (bytes_of o) a v) same first)
         | inr others ↦
             let (j, p, e, is) = is_initial (k + 1) os a v others in
             let next : k + 1 + j ≡ k + suc j = omega arith in
-            (suc j, p, e, subst (λ n. IsByte (1024 + slice_index offsets n) (bytes_of p) a v) next is)
+            (suc j, p, e, subst (λ n. IsByte (data_start + slice_index offsets n) (bytes_of p) a v) next is)
       ]
 
-  has_initial : (k : ℕ) (os : List Object) (a v : ℕ) (j : ℕ) (o : Object) → slice_get os j ≡ Some o → IsByte (1024 + slice_index offsets (k + j)) (bytes_of o) a v → Has (all k os) a v
+  has_initial : (k : ℕ) (os : List Object) (a v : ℕ) (j : ℕ) (o : Object) → slice_get os j ≡ Some o → IsByte (data_start + slice_index offsets (k + j)) (bytes_of o) a v → Has (all k os) a v
   has_initial k [] a v j o e is = absurd (let wrong = e in cc)
   has_initial k (q ∷ os) a v zero o e is =
       let same : o ≡ q = cc in
       let first : k + 0 ≡ k = omega arith in
-      has_joined (1024 + slice_index offsets k) (bytes_of q) (all (k + 1) os) a v
-      (inl (subst (λ p. IsByte (1024 + slice_index offsets k) (bytes_of p) a v) same (subst (λ n. IsByte (1024 + slice_index offsets n) (bytes_of o) a v) first is)))
+      has_joined (data_start + slice_index offsets k) (bytes_of q) (all (k + 1) os) a v
+      (inl (subst (λ p. IsByte (data_start + slice_index offsets k) (bytes_of p) a v) same (subst (λ n. IsByte (data_start + slice_index offsets n) (bytes_of o) a v) first is)))
   has_initial k (q ∷ os) a v (suc j) o e is =
       let next : k + suc j ≡ k + 1 + j = omega arith in
-      has_joined (1024 + slice_index offsets k) (bytes_of q) (all (k + 1) os) a v
-      (inr (has_initial (k + 1) os a v j o e (subst (λ n. IsByte (1024 + slice_index offsets n) (bytes_of o) a v) next is)))
+      has_joined (data_start + slice_index offsets k) (bytes_of q) (all (k + 1) os) a v
+      (inr (has_initial (k + 1) os a v j o e (subst (λ n. IsByte (data_start + slice_index offsets n) (bytes_of o) a v) next is)))
 
   -- so they lie as the objects do
   are_beside : (k : ℕ) (os : List Object) (a : ℕ) → IsBeside k os a → (v : ℕ) → Has (all k os) a v → ⊥
@@ -150,7 +151,7 @@ module _ (offsets : List ℕ) (variables : List Variable) where
 
   are_small : (k : ℕ) (os : List Object) → HaveBytes offsets variables os → AreSmall (all k os)
   are_small k [] have = tt
-  are_small k (o ∷ os) have = small_joined (1024 + slice_index offsets k) (bytes_of o) (all (k + 1) os) have.0 (are_small (k + 1) os have.1)
+  are_small k (o ∷ os) have = small_joined (data_start + slice_index offsets k) (bytes_of o) (all (k + 1) os) have.0 (are_small (k + 1) os have.1)
 
   -- what holds of all holds of those after the first
   apart_rest : (k : ℕ) (o : Object) (os : List Object) → AreApart k (o ∷ os) → AreApart (k + 1) os
@@ -162,9 +163,9 @@ module _ (offsets : List ℕ) (variables : List Variable) where
   are_apart : (k : ℕ) (os : List Object) → AreApart k os → ShareNone (all k os)
   are_apart k [] apart = tt
   are_apart k (o ∷ os) apart =
-      apart_joined (1024 + slice_index offsets k) (bytes_of o) (all (k + 1) os) beside (are_apart (k + 1) os (apart_rest k o os apart))
+      apart_joined (data_start + slice_index offsets k) (bytes_of o) (all (k + 1) os) beside (are_apart (k + 1) os (apart_rest k o os apart))
     where
-      beside : (a v w : ℕ) → IsByte (1024 + slice_index offsets k) (bytes_of o) a v → Has (all (k + 1) os) a w → ⊥
+      beside : (a v w : ℕ) → IsByte (data_start + slice_index offsets k) (bytes_of o) a v → Has (all (k + 1) os) a w → ⊥
       beside a v w (i, lt, at, is) h =
           let (j, p, e, (l, ltl, at_p, is_p)) = is_initial (k + 1) os a w h in
           let first : k + 0 ≡ k = omega arith in
@@ -180,7 +181,7 @@ module _ (places : List ℕ) (from : ℕ) where
 
   -- the bytes to copy for stretches are in the ROM
   abbrev pub AreInRom : (at copies : ℕ) → List Stretch → (ℕ → ℕ) → Type 0
-  AreInRom at copies ss f = (j : ℕ) → j < length (copied_bytes copies ss) → f (0xF0000 + (from + at + j)) ≡ slice_index (copied_bytes copies ss) j
+  AreInRom at copies ss f = (j : ℕ) → j < length (copied_bytes copies ss) → f (code_start + (from + at + j)) ≡ slice_index (copied_bytes copies ss) j
 
   -- what is no address of a stretch lies before it or after it
   beside_one : (to : ℕ) (bytes : List ℕ) (a : ℕ) → ((v : ℕ) → IsByte to bytes a v → ⊥) → (a < to) ⊎ (to + length bytes ≤ a)
@@ -210,14 +211,14 @@ module _ (places : List ℕ) (from : ℕ) where
   rom_rest at copies to bytes rest f low stands j lt =
       let c = copied copies bytes in
       let others = copied_bytes (copies_with copies bytes) rest in
-      let a = 0xF0000 + (from + (at + length c) + j) in
-      let there : a ≡ 0xF0000 + (from + at + (length c + j)) = omega arith in
+      let a = code_start + (from + (at + length c) + j) in
+      let there : a ≡ code_start + (from + at + (length c + j)) = omega arith in
       stretch_beside places from at copies to bytes f a (beside_one to bytes a (λ v is. let small = low a v (inl is) in absurd (omega (arith, small))))
       ∙ ap f there ∙ stands (length c + j) (omega (arith, lt, length-append c others)) ∙ get_or-append-add c others j 0
 
   -- its own bytes are there, if they are copied
   rom_own : (at copies to : ℕ) (bytes : List ℕ) (rest : List Stretch) (f : ℕ → ℕ) (i : ℕ) → AreInRom at copies (stretch to bytes ∷ rest) f → i < length bytes
-      → is_copied copies (length bytes) ≡ true → f (0xF0000 + (from + at + i)) ≡ slice_index bytes i
+      → is_copied copies (length bytes) ≡ true → f (code_start + (from + at + i)) ≡ slice_index bytes i
   rom_own at copies to bytes rest f i stands lt e =
       let c = copied copies bytes in
       let others = copied_bytes (copies_with copies bytes) rest in
@@ -255,9 +256,9 @@ module _ (places : List ℕ) (from : ℕ) where
     -- each has its initial bytes
     pub objects_set : HaveBytes offsets variables os → AreApart offsets variables 0 os → AreLow offsets variables 0 os → AreInRom 0 0 (stretches offsets variables 0 os) f
         → (j : ℕ) (o : Object) → slice_get os j ≡ Some o → (i : ℕ) → i < length (object_bytes offsets variables o)
-        → after_objects (1024 + slice_index offsets (0 + j) + i) ≡ slice_index (object_bytes offsets variables o) i
+        → after_objects (data_start + slice_index offsets (0 + j) + i) ≡ slice_index (object_bytes offsets variables o) i
     objects_set have apart low stands j o e i lt =
-        let at = 1024 + slice_index offsets (0 + j) + i in
+        let at = data_start + slice_index offsets (0 + j) + i in
         let v = slice_index (object_bytes offsets variables o) i in
         all_set 0 0 (stretches offsets variables 0 os) f (are_small offsets variables 0 os have) (are_apart offsets variables 0 os apart) (are_low offsets variables 0 os low) stands at v
         (has_initial offsets variables 0 os at v j o e (i, lt, refl, refl))

@@ -2,6 +2,7 @@
 use Rattle.std.proofs.Common.{◌≡◌, ℕ, ◌+◌, ◌*◌, ◌<◌, ◌≤◌, List, map, length, refl, sym, ap, ◌∙◌, subst, inl, inr, arith}
 use Rattle.std.specs.Prelude.{slice_index}
 use Rattle.std.proofs.lemmas.Bool.{cases_lt}
+use Rattle.word86.specs.MemoryMap.{ram_size, vectors_size, stack_room}
 use Rattle.plm_decl.specs.declared.names.Names.{Names}
 use Rattle.plm_decl.specs.Names.{object_of}
 use Rattle.plm_decl.specs.Placement.{IsPlacement, sizes_of}
@@ -29,6 +30,7 @@ use Rattle.layout_link.specs.Linker.{offsets_in, place_of, acts_in}
 use Rattle.layout_link.specs.Startup.{start_up_turns}
 use Rattle.layout_link.specs.Tasks.{is_main, is_unserved}
 use Rattle.plm86.specs.Headline.{RomIsCorrect, StartsQuietly, StartsNoSooner}
+use Rattle.word86.specs.Page.{Pages, AreWhole}
 use Rattle.plm86.specs.Laws.{Assembly, IsSound, firmware_of, power_on_memory}
 use Rattle.plm86.specs.Startup.{with_vectors, after_acts}
 use Rattle.plm86.specs.Build.{MeansNames, IsSet, StartsUp}
@@ -44,7 +46,7 @@ use Rattle.plm86.proofs.Composition.FirstStore.{first_store_stands, keeps_others
 use Rattle.plm86.proofs.Headline.FromRom.{from_rom}
 use Rattle.plm86.proofs.Headline.Quiet.{quiet_by_memory, no_sooner}
 
-module _ (promises : Promises) (program : Program) (names : Names) (typed : AreTyped program names) (c : Code) (lowered : IsLowered names c) (stack : Stack) (counted : IsCounted c stack.main stack.handler) (enough : stack.main + stack.handler ≤ 4094) (runs : NoRunPasses c stack.main stack.handler) (parts : List Part) (selected : AreParts c parts) (size : RomSize) (image : Image) (linked : IsLinked names parts stack size image) where
+module _ (promises : Promises) (program : Program) (names : Names) (typed : AreTyped program names) (c : Code) (lowered : IsLowered names c) (stack : Stack) (counted : IsCounted c stack.main stack.handler) (enough : stack.main + stack.handler ≤ stack_room) (runs : NoRunPasses c stack.main stack.handler) (parts : List Part) (selected : AreParts c parts) (size : RomSize) (image : Image) (linked : IsLinked names parts stack size image) where
   abbrev assembled : IsAssembled names c parts size image.rom.items stack.main stack.handler
   assembled = record {
     lowered = lowered;
@@ -91,7 +93,7 @@ module _ (promises : Promises) (program : Program) (names : Names) (typed : AreT
       from_rom promises.below promises.one_form promises.short promises.widths promises.words chips.ChipState Rest Context board_chips rom is_sound linked.code linked.words (place_of names parts size is_unserved) (acts_in names parts size) linked.start_up.0
       (next (offsets_in names) (sizes_of names) (procedures_of names)) (main_rest names) (handler_rest names) (next_of x) begins_at (enters_at x) 2 together.most promise.limit 1 f.lowered f.compiled f.paced chips.reset
       (λ ram screen. first_store ram screen (offsets_in names) names.variables.items (map object_of names.objects.items) chips.reset)
-      (λ ram screen ram_long screen_long. first_store_stands rom names parts size image.rom.items ram screen chips.reset ram_long screen_long linked.long linked.fits linked.initial linked.bytes (promises.initial names (offsets_in names)) placement (λ v. refl) linked.within (λ k. refl) (λ k. refl))
+      (λ ram screen ram_long whole. first_store_stands rom names parts size image.rom.items ram screen chips.reset ram_long whole linked.long linked.fits linked.initial linked.bytes (promises.initial names (offsets_in names)) placement (λ v. refl) linked.within (λ k. refl) (λ k. refl))
 
   pub means : MeansNames names image
   means = record {
@@ -113,10 +115,10 @@ module _ (promises : Promises) (program : Program) (names : Names) (typed : AreT
   }
 
   -- the memory at main's beginning, in the words of the clause
-  alone : (ram screen : List ℕ) → length ram ≡ 0x20000 → length screen ≡ 4000 → (a : ℕ) → a < 0x20000 → ¬ IsSet names (offsets_in names) a
+  alone : (ram : List ℕ) (screen : Pages) → length ram ≡ ram_size → AreWhole screen → (a : ℕ) → a < ram_size → ¬ IsSet names (offsets_in names) a
       → after_acts (acts_in names parts size) (with_vectors (place_of names parts size is_unserved) 0 256 (power_on_memory image.rom.items ram screen)) a ≡ slice_index ram a
-  alone ram screen ram_long screen_long a low unset =
-      elim (cases_lt a 1024) [
+  alone ram screen ram_long whole a low unset =
+      elim (cases_lt a vectors_size) [
         | inl below ↦ absurd (unset (inl below))
         | inr above ↦ keeps_others names parts size image.rom.items ram screen ram_long a above low (λ k o is i lt at. unset (inr (k, o, is, i, lt, at)))
       ]

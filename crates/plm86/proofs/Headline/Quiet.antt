@@ -1,13 +1,15 @@
 -- Start-up makes no label but those of events, leads to main, and leaves RAM as it was where it sets nothing.
-use Rattle.std.proofs.Common.{◌≡◌, ℕ, zero, suc, ◌+◌, ◌-◌, ◌<◌, ◌≤◌, ◌^◌, inl, inr, List, [], ◌∷◌, map, length, take, refl, sym, ap, ◌∙◌, subst, arith, ap₂}
-use Rattle.std.specs.Prelude.{slice_index, if◌then◌else◌}
+use Rattle.std.proofs.Common.{◌≡◌, ℕ, zero, suc, ◌+◌, ◌<◌, ◌≤◌, ◌^◌, inl, inr, List, [], ◌∷◌, map, length, take, refl, sym, ◌∙◌, subst, arith, ap₂}
+use Rattle.std.specs.Prelude.{slice_index}
 use Rattle.std.proofs.lemmas.Bool.{cases_lt}
+use Rattle.word86.specs.MemoryMap.{ram_size, vectors_size}
 use Rattle.word86.specs.Action.{Shared}
 use Rattle.word86.specs.Chips.{Chips}
+use Rattle.word86.specs.Page.{Pages, AreWhole}
 use Rattle.plm_meaning.specs.Store.{Store, shared}
 use Rattle.i86_code.specs.Coding.{IsOneForm, IsShort}
 use Rattle.cpu8086.specs.declared.cpu.Cpu.{Cpu}
-use Rattle.board.specs.World.{World, Whole, board_model, occurs, region, screen_at}
+use Rattle.board.specs.World.{World, Whole, board_model, occurs}
 use Rattle.board.specs.Machine.{Board, outputs, final, power_on}
 use Rattle.plm86.specs.Inner.BoardLaws.{LawsBelow}
 use Rattle.plm86.specs.Boots.{after_events, Boots}
@@ -17,9 +19,10 @@ use Rattle.layout_link.specs.Rom.{CodeInRom}
 use Rattle.layout_link.specs.Startup.{Act, PutWord, PutByte, Copy, HasStartUp, start_up_turns}
 use Rattle.plm86.specs.Startup.{with_vectors, after_act, after_acts}
 use Rattle.plm86.proofs.Machine.Startup.{boots, never_there}
-use Rattle.plm86.proofs.Machine.Regions.{within_true, of_board, events_law}
+use Rattle.plm86.proofs.Machine.Regions.{of_board, events_law}
 use Rattle.plm86.proofs.Machine.Copying.{byte_put_other, word_put_other, copied_beside}
 use Rattle.plm86.proofs.Machine.Vectors.{rounds_beside}
+use Rattle.plm86.proofs.Composition.PowerOn.{in_ram}
 use Rattle.plm86.proofs.Headline.FromRom.{at_the_end, boots_from}
 use Rattle.plm86.proofs.Headline.Orderly.{boots_orderly}
 
@@ -54,8 +57,8 @@ acts_beside : (acts : List Act) (f : ℕ → ℕ) (a : ℕ) → ¬ IsSetBy acts 
 acts_beside [] f a free = refl
 acts_beside (act ∷ acts) f a free = acts_beside acts (after_act act f) a (λ s. free (inr s)) ∙ act_beside act f a (λ p. free (inl p))
 
-behind_vectors : (acts : List Act) (a : ℕ) → ¬ IsSetBy acts a → 1024 ≤ a
-behind_vectors [] a free = elim (cases_lt a 1024) [
+behind_vectors : (acts : List Act) (a : ℕ) → ¬ IsSetBy acts a → vectors_size ≤ a
+behind_vectors [] a free = elim (cases_lt a vectors_size) [
   | inl lt ↦ absurd (free lt)
   | inr le ↦ le
 ]
@@ -67,13 +70,6 @@ left_alone entry acts f a free = acts_beside acts (with_vectors entry 0 256 f) a
 
 -- ---- from memory to the board's RAM
 
--- below 128 KiB power-on's memory is RAM
-pub power_on_ram : (rom ram screen : List ℕ) (a : ℕ) → length ram ≡ 0x20000 → a < 0x20000 → power_on_memory rom ram screen a ≡ slice_index ram a
-power_on_ram rom ram screen a size lt =
-    let beyond = region screen_at screen a (region (0x100000 - length rom) rom a 255) in
-    let same : a - 0 ≡ a = omega arith in
-    ap (λ b. if b then slice_index ram (a - 0) else beyond) (within_true 0 ram a 0x20000 size (omega arith) lt) ∙ ap (slice_index ram) same
-
 -- the processor goes on at this place, and the board's memory is this one
 abbrev Left : {P : Type 0} → Chips P → List ℕ → (ℕ → ℕ) → (place : ℕ) → Board (World P) → Store P → Type 0
 Left c rom f place b s = Whole rom b.world × IsGoing b.cpu.phase × ((a : ℕ) → a < 2 ^ 20 → (board_model c).load b.world a ≡ f a) × IsAt place b.cpu.registers
@@ -81,17 +77,17 @@ Left c rom f place b s = Whole rom b.world × IsGoing b.cpu.phase × ((a : ℕ) 
 module _ (below : LawsBelow) (only : IsOneForm) (short : IsShort) where
   -- where what is not set is as at power-on in the memory that start-up leaves
   pub quiet_by_memory : {P : Type 0} (c : Chips P) (x : Assembly) → CodeInRom x.rom x.code → (entry : ℕ) (acts : List Act) → HasStartUp x.code entry acts x.main_at → (chips : P) (IsSet : ℕ → Type 0)
-      → ((ram screen : List ℕ) → length ram ≡ 0x20000 → length screen ≡ 4000 → (a : ℕ) → a < 0x20000 → ¬ IsSet a → after_acts acts (with_vectors entry 0 256 (power_on_memory x.rom ram screen)) a ≡ slice_index ram a)
+      → ((ram : List ℕ) (screen : Pages) → length ram ≡ ram_size → AreWhole screen → (a : ℕ) → a < ram_size → ¬ IsSet a → after_acts acts (with_vectors entry 0 256 (power_on_memory x.rom ram screen)) a ≡ slice_index ram a)
       → StartsQuietly c (start_up_turns acts) x.main_at IsSet x.rom chips
-  quiet_by_memory {P} c x in_rom entry acts start chips IsSet kept general ram screen small ram_size screen_size =
+  quiet_by_memory {P} c x in_rom entry acts start chips IsSet kept general ram screen small ram_long whole =
       let f = at_the_end x.rom entry acts ram screen in
       let n = start_up_turns acts in
       let b = power_on general x.rom ram screen chips in
-      let s : Store P = record { objects = []; screen = []; chips = chips } in
+      let s : Store P = record { objects = []; screen = screen; chips = chips } in
       let ends_at = Left c x.rom f x.main_at in
       let booted : Boots (shared c) (board_turn c) ends_at n b s =
       boots (board_model c) c (λ w. w.chips) (Whole x.rom) (of_board below c x.rom) (occurs c) (events_law c x.rom) x.code ends_at (suc start.p6) n b s
-      (boots_from below only short c x in_rom entry acts start (suc start.p6) (omega arith) general ram screen small ram_size screen_size s chips refl ends_at
+      (boots_from below only short c x in_rom entry acts start (suc start.p6) (omega arith) general ram screen small ram_long whole s chips refl ends_at
       (λ g words flags d p h. (h.world.whole, subst (λ (z : Cpu). IsGoing z.phase) (sym h.is) tt, h.world.memory, subst (λ (z : Cpu). IsAt x.main_at z.registers) (sym h.is) (refl, refl)))) in
       record {
         quiet = labels_are (shared c) (board_turn c) ends_at n b s booted;
@@ -100,27 +96,27 @@ module _ (below : LawsBelow) (only : IsOneForm) (short : IsShort) where
         keeps = λ due turns a lt free.
             let t = ends (shared c) (board_turn c) ends_at n b s booted due turns in
             let w = (final (board_turn c) due b).world in
-            sym (power_on_ram w.rom w.ram w.screen a t.1.0.ram lt) ∙ t.1.2 a (omega (arith, lt)) ∙ kept ram screen ram_size screen_size a lt free;
+            sym (in_ram w.rom w.ram w.screen t.1.0.ram a lt) ∙ t.1.2 a (omega (arith, lt)) ∙ kept ram screen ram_long whole a lt free;
       }
 
   -- where all of start-up stands before main
   pub no_sooner : {P : Type 0} (c : Chips P) (x : Assembly) → CodeInRom x.rom x.code → (entry : ℕ) (acts : List Act) (start : HasStartUp x.code entry acts x.main_at) → start.p6 < x.main_at → (chips : P)
       → StartsNoSooner c (start_up_turns acts) x.main_at x.rom chips
-  no_sooner {P} c x in_rom entry acts start before chips general ram screen small ram_size screen_size due few =
+  no_sooner {P} c x in_rom entry acts start before chips general ram screen small ram_long whole due few =
       let n = start_up_turns acts in
       let b = power_on general x.rom ram screen chips in
-      let s : Store P = record { objects = []; screen = []; chips = chips } in
+      let s : Store P = record { objects = []; screen = screen; chips = chips } in
       let any : Board (World P) → Store P → Type 0 = λ d v. Unit {0} in
       never_there (board_model c) c (λ w. w.chips) (Whole x.rom) (of_board below c x.rom) (occurs c) (events_law c x.rom) x.code any x.main_at n b s
-      (boots_from below only short c x in_rom entry acts start x.main_at before general ram screen small ram_size screen_size s chips refl any (λ g words flags d p h. tt)) due few
+      (boots_from below only short c x in_rom entry acts start x.main_at before general ram screen small ram_long whole s chips refl any (λ g words flags d p h. tt)) due few
 
   pub quiet_from_rom : (P : Type 0) → QuietFromRom P
   quiet_from_rom P c x in_rom entry acts start chips =
       quiet_by_memory c x in_rom entry acts start chips (IsSetBy acts)
-      (λ ram screen ram_size screen_size a lt free. left_alone entry acts (power_on_memory x.rom ram screen) a free ∙ power_on_ram x.rom ram screen a ram_size lt)
+      (λ ram screen ram_long whole a lt free. left_alone entry acts (power_on_memory x.rom ram screen) a free ∙ in_ram x.rom ram screen ram_long a lt)
 
 -- a start that sets less sets no more
 pub quiet_wider : {P : Type 0} (c : Chips P) (n main_at : ℕ) (IsSet IsSetMore : ℕ → Type 0) → ((a : ℕ) → IsSet a → IsSetMore a) → (rom : List ℕ) (chips : P) → StartsQuietly c n main_at IsSet rom chips → StartsQuietly c n main_at IsSetMore rom chips
-quiet_wider c n main_at IsSet IsSetMore wider rom chips h general ram screen small ram_size screen_size =
-    let q = h general ram screen small ram_size screen_size in
+quiet_wider c n main_at IsSet IsSetMore wider rom chips h general ram screen small ram_long whole =
+    let q = h general ram screen small ram_long whole in
     record { quiet = q.quiet; orderly = q.orderly; arrives = q.arrives; keeps = λ due turns a lt free. q.keeps due turns a lt (λ s. free (wider a s)) }

@@ -1,13 +1,18 @@
--- What the board has of the program's store: by address in the relation, by the bytes of RAM and screen in the headline.
+-- What the board has of the program's store: by address in the relation, by the bytes of RAM and of the pages in the headline.
 use Rattle.std.proofs.Common.{◌≡◌, ℕ, suc, ◌+◌, ◌<◌, List, [], ◌∷◌, length, refl, sym, ap, ◌∙◌, subst, arith, ap₂}
 use Rattle.std.specs.Prelude.{slice_index}
+use Rattle.word86.specs.MemoryMap.{data_start}
+use Rattle.word86.specs.declared.page.Page.{Page}
+use Rattle.word86.specs.declared.page.Page.TheVariants.{Monochrome, Colour}
 use Rattle.word86.specs.Chips.{Chips}
+use Rattle.word86.specs.Page.{Pages, page_size, page_of}
 use Rattle.plm_meaning.specs.Store.{Store}
 use Rattle.board.specs.World.{World, Whole, board_model}
 use Rattle.plm86.specs.Headline.{HasStore}
 use Rattle.plm86.specs.Laws.{Assembly}
 use Rattle.plm86.specs.Relation.{Fine, Placed}
-use Rattle.plm86.proofs.Composition.PowerOn.{in_ram, on_screen}
+use Rattle.plm86.proofs.Machine.Memory.{page_whole}
+use Rattle.plm86.proofs.Composition.PowerOn.{in_ram, on_page}
 
 -- bytes alike one by one
 same_bytes : (xs ys : List ℕ) → length xs ≡ length ys → ((i : ℕ) → i < length xs → slice_index xs i ≡ slice_index ys i) → xs ≡ ys
@@ -16,16 +21,22 @@ same_bytes [] (y ∷ ys) e h = absurd (omega (arith, e))
 same_bytes (x ∷ xs) [] e h = absurd (omega (arith, e))
 same_bytes (x ∷ xs) (y ∷ ys) e h = ap₂ (λ v vs. v ∷ vs) (h 0 (omega arith)) (same_bytes xs ys (omega (arith, e)) (λ i lt. h (suc i) (omega (arith, lt))))
 
+-- pages alike one by one
+same_pages : (a b : Pages) → ((page : Page) → page_of page a ≡ page_of page b) → a ≡ b
+same_pages a b h = ap₂ (λ (x y : List ℕ). let p : Pages = record { monochrome = x; colour = y } in p) (h Monochrome) (h Colour)
+
 pub has_store : {P : Type 0} (c : Chips P) (x : Assembly) → Placed x.placed x.size → (s : Store P) (w : World P) → Fine (board_model c) (λ w. w.chips) (Whole x.rom) x.code x.words x.entry x.placed x.size s w → HasStore x.placed x.size s w
 has_store c x is_placed s w fine = record {
   sizes = fine.sizes;
   bytes = λ k i lt.
       let low = is_placed.below k i lt in
-      let same : 1024 + x.placed k + i ≡ 1024 + (x.placed k + i) = omega arith in
-      ap (slice_index w.ram) same ∙ sym (in_ram w.rom w.ram w.screen fine.whole.ram (1024 + (x.placed k + i)) (omega (arith, low)))
+      let same : data_start + x.placed k + i ≡ data_start + (x.placed k + i) = omega arith in
+      ap (slice_index w.ram) same ∙ sym (in_ram w.rom w.ram w.screen fine.whole.ram (data_start + (x.placed k + i)) (omega (arith, low)))
       ∙ fine.holds.bytes k i (subst (λ n. i < n) (sym (fine.sizes k)) lt);
-  screen = same_bytes w.screen s.screen (fine.whole.screen ∙ sym fine.screen_size) (λ i lt.
-      let low : i < 4000 = omega (arith, lt, fine.whole.screen) in
-      sym (on_screen w.rom w.ram w.screen fine.whole.ram fine.whole.screen i low) ∙ fine.holds.screen i low);
+  screen = same_pages w.screen s.screen (λ page.
+      let long = page_whole page w.screen fine.whole.screen in
+      same_bytes (page_of page w.screen) (page_of page s.screen) (long ∙ sym (page_whole page s.screen fine.screen_size)) (λ i lt.
+      let low : i < page_size = omega (arith, lt, long) in
+      sym (on_page w.rom w.ram w.screen fine.whole.ram fine.whole.screen page i low) ∙ fine.holds.screen page i low));
   chips = fine.chips_are;
 }

@@ -1,5 +1,6 @@
 -- What the board does is a run of the program.
 use Rattle.std.proofs.Common.{◌≡◌, suc, ◌+◌, ◌*◌, true, false, List, [], ◌++◌, map, length, drop, Some, None, refl, sym, subst, arith}
+use Rattle.word86.specs.MemoryMap.{stack_top}
 use Rattle.word86.specs.declared.event.Event.{Event}
 use Rattle.word86.specs.declared.label.Label.{Label}
 use Rattle.word86.specs.Event.{event_label}
@@ -58,7 +59,7 @@ from_instructions below widths keeps P R c x sound next first body limit most co
     let in_step : (b : Board (World P)) (v : Store P) → Begins c x b v → (d : Context) × InStep below x sound c b (Alone d false false v) × Follows Access answers R next Context o limit most true n limit first d =
     λ b v h. (
       Own x.main_at h.registers [] false None,
-      (record { pair = Single x.main_at h.registers [] false false v; is = refl; fits = record { sp = 0xFFFE; is = h.is; stack = record { words = tt; within = omega arith; at = refl }; fine = h.fine; flags = h.flags; low = sound.main_low } }, (h.words, tt, omega arith)),
+      (record { pair = Single x.main_at h.registers [] false false v; is = refl; fits = record { sp = stack_top; is = h.is; stack = record { words = tt; within = omega arith; at = refl }; fine = h.fine; flags = h.flags; low = sound.main_low } }, (h.words, tt, omega arith)),
       compiled.follows n h.registers h.words,
     ) in
     let fits : (b : Board (World P)) (d : Duo (Store P) Context) → InStep below x sound c b d → HasWords (main_in d) = λ b d st. st.1 in
@@ -90,10 +91,10 @@ from_instructions below widths keeps P R c x sound next first body limit most co
     )
 
 pub from_layers : LawsBelow → DecodedHasWidths → KeepsWords → (P R I : Type 0) → FromLayers P R I
-from_layers below widths keeps P R I c x sound next first body does begin procedure k1 m1 k2 m2 lowered compiled paced start_turns chips first_store boots general ram screen small ram_size screen_size =
+from_layers below widths keeps P R I c x sound next first body does begin procedure k1 m1 k2 m2 lowered compiled paced start_turns chips first_store boots general ram screen small ram_long whole =
     let o = offers_of x in
     let both : Compiled x R next (λ g. first) (λ v d. body v) (k1 * suc k2 + k2) (suc m2 * m1) = record {
       follows = λ n g h. Joining.joins Access answers R next I does Context o k1 m1 k2 m2 true n (n * suc m2) k1 k2 first (begin g) (main_of x g) (omega arith) (omega arith) (omega arith) (lowered.tracks (n * suc m2) g) (compiled.follows n g h);
       serves = λ n v d h. Joining.joins Access answers R next I does Context o k1 m1 k2 m2 false n (n * suc m2) k1 k2 (body v) (procedure v d) (starts_of x v d) (omega arith) (omega arith) (omega arith) (lowered.bodies (n * suc m2) v d) (compiled.serves n v d h);
     } in
-    from_instructions below widths keeps P R c x sound next first body (k1 * suc k2 + k2) (suc m2 * m1) both paced start_turns _ _ (boots general ram screen small ram_size screen_size)
+    from_instructions below widths keeps P R c x sound next first body (k1 * suc k2 + k2) (suc m2 * m1) both paced start_turns _ _ (boots general ram screen small ram_long whole)

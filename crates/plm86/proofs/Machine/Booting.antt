@@ -1,5 +1,6 @@
 -- Start-up's code leads from the reset to main.
 use Rattle.std.proofs.Common.{◌≡◌, ℕ, suc, ◌+◌, ◌<◌, ◌≤◌, false, List, [], ◌∷◌, ◌++◌, map, Option, Some, refl, sym, ap, ◌∙◌, subst, arith, append-nil}
+use Rattle.word86.specs.MemoryMap.{vectors_size, data_segment, screen_segment, code_segment, stack_top, reset_offset}
 use Rattle.word86.specs.declared.event.Event.{Event}
 use Rattle.word86.specs.declared.width.Width.TheVariants as widths
 use Rattle.word86.specs.Chips.{Chips}
@@ -43,7 +44,7 @@ but_ax r = record (working r) { ax = 0 }
 
 -- between the loop and the loading of segments: data is at 0, and strings go up
 pub record IsEarly (r : Regs) : Type 0 where
-  pub cs : r.cs ≡ 0xF000
+  pub cs : r.cs ≡ code_segment
   pub ds : r.ds ≡ 0
   pub es : r.es ≡ 0
   pub flags : FlagsAre false r.flags
@@ -73,7 +74,7 @@ module _ {W P : Type 0} (m : BusModel W) (c : Chips P) (chips : W → P) (Whole 
   behind r ip w = record { registers = record r { ip = ip }; world = w; labels = [] }
 
   -- an instruction that stands here, before that place, and leads there
-  steps_to : (r : Regs) (f : ℕ → ℕ) (n : Instr) (q : ℕ → Regs) (g : ℕ → ℕ) (here there : ℕ) → r.cs ≡ 0xF000 → has r.flags 512 ≡ false → phase_after n ≡ Running → r.ip ≡ here → (length : ℕ) → code here ≡ Some (n, length) → further here length ≡ there → here < place
+  steps_to : (r : Regs) (f : ℕ → ℕ) (n : Instr) (q : ℕ → Regs) (g : ℕ → ℕ) (here there : ℕ) → r.cs ≡ code_segment → has r.flags 512 ≡ false → phase_after n ≡ Running → r.ip ≡ here → (length : ℕ) → code here ≡ Some (n, length) → further here length ≡ there → here < place
       → ((ip : ℕ) (p : P) (w : W) → Has f p w → (u : W) × (effect m n r.ip (behind r ip w) ≡ record { registers = q ip; world = u; labels = [] }) × Has g p u)
       → To 1 (Boots r f) (Boots (q there) g)
   steps_to r f n q g here there cs off phase at length st on before does =
@@ -81,19 +82,19 @@ module _ {W P : Type 0} (m : BusModel W) (c : Chips P) (chips : W → P) (Whole 
       subst (λ z. To 1 (Boots r f) (Boots (q z) g)) same
       (steps_by m c chips Whole laws occurs events code Begins place r f n length (q (further r.ip length)) g cs off phase (ap code at ∙ st) (λ e. omega (arith, e, at, before)) (does (further r.ip length)))
 
-  loads : (r : Regs) (f : ℕ → ℕ) (register : Register16) (v here there : ℕ) → r.cs ≡ 0xF000 → has r.flags 512 ≡ false → r.ip ≡ here → Stands code here (load_word register v) there → here < place → To 1 (Boots r f) (Boots (with_word (record r { ip = there }) register v) f)
+  loads : (r : Regs) (f : ℕ → ℕ) (register : Register16) (v here there : ℕ) → r.cs ≡ code_segment → has r.flags 512 ≡ false → r.ip ≡ here → Stands code here (load_word register v) there → here < place → To 1 (Boots r f) (Boots (with_word (record r { ip = there }) register v) f)
   unfolding effect moved
   loads r f register v here there cs off at st before = steps_to r f (load_word register v) (λ ip. with_word (record r { ip = ip }) register v) f here there cs off refl at st.0 st.1 st.2 before (λ ip p w k. (w, refl, k))
 
-  loads_segment : (r : Regs) (f : ℕ → ℕ) (segment : LoadableSegment) (here there : ℕ) → r.cs ≡ 0xF000 → has r.flags 512 ≡ false → r.ip ≡ here → Stands code here (i.MoveToSegment segment (places.Register Ax)) there → here < place → To 1 (Boots r f) (Boots (with_segment (record r { ip = there }) segment r.ax) f)
+  loads_segment : (r : Regs) (f : ℕ → ℕ) (segment : LoadableSegment) (here there : ℕ) → r.cs ≡ code_segment → has r.flags 512 ≡ false → r.ip ≡ here → Stands code here (i.MoveToSegment segment (places.Register Ax)) there → here < place → To 1 (Boots r f) (Boots (with_segment (record r { ip = there }) segment r.ax) f)
   unfolding effect moved_to_segment
   loads_segment r f segment here there cs off at st before = steps_to r f (i.MoveToSegment segment (places.Register Ax)) (λ ip. with_segment (record r { ip = ip }) segment r.ax) f here there cs off refl at st.0 st.1 st.2 before (λ ip p w k. (w, refl, k))
 
-  clears : (r : Regs) (f : ℕ → ℕ) (here there : ℕ) → r.cs ≡ 0xF000 → has r.flags 512 ≡ false → r.ip ≡ here → Stands code here i.ClearDirection there → here < place → To 1 (Boots r f) (Boots (record r { ip = there; flags = with_flag (flag_bit 1024) false r.flags }) f)
+  clears : (r : Regs) (f : ℕ → ℕ) (here there : ℕ) → r.cs ≡ code_segment → has r.flags 512 ≡ false → r.ip ≡ here → Stands code here i.ClearDirection there → here < place → To 1 (Boots r f) (Boots (record r { ip = there; flags = with_flag (flag_bit 1024) false r.flags }) f)
   unfolding effect
   clears r f here there cs off at st before = steps_to r f i.ClearDirection (λ ip. record r { ip = ip; flags = with_flag (flag_bit 1024) false r.flags }) f here there cs off refl at st.0 st.1 st.2 before (λ ip p w k. (w, refl, k))
 
-  jumps : (r : Regs) (f : ℕ → ℕ) (here length d there : ℕ) → r.cs ≡ 0xF000 → has r.flags 512 ≡ false → r.ip ≡ here → code here ≡ Some (i.Jump d, length) → further (further here length) d ≡ there → here < place → To 1 (Boots r f) (Boots (record r { ip = there }) f)
+  jumps : (r : Regs) (f : ℕ → ℕ) (here length d there : ℕ) → r.cs ≡ code_segment → has r.flags 512 ≡ false → r.ip ≡ here → code here ≡ Some (i.Jump d, length) → further (further here length) d ≡ there → here < place → To 1 (Boots r f) (Boots (record r { ip = there }) f)
   unfolding effect
   jumps r f here length d there cs off at st to before = subst (λ z. To 1 (Boots r f) (Boots (record r { ip = z }) f)) to (steps_to r f (i.Jump d) (λ ip. record r { ip = further ip d }) f here (further here length) cs off refl at length st refl before (λ ip p w k. (w, refl, k)))
 
@@ -178,23 +179,23 @@ module _ {W P : Type 0} (m : BusModel W) (c : Chips P) (chips : W → P) (Whole 
 
   -- ---- from the reset
 
-  same_bytes : (w : W) → fetched m w 0xFFFF 0 ≡ fetched m w 0xF000 0xFFF0
+  same_bytes : (w : W) → fetched m w 0xFFFF 0 ≡ fetched m w code_segment reset_offset
   unfolding fetched loaded_byte
   same_bytes w = refl
 
   -- the far jump at the processor's reset
-  jumps_far : (general : GeneralRegisters) (f : ℕ → ℕ) (begin length : ℕ) → code 0xFFF0 ≡ Some (i.JumpFar begin 0xF000, length) → To 1 (Boots (reset_registers general) f) (Boots (record (reset_registers general) { cs = 0xF000; ip = begin }) f)
+  jumps_far : (general : GeneralRegisters) (f : ℕ → ℕ) (begin length : ℕ) → code reset_offset ≡ Some (i.JumpFar begin code_segment, length) → To 1 (Boots (reset_registers general) f) (Boots (record (reset_registers general) { cs = code_segment; ip = begin }) f)
   unfolding effect
   jumps_far general f begin length here =
       let r : Regs = reset_registers general in
-      let q : Regs = record r { cs = 0xF000; ip = begin } in
-      one m c chips Whole laws occurs events code Begins place (Boots r f) (Boots q f) (λ b p h there. let at_reset : 0xFFFF ≡ 0xF000 = ap (λ z. z.registers.cs) (sym h.is) ∙ there.0 in omega (arith, at_reset)) (λ es b p h.
+      let q : Regs = record r { cs = code_segment; ip = begin } in
+      one m c chips Whole laws occurs events code Begins place (Boots r f) (Boots q f) (λ b p h there. let at_reset : 0xFFFF ≡ code_segment = ap (λ z. z.registers.cs) (sym h.is) ∙ there.0 in omega (arith, at_reset)) (λ es b p h.
       let v = all_occur m occurs es b.world in
       let k = world_later m c chips Whole laws occurs events code f es p b.world h.world in
-      let spelled : decoded (fetched m v 0xFFFF 0) ≡ Some (i.JumpFar begin 0xF000, length) = ap decoded (same_bytes v) ∙ k.spelled.spelled 0xFFF0 (i.JumpFar begin 0xF000, length) here in
+      let spelled : decoded (fetched m v 0xFFFF 0) ≡ Some (i.JumpFar begin code_segment, length) = ap decoded (same_bytes v) ∙ k.spelled.spelled reset_offset (i.JumpFar begin code_segment, length) here in
       let done : Machine W = record { registers = q; world = v; labels = [] } in
       let gone : goes m occurs (record { cpu = b.cpu; world = v }) ≡ Startup.after m c chips Whole laws occurs events done =
-      ap (λ z. goes m occurs (record { cpu = z; world = v })) h.is ∙ boot_turn m c chips Whole laws occurs events r v (i.JumpFar begin 0xF000) length refl refl spelled in
+      ap (λ z. goes m occurs (record { cpu = z; world = v })) h.is ∙ boot_turn m c chips Whole laws occurs events r v (i.JumpFar begin code_segment) length refl refl spelled in
       (ap (λ z. map event_label es ++ z.1) gone ∙ append-nil (map event_label es), subst (λ z. Boots q f z.0 (chips_later m c chips Whole laws occurs events es p)) (sym gone) (record { is = refl; world = k })))
 
   module _ (entry : ℕ) (acts : List Act) (main_at : ℕ) (x : HasStartUp code entry acts main_at) (before : x.p6 < place) where
@@ -227,19 +228,19 @@ module _ {W P : Type 0} (m : BusModel W) (c : Chips P) (chips : W → P) (Whole 
       pub registers : Working
       pub words : AreWords registers
       pub flags : FlagsAre false registers.flags
-      pub boot : Boots (all_registers main_at registers 0xFFFE) f b p
+      pub boot : Boots (all_registers main_at registers stack_top) f b p
 
     -- the loop's registers, from the reset on
     to_loop : (general : GeneralRegisters) (f : ℕ → ℕ) → To 4 (Boots (reset_registers general) f) (Somewhere m c chips Whole laws occurs events code Begins place general entry 0 x.loop f)
     to_loop general f =
         let r : Regs = reset_registers general in
-        let r0 : Regs = record r { cs = 0xF000; ip = x.begin } in
+        let r0 : Regs = record r { cs = code_segment; ip = x.begin } in
         let r1 : Regs = record r0 { ip = x.second; ax = entry } in
-        let r2 : Regs = record r1 { ip = x.third; dx = 0xF000 } in
+        let r2 : Regs = record r1 { ip = x.third; dx = code_segment } in
         let r3 : Regs = loop_registers general entry 0 x.loop (record { 0 = 0 }) in
         let s1 = jumps_far general f x.begin x.reset.0 x.reset.1 in
         let s2 : To 1 (Boots r0 f) (Boots r1 f) = loads r0 f Ax entry x.begin x.second refl refl refl x.load_entry (omega (arith, begin_low, loop_low, acted_low, before)) in
-        let s3 : To 1 (Boots r1 f) (Boots r2 f) = loads r1 f Dx 0xF000 x.second x.third refl refl refl x.load_segment (let a = x.load_segment.3 in let b = x.load_first.3 in omega (arith, a, b, loop_low, acted_low, before)) in
+        let s3 : To 1 (Boots r1 f) (Boots r2 f) = loads r1 f Dx code_segment x.second x.third refl refl refl x.load_segment (let a = x.load_segment.3 in let b = x.load_first.3 in omega (arith, a, b, loop_low, acted_low, before)) in
         let s4 : To 1 (Boots r2 f) (Boots r3 f) = loads r2 f Bx 0 x.third x.loop refl refl refl x.load_first (let a = x.load_first.3 in omega (arith, a, loop_low, acted_low, before)) in
         let s12 = chain 1 1 (Boots r f) (Boots r0 f) (Boots r1 f) s1 s2 in
         let s123 = chain 2 1 (Boots r f) (Boots r1 f) (Boots r2 f) s12 s3 in
@@ -247,10 +248,10 @@ module _ {W P : Type 0} (m : BusModel W) (c : Chips P) (chips : W → P) (Whole 
         λ j b s at rest. all j b s at (λ d p t. rest d p (record { 0 = 0 }, record { on_is = refl; known = refl }, t))
 
     -- CLD after the loop
-    to_acts : (general : GeneralRegisters) → HoldWords general → (g : ℕ → ℕ) → To 1 (Somewhere m c chips Whole laws occurs events code Begins place general entry 1024 (x.loop + 14) g) (Early x.acting g)
+    to_acts : (general : GeneralRegisters) → HoldWords general → (g : ℕ → ℕ) → To 1 (Somewhere m c chips Whole laws occurs events code Begins place general entry vectors_size (x.loop + 14) g) (Early x.acting g)
     to_acts general small g j b s at rest =
         let fl = at.0 in
-        let r : Regs = loop_registers general entry 1024 (x.loop + 14) fl in
+        let r : Regs = loop_registers general entry vectors_size (x.loop + 14) fl in
         let q : Regs = record r { ip = x.acting; flags = with_flag (flag_bit 1024) false fl } in
         let early : IsEarly q = record { cs = refl; ds = refl; es = refl; flags = direction_keeps laws.below false false fl at.1; up = laws.below.set_flag 1024 false fl (omega arith) refl; words = record { ax = omega arith; cx = small.cx; dx = omega arith; bx = omega arith; bp = small.bp; si = small.si; di = small.di } } in
         clears r g (x.loop + 14) x.acting refl at.1.on_is refl x.clear (omega (arith, loop_low, acted_low, before)) j b s at.2 (λ d p t. rest d p (q, early, refl, t))
@@ -264,19 +265,19 @@ module _ {W P : Type 0} (m : BusModel W) (c : Chips P) (chips : W → P) (Whole 
         let b4 = x.load_screen.3 in
         let b5 = x.to_es.3 in
         let b6 = x.load_stack.3 in
-        let r1 : Regs = record r { ip = x.p1; ax = 0x40 } in
-        let r2 : Regs = record r1 { ip = x.p2; ds = 0x40 } in
-        let r3 : Regs = record r2 { ip = x.p3; ss = 0x40 } in
-        let r4 : Regs = record r3 { ip = x.p4; ax = 0xB000 } in
-        let r5 : Regs = record r4 { ip = x.p5; es = 0xB000 } in
-        let r6 : Regs = record r5 { ip = x.p6; sp = 0xFFFE } in
+        let r1 : Regs = record r { ip = x.p1; ax = data_segment } in
+        let r2 : Regs = record r1 { ip = x.p2; ds = data_segment } in
+        let r3 : Regs = record r2 { ip = x.p3; ss = data_segment } in
+        let r4 : Regs = record r3 { ip = x.p4; ax = screen_segment } in
+        let r5 : Regs = record r4 { ip = x.p5; es = screen_segment } in
+        let r6 : Regs = record r5 { ip = x.p6; sp = stack_top } in
         let r7 : Regs = record r6 { ip = main_at } in
-        let s1 : To 1 (Boots r g) (Boots r1 g) = loads r g Ax 0x40 x.acted x.p1 e.cs off at x.load_data (omega (arith, acted_low, before)) in
+        let s1 : To 1 (Boots r g) (Boots r1 g) = loads r g Ax data_segment x.acted x.p1 e.cs off at x.load_data (omega (arith, acted_low, before)) in
         let s2 : To 1 (Boots r1 g) (Boots r2 g) = loads_segment r1 g loadables.Ds x.p1 x.p2 e.cs off refl x.to_ds (omega (arith, b2, b3, b4, b5, b6, before)) in
         let s3 : To 1 (Boots r2 g) (Boots r3 g) = loads_segment r2 g loadables.Ss x.p2 x.p3 e.cs off refl x.to_ss (omega (arith, b3, b4, b5, b6, before)) in
-        let s4 : To 1 (Boots r3 g) (Boots r4 g) = loads r3 g Ax 0xB000 x.p3 x.p4 e.cs off refl x.load_screen (omega (arith, b4, b5, b6, before)) in
+        let s4 : To 1 (Boots r3 g) (Boots r4 g) = loads r3 g Ax screen_segment x.p3 x.p4 e.cs off refl x.load_screen (omega (arith, b4, b5, b6, before)) in
         let s5 : To 1 (Boots r4 g) (Boots r5 g) = loads_segment r4 g loadables.Es x.p4 x.p5 e.cs off refl x.to_es (omega (arith, b5, b6, before)) in
-        let s6 : To 1 (Boots r5 g) (Boots r6 g) = loads r5 g Sp 0xFFFE x.p5 x.p6 e.cs off refl x.load_stack (omega (arith, b6, before)) in
+        let s6 : To 1 (Boots r5 g) (Boots r6 g) = loads r5 g Sp stack_top x.p5 x.p6 e.cs off refl x.load_stack (omega (arith, b6, before)) in
         let s7 : To 1 (Boots r6 g) (Boots r7 g) = jumps r6 g x.p6 x.goes.0 x.distance main_at e.cs off refl x.goes.1 x.goes.2 before in
         let t2 = chain 1 1 (Boots r g) (Boots r1 g) (Boots r2 g) s1 s2 in
         let t3 = chain 2 1 (Boots r g) (Boots r2 g) (Boots r3 g) t2 s3 in
@@ -284,7 +285,7 @@ module _ {W P : Type 0} (m : BusModel W) (c : Chips P) (chips : W → P) (Whole 
         let t5 = chain 4 1 (Boots r g) (Boots r4 g) (Boots r5 g) t4 s5 in
         let t6 = chain 5 1 (Boots r g) (Boots r5 g) (Boots r6 g) t5 s6 in
         let all = chain 6 1 (Boots r g) (Boots r6 g) (Boots r7 g) t6 s7 in
-        let same : r7 ≡ all_registers main_at (working r7) 0xFFFE = ap (λ z. record r7 { cs = z }) e.cs in
+        let same : r7 ≡ all_registers main_at (working r7) stack_top = ap (λ z. record r7 { cs = z }) e.cs in
         λ j b s here rest. all j b s here (λ d p t. rest d p (record { registers = working r7; words = record { ax = omega arith; cx = e.words.cx; dx = e.words.dx; bx = e.words.bx; bp = e.words.bp; si = e.words.si; di = e.words.di }; flags = e.flags; boot = subst (λ z. Boots z g d p) same t })))
 
     -- all of start-up
@@ -295,7 +296,7 @@ module _ {W P : Type 0} (m : BusModel W) (c : Chips P) (chips : W → P) (Whole 
         let h = after_acts acts g in
         let n = turns_of_all acts in
         let L : (ℕ → ℕ) → Board W → P → Type 0 = Somewhere m c chips Whole laws occurs events code Begins place general entry 0 x.loop in
-        let D : (ℕ → ℕ) → Board W → P → Type 0 = Somewhere m c chips Whole laws occurs events code Begins place general entry 1024 (x.loop + 14) in
+        let D : (ℕ → ℕ) → Board W → P → Type 0 = Somewhere m c chips Whole laws occurs events code Begins place general entry vectors_size (x.loop + 14) in
         let vectors : To 1280 (L f) (D g) = Vectors.sets_vectors m c chips Whole laws occurs events code Begins place general x.loop x.back x.sets_vectors (omega (arith, loop_low, acted_low, before)) entry f in
         let t1 = chain 4 1280 (Boots r f) (L f) (D g) (to_loop general f) vectors in
         let t2 = chain 1284 1 (Boots r f) (D g) (Early x.acting g) t1 (to_acts general small g) in

@@ -2,6 +2,7 @@
 use Rattle.std.proofs.Common.{◌≡◌, ℕ, zero, suc, ◌+◌, ◌%◌, ◌<◌, ◌==◌, Bool, false, not, [], Option, Some, ap, ◌∙◌, subst, subst₂, arith, ap₂, refl, ◌≤◌, ◌/◌, ◌⊎◌, inl, inr, ⊎_elim, eq-eqb}
 use Rattle.std.specs.Prelude.{◌≢◌, if◌then◌else◌}
 use Rattle.std.proofs.lemmas.Bool.{ne_eqb}
+use Rattle.word86.specs.MemoryMap.{code_segment, code_start}
 use Rattle.word86.specs.declared.event.Event.{Event}
 use Rattle.word86.specs.declared.width.Width.TheVariants as widths
 use Rattle.word86.specs.Chips.{Chips}
@@ -43,18 +44,18 @@ module _ {W P : Type 0} (m : BusModel W) (c : Chips P) (chips : W → P) (Whole 
       ∙ ap (λ o. record { registers = r; world = m.store w (stores.Byte off v); labels = labels_of o }) (Memory.no_byte_label m c chips Whole laws w off v (omega (arith, h)))
 
   -- one repetition
-  unit_is : (r : Regs) (n si di l : ℕ) (f : ℕ → ℕ) (p : P) (w : W) → r.cs ≡ 0xF000 → r.es ≡ 0 → has r.flags 1024 ≡ false → suc n < 65536 → si + 1 < 65536 → di + 1 < 65536 → l + 3 < 65536 → Known m c chips Whole laws occurs events code f p w
-      → (u : W) × (effect m rep_movsb l (record { registers = copying r (suc n) si di ((l + 3) % 65536); world = w; labels = [] }) ≡ record { registers = copying r n (suc si) (suc di) (if n == 0 then l + 3 else l); world = u; labels = [] }) × Known m c chips Whole laws occurs events code (byte_put di (f (0xF0000 + si) % 256) f) p u
+  unit_is : (r : Regs) (n si di l : ℕ) (f : ℕ → ℕ) (p : P) (w : W) → r.cs ≡ code_segment → r.es ≡ 0 → has r.flags 1024 ≡ false → suc n < 65536 → si + 1 < 65536 → di + 1 < 65536 → l + 3 < 65536 → Known m c chips Whole laws occurs events code f p w
+      → (u : W) × (effect m rep_movsb l (record { registers = copying r (suc n) si di ((l + 3) % 65536); world = w; labels = [] }) ≡ record { registers = copying r n (suc si) (suc di) (if n == 0 then l + 3 else l); world = u; labels = [] }) × Known m c chips Whole laws occurs events code (byte_put di (f (code_start + si) % 256) f) p u
   unfolding effect string_moved unit_moved loaded_byte
   unit_is r n si di l f p w cs es up hn hs hd hl k =
-      let v = f (0xF0000 + si) % 256 in
+      let v = f (code_start + si) % 256 in
       let u = m.store w (stores.Byte di v) in
       let r0 : Regs = copying r (suc n) si di ((l + 3) % 65536) in
       let x0 : Machine W = record { registers = r0; world = w; labels = [] } in
       let stepped_by : Regs = record r0 { si = stepped r.flags widths.Byte si; di = stepped r.flags widths.Byte di } in
       let more : Machine W → Machine W = λ x. record { registers = counted_down repeats.WhileCx l stepped_by; world = x.world; labels = x.labels } in
-      let from : physical 0xF000 si ≡ 0xF0000 + si = omega (arith, hs) in
-      let read : m.load w (physical 0xF000 si) % 256 ≡ v = ap (λ x. m.load w x % 256) from ∙ ap (λ x. x % 256) (k.memory (0xF0000 + si) (omega (arith, hs))) in
+      let from : physical code_segment si ≡ code_start + si = omega (arith, hs) in
+      let read : m.load w (physical code_segment si) % 256 ≡ v = ap (λ x. m.load w x % 256) from ∙ ap (λ x. x % 256) (k.memory (code_start + si) (omega (arith, hs))) in
       let left : (suc n + 65535) % 65536 ≡ n = omega (arith, hn) in
       let past : (l + 3) % 65536 ≡ l + 3 = omega (arith, hl) in
       let si1 : (si + 1) % 65536 ≡ suc si = omega (arith, hs) in
@@ -72,18 +73,18 @@ module _ {W P : Type 0} (m : BusModel W) (c : Chips P) (chips : W → P) (Whole 
       )
 
   -- n bytes in n turns
-  pub copies : (r : Regs) → r.cs ≡ 0xF000 → r.es ≡ 0 → FlagsAre false r.flags → has r.flags 1024 ≡ false → (n si di l : ℕ) (f : ℕ → ℕ) → code l ≡ Some (rep_movsb, 3) → si + suc n < 65536 → di + suc n < 65536 → l + 3 < 65536 → l < place
+  pub copies : (r : Regs) → r.cs ≡ code_segment → r.es ≡ 0 → FlagsAre false r.flags → has r.flags 1024 ≡ false → (n si di l : ℕ) (f : ℕ → ℕ) → code l ≡ Some (rep_movsb, 3) → si + suc n < 65536 → di + suc n < 65536 → l + 3 < 65536 → l < place
       → To (suc n) (Boots (copying r (suc n) si di l) f) (Boots (copying r 0 (si + suc n) (di + suc n) (l + 3)) (copied (suc n) si di f))
   unfolding copied
   copies r cs es off up zero si di l f here hs hd hl before =
-      let g : ℕ → ℕ = byte_put di (f (0xF0000 + si) % 256) f in
+      let g : ℕ → ℕ = byte_put di (f (code_start + si) % 256) f in
       let s1 : To 1 (Boots (copying r 1 si di l) f) (Boots (copying r 0 (suc si) (suc di) (l + 3)) g) =
       steps_by m c chips Whole laws occurs events code Begins place (copying r 1 si di l) f rep_movsb 3 (copying r 0 (suc si) (suc di) (l + 3)) g cs off.on_is refl here (λ e. omega (arith, e, before)) (λ p w. unit_is r 0 si di l f p w cs es up (omega (arith, hs)) (omega (arith, hs)) (omega (arith, hd)) hl) in
       let e1 : suc si ≡ si + 1 = omega arith in
       let e2 : suc di ≡ di + 1 = omega arith in
       subst₂ (λ a b. To 1 (Boots (copying r 1 si di l) f) (Boots (copying r 0 a b (l + 3)) g)) e1 e2 s1
   copies r cs es off up (suc k) si di l f here hs hd hl before =
-      let g : ℕ → ℕ = byte_put di (f (0xF0000 + si) % 256) f in
+      let g : ℕ → ℕ = byte_put di (f (code_start + si) % 256) f in
       let h : ℕ → ℕ = copied (suc k) (suc si) (suc di) g in
       let s1 : To 1 (Boots (copying r (suc (suc k)) si di l) f) (Boots (copying r (suc k) (suc si) (suc di) l) g) =
       steps_by m c chips Whole laws occurs events code Begins place (copying r (suc (suc k)) si di l) f rep_movsb 3 (copying r (suc k) (suc si) (suc di) l) g cs off.on_is refl here (λ e. omega (arith, e, before))
@@ -119,24 +120,24 @@ pub copied_beside : (n from to : ℕ) (f : ℕ → ℕ) (a : ℕ) → (a < to) �
 unfolding copied
 copied_beside zero from to f a h = refl
 copied_beside (suc n) from to f a h =
-    copied_beside n (suc from) (suc to) (byte_put to (f (0xF0000 + from) % 256) f) a (⊎_elim (λ lt. inl (omega (arith, lt))) (λ le. inr (omega (arith, le))) h)
-    ∙ byte_put_other to (f (0xF0000 + from) % 256) a f (λ e. ⊎_elim (λ lt. absurd (omega (arith, e, lt))) (λ le. absurd (omega (arith, e, le))) h)
+    copied_beside n (suc from) (suc to) (byte_put to (f (code_start + from) % 256) f) a (⊎_elim (λ lt. inl (omega (arith, lt))) (λ le. inr (omega (arith, le))) h)
+    ∙ byte_put_other to (f (code_start + from) % 256) a f (λ e. ⊎_elim (λ lt. absurd (omega (arith, e, lt))) (λ le. absurd (omega (arith, e, le))) h)
 
 -- and puts the ROM's bytes there
-pub copied_at : (n from to : ℕ) (f : ℕ → ℕ) (j : ℕ) → j < n → to + n ≤ 0xF0000 → copied n from to f (to + j) ≡ f (0xF0000 + (from + j)) % 256
+pub copied_at : (n from to : ℕ) (f : ℕ → ℕ) (j : ℕ) → j < n → to + n ≤ code_start → copied n from to f (to + j) ≡ f (code_start + (from + j)) % 256
 unfolding copied
 copied_at zero from to f j h le = absurd (omega (arith, h))
 copied_at (suc n) from to f zero h le =
-    let v = f (0xF0000 + from) % 256 in
+    let v = f (code_start + from) % 256 in
     let here : to + 0 ≡ to = omega arith in
-    let there : 0xF0000 + from ≡ 0xF0000 + (from + 0) = omega arith in
+    let there : code_start + from ≡ code_start + (from + 0) = omega arith in
     ap (copied n (suc from) (suc to) (byte_put to v f)) here
     ∙ copied_beside n (suc from) (suc to) (byte_put to v f) to (inl (omega arith))
     ∙ byte_put_same to v f ∙ ap (λ a. f a % 256) there
 copied_at (suc n) from to f (suc j) h le =
-    let v = f (0xF0000 + from) % 256 in
+    let v = f (code_start + from) % 256 in
     let here : to + suc j ≡ suc to + j = omega arith in
-    let there : 0xF0000 + (suc from + j) ≡ 0xF0000 + (from + suc j) = omega arith in
+    let there : code_start + (suc from + j) ≡ code_start + (from + suc j) = omega arith in
     ap (copied n (suc from) (suc to) (byte_put to v f)) here
     ∙ copied_at n (suc from) (suc to) (byte_put to v f) j (omega (arith, h)) (omega (arith, le))
-    ∙ ap (λ b. b % 256) (byte_put_other to v (0xF0000 + (suc from + j)) f (λ e. absurd (omega (arith, e, le)))) ∙ ap (λ a. f a % 256) there
+    ∙ ap (λ b. b % 256) (byte_put_other to v (code_start + (suc from + j)) f (λ e. absurd (omega (arith, e, le)))) ∙ ap (λ a. f a % 256) there

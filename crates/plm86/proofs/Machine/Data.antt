@@ -1,18 +1,22 @@
--- Data accesses are accesses to the objects and to the screen.
+-- Data accesses are accesses to the objects and to the pages of the screen.
 use Rattle.std.proofs.Common.{◌≡◌, ℕ, ◌+◌, ◌-◌, ◌*◌, ◌/◌, ◌%◌, ◌^◌, ◌<◌, ◌≤◌, ◌==◌, ◌⊎◌, inl, inr, true, List, [], ◌++◌, length, Option, sym, ap, ◌∙◌, subst, arith, ap₂, ⊎_elim, true≢false}
 use Rattle.std.specs.Prelude.{◌≢◌, slice_index, slice_set, nat_eq, if◌then◌else◌}
 use Rattle.std.proofs.lemmas.Bool.{ne_eqb, eq-eqb, cases_eq, cases_Bool, cases_lt}
 use Rattle.std.proofs.lemmas.List.{get_or-set_other, get_or-set_same, length-set, get_or_past, length-append}
 use Rattle.std.proofs.lemmas.Bool.Decides.{eqb_tells}
+use Rattle.word86.specs.MemoryMap.{ram_size, data_segment, data_start, code_start, first_offset, data_end}
 use Rattle.i86_table.specs.declared.instruction.Instr.{Instr}
 use Rattle.word86.specs.declared.width.Width.{Width}
 use Rattle.word86.specs.declared.width.Width.TheVariants as widths
+use Rattle.word86.specs.declared.page.Page.{Page}
+use Rattle.word86.specs.declared.page.Page.TheVariants.{Monochrome, Colour}
+use Rattle.word86.specs.Page.{Pages, AreWhole, page_at, page_size, page_of, with_page}
 use Rattle.cpu8086.specs.declared.bus.Store as bus
 use Rattle.cpu8086.specs.declared.bus.Store.TheVariants as stores
 use Rattle.cpu8086.specs.BusModel.{BusModel, stored}
 use Rattle.cpu8086.specs.Machine.{loaded_byte, loaded_word}
 use Rattle.plm86.proofs.Machine.Memory
-use Rattle.plm86.proofs.Machine.Memory.{word_is, spelled_kept, tables_kept, vectors_kept, stacked_kept}
+use Rattle.plm86.proofs.Machine.Memory.{page_low, page_whole, word_is, spelled_kept, tables_kept, vectors_kept, stacked_kept}
 use Rattle.word86.specs.Chips.{Chips}
 use Rattle.plm_meaning.specs.Store.{Store, object, with_screen, value_at, with_value}
 use Rattle.i86_table.specs.Contexts.{bytes}
@@ -57,6 +61,11 @@ length_set : (width : Width) (l : List ℕ) (i v : ℕ) → length (with_value w
 length_set widths.Byte l i v = length-set l i v
 length_set widths.Word l i v = length-set (slice_set l i (v % 256)) (i + 1) (v / 256) ∙ length-set l i (v % 256)
 
+-- a page of its size in the place of one
+still_whole : (page : Page) (l : List ℕ) (s : Pages) → AreWhole s → length l ≡ page_size → AreWhole (with_page page l s)
+still_whole Monochrome l s h e = record { monochrome = e; colour = h.colour }
+still_whole Colour l s h e = record { monochrome = h.monochrome; colour = e }
+
 pub some_bytes : (width : Width) → (1 ≤ bytes width) × (bytes width ≤ 2)
 some_bytes widths.Byte = (omega arith, omega arith)
 some_bytes widths.Word = (omega arith, omega arith)
@@ -73,8 +82,8 @@ module _ {W P : Type 0} (m : BusModel W) (c : Chips P) (chips : W → P) (Whole 
   after_apart w width a v b kept h away = after w width a v kept b h ∙ stored_apart width a v b (m.load w b) away
 
   abbrev pub load_at : Width → W → ℕ → ℕ
-  load_at widths.Byte w off = loaded_byte m w 0x40 off
-  load_at widths.Word w off = loaded_word m w 0x40 off
+  load_at widths.Byte w off = loaded_byte m w data_segment off
+  load_at widths.Word w off = loaded_word m w data_segment off
 
   module _ (code : ℕ → Option (Instr × ℕ)) (words : ℕ → Option ℕ) (entry placed size : ℕ → ℕ) (is_placed : Placed placed size) where
     -- a read of an object
@@ -82,12 +91,12 @@ module _ {W P : Type 0} (m : BusModel W) (c : Chips P) (chips : W → P) (Whole 
     unfolding loaded_byte
     read_is widths.Byte s w off k i f e fits =
         let below = is_placed.below k i (omega (arith, fits)) in
-        ap (λ x. m.load w x % 256) (Memory.low_at off (omega (arith, e, below)) ∙ ap (λ x. 1024 + x) e) ∙ ap (λ x. x % 256) (f.holds.bytes k i (omega (arith, f.sizes k, fits)))
+        ap (λ x. m.load w x % 256) (Memory.low_at off (omega (arith, e, below)) ∙ ap (λ x. data_start + x) e) ∙ ap (λ x. x % 256) (f.holds.bytes k i (omega (arith, f.sizes k, fits)))
     read_is widths.Word s w off k i f e fits =
         let below = is_placed.below k (i + 1) (omega (arith, fits)) in
-        let next : 1025 + off ≡ 1024 + (placed k + (i + 1)) = omega (arith, e) in
+        let next : data_start + 1 + off ≡ data_start + (placed k + (i + 1)) = omega (arith, e) in
         word_is m c chips Whole laws w off (omega (arith, e, below))
-        ∙ ap₂ (λ x y. m.load w x % 256 + 256 * (m.load w y % 256)) (ap (λ x. 1024 + x) e) next
+        ∙ ap₂ (λ x y. m.load w x % 256 + 256 * (m.load w y % 256)) (ap (λ x. data_start + x) e) next
         ∙ ap₂ (λ x y. x % 256 + 256 * (y % 256)) (f.holds.bytes k i (omega (arith, f.sizes k, fits))) (f.holds.bytes k (i + 1) (omega (arith, f.sizes k, fits)))
 
     exists : (s : Store P) (k : ℕ) → 0 < length (object s k) → k < length s.objects
@@ -107,10 +116,10 @@ module _ {W P : Type 0} (m : BusModel W) (c : Chips P) (chips : W → P) (Whole 
 
     -- a write of an object keeps all else
     pub write_is : (width : Width) (s : Store P) (w : W) (off k i v : ℕ) → Fine m chips Whole code words entry placed size s w → off ≡ placed k + i → i + bytes width ≤ size k
-        → Fine m chips Whole code words entry placed size (with_object s k (with_value width (object s k) i v)) (m.store w (store_at width (1024 + off) v))
+        → Fine m chips Whole code words entry placed size (with_object s k (with_value width (object s k) i v)) (m.store w (store_at width (data_start + off) v))
     write_is width s w off k i v f e fits =
         let some = some_bytes width in
-        let a = 1024 + off in
+        let a = data_start + off in
         let new = with_value width (object s k) i v in
         let t = with_object s k new in
         let u = m.store w (store_at width a v) in
@@ -119,23 +128,23 @@ module _ {W P : Type 0} (m : BusModel W) (c : Chips P) (chips : W → P) (Whole 
         let len : length new ≡ length (object s k) = length_set width (object s k) i v in
         let filled : 0 < length (object s k) = omega (arith, f.sizes k, fits, some.0) in
         let kept : (n : ℕ) → n < bytes width → m.keeps w (a + n) ≡ true = λ n lt. laws.ram w f.whole (a + n) (omega (arith, lt, e, top)) in
-        let far : (b : ℕ) → b < 2 ^ 20 → (b < 1026) ⊎ (0xF400 ≤ b) → m.load u b ≡ m.load w b = λ b lt side. after_apart w width a v b kept lt (λ n less eq. ⊎_elim (λ h. absurd (omega (arith, h, eq, e, low))) (λ h. absurd (omega (arith, h, eq, e, top, less))) side) in
-        let here : (j : ℕ) → j < length (object t k) → m.load u (1024 + (placed k + j)) ≡ slice_index (object t k) j = λ j lt.
+        let far : (b : ℕ) → b < 2 ^ 20 → (b < data_start + first_offset) ⊎ (data_start + data_end ≤ b) → m.load u b ≡ m.load w b = λ b lt side. after_apart w width a v b kept lt (λ n less eq. ⊎_elim (λ h. absurd (omega (arith, h, eq, e, low))) (λ h. absurd (omega (arith, h, eq, e, top, less))) side) in
+        let here : (j : ℕ) → j < length (object t k) → m.load u (data_start + (placed k + j)) ≡ slice_index (object t k) j = λ j lt.
         let old : j < length (object s k) = omega (arith, lt, ap length (object_same s k new filled), len) in
         let at = is_placed.below k j (omega (arith, old, f.sizes k)) in
-        let base : a ≡ 1024 + placed k + i = omega (arith, e) in
-        let there : 1024 + (placed k + j) ≡ 1024 + placed k + j = omega arith in
-        after w width a v kept (1024 + (placed k + j)) (omega (arith, at))
-        ∙ ap₂ (λ x y. stored (store_at width x v) y (m.load w (1024 + (placed k + j)))) base there
-        ∙ stored_shift width (1024 + placed k) i j v (m.load w (1024 + (placed k + j)))
+        let base : a ≡ data_start + placed k + i = omega (arith, e) in
+        let there : data_start + (placed k + j) ≡ data_start + placed k + j = omega arith in
+        after w width a v kept (data_start + (placed k + j)) (omega (arith, at))
+        ∙ ap₂ (λ x y. stored (store_at width x v) y (m.load w (data_start + (placed k + j)))) base there
+        ∙ stored_shift width (data_start + placed k) i j v (m.load w (data_start + (placed k + j)))
         ∙ ap (stored (store_at width i v) j) (f.holds.bytes k j old)
         ∙ sym (set_index width (object s k) i j v (omega (arith, f.sizes k, fits)))
         ∙ ap (λ l. slice_index l j) (sym (object_same s k new filled)) in
-        let away : (h j : ℕ) → h ≢ k → j < length (object t h) → m.load u (1024 + (placed h + j)) ≡ slice_index (object t h) j = λ h j ne lt.
+        let away : (h j : ℕ) → h ≢ k → j < length (object t h) → m.load u (data_start + (placed h + j)) ≡ slice_index (object t h) j = λ h j ne lt.
         let same = object_other s k h new ne in
         let old : j < length (object s h) = omega (arith, lt, ap length same) in
         let at = is_placed.below h j (omega (arith, old, f.sizes h)) in
-        after_apart w width a v (1024 + (placed h + j)) kept (omega (arith, at)) (λ n less eq. ne (is_placed.apart h k j (i + n) (omega (arith, old, f.sizes h)) (omega (arith, less, fits)) (omega (arith, eq, e))))
+        after_apart w width a v (data_start + (placed h + j)) kept (omega (arith, at)) (λ n less eq. ne (is_placed.apart h k j (i + n) (omega (arith, old, f.sizes h)) (omega (arith, less, fits)) (omega (arith, eq, e))))
         ∙ f.holds.bytes h j old ∙ ap (λ l. slice_index l j) (sym same) in
         record {
           whole = laws.stays w (store_at width a v) f.whole;
@@ -144,10 +153,10 @@ module _ {W P : Type 0} (m : BusModel W) (c : Chips P) (chips : W → P) (Whole 
           vectors = vectors_kept m c chips Whole laws entry w u (λ b lt. far b (omega (arith, lt)) (inl (omega (arith, lt)))) f.vectors;
           holds = record {
             bytes = λ h j lt. elim (cases_eq h k) [
-              | inl eq ↦ subst (λ x. m.load u (1024 + (placed x + j)) ≡ slice_index (object t x) j) (sym eq) (here j (subst (λ x. j < length (object t x)) eq lt))
+              | inl eq ↦ subst (λ x. m.load u (data_start + (placed x + j)) ≡ slice_index (object t x) j) (sym eq) (here j (subst (λ x. j < length (object t x)) eq lt))
               | inr ne ↦ away h j ne lt
             ];
-            screen = λ j lt. far (0xB8000 + j) (omega (arith, lt)) (inr (omega arith)) ∙ f.holds.screen j lt;
+            screen = λ page j lt. far (page_at page + j) (omega (arith, page_low page j lt)) (inr (omega arith)) ∙ f.holds.screen page j lt;
           };
           chips_are = laws.store_chips w (store_at width a v) ∙ f.chips_are;
           sizes = λ h. elim (cases_eq h k) [
@@ -158,46 +167,76 @@ module _ {W P : Type 0} (m : BusModel W) (c : Chips P) (chips : W → P) (Whole 
         }
 
     -- the stack is apart
-    pub write_stack : (width : Width) (s : Store P) (w : W) (off k i v sp : ℕ) (st base : List ℕ) (room : ℕ) → Fine m chips Whole code words entry placed size s w → off ≡ placed k + i → i + bytes width ≤ size k → 0xF000 ≤ sp → Stack m w sp st base room → Stack m (m.store w (store_at width (1024 + off) v)) sp st base room
+    pub write_stack : (width : Width) (s : Store P) (w : W) (off k i v sp : ℕ) (st base : List ℕ) (room : ℕ) → Fine m chips Whole code words entry placed size s w → off ≡ placed k + i → i + bytes width ≤ size k → data_end ≤ sp → Stack m w sp st base room → Stack m (m.store w (store_at width (data_start + off) v)) sp st base room
     write_stack width s w off k i v sp st base room f e fits le st_at =
         let some = some_bytes width in
         let top = is_placed.below k (i + (bytes width - 1)) (omega (arith, fits, some.0, some.1)) in
-        let kept : (n : ℕ) → n < bytes width → m.keeps w (1024 + off + n) ≡ true = λ n lt. laws.ram w f.whole (1024 + off + n) (omega (arith, lt, e, top)) in
+        let kept : (n : ℕ) → n < bytes width → m.keeps w (data_start + off + n) ≡ true = λ n lt. laws.ram w f.whole (data_start + off + n) (omega (arith, lt, e, top)) in
         record {
-          words = stacked_kept m c chips Whole laws w (m.store w (store_at width (1024 + off) v)) sp (st ++ base) (omega (arith, st_at.at, length-append st base)) (λ b ge lt. after_apart w width (1024 + off) v b kept (omega (arith, lt)) (λ n less eq. absurd (omega (arith, eq, ge, le, less, e, top)))) st_at.words;
+          words = stacked_kept m c chips Whole laws w (m.store w (store_at width (data_start + off) v)) sp (st ++ base) (omega (arith, st_at.at, length-append st base)) (λ b ge lt. after_apart w width (data_start + off) v b kept (omega (arith, lt)) (λ n less eq. absurd (omega (arith, eq, ge, le, less, e, top)))) st_at.words;
           within = st_at.within;
           at = st_at.at;
         }
 
-    screen_kept : (w : W) (width : Width) (i : ℕ) → Whole w → i + bytes width ≤ 4000 → (n : ℕ) → n < bytes width → m.keeps w (0xB8000 + i + n) ≡ true
-    screen_kept w width i t h n lt = laws.screen w t (0xB8000 + i + n) (omega arith) (omega (arith, h, lt))
+    page_kept : (page : Page) (w : W) (width : Width) (i : ℕ) → Whole w → i + bytes width ≤ page_size → (n : ℕ) → n < bytes width → m.keeps w (page_at page + i + n) ≡ true
+    page_kept page w width i t h n lt = laws.screen w t page (page_at page + i + n) (omega arith) (omega (arith, h, lt))
 
-    -- a write to the screen keeps all else
-    pub screen_write_is : (width : Width) (s : Store P) (w : W) (i v : ℕ) → Fine m chips Whole code words entry placed size s w → i + bytes width ≤ 4000
-        → Fine m chips Whole code words entry placed size (with_screen (with_value width s.screen i v) s) (m.store w (store_at width (0xB8000 + i) v))
-    screen_write_is width s w i v f fits =
+    -- what a store to a page leaves there
+    stored_here : (page : Page) (width : Width) (s : Store P) (w : W) (i v j : ℕ) → Fine m chips Whole code words entry placed size s w → i + bytes width ≤ page_size → j < page_size
+        → m.load (m.store w (store_at width (page_at page + i) v)) (page_at page + j) ≡ slice_index (with_value width (page_of page s.screen) i v) j
+    stored_here page width s w i v j f fits lt =
+        let at = page_at page + j in
+        after w width (page_at page + i) v (page_kept page w width i f.whole fits) at (omega (arith, page_low page j lt))
+        ∙ stored_shift width (page_at page) i j v (m.load w at)
+        ∙ ap (stored (store_at width i v) j) (f.holds.screen page j lt)
+        ∙ sym (set_index width (page_of page s.screen) i j v (omega (arith, page_whole page s.screen f.screen_size, fits)))
+
+    -- a store to one page leaves the other: they share no address
+    stored_there : (page other : Page) (width : Width) (s : Store P) (w : W) (i v j : ℕ) → Fine m chips Whole code words entry placed size s w → i + bytes width ≤ page_size → j < page_size
+        → ((n : ℕ) → n < page_size → page_at other + j ≢ page_at page + n)
+        → m.load (m.store w (store_at width (page_at page + i) v)) (page_at other + j) ≡ slice_index (page_of other s.screen) j
+    stored_there page other width s w i v j f fits lt apart =
+        after_apart w width (page_at page + i) v (page_at other + j) (page_kept page w width i f.whole fits) (omega (arith, page_low other j lt)) (λ n less e. apart (i + n) (omega (arith, fits, less)) (omega (arith, e)))
+        ∙ f.holds.screen other j lt
+
+    -- both pages after a store to one
+    pages_stored : (page other : Page) (width : Width) (s : Store P) (w : W) (i v j : ℕ) → Fine m chips Whole code words entry placed size s w → i + bytes width ≤ page_size → j < page_size
+        → m.load (m.store w (store_at width (page_at page + i) v)) (page_at other + j) ≡ slice_index (page_of other (with_page page (with_value width (page_of page s.screen) i v) s.screen)) j
+    pages_stored Monochrome Monochrome width s w i v j f fits lt = stored_here Monochrome width s w i v j f fits lt
+    pages_stored Monochrome Colour width s w i v j f fits lt = stored_there Monochrome Colour width s w i v j f fits lt (λ n less e. absurd (omega (arith, less, e)))
+    pages_stored Colour Monochrome width s w i v j f fits lt = stored_there Colour Monochrome width s w i v j f fits lt (λ n less e. absurd (omega (arith, lt, e)))
+    pages_stored Colour Colour width s w i v j f fits lt = stored_here Colour width s w i v j f fits lt
+
+    -- a write to a page keeps all else
+    pub page_write_is : (page : Page) (width : Width) (s : Store P) (w : W) (i v : ℕ) → Fine m chips Whole code words entry placed size s w → i + bytes width ≤ page_size
+        → Fine m chips Whole code words entry placed size (with_screen (with_page page (with_value width (page_of page s.screen) i v) s.screen) s) (m.store w (store_at width (page_at page + i) v))
+    page_write_is page width s w i v f fits =
         let some = some_bytes width in
-        let a = 0xB8000 + i in
+        let a = page_at page + i in
         let u = m.store w (store_at width a v) in
-        let kept = screen_kept w width i f.whole fits in
-        let far : (b : ℕ) → b < 2 ^ 20 → (b < 0x20000) ⊎ (0xC0000 ≤ b) → m.load u b ≡ m.load w b = λ b lt side. after_apart w width a v b kept lt (λ n less eq. ⊎_elim (λ h. absurd (omega (arith, h, eq))) (λ h. absurd (omega (arith, h, eq, fits, less))) side) in
+        let kept = page_kept page w width i f.whole fits in
+        let far : (b : ℕ) → b < 2 ^ 20 → (b < ram_size) ⊎ (code_start ≤ b) → m.load u b ≡ m.load w b = λ b lt side. after_apart w width a v b kept lt (λ n less eq. ⊎_elim
+        (λ h. absurd (omega (arith, h, eq)))
+        (λ h. let low = page_low page (i + n) (omega (arith, fits, less)) in absurd (omega (arith, h, eq, low)))
+        side) in
         record {
           whole = laws.stays w (store_at width a v) f.whole;
           spelled = spelled_kept m c chips Whole laws code w u (λ b le lt. far b lt (inr (omega (arith, le)))) f.spelled;
           tables = tables_kept m c chips Whole laws words w u (λ b le lt. far b lt (inr (omega (arith, le)))) f.tables;
           vectors = vectors_kept m c chips Whole laws entry w u (λ b lt. far b (omega (arith, lt)) (inl (omega (arith, lt)))) f.vectors;
           holds = record {
-            bytes = λ h j lt. let at = is_placed.below h j (omega (arith, lt, f.sizes h)) in far (1024 + (placed h + j)) (omega (arith, at)) (inl (omega (arith, at))) ∙ f.holds.bytes h j lt;
-            screen = λ j lt. after w width a v kept (0xB8000 + j) (omega (arith, lt)) ∙ stored_shift width 0xB8000 i j v (m.load w (0xB8000 + j)) ∙ ap (stored (store_at width i v) j) (f.holds.screen j lt) ∙ sym (set_index width s.screen i j v (omega (arith, f.screen_size, fits)));
+            bytes = λ h j lt. let at = is_placed.below h j (omega (arith, lt, f.sizes h)) in far (data_start + (placed h + j)) (omega (arith, at)) (inl (omega (arith, at))) ∙ f.holds.bytes h j lt;
+            screen = λ other j lt. pages_stored page other width s w i v j f fits lt;
           };
           chips_are = laws.store_chips w (store_at width a v) ∙ f.chips_are;
           sizes = f.sizes;
-          screen_size = length_set width s.screen i v ∙ f.screen_size;
+          screen_size = still_whole page (with_value width (page_of page s.screen) i v) s.screen f.screen_size (length_set width (page_of page s.screen) i v ∙ page_whole page s.screen f.screen_size);
         }
 
-    pub screen_write_stack : (width : Width) (s : Store P) (w : W) (i v sp : ℕ) (st base : List ℕ) (room : ℕ) → Fine m chips Whole code words entry placed size s w → i + bytes width ≤ 4000 → Stack m w sp st base room → Stack m (m.store w (store_at width (0xB8000 + i) v)) sp st base room
-    screen_write_stack width s w i v sp st base room f fits st_at = record {
-      words = stacked_kept m c chips Whole laws w (m.store w (store_at width (0xB8000 + i) v)) sp (st ++ base) (omega (arith, st_at.at, length-append st base)) (λ b ge lt. after_apart w width (0xB8000 + i) v b (screen_kept w width i f.whole fits) (omega (arith, lt)) (λ n less eq. absurd (omega (arith, eq, lt)))) st_at.words;
+    pub page_write_stack : (page : Page) (width : Width) (s : Store P) (w : W) (i v sp : ℕ) (st base : List ℕ) (room : ℕ) → Fine m chips Whole code words entry placed size s w → i + bytes width ≤ page_size → Stack m w sp st base room
+        → Stack m (m.store w (store_at width (page_at page + i) v)) sp st base room
+    page_write_stack page width s w i v sp st base room f fits st_at = record {
+      words = stacked_kept m c chips Whole laws w (m.store w (store_at width (page_at page + i) v)) sp (st ++ base) (omega (arith, st_at.at, length-append st base)) (λ b ge lt. after_apart w width (page_at page + i) v b (page_kept page w width i f.whole fits) (omega (arith, lt)) (λ n less eq. absurd (omega (arith, eq, lt)))) st_at.words;
       within = st_at.within;
       at = st_at.at;
     }

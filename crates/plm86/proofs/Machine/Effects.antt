@@ -2,11 +2,16 @@
 use Rattle.std.proofs.Common.{◌≡◌, ℕ, ◌+◌, ◌-◌, ◌*◌, ◌/◌, ◌%◌, ◌<◌, ◌≤◌, ◌==◌, Bool, true, false, List, [], ◌∷◌, ◌++◌, length, drop, Option, Some, None, refl, sym, ap, ◌∙◌, subst, arith, ap₂, true≢false, eqb-true}
 use Rattle.std.specs.Prelude.{◌&&◌, not, nat_lt, nat_le, if◌then◌else◌}
 use Rattle.std.proofs.lemmas.Bool.{ltb-true, leb-true, leb-false, and_parts}
+use Rattle.word86.specs.MemoryMap.{data_segment, code_segment, data_start, data_end, stack_top, stack_room}
 use Rattle.word86.specs.declared.width.Width.{Width}
 use Rattle.word86.specs.declared.width.Width.TheVariants as widths
 use Rattle.word86.specs.declared.label.Label.{Label}
+use Rattle.word86.specs.declared.page.Page.{Page}
+use Rattle.word86.specs.declared.page.Page.TheVariants.{Monochrome, Colour}
 use Rattle.word86.specs.Access.{Access, Where, In, Screen, Read, Write}
 use Rattle.word86.specs.Chips.{Chips}
+use Rattle.word86.specs.Page.{page_begins, page_at, page_size, page_of}
+use Rattle.word86.specs.Place.{covers}
 use Rattle.word86.specs.Action.{Silent, Touch, Enable, Disable, Halt, Over, Bad}
 use Rattle.word86.specs.Following.{Offer, Does, Arms}
 use Rattle.plm_meaning.specs.Store.{Store, with_chips, value_at, touch, screen_label, input_label, output_label}
@@ -43,7 +48,7 @@ use Rattle.i86_table.specs.Contexts.{Working, Given, all_registers, is_sp, is_st
 use Rattle.cpu8086.specs.declared.bus.Store.TheVariants as stores
 use Rattle.cpu8086.specs.BusModel.{BusModel}
 use Rattle.cpu8086.specs.declared.cpu.Phase.TheVariants.{Running, AfterSti, Halted}
-use Rattle.cpu8086.specs.Machine.{Machine, physical, next_offset, pushed, popped, loaded_byte, loaded_word, loaded, stored_at}
+use Rattle.cpu8086.specs.Machine.{Machine, pushed, popped, loaded_byte, loaded_word, loaded, stored_at}
 use Rattle.cpu8086.specs.Control.{called, called_at, returned, jumped_if}
 use Rattle.cpu8086.specs.Arithmetic.{computed, changed_in_place, tested_place, shifted_place, multiplied_byte, multiplied_word, divided_byte, divided_word, byte_division, word_division}
 use Rattle.cpu8086.specs.Moves as moves
@@ -93,7 +98,7 @@ module _ {W P : Type 0} (m : BusModel W) (c : Chips P) (chips : W → P) (Whole 
   Meets a o base (Does Over) s on n x = ⊥
   Meets a o base (Does (Bad module_index line)) s on n x = Unit {0}
 
-  module _ (o : Option Given) (base : List ℕ) (fits : room main handler o + length base ≤ 2047) (topped : top_of o + 2 * length base ≡ 0xFFFE) (a : Bool) (s : Store P) (on : Bool) (sti : a ≡ true → on ≡ true) where
+  module _ (o : Option Given) (base : List ℕ) (fits : room main handler o + length base ≤ stack_room / 2) (topped : top_of o + 2 * length base ≡ stack_top) (a : Bool) (s : Store P) (on : Bool) (sti : a ≡ true → on ≡ true) where
     unless_meets : (b t : Bool) (z : Offer Access Context) (n : Instr) (x : Machine W) → t ≡ b → (t ≡ false → Meets a o base z s on n x) → Meets a o base (unless b z) s on n x
     unless_meets true t z n x e h = tt
     unless_meets false t z n x e h = h e
@@ -103,7 +108,7 @@ module _ {W P : Type 0} (m : BusModel W) (c : Chips P) (chips : W → P) (Whole 
       abbrev before : Machine W
       before = record { registers = all_registers q g sp; world = w; labels = [] }
 
-      deep : 0xF000 ≤ sp
+      deep : data_end ≤ sp
       deep = omega (arith, stack.at, stack.within, fits)
 
       pointer_is : sp ≡ stack_pointer o st
@@ -443,7 +448,7 @@ module _ {W P : Type 0} (m : BusModel W) (c : Chips P) (chips : W → P) (Whole 
           by : (segment : Segment) (off : ℕ) → Meets a o base (jump_offer words segment off g st o) s on (i.JumpTo (places.Memory t)) (x_of (record (all_registers q g sp) { ip = loaded_word m w (segment_of (all_registers q g sp) segment) off }))
           by segments.Cs off = takes_meet (words off) (λ place. Own place g st false o) (i.JumpTo (places.Memory t)) _ refl (λ v e.
               let at = fine.tables off v e in
-              let small : v < 65536 = omega (arith, Memory.word_small m c chips Whole laws w 0xF000 off, at.1) in
+              let small : v < 65536 = omega (arith, Memory.word_small m c chips Whole laws w code_segment off, at.1) in
               (settled v small g _ on (ap (λ p. x_of (all_registers p g sp)) at.1) flags, refl, refl))
           by segments.Es off = tt
           by segments.Ss off = tt
@@ -452,13 +457,13 @@ module _ {W P : Type 0} (m : BusModel W) (c : Chips P) (chips : W → P) (Whole 
       -- ---- the stack
 
       -- a word more
-      pushed_here : (v : ℕ) → length st < room main handler o → pushed m v before ≡ record { registers = all_registers q g (sp - 2); world = m.store w (stores.Word (1024 + (sp - 2)) (1025 + (sp - 2)) v); labels = [] }
+      pushed_here : (v : ℕ) → length st < room main handler o → pushed m v before ≡ record { registers = all_registers q g (sp - 2); world = m.store w (stores.Word (data_start + (sp - 2)) (data_start + 1 + (sp - 2)) v); labels = [] }
       pushed_here v lt =
           let up : sp ≡ sp - 2 + 2 = omega (arith, deep) in
           ap (λ z. pushed m v (record { registers = all_registers q g z; world = w; labels = [] })) up ∙ push_is m c chips Whole laws q g (sp - 2) v w [] (omega (arith, stack.at))
 
       push_meets : (b : Bool) → nat_lt (length st) (room main handler o) ≡ b → (p v : ℕ) (lp : p < 65536) (n : Instr) (x : Machine W) → phase_after n ≡ Running
-          → (length st < room main handler o → x ≡ record { registers = all_registers p g (sp - 2); world = m.store w (stores.Word (1024 + (sp - 2)) (1025 + (sp - 2)) v); labels = [] })
+          → (length st < room main handler o → x ≡ record { registers = all_registers p g (sp - 2); world = m.store w (stores.Word (data_start + (sp - 2)) (data_start + 1 + (sp - 2)) v); labels = [] })
           → Meets a o base (if b then silently (Own p g (v % 65536 ∷ st) false o) else refused) s on n x
       push_meets false e p v lp n x ph same = tt
       push_meets true e p v lp n x ph same =
@@ -469,7 +474,7 @@ module _ {W P : Type 0} (m : BusModel W) (c : Chips P) (chips : W → P) (Whole 
             (
               record {
                 sp = t;
-                w = m.store w (stores.Word (1024 + t) (1025 + t) v);
+                w = m.store w (stores.Word (data_start + t) (data_start + 1 + t) v);
                 is = same lt;
                 stack = push_stacks m c chips Whole laws w t v 0 st base (room main handler o) fine.whole lt (omega (arith, stack.at, up)) more;
                 fine = fine_push m c chips Whole laws code words entry placed size is_placed s w t v (omega (arith, stack.at, lt, fits)) (omega (arith, stack.at)) fine;
@@ -520,7 +525,7 @@ module _ {W P : Type 0} (m : BusModel W) (c : Chips P) (chips : W → P) (Whole 
       return_runs start [] e = tt
       return_runs start (v ∷ l) e =
           let y = popped_here v l e in
-          let small : v < 65536 = omega (arith, Memory.word_small m c chips Whole laws w 0x40 sp, (subst (λ z. Stack m w sp z base (room main handler o)) e stack).words.0) in
+          let small : v < 65536 = omega (arith, Memory.word_small m c chips Whole laws w data_segment sp, (subst (λ z. Stack m w sp z base (room main handler o)) e stack).words.0) in
           ((record { sp = sp + 2; w = w; is = ap (λ (z : ℕ × Regs). x_of (record z.1 { ip = z.0 })) y.0; stack = y.1; fine = fine; flags = flags; low = small }, refl, refl), refl)
 
       -- ---- memory
@@ -533,15 +538,21 @@ module _ {W P : Type 0} (m : BusModel W) (c : Chips P) (chips : W → P) (Whole 
       found None y e = absurd cc
       found (Some x) y e = (x.0, x.1, refl, cc)
 
-      paged : (off n : ℕ) (y : Where) → on_screen off n ≡ Some y → (j : ℕ) × (off ≡ 0x8000 + j) × (j + n ≤ 4000) × (y ≡ Screen j)
-      paged off n y e = go (nat_le 0x8000 off && nat_le (off + n) 0x8FA0) refl e
-        where
-          go : (b : Bool) → (nat_le 0x8000 off && nat_le (off + n) 0x8FA0) ≡ b → (if b then Some (Screen (off - 0x8000)) else None) ≡ Some y → (j : ℕ) × (off ≡ 0x8000 + j) × (j + n ≤ 4000) × (y ≡ Screen j)
-          go false t e = absurd cc
-          go true t e = let both = and_parts (nat_le 0x8000 off) (nat_le (off + n) 0x8FA0) t in
-              let low : 0x8000 ≤ off = leb-true 0x8000 off both.0 in
-              let high : off + n ≤ 0x8FA0 = leb-true (off + n) 0x8FA0 both.1 in
-              (off - 0x8000, omega (arith, low), omega (arith, low, high), cc)
+      -- a page, and the index there of the first of n bytes
+      abbrev IsPaged : (off n : ℕ) → Where → Type 0
+      IsPaged off n y = (page : Page) × (j : ℕ) × (off ≡ page_begins page + j) × (j + n ≤ page_size) × (y ≡ Screen page j)
+
+      -- what one page has; else what is told of the others
+      paged_by : (page : Page) (off n : ℕ) (y : Where) (b : Bool) (other : Option Where) → covers (page_begins page) page_size off n ≡ b → (other ≡ Some y → IsPaged off n y) → (if b then Some (Screen page (off - page_begins page)) else other) ≡ Some y → IsPaged off n y
+      paged_by page off n y false other t more e = more e
+      paged_by page off n y true other t more e =
+          let both = and_parts (nat_le (page_begins page) off) (nat_le (off + n) (page_begins page + page_size)) t in
+          let low : page_begins page ≤ off = leb-true (page_begins page) off both.0 in
+          let high : off + n ≤ page_begins page + page_size = leb-true (off + n) (page_begins page + page_size) both.1 in
+          (page, off - page_begins page, omega (arith, low), omega (arith, low, high), cc)
+
+      paged : (off n : ℕ) (y : Where) → on_screen off n ≡ Some y → IsPaged off n y
+      paged off n y e = paged_by Monochrome off n y (covers (page_begins Monochrome) page_size off n) (if covers (page_begins Colour) page_size off n then Some (Screen Colour (off - page_begins Colour)) else None) refl (paged_by Colour off n y (covers (page_begins Colour) page_size off n) None refl (λ h. absurd cc)) e
 
       read_place : (width : Width) (seg : Segment) (off : ℕ) (y : Where) → place_in find seg off (bytes width) ≡ Some y → load_in width seg off ≡ (touch c (Read width y) s).0
       unfolding loaded_word loaded_byte
@@ -555,24 +566,27 @@ module _ {W P : Type 0} (m : BusModel W) (c : Chips P) (chips : W → P) (Whole 
           data_load widths.Word off = refl
       read_place width segments.Es off y e =
           let t = paged off (bytes width) y e in
-          ap (load_in width segments.Es) t.1 ∙ screen_load width t.0 t.2 ∙ ap (λ z. (touch c (Read width z) s).0) (sym t.3)
+          ap (load_in width segments.Es) t.2 ∙ page_load t.0 width t.1 t.3 ∙ ap (λ z. (touch c (Read width z) s).0) (sym t.4)
         where
-          screen_load : (width : Width) (j : ℕ) → j + bytes width ≤ 4000 → load_in width segments.Es (0x8000 + j) ≡ value_at width s.screen j
-          screen_load widths.Byte j h = let at : physical 0xB000 (0x8000 + j) ≡ 0xB8000 + j = omega (arith, h) in ap (λ x. m.load w x % 256) at ∙ ap (λ x. x % 256) (fine.holds.screen j (omega (arith, h)))
-          screen_load widths.Word j h = let low : physical 0xB000 (0x8000 + j) ≡ 0xB8000 + j = omega (arith, h) in let high : physical 0xB000 (next_offset (0x8000 + j)) ≡ 0xB8000 + (j + 1) = omega (arith, h) in ap₂ (λ x y. m.load w x % 256 + 256 * (m.load w y % 256)) low high ∙ ap₂ (λ x y. x % 256 + 256 * (y % 256)) (fine.holds.screen j (omega (arith, h))) (fine.holds.screen (j + 1) (omega (arith, h)))
+          page_load : (page : Page) (width : Width) (j : ℕ) → j + bytes width ≤ page_size → load_in width segments.Es (page_begins page + j) ≡ value_at width (page_of page s.screen) j
+          page_load page widths.Byte j h = ap (λ x. m.load w x % 256) (Memory.page_place page j (omega (arith, h))) ∙ ap (λ x. x % 256) (fine.holds.screen page j (omega (arith, h)))
+          page_load page widths.Word j h =
+              let next : page_at page + j + 1 ≡ page_at page + (j + 1) = omega arith in
+              ap₂ (λ x y. m.load w x % 256 + 256 * (m.load w y % 256)) (Memory.page_place page j (omega (arith, h))) (Memory.page_next page j (omega (arith, h)) ∙ next)
+              ∙ ap₂ (λ x y. x % 256 + 256 * (y % 256)) (fine.holds.screen page j (omega (arith, h))) (fine.holds.screen page (j + 1) (omega (arith, h)))
       read_place width segments.Ss off y e = absurd cc
       read_place width segments.Cs off y e = absurd cc
 
       abbrev store_in : Width → Segment → ℕ → ℕ → Machine W
       store_in width seg off v = stored_at m width (segment_of (all_registers q g sp) seg) off v before
 
-      data_store : (width : Width) (off v : ℕ) → off + 1 < 65536 → store_in width segments.Ds off v ≡ record { registers = all_registers q g sp; world = m.store w (store_at width (1024 + off) v); labels = [] }
+      data_store : (width : Width) (off v : ℕ) → off + 1 < 65536 → store_in width segments.Ds off v ≡ record { registers = all_registers q g sp; world = m.store w (store_at width (data_start + off) v); labels = [] }
       data_store widths.Byte off v h = Memory.byte_stored m c chips Whole laws (all_registers q g sp) off v w [] h
-      data_store widths.Word off v h = Memory.word_stored m c chips Whole laws (all_registers q g sp) off v w [] h ∙ ap (λ b. record { registers = all_registers q g sp; world = m.store w (stores.Word (1024 + off) b v); labels = [] }) (omega arith)
+      data_store widths.Word off v h = Memory.word_stored m c chips Whole laws (all_registers q g sp) off v w [] h ∙ ap (λ b. record { registers = all_registers q g sp; world = m.store w (stores.Word (data_start + off) b v); labels = [] }) (omega arith)
 
-      screen_store : (width : Width) (j v : ℕ) → j + bytes width ≤ 4000 → store_in width segments.Es (0x8000 + j) v ≡ record { registers = all_registers q g sp; world = m.store w (store_at width (0xB8000 + j) v); labels = screen_label width j v ∷ [] }
-      screen_store widths.Byte j v h = Memory.screen_byte_stored m c chips Whole laws (all_registers q g sp) j v w h
-      screen_store widths.Word j v h = Memory.screen_word_stored m c chips Whole laws (all_registers q g sp) j v w h
+      page_store : (page : Page) (width : Width) (j v : ℕ) → j + bytes width ≤ page_size → store_in width segments.Es (page_begins page + j) v ≡ record { registers = all_registers q g sp; world = m.store w (store_at width (page_at page + j) v); labels = screen_label page width j v ∷ [] }
+      page_store page widths.Byte j v h = Memory.page_byte_stored m c chips Whole laws page (all_registers q g sp) j v w h
+      page_store page widths.Word j v h = Memory.page_word_stored m c chips Whole laws page (all_registers q g sp) j v w h
 
       write_place : (width : Width) (seg : Segment) (off v : ℕ) (y : Where) → place_in find seg off (bytes width) ≡ Some y → At q g st base o (touch c (Write width y v) s).1 on (touch c (Write width y v) s).2 (store_in width seg off v)
       write_place width segments.Ds off v y e =
@@ -582,7 +596,7 @@ module _ {W P : Type 0} (m : BusModel W) (c : Chips P) (chips : W → P) (Whole 
           let below = is_placed.below t.0 t.1 (omega (arith, b.1, some.0)) in
           subst (λ z. At q g st base o (touch c (Write width z v) s).1 on (touch c (Write width z v) s).2 (store_in width segments.Ds off v)) (sym t.3) (record {
             sp = sp;
-            w = m.store w (store_at width (1024 + off) v);
+            w = m.store w (store_at width (data_start + off) v);
             is = data_store width off v (omega (arith, below, b.0));
             stack = write_stack m c chips Whole laws code words entry placed size is_placed width s w off t.0 t.1 v sp st base (room main handler o) fine b.0 b.1 deep stack;
             fine = write_is m c chips Whole laws code words entry placed size is_placed width s w off t.0 t.1 v fine b.0 b.1;
@@ -591,12 +605,12 @@ module _ {W P : Type 0} (m : BusModel W) (c : Chips P) (chips : W → P) (Whole 
           })
       write_place width segments.Es off v y e =
           let t = paged off (bytes width) y e in
-          subst (λ z. At q g st base o (touch c (Write width z v) s).1 on (touch c (Write width z v) s).2 (store_in width segments.Es off v)) (sym t.3) (record {
+          subst (λ z. At q g st base o (touch c (Write width z v) s).1 on (touch c (Write width z v) s).2 (store_in width segments.Es off v)) (sym t.4) (record {
             sp = sp;
-            w = m.store w (store_at width (0xB8000 + t.0) v);
-            is = ap (λ z. store_in width segments.Es z v) t.1 ∙ screen_store width t.0 v t.2;
-            stack = Data.screen_write_stack m c chips Whole laws code words entry placed size is_placed width s w t.0 v sp st base (room main handler o) fine t.2 stack;
-            fine = Data.screen_write_is m c chips Whole laws code words entry placed size is_placed width s w t.0 v fine t.2;
+            w = m.store w (store_at width (page_at t.0 + t.1) v);
+            is = ap (λ z. store_in width segments.Es z v) t.2 ∙ page_store t.0 width t.1 v t.3;
+            stack = Data.page_write_stack m c chips Whole laws code words entry placed size is_placed t.0 width s w t.1 v sp st base (room main handler o) fine t.3 stack;
+            fine = Data.page_write_is m c chips Whole laws code words entry placed size is_placed t.0 width s w t.1 v fine t.3;
             flags = flags;
             low = hq;
           })
@@ -611,7 +625,7 @@ module _ {W P : Type 0} (m : BusModel W) (c : Chips P) (chips : W → P) (Whole 
         where
           read_done : (y : Where) → Sits false o base (k (touch c (Read width y) s).0) s on [] x → Sits false o base (k (touch c (Read width y) s).0) (touch c (Read width y) s).1 on (touch c (Read width y) s).2 x
           read_done (In d j) z = z
-          read_done (Screen j) z = z
+          read_done (Screen page j) z = z
 
       writes_meet : (width : Width) (t : Memory) (v : ℕ) (p : Option Where) → place_of find g t width ≡ p → (n : Instr) (x : Machine W) → phase_after n ≡ Running
           → x ≡ store_in width t.segment (offset_of (all_registers q g sp) t.address) v → Meets a o base (writes p width v (Own q g st false o)) s on n x

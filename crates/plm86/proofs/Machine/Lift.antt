@@ -1,9 +1,10 @@
 -- The processor's turns are those of its two contexts, over one memory.
-use Rattle.std.proofs.Common.{◌≡◌, ℕ, ◌+◌, ◌-◌, ◌*◌, ◌%◌, ◌<◌, ◌≤◌, ◌==◌, ◌⊎◌, inl, inr, Bool, true, false, List, [], ◌∷◌, ◌++◌, map, length, Option, Some, None, refl, sym, ap, ◌∙◌, subst, subst₂, arith, ap₂, ⊎_elim, true≢false, append-nil, eqb-true}
+use Rattle.std.proofs.Common.{◌≡◌, ℕ, ◌+◌, ◌-◌, ◌*◌, ◌%◌, ◌/◌, ◌<◌, ◌≤◌, ◌==◌, ◌⊎◌, inl, inr, Bool, true, false, List, [], ◌∷◌, ◌++◌, map, length, Option, Some, None, refl, sym, ap, ◌∙◌, subst, subst₂, arith, ap₂, ⊎_elim, true≢false, append-nil, eqb-true}
 use Rattle.std.specs.Prelude.{◌&&◌, if◌then◌else◌}
 use Rattle.std.proofs.lemmas.Bool.{and_parts}
 use Rattle.std.proofs.lemmas.Nat.{and_le_r}
 use Rattle.std.specs.Int.RustNames.{bit_and}
+use Rattle.word86.specs.MemoryMap.{code_segment, data_start, data_end, stack_top, stack_room}
 use Rattle.word86.specs.declared.event.Event.{Event}
 use Rattle.word86.specs.declared.label.Label.{Label}
 use Rattle.word86.specs.declared.label.Label.TheVariants as labels
@@ -58,11 +59,11 @@ contexts (Twofold p g st p0 g0 st0 s) = Serving (Own p0 g0 st0 false None) (Own 
 
 -- where the stack pointer is while the context runs and nothing lies beyond its words
 abbrev pub level_of : Context → ℕ
-level_of (Own p g st a o) = 0xFFFE - 2 * length st
+level_of (Own p g st a o) = stack_top - 2 * length st
 
 -- what an acknowledgement leaves on the stack
 abbrev pub frame : ℕ → Working → List ℕ → List ℕ
-frame p g st = p % 65536 ∷ 0xF000 ∷ g.flags.0 % 65536 ∷ st
+frame p g st = p % 65536 ∷ code_segment ∷ g.flags.0 % 65536 ∷ st
 
 iret_or : (n : Instr) → NotIret n ⊎ (n ≡ i.InterruptReturn)
 iret_or i.InterruptReturn = inr refl
@@ -71,7 +72,7 @@ iret_or _ = inl tt
 module _ {W P : Type 0} (m : BusModel W) (c : Chips P) (chips : W → P) (Whole : W → Type 0) (laws : OfBoard m c chips Whole)
     (occurs : Event → W → W) (events : Events m c chips Whole occurs)
     (code : ℕ → Option (Instr × ℕ)) (find : ℕ → ℕ → Option (ℕ × ℕ)) (words : ℕ → Option ℕ) (entry : ℕ → ℕ) (main handler : ℕ) (placed size : ℕ → ℕ) (is_placed : Placed placed size) (finds : Finds find placed size)
-    (enough : main + 3 + handler ≤ 2047) where
+    (enough : main + 3 + handler ≤ stack_room / 2) where
   abbrev F : Store P → W → Type 0
   F s w = Fine m chips Whole code words entry placed size s w
 
@@ -191,13 +192,13 @@ module _ {W P : Type 0} (m : BusModel W) (c : Chips P) (chips : W → P) (Whole 
   behind p length g sp w = record { registers = all_registers ((p + length) % 65536) g sp; world = w; labels = [] }
 
   -- the instruction at the place
-  instruction_is : (p : ℕ) (g : Working) (sp : ℕ) (w : W) (phase : Phase) (z : Instr × ℕ) → decoded (fetched m w 0xF000 p) ≡ Some z → out_of (instruction_turn m (cpu_at (all_registers p g sp) phase) w) ≡ after z.0 (effect m z.0 p (behind p z.1 g sp w))
+  instruction_is : (p : ℕ) (g : Working) (sp : ℕ) (w : W) (phase : Phase) (z : Instr × ℕ) → decoded (fetched m w code_segment p) ≡ Some z → out_of (instruction_turn m (cpu_at (all_registers p g sp) phase) w) ≡ after z.0 (effect m z.0 p (behind p z.1 g sp w))
   unfolding instruction_turn doing
   instruction_is p g sp w phase z spelled = ap (λ y. out_of (decoded_turn m y (cpu_at (all_registers p g sp) phase) w)) spelled
 
   -- the turn of the instruction at the place, where nothing is acknowledged
   abbrev Goes : ℕ → Working → ℕ → W → Phase → Type 0
-  Goes p g sp w phase = (z : Instr × ℕ) → decoded (fetched m w 0xF000 p) ≡ Some z → goes m occurs (at_place p g sp w phase) ≡ after z.0 (effect m z.0 p (behind p z.1 g sp w))
+  Goes p g sp w phase = (z : Instr × ℕ) → decoded (fetched m w code_segment p) ≡ Some z → goes m occurs (at_place p g sp w phase) ≡ after z.0 (effect m z.0 p (behind p z.1 g sp w))
 
   running : (p : ℕ) (g : Working) (sp : ℕ) (w : W) → (has g.flags 512 && m.int_line w) ≡ false → Goes p g sp w Running
   unfolding goes turn_of
@@ -216,15 +217,15 @@ module _ {W P : Type 0} (m : BusModel W) (c : Chips P) (chips : W → P) (Whole 
       ap (λ b. out_of (if b then acknowledging m cpu w else still m Halted cpu w kinds.Wait)) none
 
   -- IRET, where the frame of an acknowledgement is on top
-  iret_is : (q : ℕ) (g : Working) (sp : ℕ) (w : W) (p0 fl : ℕ) (l : List ℕ) → sp + 6 < 65536 → Stacked m w sp (p0 ∷ 0xF000 ∷ fl ∷ l)
+  iret_is : (q : ℕ) (g : Working) (sp : ℕ) (w : W) (p0 fl : ℕ) (l : List ℕ) → sp + 6 < 65536 → Stacked m w sp (p0 ∷ code_segment ∷ fl ∷ l)
       → returned_from_interrupt m w (all_registers q g sp) ≡ all_registers p0 (set_flags g (flags_of fl)) (sp + 2 + 2 + 2)
   unfolding returned_from_interrupt returned flags_popped
   iret_is q g sp w p0 fl l h s =
       let step3 : ℕ × Regs → Regs = λ z. record z.1 { flags = flags_of z.0 } in
       let step2 : ℕ × Regs → Regs = λ z. step3 (popped m w (record z.1 { cs = z.0 })) in
       let step1 : ℕ × Regs → Regs = λ z. step2 (popped m w (record z.1 { ip = z.0 })) in
-      ap step1 (pop_is m c chips Whole laws q g sp p0 w (0xF000 ∷ fl ∷ l) (omega (arith, h)) s)
-      ∙ ap step2 (pop_is m c chips Whole laws p0 g (sp + 2) 0xF000 w (fl ∷ l) (omega (arith, h)) s.1)
+      ap step1 (pop_is m c chips Whole laws q g sp p0 w (code_segment ∷ fl ∷ l) (omega (arith, h)) s)
+      ∙ ap step2 (pop_is m c chips Whole laws p0 g (sp + 2) code_segment w (fl ∷ l) (omega (arith, h)) s.1)
       ∙ ap step3 (pop_is m c chips Whole laws p0 g (sp + 2 + 2) fl w l (omega (arith, h)) s.1.1)
 
   -- the registers are given back
@@ -239,7 +240,7 @@ module _ {W P : Type 0} (m : BusModel W) (c : Chips P) (chips : W → P) (Whole 
       (refl, λ j. record { ax = sym (eqb-true s.ax g.ax a.0) j; cx = sym (eqb-true s.cx g.cx b.0) j; dx = sym (eqb-true s.dx g.dx d.0) j; bx = sym (eqb-true s.bx g.bx f.0) j; bp = sym (eqb-true s.bp g.bp h.0) j; si = sym (eqb-true s.si g.si k.0) j; di = sym (eqb-true s.di g.di k.1) j; flags = s.flags })
   given_back s g (x ∷ xs) e = absurd (true≢false (sym e))
 
-  instr_of : (o : Option Given) (base : List ℕ) → room main handler o + length base ≤ 2047 → top_of o + 2 * length base ≡ 0xFFFE → (a : Bool) (s : Store P) (on : Bool) → (a ≡ true → on ≡ true) → (q : ℕ) (hq : q < 65536) (g : Working) (st : List ℕ) (sp : ℕ) (w : W) → Stack m w sp st base (room main handler o) → F s w → FlagsAre on g.flags → (start : ℕ) (n : Instr) → NotIret n
+  instr_of : (o : Option Given) (base : List ℕ) → room main handler o + length base ≤ stack_room / 2 → top_of o + 2 * length base ≡ stack_top → (a : Bool) (s : Store P) (on : Bool) → (a ≡ true → on ≡ true) → (q : ℕ) (hq : q < 65536) (g : Working) (st : List ℕ) (sp : ℕ) (w : W) → Stack m w sp st base (room main handler o) → F s w → FlagsAre on g.flags → (start : ℕ) (n : Instr) → NotIret n
       → MeetsIs a o base (offered find words main handler n q g st a o) s on n (effect m n start (record { registers = all_registers q g sp; world = w; labels = [] }))
   instr_of o base fits topped a s on sti q hq g st sp w stack fine flags start n ni = instr_runs m c chips Whole laws code find words entry main handler placed size is_placed finds o base fits topped a s on sti q hq g st sp w stack fine flags start n ni
 
@@ -268,7 +269,7 @@ module _ {W P : Type 0} (m : BusModel W) (c : Chips P) (chips : W → P) (Whole 
       let framed : Stacked m w sp (frame p0 g0 st0) = subst (λ l. Stacked m w sp (l ++ frame p0 g0 st0)) back.0 stack.words in
       let same_place : p0 % 65536 ≡ p0 = omega (arith, lt.1) in
       let same_flags : g0.flags.0 % 65536 ≡ g0.flags.0 = omega (arith, fl.known, and_le_r g0.flags.0 0xFD5) in
-      let words : Stacked m w sp (p0 ∷ 0xF000 ∷ g0.flags.0 ∷ st0) = subst₂ (λ x y. Stacked m w sp (x ∷ 0xF000 ∷ y ∷ st0)) same_place same_flags framed in
+      let words : Stacked m w sp (p0 ∷ code_segment ∷ g0.flags.0 ∷ st0) = subst₂ (λ x y. Stacked m w sp (x ∷ code_segment ∷ y ∷ st0)) same_place same_flags framed in
       let regs : set_flags g (flags_of g0.flags.0) ≡ g0 = ap (λ v. set_flags g (record { 0 = v })) fl.known ∙ back.1 in
       let x : returned_from_interrupt m w (all_registers q g sp) ≡ all_registers p0 g0 (sp + 2 + 2 + 2) =
       iret_is q g sp w p0 g0.flags.0 st0 (omega (arith, stack.at)) words ∙ ap (λ (r : Working). all_registers p0 r (sp + 2 + 2 + 2)) regs in
@@ -299,19 +300,19 @@ module _ {W P : Type 0} (m : BusModel W) (c : Chips P) (chips : W → P) (Whole 
       (handler_runs p0 g0 st0 lt fl z.0 p ((p + z.1) % 65536) (omega arith) g st sp w s stack fine flags)
 
   -- an acknowledgement pushes flags, CS and IP, and goes on by the vector
-  interrupted_is : (n p : ℕ) (g : Working) (t : ℕ) (w : W) (ls : List Label) → bit_and g.flags.0 0xFD5 ≡ g.flags.0 → t + 6 < 65536 → let w1 = m.store w (stores.Word (1024 + (t + 2 + 2)) (1025 + (t + 2 + 2)) g.flags.0) in let w2 = m.store w1 (stores.Word (1024 + (t + 2)) (1025 + (t + 2)) 0xF000) in let w3 = m.store w2 (stores.Word (1024 + t) (1025 + t) p) in
+  interrupted_is : (n p : ℕ) (g : Working) (t : ℕ) (w : W) (ls : List Label) → bit_and g.flags.0 0xFD5 ≡ g.flags.0 → t + 6 < 65536 → let w1 = m.store w (stores.Word (data_start + (t + 2 + 2)) (data_start + 1 + (t + 2 + 2)) g.flags.0) in let w2 = m.store w1 (stores.Word (data_start + (t + 2)) (data_start + 1 + (t + 2)) code_segment) in let w3 = m.store w2 (stores.Word (data_start + t) (data_start + 1 + t) p) in
       interrupted m n (record { registers = all_registers p g (t + 2 + 2 + 2); world = w; labels = ls }) ≡ record { registers = record (all_registers p (set_flags g (without_trap_and_interrupts g.flags)) t) { ip = loaded_word m w3 0 (4 * n); cs = loaded_word m w3 0 (4 * n + 2) }; world = w3; labels = ls }
   unfolding interrupted
   interrupted_is n p g t w ls known h =
-      let w1 = m.store w (stores.Word (1024 + (t + 2 + 2)) (1025 + (t + 2 + 2)) g.flags.0) in
-      let w2 = m.store w1 (stores.Word (1024 + (t + 2)) (1025 + (t + 2)) 0xF000) in
+      let w1 = m.store w (stores.Word (data_start + (t + 2 + 2)) (data_start + 1 + (t + 2 + 2)) g.flags.0) in
+      let w2 = m.store w1 (stores.Word (data_start + (t + 2)) (data_start + 1 + (t + 2)) code_segment) in
       let f = set_flags g (without_trap_and_interrupts g.flags) in
       let step3 : Machine W → Machine W = λ y. record y { registers = record y.registers { ip = loaded_word m y.world 0 (4 * n); cs = loaded_word m y.world 0 (4 * n + 2) } } in
       let step2 : Machine W → Machine W = λ b. step3 (pushed m b.registers.ip b) in
       let step1 : Machine W → Machine W = λ a. step2 (pushed m a.registers.cs (record a { registers = record a.registers { flags = without_trap_and_interrupts a.registers.flags } })) in
       ap (λ v. step1 (pushed m v (record { registers = all_registers p g (t + 2 + 2 + 2); world = w; labels = ls }))) known
       ∙ ap step1 (push_is m c chips Whole laws p g (t + 2 + 2) g.flags.0 w ls (omega (arith, h)))
-      ∙ ap step2 (push_is m c chips Whole laws p f (t + 2) 0xF000 w1 ls (omega (arith, h)))
+      ∙ ap step2 (push_is m c chips Whole laws p f (t + 2) code_segment w1 ls (omega (arith, h)))
       ∙ ap step3 (push_is m c chips Whole laws p f t p w2 ls (omega (arith, h)))
 
   ack_goes : (p : ℕ) (hp : p < 65536) (g : Working) (st : List ℕ) (sp : ℕ) (w : W) (s : Store P) (h : Bool) → Stack m w sp st [] main → F s w → FlagsAre true g.flags
@@ -320,23 +321,23 @@ module _ {W P : Type 0} (m : BusModel W) (c : Chips P) (chips : W → P) (Whole 
   ack_goes p hp g st sp w s h stack fine flags =
       let t = sp - 6 in
       let up : sp ≡ t + 2 + 2 + 2 = omega (arith, stack.at, stack.within, enough) in
-      let deep : 0xF000 ≤ t = omega (arith, stack.at, stack.within, enough) in
+      let deep : data_end ≤ t = omega (arith, stack.at, stack.within, enough) in
       let room3 = main + 3 in
       let w0 = m.acknowledge w in
       let n = m.vector w in
       let s0 = with_chips (c.acknowledge s.chips) s in
-      let w1 = m.store w0 (stores.Word (1024 + (t + 2 + 2)) (1025 + (t + 2 + 2)) g.flags.0) in
-      let w2 = m.store w1 (stores.Word (1024 + (t + 2)) (1025 + (t + 2)) 0xF000) in
-      let w3 = m.store w2 (stores.Word (1024 + t) (1025 + t) p) in
+      let w1 = m.store w0 (stores.Word (data_start + (t + 2 + 2)) (data_start + 1 + (t + 2 + 2)) g.flags.0) in
+      let w2 = m.store w1 (stores.Word (data_start + (t + 2)) (data_start + 1 + (t + 2)) code_segment) in
+      let w3 = m.store w2 (stores.Word (data_start + t) (data_start + 1 + t) p) in
       let same : (a : ℕ) → m.load w0 a ≡ m.load w a = laws.ports.acknowledging w in
       let f0 : F s0 w0 = Memory.fine_chips m c chips Whole laws code words entry placed size is_placed s w w0 (c.acknowledge s.chips) same (laws.ack_stays w fine.whole) (laws.ack_chips w ∙ ap c.acknowledge fine.chips_are) fine in
       let low : Stack m w0 sp st [] main = Memory.stack_chips m c chips Whole laws code words entry placed size is_placed w w0 sp st [] main same stack in
       let k0 : Stack m w0 (t + 2 + 2 + 2) st [] room3 = subst (λ z. Stack m w0 z st [] room3) up (record { words = low.words; within = omega (arith, low.within); at = low.at }) in
       let k1 = push_stacks m c chips Whole laws w0 (t + 2 + 2) g.flags.0 0 st [] room3 f0.whole (omega (arith, low.within)) (omega (arith, stack.at, up)) k0 in
       let f1 = fine_push m c chips Whole laws code words entry placed size is_placed s0 w0 (t + 2 + 2) g.flags.0 (omega (arith, deep)) (omega (arith, stack.at, up)) f0 in
-      let k2 = push_stacks m c chips Whole laws w1 (t + 2) 0xF000 0 (g.flags.0 % 65536 ∷ st) [] room3 f1.whole (omega (arith, low.within)) (omega (arith, stack.at, up)) k1 in
-      let f2 = fine_push m c chips Whole laws code words entry placed size is_placed s0 w1 (t + 2) 0xF000 (omega (arith, deep)) (omega (arith, stack.at, up)) f1 in
-      let k3 = push_stacks m c chips Whole laws w2 t p 0 (0xF000 ∷ g.flags.0 % 65536 ∷ st) [] room3 f2.whole (omega (arith, low.within)) (omega (arith, stack.at, up)) k2 in
+      let k2 = push_stacks m c chips Whole laws w1 (t + 2) code_segment 0 (g.flags.0 % 65536 ∷ st) [] room3 f1.whole (omega (arith, low.within)) (omega (arith, stack.at, up)) k1 in
+      let f2 = fine_push m c chips Whole laws code words entry placed size is_placed s0 w1 (t + 2) code_segment (omega (arith, deep)) (omega (arith, stack.at, up)) f1 in
+      let k3 = push_stacks m c chips Whole laws w2 t p 0 (code_segment ∷ g.flags.0 % 65536 ∷ st) [] room3 f2.whole (omega (arith, low.within)) (omega (arith, stack.at, up)) k2 in
       let f3 = fine_push m c chips Whole laws code words entry placed size is_placed s0 w2 t p deep (omega (arith, stack.at, up)) f2 in
       let small : n < 256 = omega (arith, laws.vector w, c.vector_fits (chips w)) in
       let number : n ≡ c.vector s.chips = laws.vector w ∙ ap c.vector fine.chips_are in
@@ -443,13 +444,13 @@ module _ {W P : Type 0} (m : BusModel W) (c : Chips P) (chips : W → P) (Whole 
 
   -- the stack pointer stays in its bounds
   abbrev InBounds : Duo (Store P) Context → ℕ → Type 0
-  InBounds d sp = IsBounded (2 * main) (2 * (3 + handler)) (level_of (main_in d)) (has_handler d) sp × (sp ≤ 0xFFFE) × (0xF000 ≤ sp)
+  InBounds d sp = IsBounded (2 * main) (2 * (3 + handler)) (level_of (main_in d)) (has_handler d) sp × (sp ≤ stack_top) × (data_end ≤ sp)
 
   pub bounded : (b : Board W) (d : Duo (Store P) Context) → Stands b d → InBounds d b.cpu.registers.sp
   bounded b d st = subst (λ (d : Duo (Store P) Context). InBounds d b.cpu.registers.sp) (sym st.is) (go st.pair st.fits)
     where
       alone : (p : ℕ) (g : Working) (st : List ℕ) (s : Store P) (on : Bool) (phase : Phase) (k : Run b p g st [] None s on phase)
-          → ((0xFFFE ≤ 0xFFFE - 2 * length st + 2 * main) × (b.cpu.registers.sp ≡ 0xFFFE - 2 * length st)) × (b.cpu.registers.sp ≤ 0xFFFE) × (0xF000 ≤ b.cpu.registers.sp)
+          → ((stack_top ≤ stack_top - 2 * length st + 2 * main) × (b.cpu.registers.sp ≡ stack_top - 2 * length st)) × (b.cpu.registers.sp ≤ stack_top) × (data_end ≤ b.cpu.registers.sp)
       alone p g st s on phase k =
           let same : b.cpu.registers.sp ≡ k.sp = ap (λ (z : Cpu). z.registers.sp) k.is in
           ((omega (arith, k.stack.within), omega (arith, k.stack.at, same)), omega (arith, k.stack.at, same), omega (arith, k.stack.at, k.stack.within, same, enough))

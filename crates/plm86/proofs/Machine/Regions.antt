@@ -2,8 +2,12 @@
 use Rattle.std.specs.Prelude.{ℕ, Bool, true, false, ◌≡◌, ◌+◌, ◌<◌, ◌≤◌, ◌&&◌, ◌||◌, nat_lt, nat_le, List, length, refl}
 use Rattle.std.proofs.Common.{◌∙◌, ap, arith}
 use Rattle.std.proofs.lemmas.Bool.{lt-ltb, le-leb, le-ltb}
+use Rattle.word86.specs.MemoryMap.{ram_size, code_start}
+use Rattle.word86.specs.declared.page.Page.TheVariants.{Monochrome, Colour}
+use Rattle.word86.specs.declared.page.Page.{Page}
 use Rattle.word86.specs.Chips.{Chips}
-use Rattle.board.specs.World.{Whole, lies_in, board_model, screen_at, occurs}
+use Rattle.word86.specs.Page.{Pages, AreWhole, page_at, page_size}
+use Rattle.board.specs.World.{Whole, lies_in, is_kept, board_model, occurs}
 use Rattle.plm86.specs.Inner.BoardLaws.{LawsBelow, OfBoard, Events}
 
 pub within_true : (base : ℕ) (l : List ℕ) (a n : ℕ) → length l ≡ n → base ≤ a → a < base + n → lies_in base l a ≡ true
@@ -20,16 +24,33 @@ right : (t : Bool) → (t || true) ≡ true
 right true = refl
 right false = refl
 
+-- RAM and the pages keep what is stored, and nothing above them does
+ram_keeps : (ram : List ℕ) (screen : Pages) → length ram ≡ ram_size → (a : ℕ) → a < ram_size → is_kept ram screen a ≡ true
+ram_keeps ram screen e a lt = ap (λ b. b || (lies_in (page_at Monochrome) screen.monochrome a || lies_in (page_at Colour) screen.colour a)) (within_true 0 ram a ram_size e (omega arith) lt)
+
+page_keeps : (ram : List ℕ) (screen : Pages) → AreWhole screen → (page : Page) (a : ℕ) → page_at page ≤ a → a < page_at page + page_size → is_kept ram screen a ≡ true
+page_keeps ram screen t Monochrome a le lt =
+    ap (λ b. lies_in 0 ram a || (b || lies_in (page_at Colour) screen.colour a)) (within_true (page_at Monochrome) screen.monochrome a page_size t.monochrome le lt) ∙ right (lies_in 0 ram a)
+page_keeps ram screen t Colour a le lt =
+    ap (λ b. lies_in 0 ram a || (lies_in (page_at Monochrome) screen.monochrome a || b)) (within_true (page_at Colour) screen.colour a page_size t.colour le lt)
+    ∙ ap (λ b. lies_in 0 ram a || b) (right (lies_in (page_at Monochrome) screen.monochrome a)) ∙ right (lies_in 0 ram a)
+
+none_keeps : (ram : List ℕ) (screen : Pages) → length ram ≡ ram_size → AreWhole screen → (a : ℕ) → code_start ≤ a → is_kept ram screen a ≡ false
+none_keeps ram screen e t a le =
+    ap (λ b. b || (lies_in (page_at Monochrome) screen.monochrome a || lies_in (page_at Colour) screen.colour a)) (within_above 0 ram a ram_size e (omega (arith, le)))
+    ∙ ap (λ b. b || lies_in (page_at Colour) screen.colour a) (within_above (page_at Monochrome) screen.monochrome a page_size t.monochrome (omega (arith, le)))
+    ∙ within_above (page_at Colour) screen.colour a page_size t.colour (omega (arith, le))
+
 pub of_board : {P : Type 0} (below : LawsBelow) (c : Chips P) (rom : List ℕ) → OfBoard (board_model c) c (λ w. w.chips) (Whole rom)
 of_board below c rom = record {
   below = below;
   loads = λ w s a lt. below.memory.stores w.ram w.screen w.rom s a;
   ports = record { reading = λ w width port a. refl; writing = λ w width port value a. refl; acknowledging = λ w a. refl };
-  ram = λ w t a lt. ap (λ b. b || lies_in screen_at w.screen a) (within_true 0 w.ram a 0x20000 t.ram (omega arith) lt);
-  screen = λ w t a le lt. ap (λ b. lies_in 0 w.ram a || b) (within_true screen_at w.screen a 4000 t.screen le (omega (arith, lt))) ∙ right (lies_in 0 w.ram a);
-  rom = λ w t a le. ap (λ b. b || lies_in screen_at w.screen a) (within_above 0 w.ram a 0x20000 t.ram (omega (arith, le))) ∙ within_above screen_at w.screen a 4000 t.screen (omega (arith, le));
+  ram = λ w t a lt. ram_keeps w.ram w.screen t.ram a lt;
+  screen = λ w t page a le lt. page_keeps w.ram w.screen t.screen page a le lt;
+  rom = λ w t a le. none_keeps w.ram w.screen t.ram t.screen a le;
   labels = λ w s. refl;
-  stays = λ w s t. record { ram = below.memory.lengths 0 w.ram s ∙ t.ram; screen = below.memory.lengths screen_at w.screen s ∙ t.screen; same_rom = t.same_rom };
+  stays = λ w s t. record { ram = below.memory.lengths 0 w.ram s ∙ t.ram; screen = record { monochrome = below.memory.lengths (page_at Monochrome) w.screen.monochrome s ∙ t.screen.monochrome; colour = below.memory.lengths (page_at Colour) w.screen.colour s ∙ t.screen.colour }; same_rom = t.same_rom };
   in_stays = λ w width port t. record { ram = t.ram; screen = t.screen; same_rom = t.same_rom };
   out_stays = λ w width port value t. record { ram = t.ram; screen = t.screen; same_rom = t.same_rom };
   ack_stays = λ w t. record { ram = t.ram; screen = t.screen; same_rom = t.same_rom };

@@ -1,6 +1,7 @@
 -- A program put together: its code, its parts and its ROM, and the image that selection speaks of.
 use Rattle.std.specs.Prelude.{ℕ, zero, suc, ◌+◌, ◌-◌, ◌<◌, ◌≤◌, Bool, true, false, if◌then◌else◌, List, [], ◌∷◌, length, Option, Some, None, position, slice_index}
 use Rattle.std.specs.Option.{option_map_or}
+use Rattle.word86.specs.MemoryMap.{stack_room}
 use Rattle.word86.specs.Place.{covers}
 use Rattle.icode.specs.declared.code.Routine.{Routine}
 use Rattle.icode.specs.declared.code.Routine.TheVariants.{Main, Procedure, Unserved, Nowhere}
@@ -66,7 +67,7 @@ pub record IsAssembled (names : Names) (c : Code) (parts : List Part) (size : Ro
   pub sound : IsSound names
   pub selected : AreParts c parts
   pub counted : IsCounted c main handler
-  pub enough : main + handler ≤ 4094
+  pub enough : main + handler ≤ stack_room
   pub stand : PartsStand (rom_code rom) (rom_words rom) (offsets_in names) (places_in names parts size) parts
   pub fits : needed names parts ≤ bytes_in size
   pub within : (part : ℕ) → slice_index (places_in names parts size) part < 65536

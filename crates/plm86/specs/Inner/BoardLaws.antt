@@ -1,7 +1,10 @@
 -- What the lift to the board rests on, of any memory and any chips.
-use Rattle.std.specs.Prelude.{ℕ, true, false, ◌≡◌, ◌<◌, ◌≤◌}
+use Rattle.std.specs.Prelude.{ℕ, true, false, ◌≡◌, ◌+◌, ◌<◌, ◌≤◌}
 use Rattle.word86.specs.declared.width.Width.{Width}
 use Rattle.word86.specs.declared.event.Event.{Event}
+use Rattle.word86.specs.declared.page.Page.{Page}
+use Rattle.word86.specs.MemoryMap.{ram_size, code_start}
+use Rattle.word86.specs.Page.{page_at, page_size}
 use Rattle.word86.specs.Chips.{Chips}
 use Rattle.cpu8086.specs.declared.bus.Store.{Store}
 use Rattle.cpu8086.specs.BusModel.{BusModel, LoadAfterStore, PortsKeepMemory}
@@ -19,15 +22,15 @@ pub record LawsBelow : Type 0 where
   pub arithmetic : ArithmeticLeavesControl
   pub memory : MemoryLaws
 
--- RAM below 128 KiB and the screen keep what is stored, what is above 0C0000H does not; stores show what comes to the screen;
+-- RAM and both pages of the screen keep what is stored, what lies in the code's segment does not; stores show what comes to a page;
 -- and the chips are these.
 pub record OfBoard {W : Type 0} {P : Type 0} (m : BusModel W) (c : Chips P) (chips : W → P) (Whole : W → Type 0) : Type 0 where
   pub below : LawsBelow
   pub loads : LoadAfterStore m
   pub ports : PortsKeepMemory m
-  pub ram : (w : W) → Whole w → (a : ℕ) → a < 0x20000 → m.keeps w a ≡ true
-  pub screen : (w : W) → Whole w → (a : ℕ) → 0xB8000 ≤ a → a < 0xB8FA0 → m.keeps w a ≡ true
-  pub rom : (w : W) → Whole w → (a : ℕ) → 0xC0000 ≤ a → m.keeps w a ≡ false
+  pub ram : (w : W) → Whole w → (a : ℕ) → a < ram_size → m.keeps w a ≡ true
+  pub screen : (w : W) → Whole w → (page : Page) (a : ℕ) → page_at page ≤ a → a < page_at page + page_size → m.keeps w a ≡ true
+  pub rom : (w : W) → Whole w → (a : ℕ) → code_start ≤ a → m.keeps w a ≡ false
   pub labels : (w : W) (s : Store) → m.store_label w s ≡ shown_store s
   pub stays : (w : W) (s : Store) → Whole w → Whole (m.store w s)
   pub in_stays : (w : W) (width : Width) (port : ℕ) → Whole w → Whole (m.port_in w width port)

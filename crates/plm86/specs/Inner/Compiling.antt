@@ -3,6 +3,7 @@ use Rattle.std.specs.Prelude.{◌≡◌, ℕ, ◌+◌, ◌<◌, ◌≤◌, ◌�
 use Rattle.word86.specs.declared.fault.Fault.{Fault}
 use Rattle.word86.specs.declared.fault.Fault.TheVariants.{Memory, At}
 use Rattle.word86.specs.declared.number.Number.TheVariants.{E501, E601}
+use Rattle.word86.specs.MemoryMap.{stack_room}
 use Rattle.i86_table.specs.Words.{KeepsWords}
 use Rattle.i86_code.specs.Coding.{IsOneForm, IsShort}
 use Rattle.i86_code.specs.Widths.{DecodedHasWidths}
@@ -85,4 +86,4 @@ pub record IsImage (names : Names) (size : RomSize) (image : Image) : Type 0 whe
   pub placement : IsPlacement image.placement.offsets.items (sizes_of names)
   pub long : length image.rom.items ≡ bytes_in size
   pub start : image.start_turns ≤ 4096 + initial_size names
-  pub stack : image.stack.main + image.stack.handler ≤ 4094
+  pub stack : image.stack.main + image.stack.handler ≤ stack_room

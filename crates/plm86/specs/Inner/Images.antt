@@ -1,6 +1,7 @@
 -- The image of a built program over its names and its code, and what the layers promise of it together.
-use Rattle.std.specs.Prelude.{◌≡◌, ℕ, suc, ◌+◌, ◌-◌, ◌*◌, ◌<◌, ◌≤◌, true, List, [], slice_index}
+use Rattle.std.specs.Prelude.{◌≡◌, ℕ, suc, ◌+◌, ◌-◌, ◌*◌, ◌/◌, ◌<◌, ◌≤◌, true, List, [], slice_index}
 use Rattle.word86.specs.Access.{Access, answers}
+use Rattle.word86.specs.MemoryMap.{stack_room}
 use Rattle.plm_decl.specs.declared.names.Names.{Names}
 use Rattle.plm_decl.specs.Placement.{IsPlacement, sizes_of}
 use Rattle.plm_type.specs.declared.checked.Program.{Program}
@@ -104,11 +105,11 @@ ProgramsAreFollowed =
 pub record IsInWords (c : Code) (main handler main_words handler_words : ℕ) : Type 0 where
   pub main_is : main ≡ 2 * main_words
   pub handler_is : handler ≡ 2 * (3 + handler_words)
-  pub fits : main_words + 3 + handler_words ≤ 2047
+  pub fits : main_words + 3 + handler_words ≤ stack_room / 2
   pub runs : NoRunPasses c (2 * main_words) (2 * (3 + handler_words))
 
 abbrev pub StackIsInWords : Type 0
-StackIsInWords = (c : Code) (main handler : ℕ) (counted : IsCounted c main handler) → NoRunPasses c main handler → main + handler ≤ 4094 → IsInWords c main handler counted.deepest (counted.largest - 3)
+StackIsInWords = (c : Code) (main handler : ℕ) (counted : IsCounted c main handler) → NoRunPasses c main handler → main + handler ≤ stack_room → IsInWords c main handler counted.deepest (counted.largest - 3)
 
 -- ---- of a checked program
 

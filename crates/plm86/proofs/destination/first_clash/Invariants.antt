@@ -3,4 +3,4 @@ use Rattle.plm86.specs.Destination.{ClashesAt}
 use Rattle.plm86.proofs.destination.first_clash.Given as goal
 
 abbrev pub invariant-loop-k : goal.invariant-loop-k
-invariant-loop-k l = (i j : ℕ) → i < l.k → ClashesAt l.files i j → ⊥
+invariant-loop-k l = (i j : ℕ) → i < l.k → ClashesAt l.files l.written i j → ⊥
