@@ -115,6 +115,99 @@ fn bytes_of_any_kind(rt: HostRuntime) -> Result<(), Fail> {
     Ok(())
 }
 
+// The monochrome page and its ends, words with one byte in a page, and what lies between the pages: each code at the ROM's front.
+#[test]
+fn stores_and_reads_of_pages(rt: HostRuntime) -> Result<(), Fail> {
+    const ROWS: &[(&[u8], &[u8], &[u8])] = &[
+        // mov ax, 0b000h; mov ds, ax; mov word [0f9eh], 1234h; hlt.
+        (
+            b"\xB8\x00\xB0\x8E\xD8\xC7\x06\x9E\x0F\x34\x12\xF4",
+            b"STOP 1000",
+            b"MONOW 0F9E 1234\nEND 1000\n",
+        ),
+        // The same at 0f9fh: the low byte alone lies in the page.
+        (
+            b"\xB8\x00\xB0\x8E\xD8\xC7\x06\x9F\x0F\x34\x12\xF4",
+            b"STOP 1000",
+            b"MONO 0F9F 34\nEND 1000\n",
+        ),
+        // The same at 0ffffh: the high byte wraps to 0B0000H.
+        (
+            b"\xB8\x00\xB0\x8E\xD8\xC7\x06\xFF\xFF\x34\x12\xF4",
+            b"STOP 1000",
+            b"MONO 0000 12\nEND 1000\n",
+        ),
+        // mov ax, 0afffh; mov ds, ax; mov word [0fh], 1234h; hlt: the high byte lies at 0B0000H.
+        (
+            b"\xB8\xFF\xAF\x8E\xD8\xC7\x06\x0F\x00\x34\x12\xF4",
+            b"STOP 1000",
+            b"MONO 0000 12\nEND 1000\n",
+        ),
+        // mov ax, 0b000h; mov ds, ax; mov word [7fffh], 1234h; hlt: the high byte lies in the colour page.
+        (
+            b"\xB8\x00\xB0\x8E\xD8\xC7\x06\xFF\x7F\x34\x12\xF4",
+            b"STOP 1000",
+            b"SCR 0000 12\nEND 1000\n",
+        ),
+        // The same at 0fa0h, and mov byte [7fffh], 1: between the pages a store is lost.
+        (
+            b"\xB8\x00\xB0\x8E\xD8\xC7\x06\xA0\x0F\x34\x12\xC6\x06\xFF\x7F\x01\xF4",
+            b"STOP 1000",
+            b"END 1000\n",
+        ),
+        // mov byte [0fa0h], 7; mov al, [0fa0h]; out 70h, al; mov ax, [0f9fh]; out 72h, ax; hlt: between the pages 0FFH is read.
+        (
+            b"\xB8\x00\xB0\x8E\xD8\xC6\x06\xA0\x0F\x07\xA0\xA0\x0F\xE6\x70\xA1\x9F\x0F\xE7\x72\xF4",
+            b"FILL 33\nSTOP 1000",
+            b"OUT 0070 FF\nOUTW 0072 FF33\nEND 1000\n",
+        ),
+        // mov ss, ax; mov sp, 4; push ax; push ax; hlt: pushes into the page are labelled.
+        (
+            b"\xB8\x00\xB0\x8E\xD0\xBC\x04\x00\x50\x50\xF4",
+            b"STOP 1000",
+            b"MONOW 0002 B000\nMONOW 0000 B000\nEND 1000\n",
+        ),
+        // mov es, ax; mov di, 0f9ch; mov cx, 4; mov ax, 0741h; cld; rep stosw; hlt: the last two words lie behind the page.
+        (
+            b"\xB8\x00\xB0\x8E\xC0\xBF\x9C\x0F\xB9\x04\x00\xB8\x41\x07\xFC\xF3\xAB\xF4",
+            b"STOP 1000",
+            b"MONOW 0F9C 0741\nMONOW 0F9E 0741\nEND 1000\n",
+        ),
+        // mov ax, 40h; mov ds, ax; mov word [0ffffh], 1234h; hlt: RAM alone.
+        (
+            b"\xB8\x40\x00\x8E\xD8\xC7\x06\xFF\xFF\x34\x12\xF4",
+            b"STOP 1000",
+            b"END 1000\n",
+        ),
+        // An interrupt whose frame is pushed into the page: four labels in one turn.
+        (
+            b"\xB8\x00\xB0\x8E\xD0\xBC\x06\x00\xB0\x13\xE6\x20\xB0\x08\xE6\x21\xB0\x03\xE6\x21\xB0\x14\xE6\x43\xB0\x02\xE6\x40\xFB\xF4",
+            b"AT 500 TICK 3\nSTOP 501",
+            b"OUT 0020 13\nOUT 0021 08\nOUT 0021 03\nOUT 0043 14\nOUT 0040 02\nTICK 3\nACK 08\nMONOW 0004 0200\nMONOW 0002 F000\nMONOW 0000 E01E\nEND 501\n",
+        ),
+    ];
+    for (code, schedule, text) in ROWS {
+        writes(&rt, rt.alloc(), code, schedule, text)?;
+    }
+    Ok(())
+}
+
+// Code in the monochrome page is fetched: FILL F4 puts HLT there. The ROM's last bytes are jmp 0b000h:0.
+#[test]
+fn code_in_the_monochrome_page(rt: HostRuntime) -> Result<(), Fail> {
+    let reset = b"\xEA\x00\x00\x00\xB0";
+    let schedule = b"FILL F4\nSTOP 1000";
+    check(
+        &rt,
+        rt.alloc(),
+        &[],
+        reset,
+        schedule,
+        End::Stopped,
+        b"END 1000\n",
+    )
+}
+
 /// The fault of a board with a ROM of this length.
 fn refusal(alloc: Global, length: usize) -> Result<Option<Fault>, Fail> {
     let rom = vec![in alloc; 0x0Fu8; length]?;

@@ -212,7 +212,7 @@ fn sections_stand_alone(rt: HostRuntime) -> Result<(), Fail> {
 
 /// An interrupt pushes the flags and where main goes on, 6 bytes, also where no procedure serves it.
 #[test]
-fn plain_operands_are_not_pushed(rt: HostRuntime) -> Result<(), Fail> {
+fn plain_operands_are_not_pushed(rt: HostRuntime) {
     let alloc = rt.alloc();
     let texts: [&[u8]; 2] = [
         b"M: DO; DECLARE B BYTE; B = 255; OUTPUT(300H) = B + 1; END M;",
@@ -227,7 +227,6 @@ fn plain_operands_are_not_pushed(rt: HostRuntime) -> Result<(), Fail> {
             })
         );
     }
-    Ok(())
 }
 
 /// A quotient changes AX, CX and DX, and main's own registers are saved by nobody.

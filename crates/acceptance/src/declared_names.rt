@@ -8,7 +8,7 @@ use plm_decl::{
 use std::alloc::Global;
 use std::process::Abort;
 use std::test::Fail;
-use word86::Fault;
+use word86::{Fault, Page};
 
 const BYTE: Form = Form::Scalar(ScalarType::Byte);
 
@@ -192,8 +192,8 @@ static DECLARED: [(&[u8], &[WantedVariable], &[WantedObject]); 10] = [
     (
         b"M: DO; DECLARE (E, F) WORD AT (0B8010H), G BYTE DATA (9); ; END M;",
         &[
-            (WORD, None, 2, Region::Screen(16)),
-            (WORD, None, 2, Region::Screen(18)),
+            (WORD, None, 2, Region::Screen(Page::Colour, 16)),
+            (WORD, None, 2, Region::Screen(Page::Colour, 18)),
             (BYTE, None, 1, Region::Ram(0, 0)),
         ],
         &[(b"M.G", 1, &[Datum::Byte(9)])],
@@ -215,26 +215,40 @@ fn contents_of_declarations(rt: HostRuntime) -> Result<(), Fail> {
     Ok(())
 }
 
-/// A name's size, its offset on the screen, and how many objects stand before it.
-type ScreenPlace = (u64, u64, usize);
+/// A name's size, its page and its offset there, and how many objects stand before it.
+type ScreenPlace = (u64, Page, u64, usize);
 
 fn is_on_screen(name: &ScreenName, path: &[u8], place: ScreenPlace) -> bool {
-    name.path.as_slice() == path && (name.size, name.offset, name.objects_before) == place
+    name.path.as_slice() == path
+        && (name.size, name.page, name.offset, name.objects_before) == place
 }
 
-/// Whether the names on the screen are E and F, of six bytes each, one after the other.
-fn shows_e_and_f(names: &Names) -> bool {
+/// Whether the names on the screen are E and F, of six bytes each, one after the other on this page.
+fn shows_e_and_f(names: &Names, page: Page) -> bool {
     let [first, second] = names.screen_names.as_slice() else {
         return false;
     };
-    is_on_screen(first, b"M.E", (6, 16, 1)) && is_on_screen(second, b"M.F", (6, 22, 1))
+    is_on_screen(first, b"M.E", (6, page, 16, 1)) && is_on_screen(second, b"M.F", (6, page, 22, 1))
 }
 
 #[test]
 fn names_on_the_screen(rt: HostRuntime) -> Result<(), Fail> {
-    let text = b"M: DO; DECLARE G BYTE DATA (9), (E, F) (3) WORD AT (0B8010H); ; END M;";
-    let shown = seen(names_of(rt.alloc(), &[text]), shows_e_and_f)?;
-    assert!(rt; shown);
+    const ROWS: &[(&[u8], Page)] = &[
+        (
+            b"M: DO; DECLARE G BYTE DATA (9), (E, F) (3) WORD AT (0B8010H); ; END M;",
+            Page::Colour,
+        ),
+        (
+            b"M: DO; DECLARE G BYTE DATA (9), (E, F) (3) WORD AT (0B0010H); ; END M;",
+            Page::Monochrome,
+        ),
+    ];
+    for (text, page) in ROWS {
+        let shown = seen(names_of(rt.alloc(), &[*text]), |names| {
+            shows_e_and_f(names, *page)
+        })?;
+        assert!(rt; shown, "names on a page by {text:?}");
+    }
     Ok(())
 }
 

@@ -41,6 +41,8 @@ mod ports;
 #[cfg(test)]
 mod processor;
 #[cfg(test)]
+mod rotation;
+#[cfg(test)]
 mod schedules;
 #[cfg(test)]
 mod selection;

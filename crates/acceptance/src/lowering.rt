@@ -11,7 +11,7 @@ use plm_type::{Line, Program};
 use std::alloc::Global;
 use std::process::Abort;
 use std::test::Fail;
-use word86::{Access, Fault, Label, Place, Width};
+use word86::{Access, Fault, Label, Page, Place, Width};
 
 /// What is stored, byte by byte, the newest last.
 type Store = Vec<(Place, u8)>;
@@ -19,7 +19,7 @@ type Store = Vec<(Place, u8)>;
 fn behind(place: Place) -> Place {
     match place {
         Place::Ram(object, index) => Place::Ram(object, index.wrapping_add(1)),
-        Place::Screen(index) => Place::Screen(index.wrapping_add(1)),
+        Place::Screen(page, index) => Place::Screen(page, index.wrapping_add(1)),
     }
 }
 
@@ -86,10 +86,17 @@ fn label_of(access: Access) -> Option<Label> {
         Access::Output(Width::Word, port, value) => Some(Label::OutW(port, value)),
         Access::Input(Width::Byte, port) => Some(Label::In(port, 0xFF)),
         Access::Input(Width::Word, port) => Some(Label::InW(port, 0xFFFF)),
-        Access::Write(Width::Byte, Place::Screen(index), value) => {
-            Some(Label::Scr(index, (value % 256) as u8))
+        Access::Write(Width::Byte, Place::Screen(page, index), value) => {
+            let byte = (value % 256) as u8;
+            Some(match page {
+                Page::Monochrome => Label::Mono(index, byte),
+                Page::Colour => Label::Scr(index, byte),
+            })
         }
-        Access::Write(Width::Word, Place::Screen(index), value) => Some(Label::ScrW(index, value)),
+        Access::Write(Width::Word, Place::Screen(page, index), value) => Some(match page {
+            Page::Monochrome => Label::MonoW(index, value),
+            Page::Colour => Label::ScrW(index, value),
+        }),
         Access::Read(_, _) => None,
         Access::Write(_, Place::Ram(_, _), _) => None,
     }
@@ -294,6 +301,12 @@ fn values_and_widths(rt: HostRuntime) -> Result<(), Fail> {
             b"M: DO; DECLARE S WORD AT (0B8F9EH); S = 0741H; END M;",
             &[],
             &[Label::ScrW(0xF9E, 0x741)],
+            false,
+        ),
+        (
+            b"M: DO; DECLARE S WORD AT (0B0F9EH), B BYTE AT (0B0000H); B = 41H; S = 0741H; END M;",
+            &[],
+            &[Label::Mono(0, 0x41), Label::MonoW(0xF9E, 0x741)],
             false,
         ),
         (
@@ -636,7 +649,7 @@ fn rows_access_in_order(rt: HostRuntime) -> Result<(), Fail> {
     ];
     accesses(&rt, alloc, &[member], &[2], 1, &wanted)?;
     let screen = b"M: DO; DECLARE S WORD AT (0B8F9EH); S = 0741H; END M;";
-    let wanted = [Access::Write(Width::Word, Place::Screen(0xF9E), 0x741)];
+    let wanted = [Access::Write(Width::Word, Place::Screen(Page::Colour, 0xF9E), 0x741)];
     accesses(&rt, alloc, &[screen], &[], 1, &wanted)?;
     let element = b"M: DO; DECLARE A(3) BYTE; A(2) = 1; END M;";
     let wanted = [Access::Write(Width::Byte, Place::Ram(0, 2), 1)];

@@ -241,6 +241,31 @@ fn accesses_lie_in_what_is_declared(rt: HostRuntime) -> Result<(), Fail> {
             &[Label::ScrW(0xF9E, 0x0741)],
             None,
         ),
+        (
+            b"M: DO; DECLARE S WORD AT (0B0F9EH), B BYTE AT (0B0000H); B = 41H; S = 0741H; END M;",
+            &[],
+            &[Label::Mono(0, 0x41), Label::MonoW(0xF9E, 0x0741)],
+            None,
+        ),
+        // A byte of each page at one offset: each keeps its own.
+        (
+            b"M: DO; DECLARE A BYTE AT (0B0007H), B BYTE AT (0B8007H); A = 1; B = 2; OUTPUT(300H) = A; OUTPUT(301H) = B; END M;",
+            &[],
+            &[
+                Label::Mono(7, 1),
+                Label::Scr(7, 2),
+                Label::Out(0x300, 1),
+                Label::Out(0x301, 2),
+            ],
+            None,
+        ),
+        // Past a name on the monochrome page, within the page.
+        (
+            b"M: DO; DECLARE A(10) BYTE AT (0B0000H);\nA(10) = 1; END M;",
+            &[],
+            &[],
+            Some(Line { module: 0, line: 2 }),
+        ),
         // A subscript is modulo 65,536 in bytes.
         (
             b"M: DO; DECLARE A(3) WORD, I WORD; A(0) = 7; I = 8000H; OUTPUT(300H) = A(I); END M;",

@@ -92,7 +92,7 @@ fn undeclared_names(rt: HostRuntime) {
     }
 }
 
-static DECLARATIONS: [(&[u8], Outcome); 74] = [
+static DECLARATIONS: [(&[u8], Outcome); 82] = [
     (
         b"M: DO; DECLARE A (0) BYTE AT (0B8FA0H); ; END M;",
         Some((0, 1, Number::E303)),
@@ -207,6 +207,36 @@ static DECLARATIONS: [(&[u8], Outcome); 74] = [
     ),
     (
         b"M: DO; DECLARE S BYTE AT (5); ; END M;",
+        Some((0, 1, Number::E303)),
+    ),
+    (
+        b"M: DO; DECLARE S WORD AT (0B0F9EH); S = 0741H; END M;",
+        None,
+    ),
+    (
+        b"M: DO; DECLARE S WORD AT (0B0F9FH); S = 0741H; END M;",
+        Some((0, 1, Number::E303)),
+    ),
+    (
+        b"M: DO; DECLARE S BYTE AT (0AFFFFH); ; END M;",
+        Some((0, 1, Number::E303)),
+    ),
+    (
+        b"M: DO; DECLARE S BYTE AT (0B0FA0H); ; END M;",
+        Some((0, 1, Number::E303)),
+    ),
+    (b"M: DO; DECLARE S (4000) BYTE AT (0B0000H); ; END M;", None),
+    // From one page into the other.
+    (
+        b"M: DO; DECLARE S (40000) BYTE AT (0B0000H); ; END M;",
+        Some((0, 1, Number::E303)),
+    ),
+    (
+        b"M: DO; DECLARE (A,\nB,\nC) WORD AT (0B0F9CH); ; END M;",
+        Some((0, 3, Number::E303)),
+    ),
+    (
+        b"M: DO; DECLARE X BYTE AT (0B0000H), W BYTE AT (.X); ; END M;",
         Some((0, 1, Number::E303)),
     ),
     (b"M: DO; DECLARE S (4000) BYTE AT (0B8000H); ; END M;", None),

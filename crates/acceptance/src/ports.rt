@@ -2,7 +2,6 @@
 
 use crate::expect::Expect;
 use ppi_kbd::{Call, Ports, Reply, replay};
-use std::test::Fail;
 use word86::Event;
 
 /// ChipState after these writes.
@@ -28,7 +27,7 @@ fn taken(ports: &mut Ports) -> Option<u8> {
 
 // A mode word clears the latches, and one with another mode than 0 is ignored as a whole.
 #[test]
-fn mode_words(rt: HostRuntime) -> Result<(), Fail> {
+fn mode_words(rt: HostRuntime) {
     let mut expect = Expect::new(&rt);
     let mut ports = set(&[(0x63, 0x80), (0x60, 0x12), (0x61, 0x34), (0x62, 0x56)]);
     expect.same(ports.read(0x60), 0x12);
@@ -43,12 +42,11 @@ fn mode_words(rt: HostRuntime) -> Result<(), Fail> {
     expect.same(ports.read(0x61), 0);
     expect.same(ports.read(0x62), 0);
     expect.same(ports.read(0x63), 0xFF);
-    Ok(())
 }
 
 // Bits of port C set and reset one by one; its halves are inputs or outputs on their own.
 #[test]
-fn bits_of_port_c(rt: HostRuntime) -> Result<(), Fail> {
+fn bits_of_port_c(rt: HostRuntime) {
     let mut expect = Expect::new(&rt);
     let mut ports = set(&[(0x63, 0x80), (0x63, 0x0F), (0x63, 0x01), (0x63, 0x07)]);
     expect.same(ports.read(0x62), 0x89);
@@ -60,12 +58,11 @@ fn bits_of_port_c(rt: HostRuntime) -> Result<(), Fail> {
     ports.write(0x63, 0x81);
     ports.write(0x62, 0xFF);
     expect.same(ports.read(0x62), 0xF0);
-    Ok(())
 }
 
 // At reset every port is an input: A the empty register, B 0FFH, C the timer's OUT 2; an unmapped port reads 0FFH.
 #[test]
-fn reset_reads(rt: HostRuntime) -> Result<(), Fail> {
+fn reset_reads(rt: HostRuntime) {
     let mut expect = Expect::new(&rt);
     let mut ports = Ports::reset();
     expect.same(ports.read(0x60), 0);
@@ -74,12 +71,11 @@ fn reset_reads(rt: HostRuntime) -> Result<(), Fail> {
     expect.same(ports.read(0x300), 0xFF);
     expect.same(ports.read(0x43), 0xFF);
     expect.holds(!ports.int_line());
-    Ok(())
 }
 
 // Port B bit 0 is the gate of channel 2, whose OUT is bit 5 of port C.
 #[test]
-fn gate_and_out_of_channel_two(rt: HostRuntime) -> Result<(), Fail> {
+fn gate_and_out_of_channel_two(rt: HostRuntime) {
     let mut expect = Expect::new(&rt);
     let mut ports = set(&[(0x63, 0x99), (0x43, 0x94), (0x42, 2)]);
     ports.event(Event::Tick(2));
@@ -89,12 +85,11 @@ fn gate_and_out_of_channel_two(rt: HostRuntime) -> Result<(), Fail> {
     expect.same(ports.read(0x62), 0);
     ports.write(0x61, 0);
     expect.same(ports.read(0x62), 0x20);
-    Ok(())
 }
 
 // Two keys: the second moves into the register when bit 7 of port B falls again.
 #[test]
-fn two_keys(rt: HostRuntime) -> Result<(), Fail> {
+fn two_keys(rt: HostRuntime) {
     let mut expect = Expect::new(&rt);
     let mut ports = set(&STARTED);
     ports.event(Event::Key(0x1E));
@@ -107,12 +102,11 @@ fn two_keys(rt: HostRuntime) -> Result<(), Fail> {
     ports.write(0x61, 0);
     expect.same(taken(&mut ports), Some(9));
     expect.same(ports.read(0x60), 0x30);
-    Ok(())
 }
 
 // Of eighteen keys seventeen come: one in the register, sixteen in the queue, and the last is lost.
 #[test]
-fn eighteen_keys(rt: HostRuntime) -> Result<(), Fail> {
+fn eighteen_keys(rt: HostRuntime) {
     let mut expect = Expect::new(&rt);
     let mut ports = set(&STARTED);
     for code in 1..=18u8 {
@@ -126,12 +120,11 @@ fn eighteen_keys(rt: HostRuntime) -> Result<(), Fail> {
     }
     expect.same(taken(&mut ports), None);
     expect.same(ports.read(0x60), 0);
-    Ok(())
 }
 
 // While the clear line is up keys wait in the queue.
 #[test]
-fn keys_wait_while_cleared(rt: HostRuntime) -> Result<(), Fail> {
+fn keys_wait_while_cleared(rt: HostRuntime) {
     let mut expect = Expect::new(&rt);
     let mut ports = set(&STARTED);
     ports.write(0x61, 0x80);
@@ -139,13 +132,12 @@ fn keys_wait_while_cleared(rt: HostRuntime) -> Result<(), Fail> {
     expect.same(taken(&mut ports), None);
     ports.write(0x61, 0);
     expect.same(taken(&mut ports), Some(9));
-    Ok(())
 }
 
 // While port B is an input its lines are 0, whatever its latch holds: 81H there neither clears the keyboard nor raises the gate
 // of channel 2. The mode word 99H makes B an output and clears the latch, so nothing is driven then either.
 #[test]
-fn latch_of_an_input(rt: HostRuntime) -> Result<(), Fail> {
+fn latch_of_an_input(rt: HostRuntime) {
     let mut expect = Expect::new(&rt);
     let mut ports = set(&[(0x43, 0x94), (0x42, 2), (0x61, 0x81)]);
     ports.event(Event::Key(0x1E));
@@ -162,12 +154,11 @@ fn latch_of_an_input(rt: HostRuntime) -> Result<(), Fail> {
     expect.same(ports.read(0x60), 0);
     ports.event(Event::Tick(2));
     expect.same(ports.read(0x42), 1);
-    Ok(())
 }
 
 // Channel 0's OUT raises level 0 by a pulse and by a control word.
 #[test]
-fn timer_requests(rt: HostRuntime) -> Result<(), Fail> {
+fn timer_requests(rt: HostRuntime) {
     let mut expect = Expect::new(&rt);
     let mut ports = set(&STARTED);
     ports.write(0x43, 0x14);
@@ -180,12 +171,11 @@ fn timer_requests(rt: HostRuntime) -> Result<(), Fail> {
     expect.same(taken(&mut ports), None);
     ports.write(0x43, 0x14);
     expect.same(taken(&mut ports), Some(8));
-    Ok(())
 }
 
 // A word is the low byte, then the high byte at the next port, modulo 65,536.
 #[test]
-fn words(rt: HostRuntime) -> Result<(), Fail> {
+fn words(rt: HostRuntime) {
     let mut expect = Expect::new(&rt);
     let mut ports = set(&[(0x63, 0x80)]);
     ports.write_word(0x60, 0x3412);
@@ -196,11 +186,10 @@ fn words(rt: HostRuntime) -> Result<(), Fail> {
     ports.write(0x40, 0);
     ports.event(Event::Tick(1));
     expect.same(ports.read(0x40), 5);
-    Ok(())
 }
 
 #[test]
-fn list_of_calls(rt: HostRuntime) -> Result<(), Fail> {
+fn list_of_calls(rt: HostRuntime) {
     let mut expect = Expect::new(&rt);
     let calls = [
         Call::Write(0x63, 0x99),
@@ -220,5 +209,4 @@ fn list_of_calls(rt: HostRuntime) -> Result<(), Fail> {
     expect.same(replies[6], Reply::Byte(9));
     expect.same(replies[7], Reply::Byte(0x1E));
     expect.same(replies[8], Reply::Word(0x001E));
-    Ok(())
 }

@@ -1,9 +1,10 @@
 //! Schedules whose answers the format's rules give.
 
 use crate::expect::Expect;
+use crate::sources::{Outcome, outcome};
 use board::read_schedule;
 use std::test::Fail;
-use word86::{Event, Fault, Number};
+use word86::{Event, Number};
 
 #[test]
 fn reads_a_schedule(rt: HostRuntime) -> Result<(), Fail> {
@@ -28,8 +29,9 @@ fn reads_a_schedule(rt: HostRuntime) -> Result<(), Fail> {
 
 #[test]
 fn refuses_the_first_faulty_line(rt: HostRuntime) {
-    let cases = [
-        (b"AT 5 KEY 1E".as_slice(), 1, Number::E703),
+    let mut expect = Expect::new(&rt);
+    const ROWS: &[(&[u8], u32, Number)] = &[
+        (b"AT 5 KEY 1E", 1, Number::E703),
         (b"", 1, Number::E703),
         (b"FILL 00\n\n", 2, Number::E703),
         (b"STOP 4294967296", 1, Number::E701),
@@ -48,23 +50,24 @@ fn refuses_the_first_faulty_line(rt: HostRuntime) {
         (b"AT 3 KEY 11\nAT 2 KEY 11\nSTOP 9", 2, Number::E702),
         (b"AT 9 KEY 11\nSTOP 9", 2, Number::E702),
     ];
-    for (text, line, number) in cases {
-        assert_eq!(rt;
-            read_schedule(rt.alloc(), text).err(),
-            Some(Fault::At(0, line, number))
-        );
+    for (text, line, number) in ROWS {
+        let refused = outcome(read_schedule(rt.alloc(), text));
+        expect.same(refused, Some((0, *line, *number)));
     }
+}
+
+/// Whether this is the fault of a line or of the end.
+fn is_unfinished(refused: Outcome) -> bool {
+    matches!(refused, Some((_, _, Number::E701 | Number::E703)))
 }
 
 #[test]
 fn beginnings_of_a_schedule(rt: HostRuntime) {
-    let text = b"FILL 00\nAT 1 TICK 1\nAT 1 KEY 1E\nSTOP 9";
+    let mut expect = Expect::new(&rt);
+    let text: &[u8] = b"FILL 00\nAT 1 TICK 1\nAT 1 KEY 1E\nSTOP 9";
     for end in 0..text.len() {
-        let number = match read_schedule(rt.alloc(), &text[..end]) {
-            Err(Fault::At(_, _, number)) => number,
-            _ => Number::E704,
-        };
-        assert!(rt; number == Number::E701 || number == Number::E703);
+        let refused = outcome(read_schedule(rt.alloc(), &text[..end]));
+        expect.holds(is_unfinished(refused));
     }
-    assert!(rt; read_schedule(rt.alloc(), text).is_ok());
+    expect.same(outcome(read_schedule(rt.alloc(), text)), None);
 }

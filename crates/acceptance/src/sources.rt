@@ -49,7 +49,8 @@ pub(crate) fn then<T: Drop, R, F: FnOnce(&T) -> Result<R, Fault>>(
     }
 }
 
-fn module_of(alloc: Global, text: &[u8]) -> Result<Module<'_>, Fault> {
+/// The tree of a module.
+pub(crate) fn module_of(alloc: Global, text: &[u8]) -> Result<Module<'_>, Fault> {
     parse(alloc, scan(alloc, text)?)
 }
 

@@ -1,8 +1,8 @@
 //! Small texts, and what becomes of them.
 
 use crate::expect::Expect;
-use plm_syntax::{Basic, Statement, parse};
-use plm_token::scan;
+use crate::sources::{module_of, outcome, seen};
+use plm_syntax::{Basic, Statement};
 use std::alloc::Global;
 use std::process::Abort;
 use word86::{Fault, Number};
@@ -13,21 +13,17 @@ enum Outcome {
     Fine,
     /// A fault and its line.
     Refused(Number, u32),
-    Memory,
+    /// Out of memory, or in another module.
+    Elsewhere,
 }
 
 use Outcome::{Fine, Refused};
 
 fn parsed(alloc: Global, text: &[u8]) -> Outcome {
-    let tokens = match scan(alloc, text) {
-        Ok(tokens) => tokens,
-        Err(Fault::At(_, line, number)) => return Refused(number, line),
-        Err(Fault::Memory) => return Outcome::Memory,
-    };
-    match parse(alloc, tokens) {
-        Ok(_) => Fine,
-        Err(Fault::At(_, line, number)) => Refused(number, line),
-        Err(Fault::Memory) => Outcome::Memory,
+    match outcome(module_of(alloc, text)) {
+        None => Fine,
+        Some((0, line, number)) => Refused(number, line),
+        Some(_) => Outcome::Elsewhere,
     }
 }
 
@@ -301,7 +297,7 @@ fn repeated(
 #[test]
 fn levels(rt: HostRuntime) -> Result<(), Fault> {
     let alloc = rt.alloc();
-    let forms: [(&[u8], &[u8], &[u8], &[u8], &[u8]); 13] = [
+    const ROWS: &[(&[u8], &[u8], &[u8], &[u8], &[u8])] = &[
         (b"M: DO;\nA = ", b"(", b"1", b")", b"; END;"),
         (b"M: DO;\nA = ", b"NOT ", b"1", b"", b"; END;"),
         (b"M: DO;\nA = ", b"B(", b"1", b")", b"; END;"),
@@ -316,20 +312,12 @@ fn levels(rt: HostRuntime) -> Result<(), Fault> {
         (b"M: DO;\n", b"IF 1 THEN ", b";", b"", b"END;"),
         (b"M: DO;\n", b"P: PROCEDURE; ", b";", b"END; ", b"END;"),
     ];
-    for (before, part, middle, closing, after) in forms {
+    for (before, part, middle, closing, after) in ROWS {
+        let full = repeated(alloc, before, part, 63, middle, closing, after)?;
+        assert_eq!(&rt; parsed(alloc, &full), Fine, "in {part:?}");
+        let over = repeated(alloc, before, part, 64, middle, closing, after)?;
         assert_eq!(&rt;
-            parsed(
-                alloc,
-                &repeated(alloc, before, part, 63, middle, closing, after)?
-            ),
-            Fine,
-            "in {part:?}"
-        );
-        assert_eq!(&rt;
-            parsed(
-                alloc,
-                &repeated(alloc, before, part, 64, middle, closing, after)?
-            ),
+            parsed(alloc, &over),
             Refused(Number::E203, 2),
             "in {part:?}"
         );
@@ -463,8 +451,9 @@ fn is_if_before_else(statements: &[Statement<'_>]) -> bool {
 fn nearest_if(rt: HostRuntime) -> Result<(), Fault> {
     let alloc = rt.alloc();
     let text = b"M: DO; DECLARE B BYTE; IF B THEN IF B THEN B = 1; ELSE B = 2; END M;";
-    let module = parse(alloc, scan(alloc, text)?)?;
-    let inner = is_if_before_else(&module.block.statements);
+    let inner = seen(module_of(alloc, text), |module| {
+        is_if_before_else(&module.block.statements)
+    })?;
     assert!(&rt; inner);
     Ok(())
 }

@@ -2,7 +2,6 @@
 
 use crate::expect::Expect;
 use pit8253::{Call, Pit, Reply, Segments, pulse_agrees, replay};
-use std::test::Fail;
 
 /// A chip at reset after these writes.
 fn set(writes: &[(u8, u8)]) -> Pit {
@@ -22,42 +21,39 @@ fn latched_word(pit: &mut Pit) -> u16 {
 
 // Mode 2: OUT rises at the fifth pulse, and a latch holds the count.
 #[test]
-fn rate_rises(rt: HostRuntime) -> Result<(), Fail> {
+fn rate_rises(rt: HostRuntime) {
     let mut expect = Expect::new(&rt);
     let mut pit = set(&[(3, 0x14), (0, 4)]);
     expect.holds(!pit.pulse(4));
     expect.holds(pit.pulse(1));
     pit.write(3, 0);
     expect.same(pit.read(0), 4);
-    Ok(())
 }
 
 // 65,535 pulses of a count of 1,000: 65 whole periods and 535 pulses.
 #[test]
-fn long_run(rt: HostRuntime) -> Result<(), Fail> {
+fn long_run(rt: HostRuntime) {
     let mut expect = Expect::new(&rt);
     let mut pit = set(&[(3, 0x34), (0, 0xE8), (0, 3)]);
     expect.holds(pit.pulse(65535));
     pit.write(3, 0);
     expect.same(pit.read(0), 0xD2);
     expect.same(pit.read(0), 1);
-    Ok(())
 }
 
 #[test]
-fn square_wave(rt: HostRuntime) -> Result<(), Fail> {
+fn square_wave(rt: HostRuntime) {
     let mut expect = Expect::new(&rt);
     let mut pit = set(&[(3, 0x16), (0, 5)]);
     expect.holds(!pit.pulse(4));
     expect.holds(!pit.out(0));
     expect.holds(!pit.pulse(1));
     expect.holds(pit.pulse(1));
-    Ok(())
 }
 
 // A count that waits is taken up at the next period.
 #[test]
-fn rewritten_rate(rt: HostRuntime) -> Result<(), Fail> {
+fn rewritten_rate(rt: HostRuntime) {
     let mut expect = Expect::new(&rt);
     let mut pit = set(&[(3, 0x14), (0, 4)]);
     expect.holds(!pit.pulse(2));
@@ -65,12 +61,11 @@ fn rewritten_rate(rt: HostRuntime) -> Result<(), Fail> {
     expect.holds(pit.pulse(8));
     expect.holds(!pit.out(0));
     expect.holds(pit.pulse(1));
-    Ok(())
 }
 
 // Mode 0: one rise, and the count goes on from 0 to 0FFH.
 #[test]
-fn terminal_count(rt: HostRuntime) -> Result<(), Fail> {
+fn terminal_count(rt: HostRuntime) {
     let mut expect = Expect::new(&rt);
     let mut pit = set(&[(3, 0x10), (0, 2)]);
     expect.holds(!pit.pulse(2));
@@ -78,12 +73,11 @@ fn terminal_count(rt: HostRuntime) -> Result<(), Fail> {
     expect.holds(!pit.pulse(1));
     expect.holds(pit.out(0));
     expect.same(pit.read(0), 0xFF);
-    Ok(())
 }
 
 // Mode 0 rewritten by one byte: OUT is low again at once, and the new count begins.
 #[test]
-fn terminal_count_rewritten_by_one_byte(rt: HostRuntime) -> Result<(), Fail> {
+fn terminal_count_rewritten_by_one_byte(rt: HostRuntime) {
     let mut expect = Expect::new(&rt);
     let mut pit = set(&[(3, 0x10), (0, 1)]);
     expect.holds(pit.pulse(2));
@@ -91,12 +85,11 @@ fn terminal_count_rewritten_by_one_byte(rt: HostRuntime) -> Result<(), Fail> {
     expect.holds(!pit.out(0));
     expect.holds(!pit.pulse(3));
     expect.holds(pit.pulse(1));
-    Ok(())
 }
 
 // Mode 0 rewritten by two bytes: the first stops the count, the second makes OUT low.
 #[test]
-fn terminal_count_rewritten_by_two_bytes(rt: HostRuntime) -> Result<(), Fail> {
+fn terminal_count_rewritten_by_two_bytes(rt: HostRuntime) {
     let mut expect = Expect::new(&rt);
     let mut pit = set(&[(3, 0x30), (0, 2), (0, 0)]);
     expect.holds(pit.pulse(3));
@@ -108,7 +101,6 @@ fn terminal_count_rewritten_by_two_bytes(rt: HostRuntime) -> Result<(), Fail> {
     expect.holds(!pit.out(0));
     expect.holds(!pit.pulse(258));
     expect.holds(pit.pulse(1));
-    Ok(())
 }
 
 /// Whether channel 0's counts and OUT are these, pulse by pulse, from the first pulse on.
@@ -124,9 +116,9 @@ fn counts_as(pit: &mut Pit, steps: &[(u8, bool)]) -> bool {
 
 // Mode 3 counts by twos: an even count twice from N down to 2.
 #[test]
-fn square_wave_of_six(rt: HostRuntime) -> Result<(), Fail> {
+fn square_wave_of_six(rt: HostRuntime) {
     let mut pit = set(&[(3, 0x16), (0, 6)]);
-    let period = [
+    const PERIOD: &[(u8, bool)] = &[
         (6, true),
         (4, true),
         (2, true),
@@ -135,15 +127,14 @@ fn square_wave_of_six(rt: HostRuntime) -> Result<(), Fail> {
         (2, false),
         (6, true),
     ];
-    assert!(rt; counts_as(&mut pit, &period));
-    Ok(())
+    assert!(rt; counts_as(&mut pit, PERIOD));
 }
 
 // An odd count falls by one first in the high part, and by three first in the low part.
 #[test]
-fn square_wave_of_seven(rt: HostRuntime) -> Result<(), Fail> {
+fn square_wave_of_seven(rt: HostRuntime) {
     let mut pit = set(&[(3, 0x16), (0, 7)]);
-    let period = [
+    const PERIOD: &[(u8, bool)] = &[
         (7, true),
         (6, true),
         (4, true),
@@ -153,24 +144,22 @@ fn square_wave_of_seven(rt: HostRuntime) -> Result<(), Fail> {
         (2, false),
         (7, true),
     ];
-    assert!(rt; counts_as(&mut pit, &period));
-    Ok(())
+    assert!(rt; counts_as(&mut pit, PERIOD));
 }
 
 // N = 1: OUT stays high in modes 2 and 3, and the count is 1.
 #[test]
-fn period_of_one(rt: HostRuntime) -> Result<(), Fail> {
+fn period_of_one(rt: HostRuntime) {
     for word in [0x14, 0x16] {
         let mut pit = set(&[(3, word), (0, 1)]);
         assert!(rt; counts_as(&mut pit, &[(1, true), (1, true), (1, true)]));
         assert!(rt; !pit.pulse(65535));
     }
-    Ok(())
 }
 
 // A written 0 is 65,536: OUT of mode 2 is low at the last of these pulses.
 #[test]
-fn count_of_zero(rt: HostRuntime) -> Result<(), Fail> {
+fn count_of_zero(rt: HostRuntime) {
     let mut expect = Expect::new(&rt);
     let mut pit = set(&[(3, 0x34), (0, 0), (0, 0)]);
     expect.holds(!pit.pulse(65535));
@@ -181,12 +170,11 @@ fn count_of_zero(rt: HostRuntime) -> Result<(), Fail> {
     expect.same(latched_word(&mut pit), 1);
     expect.holds(pit.pulse(1));
     expect.same(latched_word(&mut pit), 0);
-    Ok(())
 }
 
 // A latch holds both bytes while the count goes on, and a second latch is ignored until they are read.
 #[test]
-fn latch_low_then_high(rt: HostRuntime) -> Result<(), Fail> {
+fn latch_low_then_high(rt: HostRuntime) {
     let mut expect = Expect::new(&rt);
     let mut pit = set(&[(3, 0x34), (0, 0), (0, 2)]);
     pit.pulse(1);
@@ -197,12 +185,11 @@ fn latch_low_then_high(rt: HostRuntime) -> Result<(), Fail> {
     expect.same(pit.read(0), 2);
     expect.same(pit.read(0), 0xD4);
     expect.same(pit.read(0), 0);
-    Ok(())
 }
 
 // A latch between the two bytes of a reading: the high byte comes first, and two reads end it.
 #[test]
-fn latch_between_two_bytes(rt: HostRuntime) -> Result<(), Fail> {
+fn latch_between_two_bytes(rt: HostRuntime) {
     let mut expect = Expect::new(&rt);
     let mut pit = set(&[(3, 0x34), (0, 0x34), (0, 0x12)]);
     pit.pulse(1);
@@ -213,12 +200,11 @@ fn latch_between_two_bytes(rt: HostRuntime) -> Result<(), Fail> {
     expect.same(pit.read(0), 0x34);
     expect.same(pit.read(0), 0x12);
     expect.same(pit.read(0), 0);
-    Ok(())
 }
 
 // A control word ends a latch: what is read afterwards is the running count.
 #[test]
-fn control_word_ends_a_latch(rt: HostRuntime) -> Result<(), Fail> {
+fn control_word_ends_a_latch(rt: HostRuntime) {
     let mut expect = Expect::new(&rt);
     let mut pit = set(&[(3, 0x14), (0, 9)]);
     pit.pulse(2);
@@ -229,12 +215,11 @@ fn control_word_ends_a_latch(rt: HostRuntime) -> Result<(), Fail> {
     expect.same(pit.read(0), 5);
     pit.pulse(1);
     expect.same(pit.read(0), 4);
-    Ok(())
 }
 
 // Bits 3 to 1 as 110 and 111 are modes 2 and 3 too: of a count of 4, the first falls by one and the second by two.
 #[test]
-fn modes_of_three_bits(rt: HostRuntime) -> Result<(), Fail> {
+fn modes_of_three_bits(rt: HostRuntime) {
     let mut expect = Expect::new(&rt);
     let mut rate = set(&[(3, 0x1C), (0, 4)]);
     let steps = [(4, true), (3, true), (2, true), (1, false), (4, true)];
@@ -242,12 +227,11 @@ fn modes_of_three_bits(rt: HostRuntime) -> Result<(), Fail> {
     let mut square = set(&[(3, 0x1E), (0, 4)]);
     let steps = [(4, true), (2, true), (4, false), (2, false), (4, true)];
     expect.holds(counts_as(&mut square, &steps));
-    Ok(())
 }
 
 // A control word between the two bytes of a count, and of a reading, begins both with the low byte again.
 #[test]
-fn control_word_between_two_bytes(rt: HostRuntime) -> Result<(), Fail> {
+fn control_word_between_two_bytes(rt: HostRuntime) {
     let mut expect = Expect::new(&rt);
     let mut pit = set(&[(3, 0x34), (0, 0x77), (3, 0x34), (0, 0x34), (0, 0x12)]);
     pit.pulse(1);
@@ -258,36 +242,33 @@ fn control_word_between_two_bytes(rt: HostRuntime) -> Result<(), Fail> {
     pit.pulse(1);
     expect.same(pit.read(0), 0x78);
     expect.same(pit.read(0), 0x56);
-    Ok(())
 }
 
 // Without a mode a latch holds 0, and bytes for the count are ignored; the control register reads 0FFH.
 #[test]
-fn without_a_mode(rt: HostRuntime) -> Result<(), Fail> {
+fn without_a_mode(rt: HostRuntime) {
     let mut expect = Expect::new(&rt);
     let mut pit = set(&[(0, 5), (3, 0)]);
     expect.holds(pit.out(0));
     expect.holds(!pit.pulse(7));
     expect.same(pit.read(0), 0);
     expect.same(pit.read(3), 0xFF);
-    Ok(())
 }
 
 // Modes 1, 4 and 5, BCD and channel 3 are ignored.
 #[test]
-fn ignored_control_words(rt: HostRuntime) -> Result<(), Fail> {
+fn ignored_control_words(rt: HostRuntime) {
     let mut pit = set(&[(3, 0x14), (0, 4)]);
     pit.pulse(2);
     for word in [0x12, 0x18, 0x1A, 0x15, 0xD4] {
         pit.write(3, word);
     }
     assert_eq!(rt; pit.read(0), 3);
-    Ok(())
 }
 
 // Modes 2 and 3 on channel 2: a low gate holds OUT high and the count still, and a rise begins a new period.
 #[test]
-fn gate_of_channel_two(rt: HostRuntime) -> Result<(), Fail> {
+fn gate_of_channel_two(rt: HostRuntime) {
     for word in [0x94, 0x96] {
         let mut pit = set(&[(3, word), (2, 4)]);
         pit.pulse(9);
@@ -305,12 +286,11 @@ fn gate_of_channel_two(rt: HostRuntime) -> Result<(), Fail> {
         pit.pulse(1);
         assert_eq!(rt; pit.read(2), 6);
     }
-    Ok(())
 }
 
 // Nine segments are enough, and these three channels need them.
 #[test]
-fn segments_of_a_long_run(rt: HostRuntime) -> Result<(), Fail> {
+fn segments_of_a_long_run(rt: HostRuntime) {
     let mut expect = Expect::new(&rt);
     let mut pit = set(&[(3, 0x14), (0, 7), (3, 0x54), (1, 9), (3, 0x94), (2, 3)]);
     pit.gate(true);
@@ -318,12 +298,11 @@ fn segments_of_a_long_run(rt: HostRuntime) -> Result<(), Fail> {
     let mut segments = Segments::new();
     expect.holds(pit.pulse_counted(60000, &mut segments));
     expect.same(segments.made(), 9);
-    Ok(())
 }
 
 // By arithmetic or pulse by pulse: the same rises, OUT and counts.
 #[test]
-fn both_bodies(rt: HostRuntime) -> Result<(), Fail> {
+fn both_bodies(rt: HostRuntime) {
     for count in 0..=9u8 {
         for word in [0x10u8, 0x14, 0x16] {
             for before in 0..12u16 {
@@ -341,19 +320,17 @@ fn both_bodies(rt: HostRuntime) -> Result<(), Fail> {
             }
         }
     }
-    Ok(())
 }
 
 #[test]
-fn both_bodies_agree(rt: HostRuntime) -> Result<(), Fail> {
+fn both_bodies_agree(rt: HostRuntime) {
     let mut quick = set(&[(3, 0x16), (0, 5)]);
     let mut plain = set(&[(3, 0x16), (0, 5)]);
     assert!(rt; pulse_agrees(&mut quick, &mut plain, 4000));
-    Ok(())
 }
 
 #[test]
-fn list_of_calls(rt: HostRuntime) -> Result<(), Fail> {
+fn list_of_calls(rt: HostRuntime) {
     let calls = [
         Call::Write(3, 0x14),
         Call::Write(0, 4),
@@ -375,5 +352,4 @@ fn list_of_calls(rt: HostRuntime) -> Result<(), Fail> {
         Reply::Byte(4),
     ];
     assert_eq!(rt; replies, want);
-    Ok(())
 }

@@ -17,6 +17,8 @@ fn writes_each_label(rt: HostRuntime) -> Result<(), Fail> {
         (Label::OutW(0x302, 0x200), "OUTW 0302 0200\n"),
         (Label::Scr(0xF9F, 0x41), "SCR 0F9F 41\n"),
         (Label::ScrW(0xF9E, 0x741), "SCRW 0F9E 0741\n"),
+        (Label::Mono(0xF9F, 0x41), "MONO 0F9F 41\n"),
+        (Label::MonoW(0xF9E, 0x741), "MONOW 0F9E 0741\n"),
         (Label::Ack(8), "ACK 08\n"),
         (Label::Tick(65535), "TICK 65535\n"),
         (Label::Key(0x1E), "KEY 1E\n"),

@@ -169,9 +169,9 @@ fn copies_member(program: &Program) -> bool {
     let Some((stored, read)) = copied(program) else {
         return false;
     };
-    stored.anchor == Anchor::Based(Place::Ram(2, 0))
+    stored.anchor == Anchor::Behind(Place::Ram(2, 0))
         && stored.line.line == 3
-        && read.anchor == Anchor::Ram(1, 0, 15)
+        && read.anchor == Anchor::InObject(1, 0, 15)
         && read.offset == 1
         && are_of_member(&read.subscripts)
 }

@@ -284,6 +284,14 @@ fn shapes(rt: HostRuntime) {
             Some((0, 2, Number::E401)),
         ),
         (
+            b"M: DO; DECLARE S BYTE AT (0B0000H), W WORD; W = 1 +\n.\nS; END M;",
+            Some((0, 2, Number::E401)),
+        ),
+        (
+            b"M: DO; DECLARE S BYTE AT (0B0000H), W WORD INITIAL (\n.\nS); ; END M;",
+            Some((0, 2, Number::E401)),
+        ),
+        (
             b"M: DO; P: PROCEDURE; END P; DECLARE W POINTER INITIAL (\n@\nP); ; END M;",
             Some((0, 2, Number::E401)),
         ),

@@ -3,7 +3,7 @@
 use crate::expect::Expect;
 use std::test::Fail;
 use word86::{
-    CutSink, Event, Fault, Label, Number, PowerOn, RAM_LENGTH, SCREEN_LENGTH, SinkFault, Width,
+    CutSink, Event, Fault, Label, Number, PAGE_SIZE, PowerOn, RAM_SIZE, SinkFault, Width,
     WriterSink, add8, add16, div16, mul16, put_all, put_word, rol, ror, shl, shr, sub16, word_at,
 };
 
@@ -47,13 +47,15 @@ fn puts_the_low_byte_first(rt: HostRuntime) {
 fn fills_memory(rt: HostRuntime) -> Result<(), Fail> {
     let mut expect = Expect::new(&rt);
     let memory = PowerOn::filled(rt.alloc(), 0xA5)?;
-    expect.same(memory.ram().len(), RAM_LENGTH);
-    expect.same(memory.screen().len(), SCREEN_LENGTH);
-    expect.holds(memory.ram().iter().all(|byte| *byte == 0xA5));
-    expect.holds(memory.screen().iter().all(|byte| *byte == 0xA5));
-    let (ram, screen) = memory.into_parts();
-    let again = PowerOn::new(ram, screen);
-    expect.same(again.ram().len(), RAM_LENGTH);
+    expect.same(memory.ram().len(), RAM_SIZE);
+    for part in [memory.ram(), memory.colour(), memory.monochrome()] {
+        assert!(rt; part.iter().all(|byte| *byte == 0xA5));
+    }
+    let (ram, colour, monochrome) = memory.into_parts();
+    expect.same(colour.len(), PAGE_SIZE);
+    expect.same(monochrome.len(), PAGE_SIZE);
+    let again = PowerOn::new(ram, colour, monochrome);
+    expect.same(again.ram().len(), RAM_SIZE);
     Ok(())
 }
 
@@ -90,10 +92,9 @@ fn takes_a_text_byte_by_byte(rt: HostRuntime) -> Result<(), Fail> {
 }
 
 #[test]
-fn writes_through(rt: HostRuntime) -> Result<(), Fail> {
+fn writes_through(rt: HostRuntime) {
     let mut sink = WriterSink::new(Vec::new(rt.alloc()));
     assert_eq!(rt; put_all(&mut sink, b"END 5\n"), Ok(()));
-    Ok(())
 }
 
 #[test]
