@@ -1,7 +1,7 @@
 -- Eight bytes of the tests' memory.
 use Rattle.std.proofs.Common.{◌≡◌, ℕ, ◌+◌, ◌-◌, ◌≤◌, List, [], ◌∷◌, length, take, drop, slice_index_or, refl, arith, ap}
 use Rattle.std.proofs.lemmas.List.{length-drop, get_or-drop}
-use Rattle.cpu8086.specs.BusModel.{eight_bytes}
+use Rattle.cpu8086.specs.BusLaws.{eight_bytes}
 use Rattle.std.specs.Prelude.{slice_range, Option}
 use Rattle.acceptance.specs.Inner.TestBus.{test_bus}
 

@@ -7,7 +7,7 @@ use Rattle.word86.specs.declared.event.Event.{Event}
 use Rattle.word86.specs.declared.event.Event.TheVariants.{Tick, Key}
 use Rattle.word86.specs.Bytes.{is_set}
 use Rattle.pit8253.specs.Timer as pit
-use Rattle.pit8253.specs.Timer.{AlikeTimers}
+use Rattle.pit8253.specs.Alike.{AlikeTimers}
 use Rattle.pit8253.specs.Calls.{NoCallTells}
 use Rattle.pit8253.specs.Pit.{timer_shown}
 use Rattle.pic8259.specs.Controller as pic

@@ -6,8 +6,9 @@ use Rattle.std.proofs.Math.Nat.{mod-mod}
 use Rattle.pit8253.specs.declared.mode.Waveform.{Waveform}
 use Rattle.pit8253.specs.declared.calls.Call.TheVariants as call
 use Rattle.pit8253.specs.declared.calls.Reply.TheVariants.{Byte, Signal}
-use Rattle.pit8253.specs.Progress.{Progress, Still, Once, Again, Alike, SamePhase, SameOnce, next_of}
-use Rattle.pit8253.specs.Timer.{Counter, Timer, AlikeCounters, AlikeTimers, rose, timer_written, timer_read, timer_answer, timer_gated, timer_out, timer_pulses}
+use Rattle.pit8253.specs.Progress.{Progress, Still, Once, Again, next_of}
+use Rattle.pit8253.specs.Alike.{Alike, SamePhase, SameOnce, AlikeCounters, AlikeTimers}
+use Rattle.pit8253.specs.Timer.{Counter, Timer, rose, timer_written, timer_read, timer_answer, timer_gated, timer_out, timer_pulses}
 use Rattle.pit8253.specs.Calls.{NoCallTells}
 use Rattle.board.specs.Inner.Settled.{settled_once, settled_phase, settled_progress, settled_counter, settled_timer}
 

@@ -5,7 +5,7 @@ ghost use Rattle.word86.specs.declared.fault.Fault.TheVariants.{Memory, At};
 ghost use Rattle.word86.specs.declared.number.Number.TheVariants.{E705};
 ghost use Rattle.word86.specs.Event.{event_label};
 ghost use Rattle.cpu8086.specs.declared.cpu.Kind.TheVariants.{Wait};
-ghost use Rattle.cpu8086.specs.Turn.{zeros};
+ghost use Rattle.cpu8086.specs.Cpu.{zeros};
 ghost use Rattle.ppi_kbd.specs.Chips.{ChipState, reset};
 ghost use Rattle.ppi_kbd.specs.BoardChips.{board_chips};
 ghost use Rattle.board.specs.World.{World, board_model, occurs};

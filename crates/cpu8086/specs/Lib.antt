@@ -7,4 +7,6 @@ pub mod Moves
 pub mod Strings
 pub mod Effect
 pub mod Turn
+pub mod BusLaws
+pub mod Cpu
 pub mod Inner

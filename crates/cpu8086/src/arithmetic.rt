@@ -6,8 +6,8 @@ ghost use Rattle.i86_table.specs.Arithmetic.{is_comparison};
 ghost use Rattle.arrayvec.specs.ArrayVec.{array_vec_len};
 ghost use Rattle.cpu8086.specs.Machine.{machine};
 ghost use Rattle.cpu8086.specs.Operand.{bytes, located, in_memory, held};
-ghost use Rattle.cpu8086.specs.Inner.Arithmetic.{register_computed, register_changed};
-ghost use Rattle.cpu8086.specs.Arithmetic.{computed, computed_at, changed_in_place, tested_place, shift_count, shifted_place, multiplied_byte, multiplied_word, divided_byte, divided_word};
+ghost use Rattle.cpu8086.specs.Inner.Arithmetic.{register_computed, register_changed, computed_at};
+ghost use Rattle.cpu8086.specs.Arithmetic.{computed, changed_in_place, tested_place, shift_count, shifted_place, multiplied_byte, multiplied_word, divided_byte, divided_word};
 
 use crate::bus::Bus;
 use crate::control::interrupt;
@@ -28,7 +28,7 @@ fn is_stored(operation: AluOperation) -> bool
 }
 
 /// ADD, OR, ADC, SBB, AND, SUB, XOR; CMP stores nothing.
-#[tactic(auto, using(crate::proofs::Computing::computed_register), unfolding(crate::specs::Arithmetic::computed, crate::specs::Arithmetic::computed_at))]
+#[tactic(auto, using(crate::proofs::Computing::computed_register), unfolding(crate::specs::Arithmetic::computed, crate::specs::Inner::Arithmetic::computed_at))]
 #[inline(always)]
 pub(crate) fn compute<R: Operand, B: Bus>(
     registers: &mut Regs,
@@ -127,7 +127,7 @@ fn compute_register<R: Operand>(
     }
 }
 
-#[tactic(auto, unfolding(crate::specs::Arithmetic::computed_at))]
+#[tactic(auto, unfolding(crate::specs::Inner::Arithmetic::computed_at))]
 #[inline(never)]
 fn compute_memory<R: Operand, B: Bus>(
     registers: &mut Regs,

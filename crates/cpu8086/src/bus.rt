@@ -5,7 +5,8 @@ ghost use Rattle.word86.specs.declared.width.Width.{Width};
 ghost use Rattle.cpu8086.specs.declared.bus.Store.{Store};
 ghost use Rattle.word86.specs.declared.width.Width.TheVariants.{Word};
 ghost use Rattle.cpu8086.specs.Machine.{loaded_word, access_at};
-ghost use Rattle.cpu8086.specs.BusModel.{BusModel, LoadAfterStore, PortsKeepMemory, eight_bytes};
+ghost use Rattle.cpu8086.specs.BusModel.{BusModel};
+ghost use Rattle.cpu8086.specs.BusLaws.{LoadAfterStore, PortsKeepMemory, eight_bytes};
 
 use crate::memory::{next_offset, physical};
 use word86::{Label, Width};

@@ -1,7 +1,7 @@
 -- Of a condition and its inverse exactly one holds.
 use Rattle.std.proofs.Common.{◌≡◌, Bool, true, false, not, refl, sym}
 use Rattle.i86_table.specs.declared.instruction.Condition.TheVariants.{Overflow, NotOverflow, Below, NotBelow, Equal, NotEqual, BelowOrEqual, Above, Sign, NotSign, ParityEven, ParityOdd, Less, NotLess, LessOrEqual, Greater}
-use Rattle.i86_table.specs.Condition.{InverseHolds}
+use Rattle.i86_table.specs.Inverse.{InverseHolds}
 
 twice : (b : Bool) → not (not b) ≡ b
 twice true = refl

@@ -12,4 +12,5 @@ pub mod ContextLaw
 pub mod Widths
 pub mod Words
 pub mod Open
+pub mod Inverse
 pub mod Inner

@@ -1,7 +1,8 @@
 //! When each conditional jump is taken, and which one is taken where it is not.
 
 ghost use Rattle.std.specs.Prelude.{◌≡◌};
-ghost use Rattle.i86_table.specs.Condition.{holds, inverse, InverseHolds};
+ghost use Rattle.i86_table.specs.Condition.{holds};
+ghost use Rattle.i86_table.specs.Inverse.{inverse, InverseHolds};
 
 use crate::instruction::Condition;
 use crate::late_flags::LateFlags;

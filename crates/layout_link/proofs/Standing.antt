@@ -12,7 +12,7 @@ use Rattle.i86_code.specs.Coding.{IsOneForm}
 use Rattle.select.specs.declared.part.Step.{Step}
 use Rattle.select.specs.declared.part.Step.TheVariants.{Plain, Refer, AtStep, Word, Goto, GotoIf}
 use Rattle.i86_table.specs.Open.{closed}
-use Rattle.i86_table.specs.Condition.{inverse}
+use Rattle.i86_table.specs.Inverse.{inverse}
 use Rattle.select.specs.Parts.{target_of}
 use Rattle.i86_code.specs.Forms.{word_bytes, Spells}
 use Rattle.layout_link.specs.Rom.{word_in, rom_code, rom_words}

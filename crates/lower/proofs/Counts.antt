@@ -29,7 +29,8 @@ use Rattle.plm_type.specs.Statements.{assignment, targets}
 use Rattle.plm_type.specs.Trees.{use_read, use_stored, refer, strided, to_port, operated, read_port, shifted, builtin_value}
 use Rattle.plm_type.specs.Types.{width_of, may_be_numbers}
 use Rattle.plm_type.specs.Typing.{is_plain, is_measure, is_target, first_type}
-use Rattle.plm_type.specs.Nodes.{is_constant, expression_nodes, expressions_nodes, selector_nodes, reference_nodes, location_nodes, target_nodes, targets_nodes, step_nodes, statement_nodes, statements_nodes}
+use Rattle.plm_type.specs.Effects.{is_unevaluated}
+use Rattle.plm_type.specs.Nodes.{expression_nodes, expressions_nodes, selector_nodes, reference_nodes, location_nodes, target_nodes, targets_nodes, step_nodes, statement_nodes, statements_nodes}
 use Rattle.lower.proofs.Typed.{tree_of, trees_of, selector_trees, value_of, location_of, target_of, types_of, target_faults, measured_value, argument_value, reference_value, of_number, target_trees, of_targets, called, of_index, step_for, of_step, statement_for, statements_for, of_statement, of_statements}
 use Rattle.lower.proofs.Rooms as typed
 
@@ -156,7 +157,7 @@ measured_count variables procedures objects module_index at b (expressions e (ex
 -- ---- each expression has a node
 
 use_positive : (x : ReferenceR') → 1 ≤ reference_nodes x
-use_positive (Use p m es s) = cases (is_constant m)
+use_positive (Use p m es s) = cases (is_unevaluated m)
   where
     cases : (b : Bool) → 1 ≤ cond b 1 (1 + expressions_nodes es + selector_nodes s)
     cases true = omega arith

@@ -27,7 +27,7 @@ use Rattle.plm_type.specs.Statements.{assignment, targets, is_external}
 use Rattle.plm_type.specs.Trees.{use_read, use_stored, refer, strided, operated, read_port, shifted, builtin_value}
 use Rattle.plm_type.specs.Types.{width_of}
 use Rattle.plm_type.specs.Typing.{is_measure, is_target, first_type}
-use Rattle.plm_type.specs.Nodes.{is_constant}
+use Rattle.plm_type.specs.Effects.{is_unevaluated}
 use Rattle.plm_type.specs.Leaves.{expression_leaves, expressions_leaves, selector_leaves, reference_leaves, target_leaves, location_leaves, targets_leaves, step_leaves, most_in, most_of, procedures_most, most_leaves}
 use Rattle.plm_decl.specs.declared.names.Names.{Names}
 use Rattle.plm_decl.specs.Placement.{sizes_of}
@@ -159,7 +159,7 @@ measured_peak variables procedures objects module_index at b (expressions e no_e
 measured_peak variables procedures objects module_index at b (expressions e (expressions d es)) = omega arith
 
 one_leaf : (x : ReferenceR') → 1 ≤ reference_leaves x
-one_leaf (Use p m es s) = cases (is_constant m)
+one_leaf (Use p m es s) = cases (is_unevaluated m)
   where
     cases : (b : Bool) → 1 ≤ cond b 1 (1 + expressions_leaves es + selector_leaves s)
     cases true = omega arith

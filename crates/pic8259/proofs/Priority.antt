@@ -4,8 +4,9 @@ use Rattle.std.proofs.Common.{◌≡◌, ℕ, zero, suc, ◌+◌, ◌-◌, ◌<�
 use Rattle.std.specs.Prelude.{if◌then◌else◌, is_some, unwrap_or}
 use Rattle.std.specs.List.{list_all, range_with_len}
 use Rattle.std.proofs.lemmas.Bool.Decides.{nat_tests}
-use Rattle.pic8259.specs.Levels.{has, level_at, rank, highest, IsHighest}
-use Rattle.pic8259.specs.Controller.{Controller, is_above, is_wanted, pending, MayInterrupt, IsNext, int_line, vector, taken, acknowledged}
+use Rattle.pic8259.specs.Levels.{has, level_at, rank, highest}
+use Rattle.pic8259.specs.Priority.{IsHighest, MayInterrupt, IsNext}
+use Rattle.pic8259.specs.Controller.{Controller, is_above, is_wanted, pending, int_line, vector, taken, acknowledged}
 
 -- n levels in the order of priority, from a place on
 abbrev pub places : ℕ → ℕ → ℕ → List ℕ

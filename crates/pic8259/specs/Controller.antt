@@ -1,6 +1,6 @@
 -- The 8259A of this board (8259A data sheet, "Fully Nested Mode"; the words by "Initialization Command Word Format" and
 -- "Operation Command Word Format"): sets of levels, and what each call does to them.
-use Rattle.std.specs.Prelude.{ℕ, Bool, true, false, not, ◌≡◌, ◌==◌, ◌+◌, ◌*◌, ◌/◌, ◌%◌, ◌&&◌, ◌||◌, nat_lt, if◌then◌else◌, ◌<◌, ◌≤◌, Option, Some, None, is_some, unwrap_or, map}
+use Rattle.std.specs.Prelude.{ℕ, Bool, true, false, not, ◌==◌, ◌+◌, ◌*◌, ◌/◌, ◌%◌, ◌&&◌, ◌||◌, nat_lt, if◌then◌else◌, Option, Some, None, is_some, unwrap_or, map}
 use Rattle.std.specs.List.{list_all, range_with_len}
 use Rattle.word86.specs.Bytes.{is_set}
 use Rattle.pic8259.specs.Levels.{has, with_level, without_level, level_at, rank, highest}
@@ -38,21 +38,6 @@ is_above lowest in_service k = list_all (λ j. nat_lt (rank lowest k) (rank lowe
 -- the level that is next: the highest requested, unmasked level above every level in service
 unfoldable pub pending : Controller → Option ℕ
 pending s = highest s.lowest (λ k. is_above s.lowest (has s.in_service) k && is_wanted s k)
-
--- a level that may interrupt: requested, unmasked and of higher priority than every level in service
-pub record MayInterrupt (s : Controller) (k : ℕ) : Type 0 where
-  pub is_level : k < 8
-  pub requested : has s.requested k ≡ true
-  pub unmasked : has s.masked k ≡ false
-  pub above_service : (j : ℕ) → j < 8 → has s.in_service j ≡ true → rank s.lowest k < rank s.lowest j
-
--- the level that is next: it may interrupt, and has the highest priority of all that are requested and unmasked
-pub record IsNext (s : Controller) (k : ℕ) : Type 0 where
-  pub is_level : k < 8
-  pub requested : has s.requested k ≡ true
-  pub unmasked : has s.masked k ≡ false
-  pub above_service : (j : ℕ) → j < 8 → has s.in_service j ≡ true → rank s.lowest k < rank s.lowest j
-  pub highest : (j : ℕ) → j < 8 → has s.requested j ≡ true → has s.masked j ≡ false → rank s.lowest k ≤ rank s.lowest j
 
 -- INT
 abbrev pub int_line : Controller → Bool

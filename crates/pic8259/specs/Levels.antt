@@ -1,5 +1,5 @@
 -- Sets of the eight levels, and their order of priority.
-use Rattle.std.specs.Prelude.{ℕ, Bool, true, ◌≡◌, ◌+◌, ◌-◌, ◌%◌, ◌^◌, ◌≤◌, ◌<◌, bit_and, bit_or, Option, find, map}
+use Rattle.std.specs.Prelude.{ℕ, Bool, ◌+◌, ◌-◌, ◌%◌, ◌^◌, bit_and, bit_or, Option, find, map}
 use Rattle.std.specs.List.{range_with_len}
 use Rattle.word86.specs.Bytes.{is_set}
 
@@ -25,9 +25,3 @@ rank lowest k = (k + 7 - lowest) % 8
 -- the highest level that passes a test
 unfoldable pub highest : ℕ → (ℕ → Bool) → Option ℕ
 highest lowest test = find test (map (level_at lowest) (range_with_len 0 8))
-
--- the level passes, and none that passes stands above it
-pub record IsHighest (lowest : ℕ) (test : ℕ → Bool) (k : ℕ) : Type 0 where
-  pub is_level : k < 8
-  pub passes : test k ≡ true
-  pub none_above : (j : ℕ) → j < 8 → test j ≡ true → rank lowest k ≤ rank lowest j

@@ -3,3 +3,4 @@ pub mod Controller
 pub mod Registers
 pub mod Pic
 pub mod Calls
+pub mod Priority

@@ -1,8 +1,9 @@
 //! The laws: over every list of calls, and of the sets and their order.
 
 ghost use Rattle.std.specs.Prelude.{◌≡◌, ℕ, ◌<◌, ◌+◌, ◌%◌, List, Bool, true, false, ◌==◌, not, ◌&&◌, ◌||◌, Some, None, length};
-ghost use Rattle.pic8259.specs.Levels.{has, with_level, without_level, rank, highest, IsHighest};
-ghost use Rattle.pic8259.specs.Controller.{Controller, reset, pending, MayInterrupt, IsNext, int_line, vector, acknowledged, taken, first_in_service, ended};
+ghost use Rattle.pic8259.specs.Levels.{has, with_level, without_level, rank, highest};
+ghost use Rattle.pic8259.specs.Priority.{IsHighest, MayInterrupt, IsNext};
+ghost use Rattle.pic8259.specs.Controller.{Controller, reset, pending, int_line, vector, acknowledged, taken, first_in_service, ended};
 ghost use Rattle.pic8259.specs.Pic.{controller_of};
 ghost use Rattle.pic8259.specs.Calls.{after, after_one, reply_of, replies_of};
 

@@ -4,7 +4,8 @@ use Rattle.std.specs.Prelude.{not, ◌&&◌, ◌||◌}
 use Rattle.pit8253.specs.declared.calls.Call.{Call}
 use Rattle.pit8253.specs.declared.calls.Call.TheVariants.{Write, Read, Gate, Pulse, Out}
 use Rattle.pit8253.specs.declared.calls.Reply.TheVariants.{Byte, Signal}
-use Rattle.pit8253.specs.Timer.{Counter, Timer, AlikeCounters, AlikeTimers, written, read, command, pulses, out, rose, on}
+use Rattle.pit8253.specs.Timer.{Counter, Timer, written, read, command, pulses, out, rose, on}
+use Rattle.pit8253.specs.Alike.{AlikeCounters, AlikeTimers}
 use Rattle.pit8253.specs.Calls.{after_one, reply_of}
 use Rattle.pit8253.proofs.Compose.{alike_pulses, alike_out, alike_counters_sym, alike_counters_trans}
 use Rattle.pit8253.proofs.EachCall.{alike_written, alike_read, alike_gated, alike_command, alike_answer}

@@ -2,13 +2,14 @@
 use Rattle.std.proofs.lemmas.Bool.{cases_lt}
 use Rattle.std.proofs.Common.{mod-lt, ◌<◌, ◌%◌, ◌≡◌, ℕ, zero, suc, ◌+◌, ◌-◌, ◌≤◌, Bool, true, false, not, ◌||◌, ◌&&◌, ◌⊎◌, sym, ap, ◌∙◌, subst, inl, inr, arith, add-zero, MatchBool}
 use Rattle.std.specs.Prelude.{is_some}
-use Rattle.pit8253.specs.Progress.{Progress, is_high, Alike}
-use Rattle.pit8253.specs.Timer.{Counter, is_counting, is_periodic, is_terminal, moved, pulse, pulses, out, Rises, AlikeCounters}
+use Rattle.pit8253.specs.Progress.{Progress, is_high}
+use Rattle.pit8253.specs.Alike.{Alike, AlikeCounters}
+use Rattle.pit8253.specs.Timer.{Counter, is_counting, is_periodic, is_terminal, moved, pulse, pulses, out}
 use Rattle.pit8253.proofs.Congruence.{alike_one, alike_high, alike_trans, alike_sym, start_same, part_same}
 use Rattle.pit8253.specs.declared.element.Element.{Element}
 use Rattle.pit8253.specs.declared.element.Element.TheVariants as code
 use Rattle.pit8253.specs.declared.channel.Channel.{Channel}
-use Rattle.pit8253.specs.Channel.{IsPart, IsPartOf, shown}
+use Rattle.pit8253.specs.Channel.{IsPart, IsPartOf, shown, Rises}
 use Rattle.pit8253.specs.Inner.Segment.{IsStart}
 use Rattle.pit8253.specs.Element.{element_view}
 

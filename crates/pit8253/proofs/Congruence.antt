@@ -4,7 +4,8 @@ use Rattle.std.proofs.Math.Nat.{add-mod, zero-mod}
 use Rattle.std.proofs.lemmas.Bool.Decides.{nat_tests}
 use Rattle.std.specs.Prelude.{◌==◌, Option, Some, None}
 use Rattle.pit8253.specs.declared.mode.Waveform.{Waveform}
-use Rattle.pit8253.specs.Progress.{Progress, Still, Once, Again, renewed, one, out_at, is_high, SamePhase, SameOnce, Alike, next_of}
+use Rattle.pit8253.specs.Progress.{Progress, Still, Once, Again, renewed, one, out_at, is_high, next_of}
+use Rattle.pit8253.specs.Alike.{SamePhase, SameOnce, Alike}
 use Rattle.pit8253.specs.Channel.{IsPartOf}
 use Rattle.pit8253.specs.Inner.Segment.{IsStartOf}
 use Rattle.pit8253.proofs.Phases.{wave, wave_at}

@@ -9,10 +9,12 @@ use Rattle.pit8253.specs.declared.mode.Mode.{Mode}
 use Rattle.pit8253.specs.declared.mode.Mode.TheVariants.{Unset, TerminalCount, Periodic}
 use Rattle.pit8253.specs.declared.mode.Access.{Access}
 use Rattle.pit8253.specs.declared.mode.Access.TheVariants.{Low, High, Both}
-use Rattle.pit8253.specs.Progress.{Progress, Still, Once, Again, Alike, SamePhase, SameOnce, next_of, count, count_at}
-use Rattle.pit8253.specs.Timer.{Counter, Timer, AlikeCounters, AlikeTimers, Latched, loaded, load, full, written, written_in, written_by, gated, restarted, latched, latch_from, reads_of, value_of, byte_of, answer, read, command, set_by, set_to, mode_of, access_of, on}
+use Rattle.pit8253.specs.Progress.{Progress, Still, Once, Again, next_of, count, count_at}
+use Rattle.pit8253.specs.Alike.{Alike, SamePhase, SameOnce, AlikeCounters, AlikeTimers}
+use Rattle.pit8253.specs.Timer.{Counter, Timer, Latched, loaded, load, full, written, written_in, written_by, gated, restarted, latched, latch_from, reads_of, value_of, byte_of, answer, read, command, set_by, set_to, mode_of, access_of, on}
 use Rattle.pit8253.proofs.Lift.{alike_counters_refl}
-use Rattle.pit8253.specs.Timer.{pulses, Rises, timer_written}
+use Rattle.pit8253.specs.Timer.{pulses, timer_written}
+use Rattle.pit8253.specs.Channel.{Rises}
 use Rattle.pit8253.proofs.Compose.{alike_counters_trans, alike_counters_sym, alike_pulses, alike_rises}
 
 -- a state differs from one alike in its progress alone

@@ -1,13 +1,14 @@
 -- From what is counted to the channel around it.
 use Rattle.std.proofs.lemmas.Bool.{cases_Bool}
-use Rattle.std.proofs.Common.{◌≡◌, ℕ, zero, suc, Bool, true, false, not, ◌&&◌, ◌||◌, ◌⊎◌, refl, sym, ap, ◌∙◌, subst, inl, inr, MatchBool}
+use Rattle.std.proofs.Common.{◌≡◌, ℕ, zero, suc, Bool, true, false, not, ◌&&◌, ◌||◌, refl, sym, ap, ◌∙◌, subst, inl, inr, MatchBool}
 use Rattle.std.specs.Prelude.{is_some}
-use Rattle.pit8253.specs.Progress.{Progress, Still, Once, Again, one, is_high, Alike}
+use Rattle.pit8253.specs.Progress.{Progress, Still, Once, one, is_high}
+use Rattle.pit8253.specs.Alike.{Alike, AlikeCounters}
 use Rattle.pit8253.specs.Inner.Progress as many
-use Rattle.pit8253.specs.Timer.{Counter, is_counting, is_periodic, is_terminal, moved, pulse, pulses, out, Rises, AlikeCounters}
+use Rattle.pit8253.specs.Timer.{Counter, is_counting, is_periodic, is_terminal, moved, pulse, pulses, out}
 use Rattle.pit8253.proofs.Phases.{clash, alike_refl}
 use Rattle.pit8253.proofs.OnceLemmas.{pulses_once}
-use Rattle.pit8253.specs.Channel.{IsPartOf, IsPart}
+use Rattle.pit8253.specs.Channel.{IsPartOf, IsPart, Rises}
 use Rattle.pit8253.specs.Inner.Segment.{IsStartOf, IsStart}
 
 pub pulses_counting : (k : ℕ) (s : Counter) → is_counting s ≡ true → pulses k s ≡ record s { progress = many.pulses k s.progress }

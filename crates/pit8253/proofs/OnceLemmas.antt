@@ -2,7 +2,8 @@
 use Rattle.std.proofs.Common.{◌≡◌, ℕ, zero, suc, ◌+◌, ◌-◌, ◌%◌, ◌<◌, ◌≤◌, true, false, ltb, ◌⊎◌, refl, sym, ap, ◌∙◌, subst, inl, inr, arith, add-zero}
 use Rattle.std.proofs.Math.Nat.{add-mod_right}
 use Rattle.std.proofs.lemmas.Bool.Decides.{nat_tests}
-use Rattle.pit8253.specs.Progress.{Once, one, is_high, SameOnce, Alike}
+use Rattle.pit8253.specs.Progress.{Once, one, is_high}
+use Rattle.pit8253.specs.Alike.{SameOnce, Alike}
 use Rattle.pit8253.specs.Inner.Progress.{pulses, Rises}
 
 pub pulses_once : (n p k : ℕ) → pulses k (Once n p) ≡ Once n (p + k)

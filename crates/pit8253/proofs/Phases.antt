@@ -6,7 +6,8 @@ use Rattle.std.specs.Prelude.{◌==◌, Option, Some, None, if◌then◌else◌}
 use Rattle.std.proofs.lemmas.Bool.Decides.{nat_tests}
 use Rattle.pit8253.specs.declared.mode.Waveform.{Waveform}
 use Rattle.pit8253.specs.declared.mode.Waveform.TheVariants.{Rate, Square}
-use Rattle.pit8253.specs.Progress.{Progress, Still, Once, Again, renewed, one, out_at, is_high, SamePhase, Alike, count, count_at}
+use Rattle.pit8253.specs.Progress.{Progress, Still, Once, Again, renewed, one, out_at, is_high, count, count_at}
+use Rattle.pit8253.specs.Alike.{SamePhase, Alike}
 use Rattle.pit8253.specs.Inner.Progress.{pulses, Rises}
 use Rattle.pit8253.specs.Channel.{IsPartOf}
 use Rattle.pit8253.specs.Inner.Segment.{IsStartOf}

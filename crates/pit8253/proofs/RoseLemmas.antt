@@ -1,7 +1,8 @@
 -- The test and the fact.
 use Rattle.std.proofs.lemmas.Bool.{cases_lt, or_right, or_from}
 use Rattle.std.proofs.Common.{◌≡◌, ℕ, zero, suc, Bool, true, false, not, ◌||◌, ◌&&◌, refl, sym, ap, ◌∙◌, inl, inr, arith, MatchBool}
-use Rattle.pit8253.specs.Timer.{Counter, pulses, Rises, out}
+use Rattle.pit8253.specs.Timer.{Counter, pulses, out}
+use Rattle.pit8253.specs.Channel.{Rises}
 use Rattle.pit8253.specs.Timer.{rose}
 use Rattle.pit8253.proofs.Compose.{rises_earlier}
 

@@ -4,7 +4,8 @@ use Rattle.pit8253.specs.declared.calls.Call.{Call}
 use Rattle.pit8253.specs.declared.calls.Call.TheVariants.{Write, Read, Gate, Pulse, Out}
 use Rattle.pit8253.specs.declared.calls.Reply.{Reply}
 use Rattle.pit8253.specs.declared.calls.Reply.TheVariants.{Done, Byte, Signal}
-use Rattle.pit8253.specs.Timer.{Timer, AlikeTimers, timer_written, timer_read, timer_answer, timer_gated, timer_pulses, timer_out, rose}
+use Rattle.pit8253.specs.Timer.{Timer, timer_written, timer_read, timer_answer, timer_gated, timer_pulses, timer_out, rose}
+use Rattle.pit8253.specs.Alike.{AlikeTimers}
 
 -- the timer after one call
 abbrev pub after_one : Call → Timer → Timer

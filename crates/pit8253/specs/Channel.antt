@@ -1,9 +1,9 @@
 -- What a channel stands for, and the pulses that it counts in one segment.
-use Rattle.std.specs.Prelude.{ℕ, true, ◌≡◌, ◌+◌, ◌%◌, ◌≤◌, ◌≢◌, ◌⊎◌, Option, Some, None}
+use Rattle.std.specs.Prelude.{ℕ, true, ◌≡◌, ◌+◌, ◌%◌, ◌≤◌, ◌≢◌, ◌⊎◌, Option, Some, None, suc, false, ◌<◌}
 use Rattle.pit8253.specs.declared.channel.Latch.{Latch}
 use Rattle.pit8253.specs.declared.channel.Channel.{Channel}
 use Rattle.pit8253.specs.Progress.{Progress, Again, next_of}
-use Rattle.pit8253.specs.Timer.{Counter, Latched, is_counting}
+use Rattle.pit8253.specs.Timer.{Counter, Latched, is_counting, pulses, out}
 use Rattle.pit8253.specs.Element.{element_view}
 
 abbrev pub latch_view : Option Latch → Option Latched
@@ -20,3 +20,7 @@ IsPartOf k _ = Unit {0}
 
 abbrev pub IsPart : ℕ → Counter → Type 0
 IsPart k s = is_counting s ≡ true → IsPartOf k s.progress
+
+-- OUT changes from low to high at one of k single pulses
+abbrev pub Rises : ℕ → Counter → Type 0
+Rises k s = (i : ℕ) × (i < k) × (out (pulses i s) ≡ false) × (out (pulses (suc i) s) ≡ true)

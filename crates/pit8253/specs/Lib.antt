@@ -4,4 +4,5 @@ pub mod Element
 pub mod Channel
 pub mod Pit
 pub mod Calls
+pub mod Alike
 pub mod Inner

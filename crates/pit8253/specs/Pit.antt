@@ -2,7 +2,8 @@
 use Rattle.std.specs.Prelude.{ℕ, ◌+◌, ◌%◌}
 use Rattle.pit8253.specs.declared.pit.Pit.{Pit}
 use Rattle.pit8253.specs.Channel.{shown}
-use Rattle.pit8253.specs.Timer.{Timer, AlikeTimers}
+use Rattle.pit8253.specs.Timer.{Timer}
+use Rattle.pit8253.specs.Alike.{AlikeTimers}
 
 abbrev pub timer_shown : Pit → Timer
 timer_shown p = record { zero = shown p.zero; one = shown p.one; two = shown p.two }

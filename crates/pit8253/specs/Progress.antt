@@ -1,6 +1,6 @@
 -- How far a channel has counted: what one pulse does, and OUT and the count as closed forms in the count N and the
 -- number p of pulses since it was loaded (8253 data sheet, "Mode Definition": modes 0, 2 and 3).
-use Rattle.std.specs.Prelude.{ℕ, zero, suc, Bool, true, false, not, ◌≡◌, ◌==◌, ltb, ◌+◌, ◌-◌, ◌*◌, ◌/◌, ◌%◌, ◌<◌, ◌||◌, ◌⊎◌, if◌then◌else◌, Option, Some, None}
+use Rattle.std.specs.Prelude.{ℕ, Bool, true, false, not, ◌==◌, ltb, ◌+◌, ◌-◌, ◌*◌, ◌/◌, ◌%◌, ◌||◌, if◌then◌else◌, Option, Some, None}
 use Rattle.pit8253.specs.declared.mode.Waveform.{Waveform}
 use Rattle.pit8253.specs.declared.mode.Waveform.TheVariants.{Rate, Square}
 
@@ -40,21 +40,6 @@ abbrev pub is_high : Progress → Bool
 is_high (Still high) = high
 is_high (Once n p) = ltb n p
 is_high (Again waveform n newer p) = (p == 0) || out_at waveform n ((p - 1) % n)
-
--- two numbers of pulses that differ by whole periods of n
-abbrev pub SamePhase : ℕ → ℕ → ℕ → Type 0
-SamePhase n p r = (p ≡ 0 → r ≡ 0) × (r ≡ 0 → p ≡ 0) × ((p - 1) % n ≡ (r - 1) % n)
-
--- in mode 0: the same number, or both past the end and whole turns of the 16-bit count apart
-abbrev pub SameOnce : ℕ → ℕ → ℕ → Type 0
-SameOnce n p r = (p ≡ r) ⊎ ((n < p) × (n < r) × ((p - 1) % 65536 ≡ (r - 1) % 65536))
-
--- two states of counting that no pulse and no reading tells apart
-abbrev pub Alike : Progress → Progress → Type 0
-Alike (Still a) (Still b) = a ≡ b
-Alike (Once n p) (Once m r) = (n ≡ m) × SameOnce n p r
-Alike (Again s n a p) (Again t m b r) = (s ≡ t) × (n ≡ m) × (next_of n a ≡ next_of m b) × SamePhase n p r
-Alike _ _ = ⊥
 
 -- the count at phase q of a period of n pulses: it falls by one in mode 2; in mode 3 it falls by two, twice a period, and
 -- for an odd n its first step is 1 in the high part and 3 in the low part

@@ -1,12 +1,12 @@
 -- The 8253 of this board: three channels, what a call does to them and what it answers (8253 data sheet, "Control Word Format",
 -- "Programming Format" and "Read Operations"). Modes 0, 2 and 3 in binary; control words of the other modes and of BCD are ignored.
-use Rattle.std.specs.Prelude.{ℕ, zero, suc, Bool, true, false, not, ◌≡◌, ◌==◌, ◌+◌, ◌*◌, ◌/◌, ◌%◌, ◌<◌, ◌&&◌, ◌||◌, if◌then◌else◌, Option, Some, None, is_some}
+use Rattle.std.specs.Prelude.{ℕ, zero, suc, Bool, true, false, not, ◌==◌, ◌+◌, ◌*◌, ◌/◌, ◌%◌, ◌&&◌, ◌||◌, if◌then◌else◌, Option, Some, None, is_some}
 use Rattle.pit8253.specs.declared.mode.Waveform.TheVariants.{Rate, Square}
 use Rattle.pit8253.specs.declared.mode.Mode.{Mode}
 use Rattle.pit8253.specs.declared.mode.Mode.TheVariants.{Unset, TerminalCount, Periodic}
 use Rattle.pit8253.specs.declared.mode.Access.{Access}
 use Rattle.pit8253.specs.declared.mode.Access.TheVariants.{Low, High, Both}
-use Rattle.pit8253.specs.Progress.{Progress, Still, Once, Again, one, is_high, count, next_of, Alike}
+use Rattle.pit8253.specs.Progress.{Progress, Still, Once, Again, one, is_high, count, next_of}
 
 -- a count held for reading, and how many reads it still serves
 pub record Latched : Type 0 where
@@ -52,24 +52,10 @@ pulses (suc k) s = pulse (pulses k s)
 abbrev pub out : Counter → Bool
 out s = (is_periodic s.mode && not s.gate) || is_high s.progress
 
--- OUT changes from low to high at one of k single pulses
-abbrev pub Rises : ℕ → Counter → Type 0
-Rises k s = (i : ℕ) × (i < k) × (out (pulses i s) ≡ false) × (out (pulses (suc i) s) ≡ true)
-
 -- whether OUT rose, as a test
 unfoldable pub rose : ℕ → Counter → Bool
 rose zero s = false
 rose (suc k) s = rose k s || (not (out (pulses k s)) && out (pulses (suc k) s))
-
--- two channels that differ at most in whole periods gone by
-pub record AlikeCounters (a b : Counter) : Type 0 where
-  pub same_mode : a.mode ≡ b.mode
-  pub same_access : a.access ≡ b.access
-  pub same_progress : Alike a.progress b.progress
-  pub same_low : a.low ≡ b.low
-  pub same_gate : a.gate ≡ b.gate
-  pub same_latch : a.latch ≡ b.latch
-  pub same_high_next : a.high_next ≡ b.high_next
 
 -- the count of 16 bits
 abbrev pub count_of : Counter → ℕ
@@ -173,11 +159,6 @@ pub record Timer : Type 0 where
   pub zero : Counter
   pub one : Counter
   pub two : Counter
-
-pub record AlikeTimers (a b : Timer) : Type 0 where
-  pub same_zero : AlikeCounters a.zero b.zero
-  pub same_one : AlikeCounters a.one b.one
-  pub same_two : AlikeCounters a.two b.two
 
 -- one channel of the three changes; there is no fourth
 abbrev pub on : ℕ → (Counter → Counter) → Timer → Timer

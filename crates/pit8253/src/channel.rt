@@ -52,8 +52,9 @@ pub struct Channel {
 }
 
 impl Channel {
-    ghost use Rattle.pit8253.specs.Timer.{pulses, Rises, AlikeCounters, out, is_counting, reset, set_to, latched, count_of, read, answer, gated, written, load, command};
-    ghost use Rattle.pit8253.specs.Channel.{shown, IsPart};
+    ghost use Rattle.pit8253.specs.Timer.{pulses, out, is_counting, reset, set_to, latched, count_of, read, answer, gated, written, load, command};
+    ghost use Rattle.pit8253.specs.Alike.{AlikeCounters};
+    ghost use Rattle.pit8253.specs.Channel.{shown, IsPart, Rises};
     ghost use Rattle.pit8253.specs.Inner.Segment.{IsStart};
 
     /// A channel without a mode.

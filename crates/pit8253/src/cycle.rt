@@ -21,7 +21,8 @@ pub struct Cycle {
 
 impl Cycle {
     ghost use Rattle.pit8253.specs.Inner.Progress.{pulses, Rises};
-    ghost use Rattle.pit8253.specs.Progress.{Alike, is_high, Again, count};
+    ghost use Rattle.pit8253.specs.Progress.{is_high, Again, count};
+    ghost use Rattle.pit8253.specs.Alike.{Alike};
     ghost use Rattle.pit8253.specs.Element.{view};
     ghost use Rattle.pit8253.specs.Inner.Segment.{IsSegment};
     ghost use Rattle.pit8253.specs.Inner.Segment.{IsStartOf};

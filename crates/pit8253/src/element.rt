@@ -17,7 +17,8 @@ pub enum Element {
 
 impl Element {
     ghost use Rattle.pit8253.specs.Inner.Progress.{pulses, Rises};
-    ghost use Rattle.pit8253.specs.Progress.{Alike, count, is_high};
+    ghost use Rattle.pit8253.specs.Progress.{count, is_high};
+    ghost use Rattle.pit8253.specs.Alike.{Alike};
     ghost use Rattle.pit8253.specs.Timer.{restarted, loaded};
     ghost use Rattle.pit8253.specs.Element.{element_view};
     ghost use Rattle.pit8253.specs.Channel.{IsPartOf};

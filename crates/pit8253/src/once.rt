@@ -14,7 +14,8 @@ pub struct Once {
 
 impl Once {
     ghost use Rattle.pit8253.specs.Inner.Progress.{pulses, Rises};
-    ghost use Rattle.pit8253.specs.Progress.{Alike, is_high, count};
+    ghost use Rattle.pit8253.specs.Progress.{is_high, count};
+    ghost use Rattle.pit8253.specs.Alike.{Alike};
     ghost use Rattle.pit8253.specs.Element.{once_view};
 
     /// The count, below 65,536.

@@ -1,8 +1,9 @@
 //! The chip: three channels, pulsed together.
 
 ghost use Rattle.std.specs.Prelude.{◌≡◌, ℕ, ◌+◌, ◌-◌, ◌/◌, ◌%◌, ◌<◌, ◌≤◌, MatchBool};
-ghost use Rattle.pit8253.specs.Timer.{pulses, Rises, AlikeCounters};
-ghost use Rattle.pit8253.specs.Channel.{shown};
+ghost use Rattle.pit8253.specs.Timer.{pulses};
+ghost use Rattle.pit8253.specs.Alike.{AlikeCounters};
+ghost use Rattle.pit8253.specs.Channel.{shown, Rises};
 
 use crate::channel::{Channel, Segments};
 

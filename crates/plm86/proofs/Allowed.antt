@@ -13,7 +13,8 @@ use Rattle.plm_type.specs.Next.{next}
 use Rattle.plm_type.specs.Programs.{procedures_of, handler_rest}
 use Rattle.plm_meaning.specs.Meaning.{first_of, leads}
 use Rattle.plm_meaning.specs.Store.{Store, shared}
-use Rattle.plm_meaning.specs.System.{Choice, Program, Occurs, Enter, Leave, Idle, System, State, Taken, Makes, BadAt, Refused, step, steps, taken_of, bad_next, bad_place, unless, is_interrupted, and_then, labelled, BadIsNext}
+use Rattle.plm_meaning.specs.System.{Choice, Program, Occurs, Enter, Leave, Idle, System, State, step, steps, is_interrupted, and_then, labelled, BadIsNext}
+use Rattle.plm_meaning.specs.Taken.{Taken, Makes, BadAt, Refused, taken_of, bad_next, bad_place, unless}
 use Rattle.plm86.specs.Mean.{Mid, unless_refused, behind, goes_on, first_allowed, run_of, choices_from, meant, IsAllowed, MeanLaw}
 use Rattle.plm86.specs.declared.mean.MeanEnd.{MeanEnd}
 use Rattle.plm86.specs.declared.mean.MeanEnd.TheVariants as ends

@@ -22,7 +22,8 @@ use Rattle.plm_meaning.specs.Around.{names_of}
 use Rattle.plm_meaning.specs.Meaning.{state_of, leads, leads_in, IsRunOf, Opens, Made, Stopped}
 use Rattle.plm_meaning.specs.Shown.{labels_of}
 use Rattle.plm_meaning.specs.Store.{Store, shared}
-use Rattle.plm_meaning.specs.System.{Choice, Program, Occurs, Enter, Leave, Idle, State, Taken, Makes, BadAt, is_interrupted, taken_of}
+use Rattle.plm_meaning.specs.System.{Choice, Program, Occurs, Enter, Leave, Idle, State, is_interrupted}
+use Rattle.plm_meaning.specs.Taken.{Taken, Makes, BadAt, taken_of}
 use Rattle.board.specs.Trace.{lines}
 use Rattle.plm86.specs.Mean.{Mid, one_step, turn_choices, choices_from, unless_refused, behind, goes_on, first_allowed, run_of, meant, last_line, run_text}
 use Rattle.plm86.specs.Inner.Meaning.{event_choices, IsIdle, Far, Ended, Stops}

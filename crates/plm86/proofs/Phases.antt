@@ -17,6 +17,7 @@ use Rattle.plm_decl.specs.Modules.{faults_of, whole_faults_of}
 use Rattle.plm_decl.specs.Found.{IsRefusal as IsLeastOf}
 use Rattle.plm_type.specs.declared.checked.Program as typed
 use Rattle.plm_type.specs.Checked as types
+use Rattle.plm_type.specs.Checking as typing
 use Rattle.plm86.specs.declared.build.Source.{Source}
 use Rattle.layout_link.specs.declared.image.Image.{Image}
 use Rattle.layout_link.specs.declared.image.RomSize.{RomSize}
@@ -99,7 +100,7 @@ faulty_refused_exactly texts size Memory said = tt
 faulty_refused_exactly texts size (At which line number) said = in_texts said
 
 module _ (texts : List (List ℕ)) (names : Names) where
-  pub untyped_refused : AreDeclared texts names → (f : Fault) → types.IsRefusal f names → RefusesTexts texts f
+  pub untyped_refused : AreDeclared texts names → (f : Fault) → typing.IsRefusal f names → RefusesTexts texts f
   untyped_refused are Memory said = tt
   untyped_refused are (At which line number) said = untyped names are said
 

@@ -20,7 +20,7 @@ use Rattle.plm_decl.specs.Found.{IsRefusal as IsLeastOf}
 use Rattle.plm_decl.specs.Placement.{IsPlacement, sizes_of}
 use Rattle.plm_decl.specs.Initial.{initial_bytes}
 use Rattle.plm_type.specs.Calls.{IsRecursive}
-use Rattle.plm_type.specs.Checked.{IsRefusal as IsRefusedFor}
+use Rattle.plm_type.specs.Checking.{IsRefusal as IsRefusedFor}
 use Rattle.plm_type.specs.Next.{next}
 use Rattle.plm_type.specs.Interrupts.{LetsIn, IsMisused}
 use Rattle.plm_type.specs.Programs.{faults as type_faults, declared_procedures, main_rest, handler_rest, procedures_of}

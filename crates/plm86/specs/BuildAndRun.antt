@@ -5,7 +5,7 @@ use Rattle.word86.specs.declared.fault.Fault.{Fault}
 use Rattle.word86.specs.declared.fault.Fault.TheVariants.{Memory, At}
 use Rattle.word86.specs.declared.number.Number.TheVariants.{E704}
 use Rattle.word86.specs.declared.power_on.PowerOn.{PowerOn}
-use Rattle.cpu8086.specs.Turn.{zeros}
+use Rattle.cpu8086.specs.Cpu.{zeros}
 use Rattle.ppi_kbd.specs.Chips.{reset}
 use Rattle.board.specs.declared.board.Board.{Board}
 use Rattle.board.specs.declared.run.End.{End}

@@ -17,7 +17,8 @@ use Rattle.plm_type.specs.Rest.{Rest}
 use Rattle.plm_meaning.specs.Meaning.{first_of, leads}
 use Rattle.ppi_kbd.specs.BoardChips.{board_chips}
 use Rattle.plm_meaning.specs.Store.{Store, shared}
-use Rattle.plm_meaning.specs.System.{Choice, Program, Occurs, Enter, Leave, Idle, System, Taken, Makes, BadAt, Refused, steps, BadIsNext}
+use Rattle.plm_meaning.specs.System.{Choice, Program, Occurs, Enter, Leave, Idle, System, steps, BadIsNext}
+use Rattle.plm_meaning.specs.Taken.{Taken, Makes, BadAt, Refused}
 use Rattle.board.specs.Trace.{lines}
 use Rattle.plm86.specs.Status.{status_of_fault}
 use Rattle.listing_map.specs.Lines.{end_line}

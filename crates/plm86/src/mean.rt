@@ -14,7 +14,7 @@ ghost use Rattle.plm_decl.specs.Placement as placed;
 ghost use Rattle.plm_decl.specs.Placement.{IsPlacement};
 ghost use Rattle.plm_meaning.specs.Meaning.{choice_of, state_of, IsRunOf};
 ghost use Rattle.plm_meaning.specs.Shown.{labels_of};
-ghost use Rattle.plm_meaning.specs.System.{Makes};
+ghost use Rattle.plm_meaning.specs.Taken.{Makes};
 ghost use Rattle.board.specs.Run.{due_of};
 ghost use Rattle.board.specs.Trace.{lines};
 ghost use Rattle.plm86.specs.Mean.{Alternatives, one_step, choices_from, first_allowed, meant, run_text, mean_status_of, IsCutShort};

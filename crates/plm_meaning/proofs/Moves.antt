@@ -1,7 +1,8 @@
 -- What a choice of the program leads to, by the action of the context that runs.
 use Rattle.std.proofs.Common.{◌≡◌, ℕ, Bool, true, false, List, Option, Some, None, refl, ap, sym, ◌∙◌}
 use Rattle.word86.specs.Action.{Shared, Action, Silent, Touch, Enable, Disable, Halt, Over, Bad, map_action, perform, on_after, halted_after}
-use Rattle.plm_meaning.specs.System.{Program, System, State, Taken, Makes, and_then, is_interrupted, settled, counted, unless, bad_place, taken_of, taken}
+use Rattle.plm_meaning.specs.System.{Program, System, State, and_then, is_interrupted, settled, counted}
+use Rattle.plm_meaning.specs.Taken.{Taken, Makes, unless, bad_place, taken_of, taken}
 
 -- ---- actions under a function
 

@@ -1,6 +1,7 @@
 pub mod Store
 pub mod Opening
 pub mod System
+pub mod Taken
 pub mod Context
 pub mod Around
 pub mod Shown

@@ -22,7 +22,8 @@ use Rattle.plm_meaning.specs.declared.meaning.Stop.TheVariants as stop
 use Rattle.plm_meaning.specs.Opening.{first_store}
 use Rattle.word86.specs.PowerOn.{pages_of}
 use Rattle.plm_meaning.specs.Store.{Store, shared}
-use Rattle.plm_meaning.specs.System.{Choice, Program, Occurs, Enter, Leave, Idle, System, State, Taken, Makes, BadAt, Refused, first_state, taken}
+use Rattle.plm_meaning.specs.System.{Choice, Program, Occurs, Enter, Leave, Idle, System, State, first_state}
+use Rattle.plm_meaning.specs.Taken.{Taken, Makes, BadAt, Refused, taken}
 use Rattle.plm_meaning.specs.Context.{to_run_of}
 use Rattle.plm_meaning.specs.Around.{names_of}
 use Rattle.plm_meaning.specs.Shown.{store_of, labels_of}

@@ -3,8 +3,8 @@ use Rattle.std.proofs.Common.{◌≡◌, ℕ, zero, suc, ◌+◌, ◌<◌, ◌�
 use Rattle.std.proofs.lemmas.Bool.Decides.{nat_tests}
 use Rattle.std.proofs.lemmas.List.{get_or_past}
 use Rattle.plm_decl.specs.declared.names.Procedure.{Procedure}
-use Rattle.plm_type.specs.Sharing.{is_handler, handlers_from}
-use Rattle.plm_type.specs.Reach.{Graph, Leads, LeadsFrom, LeadTwice}
+use Rattle.plm_type.specs.Sharing.{is_handler, handlers_from, LeadsFrom, LeadTwice}
+use Rattle.plm_type.specs.Reach.{Graph, Leads}
 use Rattle.plm_type.specs.Inner.Reach.{IsMarked, AreReached, marked_twice}
 
 -- one of these marks it, where one has before

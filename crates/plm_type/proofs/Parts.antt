@@ -14,7 +14,8 @@ use Rattle.plm_type.specs.declared.program.Reference.{Reference}
 use Rattle.plm_type.specs.declared.program.Expression.TheViews.{out-Reference, roll-Reference, roll-out-Reference}
 use Rattle.plm_type.specs.Rest as rest
 use Rattle.plm_type.specs.View.{expression_of, expressions_of, chained, reference_of, anchor_of, subscripts_of, target_of, targets_of}
-use Rattle.plm_type.specs.Trees.{the_only, shifted}
+use Rattle.plm_type.specs.Trees.{shifted}
+use Rattle.plm_type.specs.Inner.Builtins.{the_only}
 use Rattle.plm_decl.specs.Layout.{counted}
 use Rattle.plm_type.specs.Shapes.{capped, fixed_place}
 use Rattle.plm_type.specs.Calls.{calls_in, target_calls, targets_calls}

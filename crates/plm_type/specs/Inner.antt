@@ -7,3 +7,4 @@ pub mod Order
 pub mod Reach
 pub mod Sets
 pub mod Typer
+pub mod Builtins

@@ -4,7 +4,8 @@ use Rattle.std.specs.Prelude.{ℕ, ◌+◌, max, cond, List, [], ◌∷◌, map,
 use Rattle.plm_decl.specs.declared.names.Names.{Names}
 use Rattle.plm_decl.specs.Names.{ProcedureR, procedure_of, main_of}
 use Rattle.plm_decl.specs.Resolved.{ExpressionR, NumberR, TextR, ReferenceR, LocationR, ParenthesisedR, EmbeddedR, UnaryR, BinaryR, ReferenceR', Use, ExpressionsR, no_expressions, expressions, SelectorR, no_member, member, member_at, LocationR', LocationOf, ConstantsOf, ReferencesR, no_references, references, StatementR, EmptyR, AssignR, CallR, ReturnR, ReturnValueR, EnableR, DisableR, HaltR, IfR, IfElseR, DoR, WhileR, CaseR, IterateR, StatementsR, no_statements, statements}
-use Rattle.plm_type.specs.Nodes.{is_constant, is_port}
+use Rattle.plm_type.specs.Effects.{is_unevaluated}
+use Rattle.plm_type.specs.Nodes.{is_port}
 
 -- ---- expressions
 
@@ -30,7 +31,7 @@ abbrev mutual
   selector_leaves (member_at p m e) = expression_leaves e
 
   pub reference_leaves : ReferenceR' → ℕ
-  reference_leaves (Use p m es s) = cond (is_constant m) 1 (1 + expressions_leaves es + selector_leaves s)
+  reference_leaves (Use p m es s) = cond (is_unevaluated m) 1 (1 + expressions_leaves es + selector_leaves s)
 
   -- OUTPUT and OUTWORD count as their port
   pub target_leaves : ReferenceR' → ℕ

@@ -20,4 +20,5 @@ pub mod Effects
 pub mod Interrupts
 pub mod Checked
 pub mod Sharing
+pub mod Checking
 pub mod Inner

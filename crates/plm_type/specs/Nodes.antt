@@ -9,16 +9,10 @@ use Rattle.plm_decl.specs.declared.resolved.Binding.{Binding}
 use Rattle.plm_decl.specs.declared.resolved.Binding.TheVariants as binding
 use Rattle.plm_decl.specs.Names.{ObjectR, ProcedureR, object_of, procedure_of, main_of}
 use Rattle.plm_decl.specs.Resolved.{ExpressionR, NumberR, TextR, ReferenceR, LocationR, ParenthesisedR, EmbeddedR, UnaryR, BinaryR, ReferenceR', Use, ExpressionsR, no_expressions, expressions, SelectorR, no_member, member, member_at, LocationR', LocationOf, ConstantsOf, ReferencesR, no_references, references, StatementR, EmptyR, AssignR, CallR, ReturnR, ReturnValueR, EnableR, DisableR, HaltR, IfR, IfElseR, DoR, WhileR, CaseR, IterateR, StatementsR, no_statements, statements}
-use Rattle.plm_type.specs.Typing.{is_measure, is_target}
+use Rattle.plm_type.specs.Effects.{is_unevaluated}
+use Rattle.plm_type.specs.Typing.{is_target}
 
 -- ---- expressions
-
--- LENGTH, LAST and SIZE of a reference are constants
-abbrev pub is_constant : Binding → Bool
-is_constant (binding.Variable v) = false
-is_constant (binding.Procedure p) = false
-is_constant (binding.Builtin b) = is_measure b
-is_constant binding.Nothing = false
 
 -- OUTPUT and OUTWORD of a port
 abbrev pub is_port : Binding → Bool
@@ -48,8 +42,9 @@ abbrev mutual
   selector_nodes (member p m) = 0
   selector_nodes (member_at p m e) = expression_nodes e
 
+  -- LENGTH, LAST and SIZE of a reference are constants
   pub reference_nodes : ReferenceR' → ℕ
-  reference_nodes (Use p m es s) = cond (is_constant m) 1 (1 + expressions_nodes es + selector_nodes s)
+  reference_nodes (Use p m es s) = cond (is_unevaluated m) 1 (1 + expressions_nodes es + selector_nodes s)
 
   -- OUTPUT and OUTWORD count as their port
   pub target_nodes : ReferenceR' → ℕ

@@ -1,5 +1,5 @@
 -- What calls lead to.
-use Rattle.std.specs.Prelude.{ℕ, zero, suc, ◌<◌, List, [], slice_get, Option, Some, None, Contains}
+use Rattle.std.specs.Prelude.{ℕ, zero, suc, List, [], slice_get, Option, Some, None, Contains}
 
 -- a row for each procedure: those that it calls
 abbrev pub Graph : Type 0
@@ -21,15 +21,3 @@ Leads g called q = (n : ℕ) × LeadsBy g n called q
 -- it reaches itself
 abbrev pub IsOnCycle : Graph → ℕ → Type 0
 IsOnCycle g p = Leads g (row_of (slice_get g p)) p
-
-abbrev pub LeadsFrom : Graph → Option (List ℕ) → ℕ → Type 0
-LeadsFrom g None p = ⊥
-LeadsFrom g (Some first) p = Leads g first p
-
--- two of the roots lead to it
-pub record LeadTwice (g : Graph) (roots : List (List ℕ)) (p : ℕ) : Type 0 where
-  pub a : ℕ
-  pub b : ℕ
-  pub apart : a < b
-  pub first : LeadsFrom g (slice_get roots a) p
-  pub second : LeadsFrom g (slice_get roots b) p

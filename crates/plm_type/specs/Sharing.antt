@@ -1,12 +1,24 @@
 -- What `warnings` answers: the procedures that main and an interrupt procedure share, or two of these.
-use Rattle.std.specs.Prelude.{◌≡◌, ℕ, ◌+◌, ◌<◌, ◌↔◌, List, [], ◌∷◌, map, Bool, not, ◌&&◌, cond, IsTrue, is_some, length}
+use Rattle.std.specs.Prelude.{◌≡◌, ℕ, ◌+◌, ◌<◌, ◌↔◌, List, [], ◌∷◌, map, Bool, not, ◌&&◌, cond, IsTrue, is_some, length, slice_get, Option, Some, None}
 use Rattle.plm_decl.specs.declared.names.Procedure as declared
 use Rattle.plm_decl.specs.Stray.{is_external_linkage}
 use Rattle.plm_type.specs.declared.checked.Program.{Program}
 use Rattle.plm_type.specs.declared.sharing.Warning.{Warning}
-use Rattle.plm_type.specs.Reach.{LeadTwice}
+use Rattle.plm_type.specs.Reach.{Graph, Leads}
 use Rattle.plm_type.specs.Calls.{statements_calls, graph_of}
 use Rattle.plm_type.specs.View as view
+
+abbrev pub LeadsFrom : Graph → Option (List ℕ) → ℕ → Type 0
+LeadsFrom g None p = ⊥
+LeadsFrom g (Some first) p = Leads g first p
+
+-- two of the roots lead to it
+pub record LeadTwice (g : Graph) (roots : List (List ℕ)) (p : ℕ) : Type 0 where
+  pub a : ℕ
+  pub b : ℕ
+  pub apart : a < b
+  pub first : LeadsFrom g (slice_get roots a) p
+  pub second : LeadsFrom g (slice_get roots b) p
 
 -- an EXTERNAL procedure handles no interrupt
 abbrev pub is_handler : declared.Procedure → Bool

@@ -85,9 +85,6 @@ module _ (variables : List Variable) where
 abbrev pub silent : Statement → Noted Statement
 silent s = record { tree = s; faults = [] }
 
-abbrev pub one : Noted Statement → Noted Statements
-one s = record { tree = Then s.tree End; faults = s.faults }
-
 abbrev pub before : Noted Statement → Noted Statements → Noted Statements
 before s ss = record { tree = Then s.tree ss.tree; faults = s.faults ++ ss.faults }
 

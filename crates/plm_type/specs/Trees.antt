@@ -32,11 +32,6 @@ text_value (c ∷ d ∷ e ∷ others) = 0
 
 -- ---- built-ins, and subscripts, of evaluated parts
 
-abbrev pub the_only : Expressions → Option Expression
-the_only NoMore = None
-the_only (More e NoMore) = Some e
-the_only (More e (More f es)) = None
-
 abbrev pub operated : UnaryOperation → Width → Expressions → Expression
 operated o w NoMore = Constant 0
 operated o w (More e NoMore) = Unary o w e

@@ -1,5 +1,5 @@
 -- Types of constructs whose parts have their types; what has a fault has none.
-use Rattle.std.specs.Prelude.{ℕ, ◌-◌, ◌*◌, Bool, true, false, not, ◌&&◌, nat_eq, cond, List, [], ◌∷◌, ◌++◌, length, slice_get, Option, Some, None}
+use Rattle.std.specs.Prelude.{ℕ, ◌-◌, ◌*◌, Bool, true, false, not, ◌&&◌, nat_eq, cond, List, [], ◌∷◌, ◌++◌, length, slice_get, Option, Some, None, is_some}
 use Rattle.plm_syntax.specs.declared.tree.LocationForm.{LocationForm}
 use Rattle.plm_syntax.specs.declared.tree.LocationForm.TheVariants as locating
 use Rattle.plm_decl.specs.declared.builtin.Builtin.{Builtin}
@@ -75,23 +75,6 @@ is_measure builtin.InputWord = false
 is_measure builtin.Output = false
 is_measure builtin.OutputWord = false
 
--- OUTPUT and OUTWORD are targets alone
-abbrev pub is_target : Builtin → Bool
-is_target builtin.Length = false
-is_target builtin.Last = false
-is_target builtin.Size = false
-is_target builtin.Low = false
-is_target builtin.High = false
-is_target builtin.Double = false
-is_target builtin.ShiftLeft = false
-is_target builtin.ShiftRight = false
-is_target builtin.RotateLeft = false
-is_target builtin.RotateRight = false
-is_target builtin.Input = false
-is_target builtin.InputWord = false
-is_target builtin.Output = true
-is_target builtin.OutputWord = true
-
 abbrev pub first_type : List (Option ScalarType) → Option ScalarType
 first_type [] = None
 first_type (t ∷ ts) = t
@@ -113,6 +96,7 @@ builtin_type builtin.RotateRight ts = first_type ts
 builtin_type builtin.Output ts = None
 builtin_type builtin.OutputWord ts = None
 
+-- only a port that is a target has one
 abbrev pub port_type : Builtin → Option ScalarType
 port_type builtin.Length = None
 port_type builtin.Last = None
@@ -128,6 +112,10 @@ port_type builtin.Input = None
 port_type builtin.InputWord = None
 port_type builtin.Output = Some Byte
 port_type builtin.OutputWord = Some Word
+
+-- OUTPUT and OUTWORD are targets alone
+abbrev pub is_target : Builtin → Bool
+is_target b = is_some (port_type b)
 
 abbrev pub is_plain : SelectorR → Bool
 is_plain no_member = true

@@ -6,6 +6,7 @@ ghost use Rattle.plm_type.specs.Rest.{Unary};
 ghost use Rattle.plm_type.specs.Types as scalars;
 ghost use Rattle.plm_type.specs.Typing as typing;
 ghost use Rattle.plm_type.specs.Trees as spec;
+ghost use Rattle.plm_type.specs.Inner.Builtins.{the_only};
 ghost use Rattle.plm_type.specs.View as view;
 
 use crate::program::{Expression, Line, Operation, Target};
@@ -76,27 +77,6 @@ pub fn is_measure(builtin: Builtin) -> bool
     }
 }
 
-/// Whether it is a target alone.
-pub fn is_target(builtin: Builtin) -> bool
-    ensures { result ≡ typing.is_target builtin }
-{
-    match builtin {
-        Builtin::Output | Builtin::OutputWord => true,
-        Builtin::Length
-        | Builtin::Last
-        | Builtin::Size
-        | Builtin::Low
-        | Builtin::High
-        | Builtin::Double
-        | Builtin::ShiftLeft
-        | Builtin::ShiftRight
-        | Builtin::RotateLeft
-        | Builtin::RotateRight
-        | Builtin::Input
-        | Builtin::InputWord => false,
-    }
-}
-
 fn first_type(types: &[Option<ScalarType>]) -> Option<ScalarType>
     ensures { result ≡ typing.first_type types.now }
 {
@@ -142,6 +122,13 @@ pub fn port_type(builtin: Builtin) -> Option<ScalarType>
     }
 }
 
+/// Whether it is a target alone.
+pub fn is_target(builtin: Builtin) -> bool
+    ensures { result ≡ typing.is_target builtin }
+{
+    port_type(builtin).is_some()
+}
+
 /// Whether no member follows a name.
 pub fn is_plain(selector: &Selector) -> bool
     ensures { result ≡ typing.is_plain (selector_of selector.now) }
@@ -182,7 +169,7 @@ pub fn text_value(characters: &[u8]) -> u64
 
 /// The one expression of a list.
 fn only(mut trees: Vec<Expression>) -> Option<Expression>
-    ensures { option_map view.expression_of result ≡ spec.the_only (view.expressions_of trees.items) }
+    ensures { option_map view.expression_of result ≡ the_only (view.expressions_of trees.items) }
 {
     if trees.len() == 1 { trees.pop() } else { None }
 }

@@ -3,7 +3,8 @@
 ghost use Rattle.std.specs.Prelude.{◌≡◌, ℕ, IfOk, IfErr, length};
 ghost use Rattle.plm_type.specs.Calls.{graph_of, IsRecursive};
 ghost use Rattle.plm_type.specs.Order.{IsOrder};
-ghost use Rattle.plm_type.specs.Checked as spec;
+ghost use Rattle.plm_type.specs.Checked.{AreTyped};
+ghost use Rattle.plm_type.specs.Checking as spec;
 ghost use Rattle.plm_type.specs.View.{procedures_of};
 
 use crate::calls::call_graph;
@@ -48,7 +49,7 @@ fn order_of(
 /// number: E401 to E403, E405 and E406, and E404, of the whole program, after the others. Want of memory is answered only where a
 /// growth was refused.
 pub fn check(alloc: Global, names: Names) -> Result<Program, Fault>
-    ensures typed { IfOk result (λ program. spec.AreTyped program names) }
+    ensures typed { IfOk result (λ program. AreTyped program names) }
     ensures refused { IfErr result (λ fault. spec.IsRefusal fault names) }
 {
     let mut faults = Vec::new(alloc);

@@ -2,7 +2,7 @@
 
 ghost use Rattle.std.specs.Prelude.{◌≡◌, ◌∷◌, [], ◌++◌, IfOk, OnOk, map};
 ghost use Rattle.plm_decl.specs.ResolvedView as resolved;
-ghost use Rattle.plm_type.specs.Inner.Typer.{variables, noted, noted_after, targets_said, targets_after, number_by, targets_by, call_by, index_by, step_by, assignment_by, return_by, range_of, range_by, condition_of, condition_by, statement_by, statements_by};
+ghost use Rattle.plm_type.specs.Inner.Typer.{one, variables, noted, noted_after, targets_said, targets_after, number_by, targets_by, call_by, index_by, step_by, assignment_by, return_by, range_of, range_by, condition_of, condition_by, statement_by, statements_by};
 ghost use Rattle.plm_type.specs.Rest as rest;
 ghost use Rattle.plm_type.specs.Statements as spec;
 ghost use Rattle.plm_type.specs.View as view;
@@ -435,7 +435,7 @@ impl Typer<'_> {
         condition: Condition,
         faults: &mut Vec<Found>,
     ) -> Result<Statement, AllocError>
-        ensures { IfOk result (λ r. noted (view.statement_of r) faults.new.items ≡ noted_after faults.old.items (noted (rest.If (view.expression_of condition.test) (view.statements_of condition.then.items) (spec.one (statement_by self.now around (resolved.statement_of other.now))).tree) (statement_by self.now around (resolved.statement_of other.now)).faults)) }
+        ensures { IfOk result (λ r. noted (view.statement_of r) faults.new.items ≡ noted_after faults.old.items (noted (rest.If (view.expression_of condition.test) (view.statements_of condition.then.items) (one (statement_by self.now around (resolved.statement_of other.now))).tree) (statement_by self.now around (resolved.statement_of other.now)).faults)) }
     {
         let other = self.arm(around, other, faults)?;
         Ok(condition.with_else(other))
@@ -525,7 +525,7 @@ impl Typer<'_> {
         statement: &Resolved,
         faults: &mut Vec<Found>,
     ) -> Result<Vec<Box<Statement>>, AllocError>
-        ensures { IfOk result (λ r. noted (view.statements_of r.items) faults.new.items ≡ noted_after faults.old.items (spec.one (statement_by self.now around (resolved.statement_of statement.now)))) }
+        ensures { IfOk result (λ r. noted (view.statements_of r.items) faults.new.items ≡ noted_after faults.old.items (one (statement_by self.now around (resolved.statement_of statement.now)))) }
     {
         let statement = self.statement(around, statement, faults)?;
         let mut arm = Vec::new(self.alloc);

@@ -16,7 +16,8 @@ use Rattle.i86_table.specs.declared.instruction.Condition.TheVariants as conditi
 use Rattle.i86_table.specs.declared.instruction.Instr.{Instr}
 use Rattle.i86_table.specs.declared.instruction.Instr.TheVariants as i
 use Rattle.i86_table.specs.Open.{spot_memory}
-use Rattle.i86_table.specs.Condition.{holds, InverseHolds}
+use Rattle.i86_table.specs.Condition.{holds}
+use Rattle.i86_table.specs.Inverse.{InverseHolds}
 use Rattle.i86_table.specs.Arithmetic.{operated, shifted}
 use Rattle.i86_table.specs.Contexts.{Context, Own, Working, Given, set_word, set_flags, word_result, offer, offered, takes}
 use Rattle.icode.specs.declared.instruction.Instruction.TheVariants as op

@@ -9,7 +9,8 @@ use Rattle.i86_table.specs.declared.instruction.Instr.TheVariants as i
 use Rattle.i86_table.specs.declared.instruction.Condition.{Condition}
 use Rattle.i86_table.specs.declared.instruction.Condition.TheVariants.{Overflow, NotOverflow, Below, NotBelow, Equal, NotEqual, BelowOrEqual, Above, Sign, NotSign, ParityEven, ParityOdd, Less, NotLess, LessOrEqual, Greater}
 use Rattle.i86_table.specs.declared.flags.Flags.{Flags}
-use Rattle.i86_table.specs.Condition.{holds, inverse}
+use Rattle.i86_table.specs.Condition.{holds}
+use Rattle.i86_table.specs.Inverse.{inverse}
 use Rattle.i86_table.specs.Arithmetic.{sign_extended}
 use Rattle.i86_table.specs.Contexts.{Context, Own, Working, Given, further, offered, offered_at, offer}
 use Rattle.select.specs.declared.part.Step.{Step}

@@ -7,7 +7,8 @@ use Rattle.i86_table.specs.declared.instruction.Condition.{Condition}
 use Rattle.i86_table.specs.declared.instruction.Instr.{Instr}
 use Rattle.i86_table.specs.declared.instruction.Instr.TheVariants as i
 use Rattle.i86_table.specs.Arithmetic.{sign_extended}
-use Rattle.i86_table.specs.Condition.{holds, inverse, InverseHolds}
+use Rattle.i86_table.specs.Condition.{holds}
+use Rattle.i86_table.specs.Inverse.{inverse, InverseHolds}
 use Rattle.i86_table.specs.Contexts.{Context, Own, Working, Given, further, offer, offered, offered_at}
 use Rattle.select.specs.declared.part.Step.TheVariants.{Goto, GotoIf}
 use Rattle.select.specs.Linked.{StandsAt, Stands}

@@ -18,7 +18,7 @@ use Rattle.select.specs.declared.part.Step.TheVariants.{Plain, Refer, AtStep, Wo
 use Rattle.select.specs.Sizes.{start, extent_at, IsInReach, IsSettled, AreSettled}
 use Rattle.select.specs.Inner.Settling.{IsExtent, AreExtents}
 use Rattle.i86_code.specs.Open.{front_of}
-use Rattle.i86_table.specs.Condition.{inverse}
+use Rattle.i86_table.specs.Inverse.{inverse}
 use Rattle.select.specs.Parts.{target_of, extent_of, IsSpelt, AreSpelt}
 use Rattle.select.specs.Inner.Assembly.{IsStepOf, nothing, AreSteps, distance, jump_bytes, branch_bytes, step_bytes, step_fixups, IsCoded}
 use Rattle.select.proofs.Starts.{start_more}

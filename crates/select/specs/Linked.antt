@@ -3,7 +3,7 @@ use Rattle.std.specs.Prelude.{ℕ, suc, ◌≡◌, ◌+◌, ◌-◌, ◌%◌, �
 use Rattle.i86_table.specs.declared.instruction.Instr.{Instr}
 use Rattle.i86_table.specs.declared.instruction.Instr.TheVariants as i
 use Rattle.i86_table.specs.Arithmetic.{sign_extended}
-use Rattle.i86_table.specs.Condition.{inverse}
+use Rattle.i86_table.specs.Inverse.{inverse}
 use Rattle.i86_table.specs.Contexts.{further}
 use Rattle.i86_table.specs.Open.{closed}
 use Rattle.select.specs.declared.part.Kind.{Kind}

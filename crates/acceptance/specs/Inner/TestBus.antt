@@ -9,7 +9,8 @@ use Rattle.word86.specs.declared.label.Label.{Label}
 use Rattle.word86.specs.declared.label.Label.TheVariants.{Scr, ScrW}
 use Rattle.cpu8086.specs.declared.bus.Store.{Store}
 use Rattle.cpu8086.specs.declared.bus.Store.TheVariants as stores
-use Rattle.cpu8086.specs.BusModel.{BusModel, LoadAfterStore, PortsKeepMemory}
+use Rattle.cpu8086.specs.BusModel.{BusModel}
+use Rattle.cpu8086.specs.BusLaws.{LoadAfterStore, PortsKeepMemory}
 
 abbrev pub TestWorld : Type 0
 TestWorld = List ℕ × Option ℕ

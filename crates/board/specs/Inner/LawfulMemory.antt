@@ -6,7 +6,7 @@ use Rattle.std.proofs.lemmas.Bool.{ltb-true, leb-true}
 use Rattle.std.proofs.lemmas.List.{get_or-set_other, get_or-set_same, length-set}
 use Rattle.cpu8086.specs.declared.bus.Store.{Store}
 use Rattle.cpu8086.specs.declared.bus.Store.TheVariants as stores
-use Rattle.cpu8086.specs.BusModel.{LoadAfterStore, PortsKeepMemory, stored}
+use Rattle.cpu8086.specs.BusLaws.{LoadAfterStore, PortsKeepMemory, stored}
 use Rattle.word86.specs.Chips.{Chips}
 use Rattle.word86.specs.declared.page.Page.TheVariants.{Monochrome, Colour}
 use Rattle.word86.specs.Page.{Pages, page_at}

@@ -2,7 +2,7 @@
 use Rattle.std.specs.Prelude.{ℕ, suc, ◌≡◌, ◌+◌, ◌%◌, ◌⊎◌, List, [], ◌∷◌, ◌++◌, length, slice_index}
 use Rattle.i86_table.specs.declared.instruction.Instr.TheVariants as i
 use Rattle.i86_table.specs.Arithmetic.{sign_extended}
-use Rattle.i86_table.specs.Condition.{inverse}
+use Rattle.i86_table.specs.Inverse.{inverse}
 use Rattle.i86_table.specs.Contexts.{further}
 use Rattle.i86_table.specs.Open.{closed}
 use Rattle.i86_code.specs.Forms.{word_bytes, Spells}

@@ -13,7 +13,8 @@ use Rattle.word86.specs.declared.page.Page.TheVariants.{Monochrome, Colour}
 use Rattle.word86.specs.Page.{Pages, AreWhole, page_at, page_size, page_of, with_page}
 use Rattle.cpu8086.specs.declared.bus.Store as bus
 use Rattle.cpu8086.specs.declared.bus.Store.TheVariants as stores
-use Rattle.cpu8086.specs.BusModel.{BusModel, stored}
+use Rattle.cpu8086.specs.BusModel.{BusModel}
+use Rattle.cpu8086.specs.BusLaws.{stored}
 use Rattle.cpu8086.specs.Machine.{loaded_byte, loaded_word}
 use Rattle.plm86.proofs.Machine.Memory
 use Rattle.plm86.proofs.Machine.Memory.{page_low, page_whole, word_is, spelled_kept, tables_kept, vectors_kept, stacked_kept}

@@ -11,7 +11,8 @@ use Rattle.word86.specs.declared.page.Page.TheVariants.{Monochrome, Colour}
 use Rattle.i86_table.specs.declared.registers.Regs.{Regs}
 use Rattle.i86_code.specs.Decoding.{decoded}
 use Rattle.std.proofs.Common.{append-nil, length-append, ⊎_elim, drop, zero, subst, eqb-true}
-use Rattle.cpu8086.specs.BusModel.{BusModel, stored}
+use Rattle.cpu8086.specs.BusModel.{BusModel}
+use Rattle.cpu8086.specs.BusLaws.{stored}
 use Rattle.word86.specs.declared.width.Width.TheVariants as widths
 use Rattle.cpu8086.specs.Machine.{Machine, physical, next_offset, loaded_byte, loaded_word, stored_access, stored_at, pushed, popped, labels_of}
 use Rattle.cpu8086.specs.Turn.{fetched}

@@ -19,7 +19,8 @@ use Rattle.i86_table.specs.Arithmetic.{has, with_result, added, subtracted, oper
 use Rattle.i86_table.specs.Contexts.{bytes, further}
 use Rattle.cpu8086.specs.declared.bus.Store.TheVariants as stores
 use Rattle.cpu8086.specs.declared.cpu.Phase.TheVariants.{Running}
-use Rattle.cpu8086.specs.BusModel.{BusModel, stored}
+use Rattle.cpu8086.specs.BusModel.{BusModel}
+use Rattle.cpu8086.specs.BusLaws.{stored}
 use Rattle.cpu8086.specs.Machine.{Machine, stored_access, stored_at, labels_of}
 use Rattle.cpu8086.specs.Control.{jumped_if}
 use Rattle.cpu8086.specs.Arithmetic.{computed}

@@ -7,7 +7,8 @@ use Rattle.word86.specs.MemoryMap.{ram_size, code_start}
 use Rattle.word86.specs.Page.{page_at, page_size}
 use Rattle.word86.specs.Chips.{Chips}
 use Rattle.cpu8086.specs.declared.bus.Store.{Store}
-use Rattle.cpu8086.specs.BusModel.{BusModel, LoadAfterStore, PortsKeepMemory}
+use Rattle.cpu8086.specs.BusModel.{BusModel}
+use Rattle.cpu8086.specs.BusLaws.{LoadAfterStore, PortsKeepMemory}
 use Rattle.i86_table.specs.ContextLaw.{ContextRegisters}
 use Rattle.i86_table.specs.FlagLaws.{SetFlagHolds, OtherFlagsStay, SetFlagIsAlone, ArithmeticLeavesControl}
 use Rattle.board.specs.World.{shown_store}

@@ -12,7 +12,8 @@ use Rattle.plm_meaning.specs.declared.meaning.Step.{Step}
 use Rattle.plm_meaning.specs.Meaning.{IsRunOf, state_of}
 use Rattle.plm_type.specs.Rest.{Rest}
 use Rattle.plm_meaning.specs.Store.{Store}
-use Rattle.plm_meaning.specs.System.{Choice, Occurs, Taken, Makes, BadAt}
+use Rattle.plm_meaning.specs.System.{Choice, Occurs}
+use Rattle.plm_meaning.specs.Taken.{Taken, Makes, BadAt}
 use Rattle.board.specs.Trace.{lines}
 use Rattle.plm86.specs.Mean.{Alternatives, first_allowed, run_of}
 use Rattle.plm86.specs.declared.mean.MeanEnd.{MeanEnd}

@@ -24,6 +24,7 @@ use Rattle.plm_type.specs.Typer.{Typed, TypedTarget, TypedTargets, TypedList, Pa
 use Rattle.plm_type.specs.Expressions as spec
 use Rattle.plm_type.specs.Statements as statements
 use Rattle.plm_type.specs.View.{expression_of, expressions_of, target_of, scalar_of, statements_of}
+use Rattle.plm_type.specs.Rest.{Statement, Statements, End, Then}
 
 abbrev pub variables : Typer → List Variable
 variables t = t.names.now.variables.items
@@ -161,3 +162,6 @@ condition_by t around p e s = statements.conditional (number_by t p e) (statemen
 
 abbrev pub range_by : Typer → Position → rest.Scalar → (from to : ExpressionR) → (by : Option ExpressionR) → Noted rest.Statement
 range_by t p i a b s = statements.iteration (noted i []) (number_by t p a) (number_by t p b) (step_by t p s) (noted rest.End [])
+
+abbrev pub one : Noted Statement → Noted Statements
+one s = record { tree = Then s.tree End; faults = s.faults }

@@ -2,7 +2,7 @@
 use Rattle.std.specs.Prelude.{ℕ, ◌+◌, ◌-◌, ◌%◌, ◌<◌, ◌==◌, if◌then◌else◌, List, [], ◌∷◌, ◌++◌, length, slice_index_or}
 use Rattle.i86_table.specs.declared.instruction.Condition.{Condition}
 use Rattle.i86_table.specs.declared.instruction.Instr.TheVariants as i
-use Rattle.i86_table.specs.Condition.{inverse}
+use Rattle.i86_table.specs.Inverse.{inverse}
 use Rattle.i86_code.specs.Forms.{word_bytes, Spells}
 use Rattle.i86_code.specs.Writing.{bytes_of}
 use Rattle.i86_code.specs.Open.{front_of, IsOpen}

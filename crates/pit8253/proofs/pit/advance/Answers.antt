@@ -1,6 +1,7 @@
 use Rattle.std.proofs.Common.{◌≡◌, ◌+◌, ◌-◌, ◌<◌, ◌||◌, arith, subst, MatchBool}
-use Rattle.pit8253.specs.Timer.{pulses, Rises, AlikeCounters}
-use Rattle.pit8253.specs.Channel.{shown}
+use Rattle.pit8253.specs.Timer.{pulses}
+use Rattle.pit8253.specs.Alike.{AlikeCounters}
+use Rattle.pit8253.specs.Channel.{shown, Rises}
 use Rattle.pit8253.proofs.Compose.{start_moved_on, part_moved_on, then_moved, then_match}
 use Rattle.pit8253.proofs.pit.advance.Goals as goal
 

@@ -1,6 +1,7 @@
 use Rattle.std.proofs.Common.{◌≡◌, ◌+◌, ◌%◌, MatchBool}
-use Rattle.pit8253.specs.Timer.{pulses, Rises, AlikeCounters}
-use Rattle.pit8253.specs.Channel.{shown}
+use Rattle.pit8253.specs.Timer.{pulses}
+use Rattle.pit8253.specs.Alike.{AlikeCounters}
+use Rattle.pit8253.specs.Channel.{shown, Rises}
 use Rattle.pit8253.proofs.pit.advance_singly.Given as goal
 
 abbrev pub invariant-loop-i : goal.invariant-loop-i

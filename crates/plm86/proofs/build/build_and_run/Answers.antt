@@ -1,6 +1,6 @@
 use Rattle.std.proofs.Common.{ap, subst, ◌∙◌, rules}
 use Rattle.std.specs.Prelude.{map, length}
-use Rattle.cpu8086.specs.Turn.{zeros}
+use Rattle.cpu8086.specs.Cpu.{zeros}
 use Rattle.ppi_kbd.specs.Chips.{reset}
 use Rattle.board.specs.Machine.{power_on as powered_on}
 use Rattle.board.specs.Rom.{is_rom_length}

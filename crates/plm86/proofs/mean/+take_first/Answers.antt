@@ -1,7 +1,7 @@
 use Rattle.std.proofs.Common.{◌≡◌, [], sym, subst, map}
 use Rattle.std.proofs.lemmas.Result.{IfOk-weaker, IfErr-weaker}
 use Rattle.plm_meaning.specs.Meaning.{choice_of, state_of, Stopped}
-use Rattle.plm_meaning.specs.System.{Makes, BadAt}
+use Rattle.plm_meaning.specs.Taken.{Makes, BadAt}
 use Rattle.plm86.specs.Mean.{first_allowed}
 use Rattle.plm86.specs.Inner.Meaning.{label_of, Stops}
 use Rattle.plm86.proofs.Going.{kept, GoesTo, makes_first, goes_behind, idle_behind, stops_behind, is_bad}

@@ -10,7 +10,7 @@ use Rattle.plm_type.specs.Statements as statements
 use Rattle.std.specs.Global.{Vec}
 use Rattle.plm_type.specs.Order.{IsOrder}
 use Rattle.plm_type.specs.Calls.{graph_of, IsRecursive}
-use Rattle.plm_type.specs.Checked as spec
+use Rattle.plm_type.specs.Checking as spec
 use Rattle.plm_type.specs.Interrupts.{AreInterruptFaults}
 use Rattle.plm_type.specs.Programs.{faults}
 use Rattle.plm_type.proofs.Faultless.{none_of_both, lets_nothing_in, none_misused}

@@ -7,7 +7,7 @@ use Rattle.plm_decl.specs.declared.names.Procedure.{Procedure}
 use Rattle.plm_type.specs.Reach.{Graph, IsOnCycle}
 use Rattle.plm_type.specs.Inner.Reach.{rows, AreRanks}
 use Rattle.plm_type.specs.Inner.Order.{IsOrdered}
-use Rattle.plm_type.specs.Checked as spec
+use Rattle.plm_type.specs.Checking as spec
 use Rattle.plm_type.specs.View as view
 use Rattle.plm_type.proofs.Ordering.{order_from_ranks}
 use Rattle.plm_type.proofs.checking.order_of.Goals as goal

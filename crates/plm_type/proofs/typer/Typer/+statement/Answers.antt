@@ -8,7 +8,7 @@ use Rattle.plm_decl.specs.ResolvedView as resolved
 use Rattle.plm_type.proofs.ResolvedTrees as rows
 use Rattle.plm_type.specs.declared.program.Statement.{Statement}
 use Rattle.plm_type.specs.Rest as rest
-use Rattle.plm_type.specs.Inner.Typer.{noted, noted_after, number_by, index_by, step_by, statement_by, statements_by}
+use Rattle.plm_type.specs.Inner.Typer.{one, noted, noted_after, number_by, index_by, step_by, statement_by, statements_by}
 use Rattle.plm_type.specs.Typer.{Noted}
 use Rattle.plm_type.specs.Statements as spec
 use Rattle.plm_type.specs.View as view
@@ -51,7 +51,7 @@ statement-returns-in_ok-condition-in-IfElse t c =
     let test = number_by self at.place (resolved.expression_of at.test) in
     let then = statement_by self around (resolved.statement_of c.deref-in-IfElse.result.now) in
     let other = statement_by self around (resolved.statement_of c.deref-in-IfElse-2.result.now) in
-    let path = ap (λ (x : Noted rest.Statement). noted (with_other x.tree (spec.one other).tree) (x.faults ++ other.faults)) did
+    let path = ap (λ (x : Noted rest.Statement). noted (with_other x.tree (one other).tree) (x.faults ++ other.faults)) did
     ∙ ap (noted (spec.alternative test then other).tree) (append_assoc old (test.faults ++ then.faults) other.faults ∙ ap (λ (l : List Found). old ++ l) (append_assoc test.faults then.faults other.faults))
     ∙ ap (λ (s : StatementR). noted_after old (statement_by self around s)) is in
     noted_moved view.statement_of c.choice.result c.choice.new.faults.items path c.choice.ensures
