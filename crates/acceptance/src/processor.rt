@@ -7,7 +7,7 @@ use crate::expect::Expect;
 use crate::linking::idle_rom;
 use arrayvec::ArrayVec;
 use bitflags::Flags as _;
-use cpu8086::{Bus, Cpu, DecodeCache, Kind, Phase, Store};
+use cpu8086::{Bus, Cpu, DecodeCache, Kind, Phase, RomCode, Store};
 use i86_table::{Flags, LoadableSegment, Register16, Regs, Segment};
 use std::alloc::{AllocError, Global};
 use std::process::Abort;
@@ -496,5 +496,13 @@ fn remembered_instructions(rt: HostRuntime) -> Result<(), Fail> {
             (ax, 0x1000)
         );
     }
+    Ok(())
+}
+
+/// A ROM's code is taken in, and decoded by place. What it serves for is seen wherever the board runs.
+#[test]
+fn code_of_a_rom(rt: HostRuntime) -> Result<(), Fail> {
+    let mut code = RomCode::new(rt.alloc(), &[0x90; 16])?;
+    code.learn(0xFFF0);
     Ok(())
 }

@@ -1,6 +1,6 @@
 -- Where a turn cuts the timetable: of rising turns, those before it, those at it and those after it.
 use Rattle.std.proofs.lemmas.Bool.{cases_lt}
-use Rattle.std.proofs.Common.{◌≡◌, ◌≢◌, ◌∙◌, ◌<◌, ◌≤◌, ◌-◌, ℕ, zero, suc, true, false, List, [], ◌∷◌, length, take, drop, ap, sym, refl, slice_index, arith, nat_eq, inl, inr, ◌⊎◌}
+use Rattle.std.proofs.Common.{◌≡◌, ◌≢◌, ◌∙◌, ◌<◌, ◌≤◌, ◌-◌, ℕ, zero, suc, true, false, List, [], ◌∷◌, length, take, drop, ap, sym, refl, slice_index, arith, nat_eq, inl, inr}
 use Rattle.std.specs.List.Sorted.{IsNonDecreasingBy}
 use Rattle.board.specs.Timetable.{due_at}
 use Rattle.std.proofs.lemmas.List.{get_or-drop, length-drop}

@@ -1,8 +1,8 @@
 -- Which fault a text has: the fold over its lines against the format's own terms.
 use Rattle.std.proofs.lemmas.Bool.{ltb-false, or_right}
 use Rattle.std.proofs.lemmas.Option.{same_Some, none-some}
-use Rattle.std.proofs.Common.{◌≡◌, ◌∙◌, ℕ, zero, suc, ◌+◌, ◌-◌, ◌^◌, ◌<◌, ◌≤◌, ◌++◌, ◌==◌, min, max, Bool, true, false, cond, List, [], ◌∷◌, Option, Some, None, length, refl, sym, ap, ap₂, subst, arith, inl, inr, ◌⊎◌, append_assoc}
-use Rattle.std.specs.Prelude.{not, ◌&&◌, ◌||◌, nat_lt, nat_le, is_some, map, fold, if◌then◌else◌}
+use Rattle.std.proofs.Common.{◌≡◌, ◌∙◌, ℕ, suc, ◌+◌, ◌-◌, ◌^◌, ◌≤◌, ◌++◌, ◌==◌, min, max, Bool, true, false, cond, List, [], ◌∷◌, Option, Some, None, length, refl, sym, ap, ap₂, subst, arith, inl, inr, ◌⊎◌, append_assoc}
+use Rattle.std.specs.Prelude.{not, ◌&&◌, ◌||◌, nat_lt, nat_le, is_some, map, if◌then◌else◌}
 use Rattle.std.specs.List.{list_any}
 use Rattle.std.proofs.lemmas.Bool.Decides.{nat_tests}
 use Rattle.std.proofs.lemmas.List.Folds.{list_any-append}
@@ -14,11 +14,11 @@ use Rattle.word86.specs.declared.number.Number.TheVariants.{E701, E702, E703}
 use Rattle.board.specs.declared.reading.Item.{Item}
 use Rattle.board.specs.declared.reading.Item.TheVariants.{Fill, At, Stop}
 use Rattle.board.specs.Timetable.{last_turn}
-use Rattle.board.specs.Schedule.{Text, View, item_of, is_skipped, start, with_item, with_line, read_lines, fault_of, fault_from, failed}
-use Rattle.board.specs.Spelling.{said, lines_in}
+use Rattle.board.specs.Schedule.{Text, View, item_of, is_skipped, start, with_item, with_line, fault_of, fault_from, failed}
+use Rattle.board.specs.Spelling.{said}
 use Rattle.board.specs.Format.{IsLineOf, forbids, is_out_of_order, AreInOrder, Spell, Say, is_stop, line_number, HasFault, NoItem, OutOfOrder, NoStop}
 use Rattle.board.proofs.LineForms.{line_is, line_from, no_line}
-use Rattle.board.proofs.Spelled.{Core, core, bad, add, adds, Goes, after, counted, with_core, refused_item, true_false, cons_nil, head_same, tail_same, line_skipped, line_said, line_taken, stuck, forward, Said, backward, middle, grown, last_append}
+use Rattle.board.proofs.Spelled.{Core, core, bad, add, adds, Goes, after, counted, with_core, refused_item, true_false, cons_nil, head_same, tail_same, line_skipped, line_said, line_taken, stuck, forward, backward, middle, grown, last_append}
 
 -- ---- items out of order
 

@@ -12,6 +12,7 @@ mod run;
 mod schedule;
 mod timetable;
 mod trace;
+mod turns;
 mod words;
 
 pub use board::Board;

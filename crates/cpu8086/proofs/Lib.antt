@@ -1,3 +1,4 @@
 pub mod Computing
 pub mod Fetching
 pub mod Entries
+pub mod RomSteps

@@ -7,6 +7,7 @@ pub mod Moves
 pub mod Strings
 pub mod Effect
 pub mod Turn
+pub mod Rom
 pub mod BusLaws
 pub mod Cpu
 pub mod Inner

@@ -11,9 +11,11 @@ mod execute;
 mod memory;
 mod moves;
 mod operand;
+mod rom_code;
 mod strings;
 
 pub use bus::{Bus, Store};
 pub use cache::DecodeCache;
 pub use cpu::{Cpu, Kind, Phase, Turn};
 pub use memory::physical;
+pub use rom_code::RomCode;

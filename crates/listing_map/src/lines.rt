@@ -105,6 +105,7 @@ fn put_located_line<S: Sink>(
 }
 
 /// A line of a word of three letters, a place and a byte, as one piece: the most frequent ones.
+#[inline(always)]
 fn put_whole_line<S: Sink>(
     sink: &mut S,
     first: u8,
@@ -122,6 +123,7 @@ fn put_whole_line<S: Sink>(
 }
 
 /// The same of a word of four letters and a value of a word.
+#[inline(always)]
 fn put_whole_word_line<S: Sink>(
     sink: &mut S,
     first: u8,

@@ -15,6 +15,7 @@ fn digit(value: u16) -> u8
 }
 
 /// A byte as two digits.
+#[inline(always)]
 pub(crate) fn hex_byte(value: u8) -> [u8; 2]
     ensures { result ≡ hex2 value }
 {
@@ -23,6 +24,7 @@ pub(crate) fn hex_byte(value: u8) -> [u8; 2]
 }
 
 /// A word as four digits.
+#[inline(always)]
 pub(crate) fn hex_word(value: u16) -> [u8; 4]
     ensures { result ≡ hex4 value }
 {

@@ -3,7 +3,7 @@ use Rattle.board.specs.World.{board_model, occurs}
 use Rattle.board.specs.Machine.{all_occur}
 use Rattle.board.specs.Inner.Settled.{settled_chips}
 use Rattle.board.specs.Inner.Attached.{world_of}
-use Rattle.board.proofs.board.all_occur.Given as goal
+use Rattle.board.proofs.turns.all_occur.Given as goal
 
 abbrev pub invariant-loop-event : goal.invariant-loop-event
 invariant-loop-event l =
