@@ -1,7 +1,8 @@
 -- A store below the screen leaves and_parts pages, and shows nothing. A word has its bytes side by side on one page, or not and_parts on one.
-use Rattle.std.proofs.Common.{◌≡◌, ℕ, ◌+◌, ◌-◌, ◌<◌, Bool, true, false, List, length, arith, ap, sym, subst, refl, ◌∙◌}
+use Rattle.std.proofs.Common.{◌≡◌, ℕ, ◌+◌, ◌-◌, ◌<◌, ◌≤◌, Bool, true, false, List, length, arith, ap, sym, subst, refl, ◌∙◌}
 use Rattle.std.specs.Prelude.{slice_set, nat_lt, nat_le, ◌&&◌, if◌then◌else◌, Option, Some, None}
-use Rattle.std.proofs.lemmas.Bool.{lt-leb, ltb-true, leb-true, and_parts}
+use Rattle.std.proofs.lemmas.Bool.{lt-leb, lt-ltb, le-leb, le-ltb, ltb-true, leb-true, and_parts}
+use Rattle.word86.specs.declared.label.Label.TheVariants.{ScrW}
 use Rattle.word86.specs.declared.page.Page.{Page}
 use Rattle.word86.specs.declared.page.Page.TheVariants.{Monochrome, Colour}
 use Rattle.word86.specs.MemoryMap.{ram_size}
@@ -18,6 +19,30 @@ below_monochrome l a v lt = below_region (page_at Monochrome) l a v (omega (arit
 
 pub below_colour : (l : List ℕ) (a v : ℕ) → a < ram_size → put (page_at Colour) l a v ≡ l
 below_colour l a v lt = below_region (page_at Colour) l a v (omega (arith, lt))
+
+above_region : (base : ℕ) (l : List ℕ) (a v : ℕ) → base + length l ≤ a → put base l a v ≡ l
+above_region base l a v le = ap (λ t. if nat_le base a && t then slice_set l (a - base) v else l) (le-ltb a (base + length l) le) ∙ neither (nat_le base a) (slice_set l (a - base) v) l
+  where
+    neither : (t : Bool) (x y : List ℕ) → (if t && false then x else y) ≡ y
+    neither true x y = refl
+    neither false x y = refl
+
+-- a byte of the colour page is neither in RAM nor on the other page
+pub colour_is_not_ram : (l : List ℕ) (i v : ℕ) → length l ≡ ram_size → put 0 l (page_at Colour + i) v ≡ l
+colour_is_not_ram l i v whole = above_region 0 l (page_at Colour + i) v (omega (arith, whole))
+
+pub colour_is_not_monochrome : (l : List ℕ) (i v : ℕ) → length l ≡ page_size → put (page_at Monochrome) l (page_at Colour + i) v ≡ l
+colour_is_not_monochrome l i v whole = above_region (page_at Monochrome) l (page_at Colour + i) v (omega (arith, whole))
+
+pub put_on_colour : (l : List ℕ) (i v : ℕ) → length l ≡ page_size → i < page_size → put (page_at Colour) l (page_at Colour + i) v ≡ slice_set l i v
+put_on_colour l i v whole lt =
+    let base = page_at Colour in
+    let low : base ≤ base + i = omega arith in
+    let high : base + i < base + length l = omega (arith, whole, lt) in
+    let at : base + i - base ≡ i = omega arith in
+    ap (λ t. if t && nat_lt (base + i) (base + length l) then slice_set l (base + i - base) v else l) (le-leb base (base + i) low)
+    ∙ ap (λ t. if t then slice_set l (base + i - base) v else l) (lt-ltb (base + i) (base + length l) high)
+    ∙ ap (λ k. slice_set l k v) at
 
 -- what lies below a page is not on it
 below_page : (page : Page) (a : ℕ) → a < page_at page → is_on page a ≡ false
@@ -82,3 +107,25 @@ pub no_word_on_two_pages : (segment offset : ℕ) → offset < 65536 → (p q : 
     → spot (physical segment offset) ≡ Some (p, i) → spot (physical segment (next_offset offset)) ≡ Some (q, j) → (q ≡ p) × (j ≡ i + 1)
 no_word_on_two_pages segment offset lt p q i j x y =
     side_by_side segment offset lt p q i j (spot_lies (physical segment offset) p i x) (spot_lies (physical segment (next_offset offset)) q j y)
+
+-- ---- words on the colour page
+
+colour_spot : (a i : ℕ) → a ≡ page_at Colour + i → i < page_size → spot a ≡ Some (Colour, i)
+colour_spot a i at lt =
+    let high : page_at Monochrome + page_size ≤ a = omega (arith, at) in
+    let from : page_at Colour ≤ a = omega (arith, at) in
+    let to : a < page_at Colour + page_size = omega (arith, at, lt) in
+    let same : a - page_at Colour ≡ i = omega (arith, at) in
+    ap (λ t. if nat_le (page_at Monochrome) a && t then some_at Monochrome (a - page_at Monochrome) else if is_on Colour a then some_at Colour (a - page_at Colour) else None) (le-ltb a (page_at Monochrome + page_size) high)
+    ∙ neither (nat_le (page_at Monochrome) a) (some_at Monochrome (a - page_at Monochrome)) (if is_on Colour a then some_at Colour (a - page_at Colour) else None)
+    ∙ ap (λ t. if t && nat_lt a (page_at Colour + page_size) then some_at Colour (a - page_at Colour) else None) (le-leb (page_at Colour) a from)
+    ∙ ap (λ t. if t then some_at Colour (a - page_at Colour) else None) (lt-ltb a (page_at Colour + page_size) to)
+    ∙ ap (some_at Colour) same
+  where
+    neither : (t : Bool) (x y : Option (Page × ℕ)) → (if t && false then x else y) ≡ y
+    neither true x y = refl
+    neither false x y = refl
+
+pub seen_word : (low high i v : ℕ) → low ≡ page_at Colour + i → high ≡ page_at Colour + (i + 1) → i + 1 < page_size → Some (ScrW i v) ≡ shown_store (stores.Word low high v)
+seen_word low high i v at next lt =
+    sym (ap (λ s. word_shown s (spot high) v) (colour_spot low i at (omega (arith, lt))) ∙ ap (λ s. word_shown (some_at Colour i) s v) (colour_spot high (i + 1) next lt))

@@ -1,21 +1,21 @@
 //! What the processor sees of the board: loads, stores and ports, and the short ways for bytes and words in RAM.
 
-ghost use Rattle.std.specs.Prelude.{◌≡◌, ◌++◌, ◌<◌};
+ghost use Rattle.std.specs.Prelude.{◌≡◌, ◌+◌, ◌<◌};
 ghost use Rattle.ppi_kbd.specs.Chips.{ChipState};
 ghost use Rattle.word86.specs.declared.width.Width.TheVariants.{Word};
 ghost use Rattle.word86.specs.declared.page.Page.TheVariants.{Monochrome, Colour};
 ghost use Rattle.word86.specs.MemoryMap.{ram_size};
-ghost use Rattle.word86.specs.Page.{page_at};
+ghost use Rattle.word86.specs.Page.{page_at, page_size};
 ghost use Rattle.cpu8086.specs.declared.bus.Store.TheVariants.{Byte};
 ghost use Rattle.cpu8086.specs.Machine.{access_at, loaded_word};
 ghost use Rattle.board.specs.World.{World, board_model, put, shown_store};
 ghost use Rattle.board.specs.Inner.Settled.{chips_of, settled_chips};
-ghost use Rattle.board.specs.Inner.Attached.{world_of};
+ghost use Rattle.board.specs.Inner.Attached.{world_of, beside_ram};
 ghost use Rattle.board.specs.Inner.LawfulMemory.{load_after_store_law, ports_law};
 
 use crate::attached::Attached;
 use crate::chips::{acknowledge, int_line, read_port, write_port};
-use crate::regions::{byte_in, put, shown_store, word_in_ram};
+use crate::regions::{byte_in, put, shown_store, word_in_ram, word_on_colour};
 use cpu8086::{Bus, Store, physical};
 use word86::{Label, Page, RAM_SIZE, Width};
 
@@ -49,6 +49,39 @@ impl Attached {
         self.ram[address as usize] = value;
     }
 
+    /// Stores a byte on the colour page: RAM and the other page are not looked at.
+    #[tactic(auto, using(crate::proofs::Stores::colour_is_not_ram, crate::proofs::Stores::colour_is_not_monochrome, crate::proofs::Stores::put_on_colour))]
+    #[inline(always)]
+    fn put_on_colour(&mut self, place: u16, value: u8)
+        requires { place < page_size }
+        ensures ram { self.new.ram.items ≡ put 0 self.old.ram.items (page_at Colour + place) value }
+        ensures monochrome { self.new.monochrome.items ≡ put (page_at Monochrome) self.old.monochrome.items (page_at Colour + place) value }
+        ensures colour { self.new.colour.items ≡ put (page_at Colour) self.old.colour.items (page_at Colour + place) value }
+        ensures rom { self.new.rom ≡ self.old.rom }
+        ensures ports { self.new.ports ≡ self.old.ports }
+    {
+        self.colour[usize::from(place)] = value;
+    }
+
+    /// The byte at an address that is not in RAM.
+    #[inline(never)]
+    fn load_beside_ram(&self, address: u32) -> u8
+        ensures { result ≡ beside_ram (world_of self.now).screen self.now.rom.items address }
+    {
+        let monochrome = Page::Monochrome.address();
+        if let Some(byte) = byte_in(self.monochrome.as_slice(), monochrome, address) {
+            return byte;
+        }
+        let colour = Page::Colour.address();
+        if let Some(byte) = byte_in(self.colour.as_slice(), colour, address) {
+            return byte;
+        }
+        if let Some(byte) = byte_in(self.rom.as_slice(), self.rom_start, address) {
+            return byte;
+        }
+        0xFF
+    }
+
     /// The word at an offset of a segment, byte by byte.
     #[tactic(auto, unfolding(cpu8086::specs::Machine::loaded_word, cpu8086::specs::Machine::loaded_byte))]
     #[cold]
@@ -72,6 +105,23 @@ impl Attached {
             high: physical(segment, offset.wrapping_add(1)),
             value,
         })
+    }
+
+    /// A store of a word that is not in RAM, and the label that shows it: most of them are on the colour page.
+    #[tactic(auto, using(crate::proofs::Stores::seen_word))]
+    #[inline(never)]
+    fn store_word_beside_ram(&mut self, segment: u16, offset: u16, value: u16) -> Option<Label>
+        ensures label { result ≡ shown_store (access_at Word segment offset value) }
+        ensures after { world_of self.new ≡ (board_model settled_chips).store (world_of self.old) (access_at Word segment offset value) }
+    {
+        match word_on_colour(segment, offset) {
+            Some(place) => {
+                self.put_on_colour(place, (value % 256) as u8);
+                self.put_on_colour(place + 1, (value / 256) as u8);
+                Some(Label::ScrW(place, value))
+            }
+            None => self.store_word_anywhere(segment, offset, value),
+        }
     }
 
     /// A store of a byte anywhere, and the label that shows it.
@@ -107,22 +157,12 @@ impl Bus for Attached {
 
     ghost model = { board_model settled_chips };
 
+    #[inline(always)]
     fn load(&self, address: u32) -> u8 {
-        if let Some(byte) = byte_in(self.ram.as_slice(), 0, address) {
-            return byte;
+        match byte_in(self.ram.as_slice(), 0, address) {
+            Some(byte) => byte,
+            None => self.load_beside_ram(address),
         }
-        let monochrome = Page::Monochrome.address();
-        if let Some(byte) = byte_in(self.monochrome.as_slice(), monochrome, address) {
-            return byte;
-        }
-        let colour = Page::Colour.address();
-        if let Some(byte) = byte_in(self.colour.as_slice(), colour, address) {
-            return byte;
-        }
-        if let Some(byte) = byte_in(self.rom.as_slice(), self.rom_start, address) {
-            return byte;
-        }
-        0xFF
     }
 
     fn window(&self, address: u32) -> Option<&[u8]> {
@@ -175,7 +215,22 @@ impl Bus for Attached {
                 self.put_in_ram(address + 1, (value / 256) as u8);
                 None
             }
-            None => self.store_word_anywhere(segment, offset, value),
+            None => self.store_word_beside_ram(segment, offset, value),
+        }
+    }
+
+    #[tactic(auto, using(crate::proofs::Stores::unseen_byte))]
+    #[inline(always)]
+    fn is_quiet_byte(&self, segment: u16, offset: u16) -> bool {
+        (physical(segment, offset) as usize) < RAM_SIZE
+    }
+
+    #[tactic(auto, using(crate::proofs::Stores::unseen_word))]
+    #[inline(always)]
+    fn is_quiet_word(&self, segment: u16, offset: u16) -> bool {
+        match word_in_ram(segment, offset) {
+            Some(_) => true,
+            None => false,
         }
     }
 

@@ -2,7 +2,8 @@
 
 ghost use Rattle.std.specs.Prelude.{◌≡◌, ◌+◌, ◌*◌, ◌-◌, ◌<◌, ◌≤◌, ◌^◌, Some, None, IfSome, if◌then◌else◌, slice_index, length};
 ghost use Rattle.word86.specs.MemoryMap.{ram_size};
-ghost use Rattle.word86.specs.Page.{page_at};
+ghost use Rattle.word86.specs.declared.page.Page.TheVariants.{Colour};
+ghost use Rattle.word86.specs.Page.{page_at, page_size};
 ghost use Rattle.board.specs.World.{lies_in, put, is_on, spot, byte_label, word_label, shown_store};
 
 use cpu8086::Store;
@@ -23,7 +24,24 @@ pub(crate) fn word_in_ram(segment: u16, offset: u16) -> Option<u32>
     }
 }
 
+/// The offset in the colour page of the word at an offset in a segment, if both bytes lie there side by side.
+#[inline(always)]
+pub(crate) fn word_on_colour(segment: u16, offset: u16) -> Option<u16>
+    ensures place { IfSome result (λ i. segment * 16 + offset ≡ page_at Colour + i) }
+    ensures within { IfSome result (λ i. i + 1 < page_size) }
+    ensures inside { IfSome result (λ i. offset < 65535) }
+{
+    let address = u32::from(segment) * 16 + u32::from(offset);
+    let start = Page::Colour.address();
+    if offset < 65535 && start <= address && ((address - start) as usize) < PAGE_SIZE - 1 {
+        Some((address - start) as u16)
+    } else {
+        None
+    }
+}
+
 /// The byte of a region that holds the address, if it does.
+#[inline(always)]
 pub(crate) fn byte_in(bytes: &[u8], start: u32, address: u32) -> Option<u8>
     ensures { result ≡ (if lies_in start bytes.now address then Some (slice_index bytes.now (address - start)) else None) }
 {

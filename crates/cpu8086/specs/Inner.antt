@@ -1,1 +1,3 @@
 pub mod Arithmetic
+pub mod Step
+pub mod Runs

@@ -21,7 +21,7 @@ use word86::Width;
 
 /// Whether an operation stores its result: CMP does not.
 #[inline(always)]
-fn is_stored(operation: AluOperation) -> bool
+pub(crate) fn is_stored(operation: AluOperation) -> bool
     ensures { result ≡ not (is_comparison operation) }
 {
     !matches!(operation, AluOperation::Cmp)
@@ -73,7 +73,7 @@ pub(crate) fn compute_byte<B: Bus>(
 }
 
 #[inline(never)]
-fn compute_from_memory<R: Operand, B: Bus>(
+pub(crate) fn compute_from_memory<R: Operand, B: Bus>(
     registers: &mut Regs,
     bus: &B,
     operation: AluOperation,
@@ -111,7 +111,7 @@ fn compute_place<R: Operand, B: Bus>(
 
 #[tactic(auto, unfolding(crate::specs::Inner::Arithmetic::register_computed))]
 #[inline(always)]
-fn compute_register<R: Operand>(
+pub(crate) fn compute_register<R: Operand>(
     registers: &mut Regs,
     operation: AluOperation,
     register: R,
@@ -187,7 +187,11 @@ pub(crate) fn change_byte<B: Bus>(
 }
 
 #[inline(always)]
-fn change_register<R: Operand>(registers: &mut Regs, operation: UnaryOperation, register: R)
+pub(crate) fn change_register<R: Operand>(
+    registers: &mut Regs,
+    operation: UnaryOperation,
+    register: R,
+)
     ensures { registers.new ≡ register_changed R.bank operation register registers.old }
 {
     let value = register.value(registers);

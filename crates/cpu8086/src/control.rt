@@ -65,7 +65,7 @@ pub(crate) fn jump_to<B: Bus>(registers: &mut Regs, bus: &B, place: &RmOperand<R
 }
 
 /// LOOP.
-#[inline(never)]
+#[inline(always)]
 pub(crate) fn count_and_jump(registers: &mut Regs, distance: u8)
     ensures { registers.new ≡ looped distance registers.old }
 {
@@ -116,7 +116,7 @@ pub(crate) fn call_to<B: Bus>(
 
 /// RET.
 #[tactic(auto, unfolding(crate::specs::Control::returned))]
-#[inline(never)]
+#[inline(always)]
 pub(crate) fn return_near<B: Bus>(registers: &mut Regs, bus: &B)
     ensures { registers.new ≡ returned B.model (B.world bus.now) registers.old }
 {

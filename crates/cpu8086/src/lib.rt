@@ -12,6 +12,7 @@ mod memory;
 mod moves;
 mod operand;
 mod rom_code;
+mod step;
 mod strings;
 
 pub use bus::{Bus, Store};
