@@ -2,7 +2,8 @@
 
 use crate::expect::Expect;
 use plm_token::{
-    Keyword, Kind, Mark, SOURCE_LIMIT, Token, normal, same_name, scan, scan_literal, string_value,
+    Keyword, Kind, Mark, SOURCE_LIMIT, Token, is_normal, normal, same_name, scan, scan_literal,
+    string_value,
 };
 use std::alloc::Global;
 use std::process::Abort;
@@ -133,6 +134,7 @@ fn names(rt: HostRuntime) -> Result<(), Fault> {
     expect.holds(!same_name(b"FOO", b"FO"));
     expect.holds(!same_name(b"FO", b"FOO"));
     expect.holds(!same_name(b"F_O", b"FO"));
+    expect.holds(is_normal(b"F_O1") && !is_normal(b"F_o1") && !is_normal(b"F$O"));
     let name = normal(alloc, b"$Fo$o_1$")?;
     expect.holds(name.as_slice() == b"FOO_1".as_slice());
     Ok(())

@@ -35,7 +35,8 @@ impl Need {
         }
     }
 
-    // What is enough for either.
+    // What is enough for either. Where it stands in a loop, the compiler packs the registers bit by bit at each turn.
+    #[inline(never)]
     fn and(self, other: Need) -> Need
         ensures { result ≡ both self other }
     {

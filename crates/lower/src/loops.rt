@@ -8,7 +8,7 @@ ghost use Rattle.lower.specs.Inner.Parts.{repeating, counting, iterating};
 use crate::callees::Callees;
 use crate::conditions::{condition, stands_to};
 use crate::expressions::{expression, right};
-use crate::put::{Operand, add, as_operand, distance, put};
+use crate::put::{Operand, ROOM, add, as_operand, distance, put};
 use icode::{Instruction, Relation, Test};
 use plm_type::{Expression, Loop, Scalar};
 use std::alloc::Global;
@@ -27,7 +27,7 @@ pub fn repeat(
     ensures code { IfOk result (λ r. r.items ≡ repeating (condition_code (procedures_of callees.entry.procedures.now) (expression_of tree.now)) (test_of (expression_of tree.now)) body.now exit) }
     ensures memory { IsOkUnless result Fault.Memory }
 {
-    let mut code = Vec::new(alloc);
+    let mut code = Vec::with_capacity(alloc, body.len().saturating_add(ROOM))?;
     let test = condition(&mut code, callees, tree)?;
     let over = distance(distance(body.len(), 1)?, exit)?;
     let back = distance(distance(code.len(), body.len())?, 2)?;

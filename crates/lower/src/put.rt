@@ -9,6 +9,9 @@ use icode::Instruction;
 use plm_type::{Expression, Place};
 use word86::{Fault, Width};
 
+/// Room for the instructions of a statement: few have more.
+pub const ROOM: usize = 12;
+
 /// One more instruction.
 pub fn put(code: &mut Vec<Instruction>, instruction: Instruction) -> Result<(), Fault>
     ensures code { OnOk result (code.new.items ≡ code.old.items ++ instruction ∷ []) }

@@ -13,7 +13,7 @@ use crate::conditions::condition;
 use crate::expressions::{assign, dropped, expression};
 use crate::kind::Kind;
 use crate::loops::{iterate, repeat};
-use crate::put::{add, distance, put};
+use crate::put::{ROOM, add, distance, put};
 use crate::silence::{are_silent, exit_before, with_code};
 use icode::Instruction;
 use plm_type::{Expression, Loop, Statement, Target};
@@ -106,7 +106,7 @@ impl Around<'_> {
         ensures code { IfOk result (λ r. r.items ≡ expression_code (procedures_of self.entry.callees.procedures.now) (expression_of tree.now)) }
         ensures memory { IsOkUnless result Fault.Memory }
     {
-        let mut code = Vec::new(self.alloc);
+        let mut code = Vec::with_capacity(self.alloc, ROOM)?;
         expression(&mut code, self.callees, tree)?;
         Ok(code)
     }
@@ -116,7 +116,7 @@ impl Around<'_> {
         ensures code { IfOk result (λ r. r.items ≡ dropped_code (procedures_of self.entry.callees.procedures.now) (expression_of tree.now)) }
         ensures memory { IsOkUnless result Fault.Memory }
     {
-        let mut code = Vec::new(self.alloc);
+        let mut code = Vec::with_capacity(self.alloc, ROOM)?;
         dropped(&mut code, self.callees, tree)?;
         Ok(code)
     }
@@ -179,7 +179,7 @@ impl Around<'_> {
         ensures code { IfOk result (λ r. r.items ≡ choosing (condition_code (procedures_of self.entry.callees.procedures.now) (expression_of tree.now)) (test_of (expression_of tree.now)) arm.now silent otherwise.now exit) }
         ensures memory { IsOkUnless result Fault.Memory }
     {
-        let mut code = Vec::new(self.alloc);
+        let mut code = Vec::with_capacity(self.alloc, ROOM)?;
         let test = condition(&mut code, self.callees, tree)?;
         let fails = failing(silent, arm, exit)?;
         put(&mut code, Instruction::AheadUnless(test, fails))?;
@@ -221,7 +221,7 @@ impl Around<'_> {
         ensures code { IfOk result (λ r. r.items ≡ statements_code (procedures_of self.entry.callees.procedures.now) self.entry.kind exit (statements_of body.now)) }
         ensures memory { IsOkUnless result Fault.Memory }
     {
-        let mut code = Vec::new(self.alloc);
+        let mut code = Vec::with_capacity(self.alloc, body.len().saturating_mul(ROOM))?;
         let with_code = with_code(body);
         for (k, statement) in body.iter().enumerate() {
             let own = exit_before(with_code <= k + 1, exit);

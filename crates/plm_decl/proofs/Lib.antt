@@ -37,3 +37,4 @@ pub mod FitsShapes
 pub mod FitsFills
 pub mod FitsElements
 pub mod FitsStatements
+pub mod NormalNames

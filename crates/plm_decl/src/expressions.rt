@@ -88,6 +88,7 @@ impl Resolver {
     }
 
     #[cycle(expression)]
+    #[inline(never)]
     fn boxed_expression(
         &mut self,
         e: &plm_syntax::Expression<'_>,
@@ -101,6 +102,7 @@ impl Resolver {
 
     /// Operators of one precedence, whatever stands to their left.
     #[cycle(expression)]
+    #[inline(never)]
     fn operations(
         &mut self,
         operations: &[plm_syntax::Operation<'_>],

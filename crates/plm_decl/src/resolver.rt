@@ -1,6 +1,7 @@
 //! What is known of a program while its trees are walked.
 
 ghost use Rattle.std.specs.Prelude.{◌≡◌, ◌+◌, IfOk, OnOk};
+ghost use Rattle.plm_token.specs.Names.{normal};
 ghost use Rattle.plm_syntax.specs.View.{name_of};
 ghost use Rattle.plm_decl.specs.Inner.Scope.{frames_of};
 ghost use Rattle.plm_decl.specs.Inner.Resolver.{known_of};
@@ -16,7 +17,7 @@ use crate::scope::Scope;
 use crate::structure::Structure;
 use crate::table::Table;
 use plm_syntax::{Name, Position};
-use plm_token::normal;
+use plm_token::{is_normal, normal};
 use std::alloc::{AllocError, Global};
 use word86::Number;
 
@@ -118,11 +119,29 @@ impl Resolver {
     }
 
     /// What a name that is used means.
+    #[tactic(auto, using(crate::proofs::NormalNames::as_written))]
     pub fn used(&mut self, scope: &Scope<'_>, name: &Name<'_>) -> Result<Binding, AllocError>
         ensures { IfOk result (λ m. (m, known_of self.new) ≡ used (frames_of scope.now) (name_of name.now) (known_of self.old)) }
     {
+        // Most names are written so: they need no second text.
+        if is_normal(name.text) {
+            return self.used_by_key(scope, name, name.text);
+        }
         let key = normal(self.alloc, name.text)?;
-        let binding = binding(scope.item(&key), Builtin::named(&key));
+        self.used_by_key(scope, name, &key)
+    }
+
+    /// The same by the name in normal form.
+    fn used_by_key(
+        &mut self,
+        scope: &Scope<'_>,
+        name: &Name<'_>,
+        key: &[u8],
+    ) -> Result<Binding, AllocError>
+        requires { key.now ≡ normal (name_of name.now).text }
+        ensures { IfOk result (λ m. (m, known_of self.new) ≡ used (frames_of scope.now) (name_of name.now) (known_of self.old)) }
+    {
+        let binding = binding(scope.item(key), Builtin::named(key));
         self.note_unless(
             !matches!(binding, Binding::Nothing),
             Number::E301,

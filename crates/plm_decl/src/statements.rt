@@ -89,7 +89,7 @@ impl Resolver {
     ) -> Result<Vec<Reference>, AllocError>
         ensures { IfOk result (λ r. (view.references_of r.items, known_of self.new) ≡ spec.targets_from (frames_of scope.now) resolved.no_references (map reference_of references.now) (known_of self.old)) }
     {
-        let mut resolved = Vec::new(self.alloc);
+        let mut resolved = Vec::with_capacity(self.alloc, references.len())?;
         for reference in references {
             resolved.push(self.reference(reference, scope)?)?;
         }
@@ -128,7 +128,7 @@ impl Resolver {
     ) -> Result<Vec<Statement>, AllocError>
         ensures { IfOk result (λ r. (view.statements_of r.items, known_of self.new) ≡ spec.statements (frames_of scope.now) (statements_of statements.now) (known_of self.old)) }
     {
-        let mut resolved = Vec::new(self.alloc);
+        let mut resolved = Vec::with_capacity(self.alloc, statements.len())?;
         for statement in statements {
             resolved.push(self.statement(statement, scope)?)?;
         }
@@ -160,6 +160,7 @@ impl Resolver {
 
     /// An assignment.
     #[tactic(auto, using(crate::proofs::ListViews::reference_list_from))]
+    #[inline(never)]
     fn assignment(
         &mut self,
         targets: &[plm_syntax::Reference<'_>],
@@ -241,6 +242,7 @@ impl Resolver {
 
     /// A `DO;` block.
     #[cycle(statement)]
+    #[inline(never)]
     fn do_block(
         &mut self,
         block: &Block<'_>,

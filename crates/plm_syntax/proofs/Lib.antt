@@ -39,3 +39,4 @@ pub mod InForce
 pub mod PlainText
 pub mod Apart
 pub mod PutOut
+pub mod Undeclared

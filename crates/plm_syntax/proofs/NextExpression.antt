@@ -1,18 +1,19 @@
 -- What a run does next where the parser has tested the next token, in expressions.
-use Rattle.std.proofs.Common.{◌≡◌, List, [], ◌∷◌, ◌++◌, Bool, true, false, cond, refl, ap, ◌∙◌}
+use Rattle.std.proofs.Common.{◌≡◌, List, [], ◌∷◌, ◌++◌, Bool, true, false, cond, Option, Some, None, is_some, refl, ap, ◌∙◌}
 use Rattle.plm_token.specs.declared.token.Keyword.TheVariants as key
 use Rattle.plm_token.specs.declared.token.Mark.TheVariants as mark
 use Rattle.plm_syntax.specs.declared.tree.Position.{Position}
 use Rattle.plm_syntax.specs.declared.tree.UnaryOperator.TheVariants as unary
+use Rattle.plm_syntax.specs.declared.tree.BinaryOperator.{BinaryOperator}
 use Rattle.plm_syntax.specs.Terminal.{Terminal, Name, Numeral, Text, Key, Sign, Finish, Leaf, leaf_at, is_key}
 use Rattle.plm_syntax.specs.Inner.Terminal.{is_sign}
 use Rattle.plm_syntax.specs.Tree.{LocationForm, Pointer, Offset}
 use Rattle.plm_syntax.specs.Spelling.{form_sign}
-use Rattle.plm_syntax.specs.Inner.Symbol.{Value, Precedence, Symbol, depth, behind, Products, Sums, Relations, Conjunctions, Disjunctions, PrimaryG, SignedG, NegationG, MoreG, InsideG, AfterReferenceG, MoreSubscriptsG, LocatedG, ValueG, NegativeG, MoreValuesG, Want, Do, Leave, Refused, Take, Keep}
-use Rattle.plm_syntax.specs.Inner.Machine.{again, an_expression, make_unary, add_expression, primary, expression_at, closing, inside, more_subscripts, member_rule, locate_values, location_value, add_value, a_value_list, located, value_rule, negative, more_values, run}
+use Rattle.plm_syntax.specs.Inner.Symbol.{Value, Precedence, Symbol, depth, behind, Products, Sums, Relations, Conjunctions, Disjunctions, PrimaryG, SignedG, NegationG, MoreG, InsideG, AfterReferenceG, MoreSubscriptsG, LocatedG, ValueG, NegativeG, MoreValuesG, Want, Do, Leave, Refused, Over, Take, Keep}
+use Rattle.plm_syntax.specs.Inner.Machine.{again, an_expression, operator_of, operation, more, make_unary, add_expression, primary, expression_at, closing, inside, more_subscripts, member_rule, locate_values, location_value, add_value, a_value_list, located, value_rule, negative, more_values, run}
 use Rattle.plm_syntax.proofs.DriveParts.{after_goes}
 use Rattle.plm_syntax.proofs.DriveBlock.{expression_goes}
-use Rattle.plm_syntax.proofs.Along.{at_front, same_goal}
+use Rattle.plm_syntax.proofs.Along.{at_front, same_goal, passed_over}
 use Rattle.plm_syntax.specs.declared.cursor.Cursor.{Cursor}
 use Rattle.plm_syntax.specs.Inner.Parsed.{ahead, next_of, is_name, is_number, is_text}
 use Rattle.plm_syntax.specs.Inner.Parts.{joined, all_precedences, is_relations}
@@ -127,3 +128,20 @@ depth_again Sums s = refl
 depth_again Relations s = refl
 depth_again Conjunctions s = refl
 depth_again Disjunctions s = refl
+
+-- ---- no operator comes next
+
+no_operator : (l : Precedence) (t : Terminal) → is_some (operator_of t) ≡ false → more l t ≡ Over
+no_operator l t h = by (operator_of t) h
+  where
+    by : (o : Option BinaryOperator) → is_some o ≡ false → elim o [ None ↦ Over | Some k ↦ operation l k ] ≡ Over
+    by None e = refl
+    by (Some k) e = absurd cc
+
+pub all_over : (c : Cursor) (s : List Symbol) (v : List Value) → is_some (operator_of (next_of c)) ≡ false → run 64 (all_precedences s) v (ahead c) ≡ run 64 s v (ahead c)
+all_over c s v h =
+    passed_over (MoreG Products) c (Want (MoreG Sums) ∷ Want (MoreG Relations) ∷ Want (MoreG Conjunctions) ∷ Want (MoreG Disjunctions) ∷ s) v (no_operator Products (next_of c) h)
+    ∙ passed_over (MoreG Sums) c (Want (MoreG Relations) ∷ Want (MoreG Conjunctions) ∷ Want (MoreG Disjunctions) ∷ s) v (no_operator Sums (next_of c) h)
+    ∙ passed_over (MoreG Relations) c (Want (MoreG Conjunctions) ∷ Want (MoreG Disjunctions) ∷ s) v (no_operator Relations (next_of c) h)
+    ∙ passed_over (MoreG Conjunctions) c (Want (MoreG Disjunctions) ∷ s) v (no_operator Conjunctions (next_of c) h)
+    ∙ passed_over (MoreG Disjunctions) c s v (no_operator Disjunctions (next_of c) h)

@@ -15,7 +15,7 @@ ghost use Rattle.plm_syntax.specs.Inner.Parts.{precedence_view, read_expression,
 
 use crate::cursor::Cursor;
 use crate::failure::Failure;
-use crate::operator::{Precedence, operator_at};
+use crate::operator::{Precedence, is_at_operator, operator_at};
 use crate::parts::{beside, boxed, closing, pushed};
 use crate::tree::{
     Expression, Location, LocationForm, Name, Operation, Position, Reference, Selector,
@@ -33,7 +33,24 @@ pub(crate) fn expression<'t, 'a>(
     ensures leads { Leads read_expression an_expression nothing_read result cursor.entry room }
     ensures within { Within result cursor.entry }
 {
-    binary(alloc, room, Precedence::Disjunctions, cursor)
+    whole(alloc, room, cursor)
+}
+
+/// An expression. One without NOT at its front begins with a primary, which is mostly all of it.
+#[cycle(expression)]
+fn whole<'t, 'a>(
+    alloc: Global,
+    room: u8,
+    cursor: Cursor<'t, 'a>,
+) -> Result<(Expression<'a>, Cursor<'t, 'a>), Failure>
+    ensures leads { Leads read_expression an_expression nothing_read result cursor.entry room }
+    ensures within { Within result cursor.entry }
+{
+    if let Some(_) = cursor.keyword(Keyword::Not) {
+        return binary(alloc, room, Precedence::Disjunctions, cursor);
+    }
+    let (first, rest) = signed(alloc, room, cursor)?;
+    climb(alloc, room, first, rest)
 }
 
 /// Operands of a precedence, joined by its operators from left to right.
@@ -63,6 +80,9 @@ fn more<'t, 'a>(
     ensures leads { Leads read_expression (λ s. Want (MoreG (precedence_view precedence)) ∷ s) (read_expression first.entry) result cursor.entry room }
     ensures within { Within result cursor.entry }
 {
+    let Some(_) = operator_at(precedence, cursor) else {
+        return Ok((first, cursor));
+    };
     let ((left, others), rest) = beside(first, operations(alloc, room, precedence, cursor))?;
     if others.is_empty() {
         return Ok((left, rest));
@@ -244,7 +264,7 @@ fn closed<'t, 'a>(
     ensures leads { Leads read_boxed (λ s. an_expression (need RightParenthesis ∷ s)) nothing_read result cursor.entry room }
     ensures within { Within result cursor.entry }
 {
-    let inside = binary(alloc, room, Precedence::Disjunctions, cursor);
+    let inside = whole(alloc, room, cursor);
     boxed(alloc, closing(inside, Mark::RightParenthesis))
 }
 
@@ -280,6 +300,9 @@ fn climb<'t, 'a>(
     ensures leads { Leads read_expression all_precedences (read_expression first.entry) result cursor.entry room }
     ensures within { Within result cursor.entry }
 {
+    if !is_at_operator(cursor) {
+        return Ok((first, cursor));
+    }
     let (term, after_term) = more(alloc, room, Precedence::Products, first, cursor)?;
     let (sum, after_sum) = more(alloc, room, Precedence::Sums, term, after_term)?;
     let (relation, after_relation) = more(alloc, room, Precedence::Relations, sum, after_sum)?;
@@ -337,15 +360,9 @@ fn subscripts<'t, 'a>(
         return Ok((list, cursor));
     };
     let inside = inner.level_down(room)?;
-    let mut rest = pushed(
-        &mut list,
-        binary(alloc, inside, Precedence::Disjunctions, inner),
-    )?;
+    let mut rest = pushed(&mut list, whole(alloc, inside, inner))?;
     while let Some((_, after)) = rest.mark(Mark::Comma) {
-        rest = pushed(
-            &mut list,
-            binary(alloc, inside, Precedence::Disjunctions, after),
-        )?;
+        rest = pushed(&mut list, whole(alloc, inside, after))?;
     }
     rest.close(list, Mark::RightParenthesis)
 }

@@ -1,13 +1,13 @@
 //! Names that LITERALLY declares are replaced by their texts' tokens.
 
-ghost use Rattle.std.specs.Prelude.{◌≡◌, ◌<◌, Some, length, map, fold, OnOk, IfOk, IfErr, option_map};
+ghost use Rattle.std.specs.Prelude.{◌≡◌, ◌<◌, true, Some, length, map, fold, OnOk, IfOk, IfErr, option_map};
 ghost use Rattle.std.specs.List.{slice_get, slice_range};
 ghost use Rattle.word86.specs.declared.fault.Fault.TheVariants.{Memory};
 ghost use Rattle.plm_token.specs.Scanner.{lexeme, lexemes};
 ghost use Rattle.plm_token.specs.Literals.{on_line};
 ghost use Rattle.plm_syntax.specs.Literals.{LiteralText, ends, declares, is_keyword, is_string, over_limit, ends_block, declared_name, between, put, symbol_out, text_out, nothing_out, expanded};
 ghost use Rattle.plm_syntax.specs.Inner.Scope.{named_symbol, text_at};
-ghost use Rattle.plm_syntax.specs.Inner.Literals.{placed, out_of, text_view, text_for, with_text, source_view, put_with_text, out_with_text};
+ghost use Rattle.plm_syntax.specs.Inner.Literals.{ArePlain, placed, out_of, text_view, text_for, with_text, source_view, put_with_text, out_with_text};
 ghost use Rattle.plm_syntax.specs.Literals.{expansion_view, expansion_of};
 
 use crate::named_token::{LiteralTokens, NamedToken};
@@ -304,12 +304,31 @@ fn replaced<'t, 'a>(alloc: Global, sources: &'t [Source<'a>]) -> Result<Expansio
     Ok(Expansion { tokens, stop })
 }
 
+/// Whether these tokens declare no literal, and are not too many.
+fn are_plain(tokens: &[Token<'_>]) -> bool
+    ensures { result ≡ true → ArePlain (lexemes tokens.now) }
+{
+    if tokens.len() > TOKEN_LIMIT {
+        return false;
+    }
+    for token in tokens {
+        if is_literally(token.kind) {
+            return false;
+        }
+    }
+    true
+}
+
 /// The tokens of a source with its literals replaced, up to the first fault. Memory is its only error.
-#[tactic(auto, using(crate::proofs::Replaced::expanded_same))]
+#[tactic(auto, using(crate::proofs::Replaced::expanded_same, crate::proofs::Undeclared::expanded_plain))]
 pub fn expand<'a>(alloc: Global, tokens: Vec<Token<'a>>) -> Result<Expansion<'a>, Fault>
     ensures ok { IfOk result (λ e. expansion_view e ≡ expansion_of (expanded (lexemes tokens.entry.items))) }
     ensures err { IfErr result (λ f. f ≡ Memory) }
 {
+    // Most modules stand as they are.
+    if are_plain(tokens.as_slice()) {
+        return Ok(Expansion { tokens, stop: None });
+    }
     let sources = prepare(alloc, tokens.as_slice())?;
     let expansion = replaced(alloc, sources.as_slice())?;
     Ok(expansion)

@@ -1,9 +1,10 @@
 //! Binary operators and their precedences.
 
-ghost use Rattle.std.specs.Prelude.{◌≡◌, ℕ, List, nat_eq};
+ghost use Rattle.std.specs.Prelude.{◌≡◌, ℕ, List, nat_eq, is_some};
 ghost use Rattle.plm_syntax.specs.declared.tree.Position.{Position as SomePlace};
 ghost use Rattle.plm_syntax.specs.WellFormed.{precedence_of};
 ghost use Rattle.plm_syntax.specs.Inner.Machine.{number_of, operator_of};
+ghost use Rattle.plm_syntax.specs.Inner.Parsed.{next_of};
 ghost use Rattle.plm_syntax.specs.Faults.{terminal_of};
 ghost use Rattle.plm_syntax.specs.Inner.Parts.{precedence_view, is_relations, IsOperator};
 
@@ -80,6 +81,16 @@ fn is_of(operator: BinaryOperator, precedence: Precedence) -> bool
         | BinaryOperator::LessEqual
         | BinaryOperator::Greater
         | BinaryOperator::GreaterEqual => matches!(precedence, Precedence::Relations),
+    }
+}
+
+/// Whether an operator comes next.
+pub(crate) fn is_at_operator(cursor: Cursor<'_, '_>) -> bool
+    ensures { result ≡ is_some (operator_of (next_of cursor.entry)) }
+{
+    match cursor.next() {
+        Some((token, _, _)) => operator(token.kind).is_some(),
+        None => false,
     }
 }
 

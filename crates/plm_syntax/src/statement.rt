@@ -320,6 +320,7 @@ fn basic<'t, 'a>(
 }
 
 /// An assignment after the name of its first target.
+#[inline(never)]
 fn assignment<'t, 'a>(
     alloc: Global,
     room: u8,
@@ -438,6 +439,7 @@ fn expression_before<'t, 'a>(
 
 /// An IF after its first word.
 #[cycle(statement)]
+#[inline(never)]
 fn condition<'t, 'a>(
     alloc: Global,
     room: u8,
@@ -507,6 +509,7 @@ fn begins_statement(kind: Kind) -> bool
 
 /// A DO group after the word DO.
 #[cycle(statement)]
+#[inline(never)]
 fn group<'t, 'a>(
     alloc: Global,
     room: u8,
@@ -558,6 +561,7 @@ fn governed<'t, 'a>(
 
 /// `DO i = a TO b [BY s]` after its index.
 #[cycle(statement)]
+#[inline(never)]
 fn iteration<'t, 'a>(
     alloc: Global,
     room: u8,

@@ -87,3 +87,10 @@ pub fn spells(text: &[u8], word: &[u8]) -> bool
     }
     letters.next().is_none()
 }
+
+/// Whether a name is in normal form as it is written: in capitals, without dollar signs.
+pub fn is_normal(name: &[u8]) -> bool
+    ensures { result ≡ bytes_eq (normal name.now) name.now }
+{
+    spells(name, name)
+}

@@ -13,7 +13,7 @@ mod strings;
 mod token;
 
 pub use laws::{front_is_longest, pieces_cover, pieces_in_order};
-pub use letters::{normal, same_name};
+pub use letters::{is_normal, normal, same_name};
 pub use scanner::{SOURCE_LIMIT, scan, scan_literal};
 pub use strings::string_value;
 pub use token::{Keyword, Kind, Mark, Token};

@@ -28,6 +28,7 @@ struct Pieces<'a> {
 
 impl<'a> Pieces<'a> {
     /// The next piece and its slice, if the text is not at its end.
+    #[inline(always)]
     fn next(&mut self) -> Option<(Piece, &'a [u8])>
         ensures some { IfSome result (λ p. (line : ℕ) → pieces self.old.state line self.old.rest.now ≡ record { piece = p.0; text = p.1.now; line = line } ∷ pieces self.new.state (line + count_by is_line_feed p.1.now) self.new.rest.now) }
         ensures shorter { IfSome result (λ p. (0 < length p.1.now) × (length p.1.now + length self.new.rest.now ≡ length self.old.rest.now)) }

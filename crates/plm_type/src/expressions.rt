@@ -96,6 +96,7 @@ impl Typer<'_> {
         })
     }
 
+    #[inline(never)]
     fn embedded(
         &self,
         place: Position,
@@ -116,6 +117,7 @@ impl Typer<'_> {
         Ok(typed.given_if(has_value))
     }
 
+    #[inline(never)]
     fn unary(
         &self,
         place: Position,

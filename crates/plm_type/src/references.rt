@@ -65,6 +65,10 @@ fn strided(
 ) -> Result<(), AllocError>
     ensures { OnOk result (subscripts.new.items ≡ subscripts.old.items ++ map (with_stride stride) trees.items) }
 {
+    // Most names have none.
+    if trees.is_empty() {
+        return Ok(());
+    }
     for index in trees {
         subscripts.push(Subscript { stride, index })?;
     }

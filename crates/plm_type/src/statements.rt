@@ -214,6 +214,7 @@ impl Typer<'_> {
         Ok(all)
     }
 
+    #[inline(never)]
     fn assign(
         &self,
         references: &[plm_decl::Reference],
@@ -306,6 +307,7 @@ impl Typer<'_> {
     }
 
     /// An iterative DO with its index, up to its statements.
+    #[inline(never)]
     fn range(
         &self,
         place: Position,

@@ -26,3 +26,4 @@ pub mod Bounding
 pub mod Saving
 pub mod Rooming
 pub mod Totalling
+pub mod Drafting

@@ -36,7 +36,7 @@ use Rattle.select.specs.Rows.{row, rows, steps_in, first_of, routine, plain, unl
 use Rattle.select.specs.Inner.Assembly.{IsStepOf, AreSteps, nothing}
 use Rattle.select.specs.Inner.Numbering.{step_at}
 use Rattle.select.proofs.Cores.{some_constant}
-use Rattle.select.proofs.Routines.{row_size, first_more, total, total_more}
+use Rattle.select.proofs.Routines.{row_size, total, total_more}
 
 -- the row of a Switch
 abbrev switched : (n behind table : ℕ) → List Step
@@ -270,11 +270,7 @@ routine_inside part saves all made = at_inside many (routine part saves all) (bo
         both_inside many (row f part saves (j + 1) n) (rows f part saves (j + 1) ns) (row_inside many f part saves (j + 1) n to table)
         (from (j + 1) ns (λ k. same (suc k) ∙ ap (slice_get all) (sym (shifted j k))))
 
--- ---- steps that are counted while rows are written
-
-pub counted : (f h : ℕ → ℕ) (saves : Registers) (all : List Instruction) (k p : ℕ) (n : Instruction) (old new : List Step) → slice_get all k ≡ Some n → new ≡ old ++ row f h saves p n → length old ≡ first_of saves all k
-    → length new ≡ first_of saves all (k + 1)
-counted f h saves all k p n old new e is before = ap length is ∙ length-append old (row f h saves p n) ∙ omega (arith, before, row_size f h saves p n, first_more saves all k n e)
+-- ---- where rows begin, as a list has it
 
 -- past the last row
 first_past : (saves : Registers) (all : List Instruction) (k : ℕ) → length all ≤ k → first_of saves all k ≡ first_of saves all (length all)

@@ -1,18 +1,18 @@
 //! From steps to the bytes of a part.
 
-ghost use Rattle.std.specs.Prelude.{◌≡◌, ◌<◌, ◌≤◌, ◌+◌, ◌%◌, ◌++◌, ◌∷◌, [], ℕ, OnOk, IfOk, IsOkUnless, length, map, slice_index};
+ghost use Rattle.std.specs.Prelude.{◌≡◌, ◌<◌, ◌≤◌, ◌+◌, ◌-◌, ◌%◌, ◌++◌, ◌∷◌, [], ℕ, OnOk, IfOk, IsOkUnless, length, map, slice_index, slice_index_or};
 ghost use Rattle.i86_code.specs.Forms.{word_bytes, Spells};
 ghost use Rattle.i86_code.specs.Writing.{bytes_of};
 ghost use Rattle.i86_code.specs.Open.{front_of, IsOpen};
 ghost use Rattle.select.specs.Sizes.{start, AreSettled};
 ghost use Rattle.select.specs.Parts.{target_of, extent_of, AreSpelt, IsPart, fixup};
-ghost use Rattle.select.specs.Inner.Assembly.{AreSteps, jump_bytes, branch_bytes, step_bytes, step_fixups, IsCoded};
+ghost use Rattle.select.specs.Inner.Assembly.{AreSteps, nothing, drafted_bytes, jump_bytes, branch_bytes, step_bytes, step_fixups, IsCoded};
 
+use crate::drafts::{Draft, coded, drafts_of};
 use crate::part::{Entry, Fixup, Kind, Part, Step};
 use crate::sizes::{Extent, settled};
-use arrayvec::ArrayVec;
-use i86_code::{encode, encode_open};
-use i86_table::{Condition, Instr, Open};
+use i86_code::encode_open;
+use i86_table::{Condition, Instr};
 use std::alloc::Global;
 use word86::Fault;
 
@@ -25,40 +25,6 @@ fn target_of(step: Step) -> usize
         | Step::Word { target }
         | Step::Goto { target }
         | Step::GotoIf { target, .. } => target,
-    }
-}
-
-// The bytes of an instruction.
-fn coded(instruction: Instr) -> ArrayVec<u8, 8>
-    ensures bytes { result.items ≡ bytes_of instruction }
-    ensures coded { Spells (bytes_of instruction) instruction }
-{
-    encode(&instruction)
-}
-
-fn size_of_instruction(instruction: Instr) -> u8
-    ensures { result ≡ length (bytes_of instruction) }
-{
-    coded(instruction).len() as u8
-}
-
-fn size_of_open(instruction: Open) -> u8
-    ensures { result ≡ length (front_of instruction) + 2 }
-{
-    encode_open(instruction, 0).len() as u8
-}
-
-fn extent_of(step: Step) -> Extent
-    ensures { result ≡ extent_of step }
-{
-    match step {
-        Step::Plain(instruction) => Extent::Fixed(size_of_instruction(instruction)),
-        Step::Refer { instruction, .. } | Step::AtStep { instruction, .. } => {
-            Extent::Fixed(size_of_open(instruction))
-        }
-        Step::Word { .. } => Extent::Fixed(2),
-        Step::Goto { target } => Extent::Jump { target, long: 3 },
-        Step::GotoIf { target, .. } => Extent::Jump { target, long: 5 },
     }
 }
 
@@ -99,18 +65,16 @@ fn write(code: &mut Vec<u8>, instruction: Instr) -> Result<(), Fault>
 fn write_open(
     code: &mut Vec<u8>,
     fixups: &mut Vec<Fixup>,
-    instruction: Open,
-    number: u16,
+    bytes: &[u8],
     kind: Kind,
     name: usize,
 ) -> Result<(), Fault>
-    ensures bytes { OnOk result (code.new.items ≡ code.old.items ++ (front_of instruction ++ word_bytes number)) }
-    ensures fixups { OnOk result (fixups.new.items ≡ fixups.old.items ++ (fixup (length code.old.items + length (front_of instruction)) kind name ∷ [])) }
-    ensures coded { OnOk result (IsOpen instruction) }
+    requires { 2 ≤ length bytes.now }
+    ensures bytes { OnOk result (code.new.items ≡ code.old.items ++ bytes.now) }
+    ensures fixups { OnOk result (fixups.new.items ≡ fixups.old.items ++ (fixup (length code.old.items + (length bytes.now - 2)) kind name ∷ [])) }
     ensures memory { IsOkUnless result Fault.Memory }
 {
-    let bytes = encode_open(instruction, number);
-    code.extend_from_slice(bytes.as_slice())?;
+    code.extend_from_slice(bytes)?;
     fixups.push(Fixup {
         place: code.len() - 2,
         kind,
@@ -171,26 +135,23 @@ fn write_step(
     fixups: &mut Vec<Fixup>,
     own: usize,
     step: Step,
+    draft: &[u8],
     size: u8,
     there: u16,
     to: u16,
 ) -> Result<(), Fault>
+    requires { draft.now ≡ drafted_bytes step }
     ensures bytes { OnOk result (code.new.items ≡ code.old.items ++ step_bytes size there to step) }
     ensures fixups { OnOk result (fixups.new.items ≡ fixups.old.items ++ step_fixups own (length code.old.items) step) }
-    ensures coded { OnOk result (IsCoded step) }
     ensures memory { IsOkUnless result Fault.Memory }
 {
     let far = to.wrapping_sub(there);
     match step {
-        Step::Plain(instruction) => write(code, instruction),
-        Step::Refer {
-            instruction,
-            number,
-            kind,
-            name,
-        } => write_open(code, fixups, instruction, number, kind, name),
+        Step::Plain(_) => Ok(code.extend_from_slice(draft)?),
+        Step::Refer { kind, name, .. } => write_open(code, fixups, draft, kind, name),
         Step::AtStep { instruction, .. } => {
-            write_open(code, fixups, instruction, to, Kind::Case, own)
+            let bytes = encode_open(instruction, to);
+            write_open(code, fixups, bytes.as_slice(), Kind::Case, own)
         }
         Step::Word { .. } => write_word(code, fixups, to, own),
         Step::Goto { .. } => write_jump(code, size, far),
@@ -204,9 +165,12 @@ fn write_steps(
     own: usize,
     entry: Entry,
     steps: &[Step],
+    drafts: &[Draft],
     sizes: &[u8],
     places: &[u16],
 ) -> Result<Part, Fault>
+    requires drafts { map (λ d. d.items) drafts.now ≡ map drafted_bytes steps.now }
+    requires coded { (k : ℕ) → k < length steps.now → IsCoded (slice_index_or steps.now k nothing) }
     requires sizes { AreSettled (map extent_of steps.now) sizes.now }
     requires steps { AreSteps steps.now }
     requires places { (k : ℕ) → k ≤ length sizes.now → slice_index places.now k ≡ start sizes.now k % 65536 }
@@ -219,7 +183,17 @@ fn write_steps(
     for (k, step) in steps.iter().enumerate() {
         let to = number_at(places, target_of(*step));
         let there = number_at(places, k + 1);
-        write_step(&mut code, &mut fixups, own, *step, sizes[k], there, to)?;
+        let draft = drafts[k].as_slice();
+        write_step(
+            &mut code,
+            &mut fixups,
+            own,
+            *step,
+            draft,
+            sizes[k],
+            there,
+            to,
+        )?;
     }
     Ok(Part {
         entry,
@@ -228,14 +202,30 @@ fn write_steps(
     })
 }
 
+// How many bytes a step has, which has this draft.
+fn extent_of(step: Step, draft: &Draft) -> Extent
+    requires { draft.now.items ≡ drafted_bytes step }
+    ensures { result ≡ extent_of step }
+{
+    match step {
+        Step::Plain(_) | Step::Refer { .. } | Step::AtStep { .. } => {
+            Extent::Fixed(draft.len() as u8)
+        }
+        Step::Word { .. } => Extent::Fixed(2),
+        Step::Goto { target } => Extent::Jump { target, long: 3 },
+        Step::GotoIf { target, .. } => Extent::Jump { target, long: 5 },
+    }
+}
+
 // How long each step is, and which of them are jumps.
-fn extents_of(alloc: Global, steps: &[Step]) -> Result<Vec<Extent>, Fault>
+fn extents_of(alloc: Global, steps: &[Step], drafts: &[Draft]) -> Result<Vec<Extent>, Fault>
+    requires { map (λ d. d.items) drafts.now ≡ map drafted_bytes steps.now }
     ensures extents { IfOk result (λ xs. xs.items ≡ map extent_of steps.now) }
     ensures memory { IsOkUnless result Fault.Memory }
 {
     let mut extents = Vec::with_capacity(alloc, steps.len())?;
-    for step in steps {
-        extents.push(extent_of(*step))?;
+    for (k, step) in steps.iter().enumerate() {
+        extents.push(extent_of(*step, &drafts[k]))?;
     }
     Ok(extents)
 }
@@ -253,8 +243,9 @@ pub(crate) fn assemble(
     ensures entry { IfOk result (λ p. p.entry ≡ entry) }
     ensures memory { IsOkUnless result Fault.Memory }
 {
-    let extents = extents_of(alloc, steps)?;
+    let drafts = drafts_of(alloc, steps)?;
+    let extents = extents_of(alloc, steps, drafts.as_slice())?;
     let sizes = settled(alloc, &extents)?;
     let places = places_of(alloc, &sizes)?;
-    write_steps(alloc, own, entry, steps, &sizes, &places)
+    write_steps(alloc, own, entry, steps, drafts.as_slice(), &sizes, &places)
 }

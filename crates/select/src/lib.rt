@@ -2,6 +2,8 @@
 #![tactic(auto)]
 
 mod assembly;
+mod counts;
+mod drafts;
 mod laws;
 mod operators;
 mod part;

@@ -290,7 +290,7 @@ fn right_by_constant(steps: &mut Vec<Step>, width: Width, count: u8) -> Result<(
 }
 
 /// The exponent of a small power of two.
-fn exponent(number: u16) -> Option<u8>
+pub(crate) fn exponent(number: u16) -> Option<u8>
     ensures { result ≡ exponent number }
 {
     match number {

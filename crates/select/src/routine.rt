@@ -5,6 +5,7 @@ ghost use Rattle.icode.specs.Made.{IsMade};
 ghost use Rattle.select.specs.Inner.Assembly.{AreSteps};
 ghost use Rattle.select.specs.Rows.{plain, saved, with_register, registers_of, first_of, routine};
 
+use crate::counts::{saved_count, steps_of};
 use crate::part::Step;
 use crate::put::{add, push};
 use crate::rows::row;
@@ -48,14 +49,17 @@ fn firsts_of(
     ensures each { IfOk result (λ firsts. (k : ℕ) → k ≤ length instructions.now → slice_index firsts.items k ≡ first_of saves instructions.now k) }
     ensures memory { IsOkUnless result Fault.Memory }
 {
-    let mut steps = Vec::new(alloc);
-    let mut firsts = Vec::new(alloc);
-    save(&mut steps, saves)?;
+    let mut firsts = Vec::with_capacity(alloc, instructions.len() + 1)?;
+    let mut first = saved_count(saves);
     for instruction in instructions {
-        firsts.push(steps.len())?;
-        row(&mut steps, &[], &[], saves, 0, *instruction)?;
+        firsts.push(first)?;
+        // A row has few steps, and an instruction takes several bytes: so the sum is far below 2^64, and this `Memory` never comes.
+        let Some(next) = first.checked_add(steps_of(saves, *instruction)) else {
+            return Err(Fault::Memory);
+        };
+        first = next;
     }
-    firsts.push(steps.len())?;
+    firsts.push(first)?;
     Ok(firsts)
 }
 
@@ -72,7 +76,7 @@ pub(crate) fn routine_steps(
     ensures memory { IsOkUnless result Fault.Memory }
 {
     let firsts = firsts_of(alloc, saves, instructions)?;
-    let mut steps = Vec::new(alloc);
+    let mut steps = Vec::with_capacity(alloc, firsts.last().copied().unwrap_or(0))?;
     save(&mut steps, saves)?;
     for (k, instruction) in instructions.iter().enumerate() {
         row(&mut steps, &firsts, parts, saves, k + 1, *instruction)?;

@@ -1,5 +1,5 @@
 -- What the expander's values stand for.
-use Rattle.std.specs.Prelude.{ℕ, List, map, reverse, cond, Option, Some, None, Result, Ok, Err}
+use Rattle.std.specs.Prelude.{ℕ, ◌≡◌, ◌≤◌, List, [], ◌∷◌, map, length, reverse, Bool, true, false, cond, Option, Some, None, Result, Ok, Err}
 use Rattle.std.specs.Option.{option_map}
 use Rattle.word86.specs.declared.number.Number.{Number}
 use Rattle.plm_token.specs.declared.token.Kind.{Kind}
@@ -12,7 +12,7 @@ use Rattle.plm_syntax.specs.declared.literals.Expander.{Expander}
 use Rattle.plm_syntax.specs.declared.literals.Source.{Source}
 use Rattle.plm_syntax.specs.declared.literals.Text.{Text}
 use Rattle.plm_syntax.specs.declared.literals.Text.TheVariants.{Absent, Tokens, Faulty}
-use Rattle.plm_syntax.specs.Literals.{Blocks, Out, is_string, between, declare, declared_name, put, literal_for, by_literal, or_else, text_out}
+use Rattle.plm_syntax.specs.Literals.{Blocks, Out, declares, is_keyword, is_string, between, declare, declared_name, put, literal_for, by_literal, or_else, text_out}
 pub use Rattle.plm_syntax.specs.Inner.Scope.{symbol, named_symbol, literal_text}
 
 abbrev pub blocks_in : Scope → Blocks
@@ -60,3 +60,14 @@ put_with_text t text o = declare_text (declared_name t.kind o.last o.before) tex
 
 abbrev pub out_with_text : Lexeme × Option (Result (List Symbol) Number) → Out → Out
 out_with_text p o = or_else o.stop o (by_literal (λ l. text_out 7 p.0.line l.text o) (literal_for o.blocks.literals p.0.kind p.0.text) (put_with_text p.0 p.1 o))
+
+-- ---- tokens that stand as they are
+
+abbrev pub declare_none : List Lexeme → Bool
+declare_none [] = true
+declare_none (t ∷ ts) = cond (is_keyword declares t.kind) false (declare_none ts)
+
+-- none of them declares a literal, and a module may have so many
+pub record ArePlain (ts : List Lexeme) : Type 0 where
+  pub none : declare_none ts ≡ true
+  pub few : length ts ≤ 65535

@@ -62,3 +62,12 @@ IsCoded (AtStep x t) = IsOpen x
 IsCoded (Word t) = Unit {0}
 IsCoded (Goto t) = Unit {0}
 IsCoded (GotoIf c t) = Unit {0}
+
+-- the bytes of a step that are known before any step has its place
+abbrev pub drafted_bytes : Step → List ℕ
+drafted_bytes (Plain n) = bytes_of n
+drafted_bytes (Refer x n kind name) = front_of x ++ word_bytes n
+drafted_bytes (AtStep x t) = front_of x ++ word_bytes 0
+drafted_bytes (Word t) = []
+drafted_bytes (Goto t) = []
+drafted_bytes (GotoIf c t) = []

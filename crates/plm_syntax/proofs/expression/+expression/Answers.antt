@@ -12,15 +12,15 @@ use Rattle.plm_syntax.specs.declared.tree.Reference.{Reference}
 use Rattle.plm_syntax.specs.declared.tree.Value.{Value as ValueTree}
 use Rattle.plm_syntax.specs.Tree.{NumeralE, TextE, ReferenceE, LocationE, ParenthesisedE, EmbeddedE, UnaryE, BinaryE, ReferenceOf, ExpressionsT, no_expressions, expressions, no_member, member, member_at, LocationOf, ConstantsOf, NumeralV, NegativeV, TextV, LocationV, ValuesT, no_values, values}
 use Rattle.plm_syntax.specs.View.{name_of, number_of, text_of, expression_of, leaned, expressions_of, reference_of, location_of, value_of, values_of}
-use Rattle.plm_syntax.specs.Inner.Symbol.{Symbol, depth, need, push, ExpressionR, ExpressionsR, ValueR, ValuesR, Want, Do, Leave, PrimaryG, SignedG, NegationG, MoreG, InsideG, AfterReferenceG, SubscriptsG, MoreSubscriptsG, SelectorG, MemberG, MemberSubscriptG, LocatedG, ValueG, NegativeG, MoreValuesG}
+use Rattle.plm_syntax.specs.Inner.Symbol.{Symbol, depth, need, push, ExpressionR, ExpressionsR, ValueR, ValuesR, Conjunctions, Disjunctions, Want, Do, Leave, PrimaryG, SignedG, NegationG, MoreG, InsideG, AfterReferenceG, SubscriptsG, MoreSubscriptsG, SelectorG, MemberG, MemberSubscriptG, LocatedG, ValueG, NegativeG, MoreValuesG}
 use Rattle.plm_syntax.specs.Inner.Machine.{again, an_expression, a_value_list, reference_begun, closing, make_binary, make_unary, make_parenthesised, make_embedded, add_expression, set_subscripts, set_member, set_member_subscript, locate, locate_values, location_value, add_value, Stop, Reading, run}
 use Rattle.plm_syntax.specs.Inner.Parsed.{ahead, next_of}
 use Rattle.plm_syntax.specs.Inner.Parts.{precedence_view, read_expression, read_boxed, read_operations, read_reference, read_subscripts, read_selector, read_location, read_value, read_values, reference_read, all_precedences}
 use Rattle.plm_syntax.proofs.Rows.{expression_pushed, operation_pushed, value_pushed}
 use Rattle.plm_syntax.proofs.Seen.{seen, reference_laid, embedded_laid, constants_laid, location_laid, chain_laid}
-use Rattle.plm_syntax.proofs.Along.{out_of_memory, quiet, taken, refused, entered, too_deep, deeper, failed, refusal, depth_failure, arrives_behind, arrives_left, operator_taken}
+use Rattle.plm_syntax.proofs.Along.{out_of_memory, passed_over, quiet, taken, refused, entered, too_deep, deeper, failed, refusal, depth_failure, arrives_behind, arrives_left, operator_taken}
 use Rattle.plm_syntax.proofs.Joined.{arrived, ended, lost, stays_within, closes, closes_by, closes_within, boxes, operated}
-use Rattle.plm_syntax.proofs.NextExpression.{negation_goes, inside_goes, reference_goes, signed_goes, primary_refused, value_refused, negative_refused, member_refused, located_refused, more_subscripts_refused, more_values_refused, located_value, again_relations, again_others, depth_again}
+use Rattle.plm_syntax.proofs.NextExpression.{negation_goes, inside_goes, reference_goes, signed_goes, primary_refused, value_refused, negative_refused, member_refused, located_refused, more_subscripts_refused, more_values_refused, located_value, again_relations, again_others, depth_again, all_over}
 use Rattle.plm_syntax.proofs.expression.+expression.Goals as goal
 
 pub behind_reference-returns-in_err-target-clause-leads : goal.behind_reference-returns-in_err-target-clause-leads
@@ -176,7 +176,7 @@ parenthesised-returns-clause-leads t c = λ s v d. inside_goes c.args.place c.ar
 
 pub closed-returns-clause-leads : goal.closed-returns-clause-leads
 closed-returns-clause-leads t c = λ s v d. let o : Result Reading Stop = run 64 (an_expression (need mark.RightParenthesis ∷ s)) v (ahead c.args.cursor) in boxes read_expression s v c.closing.result c.boxed.result o c.boxed.ensures
-    (closes read_expression mark.RightParenthesis s v c.binary-inside.result c.closing.result o c.closing.ensures (c.binary-inside.ensures.leads (need mark.RightParenthesis ∷ s) v d))
+    (closes read_expression mark.RightParenthesis s v c.whole-inside.result c.closing.result o c.closing.ensures (c.whole-inside.ensures.leads (need mark.RightParenthesis ∷ s) v d))
 
 pub primary-returns-in_err-reference-clause-leads : goal.primary-returns-in_err-reference-clause-leads
 primary-returns-in_err-reference-clause-leads t c = λ s v d. failed read_expression s v c.from_residual.result c.in_err-reference.field-0.0 c.from_residual.ensures.1
@@ -288,37 +288,37 @@ subscripts-returns-in_err-rest-clause-leads t c = λ n s v d. failed (λ es. rea
     (taken (Want SubscriptsG ∷ s) (reference_read n v) c.in-Some.ensures
     ∙ entered (depth s) c.args.room c.in_ok-inside.inside (length (ahead c.in-Some.inner)) (run 64 (push (ExpressionsR no_expressions) ∷ an_expression (Do add_expression ∷ Want MoreSubscriptsG ∷ Leave ∷ Do set_subscripts ∷ s)) (reference_read n v) (ahead c.in-Some.inner)) d c.in_ok-inside.ensures
     ∙ quiet c.in-Some.inner (push (ExpressionsR no_expressions) ∷ an_expression (Do add_expression ∷ Want MoreSubscriptsG ∷ Leave ∷ Do set_subscripts ∷ s)) (an_expression (Do add_expression ∷ Want MoreSubscriptsG ∷ Leave ∷ Do set_subscripts ∷ s)) (reference_read n v) (ExpressionsR no_expressions ∷ reference_read n v) (λ t q. refl))
-    (lost read_expression (Do add_expression ∷ Want MoreSubscriptsG ∷ Leave ∷ Do set_subscripts ∷ s) (ExpressionsR no_expressions ∷ reference_read n v) c.binary.result c.in_err-rest.field-0.0 (run 64 (an_expression (Do add_expression ∷ Want MoreSubscriptsG ∷ Leave ∷ Do set_subscripts ∷ s)) (ExpressionsR no_expressions ∷ reference_read n v) (ahead c.in-Some.inner)) c.in_err-rest.ensures (c.binary.ensures.leads (Do add_expression ∷ Want MoreSubscriptsG ∷ Leave ∷ Do set_subscripts ∷ s) (ExpressionsR no_expressions ∷ reference_read n v) (deeper (depth s) c.args.room c.in_ok-inside.inside d c.in_ok-inside.ensures)))
+    (lost read_expression (Do add_expression ∷ Want MoreSubscriptsG ∷ Leave ∷ Do set_subscripts ∷ s) (ExpressionsR no_expressions ∷ reference_read n v) c.whole.result c.in_err-rest.field-0.0 (run 64 (an_expression (Do add_expression ∷ Want MoreSubscriptsG ∷ Leave ∷ Do set_subscripts ∷ s)) (ExpressionsR no_expressions ∷ reference_read n v) (ahead c.in-Some.inner)) c.in_err-rest.ensures (c.whole.ensures.leads (Do add_expression ∷ Want MoreSubscriptsG ∷ Leave ∷ Do set_subscripts ∷ s) (ExpressionsR no_expressions ∷ reference_read n v) (deeper (depth s) c.args.room c.in_ok-inside.inside d c.in_ok-inside.ensures)))
 
 pub subscripts-loop-after-init : goal.subscripts-loop-after-init
 subscripts-loop-after-init t c = record {
   leads = λ n s v d. taken (Want SubscriptsG ∷ s) (reference_read n v) c.in-Some.ensures
       ∙ entered (depth s) c.args.room c.in_ok-inside.inside (length (ahead c.in-Some.inner)) (run 64 (push (ExpressionsR no_expressions) ∷ an_expression (Do add_expression ∷ Want MoreSubscriptsG ∷ Leave ∷ Do set_subscripts ∷ s)) (reference_read n v) (ahead c.in-Some.inner)) d c.in_ok-inside.ensures
       ∙ quiet c.in-Some.inner (push (ExpressionsR no_expressions) ∷ an_expression (Do add_expression ∷ Want MoreSubscriptsG ∷ Leave ∷ Do set_subscripts ∷ s)) (an_expression (Do add_expression ∷ Want MoreSubscriptsG ∷ Leave ∷ Do set_subscripts ∷ s)) (reference_read n v) (ExpressionsR no_expressions ∷ reference_read n v) (λ t q. refl)
-      ∙ arrived read_expression (Do add_expression ∷ Want MoreSubscriptsG ∷ Leave ∷ Do set_subscripts ∷ s) (ExpressionsR no_expressions ∷ reference_read n v) c.in_ok-rest.ensures.1.0 (c.binary.ensures.leads (Do add_expression ∷ Want MoreSubscriptsG ∷ Leave ∷ Do set_subscripts ∷ s) (ExpressionsR no_expressions ∷ reference_read n v) (deeper (depth s) c.args.room c.in_ok-inside.inside d c.in_ok-inside.ensures))
+      ∙ arrived read_expression (Do add_expression ∷ Want MoreSubscriptsG ∷ Leave ∷ Do set_subscripts ∷ s) (ExpressionsR no_expressions ∷ reference_read n v) c.in_ok-rest.ensures.1.0 (c.whole.ensures.leads (Do add_expression ∷ Want MoreSubscriptsG ∷ Leave ∷ Do set_subscripts ∷ s) (ExpressionsR no_expressions ∷ reference_read n v) (deeper (depth s) c.args.room c.in_ok-inside.inside d c.in_ok-inside.ensures))
       ∙ quiet c.in_ok-rest.rest (Do add_expression ∷ Want MoreSubscriptsG ∷ Leave ∷ Do set_subscripts ∷ s) (Want MoreSubscriptsG ∷ Leave ∷ Do set_subscripts ∷ s) (read_expression c.in_ok-rest.ensures.0 (ExpressionsR no_expressions ∷ reference_read n v)) (ExpressionsR (expressions no_expressions (expression_of c.in_ok-rest.ensures.0)) ∷ (reference_read n v)) (λ t q. refl)
       ∙ ap (λ (es : List Expression). run 64 (Want MoreSubscriptsG ∷ Leave ∷ Do set_subscripts ∷ s) (ExpressionsR (expressions_of es) ∷ (reference_read n v)) (ahead c.in_ok-rest.rest)) (sym (c.in_ok-rest.ensures.1.1 ∙ ap (λ (es : List Expression). es ++ c.in_ok-rest.ensures.0 ∷ []) c.new-list.ensures.items));
   inside = c.in_ok-inside.ensures;
-  shorter = omega (arith, c.in-Some.ensures.shorter, stays_within c.in-Some.inner c.in_ok-rest.ensures.1.0 c.binary.ensures.within);
+  shorter = omega (arith, c.in-Some.ensures.shorter, stays_within c.in-Some.inner c.in_ok-rest.ensures.1.0 c.whole.ensures.within);
 }
 
 pub subscripts-loop-after-preserved : goal.subscripts-loop-after-preserved
 subscripts-loop-after-preserved t c = record {
   leads = λ n s v d. c.loop-after.invariant.leads n s v d
       ∙ taken (Want MoreSubscriptsG ∷ Leave ∷ Do set_subscripts ∷ s) (ExpressionsR (expressions_of c.loop-after.list.items) ∷ reference_read n v) c.in-Some-mark.ensures
-      ∙ arrived read_expression (Do add_expression ∷ Want MoreSubscriptsG ∷ Leave ∷ Do set_subscripts ∷ s) (ExpressionsR (expressions_of c.loop-after.list.items) ∷ reference_read n v) c.in_ok-rest-2.ensures.1.0 (c.binary-in-Some-mark.ensures.leads (Do add_expression ∷ Want MoreSubscriptsG ∷ Leave ∷ Do set_subscripts ∷ s) (ExpressionsR (expressions_of c.loop-after.list.items) ∷ reference_read n v) (deeper (depth s) c.args.room c.in_ok-inside.inside d c.in_ok-inside.ensures))
+      ∙ arrived read_expression (Do add_expression ∷ Want MoreSubscriptsG ∷ Leave ∷ Do set_subscripts ∷ s) (ExpressionsR (expressions_of c.loop-after.list.items) ∷ reference_read n v) c.in_ok-rest-2.ensures.1.0 (c.whole-in-Some-mark.ensures.leads (Do add_expression ∷ Want MoreSubscriptsG ∷ Leave ∷ Do set_subscripts ∷ s) (ExpressionsR (expressions_of c.loop-after.list.items) ∷ reference_read n v) (deeper (depth s) c.args.room c.in_ok-inside.inside d c.in_ok-inside.ensures))
       ∙ quiet c.in_ok-rest-2.rest (Do add_expression ∷ Want MoreSubscriptsG ∷ Leave ∷ Do set_subscripts ∷ s) (Want MoreSubscriptsG ∷ Leave ∷ Do set_subscripts ∷ s) (read_expression c.in_ok-rest-2.ensures.0 (ExpressionsR (expressions_of c.loop-after.list.items) ∷ reference_read n v)) (ExpressionsR (expressions (expressions_of c.loop-after.list.items) (expression_of c.in_ok-rest-2.ensures.0)) ∷ (reference_read n v)) (λ t q. refl)
       ∙ ap (λ (es : ExpressionsT). run 64 (Want MoreSubscriptsG ∷ Leave ∷ Do set_subscripts ∷ s) (ExpressionsR es ∷ (reference_read n v)) (ahead c.in_ok-rest-2.rest)) (sym (expression_pushed c.loop-after.list.items c.in_ok-rest-2.ensures.0 no_expressions))
       ∙ ap (λ (es : List Expression). run 64 (Want MoreSubscriptsG ∷ Leave ∷ Do set_subscripts ∷ s) (ExpressionsR (expressions_of es) ∷ (reference_read n v)) (ahead c.in_ok-rest-2.rest)) (sym c.in_ok-rest-2.ensures.1.1);
   inside = c.loop-after.invariant.inside;
-  shorter = omega (arith, c.loop-after.invariant.shorter, c.in-Some-mark.ensures.shorter, stays_within c.in-Some-mark.after c.in_ok-rest-2.ensures.1.0 c.binary-in-Some-mark.ensures.within);
+  shorter = omega (arith, c.loop-after.invariant.shorter, c.in-Some-mark.ensures.shorter, stays_within c.in-Some-mark.after c.in_ok-rest-2.ensures.1.0 c.whole-in-Some-mark.ensures.within);
 }
 
 pub subscripts-returns-in_err-rest-2-clause-leads : goal.subscripts-returns-in_err-rest-2-clause-leads
 subscripts-returns-in_err-rest-2-clause-leads t c = λ n s v d. failed (λ es. read_subscripts n es.items) s v c.from_residual-in_err-rest-2.result c.in_err-rest-2.field-0.0 c.from_residual-in_err-rest-2.ensures.1
     (c.loop-after.invariant.leads n s v d
     ∙ taken (Want MoreSubscriptsG ∷ Leave ∷ Do set_subscripts ∷ s) (ExpressionsR (expressions_of c.loop-after.list.items) ∷ reference_read n v) c.in-Some-mark.ensures)
-    (lost read_expression (Do add_expression ∷ Want MoreSubscriptsG ∷ Leave ∷ Do set_subscripts ∷ s) (ExpressionsR (expressions_of c.loop-after.list.items) ∷ reference_read n v) c.binary-in-Some-mark.result c.in_err-rest-2.field-0.0 (run 64 (an_expression (Do add_expression ∷ Want MoreSubscriptsG ∷ Leave ∷ Do set_subscripts ∷ s)) (ExpressionsR (expressions_of c.loop-after.list.items) ∷ reference_read n v) (ahead c.in-Some-mark.after)) c.in_err-rest-2.ensures (c.binary-in-Some-mark.ensures.leads (Do add_expression ∷ Want MoreSubscriptsG ∷ Leave ∷ Do set_subscripts ∷ s) (ExpressionsR (expressions_of c.loop-after.list.items) ∷ reference_read n v) (deeper (depth s) c.args.room c.in_ok-inside.inside d c.in_ok-inside.ensures)))
+    (lost read_expression (Do add_expression ∷ Want MoreSubscriptsG ∷ Leave ∷ Do set_subscripts ∷ s) (ExpressionsR (expressions_of c.loop-after.list.items) ∷ reference_read n v) c.whole-in-Some-mark.result c.in_err-rest-2.field-0.0 (run 64 (an_expression (Do add_expression ∷ Want MoreSubscriptsG ∷ Leave ∷ Do set_subscripts ∷ s)) (ExpressionsR (expressions_of c.loop-after.list.items) ∷ reference_read n v) (ahead c.in-Some-mark.after)) c.in_err-rest-2.ensures (c.whole-in-Some-mark.ensures.leads (Do add_expression ∷ Want MoreSubscriptsG ∷ Leave ∷ Do set_subscripts ∷ s) (ExpressionsR (expressions_of c.loop-after.list.items) ∷ reference_read n v) (deeper (depth s) c.args.room c.in_ok-inside.inside d c.in_ok-inside.ensures)))
 
 pub subscripts-returns-clause-leads : goal.subscripts-returns-clause-leads
 subscripts-returns-clause-leads t c = λ n s v d. closes_by (λ es. read_subscripts n es.items) mark.RightParenthesis s v c.loop-after.list c.loop-after.rest c.close.result c.close.ensures
@@ -404,3 +404,19 @@ pub more-returns-then-is_empty-clause-leads : goal.more-returns-then-is_empty-cl
 more-returns-then-is_empty-clause-leads t c = λ s v d. let e : c.in_ok-left.others.items ≡ [] = grind (arith, common_steps, c.is_empty.ensures) in arrived (λ (os : Vec Operation). read_operations (expression_of c.args.first) os.items) s v c.in_ok-left.ensures.1 (c.operations.ensures.leads (expression_of c.args.first) s v d)
     ∙ ap (λ (os : List Operation). run 64 s (read_operations (expression_of c.args.first) os v) (ahead c.in_ok-left.rest)) e
     ∙ seen s v c.in_ok-left.rest (ap expression_of (sym c.in_ok-left.ensures.0))
+
+pub more-returns-in_default-clause-leads : goal.more-returns-in_default-clause-leads
+more-returns-in_default-clause-leads t c = λ s v d. passed_over (MoreG (precedence_view c.args.precedence)) c.args.cursor s (read_expression c.args.first v) c.in_default.ensures
+
+pub whole-returns-in_err-first-clause-leads : goal.whole-returns-in_err-first-clause-leads
+whole-returns-in_err-first-clause-leads t c = λ s v d. failed read_expression s v c.from_residual.result c.in_err-first.field-0.0 c.from_residual.ensures.1
+    (negation_goes c.args.cursor (Want (MoreG Conjunctions) ∷ Want (MoreG Disjunctions) ∷ s) v c.in_default.ensures)
+    (c.in_err-first.ensures.leads (all_precedences s) v d)
+
+pub whole-returns-clause-leads : goal.whole-returns-clause-leads
+whole-returns-clause-leads t c = λ s v d. arrives_behind read_expression s v c.climb.result
+    (negation_goes c.args.cursor (Want (MoreG Conjunctions) ∷ Want (MoreG Disjunctions) ∷ s) v c.in_default.ensures ∙ c.in_ok-first.ensures.leads (all_precedences s) v d)
+    (c.climb.ensures.leads s v d)
+
+pub climb-returns-then-not-is_at_operator-clause-leads : goal.climb-returns-then-not-is_at_operator-clause-leads
+climb-returns-then-not-is_at_operator-clause-leads t c = λ s v d. all_over c.args.cursor s (read_expression c.args.first v) (sym c.is_at_operator.ensures ∙ c.if-not-is_at_operator.true)

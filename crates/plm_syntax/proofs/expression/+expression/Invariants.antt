@@ -58,14 +58,17 @@ decreases-operand l = 16 * length l.cursor.tokens.now + rank (precedence_view l.
 abbrev pub decreases-binary : goal.decreases-binary
 decreases-binary l = 16 * length l.cursor.tokens.now + (rank (precedence_view l.precedence) + 1)
 
+abbrev pub decreases-whole : goal.decreases-whole
+decreases-whole l = 16 * length l.cursor.tokens.now + 13
+
 abbrev pub decreases-negation : goal.decreases-negation
 decreases-negation l = 16 * length l.cursor.tokens.now + 8
 
 abbrev pub decreases-parenthesised : goal.decreases-parenthesised
-decreases-parenthesised l = 16 * length l.cursor.tokens.now + 14
+decreases-parenthesised l = 16 * length l.cursor.tokens.now + 15
 
 abbrev pub decreases-closed : goal.decreases-closed
-decreases-closed l = 16 * length l.cursor.tokens.now + 13
+decreases-closed l = 16 * length l.cursor.tokens.now + 14
 
 abbrev pub invariant-operations-loop-place : goal.invariant-operations-loop-place
 invariant-operations-loop-place l = record {

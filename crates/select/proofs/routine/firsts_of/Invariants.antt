@@ -6,5 +6,5 @@ abbrev pub invariant-loop-instruction : goal.invariant-loop-instruction
 invariant-loop-instruction l = record {
   many : length l.firsts.items ≡ l.instruction-index;
   before : (k : ℕ) → k < l.instruction-index → get_or l.firsts.items k 0 ≡ first_of l.saves l.instructions k;
-  here : length l.steps.items ≡ first_of l.saves l.instructions l.instruction-index;
+  here : l.first ≡ first_of l.saves l.instructions l.instruction-index;
 }

@@ -15,7 +15,7 @@ loop-k-preserved c =
     let f = step_at c.in_ok-firsts.firsts.items in
     let whole = plain (saved (registers_of c.args.saves)) ++ rows f (slice_index c.args.parts.now) c.args.saves 0 all in
     row_written f (slice_index c.args.parts.now) c.args.saves all k (get_or all k (Constant 0)) c.loop-k.steps.items c.row.new.steps.items whole (drop_more all k (Constant 0) c.loop-k-test.true)
-    (c.in_ok-row.ensures.steps ∙ ap (λ l. c.loop-k.steps.items ++ row (step_at l) (slice_index c.args.parts.now) c.args.saves (k + 1) (get_or all k (Constant 0))) c.deref.ensures.value) c.loop-k.invariant
+    (c.in_ok-row.ensures.steps ∙ ap (λ l. c.loop-k.steps.items ++ row (step_at l) (slice_index c.args.parts.now) c.args.saves (k + 1) (get_or all k (Constant 0))) c.deref-in-loop-k.ensures.value) c.loop-k.invariant
 
 pub returns-clause-steps : goal.returns-clause-steps
 returns-clause-steps c =
