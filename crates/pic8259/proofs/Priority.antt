@@ -3,7 +3,6 @@ use Rattle.std.proofs.lemmas.Bool.{or_left, lt-ltb, ltb-true, false_from_ne_true
 use Rattle.std.proofs.Common.{◌≡◌, ℕ, zero, suc, ◌+◌, ◌-◌, ◌<◌, ◌≤◌, ◌⊎◌, inl, inr, Bool, true, false, not, ◌&&◌, ◌||◌, refl, sym, ap, ◌∙◌, subst, arith, mod-lt, Option, Some, None, find, map, nat_lt, List, IfSome}
 use Rattle.std.specs.Prelude.{if◌then◌else◌, is_some, unwrap_or}
 use Rattle.std.specs.List.{list_all, range_with_len}
-use Rattle.std.proofs.lemmas.Bool.Decides.{nat_tests}
 use Rattle.pic8259.specs.Levels.{has, level_at, rank, highest}
 use Rattle.pic8259.specs.Priority.{IsHighest, MayInterrupt, IsNext}
 use Rattle.pic8259.specs.Controller.{Controller, is_above, is_wanted, pending, int_line, vector, taken, acknowledged}

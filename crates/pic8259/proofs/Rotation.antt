@@ -1,11 +1,11 @@
 -- What a command does to the order of priority.
-use Rattle.std.proofs.Common.{◌≡◌, ℕ, ◌+◌, ◌/◌, ◌%◌, ◌<◌, Bool, true, false, refl, sym, ap, ◌∙◌, subst, arith, mod-lt, Option, Some, None, List, [], ◌∷◌, nat_lt}
-use Rattle.std.specs.Prelude.{◌==◌, if◌then◌else◌, is_some, ◌&&◌, not}
+use Rattle.std.proofs.Common.{◌≡◌, ℕ, ◌+◌, ◌/◌, ◌%◌, ◌<◌, Bool, true, false, refl, ap, subst, arith, mod-lt, Option, Some, None, List, [], ◌∷◌, nat_lt}
+use Rattle.std.specs.Prelude.{◌==◌, if◌then◌else◌, ◌&&◌, not}
 use Rattle.word86.specs.Bytes.{is_set}
 use Rattle.pic8259.specs.declared.calls.Call.{Call}
 use Rattle.pic8259.specs.declared.calls.Call.TheVariants.{Write, Read, Pulse, Line, Acknowledge}
-use Rattle.pic8259.specs.Levels.{has, without_level, rank, highest}
-use Rattle.pic8259.specs.Controller.{Controller, reset, pulsed, pending, int_line, taken, acknowledged, initialised, selected, retired, placed_last, first_in_service, ended, commanded, configured, written}
+use Rattle.pic8259.specs.Levels.{has, without_level, rank}
+use Rattle.pic8259.specs.Controller.{Controller, reset, pending, int_line, taken, acknowledged, initialised, selected, retired, placed_last, first_in_service, ended, commanded, configured, written}
 use Rattle.pic8259.specs.Calls.{after, after_one}
 use Rattle.pic8259.proofs.Priority.{highest_level}
 

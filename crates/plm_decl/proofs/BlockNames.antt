@@ -6,13 +6,14 @@ use Rattle.plm_token.specs.Names.{normal}
 use Rattle.plm_syntax.specs.Terminal.{NameT}
 use Rattle.plm_syntax.specs.Tree.{VariableT, VariableOf, ElementT, LiteralElement, VariableElement, AttributesT, DimensionT, TypeT, ItemT, DeclareI, ProcedureI, ItemsT, no_items, items}
 use Rattle.plm_decl.specs.declared.names.Item.{Item}
-use Rattle.plm_decl.specs.declared.elements.Site.{Site}
-use Rattle.plm_decl.specs.declared.elements.Traits.{Traits}
+use Rattle.plm_decl.specs.declared.sites.Site.{Site}
+use Rattle.plm_decl.specs.declared.attributes.Traits.{Traits}
 use Rattle.plm_decl.specs.Scope.{Entries, Frame, found_in, found_here, meant, with_entry, with_name, is_fresh}
 use Rattle.plm_decl.specs.Resolver.{Known}
 use Rattle.plm_decl.specs.Lists.{element_list}
 use Rattle.plm_decl.specs.Shape.{size_of_shape}
-use Rattle.plm_decl.specs.Elements.{site_after, declared_variable, declared_variables, declared_list}
+use Rattle.plm_decl.specs.Sites.{site_after}
+use Rattle.plm_decl.specs.Elements.{declared_variable, declared_variables, declared_list}
 use Rattle.plm_decl.specs.Fill.{declared_names, element}
 use Rattle.plm_decl.specs.Statements.{with_elements, with_items, with_item}
 use Rattle.plm_decl.specs.BlockNames.{name_of_variable, names_of_variables, names_of_element, names_of_elements, names_of_item, names_of_items, has_name}

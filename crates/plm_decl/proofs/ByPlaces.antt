@@ -5,8 +5,8 @@ use Rattle.plm_syntax.specs.declared.tree.Position.{Position}
 use Rattle.plm_syntax.specs.Terminal.{NameT}
 use Rattle.plm_syntax.specs.Tree.{VariableT, DimensionT, TypeT, AttributesT, ElementT, LiteralElement, VariableElement, BasicT, EmptyS, AssignS, CallS, ReturnS, ReturnValueS, EnableS, DisableS, HaltS, IfS, IfElseS, DoS, WhileS, CaseS, IterateS, StatementT, Labelled, StatementsT, BlockT, BlockOf, ItemsT, no_items, items, ItemT, DeclareI, ProcedureI, ModuleT, ModuleOf}
 use Rattle.plm_syntax.specs.Tree as tree
-use Rattle.plm_decl.specs.declared.elements.Site.{Site}
-use Rattle.plm_decl.specs.declared.elements.Traits.{Traits}
+use Rattle.plm_decl.specs.declared.sites.Site.{Site}
+use Rattle.plm_decl.specs.declared.attributes.Traits.{Traits}
 use Rattle.plm_decl.specs.Spelling.{name_after}
 use Rattle.plm_decl.specs.Scope.{Frame, frame, path_in, is_external}
 use Rattle.plm_decl.specs.Resolver.{Known, nothing_known}
@@ -15,10 +15,13 @@ use Rattle.plm_decl.specs.Uses.{used}
 use Rattle.plm_decl.specs.Resolved.{StatementR, IfR, IfElseR, DoR, WhileR, CaseR, IterateR, StatementsR, and_statement}
 use Rattle.plm_decl.specs.Expressions.{expression}
 use Rattle.plm_decl.specs.Shape.{shape_for, size_of_shape}
-use Rattle.plm_decl.specs.Elements.{first_site, element_values, declared_list, place_of_variable, declared_variable, declared_variables, site_after}
-use Rattle.plm_decl.specs.Fill.{traits_for, filled_element, declared_at, declared_names, element}
+use Rattle.plm_decl.specs.Sites.{first_site, site_after}
+use Rattle.plm_decl.specs.Attributes.{element_values, traits_for}
+use Rattle.plm_decl.specs.Elements.{declared_list, place_of_variable, declared_variable, declared_variables}
+use Rattle.plm_decl.specs.Fill.{filled_element, declared_at, declared_names, element}
 use Rattle.plm_decl.specs.Stray.{is_external_linkage}
-use Rattle.plm_decl.specs.Statements.{step_for, last_name, block_path, with_elements, linkage_of, header, declared_procedure, parameters_from, completed, statement, basic, statements as read_statements, block, with_items, with_item}
+use Rattle.plm_decl.specs.Statements.{step_for, last_name, block_path, with_elements, statement, basic, statements as read_statements, block, with_items, with_item}
+use Rattle.plm_decl.specs.Procedures.{linkage_of, header, declared_procedure, parameters_from, completed}
 use Rattle.plm_decl.specs.Joins.{has_statements, with_main, at_module, with_module, modules_from, known_from}
 use Rattle.plm_decl.specs.Laws.{Before, scope_at}
 use Rattle.plm_decl.specs.ByPlaces.{opened, within, after_items, after_item, variables_in, names_at, names_in, element_in, elements_in, statement_in, basic_in, statements_in, block_in, items_in, item_in, module_in, modules_in, known_by_places}

@@ -11,7 +11,7 @@ use Rattle.plm_decl.specs.Scope.{Frame}
 use Rattle.plm_decl.specs.Resolver.{Known}
 use Rattle.plm_decl.specs.Expressions.{expression}
 use Rattle.plm_decl.specs.Inner.Expressions.{chained}
-use Rattle.plm_decl.specs.Elements.{number_in}
+use Rattle.plm_decl.specs.Sites.{number_in}
 use Rattle.plm_decl.specs.Resolved.{ExpressionR, BinaryR}
 use Rattle.plm_decl.specs.ResolvedView as view
 use Rattle.plm_decl.specs.declared.resolved.Operation as resolved

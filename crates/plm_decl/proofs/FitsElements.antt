@@ -21,9 +21,9 @@ use Rattle.plm_decl.specs.declared.names.Item.TheVariants as item
 use Rattle.plm_decl.specs.declared.resolved.Binding.{Binding}
 use Rattle.plm_decl.specs.declared.resolved.Binding.TheVariants as binding
 use Rattle.plm_decl.specs.declared.fill.Cursor.{Cursor}
-use Rattle.plm_decl.specs.declared.elements.Site.{Site}
-use Rattle.plm_decl.specs.declared.elements.Site.TheVariants as site
-use Rattle.plm_decl.specs.declared.elements.Traits.{Traits}
+use Rattle.plm_decl.specs.declared.sites.Site.{Site}
+use Rattle.plm_decl.specs.declared.sites.Site.TheVariants as site
+use Rattle.plm_decl.specs.declared.attributes.Traits.{Traits}
 use Rattle.plm_decl.specs.declared.shape.Shape.{Shape}
 use Rattle.plm_decl.specs.Layout.{counted}
 use Rattle.plm_decl.specs.Scope.{Frame, path_in, is_external, is_fresh, found_in}
@@ -33,8 +33,10 @@ use Rattle.plm_decl.specs.Resolver.{Known, note_unless}
 use Rattle.plm_decl.specs.Names.{ObjectR}
 use Rattle.plm_decl.specs.Uses.{used, binding_of, is_something}
 use Rattle.plm_decl.specs.Shape.{scalar_at, size_of_shape, shape_for}
-use Rattle.plm_decl.specs.Elements.{is_base, based_region, base_for, with_screen_name, region_for, with_public, linked, with_variable, variable_in, declared, region_of_variable, variable_declared, declared_variable, declared_variables, site_after, location_site, at_site, first_site, element_values, has_values, declared_list, place_of_variable}
-use Rattle.plm_decl.specs.Fill.{FillingR, filled, traits_for, declared_at, declared_names, element}
+use Rattle.plm_decl.specs.Elements.{is_base, based_region, base_for, with_screen_name, region_for, with_public, linked, with_variable, variable_in, declared, region_of_variable, variable_declared, declared_variable, declared_variables, declared_list, place_of_variable}
+use Rattle.plm_decl.specs.Sites.{site_after, location_site, at_site, first_site}
+use Rattle.plm_decl.specs.Attributes.{element_values, has_values, traits_for}
+use Rattle.plm_decl.specs.Fill.{FillingR, filled, declared_at, declared_names, element}
 use Rattle.plm_decl.proofs.Kept.{both}
 use Rattle.plm_decl.proofs.Objects.{last_got}
 use Rattle.plm_decl.proofs.FitsShapes.{SameTables, same_tables, same_then, noted_same, RowFits, ShapeFits, shape_same, shape_fits, scalar_still, scalars_in_name_still}

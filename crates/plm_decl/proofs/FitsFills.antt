@@ -37,7 +37,7 @@ use Rattle.plm_decl.specs.Resolved.{LocationR', LocationOf, ConstantsOf, Referen
 use Rattle.plm_decl.specs.Datum.{number_datum, text_datum, word_datum, character_datum, is_byte, takes, signed}
 use Rattle.plm_decl.specs.Expressions.{structure_meant, member_of_structure, member_meant, all_constant_data, are_constants, with_constants, expression, reference, subscripts, selector, location}
 use Rattle.plm_decl.specs.Shape.{scalar_at, size_of_shape}
-use Rattle.plm_decl.specs.Elements.{distance}
+use Rattle.plm_decl.specs.Sites.{distance}
 use Rattle.plm_decl.specs.Fill.{address_at, address_datum, variable_datum, reference_datum, location_datum, form_of_location, location_in, datum_for, FillingR, with_datum, given_at, given_in, put_datum, scalars_in_name, cursor_after, too_many, name_at, put_at, put_value, past_at, unless_past, put_characters, put_single, filled_with, filled_from, filled}
 use Rattle.plm_decl.specs.Values.{bytes_of_datum}
 use Rattle.plm_decl.proofs.Kept.{both, all_set, maybe, maybe_unless}

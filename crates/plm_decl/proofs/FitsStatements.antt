@@ -34,7 +34,8 @@ use Rattle.plm_decl.specs.Resolved.{ReferencesR, no_references, StatementsR, and
 use Rattle.plm_decl.specs.Expressions.{expression, reference}
 use Rattle.plm_decl.specs.Elements.{start, linked, with_variable}
 use Rattle.plm_decl.specs.Fill.{element}
-use Rattle.plm_decl.specs.Statements.{targets_from, step_for, last_name, block_path, with_elements, linkage_of, is_handled, note_handler, header, with_header, declared_procedure, in_place_of, parameter_is, with_parameter, parameter_for, parameters_from, completed_at, statement, basic, statements as read_statements, block, with_items, with_item}
+use Rattle.plm_decl.specs.Statements.{targets_from, step_for, last_name, block_path, with_elements, statement, basic, statements as read_statements, block, with_items, with_item}
+use Rattle.plm_decl.specs.Procedures.{linkage_of, is_handled, note_handler, header, with_header, declared_procedure, in_place_of, parameter_is, with_parameter, parameter_for, parameters_from, completed_at}
 use Rattle.plm_decl.specs.Joins.{agree, with_region, region_joined, entry_joined, joined, external_joined, externals_joined, bytes_from, have_room, program_fault, modules_joined, has_statements, with_main, at_module, with_module, modules_from, known_from}
 use Rattle.plm_decl.specs.Values.{bytes_of_datum, values_fit}
 use Rattle.plm_decl.specs.Initial.{datum_bytes, initial_bytes}

@@ -10,7 +10,7 @@ pub mod TreeViews
 pub mod Updates
 pub mod Least
 pub mod Joined
-pub mod Procedures
+pub mod ReadProcedures
 pub mod Kept
 pub mod BlockNames
 pub mod Objects

@@ -19,8 +19,8 @@ use Rattle.plm_decl.specs.declared.names.Region.TheVariants as region
 use Rattle.plm_decl.specs.declared.names.Variable.{Variable}
 use Rattle.plm_decl.specs.declared.names.Item.{Item}
 use Rattle.plm_decl.specs.declared.names.Item.TheVariants as item
-use Rattle.plm_decl.specs.declared.elements.Site.TheVariants as site
-use Rattle.plm_decl.specs.declared.elements.Traits.{Traits}
+use Rattle.plm_decl.specs.declared.sites.Site.TheVariants as site
+use Rattle.plm_decl.specs.declared.attributes.Traits.{Traits}
 use Rattle.plm_decl.specs.Names.{ObjectR}
 use Rattle.plm_decl.specs.Scope.{Frame, path_in, is_external, is_fresh, found_in, with_name}
 use Rattle.plm_decl.specs.Layout.{counted}

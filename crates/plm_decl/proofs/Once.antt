@@ -12,7 +12,7 @@ use Rattle.plm_decl.specs.Layout.{FieldR, StructureR, no_fields, scalar_of, has_
 use Rattle.plm_decl.specs.Scope.{Entries, Frame, found_here}
 use Rattle.plm_decl.specs.Resolver.{Known, note_unless}
 use Rattle.plm_decl.specs.Shape.{member_names, member_count, member_scalar, number_of_elements, with_member_name, with_member_names, with_members, structure_for}
-use Rattle.plm_decl.specs.Statements.{with_parameter, parameter_is, parameter_for, parameters_from}
+use Rattle.plm_decl.specs.Procedures.{with_parameter, parameter_is, parameter_for, parameters_from}
 use Rattle.plm_decl.specs.BlockNames.{has_name}
 use Rattle.plm_decl.specs.Inner.Parameters.{listed_after}
 use Rattle.plm_decl.specs.DeclaredAgain.{names_of_members}

@@ -28,9 +28,9 @@ use Rattle.plm_decl.specs.declared.names.Item.{Item}
 use Rattle.plm_decl.specs.declared.names.Item.TheVariants as item
 use Rattle.plm_decl.specs.declared.names.Names.{Names}
 use Rattle.plm_decl.specs.declared.resolved.Binding.{Binding}
-use Rattle.plm_decl.specs.declared.elements.Site.{Site}
-use Rattle.plm_decl.specs.declared.elements.Site.TheVariants as site
-use Rattle.plm_decl.specs.declared.elements.Traits.{Traits}
+use Rattle.plm_decl.specs.declared.sites.Site.{Site}
+use Rattle.plm_decl.specs.declared.sites.Site.TheVariants as site
+use Rattle.plm_decl.specs.declared.attributes.Traits.{Traits}
 use Rattle.plm_decl.specs.declared.fill.Cursor.{Cursor}
 use Rattle.plm_decl.specs.Layout.{StructureR, counted, scalar_of, no_fields, is_dimension}
 use Rattle.plm_decl.specs.Spelling.{name_after, constants_after}
@@ -44,10 +44,13 @@ use Rattle.plm_decl.specs.Resolved.{ReferencesR, StatementsR, no_references, and
 use Rattle.plm_decl.specs.Expressions.{structure_meant, member_of_structure, member_meant, all_constant_data, are_constants, with_constants, constant_bytes, expression, reference, subscripts, selector, location}
 use Rattle.plm_decl.specs.Datum.{is_byte, character_datum}
 use Rattle.plm_decl.specs.Shape.{member_names, member_count, member_scalar, number_of_elements, with_member_name, with_member_names, with_members, structure_for, form_for, elements_filled, dimension_for, shape_for, scalar_at, size_of_shape}
-use Rattle.plm_decl.specs.Elements.{start, location_site, at_site, first_site, base_for, with_screen_name, own_region, region_for, with_public, linked, linkage_for, declared, with_variable, variable_in, region_of_variable, with_unplaced, variable_declared, declared_variable, declared_variables, declared_list, element_values, has_values, is_placed, place_of_variable, site_after}
-use Rattle.plm_decl.specs.Fill.{location_in, datum_for, FillingR, given_at, given_in, put_datum, too_many, name_at, put_at, put_value, past_at, unless_past, put_characters, put_single, filled_with, filled_from, filled_element, traits_for, declared_at, declared_names, element}
+use Rattle.plm_decl.specs.Elements.{start, base_for, with_screen_name, own_region, region_for, with_public, linked, declared, with_variable, variable_in, region_of_variable, with_unplaced, variable_declared, declared_variable, declared_variables, declared_list, place_of_variable}
+use Rattle.plm_decl.specs.Sites.{location_site, at_site, first_site, site_after}
+use Rattle.plm_decl.specs.Attributes.{linkage_for, element_values, has_values, is_placed, traits_for}
+use Rattle.plm_decl.specs.Fill.{location_in, datum_for, FillingR, given_at, given_in, put_datum, too_many, name_at, put_at, put_value, past_at, unless_past, put_characters, put_single, filled_with, filled_from, filled_element, declared_at, declared_names, element}
 use Rattle.plm_decl.specs.Stray.{is_external_linkage}
-use Rattle.plm_decl.specs.Statements.{targets_from, step_for, last_name, block_path, with_elements, linkage_of, is_handled, note_handler, header, with_header, declared_procedure, in_place_of, parameter_is, with_parameter, parameter_for, parameters_from, completed_at, statement, basic, statements as read_statements, block, with_items, with_item}
+use Rattle.plm_decl.specs.Statements.{targets_from, step_for, last_name, block_path, with_elements, statement, basic, statements as read_statements, block, with_items, with_item}
+use Rattle.plm_decl.specs.Procedures.{linkage_of, is_handled, note_handler, header, with_header, declared_procedure, in_place_of, parameter_is, with_parameter, parameter_for, parameters_from, completed_at}
 use Rattle.plm_decl.specs.Joins.{region_joined, entry_joined, joined, agree, external_joined, externals_joined, have_room, program_fault, modules_joined, has_statements, with_main, at_module, with_module, modules_from, known_from}
 use Rattle.plm_decl.specs.Modules.{AreNames}
 use Rattle.plm_decl.specs.OwnNames.{own_name, own_among, is_own, own_in_element, own_in_elements, own_in_block, own_in_items, own_in_item, own_in_statements, own_in_statement, own_in_basic, own_in_module, own_from, where_declared, marked, HaveObjects}

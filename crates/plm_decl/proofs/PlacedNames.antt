@@ -21,9 +21,9 @@ use Rattle.plm_decl.specs.declared.names.Variable.{Variable}
 use Rattle.plm_decl.specs.declared.names.Item.{Item}
 use Rattle.plm_decl.specs.declared.names.Item.TheVariants as item
 use Rattle.plm_decl.specs.declared.resolved.Binding.TheVariants as binding
-use Rattle.plm_decl.specs.declared.elements.Site.{Site}
-use Rattle.plm_decl.specs.declared.elements.Site.TheVariants as site
-use Rattle.plm_decl.specs.declared.elements.Traits.{Traits}
+use Rattle.plm_decl.specs.declared.sites.Site.{Site}
+use Rattle.plm_decl.specs.declared.sites.Site.TheVariants as site
+use Rattle.plm_decl.specs.declared.attributes.Traits.{Traits}
 use Rattle.plm_decl.specs.Layout.{counted}
 use Rattle.plm_decl.specs.Scope.{Frame, is_external, is_fresh, found_in}
 use Rattle.plm_decl.specs.Resolver.{Known, note_unless}
@@ -31,8 +31,10 @@ use Rattle.plm_decl.specs.Resolved.{ExpressionsR, SelectorR, ReferenceR', Use}
 use Rattle.plm_decl.specs.Lists.{bind}
 use Rattle.plm_decl.specs.Expressions.{reference}
 use Rattle.plm_decl.specs.Shape.{size_of_shape, shape_for}
-use Rattle.plm_decl.specs.Elements.{first_number, member_distance, distance, is_unplaced, has_shape, unplaced_site, site_within, variable_site, site_of, site_after, is_in_page, page_site, screen_site, at_site, element_values, region_for, with_public, linked, with_variable, variable_in, declared_variable, declared_variables}
-use Rattle.plm_decl.specs.Fill.{traits_for, declared_at}
+use Rattle.plm_decl.specs.Sites.{first_number, member_distance, distance, is_unplaced, has_shape, unplaced_site, site_within, variable_site, site_of, site_after, is_in_page, page_site, screen_site, at_site}
+use Rattle.plm_decl.specs.Attributes.{element_values, traits_for}
+use Rattle.plm_decl.specs.Elements.{region_for, with_public, linked, with_variable, variable_in, declared_variable, declared_variables}
+use Rattle.plm_decl.specs.Fill.{declared_at}
 use Rattle.plm_decl.specs.Laws.{has_no_base}
 use Rattle.plm_decl.specs.PlacedNames.{regions_of, behind, one_behind_the_other, place_at, HasAt}
 use Rattle.plm_decl.proofs.Kept.{both, left, right}

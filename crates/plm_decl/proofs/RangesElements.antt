@@ -18,9 +18,9 @@ use Rattle.plm_decl.specs.declared.names.Item.{Item}
 use Rattle.plm_decl.specs.declared.names.Item.TheVariants as item
 use Rattle.plm_decl.specs.declared.resolved.Binding.{Binding}
 use Rattle.plm_decl.specs.declared.resolved.Binding.TheVariants as binding
-use Rattle.plm_decl.specs.declared.elements.Site.{Site}
-use Rattle.plm_decl.specs.declared.elements.Site.TheVariants as site
-use Rattle.plm_decl.specs.declared.elements.Traits.{Traits}
+use Rattle.plm_decl.specs.declared.sites.Site.{Site}
+use Rattle.plm_decl.specs.declared.sites.Site.TheVariants as site
+use Rattle.plm_decl.specs.declared.attributes.Traits.{Traits}
 use Rattle.plm_decl.specs.Layout.{counted}
 use Rattle.plm_decl.specs.Spelling.{name_after}
 use Rattle.plm_decl.specs.Scope.{Frame, path_in, is_external, is_fresh, found_in}
@@ -29,7 +29,8 @@ use Rattle.plm_decl.specs.Uses.{used}
 use Rattle.plm_decl.specs.Resolved.{ReferenceR', Use, ExpressionsR, SelectorR}
 use Rattle.plm_decl.specs.Expressions.{reference}
 use Rattle.plm_decl.specs.Shape.{size_of_shape}
-use Rattle.plm_decl.specs.Elements.{site_after, site_within, has_shape, is_unplaced, unplaced_site, variable_site, site_of, is_in_page, page_site, screen_site, location_site, at_site, first_site, based_region, base_for, with_screen_name, region_for, with_public, with_external, linked, declared, with_variable, variable_in, region_of_variable, variable_declared, declared_variable, declared_variables}
+use Rattle.plm_decl.specs.Sites.{site_after, site_within, has_shape, is_unplaced, unplaced_site, variable_site, site_of, is_in_page, page_site, screen_site, location_site, at_site, first_site}
+use Rattle.plm_decl.specs.Elements.{based_region, base_for, with_screen_name, region_for, with_public, with_external, linked, declared, with_variable, variable_in, region_of_variable, variable_declared, declared_variable, declared_variables}
 use Rattle.plm_decl.specs.Ranges.{Counts, form_within, region_within, variable_within, binding_within}
 use Rattle.plm_decl.specs.Inner.Ranges.{Within, item_within}
 use Rattle.plm_decl.specs.Names.{ObjectR}

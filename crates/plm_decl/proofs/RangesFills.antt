@@ -24,8 +24,10 @@ use Rattle.plm_decl.specs.Resolved.{LocationR', LocationOf, ConstantsOf, Referen
 use Rattle.plm_decl.specs.Datum.{number_datum, text_datum, word_datum, character_datum, is_byte, takes}
 use Rattle.plm_decl.specs.Expressions.{location}
 use Rattle.plm_decl.specs.Shape.{scalar_at, shape_for}
-use Rattle.plm_decl.specs.Elements.{distance, declared_variables, declared_list, element_values, has_values, is_placed, first_site, place_of_variable}
-use Rattle.plm_decl.specs.Fill.{address_at, address_datum, variable_datum, reference_datum, location_datum, form_of_location, location_in, datum_for, FillingR, with_datum, given_at, given_in, put_datum, too_many, name_at, put_at, put_value, past_at, unless_past, put_characters, put_single, filled_with, filled_from, traits_for, filled_element, declared_at, declared_names, element}
+use Rattle.plm_decl.specs.Sites.{distance, first_site}
+use Rattle.plm_decl.specs.Elements.{declared_variables, declared_list, place_of_variable}
+use Rattle.plm_decl.specs.Attributes.{element_values, has_values, is_placed, traits_for}
+use Rattle.plm_decl.specs.Fill.{address_at, address_datum, variable_datum, reference_datum, location_datum, form_of_location, location_in, datum_for, FillingR, with_datum, given_at, given_in, put_datum, too_many, name_at, put_at, put_value, past_at, unless_past, put_characters, put_single, filled_with, filled_from, filled_element, declared_at, declared_names, element}
 use Rattle.plm_decl.specs.Ranges.{Counts, datum_within, object_within, expressions_within, selector_within, reference_within, location_within}
 use Rattle.plm_decl.specs.Inner.Ranges.{Within}
 use Rattle.plm_decl.proofs.Kept.{Ends, Kept, Reads, Declares, reads, reads_then, declares_none, kept, kept_then, left, frames_within, note_kept, note_unless_kept, all_pushed, all_set, maybe, got, maybe_unless}

@@ -24,7 +24,8 @@ use Rattle.plm_decl.specs.Resolved.{ReferencesR, no_references, references, Refe
 use Rattle.plm_decl.specs.Expressions.{expression, reference}
 use Rattle.plm_decl.specs.Elements.{linked, with_variable}
 use Rattle.plm_decl.specs.Fill.{element}
-use Rattle.plm_decl.specs.Statements.{targets_from, step_for, last_name, block_path, with_elements, linkage_of, is_handled, note_handler, header, with_header, declared_procedure, in_place_of, parameter_is, with_parameter, parameter_for, parameters_from, completed_at, statement, basic, statements as read_statements, block, with_items, with_item}
+use Rattle.plm_decl.specs.Statements.{targets_from, step_for, last_name, block_path, with_elements, statement, basic, statements as read_statements, block, with_items, with_item}
+use Rattle.plm_decl.specs.Procedures.{linkage_of, is_handled, note_handler, header, with_header, declared_procedure, in_place_of, parameter_is, with_parameter, parameter_for, parameters_from, completed_at}
 use Rattle.plm_decl.specs.Ranges.{Counts, binding_within, expression_within, reference_within, references_within, step_within, statement_within, statements_within, variable_within, procedure_within}
 use Rattle.plm_decl.specs.Inner.Ranges.{Within, item_within}
 use Rattle.plm_decl.specs.Inner.Regions.{lies_in}

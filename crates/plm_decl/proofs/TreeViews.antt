@@ -21,10 +21,10 @@ use Rattle.plm_syntax.specs.declared.tree.Statement.{Statement}
 use Rattle.plm_decl.specs.Joins.{has_statements}
 use Rattle.plm_syntax.specs.Terminal.{NameT}
 use Rattle.plm_decl.specs.Stray.{stray_of, stray_in, stray_items, first_statement}
-use Rattle.plm_decl.specs.Inner.Statements.{stray_for, name_for, header_for}
+use Rattle.plm_decl.specs.Inner.Procedures.{stray_for, name_for, header_for}
 use Rattle.plm_decl.specs.Resolver.{Known}
 use Rattle.plm_decl.specs.Names.{ProcedureR}
-use Rattle.plm_decl.specs.Statements.{header}
+use Rattle.plm_decl.specs.Procedures.{header}
 use Rattle.plm_decl.proofs.ListViews.{item_list_from, statement_list_from}
 
 -- a reference as a part of an expression

@@ -9,9 +9,9 @@ use Rattle.plm_syntax.specs.Tree.{VariableT, DimensionT, TypeT, AttributesT, Ele
 use Rattle.plm_syntax.specs.Tree as tree
 use Rattle.plm_decl.specs.declared.layout.ScalarType.TheVariants.{Byte}
 use Rattle.plm_decl.specs.declared.layout.Form.TheVariants as form
-use Rattle.plm_decl.specs.declared.elements.Site.{Site}
-use Rattle.plm_decl.specs.declared.elements.Site.TheVariants as site
-use Rattle.plm_decl.specs.declared.elements.Traits.{Traits}
+use Rattle.plm_decl.specs.declared.sites.Site.{Site}
+use Rattle.plm_decl.specs.declared.sites.Site.TheVariants as site
+use Rattle.plm_decl.specs.declared.attributes.Traits.{Traits}
 use Rattle.plm_decl.specs.Spelling.{name_after}
 use Rattle.plm_decl.specs.Scope.{path_in, is_external}
 use Rattle.plm_decl.specs.Resolver.{Known, nothing_known}
@@ -20,10 +20,13 @@ use Rattle.plm_decl.specs.Uses.{used}
 use Rattle.plm_decl.specs.Resolved.{StatementR, IfR, IfElseR, DoR, WhileR, CaseR, IterateR, StatementsR, no_statements, and_statement}
 use Rattle.plm_decl.specs.Expressions.{expression}
 use Rattle.plm_decl.specs.Shape.{shape_for, size_of_shape}
-use Rattle.plm_decl.specs.Elements.{first_site, element_values, declared_list, place_of_variable, declared_variable, site_after}
-use Rattle.plm_decl.specs.Fill.{traits_for, filled_element}
+use Rattle.plm_decl.specs.Sites.{first_site, site_after}
+use Rattle.plm_decl.specs.Attributes.{element_values, traits_for}
+use Rattle.plm_decl.specs.Elements.{declared_list, place_of_variable, declared_variable}
+use Rattle.plm_decl.specs.Fill.{filled_element}
 use Rattle.plm_decl.specs.Stray.{is_external_linkage}
-use Rattle.plm_decl.specs.Statements.{step_for, last_name, block_path, linkage_of, header, declared_procedure, parameters_from, completed, basic}
+use Rattle.plm_decl.specs.Statements.{step_for, last_name, block_path, basic}
+use Rattle.plm_decl.specs.Procedures.{linkage_of, header, declared_procedure, parameters_from, completed}
 use Rattle.plm_decl.specs.Joins.{has_statements, with_main, at_module, known_from}
 use Rattle.plm_decl.specs.Laws.{Before, scope_at}
 

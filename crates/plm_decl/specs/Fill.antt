@@ -16,7 +16,6 @@ use Rattle.plm_decl.specs.declared.names.Variable.{Variable}
 use Rattle.plm_decl.specs.declared.resolved.Binding.TheVariants as binding
 use Rattle.plm_decl.specs.declared.fill.Cursor.{Cursor}
 use Rattle.plm_decl.specs.declared.shape.Shape.{Shape}
-use Rattle.plm_decl.specs.declared.elements.Traits.{Traits}
 use Rattle.plm_decl.specs.Layout.{counted, elements}
 use Rattle.plm_decl.specs.Scope.{Frame}
 use Rattle.plm_decl.specs.Resolver.{Known, note, note_unless}
@@ -25,7 +24,9 @@ use Rattle.plm_decl.specs.Resolved.{LocationR', LocationOf, ConstantsOf, Referen
 use Rattle.plm_decl.specs.Datum.{number_datum, text_datum, character_datum, is_byte, takes}
 use Rattle.plm_decl.specs.Expressions.{location}
 use Rattle.plm_decl.specs.Shape.{scalars_of, scalar_at, shape_for}
-use Rattle.plm_decl.specs.Elements.{distance, place_of_variable, first_site, declared_variables, declared_list, element_values, has_values, is_placed, is_data, linkage_for, has_attribute}
+use Rattle.plm_decl.specs.Sites.{distance, first_site}
+use Rattle.plm_decl.specs.Elements.{place_of_variable, declared_variables, declared_list}
+use Rattle.plm_decl.specs.Attributes.{element_values, has_values, is_placed, traits_for}
 
 -- ---- locations
 
@@ -158,9 +159,6 @@ abbrev pub filled : List Frame → FillingR → List ValueT → Known → Known
 filled frames f vs k = (filled_from frames f (record { name = 0; scalar = 0 }) vs k).1
 
 -- ---- an element
-
-abbrev pub traits_for : Shape → AttributesT → Traits
-traits_for shape a = record { shape = shape; linkage = linkage_for a; is_data = is_data a; has_attribute = has_attribute a }
 
 -- values beside AT fill nothing
 abbrev pub filled_element : FillingR → Position → AttributesT → List Frame → Known → Known

@@ -4,6 +4,7 @@ pub mod Fill
 pub mod Members
 pub mod Modules
 pub mod Parameters
+pub mod Procedures
 pub mod Ranges
 pub mod Regions
 pub mod Resolver

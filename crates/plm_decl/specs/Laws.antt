@@ -11,9 +11,9 @@ use Rattle.plm_decl.specs.declared.names.Region.{Region}
 use Rattle.plm_decl.specs.declared.names.Region.TheVariants as region
 use Rattle.plm_decl.specs.declared.names.Item.{Item}
 use Rattle.plm_decl.specs.declared.names.Names.{Names}
-use Rattle.plm_decl.specs.declared.elements.Site.{Site}
-use Rattle.plm_decl.specs.declared.elements.Site.TheVariants as site
-use Rattle.plm_decl.specs.declared.elements.Traits.{Traits}
+use Rattle.plm_decl.specs.declared.sites.Site.{Site}
+use Rattle.plm_decl.specs.declared.sites.Site.TheVariants as site
+use Rattle.plm_decl.specs.declared.attributes.Traits.{Traits}
 use Rattle.plm_decl.specs.Names.{ObjectR}
 use Rattle.plm_decl.specs.Scope.{Frame, frame, meant, found_here, is_external}
 use Rattle.plm_decl.specs.Resolver.{Known, note_unless}
@@ -21,7 +21,8 @@ use Rattle.plm_decl.specs.Layout.{no_fields}
 use Rattle.plm_decl.specs.Shape.{with_member_name, with_member_names, structure_for}
 use Rattle.plm_decl.specs.Expressions.{constant_bytes}
 use Rattle.plm_decl.specs.Elements.{declared, declared_variables}
-use Rattle.plm_decl.specs.Statements.{with_elements, with_items, parameter_is, parameters_from}
+use Rattle.plm_decl.specs.Statements.{with_elements, with_items}
+use Rattle.plm_decl.specs.Procedures.{parameter_is, parameters_from}
 use Rattle.plm_decl.specs.Modules.{faults_of, whole_faults_of}
 use Rattle.plm_decl.specs.DeclaredAgain.{names_of_members, second_declarations, declared_again}
 use Rattle.plm_decl.specs.Joins.{have_room, known_from, modules_joined}

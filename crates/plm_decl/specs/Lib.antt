@@ -12,9 +12,12 @@ pub mod Datum
 pub mod Lists
 pub mod Expressions
 pub mod Shape
+pub mod Attributes
+pub mod Sites
 pub mod Elements
 pub mod Fill
 pub mod Stray
+pub mod Procedures
 pub mod Statements
 pub mod Joins
 pub mod Modules

@@ -10,7 +10,7 @@ use Rattle.plm_decl.specs.declared.names.Names.{Names}
 use Rattle.plm_decl.specs.Lists.{element_list}
 use Rattle.plm_decl.specs.Elements.{declared_list}
 use Rattle.plm_decl.specs.Stray.{is_external_linkage}
-use Rattle.plm_decl.specs.Statements.{linkage_of}
+use Rattle.plm_decl.specs.Procedures.{linkage_of}
 use Rattle.plm_decl.specs.Modules.{AreNames}
 
 -- the place of a name that is not based

@@ -9,14 +9,15 @@ use Rattle.plm_decl.specs.declared.names.Region.{Region}
 use Rattle.plm_decl.specs.declared.names.Region.TheVariants as region
 use Rattle.plm_decl.specs.declared.names.Variable.{Variable}
 use Rattle.plm_decl.specs.declared.resolved.Binding.TheVariants as binding
-use Rattle.plm_decl.specs.declared.elements.Site.{Site}
-use Rattle.plm_decl.specs.declared.elements.Site.TheVariants as site
+use Rattle.plm_decl.specs.declared.sites.Site.{Site}
+use Rattle.plm_decl.specs.declared.sites.Site.TheVariants as site
 use Rattle.plm_decl.specs.Layout.{counted}
 use Rattle.plm_decl.specs.Scope.{Frame}
 use Rattle.plm_decl.specs.Resolver.{Known}
 use Rattle.plm_decl.specs.Resolved.{ExpressionsR, SelectorR, Use}
 use Rattle.plm_decl.specs.Shape.{size_of_shape, shape_for}
-use Rattle.plm_decl.specs.Elements.{first_number, member_distance, is_unplaced, has_shape, site_of, screen_site, at_site, element_values}
+use Rattle.plm_decl.specs.Sites.{first_number, member_distance, is_unplaced, has_shape, site_of, screen_site, at_site}
+use Rattle.plm_decl.specs.Attributes.{element_values}
 use Rattle.plm_decl.specs.Fill.{declared_at}
 use Rattle.plm_decl.specs.Laws.{has_no_base}
 

@@ -2,6 +2,7 @@
 //! statements with all names resolved.
 #![tactic(auto)]
 
+mod attributes;
 mod builtin;
 mod constants;
 mod datum;
@@ -17,10 +18,12 @@ mod modules;
 mod names;
 mod parameters;
 mod placement;
+mod procedures;
 mod resolved;
 mod resolver;
 mod scope;
 mod shape;
+mod sites;
 mod spelling;
 mod statements;
 mod stray;

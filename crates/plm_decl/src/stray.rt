@@ -3,7 +3,7 @@
 ghost use Rattle.std.specs.Prelude.{◌≡◌, map, IfOk};
 ghost use Rattle.plm_syntax.specs.View.{name_of, variable_of, element_of, item_of, statement_of, block_of};
 ghost use Rattle.plm_decl.specs.Stray as spec;
-ghost use Rattle.plm_decl.specs.Inner.Statements.{stray_for};
+ghost use Rattle.plm_decl.specs.Inner.Procedures.{stray_for};
 
 use crate::names::Item;
 use crate::parameters::Parameters;

@@ -4,15 +4,16 @@ use Rattle.word86.specs.declared.number.Number.TheVariants.{E302}
 use Rattle.plm_syntax.specs.declared.tree.Position.{Position}
 use Rattle.plm_syntax.specs.declared.tree.Linkage.{Linkage}
 use Rattle.plm_syntax.specs.Tree.{VariableT}
-use Rattle.plm_decl.specs.declared.elements.Site.{Site}
-use Rattle.plm_decl.specs.declared.elements.Traits.{Traits}
+use Rattle.plm_decl.specs.declared.sites.Site.{Site}
+use Rattle.plm_decl.specs.declared.attributes.Traits.{Traits}
 use Rattle.plm_decl.specs.declared.names.Region.{Region}
 use Rattle.plm_decl.specs.declared.names.Item.{Item}
 use Rattle.plm_decl.specs.declared.names.Item.TheVariants as item
 use Rattle.plm_decl.specs.Scope.{Frame, with_name, is_fresh}
 use Rattle.plm_decl.specs.Resolver.{Known, note_unless}
 use Rattle.plm_decl.specs.Shape.{size_of_shape}
-use Rattle.plm_decl.specs.Elements.{linked, with_variable, variable_in, site_after, declared_variable, declared_variables}
+use Rattle.plm_decl.specs.Elements.{linked, with_variable, variable_in, declared_variable, declared_variables}
+use Rattle.plm_decl.specs.Sites.{site_after}
 
 -- a name, given in normal form, is joined with those of other modules and declared at this place
 abbrev pub entered : Position → List ℕ → Linkage → Item → List Frame → Known → List Frame × Known

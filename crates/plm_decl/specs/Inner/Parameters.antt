@@ -6,7 +6,7 @@ use Rattle.plm_syntax.specs.View.{name_of}
 use Rattle.plm_decl.specs.declared.table.Table.{Table}
 use Rattle.plm_decl.specs.Inner.Scope.{entries_of}
 use Rattle.plm_decl.specs.Scope.{Entries, found_in}
-use Rattle.plm_decl.specs.Statements.{with_parameter}
+use Rattle.plm_decl.specs.Procedures.{with_parameter}
 use Rattle.plm_decl.specs.BlockNames.{has_name}
 
 -- these parameters are listed too

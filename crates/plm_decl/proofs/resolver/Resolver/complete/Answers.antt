@@ -3,7 +3,7 @@ use Rattle.std.proofs.lemmas.List.{map-set}
 use Rattle.plm_decl.specs.Inner.Resolver.{known_of}
 use Rattle.plm_decl.specs.Names.{procedure_of}
 use Rattle.plm_decl.specs.ResolvedView.{statements_of}
-use Rattle.plm_decl.specs.Statements.{completed_at}
+use Rattle.plm_decl.specs.Procedures.{completed_at}
 use Rattle.plm_decl.proofs.Updates.{seen_at}
 use Rattle.plm_decl.proofs.resolver.Resolver.complete.Goals as goal
 

@@ -7,9 +7,9 @@ use Rattle.plm_decl.specs.Spelling.{name_after}
 use Rattle.plm_decl.specs.Inner.Scope.{frames_of}
 use Rattle.plm_decl.specs.Scope.{path_in}
 use Rattle.plm_decl.specs.Inner.Resolver.{known_of}
-use Rattle.plm_decl.specs.Inner.Statements.{header_for}
+use Rattle.plm_decl.specs.Inner.Procedures.{header_for}
 use Rattle.plm_decl.specs.Inner.Elements.{entered}
-use Rattle.plm_decl.specs.Statements.{declared_procedure, with_header}
+use Rattle.plm_decl.specs.Procedures.{declared_procedure, with_header}
 use Rattle.plm_decl.proofs.TreeViews.{name_for_parts, header_for_parts}
 use Rattle.plm_decl.proofs.resolver.Resolver.header.Goals as goal
 

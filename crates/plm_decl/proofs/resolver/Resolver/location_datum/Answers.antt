@@ -10,7 +10,7 @@ use Rattle.plm_decl.specs.Resolver.{Known}
 use Rattle.plm_decl.specs.Inner.Resolver.{known_of}
 use Rattle.plm_decl.specs.Resolved.{ExpressionsR, SelectorR, Use}
 use Rattle.plm_decl.specs.ResolvedView as view
-use Rattle.plm_decl.specs.Elements.{distance}
+use Rattle.plm_decl.specs.Sites.{distance}
 use Rattle.plm_decl.specs.Fill.{address_datum, variable_datum, reference_datum, location_datum}
 use Rattle.plm_decl.proofs.TreeViews.{reference_placed}
 use Rattle.plm_decl.proofs.resolver.Resolver.location_datum.Goals as goal

@@ -6,7 +6,7 @@ use Rattle.plm_decl.specs.Inner.Scope.{frames_of}
 use Rattle.plm_decl.specs.Names.{declared_location_of}
 use Rattle.plm_decl.specs.Inner.Resolver.{known_of}
 use Rattle.plm_decl.specs.Resolved as resolved
-use Rattle.plm_decl.specs.Elements.{site_of, location_site}
+use Rattle.plm_decl.specs.Sites.{site_of, location_site}
 use Rattle.plm_decl.proofs.TreeViews.{reference_laid, reference_placed}
 use Rattle.plm_decl.proofs.resolver.Resolver.location_site.Goals as goal
 

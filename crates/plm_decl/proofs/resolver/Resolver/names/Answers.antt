@@ -1,17 +1,18 @@
 use Rattle.std.proofs.Common.{◌≡◌, ℕ, List, map, length, sym, ap, ◌∙◌}
 use Rattle.std.proofs.lemmas.List.{length-map}
 use Rattle.plm_syntax.specs.View.{variable_of, dimension_of, type_of, attributes_of}
-use Rattle.plm_decl.specs.declared.elements.Site.{Site}
-use Rattle.plm_decl.specs.declared.elements.Traits.{Traits}
+use Rattle.plm_decl.specs.declared.sites.Site.{Site}
+use Rattle.plm_decl.specs.declared.attributes.Traits.{Traits}
 use Rattle.plm_decl.specs.declared.shape.Shape.{Shape}
 use Rattle.plm_decl.specs.Scope.{Frame}
 use Rattle.plm_decl.specs.Inner.Scope.{frames_of}
 use Rattle.plm_decl.specs.Resolver.{Known}
 use Rattle.plm_decl.specs.Inner.Resolver.{known_of}
 use Rattle.plm_decl.specs.Shape.{shape_for}
-use Rattle.plm_decl.specs.Elements.{element_values, first_site}
+use Rattle.plm_decl.specs.Attributes.{element_values, traits_for}
+use Rattle.plm_decl.specs.Sites.{first_site}
 use Rattle.plm_decl.specs.Inner.Elements.{with_variables}
-use Rattle.plm_decl.specs.Fill.{filled_element, traits_for}
+use Rattle.plm_decl.specs.Fill.{filled_element}
 use Rattle.plm_decl.proofs.resolver.Resolver.names.Goals as goal
 
 -- the steps of an element, one after another

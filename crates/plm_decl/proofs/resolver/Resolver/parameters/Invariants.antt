@@ -2,7 +2,7 @@ use Rattle.std.proofs.Common.{◌≡◌, [], map, drop}
 use Rattle.plm_syntax.specs.View.{name_of}
 use Rattle.plm_decl.specs.Inner.Scope.{frames_of, entries_of}
 use Rattle.plm_decl.specs.Inner.Resolver.{known_of}
-use Rattle.plm_decl.specs.Statements.{parameters_from}
+use Rattle.plm_decl.specs.Procedures.{parameters_from}
 use Rattle.plm_decl.proofs.resolver.Resolver.parameters.Given as goal
 
 abbrev pub invariant-loop-name : goal.invariant-loop-name

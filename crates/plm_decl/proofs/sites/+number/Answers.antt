@@ -1,9 +1,9 @@
 use Rattle.std.proofs.Common.{◌≡◌, true, false, None, cond, length, nat_eq, sym, ap, ◌∙◌}
 use Rattle.plm_decl.specs.declared.resolved.Expression.{Expression}
 use Rattle.plm_decl.specs.ResolvedView as view
-use Rattle.plm_decl.specs.Elements.{number_in}
+use Rattle.plm_decl.specs.Sites.{number_in}
 use Rattle.plm_decl.proofs.Chains.{chain_number}
-use Rattle.plm_decl.proofs.elements.+number.Goals as goal
+use Rattle.plm_decl.proofs.sites.+number.Goals as goal
 
 pub returns-then-is_empty : goal.returns-then-is_empty
 returns-then-is_empty t c =

@@ -12,7 +12,8 @@ use Rattle.plm_decl.specs.Spelling.{name_after}
 use Rattle.plm_decl.specs.Scope.{Frame, frame, path_in, is_external}
 use Rattle.plm_decl.specs.Resolver.{Known}
 use Rattle.plm_decl.specs.Stray.{is_external_linkage}
-use Rattle.plm_decl.specs.Statements.{linkage_of, header, declared_procedure, block, parameters_from, completed, with_item}
+use Rattle.plm_decl.specs.Procedures.{linkage_of, header, declared_procedure, parameters_from, completed}
+use Rattle.plm_decl.specs.Statements.{block, with_item}
 use Rattle.plm_decl.proofs.ListViews.{name_list_from}
 use Rattle.plm_decl.proofs.TreeViews.{procedure_parts}
 

@@ -1,8 +1,8 @@
 use Rattle.std.proofs.Common.{◌≡◌, ◌≤◌, List, [], ◌∷◌, length, false, refl, arith}
 use Rattle.plm_decl.specs.declared.resolved.Expression.{Expression}
 use Rattle.plm_decl.specs.ResolvedView.{expressions_of}
-use Rattle.plm_decl.specs.Elements.{are_none}
-use Rattle.plm_decl.proofs.elements.are_none.Goals as goal
+use Rattle.plm_decl.specs.Sites.{are_none}
+use Rattle.plm_decl.proofs.sites.are_none.Goals as goal
 
 some_there : (xs : List Expression) → 1 ≤ length xs → false ≡ are_none (expressions_of xs)
 some_there [] h = absurd (omega (arith, h))
