@@ -205,6 +205,31 @@ fn handlers(rt: HostRuntime) -> Result<(), Fail> {
     Ok(())
 }
 
+/// Whether the procedures 2 and 3 serve the vectors 0 and 8, and no other one serves 0, 8 or 255.
+fn two_serve(program: &Program) -> bool {
+    let procedures = &program.names().procedures;
+    [
+        program.handler_number(0),
+        program.handler_number(8),
+        program.handler_number(255),
+    ] == [Some(2), Some(3), None]
+        && procedures[0].vector() == None
+        && procedures[1].vector() == None
+        && procedures[2].vector() == Some(0)
+        && procedures[3].vector() == Some(8)
+}
+
+// an EXTERNAL procedure serves no vector: its PUBLIC one does
+#[test]
+fn vectors_have_their_procedures(rt: HostRuntime) -> Result<(), Fail> {
+    let first: &[u8] =
+        b"M: DO; P: PROCEDURE; END P; H: PROCEDURE INTERRUPT 8 EXTERNAL; END H; K: PROCEDURE INTERRUPT 0; END K; ; END M;";
+    let second: &[u8] = b"N: DO; H: PROCEDURE INTERRUPT 8 PUBLIC; END H; END N;";
+    let serve = seen(program_of(rt.alloc(), &[first, second]), two_serve)?;
+    assert!(rt; serve);
+    Ok(())
+}
+
 /// Whether the procedures are in this order.
 fn is_ordered(program: &Program) -> bool {
     program.order() == [1, 3, 2, 0].as_slice()

@@ -14,7 +14,8 @@ use Rattle.icode.specs.declared.code.Routine.TheVariants.{Main, Procedure, Unser
 use Rattle.icode.specs.declared.code.Word.{Word}
 use Rattle.icode.specs.declared.code.Code.{Code}
 use Rattle.icode.specs.declared.registers.Registers.{Registers}
-use Rattle.icode.specs.Code.{code_of, is_number, procedure_or_none, serving}
+use Rattle.icode.specs.Code.{code_of, procedure_or_none, serving}
+use Rattle.icode.specs.Vectors.{is_number}
 use Rattle.icode.specs.Counted.{IsDepth, IsChanged, number_of, HasVector, IsHandler, IsRoom, IsCounted}
 use Rattle.icode.specs.Heights.{height, target, place_in, HasHeights}
 use Rattle.icode.specs.Machine.{At, does}

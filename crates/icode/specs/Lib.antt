@@ -7,3 +7,4 @@ pub mod Registers
 pub mod Room
 pub mod Runs
 pub mod Shown
+pub mod Vectors

@@ -1,8 +1,9 @@
 //! Code, and the places in it.
 
-ghost use Rattle.std.specs.Prelude.{◌≡◌, ℕ, slice_get, position};
+ghost use Rattle.std.specs.Prelude.{◌≡◌, ◌<◌, ℕ, Some, slice_get, position};
 ghost use Rattle.icode.specs.Heights.{HasHeights, AreOrdered, instructions_of};
 ghost use Rattle.icode.specs.Made.{IsMade};
+ghost use Rattle.icode.specs.Vectors.{is_number};
 
 use crate::instruction::Instruction;
 
@@ -49,15 +50,18 @@ pub struct Code {
     pub procedures: Vec<Procedure>,
     /// The procedures' numbers, each after those that it calls.
     pub order: Vec<usize>,
+    /// For each vector the number of the first procedure with it.
+    pub handlers: Vec<Option<usize>>,
     pub ghost main_has_heights: { HasHeights main.items },
     pub ghost has_heights: { (p : ℕ) → HasHeights (instructions_of (slice_get procedures.items p)) },
     pub ghost main_made: { IsMade main.items },
     pub ghost made: { (p : ℕ) → IsMade (instructions_of (slice_get procedures.items p)) },
     pub ghost ordered: { AreOrdered order.items procedures.items },
+    pub ghost handlers_are: { (v : ℕ) → v < 256 → slice_get handlers.items v ≡ Some (position (λ p. is_number p.vector v) procedures.items) },
 }
 
 impl Code {
-    ghost use Rattle.icode.specs.Code.{code_of, is_number, serving};
+    ghost use Rattle.icode.specs.Code.{code_of, serving};
 
     /// The instructions of a routine: none of a procedure that there is not.
     pub fn instructions(&self, routine: Routine) -> &[Instruction]
@@ -78,9 +82,10 @@ impl Code {
     fn number_serving(&self, vector: u8) -> Option<usize>
         ensures { result ≡ position (λ p. is_number p.vector vector) self.now.procedures.items }
     {
-        self.procedures
-            .iter()
-            .position(|procedure| procedure.serves(vector))
+        match self.handlers.get(usize::from(vector)) {
+            Some(number) => *number,
+            None => None,
+        }
     }
 
     /// The routine that serves a vector: the first procedure with it, else the one for vectors without a procedure.
@@ -90,20 +95,6 @@ impl Code {
         match self.number_serving(vector) {
             None => Routine::Unserved,
             Some(number) => Routine::Procedure(number),
-        }
-    }
-}
-
-impl Procedure {
-    ghost use Rattle.icode.specs.Code.{is_number};
-
-    // Whether it is the interrupt procedure of a vector.
-    fn serves(&self, vector: u8) -> bool
-        ensures { result ≡ is_number self.now.vector vector }
-    {
-        match self.vector {
-            None => false,
-            Some(number) => number == vector,
         }
     }
 }

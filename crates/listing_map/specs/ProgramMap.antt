@@ -8,8 +8,7 @@ use Rattle.plm_decl.specs.declared.names.Names.{Names}
 use Rattle.plm_decl.specs.declared.names.Object.{Object}
 use Rattle.plm_decl.specs.declared.names.Procedure.{Procedure}
 use Rattle.plm_decl.specs.declared.names.ScreenName.{ScreenName}
-use Rattle.plm_decl.specs.Names.{procedure_of}
-use Rattle.plm_decl.specs.Statements.{handles}
+use Rattle.plm_decl.specs.Names.{handles, procedure_of}
 use Rattle.layout_link.specs.declared.image.Image.{Image}
 use Rattle.listing_map.specs.Lines.{hex2, hex4, line_end}
 

@@ -5,8 +5,7 @@ ghost use Rattle.std.specs.List.{concat};
 ghost use Rattle.word86.specs.Sink.{Writes};
 ghost use Rattle.word86.specs.declared.fault.Fault.TheVariants.{At};
 ghost use Rattle.word86.specs.declared.number.Number.TheVariants.{E704};
-ghost use Rattle.plm_decl.specs.Names.{procedure_of};
-ghost use Rattle.plm_decl.specs.Statements as declared;
+ghost use Rattle.plm_decl.specs.Names.{procedure_of, handles};
 ghost use Rattle.listing_map.specs.ProgramMap.{rom_line, place_line, object_lines, page_word, screen_line, declared_lines, handler_line, handler_lines, stack_line, start_line, map_text};
 ghost use Rattle.listing_map.specs.ProgramMap as spec;
 
@@ -16,7 +15,6 @@ use crate::pieces::{put_five, put_four, put_three};
 use itoa::Buffer;
 use layout_link::Image;
 use plm_decl::{Names, Object, Procedure, ScreenName};
-use plm_syntax::Linkage;
 use word86::{Fault, Page, Sink, SinkFault};
 
 /// Writes the map of a program: how large its ROM is, each object and each name on a page of the screen with its place and its
@@ -224,12 +222,9 @@ fn handler_of(procedures: &[Procedure], number: u16) -> Option<&[u8]>
 
 /// Whether an interrupt of this number enters the procedure.
 fn handles(procedure: &Procedure, number: u16) -> bool
-    ensures { result ≡ declared.handles number (procedure_of procedure.now) }
+    ensures { result ≡ handles number (procedure_of procedure.now) }
 {
-    match procedure.linkage {
-        Linkage::External => false,
-        Linkage::None | Linkage::Public => procedure.interrupt == Some(u32::from(number)),
-    }
+    procedure.vector() == Some(u32::from(number))
 }
 
 /// Writes the lines of the stack and of the start.

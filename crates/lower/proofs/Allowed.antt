@@ -11,12 +11,14 @@ use Rattle.plm_type.specs.Calls.{graph_of, statements_calls}
 use Rattle.plm_type.specs.Effects.{of_statements}
 use Rattle.plm_type.specs.Interrupts.{called, lets_in, body_effects, text_graph, procedure_lets_in, serves_interrupt}
 use Rattle.plm_type.specs.Reach.{row_of, Leads}
-use Rattle.plm_type.specs.Statements.{is_external, of_locations, of_stray, of_entry}
+use Rattle.plm_type.specs.Statements.{of_locations, of_stray, of_entry}
+use Rattle.plm_decl.specs.Names.{is_external_linkage}
 use Rattle.lower.proofs.Typed.{statements_for, of_body, of_procedure, of_procedures, of_main, of_parameters, body_for, procedure_for}
 use Rattle.lower.proofs.Typed as typed
 use Rattle.plm_type.specs.Programs.{declared_procedures, main_tree, procedures_of}
 use Rattle.lower.specs.Code.{has_vector, serves, number_for}
-use Rattle.lower.specs.Lowered.{vector_of, vectors_of}
+use Rattle.plm_decl.specs.Names.{vector_of}
+use Rattle.lower.specs.Lowered.{vectors_of}
 use Rattle.lower.specs.Runs.{RunsLaw}
 use Rattle.lower.proofs.Fitting.{Let}
 use Rattle.lower.proofs.Reached.{main_goes_on, own_end, none_enables, none_halts}
@@ -40,29 +42,28 @@ module _ (variables : List Variable) (ps : List ProcedureR) (sizes : List ℕ) w
       let behind = of_stray p.module p.stray ++ of_body variables ps sizes p in
       (none_of_both (of_stray p.module p.stray) (of_body variables ps sizes p)
       (none_of_both (of_entry ps p) behind
-      (none_of_both _ (of_entry ps p ++ behind) (none_of_both (of_parameters variables (is_external p.linkage) p.module p.parameters) _ h).1).1).1).1
+      (none_of_both _ (of_entry ps p ++ behind) (none_of_both (of_parameters variables (is_external_linkage p.linkage) p.module p.parameters) _ h).1).1).1).1
 
   -- the rows of the typed trees are among those of the texts
   row_within : (qs : List ProcedureR) → of_procedures variables ps sizes qs ≡ [] → (p q : ℕ) → Contains (row_of (slice_get (map (λ (y : Procedure). statements_calls y.body) (map (procedure_for variables ps sizes) qs)) p)) q
       → Contains (row_of (slice_get (map (λ (y : ProcedureR). called ps (body_effects y)) qs) p)) q
   row_within [] h p q c = c
-  row_within (y ∷ qs) h zero q c = external_within (is_external y.linkage) y (body_faultless y (none_of_both (of_procedure variables ps sizes y) (of_procedures variables ps sizes qs) h).0) q c
+  row_within (y ∷ qs) h zero q c = external_within (is_external_linkage y.linkage) y (body_faultless y (none_of_both (of_procedure variables ps sizes y) (of_procedures variables ps sizes qs) h).0) q c
   row_within (y ∷ qs) h (suc p) q c = row_within qs (none_of_both (of_procedure variables ps sizes y) (of_procedures variables ps sizes qs) h).1 p q c
 
   body_lets : (qs : List ProcedureR) (q : ℕ) → Let (body_of (slice_get (map (procedure_for variables ps sizes) qs) q)) → procedure_lets_in (slice_get qs q) ≡ true
   body_lets [] q l = absurd l
-  body_lets (y ∷ qs) zero l = external_lets (is_external y.linkage) y l
+  body_lets (y ∷ qs) zero l = external_lets (is_external_linkage y.linkage) y l
   body_lets (y ∷ qs) (suc q) l = body_lets qs q l
 
 -- what serves a vector serves an interrupt
-vector_serves : (external : Bool) (n : Option ℕ) → has_vector (Some (cond external None n)) ≡ true → (is_some n && not external) ≡ true
-vector_serves true n e = cc
-vector_serves false None e = cc
-vector_serves false (Some v) e = refl
+vector_serves : (vector : Option ℕ) → has_vector (Some vector) ≡ true → is_some vector ≡ true
+vector_serves None e = cc
+vector_serves (Some v) e = refl
 
 serves_one : (qs : List ProcedureR) (p : ℕ) → serves (map vector_of qs) p ≡ true → serves_interrupt (slice_get qs p) ≡ true
 serves_one [] p e = cc
-serves_one (y ∷ qs) zero e = vector_serves (is_external y.linkage) y.interrupt e
+serves_one (y ∷ qs) zero e = vector_serves (vector_of y) e
 serves_one (y ∷ qs) (suc p) e = serves_one qs p e
 
 pub runs_allowed : RunsLaw

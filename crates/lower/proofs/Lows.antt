@@ -23,7 +23,8 @@ use Rattle.plm_type.specs.declared.statements.Around.TheVariants as stands
 use Rattle.plm_type.specs.Rest as rest
 use Rattle.plm_type.specs.Rest.{Expression, Expressions, NoMore, More, Reference, Refer, Subscripts, NoSubscripts, Target, Statements, End, Procedure}
 use Rattle.plm_type.specs.Shapes.{designated, fixed_place, read_of, store_to, member_stride}
-use Rattle.plm_type.specs.Statements.{assignment, targets, is_external}
+use Rattle.plm_type.specs.Statements.{assignment, targets}
+use Rattle.plm_decl.specs.Names.{is_external_linkage}
 use Rattle.plm_type.specs.Trees.{use_read, use_stored, refer, strided, operated, read_port, shifted, builtin_value}
 use Rattle.plm_type.specs.Types.{width_of}
 use Rattle.plm_type.specs.Typing.{is_measure, is_target, first_type}
@@ -308,7 +309,7 @@ module _ (variables : List Variable) (procedures : List ProcedureR) (objects : L
 
 module _ (variables : List Variable) (declared : List ProcedureR) (sizes : List ℕ) where
   body_low : (p : ProcedureR) → statements_peak (body_for variables declared sizes p) ≤ most_of p.body
-  body_low p = cases (is_external p.linkage)
+  body_low p = cases (is_external_linkage p.linkage)
     where
       cases : (b : Bool) → statements_peak (cond b End (statements_for variables declared sizes p.module (stands.Procedure p.returned) p.body)) ≤ most_of p.body
       cases true = omega arith

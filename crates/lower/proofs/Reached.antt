@@ -14,7 +14,8 @@ use Rattle.icode.specs.declared.instruction.Instruction.TheVariants as op
 use Rattle.icode.specs.declared.code.Routine.{Routine}
 use Rattle.icode.specs.declared.code.Routine.TheVariants as routine
 use Rattle.icode.specs.declared.code.Word.{Word}
-use Rattle.icode.specs.Code.{is_number, procedure_or_none}
+use Rattle.icode.specs.Code.{procedure_or_none}
+use Rattle.icode.specs.Vectors.{is_number}
 use Rattle.icode.specs.Machine.{Context, At, does}
 use Rattle.icode.specs.Runs.{Comes}
 use Rattle.lower.specs.Code.{kind_of, gives, has_vector, serves, number_for, code}

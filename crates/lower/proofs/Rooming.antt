@@ -8,7 +8,8 @@ use Rattle.plm_decl.specs.Names.{ProcedureR, MainR}
 use Rattle.plm_type.specs.declared.statements.Around.TheVariants as stands
 use Rattle.plm_type.specs.Rest.{Statements, End, Procedure}
 use Rattle.plm_type.specs.Faults.{fault_unless}
-use Rattle.plm_type.specs.Statements.{is_external, of_stray, interrupt_fits, of_locations, of_entry}
+use Rattle.plm_type.specs.Statements.{of_stray, interrupt_fits, of_locations, of_entry}
+use Rattle.plm_decl.specs.Names.{is_external_linkage}
 use Rattle.plm_type.specs.Nodes.{statements_nodes, procedures_nodes}
 use Rattle.word86.specs.declared.number.Number.TheVariants.{E401}
 use Rattle.icode.specs.declared.code.Routine.TheVariants as routine
@@ -65,13 +66,13 @@ module _ (variables : List Variable) (declared : List ProcedureR) (sizes : List 
       let here : body_faults r ≡ [] = none_right (of_stray r.module r.stray) (body_faults r)
       (none_right (of_entry declared r) behind
       (none_right fits (of_entry declared r ++ behind)
-      (none_right (of_parameters variables (is_external r.linkage) r.module r.parameters) (fits ++ (of_entry declared r ++ behind))
+      (none_right (of_parameters variables (is_external_linkage r.linkage) r.module r.parameters) (fits ++ (of_entry declared r ++ behind))
       (none_left (of_procedure variables declared sizes r) (of_procedures variables declared sizes ps) none)))) in
       subst (λ x. body_faults x ≡ []) (ap (λ (o : Option ProcedureR). elim o [ None ↦ r | Some x ↦ x ]) got) here
   no_fault_in (r ∷ ps) (suc q) p none got = no_fault_in ps q p (none_right (of_procedure variables declared sizes r) (of_procedures variables declared sizes ps) none) got
 
   body_count : (p : ProcedureR) → body_faults p ≡ [] → typed.statements_nodes (body_for variables declared sizes p) ≤ statements_nodes p.body
-  body_count p = cases (is_external p.linkage)
+  body_count p = cases (is_external_linkage p.linkage)
     where
       cases : (b : Bool) → cond b [] (of_statements variables declared sizes p.module (stands.Procedure p.returned) p.body) ≡ []
           → typed.statements_nodes (cond b End (statements_for variables declared sizes p.module (stands.Procedure p.returned) p.body)) ≤ statements_nodes p.body

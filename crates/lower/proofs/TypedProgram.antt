@@ -20,7 +20,8 @@ use Rattle.plm_decl.specs.Layout.{elements, structure_of}
 use Rattle.plm_decl.specs.Names.{ProcedureR, object_of, declared_location_of, main_of}
 use Rattle.plm_decl.specs.Placement.{sizes_of}
 use Rattle.plm_decl.specs.Ranges.{Counts, variable_within, object_within, procedure_within}
-use Rattle.plm_decl.specs.Regions.{size_at, region_holds, view_lies}
+use Rattle.plm_decl.specs.Regions.{size_at}
+use Rattle.plm_decl.specs.Lying.{region_holds, view_lies}
 use Rattle.plm_type.specs.declared.checked.Program.{Program}
 use Rattle.plm_type.specs.declared.effects.Effect.{Effect}
 use Rattle.plm_type.specs.declared.effects.Effect.TheVariants.{Calls, Enables}
@@ -31,11 +32,13 @@ use Rattle.plm_type.specs.Interrupts.{called, body_effects, text_graph, IsCalled
 use Rattle.plm_type.specs.Programs.{declared_procedures, main_tree, procedures_of}
 use Rattle.plm_type.specs.Reach.{row_of}
 use Rattle.plm_type.specs.Rest.{Statements, End, Procedure}
-use Rattle.plm_type.specs.Statements.{may_return_value, is_external, is_placed_scalar, index_for, of_parameter, of_entry, is_entry, of_locations}
+use Rattle.plm_type.specs.Statements.{may_return_value, is_placed_scalar, index_for, of_parameter, of_entry, is_entry, of_locations}
+use Rattle.plm_decl.specs.Names.{is_external_linkage}
 use Rattle.plm_type.specs.Trees.{entry_of}
 use Rattle.lower.proofs.Typed.{statements_for, of_statements, of_parameters, of_body, of_procedure, of_procedures, of_main, parameters_for, body_for, procedure_for}
 use Rattle.lower.specs.Code.{Kind, OfMain, are_giving, has_vector, serves, kind_of}
-use Rattle.lower.specs.Lowered.{vector_of, vectors_of}
+use Rattle.plm_decl.specs.Names.{vector_of}
+use Rattle.lower.specs.Lowered.{vectors_of}
 use Rattle.lower.specs.Checked.{IsWellFormed, CheckedLaw}
 use Rattle.lower.specs.Well.{AllLie, ScalarLies, IsCall, MayReturn, MayReturnValue, AreStatements}
 use Rattle.lower.proofs.Bools.{true_false}
@@ -141,9 +144,9 @@ module _ (program : Program) (names : Names) (typed : AreTyped program names) wh
 
   -- ---- calls
 
-  own_parameters : (k : ℕ) (p : ProcedureR) → slice_get ps k ≡ Some p → is_external p.linkage ≡ false → AllLie (sizes_of names) (parameters_for vs p.parameters)
+  own_parameters : (k : ℕ) (p : ProcedureR) → slice_get ps k ≡ Some p → is_external_linkage p.linkage ≡ false → AllLie (sizes_of names) (parameters_for vs p.parameters)
   own_parameters k p e own =
-      let f = (none_both (of_parameters vs (is_external p.linkage) p.module p.parameters) _ (sound k p e)).0 in
+      let f = (none_both (of_parameters vs (is_external_linkage p.linkage) p.module p.parameters) _ (sound k p e)).0 in
       parameters_lie (sizes_of names) vs (are_lying names) p.module p.parameters (subst (λ (b : Bool). of_parameters vs b p.module p.parameters ≡ []) own f) (within k p e)
 
   vector_at : (k : ℕ) (p : ProcedureR) → slice_get ps k ≡ Some p → slice_get (vectors_of names) k ≡ Some (vector_of p)
@@ -152,17 +155,17 @@ module _ (program : Program) (names : Names) (typed : AreTyped program names) wh
   entered : (n k : ℕ) (o : Option ProcedureR) → slice_get ps k ≡ o → is_entry n o ≡ true → is_for_interrupt o ≡ false → IsCall (sizes_of names) (procedures_of names) MayCall k n
   entered n k None e h i = absurd (true_false (sym h))
   entered n k (Some p) e h i =
-      let both = and_parts (not (is_external p.linkage)) (nat_eq (length p.parameters) n) h in (
+      let both = and_parts (not (is_external_linkage p.linkage)) (nat_eq (length p.parameters) n) h in (
         procedure_for vs ps (sizes_of names) p,
         slice_get-map (procedure_for vs ps (sizes_of names)) ps k ∙ ap (option_map (procedure_for vs ps (sizes_of names))) e,
         as_many_parameters vs p.parameters ∙ eqb-true (length p.parameters) n both.1,
-        own_parameters k p e (not-true (is_external p.linkage) both.0),
-        ap has_vector (vector_at k p e) ∙ unserved (is_external p.linkage) p.interrupt i,
+        own_parameters k p e (not-true (is_external_linkage p.linkage) both.0),
+        ap has_vector (vector_at k p e) ∙ unserved (is_external_linkage p.linkage) p.interrupt i,
       )
 
   entry_sound : (k : ℕ) (p : ProcedureR) → slice_get ps k ≡ Some p → is_entry (length p.parameters) (slice_get ps p.entry) ≡ true
   entry_sound k p e =
-      let behind = (none_both (of_parameters vs (is_external p.linkage) p.module p.parameters) _ (sound k p e)).1 in
+      let behind = (none_both (of_parameters vs (is_external_linkage p.linkage) p.module p.parameters) _ (sound k p e)).1 in
       holds_there p.module (is_entry (length p.parameters) (slice_get ps p.entry)) E401 p.place (none_both (of_entry ps p) _ (none_both _ _ behind).1).0
 
   callable_at : (q : ℕ) (o : Option ProcedureR) → slice_get ps q ≡ o → is_for_interrupt (slice_get ps (entry_of o)) ≡ false → Callable ps (sizes_of names) (procedures_of names) MayCall o
@@ -194,7 +197,7 @@ module _ (program : Program) (names : Names) (typed : AreTyped program names) wh
 
   serving_untyped : (q : ℕ) (p : ProcedureR) → slice_get ps q ≡ Some p → serves (vectors_of names) q ≡ true → is_some p.returned ≡ false
   serving_untyped q p e h =
-      let i = for_interrupt (is_external p.linkage) p.interrupt (ap has_vector (sym (vector_at q p e)) ∙ h) in
+      let i = for_interrupt (is_external_linkage p.linkage) p.interrupt (ap has_vector (sym (vector_at q p e)) ∙ h) in
       untyped (is_some p.interrupt) (is_some p.returned) (not (nat_eq (length p.parameters) 0)) i
       (λ misused. typed.none_misused q (inl (ap has_interface e ∙ misused)))
 
@@ -206,11 +209,11 @@ module _ (program : Program) (names : Names) (typed : AreTyped program names) wh
 
   own_body : (q : ℕ) (p : ProcedureR) → slice_get ps q ≡ Some p → AreStatements (sizes_of names) (procedures_of names) MayCall (kind_of (serves (vectors_of names) q) true) (body_for vs ps (sizes_of names) p)
   own_body q p e =
-      let behind = (none_both (of_parameters vs (is_external p.linkage) p.module p.parameters) _ (sound q p e)).1 in
+      let behind = (none_both (of_parameters vs (is_external_linkage p.linkage) p.module p.parameters) _ (sound q p e)).1 in
       let faultless = (none_both _ (of_body vs ps (sizes_of names) p) (none_both (of_entry ps p) _ (none_both _ _ behind).1).1).1 in
       let row : row_of (slice_get (text_graph ps) q) ≡ called ps (body_effects p) = ap row_of (slice_get-map (λ (z : ProcedureR). called ps (body_effects z)) ps q ∙ ap (option_map (λ (z : ProcedureR). called ps (body_effects z))) e) in
       let calls = texts_callable (body_effects p) (λ k c. uncalled k (inr (q, subst (λ (l : List ℕ). Contains l k) (sym row) c))) in
-      body_if (is_external p.linkage) (kind_of (serves (vectors_of names) q) true) (of_statements vs ps (sizes_of names) p.module (stands.Procedure p.returned) p.body) (effects.of_statements p.body) (statements_for vs ps (sizes_of names) p.module (stands.Procedure p.returned) p.body)
+      body_if (is_external_linkage p.linkage) (kind_of (serves (vectors_of names) q) true) (of_statements vs ps (sizes_of names) p.module (stands.Procedure p.returned) p.body) (effects.of_statements p.body) (statements_for vs ps (sizes_of names) p.module (stands.Procedure p.returned) p.body)
       (λ f g. statements_well ps (sizes_of names) (procedures_of names) MayCall vs (are_lying names) p.module (stands.Procedure p.returned) (kind_of (serves (vectors_of names) q) true)
       (λ h. return_if (serves (vectors_of names) q)) (value_if (serves (vectors_of names) q) p.returned (serving_untyped q p e)) p.body f g)
       faultless calls

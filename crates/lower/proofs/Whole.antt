@@ -13,8 +13,10 @@ use Rattle.icode.specs.declared.code.Routine.TheVariants as routine
 use Rattle.icode.specs.declared.code.Word.{Word}
 use Rattle.icode.specs.declared.code.Word.TheVariants.{Return}
 use Rattle.icode.specs.Machine.{At}
-use Rattle.icode.specs.Code.{is_number, procedure_or_none}
-use Rattle.lower.specs.Code.{OfMain, Called, Giving, Serving, kind_of, are_giving, are_silent, statements_code, routine_code, serves, number_for, body_for, procedure_code, code}
+use Rattle.icode.specs.Code.{procedure_or_none}
+use Rattle.icode.specs.Vectors.{is_number}
+use Rattle.lower.specs.Code.{OfMain, Called, Giving, Serving, kind_of, are_giving, are_silent, statements_code, routine_code, serves, number_for, procedure_code, code}
+use Rattle.plm_type.specs.Programs.{body_for}
 use Rattle.lower.specs.Well.{AreStatements}
 use Rattle.lower.specs.Tracking.{IsProgram, CodeTracks, LoweringTracks}
 use Rattle.std.specs.Prelude.{get_or}

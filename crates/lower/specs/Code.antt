@@ -10,7 +10,7 @@ use Rattle.word86.specs.declared.place.Place.TheVariants as places
 use Rattle.word86.specs.Access.{Where, In}
 use Rattle.word86.specs.Access as access
 use Rattle.plm_type.specs.Rest.{Anchor, InObject, OnScreen, Behind, There, Scalar, Expression, Constant, Plain, Variable, Location, Unary, Binary, Embedded, Input, Call, Value, Passing, Running, Expressions, NoMore, More, Refer, Subscripts, NoSubscripts, Subscript, Target, ToPlain, ToVariable, ToPort, Targets, Only, Also, Count, Statement, Empty, Assign, Evaluate, Return, ReturnValue, Enabling, Disabling, Halting, If, Block, While, Case, Iterate, Leaving, Round, Comparing, Stepping, Adding, Storing, Ending, Statements, End, Then, Returned, Procedure}
-use Rattle.plm_type.specs.Next.{parameters_of, body_of}
+use Rattle.plm_type.specs.Next.{parameters_of}
 use Rattle.icode.specs.declared.instruction.Instruction.{Instruction}
 use Rattle.icode.specs.declared.instruction.Instruction.TheVariants as op
 use Rattle.icode.specs.declared.instruction.Relation.{Relation}
@@ -19,7 +19,7 @@ use Rattle.icode.specs.declared.instruction.Test.{Test}
 use Rattle.icode.specs.declared.instruction.Test.TheVariants as test
 use Rattle.icode.specs.declared.code.Routine.{Routine}
 use Rattle.icode.specs.declared.code.Routine.TheVariants as routine
-use Rattle.icode.specs.Code.{is_number}
+use Rattle.icode.specs.Vectors.{is_number}
 pub use Rattle.lower.specs.declared.kind.Kind.{Kind}
 pub use Rattle.lower.specs.declared.kind.Kind.TheVariants.{OfMain, Called, Giving, Serving}
 
@@ -482,13 +482,9 @@ has_vector None = false
 abbrev pub serves : (vectors : List (Option ℕ)) → (procedure : ℕ) → Bool
 serves vectors q = has_vector (slice_get vectors q)
 
--- the first procedure that serves a vector; what it does, and where its code begins; without one nothing is done
+-- the first procedure that serves a vector
 abbrev pub number_for : (vectors : List (Option ℕ)) → (vector : ℕ) → Option ℕ
 number_for vectors v = position (λ n. is_number n v) vectors
-
-abbrev pub body_for : List Procedure → Option ℕ → Statements
-body_for procedures (Some q) = body_of (slice_get procedures q)
-body_for procedures None = End
 
 abbrev pub kind_of : (serves gives : Bool) → Kind
 kind_of serves gives = cond serves Serving (cond gives Giving Called)

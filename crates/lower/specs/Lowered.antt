@@ -1,18 +1,14 @@
 -- What `lower` gives: the code of a program's trees, each procedure in the section of its module.
-use Rattle.std.specs.Prelude.{◌≡◌, ℕ, suc, max, cond, List, [], ◌∷◌, map, Option, None}
+use Rattle.std.specs.Prelude.{◌≡◌, ℕ, suc, max, List, [], ◌∷◌, map, Option}
 use Rattle.plm_decl.specs.declared.names.Names.{Names}
-use Rattle.plm_decl.specs.Names.{ProcedureR, main_of}
+use Rattle.plm_decl.specs.Names.{ProcedureR, main_of, vector_of}
 use Rattle.plm_type.specs.Programs.{declared_procedures, main_tree, procedures_of, handler_tree}
-use Rattle.plm_type.specs.Statements.{is_external}
 use Rattle.icode.specs.declared.instruction.Instruction.{Instruction}
 use Rattle.icode.specs.declared.code.Routine.{Routine}
 use Rattle.icode.specs.declared.code.Code.{Code}
 use Rattle.icode.specs.Code.{code_of, serving, procedure_or_none}
-use Rattle.lower.specs.Code.{code, number_for, body_for}
-
--- an EXTERNAL procedure serves no interrupt
-abbrev pub vector_of : ProcedureR → Option ℕ
-vector_of p = cond (is_external p.linkage) None p.interrupt
+use Rattle.lower.specs.Code.{code, number_for}
+use Rattle.plm_type.specs.Programs.{body_for}
 
 -- the last module that has a procedure, or main
 abbrev pub last_module : ℕ → List ProcedureR → ℕ

@@ -5,7 +5,8 @@ ghost use Rattle.plm_decl.specs.Names.{procedure_of};
 ghost use Rattle.plm_type.specs.Statements.{interrupt_fits};
 ghost use Rattle.plm_type.specs.View.{statements_of, procedures_of};
 ghost use Rattle.lower.specs.Code.{kind_of, has_vector};
-ghost use Rattle.lower.specs.Lowered.{IsLowered, vector_of, last_module};
+ghost use Rattle.plm_decl.specs.Names.{vector_of};
+ghost use Rattle.lower.specs.Lowered.{IsLowered, last_module};
 ghost use Rattle.lower.specs.Inner.Lowering.{plain, one_lowered, all_lowered};
 
 use crate::callees::{Callees, are_giving, giving};
@@ -14,20 +15,16 @@ use crate::laws::{checked_code_is_sound, checked_trees_are_well_formed};
 use crate::statements::Around;
 use icode::{Code, Procedure};
 use plm_decl::Names;
-use plm_syntax::Linkage;
 use plm_type::{Program, Statement};
 use std::alloc::Global;
 use word86::Fault;
 
-// The vector that a procedure serves: an EXTERNAL one serves none.
+// The vector that a procedure serves, in a byte.
 fn vector_of(procedure: &plm_decl::Procedure) -> Option<u8>
     requires { interrupt_fits procedure.now.interrupt ≡ true }
     ensures { result ≡ vector_of (procedure_of procedure.now) }
 {
-    match procedure.linkage {
-        Linkage::External => None,
-        Linkage::None | Linkage::Public => u8::try_from(procedure.interrupt?).ok(),
-    }
+    u8::try_from(procedure.vector()?).ok()
 }
 
 // What a procedure is that serves this vector, if any, and may give a value.
@@ -90,7 +87,7 @@ impl Around<'_> {
 }
 
 /// The intermediate code of a checked program: main's, and each procedure's in the section of its module, with the vector that it
-/// serves. Levels, jumps and calls are sound: `Code` keeps that.
+/// serves, and the program's table of those who serve vectors. Levels, jumps and calls are sound: `Code` keeps that.
 ///
 /// # Errors
 ///
@@ -114,6 +111,8 @@ pub fn lower(alloc: Global, program: &Program) -> Result<Code, Fault>
     };
     let mut order = Vec::new(alloc);
     order.extend_from_slice(program.order())?;
+    let mut handlers = Vec::new(alloc);
+    handlers.extend_from_slice(program.handler_numbers())?;
     let sections = sections_of(names)?;
     let main = around.routine(program.main())?;
     let procedures = around.all(names)?;
@@ -123,5 +122,6 @@ pub fn lower(alloc: Global, program: &Program) -> Result<Code, Fault>
         main,
         procedures,
         order,
+        handlers,
     })
 }

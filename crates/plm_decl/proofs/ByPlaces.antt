@@ -19,8 +19,9 @@ use Rattle.plm_decl.specs.Sites.{first_site, site_after}
 use Rattle.plm_decl.specs.Attributes.{element_values, traits_for}
 use Rattle.plm_decl.specs.Elements.{declared_list, place_of_variable, declared_variable, declared_variables}
 use Rattle.plm_decl.specs.Fill.{filled_element, declared_at, declared_names, element}
-use Rattle.plm_decl.specs.Stray.{is_external_linkage}
-use Rattle.plm_decl.specs.Statements.{step_for, last_name, block_path, with_elements, statement, basic, statements as read_statements, block, with_items, with_item}
+use Rattle.plm_decl.specs.Names.{is_external_linkage}
+use Rattle.plm_decl.specs.Statements.{step_for, block_path, with_elements, statement, basic, statements as read_statements, block, with_items, with_item}
+use Rattle.plm_syntax.specs.Spelling.{last_name}
 use Rattle.plm_decl.specs.Procedures.{linkage_of, header, declared_procedure, parameters_from, completed}
 use Rattle.plm_decl.specs.Joins.{has_statements, with_main, at_module, with_module, modules_from, known_from}
 use Rattle.plm_decl.specs.Laws.{Before, scope_at}

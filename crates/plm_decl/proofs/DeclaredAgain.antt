@@ -36,7 +36,7 @@ use Rattle.plm_decl.specs.Spelling.{name_after}
 use Rattle.plm_decl.specs.Scope.{Entries, Frame, frame, path_in, is_external, found_in, found_here}
 use Rattle.plm_decl.specs.Resolver.{Known, ExternalR, note, note_unless, note_whole, nothing_known}
 use Rattle.plm_decl.specs.Lists.{name_list, member_list, element_list, value_list, reference_list}
-use Rattle.plm_decl.specs.Names.{ObjectR, ProcedureR}
+use Rattle.plm_decl.specs.Names.{ObjectR, ProcedureR, is_external_linkage}
 use Rattle.plm_decl.specs.Regions.{size_at}
 use Rattle.plm_decl.specs.Uses.{used}
 use Rattle.plm_decl.specs.Resolved.{ReferencesR, StatementsR, no_references, and_reference}
@@ -47,8 +47,8 @@ use Rattle.plm_decl.specs.Elements.{start, found_item, base_for, with_screen_nam
 use Rattle.plm_decl.specs.Sites.{location_site, at_site, first_site, site_after}
 use Rattle.plm_decl.specs.Attributes.{element_values, has_values, is_placed, traits_for}
 use Rattle.plm_decl.specs.Fill.{location_in, datum_for, FillingR, given_at, given_in, put_datum, too_many, name_at, put_at, put_value, past_at, unless_past, put_characters, put_single, filled_with, filled_from, filled_element, declared_at, declared_names, element}
-use Rattle.plm_decl.specs.Stray.{is_external_linkage}
-use Rattle.plm_decl.specs.Statements.{targets_from, step_for, last_name, block_path, with_elements, statement, basic, statements as read_statements, block, with_items, with_item}
+use Rattle.plm_decl.specs.Statements.{targets_from, step_for, block_path, with_elements, statement, basic, statements as read_statements, block, with_items, with_item}
+use Rattle.plm_syntax.specs.Spelling.{last_name}
 use Rattle.plm_decl.specs.Procedures.{linkage_of, is_handled, note_handler, header, with_header, declared_procedure, parameter_is, with_parameter, parameter_for, parameters_from, completed_at}
 use Rattle.plm_decl.specs.Joins.{region_joined, entry_joined, joined, agree, unjoined, external_joined, externals_joined, have_room, program_fault, modules_joined, has_statements, with_main, at_module, with_module, modules_from, known_from}
 use Rattle.plm_decl.specs.Modules.{faults_of, whole_faults_of}

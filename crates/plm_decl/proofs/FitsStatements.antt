@@ -26,15 +26,15 @@ use Rattle.plm_decl.specs.Layout.{counted}
 use Rattle.plm_decl.specs.Scope.{Entries, Frame, frame, found_here, found_in, path_in, is_external}
 use Rattle.plm_decl.specs.Spelling.{name_after}
 use Rattle.plm_decl.specs.Resolver.{Known, ExternalR, nothing_known}
-use Rattle.plm_decl.specs.Names.{ObjectR, ProcedureR, object_of}
+use Rattle.plm_decl.specs.Names.{ObjectR, ProcedureR, object_of, is_external_linkage}
 use Rattle.plm_decl.specs.Lists.{element_list, name_list, reference_list}
 use Rattle.plm_decl.specs.Uses.{used}
-use Rattle.plm_decl.specs.Stray.{is_external_linkage}
 use Rattle.plm_decl.specs.Resolved.{ReferencesR, no_references, StatementsR, and_reference}
 use Rattle.plm_decl.specs.Expressions.{expression, reference}
 use Rattle.plm_decl.specs.Elements.{start, linked, with_variable}
 use Rattle.plm_decl.specs.Fill.{element}
-use Rattle.plm_decl.specs.Statements.{targets_from, step_for, last_name, block_path, with_elements, statement, basic, statements as read_statements, block, with_items, with_item}
+use Rattle.plm_decl.specs.Statements.{targets_from, step_for, block_path, with_elements, statement, basic, statements as read_statements, block, with_items, with_item}
+use Rattle.plm_syntax.specs.Spelling.{last_name}
 use Rattle.plm_decl.specs.Procedures.{linkage_of, is_handled, note_handler, header, with_header, declared_procedure, in_place_of, parameter_is, with_parameter, parameter_for, parameters_from, completed_at}
 use Rattle.plm_decl.specs.Joins.{agree, with_region, region_joined, entry_joined, joined, external_joined, externals_joined, bytes_from, have_room, program_fault, modules_joined, has_statements, with_main, at_module, with_module, modules_from, known_from}
 use Rattle.plm_decl.specs.Values.{bytes_of_datum, values_fit}

@@ -23,7 +23,7 @@ use Rattle.plm_decl.specs.Resolver.{Known}
 use Rattle.plm_decl.specs.Inner.Shape.{names_of_member}
 use Rattle.plm_decl.specs.Shape.{number_of_elements, with_member_names, with_members}
 use Rattle.plm_decl.specs.Lists.{value_list, name_list, variable_list, member_list, element_list, reference_list, item_list, statement_list}
-use Rattle.plm_decl.specs.Statements.{last_name}
+use Rattle.plm_syntax.specs.Spelling.{last_name}
 
 pub value_list_from : (vs : List Value) (before : ValuesT) → value_list (values_from vs before) ≡ value_list before ++ map value_of vs
 value_list_from [] before = sym (append-nil (value_list before))

@@ -14,7 +14,8 @@ use Rattle.plm_decl.specs.Layout.{counted, elements}
 use Rattle.plm_decl.specs.Names.{ObjectR}
 use Rattle.plm_decl.specs.Resolver.{Known, note_unless}
 use Rattle.plm_decl.specs.Joins.{same_dimension, same_form, same_type, with_region, bytes_from, have_room}
-use Rattle.plm_decl.specs.Regions.{size_at, region_holds, view_lies, views_lie}
+use Rattle.plm_decl.specs.Regions.{size_at}
+use Rattle.plm_decl.specs.Lying.{region_holds, view_lies, views_lie}
 use Rattle.plm_decl.specs.Inner.Regions.{counted_holds, span, lies_in}
 use Rattle.plm_decl.proofs.Kept.{both, left, right}
 

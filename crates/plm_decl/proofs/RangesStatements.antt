@@ -16,15 +16,15 @@ use Rattle.plm_decl.specs.declared.names.Item.TheVariants as item
 use Rattle.plm_decl.specs.Scope.{Entries, Frame, frame, found_here, found_in, path_in, is_external}
 use Rattle.plm_decl.specs.Spelling.{name_after}
 use Rattle.plm_decl.specs.Resolver.{Known, note_whole}
-use Rattle.plm_decl.specs.Names.{ProcedureR}
+use Rattle.plm_decl.specs.Names.{ProcedureR, is_external_linkage}
 use Rattle.plm_decl.specs.Lists.{element_list, name_list, reference_list}
 use Rattle.plm_decl.specs.Uses.{used}
-use Rattle.plm_decl.specs.Stray.{is_external_linkage}
 use Rattle.plm_decl.specs.Resolved.{ReferencesR, no_references, references, ReferenceR', StatementR, StatementsR, no_statements, statements, and_reference, and_statement}
 use Rattle.plm_decl.specs.Expressions.{expression, reference}
 use Rattle.plm_decl.specs.Elements.{linked, with_variable}
 use Rattle.plm_decl.specs.Fill.{element}
-use Rattle.plm_decl.specs.Statements.{targets_from, step_for, last_name, block_path, with_elements, statement, basic, statements as read_statements, block, with_items, with_item}
+use Rattle.plm_decl.specs.Statements.{targets_from, step_for, block_path, with_elements, statement, basic, statements as read_statements, block, with_items, with_item}
+use Rattle.plm_syntax.specs.Spelling.{last_name}
 use Rattle.plm_decl.specs.Procedures.{linkage_of, is_handled, note_handler, header, with_header, declared_procedure, in_place_of, parameter_is, with_parameter, parameter_for, parameters_from, completed_at}
 use Rattle.plm_decl.specs.Ranges.{Counts, binding_within, expression_within, reference_within, references_within, step_within, statement_within, statements_within, variable_within, procedure_within}
 use Rattle.plm_decl.specs.Inner.Ranges.{Within, item_within}

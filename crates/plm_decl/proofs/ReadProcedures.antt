@@ -11,7 +11,7 @@ use Rattle.plm_syntax.specs.View as tree
 use Rattle.plm_decl.specs.Spelling.{name_after}
 use Rattle.plm_decl.specs.Scope.{Frame, frame, path_in, is_external}
 use Rattle.plm_decl.specs.Resolver.{Known}
-use Rattle.plm_decl.specs.Stray.{is_external_linkage}
+use Rattle.plm_decl.specs.Names.{is_external_linkage}
 use Rattle.plm_decl.specs.Procedures.{linkage_of, header, declared_procedure, parameters_from, completed}
 use Rattle.plm_decl.specs.Statements.{block, with_item}
 use Rattle.plm_decl.proofs.ListViews.{name_list_from}

@@ -24,8 +24,9 @@ use Rattle.plm_decl.specs.Sites.{first_site, site_after}
 use Rattle.plm_decl.specs.Attributes.{element_values, traits_for}
 use Rattle.plm_decl.specs.Elements.{declared_list, place_of_variable, declared_variable}
 use Rattle.plm_decl.specs.Fill.{filled_element}
-use Rattle.plm_decl.specs.Stray.{is_external_linkage}
-use Rattle.plm_decl.specs.Statements.{step_for, last_name, block_path, basic}
+use Rattle.plm_decl.specs.Names.{is_external_linkage}
+use Rattle.plm_decl.specs.Statements.{step_for, block_path, basic}
+use Rattle.plm_syntax.specs.Spelling.{last_name}
 use Rattle.plm_decl.specs.Procedures.{linkage_of, header, declared_procedure, parameters_from, completed}
 use Rattle.plm_decl.specs.Joins.{has_statements, with_main, at_module, known_from}
 use Rattle.plm_decl.specs.Laws.{Before, scope_at}

@@ -1,5 +1,5 @@
 -- The fault that is answered: the least by module, token and number.
-use Rattle.std.specs.Prelude.{◌≡◌, ℕ, ◌-◌, ◌^◌, List, [], ◌∷◌, Bool, false, cond, min, nat_eq, nat_lt, Option, Some, None, Contains, All, ◌⊎◌}
+use Rattle.std.specs.Prelude.{◌≡◌, ℕ, ◌-◌, ◌^◌, List, [], Bool, false, cond, min, nat_eq, nat_lt, Contains, All, ◌⊎◌}
 use Rattle.word86.specs.declared.number.Number.{Number}
 use Rattle.word86.specs.declared.number.Number.TheVariants.{E101, E102, E103, E104, E105, E106, E107, E201, E202, E203, E204, E205, E301, E302, E303, E304, E305, E306, E307, E308, E309, E310, E401, E402, E403, E404, E405, E406, E501, E601, E701, E702, E703, E704, E705, W1}
 use Rattle.word86.specs.declared.fault.Fault.{Fault}
@@ -47,15 +47,6 @@ code_of W1 = 999
 
 abbrev pub precedes : Found → Found → Bool
 precedes f g = cond (nat_eq f.module g.module) (cond (nat_eq f.place.token g.place.token) (nat_lt (code_of f.number) (code_of g.number)) (nat_lt f.place.token g.place.token)) (nat_lt f.module g.module)
-
--- of two, the one that precedes; of two at one place with one number the first
-abbrev pub sooner : Option Found → Found → Option Found
-sooner None f = Some f
-sooner (Some g) f = cond (precedes f g) (Some f) (Some g)
-
-abbrev pub least : Option Found → List Found → Option Found
-least o [] = o
-least o (f ∷ fs) = least (sooner o f) fs
 
 -- a fault of the list that none of the list precedes
 abbrev pub IsLeast : List Found → Found → Type 0

@@ -5,6 +5,7 @@ pub mod Resolved
 pub mod ResolvedView
 pub mod Scope
 pub mod Found
+pub mod Least
 pub mod Names
 pub mod Resolver
 pub mod Uses
@@ -33,4 +34,5 @@ pub mod PlacedNames
 pub mod JoinedNames
 pub mod ByPlaces
 pub mod Regions
+pub mod Lying
 pub mod Inner

@@ -1,5 +1,6 @@
 -- What `Names` holds, as plain values.
-use Rattle.std.specs.Prelude.{ℕ, List, Option}
+use Rattle.std.specs.Prelude.{ℕ, nat_eq, cond, List, Option, None, Bool, true, false}
+use Rattle.std.specs.Option.{option_map_or}
 use Rattle.word86.specs.declared.page.Page.{Page}
 use Rattle.plm_syntax.specs.declared.tree.Position.{Position}
 use Rattle.plm_syntax.specs.declared.tree.Linkage.{Linkage}
@@ -12,6 +13,7 @@ use Rattle.plm_decl.specs.declared.names.DeclaredLocation.{DeclaredLocation}
 use Rattle.plm_decl.specs.declared.names.Main.{Main}
 use Rattle.plm_decl.specs.Resolved.{LocationR', StatementsR}
 use Rattle.plm_decl.specs.ResolvedView.{location_of, statements_of}
+use Rattle.plm_syntax.specs.declared.tree.Linkage.TheVariants as linkage
 
 -- a RAM object: its path, its bytes, and the values that its first bytes have at start
 pub record ObjectR : Type 0 where
@@ -39,6 +41,19 @@ pub record ProcedureR : Type 0 where
   pub stray : Option Position
   pub entry : ℕ
   pub body : StatementsR
+
+abbrev pub is_external_linkage : Linkage → Bool
+is_external_linkage linkage.None = false
+is_external_linkage linkage.Public = false
+is_external_linkage linkage.External = true
+
+-- the vector that a procedure serves: an EXTERNAL one serves none
+abbrev pub vector_of : ProcedureR → Option ℕ
+vector_of p = cond (is_external_linkage p.linkage) None p.interrupt
+
+-- an interrupt with this vector enters the procedure, if none before it serves the vector
+abbrev pub handles : (vector : ℕ) → ProcedureR → Bool
+handles v p = option_map_or (λ n. nat_eq n v) (vector_of p) false
 
 -- a location of an AT, INITIAL or DATA
 pub record DeclaredLocationR : Type 0 where

@@ -9,7 +9,7 @@ use Rattle.plm_decl.specs.declared.names.Variable.{Variable}
 use Rattle.plm_decl.specs.declared.names.Names.{Names}
 use Rattle.plm_decl.specs.Lists.{element_list}
 use Rattle.plm_decl.specs.Elements.{declared_list}
-use Rattle.plm_decl.specs.Stray.{is_external_linkage}
+use Rattle.plm_decl.specs.Names.{is_external_linkage}
 use Rattle.plm_decl.specs.Procedures.{linkage_of}
 use Rattle.plm_decl.specs.Modules.{AreNames}
 

@@ -1,5 +1,5 @@
 -- Procedures and their parameters, read in a scope where this much is known.
-use Rattle.std.specs.Prelude.{ℕ, List, [], ◌∷◌, ◌++◌, length, slice_get, slice_set, Bool, false, not, cond, ◌&&◌, ◌||◌, nat_eq, Option, Some, None, is_some, option_map}
+use Rattle.std.specs.Prelude.{ℕ, List, [], ◌∷◌, ◌++◌, length, slice_get, slice_set, Bool, false, not, cond, ◌||◌, Option, Some, None, is_some, option_map}
 use Rattle.std.specs.List.{list_any}
 use Rattle.std.specs.Option.{option_map_or}
 use Rattle.word86.specs.declared.number.Number.TheVariants.{E301, E302, E309}
@@ -19,23 +19,15 @@ use Rattle.plm_decl.specs.declared.names.Item.TheVariants as item
 use Rattle.plm_decl.specs.Layout.{scalar_of}
 use Rattle.plm_decl.specs.Scope.{Frame, Entries, found_here, found_in, with_entry}
 use Rattle.plm_decl.specs.Resolver.{Known, note, note_unless, note_whole}
-use Rattle.plm_decl.specs.Names.{ProcedureR}
+use Rattle.plm_decl.specs.Names.{handles, ProcedureR, is_external_linkage}
 use Rattle.plm_decl.specs.Resolved.{StatementsR, no_statements}
 use Rattle.plm_decl.specs.Elements.{declared, linked, with_variable}
-use Rattle.plm_decl.specs.Stray.{is_external_linkage, stray_of}
+use Rattle.plm_decl.specs.Stray.{stray_of}
 
 abbrev pub linkage_of : LinkageT → Linkage
 linkage_of no_linkage = linkage.None
 linkage_of public_linkage = linkage.Public
 linkage_of external_linkage = linkage.External
-
-abbrev pub has_number : ℕ → Option ℕ → Bool
-has_number n None = false
-has_number n (Some m) = nat_eq m n
-
--- an EXTERNAL procedure handles no interrupt
-abbrev pub handles : ℕ → ProcedureR → Bool
-handles n p = not (is_external_linkage p.linkage) && has_number n p.interrupt
 
 abbrev pub is_handled : ℕ → Known → Bool
 is_handled n k = list_any (handles n) k.procedures

@@ -2,7 +2,7 @@
 use Rattle.std.specs.Prelude.{ℕ, ◌+◌, List, [], ◌∷◌, ◌||◌, Option, Some, None}
 use Rattle.plm_token.specs.Names.{normal}
 use Rattle.plm_syntax.specs.Terminal.{NameT}
-use Rattle.plm_syntax.specs.Tree.{ExpressionT, ReferenceT, NamesT, no_names, names, BasicT, EmptyS, AssignS, CallS, ReturnS, ReturnValueS, EnableS, DisableS, HaltS, IfS, IfElseS, DoS, WhileS, CaseS, IterateS, StatementT, Labelled, StatementsT, BlockT, BlockOf, ItemsT, no_items, items, ItemT, DeclareI, ProcedureI, ElementT}
+use Rattle.plm_syntax.specs.Tree.{ExpressionT, ReferenceT, BasicT, EmptyS, AssignS, CallS, ReturnS, ReturnValueS, EnableS, DisableS, HaltS, IfS, IfElseS, DoS, WhileS, CaseS, IterateS, StatementT, Labelled, StatementsT, BlockT, BlockOf, ItemsT, no_items, items, ItemT, DeclareI, ProcedureI, ElementT}
 use Rattle.plm_syntax.specs.Tree as tree
 use Rattle.plm_decl.specs.Layout.{counted}
 use Rattle.plm_decl.specs.Scope.{Frame, frame, is_external, path_in}
@@ -13,9 +13,9 @@ use Rattle.plm_decl.specs.Lists.{name_list, element_list, reference_list}
 use Rattle.plm_decl.specs.Resolved.{ExpressionR, ReferencesR, no_references, StatementR, EmptyR, AssignR, CallR, ReturnR, ReturnValueR, EnableR, DisableR, HaltR, IfR, IfElseR, DoR, WhileR, CaseR, IterateR, StatementsR, no_statements, and_statement, and_reference}
 use Rattle.plm_decl.specs.Expressions.{expression, reference}
 use Rattle.plm_decl.specs.Fill.{element}
-use Rattle.plm_decl.specs.Stray.{is_external_linkage}
+use Rattle.plm_decl.specs.Names.{is_external_linkage}
 use Rattle.plm_decl.specs.Procedures.{linkage_of, header, declared_procedure, parameters_from, completed}
-pub use Rattle.plm_decl.specs.Procedures.{has_number, handles}
+use Rattle.plm_syntax.specs.Spelling.{last_name}
 
 abbrev pub targets_from : List Frame → ReferencesR → List ReferenceT → Known → ReferencesR × Known
 targets_from frames before [] k = (before, k)
@@ -24,10 +24,6 @@ targets_from frames before (x ∷ xs) k = let r = reference frames x k in target
 abbrev pub step_for : List Frame → Option ExpressionT → Known → Option ExpressionR × Known
 step_for frames None k = (None, k)
 step_for frames (Some e) k = let r = expression frames e k in (Some r.0, r.1)
-
-abbrev pub last_name : NamesT → Option NameT
-last_name no_names = None
-last_name (names ns n) = Some n
 
 -- a DO block has the name of its last label; one without a label is numbered in its module
 abbrev pub block_path : List Frame → Option NameT → Known → List ℕ × Known

@@ -1,15 +1,15 @@
 -- What stands first in an EXTERNAL procedure besides the declarations of its parameters.
-use Rattle.std.specs.Prelude.{List, [], ◌∷◌, Bool, true, false, cond, Option, Some, None}
+use Rattle.std.specs.Prelude.{List, [], ◌∷◌, Bool, cond, Option, Some, None}
 use Rattle.std.specs.List.{list_any}
 use Rattle.std.specs.Option.{option_or}
 use Rattle.plm_token.specs.Names.{names_equal}
 use Rattle.plm_syntax.specs.declared.tree.Position.{Position}
 use Rattle.plm_syntax.specs.declared.tree.Linkage.{Linkage}
-use Rattle.plm_syntax.specs.declared.tree.Linkage.TheVariants as linkage
 use Rattle.plm_syntax.specs.Terminal.{NameT}
 use Rattle.plm_syntax.specs.Tree.{VariableT, VariableOf, ElementT, LiteralElement, VariableElement, ItemT, DeclareI, ProcedureI, ReferenceT, ReferenceOf, BasicT, EmptyS, AssignS, CallS, ReturnS, ReturnValueS, EnableS, DisableS, HaltS, IfS, IfElseS, DoS, WhileS, CaseS, IterateS, StatementT, Labelled, BlockT, BlockOf}
 use Rattle.plm_decl.specs.Lists.{element_list, reference_list, item_list, statement_list}
 use Rattle.plm_decl.specs.Elements.{declared_list}
+use Rattle.plm_decl.specs.Names.{is_external_linkage}
 
 abbrev pub is_parameter : NameT → List NameT → Bool
 is_parameter n ps = list_any (λ p. names_equal p.text n.text) ps
@@ -67,11 +67,6 @@ first_statement (s ∷ ss) = place_of_statement s
 
 abbrev pub stray_in : List NameT → BlockT → Option Position
 stray_in ps (BlockOf is ss) = option_or (stray_items ps (item_list is)) (first_statement (statement_list ss))
-
-abbrev pub is_external_linkage : Linkage → Bool
-is_external_linkage linkage.None = false
-is_external_linkage linkage.Public = false
-is_external_linkage linkage.External = true
 
 abbrev pub stray_of : Linkage → List NameT → BlockT → Option Position
 stray_of l ps b = cond (is_external_linkage l) (stray_in ps b) None

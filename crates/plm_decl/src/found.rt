@@ -1,7 +1,8 @@
 //! Faults where they stand, and the least of them.
 
 ghost use Rattle.std.specs.Prelude.{◌≡◌, [], IfNone, IfSome, None, Some};
-ghost use Rattle.plm_decl.specs.Found.{code_of, precedes, sooner, least, IsLeast, fault_at};
+ghost use Rattle.plm_decl.specs.Found.{code_of, precedes, IsLeast, fault_at};
+ghost use Rattle.plm_decl.specs.Least.{sooner, least};
 
 use plm_syntax::Position;
 use word86::{Fault, Number};

@@ -4,9 +4,9 @@ ghost use Rattle.std.specs.Prelude.{◌≡◌, ◌≤◌, map, true};
 ghost use Rattle.std.specs.List.{list_all, sum_by};
 ghost use Rattle.word86.specs.MemoryMap.{data_room};
 ghost use Rattle.plm_decl.specs.Layout.{structure_of};
-ghost use Rattle.plm_decl.specs.Names.{object_of, procedure_of, declared_location_of, main_of};
+ghost use Rattle.plm_decl.specs.Names.{object_of, procedure_of, vector_of, declared_location_of, main_of};
 ghost use Rattle.plm_decl.specs.Ranges.{names_within};
-ghost use Rattle.plm_decl.specs.Regions.{views_lie};
+ghost use Rattle.plm_decl.specs.Lying.{views_lie};
 ghost use Rattle.plm_decl.specs.Values.{values_fit};
 
 use crate::layout::{Form, ScalarType};
@@ -97,6 +97,18 @@ pub struct Procedure {
     /// The procedure whose body a call runs: itself, or for an EXTERNAL procedure its PUBLIC one.
     pub entry: usize,
     pub body: Vec<Statement>,
+}
+
+impl Procedure {
+    /// The vector that it serves, as its INTERRUPT says. An EXTERNAL procedure serves none: its PUBLIC one does.
+    pub fn vector(&self) -> Option<u32>
+        ensures { result ≡ vector_of (procedure_of self.now) }
+    {
+        match self.linkage {
+            Linkage::External => None,
+            Linkage::None | Linkage::Public => self.interrupt,
+        }
+    }
 }
 
 /// A location of an AT, INITIAL or DATA, with its module.

@@ -6,7 +6,7 @@ ghost use Rattle.plm_syntax.specs.View.{counted, name_of};
 ghost use Rattle.plm_decl.specs.Spelling.{name_after};
 ghost use Rattle.plm_decl.specs.Inner.Scope.{frames_of, entries_of};
 ghost use Rattle.plm_decl.specs.Scope.{is_external, path_in};
-ghost use Rattle.plm_decl.specs.Stray.{is_external_linkage};
+ghost use Rattle.plm_decl.specs.Names.{is_external_linkage};
 ghost use Rattle.plm_decl.specs.Elements.{with_variable};
 ghost use Rattle.plm_decl.specs.Inner.Resolver.{known_of};
 ghost use Rattle.plm_decl.specs.Layout.{scalar_of};
@@ -55,7 +55,7 @@ impl Resolver {
         ensures { result ≡ spec.is_handled number (known_of self.now) }
     {
         for procedure in &self.procedures {
-            if procedure.linkage != Linkage::External && procedure.interrupt == Some(number) {
+            if procedure.vector() == Some(number) {
                 return true;
             }
         }

@@ -4,6 +4,7 @@ ghost use Rattle.std.specs.Prelude.{◌≡◌, IfOk, OnOk, map, None};
 ghost use Rattle.plm_syntax.specs.Tree.{no_references, AssignS, CallS, ReturnValueS, IfS, DoS, WhileS, CaseS};
 ghost use Rattle.plm_syntax.specs.View.{name_of, names_of, element_of, reference_of, item_of, items_of, basic_of, block_of, statement_of, statements_of, procedure_of};
 ghost use Rattle.plm_syntax.specs.View as tree;
+ghost use Rattle.plm_syntax.specs.Spelling.{last_name};
 ghost use Rattle.plm_decl.specs.Inner.Scope.{frames_of};
 ghost use Rattle.plm_decl.specs.Inner.Resolver.{known_of};
 ghost use Rattle.plm_decl.specs.Resolved as resolved;
@@ -34,7 +35,7 @@ struct Bounds {
 impl Resolver {
     /// The path of a `DO;` block: that of its last label, or the number of an unnamed one.
     fn do_path(&mut self, scope: &Scope<'_>, labels: &[Name<'_>]) -> Result<Vec<u8>, AllocError>
-        ensures { IfOk result (λ r. (r.items, known_of self.new) ≡ spec.block_path (frames_of scope.now) (spec.last_name (names_of labels.now)) (known_of self.old)) }
+        ensures { IfOk result (λ r. (r.items, known_of self.new) ≡ spec.block_path (frames_of scope.now) (last_name (names_of labels.now)) (known_of self.old)) }
     {
         match labels.last() {
             Some(label) => {
@@ -217,7 +218,7 @@ impl Resolver {
         scope: &Scope<'_>,
         labels: &[Name<'_>],
     ) -> Result<Statement, AllocError>
-        ensures { IfOk result (λ r. (view.statement_of r, known_of self.new) ≡ spec.basic (frames_of scope.now) (spec.last_name (names_of labels.now)) (DoS place (block_of block.now) None) (known_of self.old)) }
+        ensures { IfOk result (λ r. (view.statement_of r, known_of self.new) ≡ spec.basic (frames_of scope.now) (last_name (names_of labels.now)) (DoS place (block_of block.now) None) (known_of self.old)) }
     {
         let path = self.do_path(scope, labels)?;
         let mut inside = Scope::inside(self.alloc, scope, path, scope.is_external());
@@ -286,7 +287,7 @@ impl Resolver {
         scope: &Scope<'_>,
         labels: &[Name<'_>],
     ) -> Result<Statement, AllocError>
-        ensures { IfOk result (λ r. (view.statement_of r, known_of resolver.new) ≡ spec.basic (frames_of scope.now) (spec.last_name (names_of labels.now)) (basic_of basic.now) (known_of resolver.old)) }
+        ensures { IfOk result (λ r. (view.statement_of r, known_of resolver.new) ≡ spec.basic (frames_of scope.now) (last_name (names_of labels.now)) (basic_of basic.now) (known_of resolver.old)) }
     {
         match basic {
             Basic::Empty(place) => Ok(Statement::Empty(*place)),

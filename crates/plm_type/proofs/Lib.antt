@@ -10,3 +10,4 @@ pub mod MarkedTwice
 pub mod Ordering
 pub mod Faultless
 pub mod MarkedLists
+pub mod Entering

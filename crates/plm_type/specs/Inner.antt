@@ -1,6 +1,5 @@
 pub mod Calls
 pub mod Chains
-pub mod Checked
 pub mod Effects
 pub mod Interrupts
 pub mod Order
@@ -8,3 +7,4 @@ pub mod Reach
 pub mod Sets
 pub mod Typer
 pub mod Builtins
+pub mod Handlers

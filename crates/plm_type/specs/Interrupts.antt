@@ -4,13 +4,12 @@ use Rattle.word86.specs.declared.number.Number.{Number}
 use Rattle.word86.specs.declared.number.Number.TheVariants.{E405, E406}
 use Rattle.plm_decl.specs.declared.names.Names.{Names}
 use Rattle.plm_decl.specs.declared.found.Found.{Found}
-use Rattle.plm_decl.specs.Names.{ProcedureR, main_of}
+use Rattle.plm_decl.specs.Names.{ProcedureR, main_of, is_external_linkage, vector_of}
 use Rattle.plm_type.specs.Effects.{of_statements}
 use Rattle.plm_type.specs.declared.effects.Effect.{Effect}
 use Rattle.plm_type.specs.declared.effects.Effect.TheVariants.{Calls, Enables}
 use Rattle.plm_type.specs.Programs.{declared_procedures}
 use Rattle.plm_type.specs.Reach.{Graph, row_of, Leads}
-use Rattle.plm_type.specs.Statements.{is_external}
 use Rattle.plm_type.specs.Trees.{entry_of}
 
 -- the procedures that are called; a call of an EXTERNAL procedure is one of the PUBLIC procedure that it is joined with, too
@@ -26,7 +25,7 @@ lets_in (Enables ∷ es) = true
 
 -- an EXTERNAL procedure has no body of its own
 abbrev pub body_effects : ProcedureR → List Effect
-body_effects p = cond (is_external p.linkage) [] (of_statements p.body)
+body_effects p = cond (is_external_linkage p.linkage) [] (of_statements p.body)
 
 -- a row for each procedure: those that its text calls
 abbrev pub text_graph : List ProcedureR → Graph
@@ -39,10 +38,9 @@ abbrev pub procedure_lets_in : Option ProcedureR → Bool
 procedure_lets_in None = false
 procedure_lets_in (Some p) = lets_in (body_effects p)
 
--- an EXTERNAL procedure serves no interrupt
 abbrev pub serves_interrupt : Option ProcedureR → Bool
 serves_interrupt None = false
-serves_interrupt (Some p) = is_some p.interrupt && not (is_external p.linkage)
+serves_interrupt (Some p) = is_some (vector_of p)
 
 -- it serves an interrupt, and it or a procedure that it reaches by calls has ENABLE or HALT
 abbrev pub LetsIn : List ProcedureR → ℕ → Type 0

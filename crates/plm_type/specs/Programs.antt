@@ -1,21 +1,25 @@
 -- What the names of a program say: the faults of its types, its trees, and what its contexts have to do at first.
-use Rattle.std.specs.Prelude.{ℕ, List, [], ◌∷◌, ◌++◌, map, cond}
+use Rattle.std.specs.Prelude.{ℕ, List, ◌++◌, map, position, slice_get, Option, Some, None}
 use Rattle.plm_decl.specs.declared.names.Variable.{Variable}
 use Rattle.plm_decl.specs.declared.names.Names.{Names}
 use Rattle.plm_decl.specs.declared.found.Found.{Found}
-use Rattle.plm_decl.specs.Names.{ProcedureR, procedure_of, declared_location_of, main_of}
-use Rattle.plm_decl.specs.Statements.{handles}
+use Rattle.plm_decl.specs.Names.{ProcedureR, handles, procedure_of, declared_location_of, main_of}
 use Rattle.plm_decl.specs.Placement.{sizes_of}
 use Rattle.plm_type.specs.Rest.{Rest, Main, Handler, Statements, End, Procedure}
-use Rattle.plm_type.specs.Statements.{of_locations, typed_body, typed_procedures, typed_main}
+use Rattle.plm_type.specs.Next.{body_of}
+use Rattle.plm_type.specs.Statements.{of_locations, typed_procedures, typed_main}
 
 abbrev pub declared_procedures : Names → List ProcedureR
 declared_procedures names = map procedure_of names.procedures.items
 
--- the body of the procedure for this interrupt; one without a procedure has an empty one
-abbrev pub handler_among : List Variable → List ProcedureR → List ℕ → (vector : ℕ) → List ProcedureR → Statements
-handler_among variables procedures sizes vector [] = End
-handler_among variables procedures sizes vector (p ∷ ps) = cond (handles vector p) (typed_body variables procedures sizes p).tree (handler_among variables procedures sizes vector ps)
+-- the number of the procedure that an interrupt of this vector enters: the first one that serves it, and without E309 the only one
+abbrev pub handler_number : Names → (vector : ℕ) → Option ℕ
+handler_number names vector = position (handles vector) (declared_procedures names)
+
+-- without a procedure nothing is done
+abbrev pub body_for : List Procedure → Option ℕ → Statements
+body_for procedures (Some q) = body_of (slice_get procedures q)
+body_for procedures None = End
 
 module _ (names : Names) where
   abbrev pub faults : List Found
@@ -27,11 +31,11 @@ module _ (names : Names) where
   abbrev pub main_tree : Statements
   main_tree = (typed_main names.variables.items (declared_procedures names) (sizes_of names) (main_of names.main)).tree
 
-  abbrev pub handler_tree : (vector : ℕ) → Statements
-  handler_tree vector = handler_among names.variables.items (declared_procedures names) (sizes_of names) vector (declared_procedures names)
-
   abbrev pub procedures_of : List Procedure
   procedures_of = (typed_procedures names.variables.items (declared_procedures names) (sizes_of names) (declared_procedures names)).tree
+
+  abbrev pub handler_tree : (vector : ℕ) → Statements
+  handler_tree vector = body_for procedures_of (handler_number names vector)
 
   abbrev pub main_rest : Rest
   main_rest = Main main_tree

@@ -6,14 +6,12 @@ use Rattle.word86.specs.declared.width.Width.{Width}
 use Rattle.word86.specs.declared.width.Width.TheVariants as width
 use Rattle.word86.specs.Access.{In}
 use Rattle.plm_syntax.specs.declared.tree.Position.{Position}
-use Rattle.plm_syntax.specs.declared.tree.Linkage.{Linkage}
-use Rattle.plm_syntax.specs.declared.tree.Linkage.TheVariants as linkage
 use Rattle.plm_decl.specs.declared.layout.ScalarType.{ScalarType}
 use Rattle.plm_decl.specs.declared.names.Variable.{Variable}
 use Rattle.plm_decl.specs.declared.resolved.Binding.{Binding}
 use Rattle.plm_decl.specs.declared.resolved.Binding.TheVariants as binding
 use Rattle.plm_decl.specs.declared.found.Found.{Found}
-use Rattle.plm_decl.specs.Names.{ProcedureR, DeclaredLocationR, MainR}
+use Rattle.plm_decl.specs.Names.{ProcedureR, DeclaredLocationR, MainR, is_external_linkage}
 use Rattle.plm_decl.specs.Resolved.{ExpressionR, ReferenceR', Use, ReferencesR, no_references, references, StatementR, EmptyR, AssignR, CallR, ReturnR, ReturnValueR, EnableR, DisableR, HaltR, IfR, IfElseR, DoR, WhileR, CaseR, IterateR, StatementsR, no_statements, statements}
 use Rattle.plm_type.specs.declared.statements.Around.{Around}
 use Rattle.plm_type.specs.declared.statements.Around.TheVariants as stands
@@ -199,11 +197,7 @@ module _ (variables : List Variable) (procedures : List ProcedureR) (sizes : Lis
 
 -- ---- procedures and main
 
--- an EXTERNAL procedure has only its parameters' declarations: what else stands in it is a fault, and it has no body of its own
-abbrev pub is_external : Linkage → Bool
-is_external linkage.None = false
-is_external linkage.Public = false
-is_external linkage.External = true
+-- An EXTERNAL procedure has only its parameters' declarations: what else stands in it is a fault, and it has no body of its own.
 
 -- a parameter is a scalar that is not based; those of an EXTERNAL procedure lie nowhere, as its arguments go to another's
 abbrev pub is_parameter : (external : Bool) → Variable → Bool
@@ -224,7 +218,7 @@ module _ (variables : List Variable) where
 -- what a call runs has a body of its own, and as many parameters as the call has arguments
 abbrev pub is_entry : ℕ → Option ProcedureR → Bool
 is_entry n None = false
-is_entry n (Some p) = not (is_external p.linkage) && nat_eq (length p.parameters) n
+is_entry n (Some p) = not (is_external_linkage p.linkage) && nat_eq (length p.parameters) n
 
 -- a call of an EXTERNAL procedure passes its arguments to the PUBLIC one's parameters
 abbrev pub of_entry : List ProcedureR → ProcedureR → List Found
@@ -244,11 +238,11 @@ module _ (variables : List Variable) (procedures : List ProcedureR) (sizes : Lis
   abbrev pub typed_body : ProcedureR → Noted Statements
   typed_body p =
       let body = typed_statements variables procedures sizes p.module (stands.Procedure p.returned) p.body in
-      record { tree = cond (is_external p.linkage) End body.tree; faults = cond (is_external p.linkage) [] body.faults }
+      record { tree = cond (is_external_linkage p.linkage) End body.tree; faults = cond (is_external_linkage p.linkage) [] body.faults }
 
   abbrev pub typed_procedure : ProcedureR → Noted Procedure
   typed_procedure p =
-      let parameters = typed_parameters variables (is_external p.linkage) p.module p.parameters in
+      let parameters = typed_parameters variables (is_external_linkage p.linkage) p.module p.parameters in
       let body = typed_body p in
       record {
         tree = record { parameters = parameters.tree; body = body.tree };

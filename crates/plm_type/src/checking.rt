@@ -9,6 +9,7 @@ ghost use Rattle.plm_type.specs.View.{procedures_of};
 
 use crate::calls::call_graph;
 use crate::checked::Program;
+use crate::handlers::handler_numbers;
 use crate::interrupts::interrupt_faults;
 use crate::order::by_rank;
 use crate::program::Procedure;
@@ -65,12 +66,14 @@ pub fn check(alloc: Global, names: Names) -> Result<Program, Fault>
     if let Some(found) = least(&faults) {
         return Err(found.fault());
     }
+    let handler_numbers = handler_numbers(alloc, &names)?;
     match order_of(alloc, &names, &procedures)? {
         Ok(order) => Ok(Program {
             names,
             main,
             procedures,
             order,
+            handler_numbers,
         }),
         Err(found) => Err(found.fault()),
     }

@@ -119,7 +119,7 @@ fn letting_in(alloc: Global, procedures: &[Procedure]) -> Result<Vec<bool>, Allo
 fn serves_interrupt(procedure: &Procedure) -> bool
     ensures { result ≡ spec.serves_interrupt (Some (procedure_of procedure.now)) }
 {
-    procedure.interrupt.is_some() && procedure.linkage != Linkage::External
+    procedure.vector().is_some()
 }
 
 /// Whether a procedure, or one that it reaches by calls, is among the marked ones.

@@ -8,6 +8,7 @@ mod checked;
 mod checking;
 mod effects;
 mod expressions;
+mod handlers;
 mod interrupts;
 mod order;
 mod procedures;

@@ -2,7 +2,7 @@
 //! DATA.
 
 ghost use Rattle.std.specs.Prelude.{◌≡◌, ◌++◌, IfOk, OnOk, map, option_map, slice_get};
-ghost use Rattle.plm_decl.specs.Names.{procedure_of, declared_location_of, main_of};
+ghost use Rattle.plm_decl.specs.Names.{is_external_linkage, procedure_of, declared_location_of, main_of};
 ghost use Rattle.plm_decl.specs.ResolvedView as resolved;
 ghost use Rattle.plm_type.specs.Expressions.{location};
 ghost use Rattle.plm_type.specs.Inner.Typer.{variables, procedures, sizes, noted, noted_after};
@@ -40,7 +40,7 @@ fn is_parameter(external: bool, variable: &Variable) -> bool
 }
 
 fn is_external(linkage: Linkage) -> bool
-    ensures { result ≡ spec.is_external linkage }
+    ensures { result ≡ is_external_linkage linkage }
 {
     match linkage {
         Linkage::External => true,

@@ -9,7 +9,6 @@ use crate::calls::{add_statements, call_graph};
 use crate::checked::Program;
 use crate::reach::{is_marked, reached};
 use plm_decl::Procedure;
-use plm_syntax::Linkage;
 use std::alloc::{AllocError, Global};
 use word86::Fault;
 
@@ -21,11 +20,11 @@ pub struct Warning {
     pub line: u32,
 }
 
-/// Whether it is an interrupt procedure: an EXTERNAL one handles no interrupt.
+/// Whether it is an interrupt procedure.
 fn is_handler(procedure: &Procedure) -> bool
     ensures { result ≡ spec.is_handler procedure.now }
 {
-    procedure.interrupt.is_some() && procedure.linkage != Linkage::External
+    procedure.vector().is_some()
 }
 
 /// Which procedures main reaches, and which each interrupt procedure, itself among them.

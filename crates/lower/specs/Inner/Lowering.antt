@@ -5,7 +5,7 @@ use Rattle.plm_type.specs.Rest.{Statements, Procedure}
 use Rattle.icode.specs.declared.instruction.Instruction.{Instruction}
 use Rattle.icode.specs.declared.code.Procedure as code
 use Rattle.lower.specs.Code.{routine_code, kind_of, are_giving, has_vector}
-use Rattle.lower.specs.Lowered.{vector_of}
+use Rattle.plm_decl.specs.Names.{vector_of}
 
 pub record ProcedureC : Type 0 where
   pub «module» : ℕ

@@ -8,7 +8,7 @@ use Rattle.plm_type.specs.Calls.{graph_of, statements_calls}
 use Rattle.plm_type.specs.Interrupts.{serves_interrupt}
 use Rattle.plm_type.specs.Programs.{declared_procedures, main_tree, procedures_of}
 use Rattle.plm_type.specs.Reach.{Graph, row_of}
-use Rattle.plm_type.specs.Statements.{is_external}
+use Rattle.plm_decl.specs.Names.{is_external_linkage}
 use Rattle.icode.specs.declared.instruction.Instruction.TheVariants.{Invoke}
 use Rattle.icode.specs.declared.code.Position.{Position}
 use Rattle.icode.specs.declared.code.Procedure as declared
@@ -22,21 +22,17 @@ use Rattle.frames.specs.Counting.{IsPastRoom}
 use Rattle.frames.specs.Limits.{IsLimited, SmallProgramsFit}
 use Rattle.lower.specs.Checked.{IsSound}
 use Rattle.lower.specs.Heights.{HeightLaw}
-use Rattle.lower.specs.Lowered.{IsLowered, vector_of}
+use Rattle.plm_decl.specs.Names.{vector_of}
+use Rattle.lower.specs.Lowered.{IsLowered}
 use Rattle.plm86.specs.Depth.{IsCallPath, IsShallow}
 
 -- ---- interrupt procedures
-
-own_vector : (external : Bool) (o : Option ℕ) (v : ℕ) → cond external None o ≡ Some v → (is_some o && not external) ≡ true
-own_vector true o v e = absurd cc
-own_vector false None v e = absurd cc
-own_vector false (Some w) v e = refl
 
 -- a procedure with a vector in the code is one that serves an interrupt
 serves : (o : Option declared.Procedure) (d : Option ProcedureR) → option_map (λ (p : declared.Procedure). p.vector) o ≡ option_map vector_of d → HasVector o → serves_interrupt d ≡ true
 serves None d e h = absurd h
 serves (Some p) None e h = absurd cc
-serves (Some p) (Some d) e h = own_vector (is_external d.linkage) d.interrupt h.0 (sym (same_Some p.vector (vector_of d) e) ∙ h.1)
+serves (Some p) (Some d) e h = ap is_some (sym (same_Some p.vector (vector_of d) e) ∙ h.1)
 
 -- ---- paths
 

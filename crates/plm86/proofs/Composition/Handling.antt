@@ -9,7 +9,8 @@ use Rattle.icode.specs.declared.code.Routine.{Routine}
 use Rattle.icode.specs.declared.code.Routine.TheVariants.{Procedure, Unserved}
 use Rattle.icode.specs.declared.code.Code.{Code}
 use Rattle.icode.specs.declared.registers.Registers.{Registers}
-use Rattle.icode.specs.Code.{code_of, is_number, procedure_or_none, serving}
+use Rattle.icode.specs.Code.{code_of, procedure_or_none, serving}
+use Rattle.icode.specs.Vectors.{is_number}
 use Rattle.icode.specs.Counted.{IsChanged, HasVector, IsHandler}
 use Rattle.select.specs.Saved.{UnservedChangesNone}
 use Rattle.select.specs.Selection.{AreSavedBy}

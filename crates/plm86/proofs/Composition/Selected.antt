@@ -12,7 +12,8 @@ use Rattle.icode.specs.declared.code.Routine.{Routine}
 use Rattle.icode.specs.declared.code.Routine.TheVariants.{Main, Procedure, Unserved, Nowhere}
 use Rattle.icode.specs.declared.code.Code.{Code}
 use Rattle.icode.specs.declared.registers.Registers.{Registers}
-use Rattle.icode.specs.Code.{code_of, is_number, procedure_or_none}
+use Rattle.icode.specs.Code.{code_of, procedure_or_none}
+use Rattle.icode.specs.Vectors.{is_number}
 use Rattle.icode.specs.Counted.{IsHandler, HasVector}
 use Rattle.icode.specs.Heights.{instructions_of}
 use Rattle.icode.specs.Registers.{none}

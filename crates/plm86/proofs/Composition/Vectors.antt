@@ -10,7 +10,8 @@ use Rattle.icode.specs.declared.code.Routine.{Routine}
 use Rattle.icode.specs.declared.code.Routine.TheVariants.{Main, Procedure, Unserved, Nowhere}
 use Rattle.icode.specs.declared.code.Code.{Code}
 use Rattle.icode.specs.declared.registers.Registers.{Registers}
-use Rattle.icode.specs.Code.{is_number, procedure_or_none}
+use Rattle.icode.specs.Code.{procedure_or_none}
+use Rattle.icode.specs.Vectors.{is_number}
 use Rattle.icode.specs.Code.{serving as entered}
 use Rattle.select.specs.declared.part.Entry.TheVariants as entry
 use Rattle.select.specs.declared.part.Part.{Part}

@@ -1,12 +1,14 @@
-use Rattle.std.proofs.Common.{◌++◌, ◌∙◌, refl, ap, sym, subst}
-use Rattle.plm_type.specs.Programs.{procedures_of}
+use Rattle.std.proofs.Common.{ℕ, List, ◌++◌, Option, Some, slice_get, ◌∙◌, refl, ap, sym, subst}
+use Rattle.plm_decl.specs.declared.names.Names.{Names}
+use Rattle.plm_type.specs.Programs.{procedures_of, handler_number}
 use Rattle.plm_type.specs.Calls.{graph_of}
 use Rattle.plm_type.specs.Order.{IsOrder}
 use Rattle.icode.specs.Heights.{HasHeights}
 use Rattle.icode.specs.Made.{IsMade}
 use Rattle.icode.specs.declared.code.Routine.TheVariants as routine
 use Rattle.lower.proofs.Numbers.{numbers_fit}
-use Rattle.lower.proofs.Procedures.{names_lowered, main_lowered, procedure_codes, procedures_ordered, program_lowered}
+use Rattle.lower.proofs.Procedures.{names_lowered, main_lowered, procedure_codes, procedure_vectors, procedures_ordered, program_lowered}
+use Rattle.lower.proofs.Handlers.{handler_position}
 use Rattle.lower.proofs.lowering.lower.Goals as goal
 
 pub all-requires : goal.all-requires
@@ -60,6 +62,19 @@ invariant_of-result-clause-ordered c =
     let are = names_lowered program names typed c.procedures-procedures.result.now c.procedures-procedures.ensures qs c.in_ok-procedures.ensures.code in
     let order = c.in_ok-extend_from_slice.ensures.items ∙ ap (λ os. os ++ c.order.result.now) c.new-order.ensures.items ∙ c.order.ensures in
     procedures_ordered names qs are c.extend_from_slice.new.self.items (subst (λ os. IsOrder os (graph_of (procedures_of names))) (sym order) typed.order) sound
+
+pub invariant_of-result-clause-handlers_are : goal.invariant_of-result-clause-handlers_are
+invariant_of-result-clause-handlers_are c v h =
+    let program = c.args.program.now in
+    let names = c.names-names.result.now in
+    let typed = c.names-names.ensures.typed in
+    let qs = c.in_ok-procedures.procedures.items in
+    let are = names_lowered program names typed c.procedures-procedures.result.now c.procedures-procedures.ensures qs c.in_ok-procedures.ensures.code in
+    let copied = c.in_ok-extend_from_slice-2.ensures.items ∙ ap (λ hs. hs ++ c.handler_numbers.result.now) c.new-handlers.ensures.items in
+    ap (λ (hs : List (Option ℕ)). slice_get hs v) copied
+    ∙ c.handler_numbers.ensures v h
+    ∙ ap (λ (ns : Names). Some (handler_number ns v)) (sym c.names-names.ensures.names)
+    ∙ ap Some (sym (handler_position names qs (procedure_vectors names qs are) v))
 
 pub returns-clause-lowered : goal.returns-clause-lowered
 returns-clause-lowered c =

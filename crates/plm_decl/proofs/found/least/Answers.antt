@@ -1,7 +1,7 @@
 use Rattle.std.proofs.Common.{List, sym, ◌∙◌}
 use Rattle.std.proofs.lemmas.List.{at_drop_all}
 use Rattle.plm_decl.specs.declared.found.Found.{Found}
-use Rattle.plm_decl.specs.Found.{least}
+use Rattle.plm_decl.specs.Least.{least}
 use Rattle.plm_decl.proofs.Least.{if_found, if_none}
 use Rattle.plm_decl.proofs.found.least.Goals as goal
 

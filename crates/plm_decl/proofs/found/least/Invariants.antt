@@ -1,5 +1,5 @@
 use Rattle.std.proofs.Common.{◌≡◌, drop, None}
-use Rattle.plm_decl.specs.Found.{least}
+use Rattle.plm_decl.specs.Least.{least}
 use Rattle.plm_decl.proofs.found.least.Given as goal
 
 abbrev pub invariant-loop-found : goal.invariant-loop-found

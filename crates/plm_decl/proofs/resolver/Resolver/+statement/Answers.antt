@@ -14,7 +14,7 @@ use Rattle.plm_decl.proofs.SyntaxRows.{statement_row}
 use Rattle.plm_decl.specs.Scope.{Frame, frame, path_in, is_external}
 use Rattle.plm_decl.specs.Inner.Scope.{frames_of}
 use Rattle.plm_decl.specs.Spelling.{name_after}
-use Rattle.plm_decl.specs.Stray.{is_external_linkage}
+use Rattle.plm_decl.specs.Names.{is_external_linkage}
 use Rattle.plm_decl.specs.Inner.Procedures.{name_for, header_for, finished}
 use Rattle.plm_decl.specs.Inner.Statements.{bounds_of, bounds_for, iterated, with_alternative}
 use Rattle.plm_token.specs.Names.{normal}
@@ -23,7 +23,8 @@ use Rattle.plm_decl.specs.Inner.Resolver.{known_of}
 use Rattle.plm_decl.specs.Resolved.{StatementR, StatementsR, DoR, WhileR, CaseR, and_statement}
 use Rattle.plm_decl.specs.ResolvedView as view
 use Rattle.plm_decl.specs.Expressions.{expression}
-use Rattle.plm_decl.specs.Statements.{basic, block, last_name, statement, statements, with_item, with_items}
+use Rattle.plm_decl.specs.Statements.{basic, block, statement, statements, with_item, with_items}
+use Rattle.plm_syntax.specs.Spelling.{last_name}
 use Rattle.plm_decl.specs.Procedures.{declared_procedure}
 use Rattle.plm_decl.proofs.ResolvedRows as rows
 use Rattle.plm_decl.proofs.SyntaxLists.{item_next, statement_next}

@@ -1,6 +1,6 @@
 use Rattle.std.proofs.Common.{◌≡◌, None, Some, inl, refl, sym, subst, ap, ◌∙◌}
 use Rattle.word86.specs.declared.fault.Fault.{Fault}
-use Rattle.plm_decl.specs.Found.{least}
+use Rattle.plm_decl.specs.Least.{least}
 use Rattle.plm_decl.specs.Inner.Resolver.{known_of}
 use Rattle.plm_decl.specs.Inner.Modules.{IsRefused}
 use Rattle.plm_decl.proofs.Least.{none_is, least_found}

@@ -1,7 +1,7 @@
 use Rattle.std.proofs.Common.{◌≡◌, Some, rules, sym, ap, ◌∙◌}
 use Rattle.std.specs.Prelude.{option_map}
 use Rattle.plm_syntax.specs.View.{name_of, names_of}
-use Rattle.plm_decl.specs.Statements.{last_name}
+use Rattle.plm_syntax.specs.Spelling.{last_name}
 use Rattle.plm_decl.proofs.ListViews.{last_name_is}
 use Rattle.plm_decl.proofs.resolver.Resolver.do_path.Goals as goal
 

@@ -1,7 +1,7 @@
 use Rattle.std.proofs.Common.{◌≡◌, map, drop}
 use Rattle.std.specs.List.{list_any}
 use Rattle.plm_decl.specs.Names.{procedure_of}
-use Rattle.plm_decl.specs.Procedures.{handles}
+use Rattle.plm_decl.specs.Names.{handles}
 use Rattle.plm_decl.proofs.resolver.Resolver.is_handled.Given as goal
 
 abbrev pub invariant-loop-procedure : goal.invariant-loop-procedure

@@ -1,7 +1,7 @@
 use Rattle.std.proofs.Common.{◌≡◌, length, None, Some, inr, refl, sym, subst, ap, ◌∙◌}
 use Rattle.std.specs.List.{list_all}
 use Rattle.word86.specs.declared.fault.Fault.{Fault}
-use Rattle.plm_decl.specs.Found.{least}
+use Rattle.plm_decl.specs.Least.{least}
 use Rattle.plm_decl.specs.Resolver.{Known}
 use Rattle.plm_decl.specs.Inner.Resolver.{known_of}
 use Rattle.plm_decl.specs.Values.{values_fit}
