@@ -16,9 +16,8 @@ use Rattle.plm_decl.specs.Names.{is_external_linkage}
 use Rattle.lower.proofs.Typed.{statements_for, of_body, of_procedure, of_procedures, of_main, of_parameters, body_for, procedure_for}
 use Rattle.lower.proofs.Typed as typed
 use Rattle.plm_type.specs.Programs.{declared_procedures, main_tree, procedures_of}
-use Rattle.lower.specs.Code.{has_vector, serves, number_for}
+use Rattle.lower.specs.Lowering.{has_vector, serves, number_for, vectors_of}
 use Rattle.plm_decl.specs.Names.{vector_of}
-use Rattle.lower.specs.Lowered.{vectors_of}
 use Rattle.lower.specs.Runs.{RunsLaw}
 use Rattle.lower.proofs.Fitting.{Let}
 use Rattle.lower.proofs.Reached.{main_goes_on, own_end, none_enables, none_halts}

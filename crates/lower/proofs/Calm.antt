@@ -13,7 +13,7 @@ use Rattle.icode.specs.declared.instruction.Instruction.TheVariants as op
 use Rattle.icode.specs.declared.instruction.Relation.{Relation}
 use Rattle.icode.specs.Heights.{popped, behind}
 use Rattle.icode.specs.Made.{asked_constant}
-use Rattle.lower.specs.Code.{Operand, Number, Name, Computed, operand_of, anchor_place, beside, operation, scaled, moved, based, reading, locating, writing, receiving, sending, passing, alone, count_of, relation_of, stands_to, asked, test_of, asking, gives, used, expression_code, first_code, pushed_code, subscripts_code, further_code, target_code, calling, dropped_code, targets_code, condition_code}
+use Rattle.lower.specs.Expressions.{Operand, Number, Name, Computed, operand_of, anchor_place, beside, operation, scaled, moved, based, reading, locating, writing, receiving, sending, passing, alone, count_of, relation_of, stands_to, asked, test_of, asking, gives, used, expression_code, first_code, pushed_code, subscripts_code, further_code, target_code, calling, dropped_code, targets_code, condition_code}
 use Rattle.lower.specs.Well.{IsExpression, AreExpressions, AreSubscripts, IsTarget, AreTargets}
 use Rattle.lower.proofs.Heights.{Keeps, keeps_then, scaled_keeps, based_keeps, alone_keeps, passing_keeps, call_keeps, first_keeps, expression_keeps, subscripts_keep, target_keeps, pushed_up}
 use Rattle.lower.proofs.Fits.{IsWord, Calm, calm_then}

@@ -26,7 +26,7 @@ use Rattle.icode.specs.declared.code.Word.TheVariants.{Return}
 use Rattle.icode.specs.declared.code.Word.TheVariants as words
 use Rattle.icode.specs.Machine.{Context, At, run, loaded, stored, found, address, computed, with_value, value_in, dropped}
 use Rattle.icode.specs.Machine as machine
-use Rattle.lower.specs.Code.{are_giving, used, Operand, Number, Name, Computed, operand_of, place_of, beside, operation, anchor_place, moved, from_base, based, reading, locating}
+use Rattle.lower.specs.Expressions.{are_giving, used, Operand, Number, Name, Computed, operand_of, place_of, beside, operation, anchor_place, moved, from_base, based, reading, locating}
 use Rattle.lower.specs.Well.{Lies, AnchorLies, IsExpression}
 use Rattle.lower.proofs.Setting.{Setting}
 use Rattle.lower.proofs.Sim.{N, X, T, S, eased, then_, up, down, both, bad, touches}

@@ -10,7 +10,8 @@ use Rattle.icode.specs.declared.instruction.Test.{Test}
 use Rattle.icode.specs.Heights.{after, behind, popped}
 use Rattle.icode.specs.Made.{asked_constant, is_case}
 use Rattle.plm_type.specs.Rest.{Scalar}
-use Rattle.lower.specs.Code.{Operand, Number, Name, Computed, next_round, add_pushed, over, failing, choosing, all_of, entries, switching, exit_before, place_of}
+use Rattle.lower.specs.Expressions.{Operand, Number, Name, Computed, place_of}
+use Rattle.lower.specs.Statements.{next_round, add_pushed, over, failing, choosing, all_of, entries, switching, exit_before}
 use Rattle.lower.proofs.Heights.{Keeps, behind_append}
 
 -- a constant operand is a word

@@ -7,7 +7,8 @@ use Rattle.icode.specs.declared.instruction.Instruction.{Instruction}
 use Rattle.icode.specs.declared.instruction.Instruction.TheVariants as op
 use Rattle.icode.specs.declared.instruction.Relation.TheVariants as relation
 use Rattle.icode.specs.Heights.{behind}
-use Rattle.lower.specs.Code.{Kind, OfMain, Called, Giving, Serving, operand_of, place_of, beside, stands_to, test_of, expression_code, targets_code, condition_code, returning, narrowed, next_round, are_silent, over, all_of, switching, exit_before, statement_code, statements_code, cases_code}
+use Rattle.lower.specs.Expressions.{operand_of, place_of, beside, stands_to, test_of, expression_code, targets_code, condition_code}
+use Rattle.lower.specs.Statements.{Kind, OfMain, Called, Giving, Serving, returning, narrowed, next_round, are_silent, over, all_of, switching, exit_before, statement_code, statements_code, cases_code}
 use Rattle.lower.specs.Well.{MayReturn, IsStatement, AreStatements}
 use Rattle.lower.proofs.Heights.{Keeps, expression_keeps, dropped_keeps, targets_keep}
 use Rattle.lower.proofs.Fits.{Fits, Calm, Fitting, AreLevel, level_then, tested_level, choosing_level, switching_level, next_level, fits_then, choosing_fits, one_then_more, repeated_fits, switching_fits, case_fits, counted_fits}

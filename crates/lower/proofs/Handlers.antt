@@ -10,8 +10,7 @@ use Rattle.icode.specs.declared.code.Procedure as code
 use Rattle.icode.specs.declared.code.Code.{Code}
 use Rattle.icode.specs.Code.{procedure_or_none, serving}
 use Rattle.icode.specs.Vectors.{is_number}
-use Rattle.lower.specs.Code.{number_for}
-use Rattle.lower.specs.Lowered.{vectors_of, IsLowered, EntryLaw}
+use Rattle.lower.specs.Lowering.{number_for, vectors_of, IsLowered, EntryLaw}
 
 mapped : {A B : Type 0} (f : A → B) (p : B → Bool) (n : ℕ) (xs : List A) → position_from (λ x. p (f x)) n xs ≡ position_from p n (map f xs)
 mapped f p n [] = refl

@@ -11,7 +11,7 @@ use Rattle.plm_type.specs.Next.{parameters_of}
 use Rattle.icode.specs.declared.instruction.Instruction.{Instruction}
 use Rattle.icode.specs.declared.instruction.Instruction.TheVariants as op
 use Rattle.icode.specs.Heights.{after, behind}
-use Rattle.lower.specs.Code.{Operand, anchor_place, Number, Name, Computed, operand_of, beside, operation, scaled, moved, based, reading, locating, writing, receiving, sending, passing, alone, count_of, gives, used, expression_code, first_code, pushed_code, subscripts_code, further_code, target_code, calling, dropped_code, targets_code}
+use Rattle.lower.specs.Expressions.{Operand, anchor_place, Number, Name, Computed, operand_of, beside, operation, scaled, moved, based, reading, locating, writing, receiving, sending, passing, alone, count_of, gives, used, expression_code, first_code, pushed_code, subscripts_code, further_code, target_code, calling, dropped_code, targets_code}
 
 pub behind_append : (h : ℕ) (xs ys : List Instruction) → behind h (xs ++ ys) ≡ behind (behind h xs) ys
 behind_append h [] ys = refl

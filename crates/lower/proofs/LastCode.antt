@@ -4,7 +4,7 @@ use Rattle.std.proofs.Math.Dec.{leb-zero, leb-suc-zero, leb-suc-suc}
 use Rattle.std.specs.Global.{Box}
 use Rattle.plm_type.specs.declared.program.Statement.{Statement}
 use Rattle.plm_type.specs.View.{statement_of, statements_of}
-use Rattle.lower.specs.Code.{is_silent, are_silent}
+use Rattle.lower.specs.Statements.{is_silent, are_silent}
 
 and_left : (a b : Bool) → (a && b) ≡ true → a ≡ true
 and_left true b h = refl

@@ -38,8 +38,9 @@ use Rattle.icode.specs.declared.code.Routine.TheVariants as routine
 use Rattle.icode.specs.declared.instruction.Instruction.TheVariants.{Finish}
 use Rattle.icode.specs.Heights.{height}
 use Rattle.lower.proofs.Typed.{tree_of, trees_of, selector_trees, value_of, location_of, target_of, types_of, measured_value, argument_value, reference_value, target_trees, called, step_for, statement_for, statements_for, body_for, procedure_for}
-use Rattle.lower.specs.Code.{OfMain, kind_of, are_giving, serves, procedure_code}
-use Rattle.lower.specs.Lowered.{vectors_of, program_code}
+use Rattle.lower.specs.Expressions.{are_giving}
+use Rattle.lower.specs.Statements.{OfMain}
+use Rattle.lower.specs.Lowering.{kind_of, serves, procedure_code, vectors_of, program_code}
 use Rattle.lower.proofs.Peaks.{peak, pushed_peak, reference_peak, subscripts_peak, port_peak, target_peak, targets_peak, statement_peak, statements_peak, low, routine_low}
 
 -- ---- references

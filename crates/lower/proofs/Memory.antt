@@ -14,7 +14,7 @@ use Rattle.plm_type.specs.Rest.{Anchor, InObject, OnScreen, Behind, There, Refer
 use Rattle.plm_type.specs.Places.{placed}
 use Rattle.plm_type.specs.Next.{address_of}
 use Rattle.icode.specs.Machine.{address, found}
-use Rattle.lower.specs.Code.{place_of, anchor_place}
+use Rattle.lower.specs.Expressions.{place_of, anchor_place}
 use Rattle.lower.specs.Well.{Lies, AnchorLies}
 use Rattle.lower.proofs.Setting.{Setting}
 

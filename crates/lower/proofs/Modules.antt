@@ -1,7 +1,7 @@
 -- The last module that has a procedure.
 use Rattle.std.proofs.Common.{◌≤◌, List, [], ◌∷◌, ℕ, arith}
 use Rattle.plm_decl.specs.Names.{ProcedureR}
-use Rattle.lower.specs.Lowered.{last_module}
+use Rattle.lower.specs.Lowering.{last_module}
 
 pub main_before_last : (main : ℕ) (ps : List ProcedureR) → main ≤ last_module main ps
 main_before_last main [] = omega arith

@@ -8,7 +8,7 @@ use Rattle.plm_type.specs.Rest.{Expression, Constant, Plain, Variable, Location,
 use Rattle.plm_type.specs.Reach.{row_of}
 use Rattle.plm_type.specs.Calls.{calls_in, argument_calls, subscript_calls, target_calls, targets_calls, statement_calls, loop_calls, statements_calls, graph_of}
 use Rattle.plm_type.specs.Order.{place_in, IsOrder}
-use Rattle.lower.specs.Code.{Kind, OfMain, Called, Giving, Serving}
+use Rattle.lower.specs.Statements.{Kind, OfMain, Called, Giving, Serving}
 use Rattle.lower.specs.Well.{IsExpression, AreExpressions, AreSubscripts, IsTarget, AreTargets, MayReturn, MayReturnValue, IsStatement, IsLoop, AreStatements}
 
 abbrev NoProcedure : Option Procedure → Type 0

@@ -26,9 +26,10 @@ use Rattle.icode.specs.declared.code.Routine.{Routine}
 use Rattle.icode.specs.declared.code.Routine.TheVariants as routine
 use Rattle.icode.specs.Code.{code_of}
 use Rattle.icode.specs.Heights.{AreOrdered, instructions_of, place_in}
-use Rattle.lower.specs.Code.{Kind, OfMain, routine_code, kind_of, are_giving, has_vector, serves, procedure_code}
+use Rattle.lower.specs.Expressions.{are_giving}
+use Rattle.lower.specs.Statements.{Kind, OfMain, routine_code}
+use Rattle.lower.specs.Lowering.{kind_of, has_vector, serves, procedure_code, IsLowered, vectors_of, last_module, program_code}
 use Rattle.plm_decl.specs.Names.{vector_of}
-use Rattle.lower.specs.Lowered.{IsLowered, vectors_of, last_module, program_code}
 use Rattle.lower.specs.Checked.{IsSound}
 use Rattle.lower.specs.Inner.Lowering.{ProcedureC, plain, one_lowered, all_lowered}
 use Rattle.lower.proofs.Typed.{procedure_for}

@@ -18,7 +18,8 @@ use Rattle.icode.specs.Code.{procedure_or_none}
 use Rattle.icode.specs.Vectors.{is_number}
 use Rattle.icode.specs.Machine.{Context, At, does}
 use Rattle.icode.specs.Runs.{Comes}
-use Rattle.lower.specs.Code.{kind_of, gives, has_vector, serves, number_for, code}
+use Rattle.lower.specs.Expressions.{gives}
+use Rattle.lower.specs.Lowering.{kind_of, has_vector, serves, number_for, code}
 use Rattle.lower.specs.Tracking.{IsProgram}
 use Rattle.lower.proofs.Bools.{true_false}
 use Rattle.lower.proofs.Fitting.{Let, IsServing}

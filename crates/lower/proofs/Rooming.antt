@@ -15,7 +15,9 @@ use Rattle.word86.specs.declared.number.Number.TheVariants.{E401}
 use Rattle.icode.specs.declared.code.Routine.TheVariants as routine
 use Rattle.icode.specs.Room.{room_in}
 use Rattle.lower.proofs.Typed.{statements_for, of_statements, of_parameters, of_body, of_procedure, of_procedures, of_main, body_for, procedure_for, main_for}
-use Rattle.lower.specs.Code.{OfMain, kind_of, are_giving, serves, routine_code, procedure_code, code}
+use Rattle.lower.specs.Expressions.{are_giving}
+use Rattle.lower.specs.Statements.{OfMain, routine_code}
+use Rattle.lower.specs.Lowering.{kind_of, serves, procedure_code, code, vectors_of, program_code}
 use Rattle.lower.specs.Well.{AreStatements}
 use Rattle.plm_decl.specs.declared.names.Names.{Names}
 use Rattle.plm_decl.specs.Names.{declared_location_of, main_of}
@@ -24,7 +26,6 @@ use Rattle.plm_type.specs.declared.checked.Program.{Program}
 use Rattle.plm_type.specs.Checked.{AreTyped}
 use Rattle.plm_type.specs.Programs.{declared_procedures, main_tree}
 use Rattle.lower.specs.Checked.{IsWellFormed}
-use Rattle.lower.specs.Lowered.{vectors_of, program_code}
 use Rattle.lower.specs.Room.{procedures_room, HasRoom}
 use Rattle.lower.proofs.Rooms as typed
 use Rattle.lower.proofs.Counts.{none_left, none_right, statements_count}

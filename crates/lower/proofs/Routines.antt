@@ -14,7 +14,9 @@ use Rattle.icode.specs.declared.code.Routine.{Routine}
 use Rattle.icode.specs.declared.code.Routine.TheVariants as routine
 use Rattle.icode.specs.Heights.{after, behind, height, target, HasHeights}
 use Rattle.icode.specs.Made.{constant_in, cases_of, is_case, IsMade}
-use Rattle.lower.specs.Code.{Kind, OfMain, Called, Giving, Serving, kind_of, gives, are_giving, serves, ending, statements_code, routine_code, procedure_code, code}
+use Rattle.lower.specs.Expressions.{gives, are_giving}
+use Rattle.lower.specs.Statements.{Kind, OfMain, Called, Giving, Serving, ending, statements_code, routine_code}
+use Rattle.lower.specs.Lowering.{kind_of, serves, procedure_code, code}
 use Rattle.lower.specs.Well.{AreStatements}
 use Rattle.lower.specs.Tracking.{IsProgram}
 use Rattle.lower.proofs.Ordered.{statements_all}

@@ -2,7 +2,7 @@
 use Rattle.plm_decl.specs.Placement.{sizes_of}
 use Rattle.plm_type.specs.Programs.{main_tree, procedures_of}
 use Rattle.lower.specs.Checked.{SoundLaw}
-use Rattle.lower.specs.Lowered.{vectors_of, program_code}
+use Rattle.lower.specs.Lowering.{vectors_of, program_code}
 use Rattle.lower.proofs.Routines.{Calls, LetsIn, Ends, program_fits, has_heights, made}
 use Rattle.lower.proofs.Reached.{unserving, in_graph, in_main}
 

@@ -20,7 +20,8 @@ use Rattle.icode.specs.declared.code.Routine.{Routine}
 use Rattle.icode.specs.declared.code.Word.{Word}
 use Rattle.icode.specs.declared.code.Word.TheVariants as words
 use Rattle.icode.specs.Machine.{Context, At, stored, loaded, switched}
-use Rattle.lower.specs.Code.{Operand, Number, Name, Computed, operand_of, place_of, beside, stands_to, test_of, expression_code, target_code, targets_code, calling, condition_code, are_giving, Kind, OfMain, Called, Giving, Serving, returning, narrowed, next_by_number, add_pushed, next_round, is_silent, are_silent, over, choosing, all_of, entries, switching, exit_before, statement_code, statements_code, cases_code}
+use Rattle.lower.specs.Expressions.{Operand, Number, Name, Computed, operand_of, place_of, beside, stands_to, test_of, expression_code, target_code, targets_code, calling, condition_code, are_giving}
+use Rattle.lower.specs.Statements.{Kind, OfMain, Called, Giving, Serving, returning, narrowed, next_by_number, add_pushed, next_round, is_silent, are_silent, over, choosing, all_of, entries, switching, exit_before, statement_code, statements_code, cases_code}
 use Rattle.lower.specs.Well.{Lies, IsExpression, AreTargets, MayReturn, MayReturnValue, IsStatement, IsLoop, AreStatements}
 use Rattle.lower.proofs.Setting.{Setting}
 use Rattle.lower.proofs.Sim.{N, X, S, fewer, eased, then_, up, down, down_more, both, both_more, touches, enables, disables, halts}

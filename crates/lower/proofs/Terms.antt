@@ -18,7 +18,7 @@ use Rattle.icode.specs.declared.code.Word.{Word}
 use Rattle.icode.specs.declared.code.Word.TheVariants.{Return}
 use Rattle.icode.specs.declared.code.Word.TheVariants as words
 use Rattle.icode.specs.Machine.{At, stored, with_value, value_in}
-use Rattle.lower.specs.Code.{Operand, Number, Name, Computed, operand_of, place_of, beside, operation, anchor_place, scaled, reading, locating, based, receiving, sending, passing, alone, count_of, are_giving, gives, used, expression_code, pushed_code, subscripts_code, target_code, calling}
+use Rattle.lower.specs.Expressions.{Operand, Number, Name, Computed, operand_of, place_of, beside, operation, anchor_place, scaled, reading, locating, based, receiving, sending, passing, alone, count_of, are_giving, gives, used, expression_code, pushed_code, subscripts_code, target_code, calling}
 use Rattle.lower.specs.Well.{AllLie, IsExpression, AreExpressions, AreSubscripts, IsTarget}
 use Rattle.lower.proofs.Setting.{Setting}
 use Rattle.lower.proofs.Sim.{N, S, eased, then_, up, down, both, touches}

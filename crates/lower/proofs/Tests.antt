@@ -18,7 +18,7 @@ use Rattle.icode.specs.declared.code.Routine.{Routine}
 use Rattle.icode.specs.declared.code.Word.{Word}
 use Rattle.icode.specs.declared.code.Word.TheVariants as words
 use Rattle.icode.specs.Machine.{Context, At, stands, loaded}
-use Rattle.lower.specs.Code.{Operand, Number, Name, Computed, operand_of, beside, relation_of, stands_to, asked, test_of, asking, expression_code, condition_code}
+use Rattle.lower.specs.Expressions.{Operand, Number, Name, Computed, operand_of, beside, relation_of, stands_to, asked, test_of, asking, expression_code, condition_code}
 use Rattle.lower.specs.Well.{Lies, IsExpression}
 use Rattle.lower.proofs.Setting.{Setting}
 use Rattle.lower.proofs.Sim.{N, X, T, S, eased, then_, up, both, touches}

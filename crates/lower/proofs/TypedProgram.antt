@@ -36,9 +36,10 @@ use Rattle.plm_type.specs.Statements.{may_return_value, is_placed_scalar, index_
 use Rattle.plm_decl.specs.Names.{is_external_linkage}
 use Rattle.plm_type.specs.Trees.{entry_of}
 use Rattle.lower.proofs.Typed.{statements_for, of_statements, of_parameters, of_body, of_procedure, of_procedures, of_main, parameters_for, body_for, procedure_for}
-use Rattle.lower.specs.Code.{Kind, OfMain, are_giving, has_vector, serves, kind_of}
+use Rattle.lower.specs.Expressions.{are_giving}
+use Rattle.lower.specs.Statements.{Kind, OfMain}
+use Rattle.lower.specs.Lowering.{has_vector, serves, kind_of, vectors_of}
 use Rattle.plm_decl.specs.Names.{vector_of}
-use Rattle.lower.specs.Lowered.{vectors_of}
 use Rattle.lower.specs.Checked.{IsWellFormed, CheckedLaw}
 use Rattle.lower.specs.Well.{AllLie, ScalarLies, IsCall, MayReturn, MayReturnValue, AreStatements}
 use Rattle.lower.proofs.Bools.{true_false}

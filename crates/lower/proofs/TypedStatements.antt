@@ -17,7 +17,7 @@ use Rattle.plm_type.specs.Types.{may_be_number}
 use Rattle.plm_type.specs.Shapes.{form_type}
 use Rattle.plm_type.specs.Statements.{may_return, may_return_value, is_placed_scalar, is_index, index_for, variable_meant, targets, assignment}
 use Rattle.lower.proofs.Typed.{tree_of, target_of, type_of, types_of, faults_of, faults_in, target_faults, of_number, target_trees, of_targets, called, of_call, of_index, step_for, of_step, statement_for, statements_for, of_statement, of_statements}
-use Rattle.lower.specs.Code.{Kind}
+use Rattle.lower.specs.Statements.{Kind}
 use Rattle.lower.specs.Well.{ScalarLies, IsExpression, AreTargets, MayReturn, MayReturnValue, IsStatement, AreStatements}
 use Rattle.lower.proofs.Bools.{true_false}
 use Rattle.lower.proofs.TypedPlaces.{none_both, holds_there, IsLying, AreLying, placed_lies}

@@ -35,7 +35,7 @@ use Rattle.plm_type.specs.Shapes.{subscripts_fit, selector_fits, shape_fits, des
 use Rattle.plm_type.specs.Faults.{fault_unless, may_be_used, use_faults, builtin_faults, call_faults}
 use Rattle.plm_type.specs.Trees.{constant, text_value, operated, read_port, to_port, shifted, builtin_value, strided, entry_of, object_size, use_read, use_stored, constants_at, refer}
 use Rattle.lower.proofs.Typed.{tree_of, trees_of, selector_trees, value_of, location_of, target_of, types_of, selector_types, faults_of, faults_in, selector_faults, value_faults, location_faults, target_faults, measured_value, argument_value, reference_value}
-use Rattle.lower.specs.Code.{count_of}
+use Rattle.lower.specs.Expressions.{count_of}
 use Rattle.lower.specs.Well.{Lies, IsCall, IsExpression, AreExpressions, IsReference, AreSubscripts, IsTarget}
 use Rattle.lower.proofs.Bools.{true_false}
 use Rattle.lower.proofs.TypedPlaces.{none_both, holds_there, width_bytes, capped_least, IsLying, AreLying, anchor_lies}

@@ -2,7 +2,9 @@
 use Rattle.std.proofs.lemmas.Bool.{or_parts}
 use Rattle.std.proofs.Common.{◌≡◌, ℕ, Bool, true, false, List, refl}
 use Rattle.plm_type.specs.Rest.{Count, Statement, Empty, Assign, Evaluate, Return, ReturnValue, Enabling, Disabling, Halting, If, Block, While, Case, Iterate, Leaving, Round, Comparing, Stepping, Adding, Storing, Ending, Statements, End, Then, Returned, Procedure}
-use Rattle.lower.specs.Code.{Called, Giving, kind_of, is_giving, are_giving}
+use Rattle.lower.specs.Expressions.{is_giving, are_giving}
+use Rattle.lower.specs.Statements.{Called, Giving}
+use Rattle.lower.specs.Lowering.{kind_of}
 use Rattle.lower.specs.Well.{IsStatement, AreStatements}
 use Rattle.lower.proofs.Bools.{true_false}
 

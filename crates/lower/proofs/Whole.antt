@@ -15,7 +15,9 @@ use Rattle.icode.specs.declared.code.Word.TheVariants.{Return}
 use Rattle.icode.specs.Machine.{At}
 use Rattle.icode.specs.Code.{procedure_or_none}
 use Rattle.icode.specs.Vectors.{is_number}
-use Rattle.lower.specs.Code.{OfMain, Called, Giving, Serving, kind_of, are_giving, are_silent, statements_code, routine_code, serves, number_for, procedure_code, code}
+use Rattle.lower.specs.Expressions.{are_giving}
+use Rattle.lower.specs.Statements.{OfMain, Called, Giving, Serving, are_silent, statements_code, routine_code}
+use Rattle.lower.specs.Lowering.{kind_of, serves, number_for, procedure_code, code}
 use Rattle.plm_type.specs.Programs.{body_for}
 use Rattle.lower.specs.Well.{AreStatements}
 use Rattle.lower.specs.Tracking.{IsProgram, CodeTracks, LoweringTracks}

@@ -12,8 +12,7 @@ use Rattle.icode.specs.declared.code.Routine.{Routine}
 use Rattle.icode.specs.declared.code.Routine.TheVariants as routine
 use Rattle.icode.specs.Heights.{HasHeights}
 use Rattle.icode.specs.Made.{IsMade}
-use Rattle.lower.specs.Code.{serves}
-use Rattle.lower.specs.Lowered.{vectors_of, program_code}
+use Rattle.lower.specs.Lowering.{serves, vectors_of, program_code}
 use Rattle.lower.specs.Tracking.{IsProgram}
 
 -- a program whose trees are well formed

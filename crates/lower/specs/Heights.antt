@@ -4,7 +4,7 @@ use Rattle.plm_decl.specs.declared.names.Names.{Names}
 use Rattle.plm_type.specs.Leaves.{most_leaves}
 use Rattle.icode.specs.declared.code.Routine.{Routine}
 use Rattle.icode.specs.Heights.{height}
-use Rattle.lower.specs.Lowered.{program_code}
+use Rattle.lower.specs.Lowering.{program_code}
 
 -- nowhere more than a statement of the program has constants and references
 abbrev pub HeightLaw : Type 0

@@ -1,9 +1,10 @@
-pub mod Code
-pub mod Well
-pub mod Tracking
-pub mod Lowered
 pub mod Checked
-pub mod Runs
-pub mod Room
+pub mod Expressions
 pub mod Heights
 pub mod Inner
+pub mod Lowering
+pub mod Room
+pub mod Runs
+pub mod Statements
+pub mod Tracking
+pub mod Well

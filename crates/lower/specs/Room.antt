@@ -9,7 +9,7 @@ use Rattle.plm_type.specs.Programs.{declared_procedures}
 use Rattle.icode.specs.declared.code.Routine.TheVariants as routine
 use Rattle.icode.specs.Room.{room_in}
 use Rattle.lower.specs.Checked.{IsWellFormed}
-use Rattle.lower.specs.Lowered.{program_code}
+use Rattle.lower.specs.Lowering.{program_code}
 
 module _ (names : Names) where
   -- of the procedures below this number

@@ -12,9 +12,8 @@ use Rattle.icode.specs.declared.instruction.Instruction.TheVariants.{Finish}
 use Rattle.icode.specs.Code.{procedure_or_none}
 use Rattle.icode.specs.Machine.{Context, At, does}
 use Rattle.icode.specs.Runs.{Comes}
-use Rattle.lower.specs.Code.{number_for}
+use Rattle.lower.specs.Lowering.{number_for, vectors_of, program_code}
 use Rattle.lower.specs.Checked.{IsWellFormed}
-use Rattle.lower.specs.Lowered.{vectors_of, program_code}
 
 module _ (names : Names) where
   abbrev pub runs_in : (offsets sizes : List ℕ) → Context → Action Access Context

@@ -10,7 +10,9 @@ use Rattle.plm_type.specs.Order.{IsOrder}
 use Rattle.icode.specs.declared.code.Routine.TheVariants as routine
 use Rattle.icode.specs.Machine.{Context, At, does}
 use Rattle.icode.specs.Code.{procedure_or_none}
-use Rattle.lower.specs.Code.{OfMain, kind_of, are_giving, serves, number_for, code}
+use Rattle.lower.specs.Expressions.{are_giving}
+use Rattle.lower.specs.Statements.{OfMain}
+use Rattle.lower.specs.Lowering.{kind_of, serves, number_for, code}
 use Rattle.plm_type.specs.Programs.{body_for}
 use Rattle.lower.specs.Well.{AreStatements}
 

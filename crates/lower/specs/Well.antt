@@ -6,7 +6,8 @@ use Rattle.word86.specs.Access.{Where, In, Screen}
 use Rattle.word86.specs.Page.{page_size}
 use Rattle.word86.specs.Place.{bytes}
 use Rattle.plm_type.specs.Rest.{Anchor, InObject, OnScreen, Behind, There, Scalar, Expression, Constant, Plain, Variable, Location, Unary, Binary, Embedded, Input, Call, Value, Passing, Running, Expressions, NoMore, More, Reference, Refer, Subscripts, NoSubscripts, Subscript, Target, ToPlain, ToVariable, ToPort, Targets, Only, Also, Loop, Count, Statement, Empty, Assign, Evaluate, Return, ReturnValue, Enabling, Disabling, Halting, If, Block, While, Case, Iterate, Leaving, Round, Comparing, Stepping, Adding, Storing, Ending, Statements, End, Then, Returned, Procedure}
-use Rattle.lower.specs.Code.{Kind, OfMain, Called, Giving, Serving, count_of}
+use Rattle.lower.specs.Expressions.{count_of}
+use Rattle.lower.specs.Statements.{Kind, OfMain, Called, Giving, Serving}
 
 -- the objects' sizes
 module _ (sizes : List ℕ) where

@@ -2,7 +2,7 @@
 
 ghost use Rattle.std.specs.Prelude.{◌≡◌, map, slice_get, IfOk, IsOkUnless};
 ghost use Rattle.plm_type.specs.View.{statement_of, statements_of, procedures_of};
-ghost use Rattle.lower.specs.Code.{is_giving, are_giving, gives};
+ghost use Rattle.lower.specs.Expressions.{is_giving, are_giving, gives};
 
 use plm_type::{Procedure, Statement};
 use std::alloc::Global;

@@ -1,7 +1,7 @@
 //! DO CASE: a table of jumps, one to each case, and one over them all.
 
 ghost use Rattle.std.specs.Prelude.{◌≡◌, ◌++◌, length, map, vec_items, IfOk, OnOk, IsOkUnless};
-ghost use Rattle.lower.specs.Code.{all_of, entries, switching};
+ghost use Rattle.lower.specs.Statements.{all_of, entries, switching};
 
 use crate::put::{add, distance, put};
 use icode::Instruction;

@@ -5,7 +5,7 @@ ghost use Rattle.plm_type.specs.View.{scalar_of, anchor_of, expression_of, expre
 ghost use Rattle.word86.specs.Place.{where_of};
 ghost use Rattle.plm_type.specs.Rest.{Call};
 ghost use Rattle.plm_type.specs.Next.{parameters_of};
-ghost use Rattle.lower.specs.Code.{anchor_place, scaled, moved, based, reading, locating, writing, receiving, sending, passing, expression_code, subscripts_code, pushed_code, target_code, targets_code, operand_of, alone, beside, calling, dropped_code};
+ghost use Rattle.lower.specs.Expressions.{anchor_place, scaled, moved, based, reading, locating, writing, receiving, sending, passing, expression_code, subscripts_code, pushed_code, target_code, targets_code, operand_of, alone, beside, calling, dropped_code};
 ghost use Rattle.lower.specs.Inner.Chains.{operation_code, chain_code};
 
 use crate::callees::Callees;

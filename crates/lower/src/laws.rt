@@ -2,7 +2,7 @@
 
 ghost use Rattle.lower.specs.Checked.{CheckedLaw, SoundLaw};
 ghost use Rattle.lower.specs.Heights.{HeightLaw};
-ghost use Rattle.lower.specs.Lowered.{EntryLaw};
+ghost use Rattle.lower.specs.Lowering.{EntryLaw};
 ghost use Rattle.lower.specs.Room.{RoomLaw};
 ghost use Rattle.lower.specs.Runs.{RunsLaw};
 ghost use Rattle.lower.specs.Tracking.{LoweringLaw};

@@ -2,7 +2,8 @@
 
 ghost use Rattle.std.specs.Prelude.{◌≡◌, ◌++◌, ◌+◌, length, IfOk, OnOk, IsOkUnless};
 ghost use Rattle.plm_type.specs.View.{expression_of, procedures_of, scalar_of};
-ghost use Rattle.lower.specs.Code.{operand_of, beside, next_by_number, add_pushed, next_round, expression_code, condition_code, test_of};
+ghost use Rattle.lower.specs.Expressions.{operand_of, beside, expression_code, condition_code, test_of};
+ghost use Rattle.lower.specs.Statements.{next_by_number, add_pushed, next_round};
 ghost use Rattle.lower.specs.Inner.Parts.{repeating, counting, iterating};
 
 use crate::callees::Callees;

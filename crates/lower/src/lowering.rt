@@ -4,9 +4,8 @@ ghost use Rattle.std.specs.Prelude.{◌≡◌, true, suc, map, Some, All, IfOk, 
 ghost use Rattle.plm_decl.specs.Names.{procedure_of};
 ghost use Rattle.plm_type.specs.Statements.{interrupt_fits};
 ghost use Rattle.plm_type.specs.View.{statements_of, procedures_of};
-ghost use Rattle.lower.specs.Code.{kind_of, has_vector};
+ghost use Rattle.lower.specs.Lowering.{kind_of, has_vector, IsLowered, last_module};
 ghost use Rattle.plm_decl.specs.Names.{vector_of};
-ghost use Rattle.lower.specs.Lowered.{IsLowered, last_module};
 ghost use Rattle.lower.specs.Inner.Lowering.{plain, one_lowered, all_lowered};
 
 use crate::callees::{Callees, are_giving, giving};

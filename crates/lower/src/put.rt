@@ -2,7 +2,7 @@
 
 ghost use Rattle.std.specs.Prelude.{◌≡◌, ◌+◌, ◌++◌, ◌∷◌, [], IfOk, OnOk, IsOkUnless};
 ghost use Rattle.plm_type.specs.View.{expression_of};
-ghost use Rattle.lower.specs.Code.{operand_of};
+ghost use Rattle.lower.specs.Expressions.{operand_of};
 ghost use Rattle.lower.specs.Inner.Shown.{operand_shown};
 
 use icode::Instruction;

@@ -2,7 +2,7 @@
 
 ghost use Rattle.std.specs.Prelude.{◌≡◌, ℕ, ◌≤◌, length, drop, nat_le};
 ghost use Rattle.plm_type.specs.View.{statement_of, statements_of};
-ghost use Rattle.lower.specs.Code.{is_silent, are_silent, exit_before};
+ghost use Rattle.lower.specs.Statements.{is_silent, are_silent, exit_before};
 
 use plm_type::Statement;
 

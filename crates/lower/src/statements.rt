@@ -4,7 +4,8 @@ ghost use Rattle.std.specs.Prelude.{◌≡◌, ◌++◌, ◌+◌, ◌∷◌, [],
 ghost use Rattle.icode.specs.declared.instruction.Instruction.TheVariants as op;
 ghost use Rattle.plm_type.specs.View.{statement_of, statements_of, expression_of, target_of, targets_of, loop_of, procedures_of};
 ghost use Rattle.plm_type.specs.Rest.{While, Case, Iterate};
-ghost use Rattle.lower.specs.Code.{returning, narrowed, statement_code, statements_code, cases_code, targets_code, over, failing, choosing, ending, routine_code, expression_code, dropped_code, condition_code, test_of};
+ghost use Rattle.lower.specs.Expressions.{targets_code, expression_code, dropped_code, condition_code, test_of};
+ghost use Rattle.lower.specs.Statements.{returning, narrowed, statement_code, statements_code, cases_code, over, failing, choosing, ending, routine_code};
 ghost use Rattle.lower.specs.Inner.Parts.{branching};
 
 use crate::callees::Callees;

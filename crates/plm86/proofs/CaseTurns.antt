@@ -6,7 +6,7 @@ use Rattle.i86_table.specs.Contexts.{Context, Working}
 use Rattle.icode.specs.declared.instruction.Instruction.{Instruction}
 use Rattle.icode.specs.declared.instruction.Instruction.TheVariants as op
 use Rattle.icode.specs.declared.code.Routine.{Routine}
-use Rattle.lower.specs.Code.{all_of, entries, switching, statement_code, cases_code}
+use Rattle.lower.specs.Statements.{all_of, entries, switching, statement_code, cases_code}
 use Rattle.select.specs.Promise.{Image, IsSelected}
 use Rattle.select.specs.Cases.{SilentlyComes, LeadsSoon, CasesComeSoon}
 use Rattle.plm86.specs.Cases.{chosen, cases_after, number_of, StandFrom, behind_case, SilentlyBecomes, IsReachedSoon, IsPassedSoon, CasesAreReachedSoon}

@@ -21,9 +21,8 @@ use Rattle.plm_type.specs.Programs.{declared_procedures, main_tree, procedures_o
 use Rattle.plm_type.specs.Statements.{typed_procedures, typed_main}
 use Rattle.icode.specs.declared.code.Routine.{Routine}
 use Rattle.icode.specs.declared.code.Code.{Code}
-use Rattle.lower.specs.Code.{code}
+use Rattle.lower.specs.Lowering.{code, IsLowered, vectors_of, last_module, program_code}
 use Rattle.plm_decl.specs.Names.{vector_of}
-use Rattle.lower.specs.Lowered.{IsLowered, vectors_of, last_module, program_code}
 use Rattle.select.specs.declared.part.Part.{Part}
 use Rattle.layout_link.specs.declared.image.Image.{Image}
 use Rattle.layout_link.specs.declared.image.RomSize.{RomSize}

@@ -8,7 +8,7 @@ use Rattle.i86_table.specs.Contexts.{Working}
 use Rattle.icode.specs.declared.instruction.Instruction.{Instruction}
 use Rattle.icode.specs.declared.instruction.Instruction.TheVariants as op
 use Rattle.icode.specs.declared.code.Routine.{Routine}
-use Rattle.lower.specs.Code.{all_of, switching, statement_code, cases_code}
+use Rattle.lower.specs.Statements.{all_of, switching, statement_code, cases_code}
 use Rattle.select.specs.Promise.{Image, IsSelected}
 use Rattle.select.specs.Cases.{LeadsSoon}
 

@@ -8,7 +8,7 @@ use Rattle.word86.specs.MemoryMap.{stack_room}
 use Rattle.plm_decl.specs.declared.names.Names.{Names}
 use Rattle.icode.specs.declared.code.Code.{Code}
 use Rattle.icode.specs.Counted.{IsCounted}
-use Rattle.lower.specs.Lowered.{IsLowered}
+use Rattle.lower.specs.Lowering.{IsLowered}
 use Rattle.select.specs.declared.part.Part.{Part}
 use Rattle.select.specs.Selection.{AreParts}
 use Rattle.layout_link.specs.declared.image.Image.{Image}

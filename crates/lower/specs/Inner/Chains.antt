@@ -5,7 +5,7 @@ use Rattle.plm_type.specs.declared.program.Target as declared_target
 use Rattle.plm_type.specs.Rest.{Procedure}
 use Rattle.plm_type.specs.View.{expression_of, target_of}
 use Rattle.icode.specs.declared.instruction.Instruction.{Instruction}
-use Rattle.lower.specs.Code.{operand_of, beside, operation, expression_code, target_code}
+use Rattle.lower.specs.Expressions.{operand_of, beside, operation, expression_code, target_code}
 
 module _ (procedures : List Procedure) where
   abbrev pub operation_code : Operation → List Instruction

@@ -4,7 +4,9 @@ use Rattle.plm_decl.specs.Names.{ProcedureR}
 use Rattle.plm_type.specs.Rest.{Statements, Procedure}
 use Rattle.icode.specs.declared.instruction.Instruction.{Instruction}
 use Rattle.icode.specs.declared.code.Procedure as code
-use Rattle.lower.specs.Code.{routine_code, kind_of, are_giving, has_vector}
+use Rattle.lower.specs.Expressions.{are_giving}
+use Rattle.lower.specs.Statements.{routine_code}
+use Rattle.lower.specs.Lowering.{kind_of, has_vector}
 use Rattle.plm_decl.specs.Names.{vector_of}
 
 pub record ProcedureC : Type 0 where

@@ -5,7 +5,8 @@ use Rattle.icode.specs.declared.instruction.Instruction.{Instruction}
 use Rattle.icode.specs.declared.instruction.Instruction.TheVariants as op
 use Rattle.icode.specs.declared.instruction.Relation.TheVariants as relation
 use Rattle.icode.specs.declared.instruction.Test.{Test}
-use Rattle.lower.specs.Code.{Kind, Operand, place_of, stands_to, next_round, over, choosing, condition_code, test_of, statements_code}
+use Rattle.lower.specs.Expressions.{Operand, place_of, stands_to, condition_code, test_of}
+use Rattle.lower.specs.Statements.{Kind, next_round, over, choosing, statements_code}
 
 abbrev pub branching : List Procedure → Kind → (condition : Expression) (arm : Statements) (silent : Bool) (otherwise : List Instruction) (exit : ℕ) → List Instruction
 branching ps kind c arm silent otherwise exit =

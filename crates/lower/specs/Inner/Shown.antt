@@ -1,7 +1,7 @@
 -- The code's own types as those of the definitions.
 use Rattle.lower.specs.declared.put.Operand as declared_operand
 use Rattle.lower.specs.declared.put.Operand.TheVariants as operand
-use Rattle.lower.specs.Code.{Operand, Number, Name, Computed}
+use Rattle.lower.specs.Expressions.{Operand, Number, Name, Computed}
 
 abbrev pub operand_shown : declared_operand.Operand → Operand
 operand_shown (operand.Number k) = Number k

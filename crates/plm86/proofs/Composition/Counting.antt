@@ -16,7 +16,7 @@ use Rattle.icode.specs.Machine.{Context, At, does}
 use Rattle.icode.specs.Registers.{joined, changes}
 use Rattle.icode.specs.Runs.{Comes}
 use Rattle.frames.specs.Counting.{NoRunPasses}
-use Rattle.lower.specs.Lowered.{IsLowered, EntryLaw}
+use Rattle.lower.specs.Lowering.{IsLowered, EntryLaw}
 use Rattle.lower.specs.Runs.{RunsAreAllowed, runs_in, entered}
 use Rattle.select.specs.Promise.{Image, next_of, words_of, Allowed, Counted, IsServed}
 use Rattle.select.specs.Rows.{registers_of}

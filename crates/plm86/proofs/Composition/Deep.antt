@@ -23,7 +23,7 @@ use Rattle.frames.specs.Limits.{IsLimited, SmallProgramsFit}
 use Rattle.lower.specs.Checked.{IsSound}
 use Rattle.lower.specs.Heights.{HeightLaw}
 use Rattle.plm_decl.specs.Names.{vector_of}
-use Rattle.lower.specs.Lowered.{IsLowered}
+use Rattle.lower.specs.Lowering.{IsLowered}
 use Rattle.plm86.specs.Depth.{IsCallPath, IsShallow}
 
 -- ---- interrupt procedures

@@ -9,7 +9,7 @@ use Rattle.plm_decl.specs.declared.names.Names.{Names}
 use Rattle.icode.specs.declared.code.Code.{Code}
 use Rattle.icode.specs.Counted.{IsCounted}
 use Rattle.frames.specs.Counting.{IsRefusal}
-use Rattle.lower.specs.Lowered.{IsLowered, EntryLaw}
+use Rattle.lower.specs.Lowering.{IsLowered, EntryLaw}
 use Rattle.select.specs.declared.part.Part.{Part}
 use Rattle.select.specs.Selection.{AreParts}
 use Rattle.layout_link.specs.declared.image.Image.{Image}

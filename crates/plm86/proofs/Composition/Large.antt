@@ -12,7 +12,7 @@ use Rattle.icode.specs.declared.code.Routine.TheVariants.{Main, Procedure}
 use Rattle.icode.specs.declared.code.Code.{Code}
 use Rattle.icode.specs.Room.{room_in}
 use Rattle.plm_decl.specs.Names.{vector_of}
-use Rattle.lower.specs.Lowered.{IsLowered}
+use Rattle.lower.specs.Lowering.{IsLowered}
 use Rattle.lower.specs.Room.{procedures_room, HasRoom}
 use Rattle.select.specs.declared.part.Part.{Part}
 use Rattle.select.specs.Room.{room_below, ProgramsHaveRoom}

@@ -11,7 +11,7 @@ use Rattle.icode.specs.declared.code.Code.{Code}
 use Rattle.icode.specs.Counted.{IsCounted}
 use Rattle.frames.specs.declared.counting.Stack.{Stack}
 use Rattle.frames.specs.Counting.{NoRunPasses}
-use Rattle.lower.specs.Lowered.{IsLowered}
+use Rattle.lower.specs.Lowering.{IsLowered}
 use Rattle.select.specs.declared.part.Part.{Part}
 use Rattle.select.specs.Selection.{AreParts}
 use Rattle.layout_link.specs.declared.image.Image.{Image}

@@ -1,7 +1,7 @@
 -- Of a checked program: the code tracks its rests, and the instructions follow the code.
 use Rattle.plm_decl.specs.Placement.{sizes_of}
 use Rattle.plm_type.specs.Programs.{main_tree, procedures_of}
-use Rattle.lower.specs.Lowered.{vectors_of}
+use Rattle.lower.specs.Lowering.{vectors_of}
 use Rattle.plm86.specs.Inner.Images.{LayersMeet}
 use Rattle.plm86.proofs.Composition.Counting.{counted}
 use Rattle.plm86.proofs.Composition.Tracking.{followed}

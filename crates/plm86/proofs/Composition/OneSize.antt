@@ -12,7 +12,7 @@ use Rattle.icode.specs.declared.code.Code.{Code}
 use Rattle.icode.specs.declared.registers.Registers.{Registers}
 use Rattle.icode.specs.Code.{code_of, serving}
 use Rattle.icode.specs.Counted.{IsChanged, HasVector, IsHandler}
-use Rattle.lower.specs.Lowered.{IsLowered, EntryLaw}
+use Rattle.lower.specs.Lowering.{IsLowered, EntryLaw}
 use Rattle.select.specs.declared.part.Entry.{Entry}
 use Rattle.select.specs.declared.part.Entry.TheVariants as entries
 use Rattle.select.specs.declared.part.Fixup.{Fixup}

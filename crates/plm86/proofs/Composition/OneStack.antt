@@ -12,7 +12,7 @@ use Rattle.icode.specs.declared.registers.Registers.{Registers}
 use Rattle.icode.specs.Code.{code_of}
 use Rattle.icode.specs.Counted.{IsDepth, IsChanged, HasVector, IsHandler, IsRoom, IsCounted}
 use Rattle.icode.specs.Registers.{joined}
-use Rattle.lower.specs.Lowered.{IsLowered}
+use Rattle.lower.specs.Lowering.{IsLowered}
 
 -- ---- of one code
 

@@ -10,7 +10,7 @@ use Rattle.frames.specs.Counting.{IsRefusal}
 use Rattle.frames.specs.Limits.{SmallProgramsFit}
 use Rattle.lower.specs.Checked.{IsSound}
 use Rattle.lower.specs.Heights.{HeightLaw}
-use Rattle.lower.specs.Lowered.{IsLowered}
+use Rattle.lower.specs.Lowering.{IsLowered}
 use Rattle.lower.specs.Room.{HasRoom}
 use Rattle.select.specs.declared.part.Part.{Part}
 use Rattle.select.specs.Room.{ProgramsHaveRoom}

@@ -7,7 +7,7 @@ use Rattle.icode.specs.declared.code.Code.{Code}
 use Rattle.icode.specs.Code.{code_of}
 use Rattle.icode.specs.Machine.{Context, At, does}
 use Rattle.icode.specs.Runs.{Comes}
-use Rattle.lower.specs.Lowered.{program_code, IsLowered, EntryLaw}
+use Rattle.lower.specs.Lowering.{program_code, IsLowered, EntryLaw}
 use Rattle.lower.specs.Runs.{runs_in, entered}
 use Rattle.select.specs.Promise.{Image, next_of}
 use Rattle.plm86.specs.Inner.Images.{IsImageOf}

@@ -9,7 +9,7 @@ use Rattle.icode.specs.declared.code.Code.{Code}
 use Rattle.plm_decl.specs.declared.names.Names.{Names}
 use Rattle.plm_decl.specs.Names.{ProcedureR, main_of}
 use Rattle.plm_type.specs.Programs.{declared_procedures}
-use Rattle.lower.specs.Lowered.{IsLowered, last_module}
+use Rattle.lower.specs.Lowering.{IsLowered, last_module}
 use Rattle.select.specs.Selection.{is_procedure, routines}
 use Rattle.plm86.specs.Inner.Assembled.{is_main_routine, or_zero, part_number}
 use Rattle.plm86.proofs.Composition.Orders.{Alone, alone_is, alone_position, main_alone, procedure_alone, last_alone, part_is}

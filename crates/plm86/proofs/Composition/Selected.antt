@@ -19,8 +19,7 @@ use Rattle.icode.specs.Heights.{instructions_of}
 use Rattle.icode.specs.Registers.{none}
 use Rattle.plm_decl.specs.declared.names.Names.{Names}
 use Rattle.plm_decl.specs.Placement.{sizes_of}
-use Rattle.lower.specs.Code.{has_vector, serves}
-use Rattle.lower.specs.Lowered.{vectors_of, program_code}
+use Rattle.lower.specs.Lowering.{has_vector, serves, vectors_of, program_code}
 use Rattle.select.specs.declared.part.Part.{Part}
 use Rattle.select.specs.Linked.{AllStand}
 use Rattle.select.specs.Promise.{IsCallable, IsSelected}

@@ -13,9 +13,8 @@ use Rattle.icode.specs.declared.code.Routine.TheVariants.{Main}
 use Rattle.icode.specs.declared.code.Code.{Code}
 use Rattle.icode.specs.Machine.{At, does}
 use Rattle.icode.specs.Machine as machine
-use Rattle.lower.specs.Code.{number_for}
+use Rattle.lower.specs.Lowering.{number_for, vectors_of, program_code, IsLowered, EntryLaw}
 use Rattle.plm_type.specs.Programs.{body_for}
-use Rattle.lower.specs.Lowered.{vectors_of, program_code, IsLowered, EntryLaw}
 use Rattle.lower.specs.Runs.{runs_in, entered}
 use Rattle.lower.specs.Tracking.{LoweringTracks}
 use Rattle.select.specs.Promise.{Image, next_of, accumulator_of, Followed}

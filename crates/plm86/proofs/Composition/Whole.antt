@@ -19,7 +19,7 @@ use Rattle.icode.specs.Counted.{IsCounted}
 use Rattle.icode.specs.Machine.{Context}
 use Rattle.frames.specs.declared.counting.Stack.{Stack}
 use Rattle.frames.specs.Counting.{NoRunPasses}
-use Rattle.lower.specs.Lowered.{IsLowered}
+use Rattle.lower.specs.Lowering.{IsLowered}
 use Rattle.select.specs.declared.part.Part.{Part}
 use Rattle.select.specs.Promise.{next_of}
 use Rattle.select.specs.Promise as promise

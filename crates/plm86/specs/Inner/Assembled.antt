@@ -11,7 +11,7 @@ use Rattle.icode.specs.Code.{serving}
 use Rattle.icode.specs.Counted.{IsCounted}
 use Rattle.plm_decl.specs.declared.names.Names.{Names}
 use Rattle.plm_decl.specs.Placement.{sizes_of}
-use Rattle.lower.specs.Lowered.{IsLowered, program_code}
+use Rattle.lower.specs.Lowering.{IsLowered, program_code}
 use Rattle.lower.specs.Checked.{IsSound}
 use Rattle.select.specs.declared.part.Part.{Part}
 use Rattle.select.specs.Promise.{Image}

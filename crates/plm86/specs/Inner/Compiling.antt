@@ -14,7 +14,7 @@ use Rattle.frames.specs.declared.counting.Stack.{Stack}
 use Rattle.frames.specs.Limits.{SmallProgramsFit}
 use Rattle.lower.specs.Checked.{CheckedLaw, SoundLaw}
 use Rattle.lower.specs.Heights.{HeightLaw}
-use Rattle.lower.specs.Lowered.{EntryLaw}
+use Rattle.lower.specs.Lowering.{EntryLaw}
 use Rattle.lower.specs.Room.{RoomLaw}
 use Rattle.lower.specs.Runs.{RunsLaw}
 use Rattle.lower.specs.Tracking.{LoweringLaw}

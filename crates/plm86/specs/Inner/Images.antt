@@ -19,7 +19,7 @@ use Rattle.icode.specs.Machine.{At}
 use Rattle.icode.specs.Machine as machine
 use Rattle.frames.specs.Counting.{NoRunPasses}
 use Rattle.lower.specs.Checked.{CheckedLaw}
-use Rattle.lower.specs.Lowered.{vectors_of, program_code, IsLowered, EntryLaw}
+use Rattle.lower.specs.Lowering.{vectors_of, program_code, IsLowered, EntryLaw}
 use Rattle.lower.specs.Runs.{RunsAreAllowed, RunsLaw}
 use Rattle.lower.specs.Tracking.{LoweringTracks, LoweringLaw}
 use Rattle.select.specs.Promise.{Image, next_of, accumulator_of, Counted, IsServed, IsSelected, Followed, InstructionsFollow, limit}

@@ -1,6 +1,6 @@
 use Rattle.std.proofs.Common.{ap, sym, ◌∙◌}
 use Rattle.plm_type.specs.View.{statement_of, statements_of}
-use Rattle.lower.specs.Code.{is_giving, are_giving}
+use Rattle.lower.specs.Expressions.{is_giving, are_giving}
 use Rattle.lower.proofs.Bools.{first_or, second_or}
 use Rattle.lower.proofs.Rows.{block_tree, if_tree, while_tree, case_tree, iterate_tree}
 use Rattle.lower.proofs.callees.+giving.Goals as goal

@@ -1,7 +1,7 @@
 use Rattle.std.proofs.Common.{◌≡◌, ◌++◌, map, drop}
 use Rattle.plm_type.specs.Rest.{Procedure}
 use Rattle.plm_type.specs.View.{procedures_of}
-use Rattle.lower.specs.Code.{are_giving}
+use Rattle.lower.specs.Expressions.{are_giving}
 use Rattle.lower.proofs.callees.giving.Given as goal
 
 abbrev pub invariant-loop-procedure : goal.invariant-loop-procedure

@@ -1,5 +1,5 @@
 use Rattle.std.proofs.Common.{◌≡◌, ◌+◌, ◌++◌, length, map, vec_items, drop}
-use Rattle.lower.specs.Code.{all_of, entries}
+use Rattle.lower.specs.Statements.{all_of, entries}
 use Rattle.lower.proofs.cases.enter.Given as goal
 
 abbrev pub invariant-loop-k : goal.invariant-loop-k

@@ -1,5 +1,5 @@
 use Rattle.std.proofs.Common.{◌≡◌, ◌++◌, map, vec_items, drop}
-use Rattle.lower.specs.Code.{all_of}
+use Rattle.lower.specs.Statements.{all_of}
 use Rattle.lower.proofs.cases.join.Given as goal
 
 abbrev pub invariant-loop-case : goal.invariant-loop-case

@@ -1,7 +1,7 @@
 use Rattle.std.proofs.Common.{◌≡◌, ◌≤◌, ◌++◌, OnOk, length, ap, subst, sym, ◌∙◌, arith}
 use Rattle.std.proofs.lemmas.Grind.{common_steps}
 use Rattle.plm_type.specs.View.{expression_of, procedures_of}
-use Rattle.lower.specs.Code.{expression_code, dropped_code}
+use Rattle.lower.specs.Expressions.{expression_code, dropped_code}
 use Rattle.lower.proofs.Rows.{chain_tree, call_tree}
 use Rattle.lower.proofs.Trees.{chain_none, chain_dropped}
 use Rattle.lower.proofs.expressions.+dropped.Goals as goal

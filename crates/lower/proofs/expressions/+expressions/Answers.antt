@@ -4,7 +4,7 @@ use Rattle.plm_type.specs.Rest.{Variable, Location, ToVariable}
 use Rattle.plm_type.specs.View.{expression_of, expressions_of, subscripts_of, target_of, procedures_of}
 use Rattle.lower.proofs.Rows.{chain_tree, call_tree, reference_tree}
 use Rattle.plm_type.specs.Next.{parameters_of}
-use Rattle.lower.specs.Code.{expression_code, subscripts_code, target_code, pushed_code, first_code}
+use Rattle.lower.specs.Expressions.{expression_code, subscripts_code, target_code, pushed_code, first_code}
 use Rattle.lower.proofs.Trees.{chain_coded, call_of_many, not_based, writing_behind}
 use Rattle.lower.proofs.expressions.+expressions.Goals as goal
 

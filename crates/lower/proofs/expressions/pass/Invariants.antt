@@ -1,6 +1,6 @@
 use Rattle.std.proofs.Common.{◌≡◌, ◌++◌, map, drop}
 use Rattle.plm_type.specs.View.{scalar_of}
-use Rattle.lower.specs.Code.{passing}
+use Rattle.lower.specs.Expressions.{passing}
 use Rattle.lower.proofs.expressions.pass.Given as goal
 
 abbrev pub invariant-loop-k : goal.invariant-loop-k

@@ -1,6 +1,6 @@
 use Rattle.std.proofs.Common.{◌≡◌, ◌≤◌, map, max, drop}
 use Rattle.plm_decl.specs.Names.{procedure_of}
-use Rattle.lower.specs.Lowered.{last_module}
+use Rattle.lower.specs.Lowering.{last_module}
 use Rattle.lower.proofs.lowering.sections_of.Given as goal
 
 abbrev pub invariant-loop-procedure : goal.invariant-loop-procedure

@@ -1,7 +1,7 @@
 use Rattle.std.proofs.Common.{◌≡◌, ◌≤◌, length, ap, sym, ◌∙◌, arith}
 use Rattle.plm_type.specs.View.{expression_of}
 use Rattle.lower.proofs.Rows.{chain_tree}
-use Rattle.lower.specs.Code.{operand_of}
+use Rattle.lower.specs.Expressions.{operand_of}
 use Rattle.lower.proofs.Trees.{chain_none, chain_is}
 use Rattle.lower.proofs.put.+as_operand.Goals as goal
 

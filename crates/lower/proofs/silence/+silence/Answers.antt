@@ -1,6 +1,6 @@
 use Rattle.std.proofs.Common.{◌≡◌, suc, ◌-◌, ◌+◌, false, true, drop, get_or, nat_le, ap, sym, ◌∙◌, arith}
 use Rattle.plm_type.specs.View.{statement_of, statements_of}
-use Rattle.lower.specs.Code.{is_silent, are_silent}
+use Rattle.lower.specs.Statements.{is_silent, are_silent}
 use Rattle.lower.proofs.Rows.{block_tree}
 use Rattle.lower.proofs.LastCode.{last, none}
 use Rattle.lower.proofs.silence.+silence.Goals as goal

@@ -1,7 +1,7 @@
 use Rattle.std.proofs.Common.{◌≡◌, ℕ, IfOk, map, vec_items, drop, ap, subst, sym, ◌∙◌, arith}
 use Rattle.plm_type.specs.Rest.{Block, While, Case}
 use Rattle.plm_type.specs.View.{statement_of, statements_of, expression_of, procedures_of}
-use Rattle.lower.specs.Code.{statement_code, statements_code, cases_code, are_silent}
+use Rattle.lower.specs.Statements.{statement_code, statements_code, cases_code, are_silent}
 use Rattle.lower.specs.Inner.Parts.{branching}
 use Rattle.lower.proofs.Rows.{block_tree, if_tree, while_tree, case_tree, iterate_tree}
 use Rattle.lower.proofs.Turned.{turned}

@@ -1,6 +1,6 @@
 use Rattle.std.proofs.Common.{◌≡◌, ◌+◌, ◌++◌, length, map, vec_items, reverse, drop}
 use Rattle.plm_type.specs.View.{statements_of, procedures_of}
-use Rattle.lower.specs.Code.{all_of, statements_code, cases_code}
+use Rattle.lower.specs.Statements.{all_of, statements_code, cases_code}
 use Rattle.lower.proofs.statements.Around.+statements.Given as goal
 
 abbrev pub invariant-statements-loop-k : goal.invariant-statements-loop-k

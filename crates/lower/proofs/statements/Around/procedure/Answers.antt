@@ -1,7 +1,7 @@
 use Rattle.std.proofs.Common.{Some, ap, ◌∙◌}
 use Rattle.plm_decl.specs.Names.{procedure_of}
 use Rattle.plm_type.specs.View.{statements_of, procedures_of}
-use Rattle.lower.specs.Code.{kind_of, has_vector}
+use Rattle.lower.specs.Lowering.{kind_of, has_vector}
 use Rattle.lower.proofs.Procedures.{lowered_by}
 use Rattle.lower.proofs.statements.Around.procedure.Goals as goal
 

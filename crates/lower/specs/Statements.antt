@@ -1,0 +1,171 @@
+-- The code of statements, and of a routine.
+use Rattle.std.specs.Prelude.{ℕ, ◌+◌, Bool, true, false, ◌&&◌, List, [], ◌∷◌, ◌++◌, length}
+use Rattle.word86.specs.declared.width.Width.{Width}
+use Rattle.word86.specs.declared.width.Width.TheVariants as widths
+use Rattle.word86.specs.declared.operation.UnaryOperation.TheVariants as unary
+use Rattle.word86.specs.declared.operation.BinaryOperation.TheVariants as binary
+use Rattle.word86.specs.Access.{Where}
+use Rattle.plm_type.specs.Rest.{Scalar, Count, Statement, Empty, Assign, Evaluate, Return, ReturnValue, Enabling, Disabling, Halting, If, Block, While, Case, Iterate, Leaving, Round, Comparing, Stepping, Adding, Storing, Ending, Statements, End, Then, Returned, Procedure}
+use Rattle.icode.specs.declared.instruction.Instruction.{Instruction}
+use Rattle.icode.specs.declared.instruction.Instruction.TheVariants as op
+use Rattle.icode.specs.declared.instruction.Relation.TheVariants as relation
+use Rattle.icode.specs.declared.instruction.Test.{Test}
+use Rattle.icode.specs.declared.instruction.Test.TheVariants as test
+pub use Rattle.lower.specs.declared.kind.Kind.{Kind}
+pub use Rattle.lower.specs.declared.kind.Kind.TheVariants.{OfMain, Called, Giving, Serving}
+use Rattle.lower.specs.Expressions.{Computed, Name, Number, Operand, beside, condition_code, dropped_code, expression_code, gives, operand_of, place_of, stands_to, targets_code, test_of}
+
+-- ---- statements
+
+-- what RETURN is in a routine: one that gives a value elsewhere gives 0
+abbrev pub returning : Kind → List Instruction
+returning OfMain = []
+returning Called = op.Leave ∷ []
+returning Giving = op.Constant 0 ∷ op.Leave ∷ []
+returning Serving = op.Finish ∷ []
+
+abbrev pub narrowed : Width → List Instruction
+narrowed widths.Byte = op.Unary unary.Low widths.Word ∷ []
+narrowed widths.Word = []
+
+-- The end of a round: the step is added, and unless the sum is below the step, as where it wrapped, a next round begins
+-- `before` instructions back. A constant step is an operand; every other one is pushed twice.
+abbrev pub next_by_number : Scalar → (step before : ℕ) → List Instruction
+next_by_number x s before =
+    op.Load x.width (place_of x.place) ∷ op.BinaryConstant binary.Add x.width s ∷ op.Store x.width (place_of x.place)
+    ∷ op.BackUnless (test.Constant relation.Less s) (before + 4) ∷ []
+
+abbrev pub add_pushed : Scalar → (before : ℕ) → List Instruction
+add_pushed x before =
+    op.Push ∷ op.Push ∷ op.Load x.width (place_of x.place) ∷ op.Binary binary.Add x.width ∷ op.Store x.width (place_of x.place)
+    ∷ op.BackUnless (test.Top relation.Greater) (before + 6) ∷ []
+
+abbrev pub next_round : Scalar → Operand → List Instruction → (before : ℕ) → List Instruction
+next_round x (Number s) code before = next_by_number x s before
+next_round x (Name read y) code before = code ++ add_pushed x (before + length code)
+next_round x Computed code before = code ++ add_pushed x (before + length code)
+
+-- a statement without code: nothing stands for the empty one, nor for a block of such
+abbrev mutual
+  pub is_silent : Statement → Bool
+  is_silent Empty = true
+  is_silent (Block ss) = are_silent ss
+  is_silent (Assign ts e) = false
+  is_silent (Evaluate e) = false
+  is_silent Return = false
+  is_silent (ReturnValue width e) = false
+  is_silent Enabling = false
+  is_silent Disabling = false
+  is_silent Halting = false
+  is_silent (If c arm other) = false
+  is_silent (While c d ss) = false
+  is_silent (Case e ss) = false
+  is_silent (Iterate a l) = false
+  is_silent Leaving = false
+  is_silent (Round l) = false
+  is_silent (Comparing i e l) = false
+  is_silent (Stepping e l) = false
+  is_silent (Adding i s l) = false
+  is_silent (Storing s l) = false
+  is_silent (Ending s l) = false
+
+  pub are_silent : Statements → Bool
+  are_silent End = true
+  are_silent (Then s later) = is_silent s && are_silent later
+  are_silent (Returned v) = false
+
+-- after an arm, a jump over what is done otherwise, if anything is
+abbrev pub over : (silent : Bool) (otherwise : List Instruction) (exit : ℕ) → List Instruction
+over true otherwise exit = []
+over false otherwise exit = op.Ahead (length otherwise + exit) ∷ []
+
+-- Where a test fails, control goes on at what is done otherwise; if that is nothing, at the exit.
+abbrev pub failing : (silent : Bool) (arm : List Instruction) (exit : ℕ) → ℕ
+failing true arm exit = length arm + exit
+failing false arm exit = length arm + 1
+
+-- a condition, its test, what is done where it holds, and what is done otherwise, if anything is
+abbrev pub choosing : (condition : List Instruction) → Test → (arm : List Instruction) (silent : Bool) (otherwise : List Instruction) (exit : ℕ) → List Instruction
+choosing condition t arm silent otherwise exit = condition ++ (op.AheadUnless t (failing silent arm exit) ∷ (arm ++ (over silent otherwise exit ++ otherwise)))
+
+abbrev pub all_of : List (List Instruction) → List Instruction
+all_of [] = []
+all_of (c ∷ cs) = c ++ all_of cs
+
+-- For each case, how far it lies from the end of its entry: over the other entries, a jump, and the cases before it, which have this
+-- number of instructions.
+abbrev pub entries : (before : ℕ) → List (List Instruction) → List Instruction
+entries before [] = []
+entries before (c ∷ cs) = op.Case (length cs + 1 + before) ∷ entries (before + length c) cs
+
+-- after the entries stands the jump for a value that has no case
+abbrev pub switching : List (List Instruction) → (exit : ℕ) → List Instruction
+switching cases exit = op.Switch (length cases) ∷ (entries 0 cases ++ (op.Ahead (length (all_of cases) + exit) ∷ all_of cases))
+
+-- where control goes on after a statement: at what comes next, if that has code
+abbrev pub exit_before : (silent : Bool) (exit : ℕ) → ℕ
+exit_before true exit = exit
+exit_before false exit = 0
+
+module _ (procedures : List Procedure) (around : Kind) where
+  -- Of a statement after which control goes on at an exit: this number of instructions after its own end, where a jump that stands
+  -- there leads. So the ends of arms in arms are no chain of jumps.
+  abbrev mutual
+    pub statement_code : (exit : ℕ) → Statement → List Instruction
+    statement_code exit Empty = []
+    statement_code exit (Assign ts e) = expression_code procedures e ++ targets_code procedures ts
+    statement_code exit (Evaluate e) = dropped_code procedures e
+    statement_code exit Return = returning around
+    statement_code exit (ReturnValue width e) = expression_code procedures e ++ (narrowed width ++ op.Leave ∷ [])
+    statement_code exit Enabling = op.Enable ∷ []
+    statement_code exit Disabling = op.Disable ∷ []
+    statement_code exit Halting = op.Halt ∷ []
+    statement_code exit (If c arm other) =
+        let otherwise = statements_code exit other in
+        let arm_exit = length (over (are_silent other) otherwise exit) + length otherwise + exit in
+        choosing (condition_code procedures c) (test_of c) (statements_code arm_exit arm) (are_silent other) otherwise exit
+    statement_code exit (Block ss) = statements_code exit ss
+    statement_code exit (While c d ss) =
+        let condition = condition_code procedures d in
+        let body = statements_code 0 ss in
+        condition ++ (op.AheadUnless (test_of d) (length body + 1 + exit) ∷ (body ++ op.Back (length condition + length body + 2) ∷ []))
+    statement_code exit (Case e ss) = expression_code procedures e ++ switching (cases_code exit ss) exit
+    statement_code exit (Iterate a (Count x bound step ss)) =
+        let compared = beside (operand_of bound) (expression_code procedures bound) in
+        let body = statements_code 0 ss in
+        let again = next_round x (operand_of step) (expression_code procedures step) (length compared + length body + 2) in
+        expression_code procedures a
+        ++ (op.Store x.width (place_of x.place) ∷ op.Load x.width (place_of x.place)
+        ∷ (compared ++ (op.AheadUnless (stands_to relation.LessEqual (operand_of bound)) (length body + length again + exit) ∷ (body ++ again))))
+    statement_code exit Leaving = []
+    statement_code exit (Round l) = []
+    statement_code exit (Comparing i e l) = []
+    statement_code exit (Stepping e l) = []
+    statement_code exit (Adding i s l) = []
+    statement_code exit (Storing s l) = []
+    statement_code exit (Ending s l) = []
+
+    -- the last one has the exit of all
+    pub statements_code : (exit : ℕ) → Statements → List Instruction
+    statements_code exit End = []
+    statements_code exit (Then s later) = statement_code (exit_before (are_silent later) exit) s ++ statements_code exit later
+    statements_code exit (Returned v) = []
+
+    -- each case goes on at the exit of all, over those after it
+    pub cases_code : (exit : ℕ) → Statements → List (List Instruction)
+    cases_code exit End = []
+    cases_code exit (Then s later) =
+        let others = cases_code exit later in
+        let behind = length (all_of others) + exit in
+        (statement_code (1 + behind) s ++ op.Ahead behind ∷ []) ∷ others
+    cases_code exit (Returned v) = []
+
+-- what stands at the end of a routine's statements: main halts there again and again
+abbrev pub ending : Kind → List Instruction
+ending OfMain = op.Halt ∷ op.Back 2 ∷ []
+ending Called = returning Called
+ending Giving = returning Giving
+ending Serving = returning Serving
+
+abbrev pub routine_code : List Procedure → Kind → Statements → List Instruction
+routine_code procedures around ss = statements_code procedures around 0 ss ++ ending around
