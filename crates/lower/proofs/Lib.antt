@@ -23,7 +23,6 @@ pub mod Typed
 pub mod Texts
 pub mod Allowed
 pub mod Whole
-pub mod Rows
 pub mod Trees
 pub mod Outermost
 pub mod LastCode

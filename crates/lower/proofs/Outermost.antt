@@ -10,7 +10,6 @@ use Rattle.icode.specs.declared.instruction.Relation.{Relation}
 use Rattle.icode.specs.declared.instruction.Test.TheVariants as test
 use Rattle.lower.specs.Expressions.{expression_code, operand_of, beside, relation_of, asked, asking, stands_to, test_of, condition_code}
 use Rattle.lower.specs.Inner.Chains.{chain_code}
-use Rattle.lower.proofs.Rows.{chain_tree}
 use Rattle.lower.proofs.Trees.{chain_coded}
 
 -- the last operator is the outermost one
@@ -53,7 +52,7 @@ split_at zero (x ∷ y ∷ xs) o l h = absurd (omega (arith, l))
 split_at (suc k) [] o l h = absurd (omega (arith, l))
 split_at (suc k) (x ∷ xs) o l h = ap (λ ys. x ∷ ys) (split_at k xs o (omega (arith, l)) h)
 
-pub chain_split : (e : Box declared_expression.Expression) (v : Vec Operation) (os : List Operation) (o : Operation) → os ≡ v.items → 1 ≤ length os → o ≡ get_or os (length os - 1) o
+pub chain_split : (e : Box declared_expression.Expression) (v : Vec Operation) (os : List Operation) (o : Operation) → expression_of (expression.Chain e v) ≡ chained (expression_of e.value) v.items → os ≡ v.items → 1 ≤ length os → o ≡ get_or os (length os - 1) o
     → expression_of (expression.Chain e v) ≡ chained (expression_of e.value) (take (length os - 1) os ++ o ∷ [])
-chain_split e v os o is some last =
-    chain_tree e v ∙ ap (chained (expression_of e.value)) (sym is ∙ split_at (length os - 1) os o (omega (arith, some)) last)
+chain_split e v os o chain is some last =
+    chain ∙ ap (chained (expression_of e.value)) (sym is ∙ split_at (length os - 1) os o (omega (arith, some)) last)

@@ -4,7 +4,7 @@ ghost use Rattle.std.specs.Prelude.{◌≡◌, map, slice_get, IfOk, IsOkUnless}
 ghost use Rattle.plm_type.specs.View.{statement_of, statements_of, procedures_of};
 ghost use Rattle.lower.specs.Expressions.{is_giving, are_giving, gives};
 
-use plm_type::{Procedure, Statement};
+use plm_type::{Procedure, Statement, trees_have_their_lists};
 use std::alloc::Global;
 use word86::Fault;
 
@@ -45,6 +45,7 @@ pub fn giving(alloc: Global, procedures: &[Procedure]) -> Result<Vec<bool>, Faul
 fn is_giving(statement: &Statement) -> bool
     ensures { result ≡ is_giving (statement_of statement.now) }
 {
+    trees_have_their_lists();
     match statement {
         Statement::ReturnValue(_, _) => true,
         Statement::If(_, arm, other) => are_giving(arm) || are_giving(other),

@@ -10,7 +10,7 @@ use crate::callees::Callees;
 use crate::expressions::{chain, expression, right};
 use crate::put::{Operand, as_operand};
 use icode::{Instruction, Relation, Test};
-use plm_type::{Expression, Operation};
+use plm_type::{Expression, Operation, trees_have_their_lists};
 use word86::{BinaryOperation, Fault};
 
 /// The relation that an operator asks for.
@@ -77,6 +77,7 @@ pub fn condition(
     ensures memory { IsOkUnless result Fault.Memory }
     ensures test { IfOk result (λ t. t ≡ test_of (expression_of tree.now)) }
 {
+    trees_have_their_lists();
     match tree {
         Expression::Chain(first, operations) => match operations.as_slice() {
             [] => condition(code, callees, first),

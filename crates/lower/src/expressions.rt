@@ -13,6 +13,7 @@ use crate::put::{Operand, add, as_operand, put};
 use icode::Instruction;
 use plm_type::{
     Anchor, Expression, Operation, Place, Procedure, Reference, Scalar, Subscript, Target,
+    trees_have_their_lists,
 };
 use word86::{BinaryOperation, Fault, Width};
 
@@ -131,6 +132,7 @@ pub fn expression(
     ensures code { OnOk result (code.new.items ≡ code.old.items ++ expression_code (procedures_of callees.entry.procedures.now) (expression_of tree.now)) }
     ensures memory { IsOkUnless result Fault.Memory }
 {
+    trees_have_their_lists();
     match tree {
         Expression::Constant(value) => put(code, Instruction::Constant(*value)),
         Expression::Plain(width, at) => put(code, Instruction::Load(*width, *at)),
@@ -393,6 +395,7 @@ pub fn target(code: &mut Instructions, callees: Callees<'_>, to: &Target) -> Res
     ensures code { OnOk result (code.new.items ≡ code.old.items ++ target_code (procedures_of callees.entry.procedures.now) (target_of to.now)) }
     ensures memory { IsOkUnless result Fault.Memory }
 {
+    trees_have_their_lists();
     match to {
         Target::Plain(width, at) => put(code, Instruction::Store(*width, *at)),
         Target::Variable(width, reference) => {
@@ -489,6 +492,7 @@ pub fn dropped(
     ensures code { OnOk result (code.new.items ≡ code.old.items ++ dropped_code (procedures_of callees.entry.procedures.now) (expression_of tree.now)) }
     ensures memory { IsOkUnless result Fault.Memory }
 {
+    trees_have_their_lists();
     match tree {
         Expression::Call(number, arguments) => call(code, callees, *number, arguments),
         Expression::Chain(first, operations) => match operations.as_slice() {

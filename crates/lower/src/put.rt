@@ -6,7 +6,7 @@ ghost use Rattle.lower.specs.Expressions.{operand_of};
 ghost use Rattle.lower.specs.Inner.Shown.{operand_shown};
 
 use icode::Instruction;
-use plm_type::{Expression, Place};
+use plm_type::{Expression, Place, trees_have_their_lists};
 use word86::{Fault, Width};
 
 /// Room for the instructions of a statement: few have more.
@@ -54,6 +54,7 @@ pub enum Operand {
 pub fn as_operand(tree: &Expression) -> Operand
     ensures { operand_shown result ≡ operand_of (expression_of tree.now) }
 {
+    trees_have_their_lists();
     match tree {
         Expression::Constant(value) => Operand::Number(*value),
         Expression::Plain(width, at) => Operand::Name(*width, *at),

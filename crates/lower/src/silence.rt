@@ -4,13 +4,14 @@ ghost use Rattle.std.specs.Prelude.{◌≡◌, ℕ, ◌≤◌, length, drop, nat
 ghost use Rattle.plm_type.specs.View.{statement_of, statements_of};
 ghost use Rattle.lower.specs.Statements.{is_silent, are_silent, exit_before};
 
-use plm_type::Statement;
+use plm_type::{Statement, trees_have_their_lists};
 
 /// Whether nothing stands for a statement: for the empty one, and for a block of such.
 #[cycle(silence)]
 pub fn is_silent(statement: &Statement) -> bool
     ensures { result ≡ is_silent (statement_of statement.now) }
 {
+    trees_have_their_lists();
     match statement {
         Statement::Empty => true,
         Statement::Block(body) => are_silent(body),

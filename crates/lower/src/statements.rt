@@ -17,7 +17,7 @@ use crate::loops::{iterate, repeat};
 use crate::put::{ROOM, add, distance, put};
 use crate::silence::{are_silent, exit_before, with_code};
 use icode::Instruction;
-use plm_type::{Expression, Loop, Statement, Target};
+use plm_type::{Expression, Loop, Statement, Target, trees_have_their_lists};
 use std::alloc::Global;
 use word86::{Fault, UnaryOperation, Width};
 
@@ -196,6 +196,7 @@ impl Around<'_> {
         ensures code { IfOk result (λ r. r.items ≡ statement_code (procedures_of self.entry.callees.procedures.now) self.entry.kind exit (statement_of statement.now)) }
         ensures memory { IsOkUnless result Fault.Memory }
     {
+        trees_have_their_lists();
         match statement {
             Statement::Empty => Ok(Vec::new(self.alloc)),
             Statement::Assign(first, others, value) => self.assignment(first, others, value),

@@ -3,12 +3,14 @@ use Rattle.std.proofs.Common.{◌≡◌, List, [], ◌∷◌, ◌++◌, refl, ap
 use Rattle.std.specs.Global.{Vec}
 use Rattle.plm_decl.specs.declared.resolved.Expression.{Expression, Row_of-Expression, end_of-Expression, more_of-Expression, items-the_row-Expression, items_hidden-the_row-Expression-0, Row_of-Operation, end_of-Operation, more_of-Operation, items-the_row-Operation, items_hidden-the_row-Operation-1}
 use Rattle.plm_decl.specs.declared.resolved.Expression.TheBlock.{hidden-the_row-Expression-0, hidden-the_row-Operation-1}
+use Rattle.plm_decl.specs.declared.resolved.Expression.TheVariants as expression
 use Rattle.plm_decl.specs.declared.resolved.Operation.{Operation}
 use Rattle.plm_decl.specs.declared.resolved.Reference.{Reference}
 use Rattle.plm_decl.specs.declared.resolved.Statement.{Statement, Row_of-Statement, end_of-Statement, more_of-Statement, items-the_row-Statement, items_hidden-the_row-Statement-0}
 use Rattle.plm_decl.specs.declared.resolved.Statement.TheBlock.{hidden-the_row-Statement-0}
-use Rattle.plm_decl.specs.Resolved.{ExpressionR, BinaryR, expressions, references, statements, and_expression, and_reference, and_statement}
-use Rattle.plm_decl.specs.ResolvedView.{expression_of, leaned_in, leaned, expressions_in, expressions_of, reference_of, references_of, statement_of, statements_in, statements_of}
+use Rattle.plm_decl.specs.Resolved.{ExpressionR, ExpressionsR, ReferenceR, EmbeddedR, BinaryR, Use, LocationOf, DoR, WhileR, CaseR, IterateR, expressions, references, statements, and_expression, and_reference, and_statement}
+use Rattle.plm_decl.specs.ResolvedLists.{ResolvedTreesHaveTheirLists}
+use Rattle.plm_decl.specs.ResolvedView.{expression_of, selector_of, location_of, step_of, leaned_in, leaned, expressions_in, expressions_of, reference_of, references_of, statement_of, statements_in, statements_of}
 
 expression_rows : {m : _} (row : Row_of-Expression m) → expressions_in row ≡ expressions_of (items-the_row-Expression m row)
 expression_rows end_of-Expression = refl
@@ -46,3 +48,17 @@ statement_row v = statement_rows (hidden-the_row-Statement-0 v) ∙ ap statement
 pub statement_pushed : (ss : List Statement) (s : Statement) → statements_of (ss ++ s ∷ []) ≡ and_statement (statements_of ss) (statement_of s)
 statement_pushed [] s = refl
 statement_pushed (t ∷ ss) s = ap (statements (statement_of t)) (statement_pushed ss s)
+
+reference_placed : (x : Reference) → expression_of (expression.Reference x) ≡ ReferenceR (reference_of x)
+reference_placed x = ap (λ (es : ExpressionsR). ReferenceR (Use x.place x.binding es (selector_of x.selector))) (expression_row x.subscripts)
+
+pub lists_are_theirs : ResolvedTreesHaveTheirLists
+lists_are_theirs = record {
+  reference = reference_placed;
+  embedded = λ p x e. ap (λ (es : ExpressionsR). EmbeddedR p (Use x.place x.binding es (selector_of x.selector)) (expression_of e.value)) (expression_row x.subscripts);
+  chain = λ e os. operation_row (expression_of e.value) os;
+  location = λ p f x. ap (λ (es : ExpressionsR). LocationOf p f (Use x.place x.binding es (selector_of x.selector))) (expression_row x.subscripts);
+  block = λ p ss. ap (DoR p) (statement_row ss);
+  while_true = λ p e ss. ap (WhileR p (expression_of e)) (statement_row ss);
+  case_of = λ p e ss. ap (CaseR p (expression_of e)) (statement_row ss);
+  iterate = λ p q m a b s ss. ap (IterateR p q m (expression_of a) (expression_of b) (step_of s)) (statement_row ss) }

@@ -36,3 +36,4 @@ pub mod ByPlaces
 pub mod Regions
 pub mod Lying
 pub mod Inner
+pub mod ResolvedLists

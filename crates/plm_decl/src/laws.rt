@@ -1,9 +1,10 @@
-//! Laws that tie what is read step by step to the tree of a block. They compute nothing.
+//! Laws that tie what is read step by step to the tree of a block, and trees with lists to what these stand for. They compute nothing.
 
 ghost use Rattle.plm_decl.specs.ByPlaces.{ReadByPlaces};
 ghost use Rattle.plm_decl.specs.JoinedNames.{ExternalsAreJoined};
 ghost use Rattle.plm_decl.specs.Laws.{ConstantsFill, DeclaredIsFound, DeclaresOnce, HaveOwnObjects, InitialBytesFit, InitialValuesFit, InnermostMeans, ListsOnce, MembersOnce, NothingElseTwice, StandsInside, StandsOutside};
 ghost use Rattle.plm_decl.specs.OwnNames.{OwnNamesHaveObjects};
+ghost use Rattle.plm_decl.specs.ResolvedLists.{ResolvedTreesHaveTheirLists};
 ghost use Rattle.plm_decl.specs.PlacedNames.{LocationIsInItsVariable, NamesLieAtTheirLocation, NumberIsOnTheScreen, NumberIsOutside};
 
 /// The law of second declarations: after some items of a block, some elements of a DECLARE and some names of an element, the
@@ -66,4 +67,9 @@ pub fn externals_are_joined()
 pub fn initial_values_fit()
     ensures fit { InitialValuesFit }
     ensures bytes { InitialBytesFit }
+{}
+
+/// The law of lists: a resolved tree with a list of others stands for the tree of what these stand for, one after the other.
+pub fn resolved_trees_have_their_lists()
+    ensures { ResolvedTreesHaveTheirLists }
 {}

@@ -34,6 +34,7 @@ pub use builtin::Builtin;
 pub use laws::{
     constants_fill_their_object, declared_once, externals_are_joined, initial_values_fit,
     innermost_counts, names_have_own_objects, names_lie_where_at_says,
+    resolved_trees_have_their_lists,
 };
 pub use layout::{Field, Form, Member, ScalarType};
 pub use modules::resolve;

@@ -9,7 +9,9 @@ ghost use Rattle.plm_meaning.specs.Inner.Start.{depth, reference_depth, subscrip
 
 use crate::access::Origin;
 use crate::context::{Destination, Hole, Later, Phase, Purpose, Redex, Start};
-use plm_type::{Anchor, Expression, Line, Reference, Statement, Subscript, Target};
+use plm_type::{
+    Anchor, Expression, Line, Reference, Statement, Subscript, Target, trees_have_their_lists,
+};
 
 // A reference whose subscripts all have their values.
 fn refer<'a>(purpose: Purpose<'a>, line: Line, anchor: Anchor, offset: u64) -> Redex<'a>
@@ -60,11 +62,11 @@ fn subscripts_start<'a>(
 }
 
 // What comes first of a reference.
-#[tactic(auto, using(crate::proofs::TypedTrees::reference_tree))]
 fn reference_start<'a>(r: &'a Reference, purpose: Purpose<'a>) -> Start<'a>
     ensures part { start_part result ≡ purposed purpose.entry (reference_of r.now) }
     ensures depth { start_depth result ≡ reference_depth (reference_of r.now) }
 {
+    trees_have_their_lists();
     subscripts_start(purpose, r.line, r.anchor, r.offset, &r.subscripts)
 }
 
@@ -73,6 +75,7 @@ pub fn expression_start<'a>(e: &'a Expression) -> Start<'a>
     ensures part { start_part result ≡ Expr (expression_of e.now) }
     ensures depth { start_depth result ≤ depth (expression_of e.now) }
 {
+    trees_have_their_lists();
     match e {
         Expression::Constant(k) => Start::Ready(Redex::Constant(*k)),
         Expression::Plain(width, place) => Start::Ready(Redex::Plain(*width, *place)),
@@ -104,10 +107,10 @@ pub fn target_start<'a>(target: &'a Target, destination: Destination<'a>) -> Sta
 }
 
 /// What comes first of a statement.
-#[tactic(auto, using(crate::proofs::TypedTrees::block_tree))]
 pub fn statement_start<'a>(s: &'a Statement) -> Start<'a>
     ensures { start_part result ≡ ToRun (Then (statement_of s.now) End) }
 {
+    trees_have_their_lists();
     match s {
         Statement::Empty => Start::Ready(Redex::Empty),
         Statement::Assign(target, others, value) => Start::Within(

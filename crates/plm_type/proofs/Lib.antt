@@ -1,5 +1,4 @@
 pub mod Rows
-pub mod ResolvedTrees
 pub mod Lists
 pub mod Parts
 pub mod Said

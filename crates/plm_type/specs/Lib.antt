@@ -22,3 +22,4 @@ pub mod Checked
 pub mod Sharing
 pub mod Checking
 pub mod Inner
+pub mod Laws

@@ -7,7 +7,10 @@ ghost use Rattle.plm_type.specs.Effects as spec;
 ghost use Rattle.plm_type.specs.Inner.Effects as inner;
 
 use crate::builtins::is_measure;
-use plm_decl::{Binding, Expression, Location, Operation, Reference, Selector, Statement};
+use plm_decl::{
+    Binding, Expression, Location, Operation, Reference, Selector, Statement,
+    resolved_trees_have_their_lists,
+};
 use std::alloc::AllocError;
 
 /// What a text does that matters to interrupt procedures.
@@ -33,6 +36,7 @@ fn is_unevaluated(binding: Binding) -> bool
 fn add_expression(e: &Expression, effects: &mut Vec<Effect>) -> Result<(), AllocError>
     ensures { OnOk result (effects.new.items ≡ effects.old.items ++ spec.of_expression (resolved.expression_of e.now)) }
 {
+    resolved_trees_have_their_lists();
     match e {
         Expression::Number(_) | Expression::Text(_, _) => Ok(()),
         Expression::Reference(reference) => add_value(reference, effects),
@@ -74,6 +78,7 @@ fn add_list(es: &[Expression], effects: &mut Vec<Effect>) -> Result<(), AllocErr
 fn add_location(location: &Location, effects: &mut Vec<Effect>) -> Result<(), AllocError>
     ensures { OnOk result (effects.new.items ≡ effects.old.items ++ spec.of_location (resolved.location_of location.now)) }
 {
+    resolved_trees_have_their_lists();
     match location {
         Location::Reference(_, _, reference) => add_parts(reference, effects),
         Location::Constants(_, _, _) => Ok(()),
@@ -141,6 +146,7 @@ fn add_step(step: &Option<Expression>, effects: &mut Vec<Effect>) -> Result<(), 
 fn add_statement(statement: &Statement, effects: &mut Vec<Effect>) -> Result<(), AllocError>
     ensures { OnOk result (effects.new.items ≡ effects.old.items ++ spec.of_statement (resolved.statement_of statement.now)) }
 {
+    resolved_trees_have_their_lists();
     match statement {
         Statement::Assign(targets, value) => {
             add_targets(targets, effects)?;

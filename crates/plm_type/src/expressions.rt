@@ -20,7 +20,7 @@ use crate::types::{
     unary_operation, unary_type, width_of,
 };
 use plm_decl::found::Found;
-use plm_decl::{Binding, Builtin, Location, Selector};
+use plm_decl::{Binding, Builtin, Location, Selector, resolved_trees_have_their_lists};
 use plm_syntax::{BinaryOperator, LocationForm, Position, UnaryOperator};
 use std::alloc::{AllocError, Global};
 use word86::{Number, Width};
@@ -30,6 +30,7 @@ use word86::{Number, Width};
 pub fn first_place(e: &plm_decl::Expression) -> Position
     ensures { result ≡ found.first_place (resolved.expression_of e.now) }
 {
+    resolved_trees_have_their_lists();
     match e {
         plm_decl::Expression::Number(number) => number.place,
         plm_decl::Expression::Reference(reference) => reference.place,
@@ -214,6 +215,7 @@ impl Typer<'_> {
     ) -> Result<Typed, AllocError>
         ensures { IfOk result (λ r. said r faults.new.items ≡ after faults.old.items (typed_by self.now (resolved.expression_of e.now))) }
     {
+        resolved_trees_have_their_lists();
         match e {
             plm_decl::Expression::Number(number) => self.number(*number, faults),
             plm_decl::Expression::Text(place, text) => self.text(*place, text, faults),
@@ -389,6 +391,7 @@ impl Typer<'_> {
     ) -> Result<Typed, AllocError>
         ensures { IfOk result (λ r. said r faults.new.items ≡ after faults.old.items (argument_by self.now place builtin (resolved.expression_of argument.now))) }
     {
+        resolved_trees_have_their_lists();
         match argument {
             plm_decl::Expression::Reference(reference) => {
                 match reference.binding {
@@ -426,6 +429,7 @@ impl Typer<'_> {
     ) -> Result<Typed, AllocError>
         ensures { IfOk result (λ r. said r faults.new.items ≡ after faults.old.items (location_by self.now (resolved.location_of location.now))) }
     {
+        resolved_trees_have_their_lists();
         match location {
             Location::Reference(place, form, reference) => {
                 match reference.binding {

@@ -10,6 +10,7 @@ mod effects;
 mod expressions;
 mod handlers;
 mod interrupts;
+mod laws;
 mod order;
 mod procedures;
 mod program;
@@ -23,6 +24,7 @@ mod types;
 
 pub use checked::Program;
 pub use checking::check;
+pub use laws::trees_have_their_lists;
 pub use program::{
     Anchor, Expression, Line, Loop, Operation, Procedure, Reference, Scalar, Statement, Subscript,
     Target,

@@ -17,7 +17,9 @@ use crate::types::{
     may_be_number, may_be_numbers, may_be_pointer, may_be_pointers, takes, width_of,
 };
 use plm_decl::found::Found;
-use plm_decl::{Binding, ScalarType, Statement as Resolved, Variable};
+use plm_decl::{
+    Binding, ScalarType, Statement as Resolved, Variable, resolved_trees_have_their_lists,
+};
 use plm_syntax::Position;
 use std::alloc::AllocError;
 use word86::{Number, Place, Width};
@@ -379,6 +381,7 @@ impl Typer<'_> {
     ) -> Result<Statement, AllocError>
         ensures { IfOk result (λ r. noted (view.statement_of r) faults.new.items ≡ noted_after faults.old.items (statement_by self.now around (resolved.statement_of statement.now))) }
     {
+        resolved_trees_have_their_lists();
         match statement {
             Resolved::Empty(_) => Ok(Statement::Empty),
             Resolved::Assign(targets, value) => self.assign(targets, value, faults),

@@ -2,7 +2,6 @@ use Rattle.std.proofs.Common.{◌≡◌, ◌++◌, ◌-◌, OnOk, IfOk, Some, No
 use Rattle.plm_type.specs.View.{expression_of, procedures_of}
 use Rattle.lower.specs.Expressions.{operand_of, beside, condition_code, expression_code, relation_of, stands_to, test_of}
 use Rattle.lower.specs.Inner.Chains.{chain_code}
-use Rattle.lower.proofs.Rows.{chain_tree}
 use Rattle.lower.proofs.Trees.{chain_none}
 use Rattle.lower.proofs.Outermost.{chain_split, relation_coded, relation_tested, value_coded, value_tested}
 use Rattle.lower.proofs.conditions.+condition.Goals as goal
@@ -12,7 +11,7 @@ returns-in-empty-clause-code t c =
     let after = c.condition in
     let left = expression_of c.in-Chain.first.value in
     let none : length c.in-Chain.operations.items ≡ 0 = omega (arith, ap length c.as_slice.ensures.value, c.in-empty.len_below) in
-    let is : expression_of c.args.tree.now ≡ left = ap expression_of c.in-Chain.is ∙ chain_tree c.in-Chain.first c.in-Chain.operations ∙ chain_none left c.in-Chain.operations.items none in
+    let is : expression_of c.args.tree.now ≡ left = ap expression_of c.in-Chain.is ∙ c.trees_have_their_lists.ensures.chain c.in-Chain.first c.in-Chain.operations ∙ chain_none left c.in-Chain.operations.items none in
     subst (λ e. OnOk after.result (after.new.code.items ≡ c.args.code.now.items ++ condition_code (procedures_of c.args.callees.procedures.now) e))
     (ap expression_of c.deref.ensures ∙ sym is) after.ensures.code
 
@@ -20,7 +19,7 @@ pub returns-in-empty-clause-test : goal.returns-in-empty-clause-test
 returns-in-empty-clause-test t c =
     let left = expression_of c.in-Chain.first.value in
     let none : length c.in-Chain.operations.items ≡ 0 = omega (arith, ap length c.as_slice.ensures.value, c.in-empty.len_below) in
-    let is : expression_of c.args.tree.now ≡ left = ap expression_of c.in-Chain.is ∙ chain_tree c.in-Chain.first c.in-Chain.operations ∙ chain_none left c.in-Chain.operations.items none in
+    let is : expression_of c.args.tree.now ≡ left = ap expression_of c.in-Chain.is ∙ c.trees_have_their_lists.ensures.chain c.in-Chain.first c.in-Chain.operations ∙ chain_none left c.in-Chain.operations.items none in
     subst (λ e. IfOk c.condition.result (λ x. x ≡ test_of e)) (ap expression_of c.deref.ensures ∙ sym is) c.condition.ensures.test
 
 pub returns-in_ok-compare-in-Some-clause-code : goal.returns-in_ok-compare-in-Some-clause-code
@@ -30,7 +29,7 @@ returns-in_ok-compare-in-Some-clause-code t c =
     let o = c.last-item.result in
     let others = take (length os - 1) os in
     let left = expression_of c.in-Chain.first.value in
-    let is = ap expression_of c.in-Chain.is ∙ chain_split c.in-Chain.first c.in-Chain.operations os o c.as_slice.ensures.value c.in-len1-up.len_at_least c.last-item.is in
+    let is = ap expression_of c.in-Chain.is ∙ chain_split c.in-Chain.first c.in-Chain.operations os o (c.trees_have_their_lists.ensures.chain c.in-Chain.first c.in-Chain.operations) c.as_slice.ensures.value c.in-len1-up.len_at_least c.last-item.is in
     let asks : relation_of o.operation ≡ Some c.in-Some.relation = sym c.relation.ensures ∙ c.in-Some.is in
     let right = expression_of o.operand in
     c.in_ok-compare-in-Some.ensures.code
@@ -43,7 +42,7 @@ returns-in_ok-compare-in-Some-clause-test t c =
     let o = c.last-item.result in
     let others = take (length os - 1) os in
     let left = expression_of c.in-Chain.first.value in
-    let is = ap expression_of c.in-Chain.is ∙ chain_split c.in-Chain.first c.in-Chain.operations os o c.as_slice.ensures.value c.in-len1-up.len_at_least c.last-item.is in
+    let is = ap expression_of c.in-Chain.is ∙ chain_split c.in-Chain.first c.in-Chain.operations os o (c.trees_have_their_lists.ensures.chain c.in-Chain.first c.in-Chain.operations) c.as_slice.ensures.value c.in-len1-up.len_at_least c.last-item.is in
     let asks : relation_of o.operation ≡ Some c.in-Some.relation = sym c.relation.ensures ∙ c.in-Some.is in
     c.stands_to.ensures ∙ ap (stands_to c.in-Some.relation) c.as_operand.ensures ∙ sym (ap test_of is ∙ relation_tested left others o c.in-Some.relation asks)
 
@@ -54,7 +53,7 @@ returns-in_ok-expression-in-None-clause-code t c =
     let o = c.last-item.result in
     let others = take (length os - 1) os in
     let left = expression_of c.in-Chain.first.value in
-    let is = ap expression_of c.in-Chain.is ∙ chain_split c.in-Chain.first c.in-Chain.operations os o c.as_slice.ensures.value c.in-len1-up.len_at_least c.last-item.is in
+    let is = ap expression_of c.in-Chain.is ∙ chain_split c.in-Chain.first c.in-Chain.operations os o (c.trees_have_their_lists.ensures.chain c.in-Chain.first c.in-Chain.operations) c.as_slice.ensures.value c.in-len1-up.len_at_least c.last-item.is in
     let asks : relation_of o.operation ≡ None = sym c.relation.ensures ∙ c.in-None.is in
     c.in_ok-expression-in-None.ensures.code
     ∙ ap (λ x. c.args.code.now.items ++ x) (sym (ap (condition_code ps) is ∙ value_coded ps left others o asks ∙ sym (ap (expression_code ps) is)))
@@ -65,6 +64,6 @@ returns-in_ok-expression-in-None-clause-test t c =
     let o = c.last-item.result in
     let others = take (length os - 1) os in
     let left = expression_of c.in-Chain.first.value in
-    let is = ap expression_of c.in-Chain.is ∙ chain_split c.in-Chain.first c.in-Chain.operations os o c.as_slice.ensures.value c.in-len1-up.len_at_least c.last-item.is in
+    let is = ap expression_of c.in-Chain.is ∙ chain_split c.in-Chain.first c.in-Chain.operations os o (c.trees_have_their_lists.ensures.chain c.in-Chain.first c.in-Chain.operations) c.as_slice.ensures.value c.in-len1-up.len_at_least c.last-item.is in
     let asks : relation_of o.operation ≡ None = sym c.relation.ensures ∙ c.in-None.is in
     sym (ap test_of is ∙ value_tested left others o asks)

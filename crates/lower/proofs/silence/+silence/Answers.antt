@@ -1,13 +1,12 @@
 use Rattle.std.proofs.Common.{◌≡◌, suc, ◌-◌, ◌+◌, false, true, drop, get_or, nat_le, ap, sym, ◌∙◌, arith}
 use Rattle.plm_type.specs.View.{statement_of, statements_of}
 use Rattle.lower.specs.Statements.{is_silent, are_silent}
-use Rattle.lower.proofs.Rows.{block_tree}
 use Rattle.lower.proofs.LastCode.{last, none}
 use Rattle.lower.proofs.silence.+silence.Goals as goal
 
 pub is_silent-returns-in-Block : goal.is_silent-returns-in-Block
 is_silent-returns-in-Block t c =
-    c.are_silent.ensures ∙ ap (λ ss. are_silent (statements_of ss)) c.deref.ensures.value ∙ sym (ap is_silent (ap statement_of c.in-Block.is ∙ block_tree c.in-Block.body))
+    c.are_silent.ensures ∙ ap (λ ss. are_silent (statements_of ss)) c.deref.ensures.value ∙ sym (ap is_silent (ap statement_of c.in-Block.is ∙ c.trees_have_their_lists.ensures.block c.in-Block.body))
 
 pub with_code-returns-then-not-is_silent : goal.with_code-returns-then-not-is_silent
 with_code-returns-then-not-is_silent t c k in_range =

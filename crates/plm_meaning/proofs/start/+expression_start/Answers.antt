@@ -1,7 +1,6 @@
 use Rattle.std.proofs.Common.{◌≡◌, ◌≤◌, suc, ◌∷◌, sym, ap, subst, ◌∙◌, arith}
 use Rattle.plm_type.specs.Rest as rest
 use Rattle.plm_type.specs.View.{expression_of, expressions_of, chained}
-use Rattle.plm_meaning.proofs.TypedTrees.{call_tree, chain_tree}
 use Rattle.plm_meaning.specs.Context.{Expr}
 use Rattle.plm_meaning.specs.Inner.Start.{depth, start_depth, arguments_depth}
 use Rattle.plm_meaning.proofs.Given.{no_operations, chained_depth}
@@ -15,7 +14,7 @@ returns-in-None-clause-part t c =
     (ap expression_of c.deref-in-None.ensures
     ∙ sym (no_operations c.deref-in-Chain.result.now x c.in-None.ensures.cases)
     ∙ ap (chained x) c.deref-in-Chain.ensures.value
-    ∙ sym (chain_tree c.in-Chain.first c.in-Chain.operations)
+    ∙ sym (c.trees_have_their_lists.ensures.chain c.in-Chain.first c.in-Chain.operations)
     ∙ ap expression_of (sym c.in-Chain.is))
 
 pub returns-in-None-clause-depth : goal.returns-in-None-clause-depth
@@ -25,7 +24,7 @@ returns-in-None-clause-depth t c =
     ap expression_of c.deref-in-None.ensures
     ∙ sym (no_operations c.deref-in-Chain.result.now x c.in-None.ensures.cases)
     ∙ ap (chained x) c.deref-in-Chain.ensures.value
-    ∙ sym (chain_tree c.in-Chain.first c.in-Chain.operations)
+    ∙ sym (c.trees_have_their_lists.ensures.chain c.in-Chain.first c.in-Chain.operations)
     ∙ ap expression_of (sym c.in-Chain.is) in
     subst (λ y. start_depth c.expression_start.result ≤ depth y) path c.expression_start.ensures.depth
 
@@ -35,7 +34,7 @@ returns-in-Some-clause-part t c =
     ap Expr
     (ap (λ e. chained (expression_of e) (c.in-Some.operation.now ∷ c.in-Some.more.now)) c.deref-in-Some.ensures
     ∙ ap (chained x) (sym c.in-Some.ensures.cases.0 ∙ c.deref-in-Chain.ensures.value)
-    ∙ sym (chain_tree c.in-Chain.first c.in-Chain.operations)
+    ∙ sym (c.trees_have_their_lists.ensures.chain c.in-Chain.first c.in-Chain.operations)
     ∙ ap expression_of (sym c.in-Chain.is))
 
 pub returns-in-Some-clause-depth : goal.returns-in-Some-clause-depth
@@ -46,20 +45,20 @@ returns-in-Some-clause-depth t c =
     let path : chained y (o ∷ c.in-Some.more.now) ≡ expression_of c.args.e.now =
     ap (λ e. chained (expression_of e) (o ∷ c.in-Some.more.now)) c.deref-in-Some.ensures
     ∙ ap (chained x) (sym c.in-Some.ensures.cases.0 ∙ c.deref-in-Chain.ensures.value)
-    ∙ sym (chain_tree c.in-Chain.first c.in-Chain.operations)
+    ∙ sym (c.trees_have_their_lists.ensures.chain c.in-Chain.first c.in-Chain.operations)
     ∙ ap expression_of (sym c.in-Chain.is) in
     subst (λ z. suc (depth y) ≤ depth z) path (chained_depth c.in-Some.more.now (rest.Binary o.line.module o.line.line o.operation o.width y (expression_of o.operand)))
 
 pub returns-in-Call-clause-part : goal.returns-in-Call-clause-part
 returns-in-Call-clause-part t c =
     let p = c.in-Call.procedure in
-    ap Expr (ap (λ es. rest.Call p (expressions_of es)) c.deref-in-Call.ensures.value ∙ sym (call_tree p c.in-Call.arguments) ∙ ap expression_of (sym c.in-Call.is))
+    ap Expr (ap (λ es. rest.Call p (expressions_of es)) c.deref-in-Call.ensures.value ∙ sym (c.trees_have_their_lists.ensures.call p c.in-Call.arguments) ∙ ap expression_of (sym c.in-Call.is))
 
 pub returns-in-Call-clause-depth : goal.returns-in-Call-clause-depth
 returns-in-Call-clause-depth t c =
     let p = c.in-Call.procedure in
     let n = arguments_depth (expressions_of c.deref-in-Call.result.now) in
     let path : rest.Call p (expressions_of c.deref-in-Call.result.now) ≡ expression_of c.args.e.now =
-    ap (λ es. rest.Call p (expressions_of es)) c.deref-in-Call.ensures.value ∙ sym (call_tree p c.in-Call.arguments) ∙ ap expression_of (sym c.in-Call.is) in
+    ap (λ es. rest.Call p (expressions_of es)) c.deref-in-Call.ensures.value ∙ sym (c.trees_have_their_lists.ensures.call p c.in-Call.arguments) ∙ ap expression_of (sym c.in-Call.is) in
     let same : n ≤ n = omega arith in
     subst (λ y. n ≤ depth y) path same

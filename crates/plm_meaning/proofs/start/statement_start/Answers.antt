@@ -1,7 +1,6 @@
 use Rattle.std.proofs.Common.{sym, ap, ◌∙◌}
-use Rattle.plm_type.specs.Rest.{If, While, Case, Then, End}
+use Rattle.plm_type.specs.Rest.{If, Block, While, Case, Then, End}
 use Rattle.plm_type.specs.View.{expression_of, statement_of, statements_of}
-use Rattle.plm_meaning.proofs.TypedTrees.{if_tree, while_tree, case_tree, iterate_tree}
 use Rattle.plm_meaning.specs.Context.{ToRun}
 use Rattle.plm_meaning.proofs.start.statement_start.Goals as goal
 
@@ -11,7 +10,7 @@ returns-in-If c =
     ap (λ s. ToRun (Then s End))
     (ap (λ ss. If e (statements_of ss) (statements_of c.deref-in-If-2.result.now)) c.deref-in-If.ensures.value
     ∙ ap (λ ss. If e (statements_of c.in-If.arm.items) (statements_of ss)) c.deref-in-If-2.ensures.value
-    ∙ sym (if_tree c.in-If.condition c.in-If.arm c.in-If.other)
+    ∙ sym (c.trees_have_their_lists.ensures.if_else c.in-If.condition c.in-If.arm c.in-If.other)
     ∙ ap statement_of (sym c.in-If.is))
 
 pub returns-in-While : goal.returns-in-While
@@ -19,7 +18,7 @@ returns-in-While c =
     let e = expression_of c.in-While.condition in
     ap (λ s. ToRun (Then s End))
     (ap (λ ss. While e e (statements_of ss)) c.deref-in-While.ensures.value
-    ∙ sym (while_tree c.in-While.condition c.in-While.body)
+    ∙ sym (c.trees_have_their_lists.ensures.while_true c.in-While.condition c.in-While.body)
     ∙ ap statement_of (sym c.in-While.is))
 
 pub returns-in-Case : goal.returns-in-Case
@@ -27,8 +26,15 @@ returns-in-Case c =
     let e = expression_of c.in-Case.value in
     ap (λ s. ToRun (Then s End))
     (ap (λ ss. Case e (statements_of ss)) c.deref-in-Case.ensures.value
-    ∙ sym (case_tree c.in-Case.value c.in-Case.cases)
+    ∙ sym (c.trees_have_their_lists.ensures.case_of c.in-Case.value c.in-Case.cases)
     ∙ ap statement_of (sym c.in-Case.is))
 
 pub returns-in-Iterate : goal.returns-in-Iterate
-returns-in-Iterate c = ap (λ s. ToRun (Then s End)) (sym (iterate_tree c.in-Iterate.first c.in-Iterate.rounds) ∙ ap statement_of (sym c.in-Iterate.is))
+returns-in-Iterate c = ap (λ s. ToRun (Then s End)) (sym (c.trees_have_their_lists.ensures.iterate c.in-Iterate.first c.in-Iterate.rounds) ∙ ap statement_of (sym c.in-Iterate.is))
+
+pub returns-in-Block : goal.returns-in-Block
+returns-in-Block c =
+    ap (λ s. ToRun (Then s End))
+    (ap (λ ss. Block (statements_of ss)) c.deref-in-Block.ensures.value
+    ∙ sym (c.trees_have_their_lists.ensures.block c.in-Block.body)
+    ∙ ap statement_of (sym c.in-Block.is))

@@ -2,7 +2,6 @@ use Rattle.std.proofs.Common.{◌≡◌, ◌+◌, drop, [], ◌∷◌, ◌++◌,
 use Rattle.plm_decl.specs.declared.resolved.Operation.{Operation}
 use Rattle.plm_decl.specs.Resolved.{ExpressionR, ReferenceR, ReferenceR', EmbeddedR, BinaryR, LocationR', LocationOf}
 use Rattle.plm_decl.specs.ResolvedView as resolved
-use Rattle.plm_type.proofs.ResolvedTrees.{operation_row, reference_placed}
 use Rattle.plm_type.specs.declared.effects.Effect.{Effect}
 use Rattle.plm_type.specs.Effects as spec
 use Rattle.plm_type.specs.Inner.Effects as inner
@@ -20,7 +19,7 @@ pub add_expression-returns-in-Reference : goal.add_expression-returns-in-Referen
 add_expression-returns-in-Reference t c =
     let r = c.in-Reference.reference in
     let old = c.args.effects.now.items in
-    let is = ap resolved.expression_of c.in-Reference.is ∙ ap ReferenceR (reference_placed r) in
+    let is = ap resolved.expression_of c.in-Reference.is ∙ c.resolved_trees_have_their_lists.ensures.reference r in
     subst (λ (l : List Effect). OnOk c.add_value.result (c.add_value.new.effects.items ≡ l)) (ap (λ (x : ExpressionR). old ++ spec.of_expression x) (sym is)) c.add_value.ensures
 
 pub add_expression-returns-in_ok-add_parts-in-Embedded : goal.add_expression-returns-in_ok-add_parts-in-Embedded
@@ -29,7 +28,7 @@ add_expression-returns-in_ok-add_parts-in-Embedded t c =
     let x = c.in-Embedded.target in
     let old = c.args.effects.now.items in
     let e = resolved.expression_of c.in-Embedded.value.value in
-    let is = ap resolved.expression_of c.in-Embedded.is ∙ ap (λ (r : ReferenceR'). EmbeddedR p r e) (reference_placed x) in
+    let is = ap resolved.expression_of c.in-Embedded.is ∙ c.resolved_trees_have_their_lists.ensures.embedded p x c.in-Embedded.value in
     let path =
     (λ j. c.in_ok-add_parts-in-Embedded.ensures j ++ spec.of_expression (resolved.expression_of (c.deref-in-Embedded.ensures j)))
     ∙ append_assoc old (spec.of_parts (resolved.reference_of x)) (spec.of_expression e)
@@ -41,7 +40,7 @@ add_expression-returns-in_ok-add_expression-in-Chain t c =
     let old = c.args.effects.now.items in
     let e = resolved.expression_of c.in-Chain.first.value in
     let os = c.in-Chain.others in
-    let is = ap resolved.expression_of c.in-Chain.is ∙ operation_row e os in
+    let is = ap resolved.expression_of c.in-Chain.is ∙ c.resolved_trees_have_their_lists.ensures.chain c.in-Chain.first os in
     let first = c.in_ok-add_expression-in-Chain.ensures ∙ (λ j. old ++ spec.of_expression (resolved.expression_of (c.deref-in-Chain.ensures j))) in
     let path =
     (λ j. first j ++ inner.of_operations (c.deref-in-Chain-2.ensures.value j))
@@ -54,7 +53,7 @@ pub add_location-returns-in-Reference : goal.add_location-returns-in-Reference
 add_location-returns-in-Reference t c =
     let old = c.args.effects.now.items in
     let r = c.in-Reference.reference in
-    let is = ap resolved.location_of c.in-Reference.is ∙ ap (λ (x : ReferenceR'). LocationOf c.in-Reference.field-0 c.in-Reference.field-1 x) (reference_placed r) in
+    let is = ap resolved.location_of c.in-Reference.is ∙ c.resolved_trees_have_their_lists.ensures.location c.in-Reference.field-0 c.in-Reference.field-1 r in
     subst (λ (l : List Effect). OnOk c.add_parts.result (c.add_parts.new.effects.items ≡ l)) (ap (λ (x : LocationR'). old ++ spec.of_location x) (sym is)) c.add_parts.ensures
 
 pub add_operations-loop-operation-preserved : goal.add_operations-loop-operation-preserved

@@ -1,7 +1,6 @@
 use Rattle.std.proofs.Common.{◌≡◌, ◌+◌, ◌++◌, OnOk, List, drop, append_assoc, subst, sym, ap, ◌∙◌}
 use Rattle.plm_decl.specs.Resolved.{StatementR, DoR, WhileR, CaseR, IterateR}
 use Rattle.plm_decl.specs.ResolvedView as resolved
-use Rattle.plm_type.proofs.ResolvedTrees.{statement_row}
 use Rattle.plm_type.specs.declared.effects.Effect.{Effect}
 use Rattle.plm_type.specs.Effects as spec
 use Rattle.plm_type.proofs.Lists.{statements_at}
@@ -10,7 +9,7 @@ use Rattle.plm_type.proofs.effects.+statement_effects.Goals as goal
 pub add_statement-returns-in-Do : goal.add_statement-returns-in-Do
 add_statement-returns-in-Do t c =
     let old = c.args.effects.now.items in
-    let is = ap resolved.statement_of c.in-Do.is ∙ ap (DoR c.in-Do.field-0) (statement_row c.in-Do.body) in
+    let is = ap resolved.statement_of c.in-Do.is ∙ c.resolved_trees_have_their_lists.ensures.block c.in-Do.field-0 c.in-Do.body in
     let path =
     (λ j. old ++ spec.of_statements (resolved.statements_of (c.deref-in-Do.ensures.value j)))
     ∙ ap (λ (s : StatementR). old ++ spec.of_statement s) (sym is) in
@@ -21,7 +20,7 @@ add_statement-returns-in_ok-add_expression-in-While t c =
     let old = c.args.effects.now.items in
     let at = c.in-While in
     let e = resolved.expression_of at.test in
-    let is = ap resolved.statement_of at.is ∙ ap (WhileR at.field-0 e) (statement_row at.body) in
+    let is = ap resolved.statement_of at.is ∙ c.resolved_trees_have_their_lists.ensures.while_true at.field-0 at.test at.body in
     let path =
     (λ j. c.in_ok-add_expression-in-While.ensures j ++ spec.of_statements (resolved.statements_of (c.deref-in-While.ensures.value j)))
     ∙ append_assoc old (spec.of_expression e) (spec.of_statements (resolved.statements_of at.body.items))
@@ -33,7 +32,7 @@ add_statement-returns-in_ok-add_expression-in-Case t c =
     let old = c.args.effects.now.items in
     let at = c.in-Case in
     let e = resolved.expression_of at.value in
-    let is = ap resolved.statement_of at.is ∙ ap (CaseR at.field-0 e) (statement_row at.cases) in
+    let is = ap resolved.statement_of at.is ∙ c.resolved_trees_have_their_lists.ensures.case_of at.field-0 at.value at.cases in
     let path =
     (λ j. c.in_ok-add_expression-in-Case.ensures j ++ spec.of_statements (resolved.statements_of (c.deref-in-Case.ensures.value j)))
     ∙ append_assoc old (spec.of_expression e) (spec.of_statements (resolved.statements_of at.cases.items))
@@ -49,7 +48,7 @@ add_statement-returns-in_ok-add_step-in-Iterate t c =
     let s = spec.of_step (resolved.step_of at.step) in
     let body = spec.of_statements (resolved.statements_of at.body.items) in
     let is = ap resolved.statement_of at.is
-    ∙ ap (IterateR at.field-0 at.field-1 at.field-2 (resolved.expression_of at.first) (resolved.expression_of at.bound) (resolved.step_of at.step)) (statement_row at.body) in
+    ∙ c.resolved_trees_have_their_lists.ensures.iterate at.field-0 at.field-1 at.field-2 at.first at.bound at.step at.body in
     let two = c.in_ok-add_expression-in-Iterate-2.ensures ∙ ap (λ (l : List Effect). l ++ b) c.in_ok-add_expression-in-Iterate.ensures in
     let three = c.in_ok-add_step-in-Iterate.ensures ∙ ap (λ (l : List Effect). l ++ s) two in
     let path =

@@ -1,6 +1,5 @@
 use Rattle.std.proofs.Common.{sym, ap, ◌∙◌}
 use Rattle.plm_decl.specs.ResolvedView as resolved
-use Rattle.plm_type.proofs.ResolvedTrees.{operation_row}
 use Rattle.plm_type.specs.Faults as found
 use Rattle.plm_type.proofs.Leaning.{leaned_first}
 use Rattle.plm_type.proofs.expressions.+first_place.Goals as goal
@@ -10,4 +9,4 @@ returns-in-Chain t c =
     let e = resolved.expression_of c.in-Chain.first.value in
     let os = c.in-Chain.others in
     c.first_place.ensures ∙ (λ j. found.first_place (resolved.expression_of (c.deref.ensures j)))
-    ∙ sym (ap found.first_place (ap resolved.expression_of c.in-Chain.is ∙ operation_row e os) ∙ leaned_first e os.items)
+    ∙ sym (ap found.first_place (ap resolved.expression_of c.in-Chain.is ∙ c.resolved_trees_have_their_lists.ensures.chain c.in-Chain.first os) ∙ leaned_first e os.items)

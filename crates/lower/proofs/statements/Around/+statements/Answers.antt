@@ -3,34 +3,33 @@ use Rattle.plm_type.specs.Rest.{Block, While, Case}
 use Rattle.plm_type.specs.View.{statement_of, statements_of, expression_of, procedures_of}
 use Rattle.lower.specs.Statements.{statement_code, statements_code, cases_code, are_silent}
 use Rattle.lower.specs.Inner.Parts.{branching}
-use Rattle.lower.proofs.Rows.{block_tree, if_tree, while_tree, case_tree, iterate_tree}
 use Rattle.lower.proofs.Turned.{turned}
 use Rattle.lower.proofs.statements.Around.+statements.Goals as goal
 
 pub statement-returns-in-Block-clause-code : goal.statement-returns-in-Block-clause-code
 statement-returns-in-Block-clause-code t c =
     let ps = procedures_of c.args.self.callees.procedures.now in
-    let is = ap (λ ss. Block (statements_of ss)) c.deref-in-Block.ensures.value ∙ sym (ap statement_of c.in-Block.is ∙ block_tree c.in-Block.body) in
+    let is = ap (λ ss. Block (statements_of ss)) c.deref-in-Block.ensures.value ∙ sym (ap statement_of c.in-Block.is ∙ c.trees_have_their_lists.ensures.block c.in-Block.body) in
     subst (λ s. IfOk c.statements-in-Block.result (λ r. r.items ≡ statement_code ps c.args.self.kind c.args.exit s)) is c.statements-in-Block.ensures.code
 
 pub statement-returns-in-While-clause-code : goal.statement-returns-in-While-clause-code
 statement-returns-in-While-clause-code t c =
     let ps = procedures_of c.args.self.callees.procedures.now in
     let e = expression_of c.in-While.condition in
-    let is = ap (λ ss. While e e (statements_of ss)) c.deref-in-While.ensures.value ∙ sym (ap statement_of c.in-While.is ∙ while_tree c.in-While.condition c.in-While.body) in
+    let is = ap (λ ss. While e e (statements_of ss)) c.deref-in-While.ensures.value ∙ sym (ap statement_of c.in-While.is ∙ c.trees_have_their_lists.ensures.while_true c.in-While.condition c.in-While.body) in
     subst (λ s. IfOk c.repetition.result (λ r. r.items ≡ statement_code ps c.args.self.kind c.args.exit s)) is c.repetition.ensures.code
 
 pub statement-returns-in-Case-clause-code : goal.statement-returns-in-Case-clause-code
 statement-returns-in-Case-clause-code t c =
     let ps = procedures_of c.args.self.callees.procedures.now in
     let e = expression_of c.in-Case.value in
-    let is = ap (λ ss. Case e (statements_of ss)) c.deref-in-Case.ensures.value ∙ sym (ap statement_of c.in-Case.is ∙ case_tree c.in-Case.value c.in-Case.cases) in
+    let is = ap (λ ss. Case e (statements_of ss)) c.deref-in-Case.ensures.value ∙ sym (ap statement_of c.in-Case.is ∙ c.trees_have_their_lists.ensures.case_of c.in-Case.value c.in-Case.cases) in
     subst (λ s. IfOk c.cases.result (λ r. r.items ≡ statement_code ps c.args.self.kind c.args.exit s)) is c.cases.ensures.code
 
 pub statement-returns-in-Iterate-clause-code : goal.statement-returns-in-Iterate-clause-code
 statement-returns-in-Iterate-clause-code t c =
     let ps = procedures_of c.args.self.callees.procedures.now in
-    let is = sym (ap statement_of c.in-Iterate.is ∙ iterate_tree c.in-Iterate.first c.in-Iterate.iteration) in
+    let is = sym (ap statement_of c.in-Iterate.is ∙ c.trees_have_their_lists.ensures.iterate c.in-Iterate.first c.in-Iterate.iteration) in
     subst (λ s. IfOk c.iteration.result (λ r. r.items ≡ statement_code ps c.args.self.kind c.args.exit s)) is c.iteration.ensures.code
 
 pub statement-returns-in_ok-otherwise-in-If-clause-code : goal.statement-returns-in_ok-otherwise-in-If-clause-code
@@ -46,7 +45,7 @@ statement-returns-in_ok-otherwise-in-If-clause-code t c =
     (ap (λ ss. branching ps kind e (statements_of ss) c.are_silent.result c.deref-in-If-4.result.now exit) c.deref-in-If-2.ensures.value
     ∙ ap (λ b. branching ps kind e arm b c.deref-in-If-4.result.now exit) silent
     ∙ ap (λ o. branching ps kind e arm (are_silent (statements_of c.in-If.other.items)) o exit) otherwise
-    ∙ sym (ap (statement_code ps kind exit) (ap statement_of c.in-If.is ∙ if_tree c.in-If.condition c.in-If.arm c.in-If.other)))
+    ∙ sym (ap (statement_code ps kind exit) (ap statement_of c.in-If.is ∙ c.trees_have_their_lists.ensures.if_else c.in-If.condition c.in-If.arm c.in-If.other)))
     c.branch-self.ensures.code
 
 pub each_case-returns-clause-code : goal.each_case-returns-clause-code

@@ -19,7 +19,6 @@ use Rattle.plm_type.specs.Typer.{Typed}
 use Rattle.plm_type.specs.Expressions as spec
 use Rattle.plm_type.specs.Inner.Typer.{variables, procedures, sizes, said, after, target_after, list_after, typed_by, list_by, selector_by, parts_by, value_by, arguments_by, argument_by, location_by, target_by}
 use Rattle.plm_type.specs.Inner.Chains.{chain}
-use Rattle.plm_type.proofs.ResolvedTrees.{operation_row, reference_placed}
 use Rattle.plm_type.proofs.Lists.{drop_at, one_is, many_are, expressions_at, trees_before, trees_pushed, trees_all, list_before}
 use Rattle.plm_type.proofs.Leaning.{leaned_after, leaned_alone, leaned_joined}
 use Rattle.plm_type.proofs.Parts.{is_zero, not_zero}
@@ -44,7 +43,7 @@ expression-returns-in-Text t c =
 
 pub expression-returns-in-Reference : goal.expression-returns-in-Reference
 expression-returns-in-Reference t c =
-    let is = sym (ap resolved.expression_of c.in-Reference.is ∙ ap ReferenceR (reference_placed c.in-Reference.reference)) in
+    let is = sym (ap resolved.expression_of c.in-Reference.is ∙ c.resolved_trees_have_their_lists.ensures.reference c.in-Reference.reference) in
     spoken c.args.self.now c.args.faults.now.items c.value.result c.value.new.faults.items is c.value.ensures
 
 pub expression-returns-in-Location : goal.expression-returns-in-Location
@@ -63,7 +62,7 @@ expression-returns-in_ok-value-in-Embedded t c =
     let old = c.args.faults.now.items in
     let x = resolved.reference_of at.target in
     let e = resolved.expression_of at.value.value in
-    let is = sym (ap resolved.expression_of at.is ∙ ap (λ (r : ReferenceR'). EmbeddedR at.place r e) (reference_placed at.target)) in
+    let is = sym (ap resolved.expression_of at.is ∙ c.resolved_trees_have_their_lists.ensures.embedded at.place at.target at.value) in
     let value = c.in_ok-value-in-Embedded.ensures ∙ (λ j. after c.target.new.faults.items (typed_by self (resolved.expression_of (c.deref-in-Embedded.ensures j)))) in
     let path = embedded_said self.module at.place old (target_by self x) _ (typed_by self e) _ c.in_ok-target-in-Embedded.ensures value in
     spoken self old c.embedded.result c.embedded.new.faults.items is (typed_moved c.embedded.result c.embedded.new.faults.items path c.embedded.ensures)
@@ -85,7 +84,7 @@ expression-returns-in_ok-left-in-Chain t c =
     let old = c.args.faults.now.items in
     let e = resolved.expression_of c.in-Chain.first.value in
     let os = c.in-Chain.others in
-    let is = sym (ap resolved.expression_of c.in-Chain.is ∙ operation_row e os) in
+    let is = sym (ap resolved.expression_of c.in-Chain.is ∙ c.resolved_trees_have_their_lists.ensures.chain c.in-Chain.first os) in
     let left = c.in_ok-left-in-Chain.ensures ∙ (λ j. after old (typed_by self (resolved.expression_of (c.deref-in-Chain.ensures j)))) in
     let place = c.first_place.ensures ∙ (λ j. found.first_place (resolved.expression_of (c.deref-in-Chain-3.ensures j))) in
     let path = (λ j. chain (variables self) (procedures self) (sizes self) self.module (place j) (left j) (c.deref-in-Chain-2.ensures.value j))
@@ -273,7 +272,7 @@ argument-returns-in_ok-parts-in-Variable t c =
     let judged = argument_by self c.args.place c.args.builtin in
     let parts = parts_by self (resolved.reference_of r) in
     let measured = spec.measured self.module c.args.place c.args.builtin r.place in
-    let is = ap resolved.expression_of c.in-Reference.is ∙ ap ReferenceR (reference_placed r) ∙ ap (λ (m : Binding). ReferenceR (meaning r m)) c.in-Variable.is in
+    let is = ap resolved.expression_of c.in-Reference.is ∙ c.resolved_trees_have_their_lists.ensures.reference r ∙ ap (λ (m : Binding). ReferenceR (meaning r m)) c.in-Variable.is in
     let path = (λ j. measured (c.variable-variable.ensures j) s (c.in_ok-parts-in-Variable.ensures j))
     ∙ own_after (measured (c.variable-variable.ensures 1) s parts) old parts.faults _
     ∙ ap (λ (e : ExpressionR). after old (judged e)) (sym is) in
@@ -309,7 +308,7 @@ argument-returns-then-is_empty t c =
     let e = resolved.expression_of c.in-Chain.first.value in
     let os = c.in-Chain.others in
     let alone = leaned_alone e os.items (sym os.ok.0 ∙ is_zero _ (sym c.is_empty.ensures ∙ c.if-is_empty.true)) in
-    let is = (λ j. resolved.expression_of (c.deref.ensures j)) ∙ sym (ap resolved.expression_of c.in-Chain.is ∙ operation_row e os ∙ alone) in
+    let is = (λ j. resolved.expression_of (c.deref.ensures j)) ∙ sym (ap resolved.expression_of c.in-Chain.is ∙ c.resolved_trees_have_their_lists.ensures.chain c.in-Chain.first os ∙ alone) in
     let path = ap (λ (x : ExpressionR). after c.args.faults.now.items (argument_by c.args.self.now c.args.place c.args.builtin x)) is in
     typed_moved c.argument.result c.argument.new.faults.items path c.argument.ensures
 
@@ -318,7 +317,7 @@ argument-returns-else-is_empty t c =
     let e = resolved.expression_of c.in-Chain.first.value in
     let os = c.in-Chain.others in
     let more = leaned_joined e os.items (λ z. not_zero _ (sym c.is_empty.ensures ∙ c.if-is_empty.false) (os.ok.0 ∙ z)) in
-    let is = sym (ap resolved.expression_of c.in-Chain.is ∙ operation_row e os ∙ more.is) in
+    let is = sym (ap resolved.expression_of c.in-Chain.is ∙ c.resolved_trees_have_their_lists.ensures.chain c.in-Chain.first os ∙ more.is) in
     let path = ap (λ (x : ExpressionR). after c.args.faults.now.items (argument_by c.args.self.now c.args.place c.args.builtin x)) is in
     typed_moved c.refused-in-Chain.result c.refused-in-Chain.new.faults.items path c.refused-in-Chain.ensures
 
@@ -333,7 +332,7 @@ location-returns-in_ok-parts-in-Variable t c =
     let old = c.args.faults.now.items in
     let parts = parts_by self (resolved.reference_of r) in
     let located = spec.located (variables self) self.module at.place at.form r.place in
-    let is = ap resolved.location_of at.is ∙ ap (LocationOf at.place at.form) (reference_placed r) ∙ ap (λ (m : Binding). LocationOf at.place at.form (meaning r m)) c.in-Variable.is in
+    let is = ap resolved.location_of at.is ∙ c.resolved_trees_have_their_lists.ensures.location at.place at.form r ∙ ap (λ (m : Binding). LocationOf at.place at.form (meaning r m)) c.in-Variable.is in
     let path = (λ j. located (c.variable-variable.ensures j) s (c.in_ok-parts-in-Variable.ensures j))
     ∙ own_after (located (c.variable-variable.ensures 1) s parts) old parts.faults _
     ∙ ap (λ (l : LocationR'). after old (location_by self l)) (sym is) in

@@ -5,7 +5,6 @@ use Rattle.plm_decl.specs.declared.found.Found.{Found}
 use Rattle.plm_decl.specs.declared.resolved.Statement as declared_resolved
 use Rattle.plm_decl.specs.Resolved.{StatementR, IfR, IfElseR, DoR, WhileR, CaseR, IterateR, StatementsR}
 use Rattle.plm_decl.specs.ResolvedView as resolved
-use Rattle.plm_type.proofs.ResolvedTrees as rows
 use Rattle.plm_type.specs.declared.program.Statement.{Statement}
 use Rattle.plm_type.specs.Rest as rest
 use Rattle.plm_type.specs.Inner.Typer.{one, noted, noted_after, number_by, index_by, step_by, statement_by, statements_by}
@@ -60,7 +59,7 @@ pub statement-returns-in-Do : goal.statement-returns-in-Do
 statement-returns-in-Do t c =
     let at = c.in-Do in
     let of = DoR at.field-0 in
-    let is = ap (λ (l : List declared_resolved.Statement). of (resolved.statements_of l)) c.deref-in-Do.ensures.value ∙ sym (ap resolved.statement_of at.is ∙ ap of (rows.statement_row at.body)) in
+    let is = ap (λ (l : List declared_resolved.Statement). of (resolved.statements_of l)) c.deref-in-Do.ensures.value ∙ sym (ap resolved.statement_of at.is ∙ c.resolved_trees_have_their_lists.ensures.block at.field-0 at.body) in
     let path = ap (λ (s : StatementR). noted_after c.args.faults.now.items (statement_by c.args.self.now c.args.around s)) is in
     noted_moved view.statement_of c.block.result c.block.new.faults.items path c.block.ensures
 
@@ -68,7 +67,7 @@ pub statement-returns-in-While : goal.statement-returns-in-While
 statement-returns-in-While t c =
     let at = c.in-While in
     let of = WhileR at.place (resolved.expression_of at.test) in
-    let is = ap (λ (l : List declared_resolved.Statement). of (resolved.statements_of l)) c.deref-in-While.ensures.value ∙ sym (ap resolved.statement_of at.is ∙ ap of (rows.statement_row at.body)) in
+    let is = ap (λ (l : List declared_resolved.Statement). of (resolved.statements_of l)) c.deref-in-While.ensures.value ∙ sym (ap resolved.statement_of at.is ∙ c.resolved_trees_have_their_lists.ensures.while_true at.place at.test at.body) in
     let path = ap (λ (s : StatementR). noted_after c.args.faults.now.items (statement_by c.args.self.now c.args.around s)) is in
     noted_moved view.statement_of c.while_loop.result c.while_loop.new.faults.items path c.while_loop.ensures
 
@@ -76,7 +75,7 @@ pub statement-returns-in-Case : goal.statement-returns-in-Case
 statement-returns-in-Case t c =
     let at = c.in-Case in
     let of = CaseR at.place (resolved.expression_of at.value) in
-    let is = ap (λ (l : List declared_resolved.Statement). of (resolved.statements_of l)) c.deref-in-Case.ensures.value ∙ sym (ap resolved.statement_of at.is ∙ ap of (rows.statement_row at.cases)) in
+    let is = ap (λ (l : List declared_resolved.Statement). of (resolved.statements_of l)) c.deref-in-Case.ensures.value ∙ sym (ap resolved.statement_of at.is ∙ c.resolved_trees_have_their_lists.ensures.case_of at.place at.value at.cases) in
     let path = ap (λ (s : StatementR). noted_after c.args.faults.now.items (statement_by c.args.self.now c.args.around s)) is in
     noted_moved view.statement_of c.case.result c.case.new.faults.items path c.case.ensures
 
@@ -87,7 +86,7 @@ statement-returns-in_ok-range-in-Iterate t c =
     let old = c.args.faults.now.items in
     let at = c.in-Iterate in
     let of = IterateR at.place at.name at.index (resolved.expression_of at.from) (resolved.expression_of at.to) (resolved.step_of at.by) in
-    let is = ap (λ (l : List declared_resolved.Statement). of (resolved.statements_of l)) c.deref-in-Iterate.ensures.value ∙ sym (ap resolved.statement_of at.is ∙ ap of (rows.statement_row at.body)) in
+    let is = ap (λ (l : List declared_resolved.Statement). of (resolved.statements_of l)) c.deref-in-Iterate.ensures.value ∙ sym (ap resolved.statement_of at.is ∙ c.resolved_trees_have_their_lists.ensures.iterate at.place at.name at.index at.from at.to at.by at.body) in
     let index = c.in_ok-index-in-Iterate.ensures in
     let range = c.in_ok-range-in-Iterate.ensures in
     let i = index_by self at.place at.name at.index in
