@@ -7,6 +7,9 @@ line then has the word incremental=trusted, which says that its verdict trusts w
 other, is let through beside those that `rt ci` lets through. A library is built whole, and not by its statements alone, so
 that `rt check` takes it. A program is compiled over what its check kept, which the compilers' runs of the prover look through again.
 
+And one thing of its plan: how much memory a check takes is what tools/costs has, and a fifth more. `rt ci` reckons it by lines, which
+is twice as much for the crates on top, so that these waited for one another.
+
 usage: tools/one_check.py      at the top of a repository; status and output are those of rt ci
 """
 
@@ -18,6 +21,9 @@ import sys
 import types
 
 sys.dont_write_bytecode = True
+sys.path.insert(0, os.path.dirname(os.path.realpath(__file__)))
+import costs
+
 # The end of the last line that rt ci lets through.
 ENDING = r" libraries-built=trusted statements=trusted\n\Z"
 KEPT = "out/incremental"
@@ -52,7 +58,16 @@ def is_known(rt):
     crate = getattr(rt, "Crate", None)
     takes = {name: getattr(crate, name).__code__.co_varnames for name in FORMS if hasattr(getattr(crate, name, None), "__code__")}
     is_formed = all(takes.get(name, ())[: len(form)] == form for name, form in FORMS.items())
-    return is_formed and pattern.endswith(ENDING) and hasattr(crate, "cuts_libraries") and all(hasattr(rt, it) for it in ("ci", "KIT"))
+    return is_formed and pattern.endswith(ENDING) and hasattr(crate, "cuts_libraries") and all(hasattr(rt, it) for it in ("ci", "need", "KIT"))
+
+
+def plan_as_measured(rt):
+    """Has rt ci plan by the memory that each crate's check was seen to take."""
+    reckoned, most = rt.need, {}
+    for (crate, task), (_, held) in costs.known().items():
+        if task in ("proof", "tests"):
+            most[crate] = max(held, most.get(crate, 0))
+    rt.need = lambda crate: 1.2 * most[crate.name] if crate.name in most else reckoned(crate)
 
 
 def change(rt):
@@ -94,6 +109,7 @@ def main():
         print("one_check: this kit's rt is not known here: run rt ci", file=sys.stderr)
         return 2
     change(rt)
+    plan_as_measured(rt)
     # (an rt that keeps what it proved is told to prove all: what it kept of earlier runs would leave no work for the edits)
     takes = rt.ci.__code__.co_varnames[: rt.ci.__code__.co_argcount]
     return rt.where_disk_lasts(rt.ci, True) if "anew" in takes else rt.ci()
