@@ -79,6 +79,7 @@ invariant_of-result c =
     record {
       main_is = (λ j. (c.in_ok-main.ensures j).tree);
       procedures_are = (λ j. (c.in_ok-procedures.ensures j).tree);
+      handlers_are = c.in_ok-handler_numbers.ensures;
       no_fault = parts.0;
       lets_nothing_in = lets_nothing_in names none;
       none_misused = none_misused names none;
