@@ -9,6 +9,8 @@ import re
 import tempfile
 import threading
 
+import kit
+
 TABLE = os.path.join(os.path.dirname(os.path.realpath(__file__)), "costs")
 TICKS = os.sysconf("SC_CLK_TCK")
 
@@ -57,6 +59,11 @@ def running():
             except (OSError, IndexError):
                 pass
     return found
+
+
+def spare():
+    """Returns how many processors have no process of the prover now, and at least one: what is tried last of all has the others to itself."""
+    return max(1, kit.processors() - sum(it.is_prover() for it in running().values()))
 
 
 class Watch(threading.Thread):
