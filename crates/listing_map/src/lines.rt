@@ -7,9 +7,9 @@ ghost use Rattle.word86.specs.declared.number.Number.TheVariants.{E704};
 ghost use Rattle.listing_map.specs.Lines.{byte_line, word_line, short_line, decimal_line, label_line, end_line, opcode_line, bad_line, located_line};
 
 use crate::numerals::{hex_address, hex_byte, hex_word};
-use crate::pieces::{put_five, put_six, put_three, put_two};
+use crate::pieces::{put_at_once, put_five, put_six, put_three, put_two};
 use itoa::Buffer;
-use word86::{Fault, Label, Number, Sink, SinkFault, put_all};
+use word86::{Fault, Label, Number, Sink, SinkFault};
 
 pub(crate) const CANNOT_WRITE: Fault = Fault::At(0, 1, Number::E704);
 
@@ -38,6 +38,7 @@ pub fn fault_line<S: Sink>(name: &str, line: u32, number: Number, sink: &mut S) 
 }
 
 /// Writes the line of a label as `trace_line` does. The one refusal is that the sink failed, in the sink's own words.
+#[inline(always)]
 pub fn put_label<S: Sink>(label: &Label, sink: &mut S) -> Result<(), SinkFault>
     ensures { Writes (S.taken sink.old) (S.taken sink.new) (S.failures sink.old) (S.failures sink.new) (label_line label.now) result }
 {
@@ -119,7 +120,7 @@ fn put_whole_line<S: Sink>(
     let [a, b, c, d] = hex_word(place);
     let [e, f] = hex_byte(v);
     let line = [first, second, third, b' ', a, b, c, d, b' ', e, f, b'\n'];
-    put_all(sink, &line)
+    put_at_once(sink, &line)
 }
 
 /// The same of a word of four letters and a value of a word.
@@ -140,9 +141,10 @@ fn put_whole_word_line<S: Sink>(
     let line = [
         first, second, third, fourth, b' ', a, b, c, d, b' ', e, f, g, h, b'\n',
     ];
-    put_all(sink, &line)
+    put_at_once(sink, &line)
 }
 
+#[inline(never)]
 fn put_byte_line<S: Sink>(sink: &mut S, word: &[u8], place: u16, v: u8) -> Result<(), SinkFault>
     ensures { Writes (S.taken sink.old) (S.taken sink.new) (S.failures sink.old) (S.failures sink.new) (byte_line word.now place v) result }
 {
@@ -151,6 +153,7 @@ fn put_byte_line<S: Sink>(sink: &mut S, word: &[u8], place: u16, v: u8) -> Resul
     put_two(sink, word, &[a, b, c, d, b' ', e, f, b'\n'])
 }
 
+#[inline(never)]
 fn put_word_line<S: Sink>(sink: &mut S, word: &[u8], place: u16, v: u16) -> Result<(), SinkFault>
     ensures { Writes (S.taken sink.old) (S.taken sink.new) (S.failures sink.old) (S.failures sink.new) (word_line word.now place v) result }
 {
@@ -159,6 +162,7 @@ fn put_word_line<S: Sink>(sink: &mut S, word: &[u8], place: u16, v: u16) -> Resu
     put_two(sink, word, &[a, b, c, d, b' ', e, f, g, h, b'\n'])
 }
 
+#[inline(never)]
 fn put_short_line<S: Sink>(sink: &mut S, word: &[u8], v: u8) -> Result<(), SinkFault>
     ensures { Writes (S.taken sink.old) (S.taken sink.new) (S.failures sink.old) (S.failures sink.new) (short_line word.now v) result }
 {
@@ -166,6 +170,7 @@ fn put_short_line<S: Sink>(sink: &mut S, word: &[u8], v: u8) -> Result<(), SinkF
     put_two(sink, word, &[e, f, b'\n'])
 }
 
+#[inline(never)]
 fn put_decimal_line<S: Sink>(sink: &mut S, word: &[u8], n: u32) -> Result<(), SinkFault>
     ensures { Writes (S.taken sink.old) (S.taken sink.new) (S.failures sink.old) (S.failures sink.new) (decimal_line word.now n) result }
 {

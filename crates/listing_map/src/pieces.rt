@@ -5,6 +5,31 @@ ghost use Rattle.word86.specs.Sink.{Writes};
 
 use word86::{Sink, SinkFault, put_all};
 
+/// One piece, which most sinks take at once: its length is known where this is put into its caller, so that no loop is left and
+/// the bytes are copied in place.
+#[inline(always)]
+pub(crate) fn put_at_once<S: Sink>(sink: &mut S, piece: &[u8]) -> Result<(), SinkFault>
+    ensures { Writes (S.taken sink.old) (S.taken sink.new) (S.failures sink.old) (S.failures sink.new) piece.now result }
+{
+    let taken = sink.put(piece)?;
+    if taken == piece.len() {
+        return Ok(());
+    }
+    if taken == 0 {
+        return Err(SinkFault);
+    }
+    put_rest(sink, piece.split_at(taken).1)
+}
+
+/// What is left of a piece, of which a sink took a part.
+#[cold]
+#[inline(never)]
+fn put_rest<S: Sink>(sink: &mut S, rest: &[u8]) -> Result<(), SinkFault>
+    ensures { Writes (S.taken sink.old) (S.taken sink.new) (S.failures sink.old) (S.failures sink.new) rest.now result }
+{
+    put_all(sink, rest)
+}
+
 pub(crate) fn put_two<S: Sink>(sink: &mut S, first: &[u8], second: &[u8]) -> Result<(), SinkFault>
     ensures { Writes (S.taken sink.old) (S.taken sink.new) (S.failures sink.old) (S.failures sink.new) (first.now ++ second.now) result }
 {
