@@ -219,21 +219,6 @@ impl Bus for Attached {
         }
     }
 
-    #[tactic(auto, using(crate::proofs::Stores::unseen_byte))]
-    #[inline(always)]
-    fn is_quiet_byte(&self, segment: u16, offset: u16) -> bool {
-        (physical(segment, offset) as usize) < RAM_SIZE
-    }
-
-    #[tactic(auto, using(crate::proofs::Stores::unseen_word))]
-    #[inline(always)]
-    fn is_quiet_word(&self, segment: u16, offset: u16) -> bool {
-        match word_in_ram(segment, offset) {
-            Some(_) => true,
-            None => false,
-        }
-    }
-
     fn port_in(&mut self, width: Width, port: u16) -> u16 {
         read_port(&mut self.ports, width, port)
     }

@@ -21,8 +21,7 @@ fn put_events<S: Sink>(events: &[Event], sink: &mut S) -> Result<(), SinkFault>
     Ok(())
 }
 
-#[inline(always)]
-pub(crate) fn put_labels<S: Sink>(labels: &[Label], sink: &mut S) -> Result<(), SinkFault>
+fn put_labels<S: Sink>(labels: &[Label], sink: &mut S) -> Result<(), SinkFault>
     ensures { Writes (S.taken sink.old) (S.taken sink.new) (S.failures sink.old) (S.failures sink.new) (lines labels.now) result }
 {
     for label in labels {

@@ -2,5 +2,5 @@ pub mod Computing
 pub mod Fetching
 pub mod Entries
 pub mod RomSteps
-pub mod Quiet
 pub mod StepEffects
+mod Told

@@ -1,9 +1,9 @@
 //! What the processor is attached to.
 
-ghost use Rattle.std.specs.Prelude.{◌≡◌, ◌+◌, ◌<◌, ◌≤◌, ◌^◌, ℕ, List, Option, None, IfSome, true};
+ghost use Rattle.std.specs.Prelude.{◌≡◌, ◌+◌, ◌<◌, ◌≤◌, ◌^◌, ℕ, List, Option, IfSome};
 ghost use Rattle.word86.specs.declared.width.Width.{Width};
 ghost use Rattle.cpu8086.specs.declared.bus.Store.{Store};
-ghost use Rattle.word86.specs.declared.width.Width.TheVariants.{Byte, Word};
+ghost use Rattle.word86.specs.declared.width.Width.TheVariants.{Word};
 ghost use Rattle.cpu8086.specs.Machine.{loaded_word, access_at};
 ghost use Rattle.cpu8086.specs.BusModel.{BusModel};
 ghost use Rattle.cpu8086.specs.BusLaws.{LoadAfterStore, PortsKeepMemory, eight_bytes};
@@ -26,9 +26,8 @@ pub enum Store {
 /// states, and a lawful bus keeps two laws: a load after a store, and that a port access changes no memory.
 ///
 /// Six methods say all: `load`, `store`, `port_in`, `port_out`, `int_line` and `acknowledge`. The others say the same again, for
-/// speed alone, and have bodies that serve every bus: `window` lends an instruction's bytes at once, `load_word` and
-/// `store_word` access a word that a bus may find by one test of its address, and `is_quiet_byte` and `is_quiet_word` tell before a
-/// store that it shows nothing.
+/// speed alone, and have bodies that serve every bus: `window` lends an instruction's bytes at once, and `load_word` and
+/// `store_word` access a word that a bus may find by one test of its address.
 pub trait Bus {
     // The states of what is attached.
     ghost World: { Type 0 };
@@ -79,20 +78,6 @@ pub trait Bus {
             high: physical(segment, next_offset(offset)),
             value,
         })
-    }
-
-    /// Whether a store of a byte at an offset of a segment shows nothing, whatever the byte is. `false` is right for any bus.
-    fn is_quiet_byte(&self, segment: u16, offset: u16) -> bool
-        ensures { result ≡ true → (value : ℕ) → model.store_label (world self.now) (access_at Byte segment offset value) ≡ None }
-    {
-        false
-    }
-
-    /// Whether a store of a word at an offset of a segment shows nothing, whatever the word is. `false` is right for any bus.
-    fn is_quiet_word(&self, segment: u16, offset: u16) -> bool
-        ensures { result ≡ true → (value : ℕ) → model.store_label (world self.now) (access_at Word segment offset value) ≡ None }
-    {
-        false
     }
 
     /// Reads a port; a word comes from it and the one above it.

@@ -3,6 +3,7 @@
 ghost use Rattle.std.specs.Prelude.{◌≡◌, ◌<◌, ◌≤◌, ◌%◌};
 ghost use Rattle.word86.specs.Access.{values};
 ghost use Rattle.arrayvec.specs.ArrayVec.{array_vec_len};
+ghost use Rattle.i86_table.specs.State.{port_of};
 ghost use Rattle.cpu8086.specs.Machine.{machine};
 ghost use Rattle.cpu8086.specs.Moves.{exchanged_bytes, exchanged_words, byte_converted, word_converted, accumulator, with_accumulator, in_label, out_label, moved, exchanged_with, moved_from_segment, moved_to_segment, pushed_value, pushed_place, popped_to, popped_to_segment, read_in, written_out};
 
@@ -259,6 +260,18 @@ pub(crate) fn input<B: Bus>(
     labels.push(in_label(width, port, value));
 }
 
+/// OUT, and the label that shows it.
+#[inline(always)]
+pub(crate) fn write_out<B: Bus>(registers: &Regs, bus: &mut B, width: Width, port: Port) -> Label
+    ensures label { result ≡ out_label width (port_of registers.now port) (accumulator width registers.now) }
+    ensures after { B.world bus.new ≡ B.model.port_out (B.world bus.old) width (port_of registers.now port) (accumulator width registers.now) }
+{
+    let port = registers.port(port);
+    let value = accumulator(width, registers);
+    bus.port_out(width, port, value);
+    out_label(width, port, value)
+}
+
 /// OUT.
 #[tactic(auto, unfolding(crate::specs::Moves::written_out))]
 #[inline(never)]
@@ -273,8 +286,5 @@ pub(crate) fn output<B: Bus>(
     ensures { machine registers.now (B.world bus.new) labels.new.items
         ≡ written_out B.model width port (machine registers.now (B.world bus.old) labels.old.items) }
 {
-    let port = registers.port(port);
-    let value = accumulator(width, registers);
-    bus.port_out(width, port, value);
-    labels.push(out_label(width, port, value));
+    labels.push(write_out(registers, bus, width, port));
 }
