@@ -1,7 +1,9 @@
 //! The chips' calls, by the settled states that they stand for.
 
 ghost use Rattle.std.specs.Prelude.{◌≡◌};
-ghost use Rattle.board.specs.Inner.Settled.{chips_of, settled_chips};
+ghost use Rattle.word86.specs.declared.width.Width.TheVariants.{Byte};
+ghost use Rattle.ppi_kbd.specs.Chips.{writing};
+ghost use Rattle.board.specs.Inner.Settled.{chips_of, settled, settled_chips};
 
 use ppi_kbd::Ports;
 use word86::{Event, Width};
@@ -17,12 +19,27 @@ pub(crate) fn read_port(ports: &mut Ports, width: Width, port: u16) -> u16
     }
 }
 
+/// The last port that a chip has.
+const LAST_PORT: u16 = 0x63;
+
+/// Writes a byte to a port. What goes to a port of no chip is for the trace alone, and is not brought to the chips.
+#[tactic(auto, using(crate::proofs::Unmapped::unmapped_stays))]
+#[inline(always)]
+fn write_byte(ports: &mut Ports, port: u16, value: u8)
+    ensures { chips_of ports.new ≡ settled (writing (chips_of ports.old) Byte port value) }
+{
+    if port > LAST_PORT {
+        return;
+    }
+    ports.write(port, value);
+}
+
 /// Writes a port; a word goes to it and the next one. Of a value for a byte the low half is taken.
 pub(crate) fn write_port(ports: &mut Ports, width: Width, port: u16, value: u16)
     ensures { chips_of ports.new ≡ settled_chips.writing (chips_of ports.old) width port value }
 {
     match width {
-        Width::Byte => ports.write(port, (value % 256) as u8),
+        Width::Byte => write_byte(ports, port, (value % 256) as u8),
         Width::Word => ports.write_word(port, value),
     }
 }
