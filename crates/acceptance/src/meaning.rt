@@ -518,9 +518,12 @@ const REFUSED: Result<Step, Stop> = Err(Stop::NotAllowed);
 
 const SILENT: Result<Step, Stop> = Ok(Step { label: None });
 
-/// Fails unless the choices, one after the other, do this.
+/// Fails unless the choices, one after the other, do this, and it is told where an interrupt can be taken.
 fn tries(rt: &impl Abort, meaning: &mut Meaning<'_>, rows: &[Try]) {
     for (row, (choice, wanted)) in rows.iter().enumerate() {
+        if *choice == Choice::Enter {
+            assert_eq!(rt; meaning.is_interrupted(), wanted.is_ok(), "choice {row}");
+        }
         assert_eq!(rt; meaning.step(*choice), *wanted, "choice {row}");
     }
 }
@@ -630,6 +633,34 @@ fn interrupts_come_after_one_enable(rt: HostRuntime) -> Result<(), Fail> {
     let alloc = rt.alloc();
     let text =
         b"M: DO; OUTPUT(20H) = 13H; OUTPUT(21H) = 8; OUTPUT(21H) = 3; OUTPUT(21H) = 0FEH; OUTPUT(43H) = 14H; OUTPUT(40H) = 2; ENABLE; ENABLE; ENABLE; END M;";
+    seen(program_of(alloc, &[text]), |program| {
+        tries_of(&rt, alloc, program, ASKED, ROWS)
+    })?
+}
+
+#[test]
+fn interrupts_wake_a_halted_main(rt: HostRuntime) -> Result<(), Fail> {
+    const ROWS: &[Try] = &[
+        (Choice::Enter, REFUSED),
+        // HALT switches interrupts on. Main takes no step and does not wait: the interrupt comes.
+        (Choice::Program, SILENT),
+        (Choice::Program, REFUSED),
+        (Choice::Idle, REFUSED),
+        (Choice::Enter, ENTERED),
+        (Choice::Leave, SILENT),
+        // At its end main halts again, and waits for the next one.
+        (Choice::Enter, REFUSED),
+        (Choice::Program, SILENT),
+        (Choice::Program, REFUSED),
+        (Choice::Idle, SILENT),
+        (Choice::Enter, REFUSED),
+        (Choice::Event(Event::Tick(4)), TICKED),
+        (Choice::Idle, REFUSED),
+        (Choice::Enter, ENTERED),
+    ];
+    let alloc = rt.alloc();
+    let text =
+        b"M: DO; H: PROCEDURE INTERRUPT 8; END H; OUTPUT(20H) = 13H; OUTPUT(21H) = 8; OUTPUT(21H) = 3; OUTPUT(21H) = 0FEH; OUTPUT(43H) = 14H; OUTPUT(40H) = 2; HALT; END M;";
     seen(program_of(alloc, &[text]), |program| {
         tries_of(&rt, alloc, program, ASKED, ROWS)
     })?

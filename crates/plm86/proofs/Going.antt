@@ -1,5 +1,5 @@
 -- A run of the meaning, one choice after another.
-use Rattle.std.proofs.Common.{◌≡◌, ℕ, zero, suc, ◌+◌, ◌-◌, ◌<◌, ◌≤◌, ◌++◌, Bool, true, false, cond, List, [], ◌∷◌, Option, Some, None, refl, sym, ap, ap₂, ◌∙◌, subst, append_assoc, append-nil, drop, drop-cons, get_or, length, arith}
+use Rattle.std.proofs.Common.{◌≡◌, ℕ, zero, suc, ◌+◌, ◌-◌, ◌<◌, ◌≤◌, ◌++◌, Bool, true, false, cond, option_map, List, [], ◌∷◌, Option, Some, None, Result, Ok, Err, refl, sym, ap, ap₂, ◌∙◌, subst, append_assoc, append-nil, drop, drop-cons, get_or, length, arith}
 use Rattle.std.proofs.lemmas.List.{drop_all}
 use Rattle.std.specs.Prelude.{map, replicate}
 use Rattle.std.proofs.lemmas.Grind.{flat_map-append}
@@ -14,19 +14,24 @@ use Rattle.ppi_kbd.specs.Ports.{Shows}
 use Rattle.ppi_kbd.specs.BoardChips.{board_chips}
 use Rattle.plm_decl.specs.declared.names.Names.{Names}
 use Rattle.plm_decl.specs.declared.placement.Placement.{Placement}
-use Rattle.plm_type.specs.Rest.{Rest}
+use Rattle.plm_decl.specs.Placement.{sizes_of}
+use Rattle.plm_type.specs.Next.{next}
+use Rattle.plm_type.specs.Programs.{procedures_of, handler_rest}
+use Rattle.plm_type.specs.Rest.{Rest, Main, Handler}
+use Rattle.plm_meaning.specs.Context.{to_run_of}
+use Rattle.plm_meaning.specs.declared.meaning.Step.{Step}
 use Rattle.plm_meaning.specs.declared.meaning.Meaning.{Meaning}
 use Rattle.plm_meaning.specs.declared.meaning.Stop.TheVariants as stops
 use Rattle.plm_type.specs.declared.program.Line.{Line}
 use Rattle.plm_meaning.specs.Around.{names_of}
 use Rattle.plm_meaning.specs.Meaning.{state_of, leads, leads_in, IsRunOf, Opens, Made, Stopped}
-use Rattle.plm_meaning.specs.Shown.{labels_of}
+use Rattle.plm_meaning.specs.Shown.{store_of, labels_of}
 use Rattle.plm_meaning.specs.Store.{Store, shared}
-use Rattle.plm_meaning.specs.System.{Choice, Program, Occurs, Enter, Leave, Idle, State, is_interrupted}
+use Rattle.plm_meaning.specs.System.{Choice, Program, Occurs, Enter, Leave, Idle, State, is_interrupted, enter_step}
 use Rattle.plm_meaning.specs.Taken.{Taken, Makes, BadAt, taken_of}
 use Rattle.board.specs.Trace.{lines}
 use Rattle.plm86.specs.Mean.{Mid, one_step, turn_choices, choices_from, unless_refused, behind, goes_on, first_allowed, run_of, meant, last_line, run_text}
-use Rattle.plm86.specs.Inner.Meaning.{event_choices, IsIdle, Far, Ended, Stops}
+use Rattle.plm86.specs.Inner.Meaning.{a_step, label_of, event_choices, Came, IsIdle, Far, Ended, Stops}
 use Rattle.plm86.specs.declared.mean.MeanEnd.{MeanEnd}
 use Rattle.plm86.specs.declared.mean.MeanEnd.TheVariants as ends
 use Rattle.plm86.specs.declared.mean.Ending.{Ending}
@@ -91,6 +96,26 @@ module _ (names : Names) (placement : Placement) where
   is_bad m n c cs at stopped r p shows =
       ap (λ (t : Taken (Store ChipState) Rest Label). unless_refused t (first_allowed names placement cs (state_of m p))) (leads_are m c (state_of m p) r ∙ (stopped p shows).0)
 
+  -- ---- where no interrupt can be taken, that it is entered need not be tried
+
+  abbrev can_enter : Meaning → ChipState → Bool
+  can_enter m p = is_interrupted (shared board_chips) {R = Rest} (option_map (λ h. Handler (to_run_of h)) m.handler) m.on (store_of m.store p)
+
+  abbrev entered : (can : Bool) → (m : Meaning) → ChipState → Taken (Store ChipState) Rest Label
+  entered can m p =
+      taken_of
+      (enter_step (shared board_chips) Rest (next placement.offsets.items (sizes_of names) (procedures_of names)) (handler_rest names) can (Main (to_run_of m.main)) (store_of m.store p))
+      None
+
+  pub enters : (m : Meaning) (p : ChipState) → can_enter m p ≡ true → first_allowed names placement a_step (state_of m p) ≡ first_allowed names placement (Enter ∷ []) (state_of m p)
+  enters m p e =
+      let s = state_of m p in
+      ap (λ (b : Bool). unless_refused (entered b m p) (first_allowed names placement (Program ∷ Leave ∷ []) s)) e
+      ∙ sym (ap (λ (b : Bool). unless_refused (entered b m p) (makes_silently s)) e)
+
+  pub goes_past : (m : Meaning) (p : ChipState) → can_enter m p ≡ false → first_allowed names placement a_step (state_of m p) ≡ first_allowed names placement (Program ∷ Leave ∷ []) (state_of m p)
+  goes_past m p e = ap (λ (b : Bool). unless_refused (entered b m p) (first_allowed names placement (Program ∷ Leave ∷ []) (state_of m p))) e
+
   -- ---- what is left of a run
 
   module _ (whole : List Label × MeanEnd) (left : List (List (Choice Event))) (cs : List (Choice Event)) (m : Meaning) (old a : Option (List ℕ)) (before f : ℕ) (x : Far names placement whole (cs ∷ left) m old a before f) where
@@ -132,6 +157,59 @@ module _ (names : Names) (placement : Placement) where
         ((lines x.done, lines more, sym (ap lines x.labels) ∙ lines-append x.done more, x.taken), x.same)
     far_ends endings.Broken s = absurd s
 
+-- ---- what came of choices
+
+-- of other choices, where their first one that is allowed is the same
+pub came_same : (m n : Meaning) (cs ds : List (Choice Event)) (came : Result (Option Step) Ending)
+    → ((names : Names) (placement : Placement) (p : ChipState) → Shows m.store.ports p → first_allowed names placement ds (state_of m p) ≡ first_allowed names placement cs (state_of m p))
+    → Came m n cs came → Came m n ds came
+came_same m n cs ds (Ok s) same x = record {
+  run = x.run;
+  each = λ names placement r p shows. let y = x.each names placement r p shows in (y.0, y.1, same names placement p shows ∙ y.2);
+}
+came_same m n cs ds (Err e) same x = record {
+  run = x.run;
+  each = λ names placement r p shows. subst (Stops e) (sym (same names placement p shows)) (x.each names placement r p shows);
+}
+
+pub came_first : (m n : Meaning) (c : Choice Event) (cs : List (Choice Event)) (s : Step) → Made m n c s.label → n.around ≡ m.around → Came m n (c ∷ cs) (Ok (Some s))
+came_first m n c cs s made same = record {
+  run = same;
+  each = λ names placement r p shows. makes_first names placement m n c cs s.label made r p shows;
+}
+
+pub came_of_none : (m n : Meaning) (c : Choice Event) → Stopped m n c stops.NotAllowed → n.around ≡ m.around → Came m n (c ∷ []) (Ok None)
+came_of_none m n c stopped same = record {
+  run = same;
+  each = λ names placement r p shows. (p, (stopped p shows).2, gives_way names placement m n c [] stopped r p shows);
+}
+
+pub came_to_bad : (m n : Meaning) (c : Choice Event) (cs : List (Choice Event)) (at : Line) → Stopped m n c (stops.Bad at) → n.around ≡ m.around → Came m n (c ∷ cs) (Err (endings.Bad at))
+came_to_bad m n c cs at stopped same = record {
+  run = same;
+  each = λ names placement r p shows. is_bad names placement m n c cs at stopped r p shows;
+}
+
+pub came_short : (m n : Meaning) (cs : List (Choice Event)) → n.around ≡ m.around → Came m n cs (Err endings.Memory)
+came_short m n cs same = record {
+  run = same;
+  each = λ names placement r p shows. tt;
+}
+
+-- behind a choice that is not allowed
+pub came_behind : (m n k : Meaning) (c : Choice Event) (cs : List (Choice Event)) (came : Result (Option Step) Ending) → Stopped m n c stops.NotAllowed → n.around ≡ m.around → Came n k cs came → Came m k (c ∷ cs) came
+came_behind m n k c cs (Ok s) stopped same x = record {
+  run = x.run ∙ same;
+  each = λ names placement r p shows. goes_behind names placement m n k c cs (label_of s) stopped r p shows (x.each names placement (kept names placement m n same r) p (stopped p shows).2);
+}
+came_behind m n k c cs (Err e) stopped same x = record {
+  run = x.run ∙ same;
+  each = λ names placement r p shows. stops_behind names placement m n c cs e stopped r p shows (x.each names placement (kept names placement m n same r) p (stopped p shows).2);
+}
+
+pub idle_alone : (m n : Meaning) (c : Choice Event) → Stopped m n c stops.NotAllowed → n.around ≡ m.around → IsIdle m (c ∷ [])
+idle_alone m n c stopped same = λ names placement r p shows. idle_behind names placement m n c [] stopped same (λ names placement r p shows. refl) r p shows
+
 -- ---- waiting
 
 module _ (names : Names) (placement : Placement) where
@@ -145,7 +223,7 @@ module _ (names : Names) (placement : Placement) where
   idle_changes_nothing (State main None on false w a b) = refl
   idle_changes_nothing (State main (Some h) on halted w a b) = refl
 
-  one_step_is : (s : Mid) → first_allowed names placement one_step s ≡ first_allowed names placement (Enter ∷ Program ∷ Leave ∷ []) s
+  one_step_is : (s : Mid) → first_allowed names placement one_step s ≡ first_allowed names placement a_step s
   one_step_is s =
       let choose = leads names placement in
       ap (λ (t : Taken (Store ChipState) Rest Label). unless_refused (choose Enter s) (unless_refused (choose Program s) (unless_refused (choose Leave s) t))) (idle_changes_nothing s)
@@ -172,18 +250,18 @@ module _ (names : Names) (placement : Placement) (whole : List Label × MeanEnd)
   }
 
   -- that main waits need not be tried
-  pub far_one_step : (left : List (List (Choice Event))) → Far names placement whole (one_step ∷ left) m old a before f → Far names placement whole ((Enter ∷ Program ∷ Leave ∷ []) ∷ left) m old a before f
+  pub far_one_step : (left : List (List (Choice Event))) → Far names placement whole (one_step ∷ left) m old a before f → Far names placement whole (a_step ∷ left) m old a before f
   far_one_step left x =
-      far_same (one_step ∷ left) ((Enter ∷ Program ∷ Leave ∷ []) ∷ left) x
+      far_same (one_step ∷ left) (a_step ∷ left) x
       (ap (λ (t : Taken (Store ChipState) Rest Label). goes_on t (run_of names placement left)) (sym (one_step_is names placement (state_of m x.chips))))
 
   -- where nothing comes, one turn is as good as all of them
-  pub far_idle : (count : ℕ) (left : List (List (Choice Event))) → IsIdle m (Enter ∷ Program ∷ Leave ∷ []) → Far names placement whole (replicate count one_step ++ left) m old a before f
-      → Far names placement whole ((Enter ∷ Program ∷ Leave ∷ []) ∷ left) m old a before f
+  pub far_idle : (count : ℕ) (left : List (List (Choice Event))) → IsIdle m a_step → Far names placement whole (replicate count one_step ++ left) m old a before f
+      → Far names placement whole (a_step ∷ left) m old a before f
   far_idle count left idle x =
       let s = state_of m x.chips in
       let none = idle names placement x.run x.chips x.shows in
-      far_same (replicate count one_step ++ left) ((Enter ∷ Program ∷ Leave ∷ []) ∷ left) x
+      far_same (replicate count one_step ++ left) (a_step ∷ left) x
       (ap (λ (t : Taken (Store ChipState) Rest Label). goes_on t (run_of names placement left)) none
       ∙ sym (idle_run names placement count left s (one_step_is names placement s ∙ none)))
 
@@ -248,7 +326,7 @@ module _ (names : Names) (placement : Placement) (whole : List Label × MeanEnd)
   far_events es k left le x = subst (λ (xs : List Event). FarWith (event_choices xs ++ left)) (drop_all k es le) x
 
   pub far_step : (count turn : ℕ) (left : List (List (Choice Event))) → turn < count
-      → FarWith (replicate (count - turn) one_step ++ left) → FarWith ((Enter ∷ Program ∷ Leave ∷ []) ∷ (replicate (count - (turn + 1)) one_step ++ left))
+      → FarWith (replicate (count - turn) one_step ++ left) → FarWith (a_step ∷ (replicate (count - (turn + 1)) one_step ++ left))
   far_step count turn left lt x = far_one_step names placement whole m old a before f (replicate (count - (turn + 1)) one_step ++ left) (subst FarWith (steps_left count turn left lt) x)
 
   pub far_first_step : (count : ℕ) (left : List (List (Choice Event))) → FarWith (replicate count one_step ++ left) → FarWith (replicate (count - 0) one_step ++ left)

@@ -6,19 +6,17 @@ ghost use Rattle.word86.specs.declared.label.Label.{Label};
 ghost use Rattle.word86.specs.declared.fault.Fault.TheVariants as fault;
 ghost use Rattle.word86.specs.declared.number.Number.TheVariants.{E704};
 ghost use Rattle.word86.specs.Sink.{Appends, Cut, Rises, Writes};
-ghost use Rattle.ppi_kbd.specs.Chips.{ChipState};
-ghost use Rattle.ppi_kbd.specs.Ports.{Shows};
 ghost use Rattle.plm_decl.specs.declared.names.Names.{Names};
 ghost use Rattle.plm_decl.specs.declared.placement.Placement.{Placement};
 ghost use Rattle.plm_decl.specs.Placement as placed;
 ghost use Rattle.plm_decl.specs.Placement.{IsPlacement};
-ghost use Rattle.plm_meaning.specs.Meaning.{choice_of, state_of, IsRunOf};
+ghost use Rattle.plm_meaning.specs.Meaning.{choice_of};
 ghost use Rattle.plm_meaning.specs.Shown.{labels_of};
-ghost use Rattle.plm_meaning.specs.Taken.{Makes};
+ghost use Rattle.plm_meaning.specs.System.{Choice as Chosen};
 ghost use Rattle.board.specs.Run.{due_of};
 ghost use Rattle.board.specs.Trace.{lines};
-ghost use Rattle.plm86.specs.Mean.{Alternatives, one_step, choices_from, first_allowed, meant, run_text, mean_status_of, IsCutShort};
-ghost use Rattle.plm86.specs.Inner.Meaning.{label_of, event_choices, IsIdle, Far, Ended, Stops};
+ghost use Rattle.plm86.specs.Mean.{Alternatives, one_step, choices_from, meant, run_text, mean_status_of, IsCutShort};
+ghost use Rattle.plm86.specs.Inner.Meaning.{a_step, event_choices, Came, IsIdle, Far, Ended};
 
 use board::Schedule;
 use listing_map::{put_end_line, put_label};
@@ -47,26 +45,33 @@ enum Ending {
 
 pub(crate) const CANNOT_WRITE: Fault = Fault::At(0, 1, Number::E704);
 
-// What may come in a turn: where none of these is allowed, main waits or is used up, and nothing changes.
-const ONE_STEP: [Choice; 3] = [Choice::Enter, Choice::Program, Choice::Leave];
-
-// Makes the first of these choices that is allowed. Where none is, nothing comes.
-fn take_first(meaning: &mut Meaning<'_>, choices: &[Choice]) -> Result<Option<Step>, Ending>
-    ensures run { meaning.new.around ≡ meaning.old.around }
-    ensures made { IfOk result (λ s. (names : Names) (placement : Placement) → IsRunOf meaning.old names placement → (p : ChipState) → Shows meaning.old.store.ports p
-        → (q : ChipState) × Shows meaning.new.store.ports q × (first_allowed names placement (map choice_of choices.now) (state_of meaning.old p) ≡ Makes (state_of meaning.new q) (labels_of (label_of s)))) }
-    ensures none { result ≡ Ok None → IsIdle meaning.old (map choice_of choices.now) }
-    ensures stopped { IfErr result (λ e. (names : Names) (placement : Placement) → IsRunOf meaning.old names placement → (p : ChipState) → Shows meaning.old.store.ports p
-        → Stops e (first_allowed names placement (map choice_of choices.now) (state_of meaning.old p))) }
+// Makes the step of a choice. Where it is not allowed, nothing comes.
+fn take(meaning: &mut Meaning<'_>, choice: Choice) -> Result<Option<Step>, Ending>
+    ensures came { Came meaning.old meaning.new (choice_of choice ∷ []) result }
+    ensures none { result ≡ Ok None → IsIdle meaning.old (choice_of choice ∷ []) }
 {
-    match choices.split_first() {
-        None => Ok(None),
-        Some((choice, others)) => match meaning.step(*choice) {
-            Ok(step) => Ok(Some(step)),
-            Err(Stop::NotAllowed) => take_first(meaning, others),
-            Err(Stop::Bad(at)) => Err(Ending::Bad(at)),
-            Err(Stop::Memory) => Err(Ending::Memory),
-        },
+    match meaning.step(choice) {
+        Ok(step) => Ok(Some(step)),
+        Err(Stop::NotAllowed) => Ok(None),
+        Err(Stop::Bad(at)) => Err(Ending::Bad(at)),
+        Err(Stop::Memory) => Err(Ending::Memory),
+    }
+}
+
+// Makes the step of a turn: an interrupt is entered where it can be; else the program makes a step, or leaves its interrupt procedure.
+// Where neither is allowed, main waits or is used up, and nothing comes.
+fn take_step(meaning: &mut Meaning<'_>) -> Result<Option<Step>, Ending>
+    ensures came { Came meaning.old meaning.new a_step result }
+    ensures none { result ≡ Ok None → IsIdle meaning.old a_step }
+{
+    if meaning.is_interrupted() {
+        return take(meaning, Choice::Enter);
+    }
+    match meaning.step(Choice::Program) {
+        Ok(step) => Ok(Some(step)),
+        Err(Stop::NotAllowed) => take(meaning, Choice::Leave),
+        Err(Stop::Bad(at)) => Err(Ending::Bad(at)),
+        Err(Stop::Memory) => Err(Ending::Memory),
     }
 }
 
@@ -80,22 +85,19 @@ fn put_line<S: Sink>(label: Option<Label>, sink: &mut S) -> Result<(), SinkFault
     }
 }
 
-// What comes by these choices, with its line: whether one of them was allowed.
-fn advance<S: Sink>(
-    meaning: &mut Meaning<'_>,
-    choices: &[Choice],
-    sink: &mut S,
-) -> Result<bool, Ending>
-    ensures far { (names : Names) (placement : Placement) (whole : List Label × MeanEnd) (left : Alternatives) (old : Option (List ℕ)) (before : ℕ)
-        → Far names placement whole (map choice_of choices.now ∷ left) meaning.old old (S.taken sink.old) before (S.failures sink.old)
+// Shows what came, by its line: whether anything did.
+fn show<S: Sink>(came: Result<Option<Step>, Ending>, sink: &mut S) -> Result<bool, Ending>
+    ensures far { (m n : Meaning) (choices : List (Chosen Event)) (names : Names) (placement : Placement) (whole : List Label × MeanEnd) (left : Alternatives) (old : Option (List ℕ)) (before : ℕ)
+        → Came m n choices came → Far names placement whole (choices ∷ left) m old (S.taken sink.old) before (S.failures sink.old)
         → MatchResult result
-        (λ _. Far names placement whole left meaning.new old (S.taken sink.new) before (S.failures sink.new))
+        (λ _. Far names placement whole left n old (S.taken sink.new) before (S.failures sink.new))
         (Ended whole old (S.taken sink.new) before (S.failures sink.new)) }
-    ensures none { result ≡ Ok false → IsIdle meaning.old (map choice_of choices.now) }
+    ensures none { result ≡ Ok false → came ≡ Ok None }
 {
-    match take_first(meaning, choices)? {
-        None => Ok(false),
-        Some(step) => match put_line(step.label, sink) {
+    match came {
+        Err(ending) => Err(ending),
+        Ok(None) => Ok(false),
+        Ok(Some(step)) => match put_line(step.label, sink) {
             Ok(()) => Ok(true),
             Err(_) => Err(Ending::Broken),
         },
@@ -115,7 +117,7 @@ fn take_events<S: Sink>(
         (Ended whole old (S.taken sink.new) before (S.failures sink.new)) }
 {
     for event in events {
-        let _came = advance(meaning, &[Choice::Event(*event)], sink)?;
+        let _came = show(take(meaning, Choice::Event(*event)), sink)?;
     }
     Ok(())
 }
@@ -130,7 +132,7 @@ fn take_steps<S: Sink>(meaning: &mut Meaning<'_>, count: u32, sink: &mut S) -> R
         (Ended whole old (S.taken sink.new) before (S.failures sink.new)) }
 {
     for _turn in 0..count {
-        let came = advance(meaning, &ONE_STEP, sink)?;
+        let came = show(take_step(meaning), sink)?;
         if !came {
             return Ok(());
         }

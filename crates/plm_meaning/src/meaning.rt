@@ -1,7 +1,7 @@
 //! The runnable meaning of a program: its state, the choice of what comes next (a step of the program, an event, an interrupt's
 //! beginning or end, waiting), and what each choice does or why it does not come.
 
-ghost use Rattle.std.specs.Prelude.{◌≡◌, List, IfOk, IfErr, IsSome, None, true};
+ghost use Rattle.std.specs.Prelude.{◌≡◌, List, IfOk, IfErr, IsSome, None, true, option_map};
 ghost use Rattle.word86.specs.Action.{on_after, halted_after};
 ghost use Rattle.word86.specs.declared.fault.Fault.TheVariants as fault;
 ghost use Rattle.ppi_kbd.specs.BoardChips.{board_chips};
@@ -9,13 +9,15 @@ ghost use Rattle.ppi_kbd.specs.Chips.{ChipState};
 ghost use Rattle.ppi_kbd.specs.Ports.{Shows, is_up};
 ghost use Rattle.plm_decl.specs.Placement as placed;
 ghost use Rattle.plm_decl.specs.Placement.{IsPlacement};
-ghost use Rattle.plm_type.specs.Rest.{Procedure as Blocks};
+ghost use Rattle.plm_type.specs.Rest.{Procedure as Blocks, Handler};
 ghost use Rattle.plm_meaning.specs.declared.meaning.Stop.TheVariants as stop;
 ghost use Rattle.plm_meaning.specs.Store.{shared};
-ghost use Rattle.plm_meaning.specs.System.{settled, counted, Program as Moves, Occurs, Enter, Leave, Idle};
+ghost use Rattle.plm_meaning.specs.System.{is_interrupted, settled, counted, Program as Moves, Occurs, Enter, Leave, Idle};
+ghost use Rattle.plm_meaning.specs.Context.{to_run_of};
+ghost use Rattle.plm_meaning.specs.Shown.{store_of};
 ghost use Rattle.plm_meaning.specs.Inner.Redex.{action_of, FitsIn};
 ghost use Rattle.plm_meaning.specs.Meaning.{choice_of, state_of, Opens, Made, Stopped};
-ghost use Rattle.plm_meaning.specs.Inner.Meaning.{can_enter, Performed, StopsAt};
+ghost use Rattle.plm_meaning.specs.Inner.Meaning.{Performed, StopsAt};
 
 use crate::around::Surroundings;
 use crate::context::{Context, Focus};
@@ -148,9 +150,9 @@ impl<'a> Meaning<'a> {
         }
     }
 
-    // Whether an interrupt can be taken.
-    fn is_interrupted(&self) -> bool
-        ensures is_interrupted { (p : ChipState) → Shows self.now.store.ports p → result ≡ can_enter self.now p }
+    /// Whether an interrupt can be taken: interrupts are on, no interrupt procedure runs, and INT is up. `Enter` has a step just then.
+    pub fn is_interrupted(&self) -> bool
+        ensures can { (p : ChipState) → Shows self.now.store.ports p → result ≡ is_interrupted (shared board_chips) (option_map (λ h. Handler (to_run_of h)) self.now.handler) self.now.on (store_of self.now.store p) }
         ensures up { result ≡ true → is_up self.now.store.ports ≡ true }
     {
         self.handler.is_none() && self.on && self.store.ports.int_line()

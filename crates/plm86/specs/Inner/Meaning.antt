@@ -1,5 +1,5 @@
 -- What a run of the meaning leaves.
-use Rattle.std.specs.Prelude.{ℕ, ◌≡◌, ◌++◌, List, [], ◌∷◌, map, Option, Some, None}
+use Rattle.std.specs.Prelude.{ℕ, ◌≡◌, ◌++◌, List, [], ◌∷◌, map, Option, Some, None, Result, Ok, Err}
 use Rattle.word86.specs.declared.event.Event.{Event}
 use Rattle.word86.specs.declared.label.Label.{Label}
 use Rattle.word86.specs.Sink.{Appends, Cut, Rises}
@@ -10,9 +10,10 @@ use Rattle.plm_decl.specs.declared.placement.Placement.{Placement}
 use Rattle.plm_meaning.specs.declared.meaning.Meaning.{Meaning}
 use Rattle.plm_meaning.specs.declared.meaning.Step.{Step}
 use Rattle.plm_meaning.specs.Meaning.{IsRunOf, state_of}
+use Rattle.plm_meaning.specs.Shown.{labels_of}
 use Rattle.plm_type.specs.Rest.{Rest}
 use Rattle.plm_meaning.specs.Store.{Store}
-use Rattle.plm_meaning.specs.System.{Choice, Occurs}
+use Rattle.plm_meaning.specs.System.{Choice, Program, Occurs, Enter, Leave}
 use Rattle.plm_meaning.specs.Taken.{Taken, Makes, BadAt}
 use Rattle.board.specs.Trace.{lines}
 use Rattle.plm86.specs.Mean.{Alternatives, first_allowed, run_of}
@@ -33,6 +34,10 @@ event_choices es = map (λ e. Occurs e ∷ []) es
 -- none of these choices is allowed, so nothing comes
 abbrev pub IsIdle : Meaning → List (Choice Event) → Type 0
 IsIdle m cs = (names : Names) (placement : Placement) → IsRunOf m names placement → (p : ChipState) → Shows m.store.ports p → first_allowed names placement cs (state_of m p) ≡ Makes (state_of m p) []
+
+-- what comes in a turn, where that main waits need not be tried
+abbrev pub a_step : List (Choice Event)
+a_step = Enter ∷ Program ∷ Leave ∷ []
 
 -- A run has made labels, which were taken, and these choices are left: what is to come is the rest of the whole.
 pub record Far (names : Names) (placement : Placement) (whole : List Label × MeanEnd) (left : List (List (Choice Event))) (m : Meaning) (old new : Option (List ℕ)) (before after : ℕ) : Type 0 where
@@ -56,3 +61,13 @@ abbrev pub Stops : Ending → Taken (Store ChipState) Rest Label → Type 0
 Stops (endings.Bad at) t = t ≡ BadAt at.«module» at.line
 Stops endings.Memory t = Unit {0}
 Stops endings.Broken t = ⊥
+
+-- the first of these choices that is allowed leads there, with the label of what came; or what comes ends the run
+abbrev pub ComesOf : (m n : Meaning) → List (Choice Event) → Names → Placement → ChipState → Result (Option Step) Ending → Type 0
+ComesOf m n cs names placement p (Ok came) = (q : ChipState) × Shows n.store.ports q × (first_allowed names placement cs (state_of m p) ≡ Makes (state_of n q) (labels_of (label_of came)))
+ComesOf m n cs names placement p (Err e) = Stops e (first_allowed names placement cs (state_of m p))
+
+-- this came of these choices
+pub record Came (m n : Meaning) (cs : List (Choice Event)) (came : Result (Option Step) Ending) : Type 0 where
+  pub run : n.around ≡ m.around
+  pub each : (names : Names) (placement : Placement) → IsRunOf m names placement → (p : ChipState) → Shows m.store.ports p → ComesOf m n cs names placement p came

@@ -1,29 +1,21 @@
 -- What the functions of a step promise.
-use Rattle.std.specs.Prelude.{◌≡◌, Bool, Option, Some}
-use Rattle.std.specs.Option.{option_map}
+use Rattle.std.specs.Prelude.{◌≡◌, Option, Some}
 use Rattle.word86.specs.Action.{perform}
 use Rattle.word86.specs.declared.label.Label.{Label}
 use Rattle.ppi_kbd.specs.Ports.{Shows}
 use Rattle.ppi_kbd.specs.Chips.{ChipState}
 use Rattle.ppi_kbd.specs.BoardChips.{board_chips}
-use Rattle.plm_type.specs.Rest.{Rest, Handler}
 use Rattle.plm_meaning.specs.declared.around.Surroundings.{Surroundings}
 use Rattle.plm_meaning.specs.declared.context.Context.{Context}
-use Rattle.plm_meaning.specs.declared.meaning.Meaning.{Meaning}
 use Rattle.plm_meaning.specs.declared.meaning.Stop as declared_stop
 use Rattle.plm_meaning.specs.declared.meaning.Stop.TheVariants as stop
 use Rattle.plm_meaning.specs.declared.redex.Action as declared_action
 use Rattle.plm_meaning.specs.declared.redex.Action.TheVariants as action
 use Rattle.plm_meaning.specs.declared.store.Store as declared_store
 use Rattle.plm_meaning.specs.Store.{shared}
-use Rattle.plm_meaning.specs.System.{is_interrupted}
 use Rattle.plm_meaning.specs.Context.{to_run_of}
 use Rattle.plm_meaning.specs.Inner.Redex.{context_action}
 use Rattle.plm_meaning.specs.Shown.{store_of, labels_of}
-
--- an interrupt can be taken
-abbrev pub can_enter : Meaning → ChipState → Bool
-can_enter m p = is_interrupted (shared board_chips) {R = Rest} (option_map (λ h. Handler (to_run_of h)) m.handler) m.on (store_of m.store p)
 
 -- ---- an action of a context
 

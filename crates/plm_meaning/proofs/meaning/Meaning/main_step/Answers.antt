@@ -31,7 +31,7 @@ returns-clause-made c p shown =
           (to_run_of c.perform.new.context) (store_of c.perform.new.store made.0) (labels_of c.in_ok-label.label)
           c.is_on_after-on.result c.is_halted_after-halted.result (state_of c.settle_counts.new.self made.0)
           (ap (option_map (λ h. Handler (to_run_of h))) c.requires) c.if-self.false
-          (c.is_interrupted.ensures.is_interrupted p shown)
+          (c.is_interrupted.ensures.can p shown)
           (ap (λ t. next (offsets_of s) (sizes_of s) ps (Main t)) (sym c.in_ok-settle.ensures.rest) ∙ c.main_action-next.ensures.action)
           (moves.counted_map put c.is_interrupted.result act m.silents m.switches ∙ sym (c.counted.ensures ps k.focus) ∙ c.in-Some.is)
           made.2
