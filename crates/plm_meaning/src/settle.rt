@@ -1,15 +1,19 @@
 //! From what a context has still to do to the part that is rewritten next: none of these moves is a step.
+//!
+//! Each way to begin is a function of its own, never inlined: room for what it makes is cleared where it is entered, and `settle`
+//! would clear that of all of them at each step.
 
 ghost use Rattle.std.specs.Prelude.{◌≡◌, suc, ◌<◌, OnOk, IfSome, IfNone, vec_len, vec_capacity};
-ghost use Rattle.plm_type.specs.Rest.{Call, More, Then, End, Returned, Value as Known};
-ghost use Rattle.plm_type.specs.View.{expression_of, expressions_of, statement_of, statements_of};
+ghost use Rattle.plm_type.specs.Next.{behind, bound_of};
+ghost use Rattle.plm_type.specs.Rest.{Call, More, Then, End, Returned, Running, Comparing as Compare, Value as Known};
+ghost use Rattle.plm_type.specs.View.{expression_of, expressions_of, target_of, statement_of, statements_of, loop_of};
 ghost use Rattle.plm_meaning.specs.Inner.Start.{depth, start_depth};
-ghost use Rattle.plm_meaning.specs.Context.{Expr, ToRun, given, around, to_run_in, to_run_of};
+ghost use Rattle.plm_meaning.specs.Context.{Expr, ToRun, aimed, later_of, given, around, to_run_in, to_run_of};
 ghost use Rattle.plm_meaning.specs.Inner.Context.{start_part, IsSettled};
 
-use crate::context::{Context, Focus, Frame, Hole, Redex, Start};
-use crate::start::{expression_start, statement_start, target_start};
-use plm_type::{Expression, Operation, Statement};
+use crate::context::{Context, Destination, Focus, Frame, Hole, Later, Redex, Start};
+use crate::start::{expression_start, leaf, statement_start, target_start};
+use plm_type::{Expression, Loop, Operation, Statement, Target};
 use std::alloc::{AllocError, Global};
 
 // Both operands are known.
@@ -85,6 +89,35 @@ fn put_down<'a>(
     }
 }
 
+// An expression begins: what comes first of it is an expression again, or a part that is rewritten next. A refused growth of memory
+// leaves the expression to be evaluated.
+#[tactic(auto, using(crate::proofs::Plug::to_run_last))]
+#[inline(never)]
+fn begin_expression<'a>(
+    alloc: Global,
+    e: &'a Expression,
+    context: &mut Context<'a>,
+) -> Result<(), AllocError>
+    ensures rest { to_run_of context.new ≡ to_run_in context.old.frames.items (Expr (expression_of e.now)) }
+    ensures settled { OnOk result (IsSettled context.new.focus context.new.frames.items) }
+{
+    let mut first = e;
+    loop {
+        if let Some(redex) = leaf(first) {
+            context.focus = Focus::Ready(redex);
+            return Ok(());
+        }
+        if let Err(refused) = context.frames.reserve(1) {
+            context.focus = Focus::Expression(first);
+            return Err(refused);
+        }
+        match put_down(alloc, expression_start(first), context) {
+            None => return Ok(()),
+            Some(inner) => first = inner,
+        }
+    }
+}
+
 // Goes on to what comes first.
 #[tactic(auto, using(crate::proofs::Plug::to_run_last))]
 fn begin<'a>(alloc: Global, start: Start<'a>, context: &mut Context<'a>) -> Result<(), AllocError>
@@ -92,13 +125,55 @@ fn begin<'a>(alloc: Global, start: Start<'a>, context: &mut Context<'a>) -> Resu
     ensures rest { to_run_of context.new ≡ to_run_in context.old.frames.items (start_part start.entry) }
     ensures settled { OnOk result (IsSettled context.new.focus context.new.frames.items) }
 {
-    let mut start = start;
-    while let Some(e) = put_down(alloc, start, context) {
-        context.focus = Focus::Expression(e);
-        context.frames.reserve(1)?;
-        start = expression_start(e);
+    match put_down(alloc, start, context) {
+        None => Ok(()),
+        Some(e) => begin_expression(alloc, e, context),
     }
-    Ok(())
+}
+
+// A statement begins alone.
+#[inline(never)]
+fn begin_alone<'a>(
+    alloc: Global,
+    s: &'a Statement,
+    context: &mut Context<'a>,
+) -> Result<(), AllocError>
+    requires room { vec_len context.old.frames < vec_capacity context.old.frames }
+    ensures rest { to_run_of context.new ≡ to_run_in context.old.frames.items (ToRun (Then (statement_of s.now) End)) }
+    ensures settled { OnOk result (IsSettled context.new.focus context.new.frames.items) }
+{
+    begin(alloc, statement_start(s), context)
+}
+
+// A target begins.
+#[inline(never)]
+fn begin_target<'a>(
+    alloc: Global,
+    target: &'a Target,
+    destination: Destination<'a>,
+    context: &mut Context<'a>,
+) -> Result<(), AllocError>
+    requires room { vec_len context.old.frames < vec_capacity context.old.frames }
+    ensures rest { to_run_of context.new ≡ to_run_in context.old.frames.items (aimed destination.entry (target_of target.now)) }
+    ensures settled { OnOk result (IsSettled context.new.focus context.new.frames.items) }
+{
+    begin(alloc, target_start(target, destination), context)
+}
+
+// The bound of a DO begins, with which the index is compared.
+#[inline(never)]
+fn begin_bound<'a>(
+    alloc: Global,
+    index: u16,
+    rounds: &'a Loop,
+    context: &mut Context<'a>,
+) -> Result<(), AllocError>
+    requires room { vec_len context.old.frames < vec_capacity context.old.frames }
+    ensures rest { to_run_of context.new ≡ to_run_in context.old.frames.items (ToRun (Then (Compare index (bound_of (loop_of rounds.now)) (loop_of rounds.now)) End)) }
+    ensures settled { OnOk result (IsSettled context.new.focus context.new.frames.items) }
+{
+    let start = Start::Within(Hole::Comparing(index, rounds), &rounds.bound);
+    begin(alloc, start, context)
 }
 
 // A statement begins, before others.
@@ -116,7 +191,7 @@ fn begin_statement<'a>(
     context.frames.push_reserved(Frame::Behind(after));
     context.focus = Focus::Statement(s);
     context.frames.reserve(1)?;
-    begin(alloc, statement_start(s), context)
+    begin_alone(alloc, s, context)
 }
 
 // Nothing is left to do here: what comes after it is next.
@@ -208,6 +283,35 @@ fn begin_within<'a>(
     begin_statements(alloc, statements, context)
 }
 
+// Statements begin, before what comes after them.
+#[inline(never)]
+fn begin_before<'a>(
+    alloc: Global,
+    later: Later<'a>,
+    statements: &'a [Box<Statement>],
+    context: &mut Context<'a>,
+) -> Result<(), AllocError>
+    requires room { vec_len context.old.frames < vec_capacity context.old.frames }
+    ensures rest { to_run_of context.new ≡ to_run_in context.old.frames.items (ToRun (behind (statements_of statements.now) (later_of later.entry))) }
+    ensures settled { OnOk result (IsSettled context.new.focus context.new.frames.items) }
+{
+    begin_within(alloc, Frame::Later(later), statements, context)
+}
+
+// The body of a call begins.
+#[inline(never)]
+fn begin_body<'a>(
+    alloc: Global,
+    body: &'a [Box<Statement>],
+    context: &mut Context<'a>,
+) -> Result<(), AllocError>
+    requires room { vec_len context.old.frames < vec_capacity context.old.frames }
+    ensures rest { to_run_of context.new ≡ to_run_in context.old.frames.items (Expr (Running (statements_of body.now))) }
+    ensures settled { OnOk result (IsSettled context.new.focus context.new.frames.items) }
+{
+    begin_within(alloc, Frame::Running, body, context)
+}
+
 // An argument has its value.
 #[tactic(auto, using(crate::proofs::Plug::to_run_last, crate::proofs::Given::given_last))]
 fn argument<'a>(
@@ -239,9 +343,7 @@ fn argument<'a>(
                 context
                     .frames
                     .push_reserved(Frame::Argument(procedure, values, others));
-                context.focus = Focus::Expression(e);
-                context.frames.reserve(1)?;
-                begin(alloc, expression_start(e), context)
+                begin_expression(alloc, e, context)
             }
         },
     }
@@ -249,6 +351,7 @@ fn argument<'a>(
 
 // A value goes to the frame around it.
 #[tactic(auto, using(crate::proofs::Plug::to_run_last))]
+#[inline(never)]
 fn resume<'a>(alloc: Global, v: u16, context: &mut Context<'a>) -> Result<(), AllocError>
     requires { context.old.focus ≡ Focus.Value v }
     ensures rest { to_run_of context.new ≡ to_run_of context.old }
@@ -274,25 +377,18 @@ pub fn settle<'a>(alloc: Global, context: &mut Context<'a>) -> Result<(), AllocE
 {
     context.frames.reserve(1)?;
     match &context.focus {
-        Focus::Expression(e) => begin(alloc, expression_start(e), context),
+        Focus::Expression(e) => begin_expression(alloc, e, context),
         Focus::Value(v) => resume(alloc, *v, context),
         Focus::Statements(statements) => begin_statements(alloc, statements, context),
-        Focus::Statement(s) => begin(alloc, statement_start(s), context),
+        Focus::Statement(s) => begin_alone(alloc, s, context),
         Focus::Returned(v) => {
             give(*v, context);
             Ok(())
         }
-        Focus::Within(later, statements) => {
-            begin_within(alloc, Frame::Later(*later), statements, context)
-        }
-        Focus::Entering(body) => begin_within(alloc, Frame::Running, body, context),
-        Focus::Bound(index, rounds) => {
-            let start = Start::Within(Hole::Comparing(*index, rounds), &rounds.bound);
-            begin(alloc, start, context)
-        }
-        Focus::Aim(target, destination) => {
-            begin(alloc, target_start(target, *destination), context)
-        }
+        Focus::Within(later, statements) => begin_before(alloc, *later, statements, context),
+        Focus::Entering(body) => begin_body(alloc, body, context),
+        Focus::Bound(index, rounds) => begin_bound(alloc, *index, rounds, context),
+        Focus::Aim(target, destination) => begin_target(alloc, target, *destination, context),
         Focus::Call(_, _) | Focus::Passing(_, _, _, _) | Focus::Ready(_) => Ok(()),
     }
 }

@@ -1,6 +1,6 @@
 //! What comes first of an expression, of a statement, and of what waited for a value.
 
-ghost use Rattle.std.specs.Prelude.{◌≡◌, ◌+◌, ◌*◌, ◌%◌, ◌≤◌};
+ghost use Rattle.std.specs.Prelude.{◌≡◌, ◌+◌, ◌*◌, ◌%◌, ◌≤◌, IfSome};
 ghost use Rattle.plm_type.specs.Rest.{Refer, NoSubscripts, Then, End, Value as Known};
 ghost use Rattle.plm_type.specs.View.{anchor_of, expression_of, reference_of, subscripts_of, target_of, statement_of};
 ghost use Rattle.plm_meaning.specs.Context.{Expr, ToRun, aimed, purposed, later_of, in_hole, redex_part};
@@ -68,6 +68,23 @@ fn reference_start<'a>(r: &'a Reference, purpose: Purpose<'a>) -> Start<'a>
 {
     trees_have_their_lists();
     subscripts_start(purpose, r.line, r.anchor, r.offset, &r.subscripts)
+}
+
+/// The part that is rewritten next, where an expression is one by itself: most that begin are.
+pub fn leaf<'a>(e: &'a Expression) -> Option<Redex<'a>>
+    ensures { IfSome result (λ r. redex_part r ≡ Expr (expression_of e.now)) }
+{
+    match e {
+        Expression::Constant(k) => Some(Redex::Constant(*k)),
+        Expression::Plain(width, place) => Some(Redex::Plain(*width, *place)),
+        Expression::Variable(_, _)
+        | Expression::Location(_)
+        | Expression::Unary(_, _, _)
+        | Expression::Chain(_, _)
+        | Expression::Embedded(_, _)
+        | Expression::Input(_, _)
+        | Expression::Call(_, _) => None,
+    }
 }
 
 /// What comes first of an expression.
