@@ -1,21 +1,22 @@
 -- The step of a part is the step of what is to do.
-use Rattle.std.proofs.Common.{◌≡◌, ℕ, List, [], ◌∷◌, Option, Some, None, refl, ap, sym, ◌∙◌}
+use Rattle.std.proofs.Common.{◌≡◌, ◌≢◌, ℕ, zero, suc, List, [], ◌∷◌, Option, Some, None, refl, ap, sym, subst, ◌∙◌}
 use Rattle.word86.specs.Access.{Access}
 use Rattle.word86.specs.Action.{Action, map_action}
 use Rattle.word86.specs.Access.{Where, Read}
 use Rattle.word86.specs.declared.width.Width.{Width}
 use Rattle.word86.specs.declared.width.Width.TheVariants as widths
-use Rattle.word86.specs.Action.{Touch, Bad}
+use Rattle.word86.specs.Action.{Silent, Touch, Bad}
 use Rattle.plm_type.specs.declared.program.Target as declared_target
 use Rattle.plm_type.specs.Rest as rest
 use Rattle.plm_type.specs.Rest.{Statements, Anchor, Behind, There, Refer, NoSubscripts, Only, Also, Then, End, Value, Procedure}
 use Rattle.plm_type.specs.Places.{anchored, placed}
 use Rattle.plm_type.specs.View.{target_of, targets_of}
 use Rattle.plm_type.specs.Next as next
-use Rattle.plm_type.specs.Next.{value_of, returned, next_statements, next_target, next_reference, address_at, read_at, written_at, next_variable, next_written, assigned, embedded_after}
+use Rattle.plm_type.specs.Next.{value_of, returned, next_statements, next_target, next_reference, address_at, read_at, written_at, next_variable, next_location, next_written, assigned, embedded_after}
 use Rattle.plm_meaning.specs.declared.redex.Action as declared_action
 use Rattle.plm_meaning.specs.declared.redex.Action.TheVariants as action
 use Rattle.plm_meaning.specs.declared.context.Focus.{Focus}
+use Rattle.plm_meaning.specs.declared.context.Focus.TheVariants as focus
 use Rattle.plm_meaning.specs.declared.context.Destination.{Destination}
 use Rattle.plm_meaning.specs.declared.context.Destination.TheVariants as destination
 use Rattle.plm_meaning.specs.declared.context.Purpose.TheVariants as purpose
@@ -24,12 +25,9 @@ use Rattle.plm_meaning.specs.declared.context.Redex.{Redex}
 use Rattle.plm_meaning.specs.declared.context.Redex.TheVariants as redex
 use Rattle.plm_meaning.specs.declared.context.Frame.{Frame}
 use Rattle.plm_meaning.specs.declared.around.Surroundings.{Surroundings}
-use Rattle.std.proofs.Common.{map, drop}
 use Rattle.std.specs.List.{slice_get}
-use Rattle.plm_type.specs.declared.program.Scalar as declared_scalar
-use Rattle.plm_type.specs.View.{scalar_of}
 use Rattle.plm_meaning.specs.Context.{Part, Expr, ToRun, given, part_of, redex_part, aimed, purposed, to_run_in}
-use Rattle.plm_meaning.specs.Inner.Redex.{offsets_of, sizes_of, procedures_in, next_part, stored, targets_left, value_in, IsStep, FitsIn, SaysEnd}
+use Rattle.plm_meaning.specs.Inner.Redex.{offsets_of, sizes_of, procedures_in, next_part, stored, targets_left, value_in, left_of, value_left, redex_left, call_left, left, acting, IsStep, FitsIn, SaysEnd}
 use Rattle.plm_meaning.proofs.Actions.{map_twice}
 use Rattle.plm_meaning.proofs.Plug as plug
 use Rattle.plm_meaning.proofs.Plug.{Active}
@@ -77,6 +75,33 @@ pub whole_step : (s : Surroundings) (fs : List Frame) (p : Part) (a : Action Acc
     → map_action (to_run_in fs) a ≡ next_statements (offsets_of s) (sizes_of s) (procedures_in s) (to_run_in fs p)
 whole_step s fs p a h e = ap (map_action (to_run_in fs)) (e ∙ same s p) ∙ sym (plug.to_run_step (offsets_of s) (sizes_of s) (procedures_in s) fs p h)
 
+-- the action of a part that is rewritten next, where it is known which
+pub rewritten : (s : Surroundings) (x : declared_action.Action) (r q : Redex) → r ≡ q → acting x (redex_left s q) ≡ next_part s (redex_part q) → acting x (redex_left s r) ≡ next_part s (redex_part r)
+rewritten s x r q e h = subst (λ y. acting x (redex_left s y) ≡ next_part s (redex_part y)) (sym e) h
+
+-- what is left of a call, and of what is at its end
+pub not_ready : (s : Surroundings) (f : Focus) (v : ℕ) → ((r : Redex) → f ≢ focus.Ready r) → left s f v ≡ call_left s f v
+not_ready s (focus.Ready r) v h = absurd (h r refl)
+not_ready s (focus.Expression e) v h = refl
+not_ready s (focus.Value x) v h = refl
+not_ready s (focus.Statements ss) v h = refl
+not_ready s (focus.Statement t) v h = refl
+not_ready s (focus.Returned x) v h = refl
+not_ready s (focus.Within l ss) v h = refl
+not_ready s (focus.Entering ss) v h = refl
+not_ready s (focus.Bound i l) v h = refl
+not_ready s (focus.Aim t d) v h = refl
+not_ready s (focus.Call n vs) v h = refl
+not_ready s (focus.Passing n xs vs k) v h = refl
+
+-- a DO CASE with its number has a silent step
+pub case_left : (v : ℕ) (cases : Statements) (a : Action Access rest.Expression)
+    → Silent (left_of (map_action ToRun (next.next_case (Some v) cases End a)) 0) ≡ map_action ToRun (next.next_case (Some v) cases End a)
+case_left v End a = refl
+case_left v (rest.Returned x) a = refl
+case_left zero (Then s cases) a = refl
+case_left (suc v) (Then s cases) a = refl
+
 -- ---- references and targets
 
 module _ (s : Surroundings) where
@@ -94,6 +119,13 @@ module _ (s : Surroundings) where
       let r = Refer module_index line (Behind base) offset NoSubscripts in
       sym (same s (aimed d (rest.ToVariable width r))
       ∙ plug.aimed_step (offsets_of s) (sizes_of s) (procedures_in s) d (rest.ToVariable width r) (rest.ToVariable width) (next_reference (offsets_of s) (sizes_of s) (procedures_in s) r) (λ v. refl))
+
+  -- a location is a silent step to its address
+  pub located_step : (module_index line : ℕ) (a : Anchor) (offset address : ℕ) → Some address ≡ at a offset
+      → Silent (value_left (at a offset)) ≡ next_part s (Expr (rest.Location (Refer module_index line a offset NoSubscripts)))
+  located_step module_index line a offset address e =
+      let r = Refer module_index line a offset NoSubscripts in
+      subst (λ o. Silent (value_left o) ≡ map_action Expr (next_location (offsets_of s) (sizes_of s) (procedures_in s) o (next_reference (offsets_of s) (sizes_of s) (procedures_in s) r))) e refl
 
   pub read_step : (width : Width) (module_index line : ℕ) (a : Anchor) (offset address : ℕ) (p : Option Where) → Some address ≡ at a offset → p ≡ seat width a address
       → map_action Expr (read_at width (Refer module_index line a offset NoSubscripts) p) ≡ next_part s (Expr (rest.Variable width (Refer module_index line a offset NoSubscripts)))
@@ -133,8 +165,8 @@ module _ (s : Surroundings) where
 pub says_end : (a : declared_action.Action) (ss : Statements) → IsStep a → returned ss ≡ None → SaysEnd a ss
 says_end action.Ended ss i h = absurd i
 says_end action.Returned ss i h = absurd i
-says_end (action.Silent f) ss i h = h
-says_end (action.Touch a k) ss i h = h
+says_end action.Silent ss i h = h
+says_end (action.Touch a) ss i h = h
 says_end action.Enable ss i h = h
 says_end action.Disable ss i h = h
 says_end action.Halt ss i h = h
@@ -143,8 +175,8 @@ says_end (action.Bad l) ss i h = h
 pub fits_in : (a : declared_action.Action) → IsStep a → FitsIn a
 fits_in action.Ended i = tt
 fits_in action.Returned i = tt
-fits_in (action.Silent f) i = tt
-fits_in (action.Touch a k) i = i
+fits_in action.Silent i = tt
+fits_in (action.Touch a) i = i
 fits_in action.Enable i = tt
 fits_in action.Disable i = tt
 fits_in action.Halt i = tt
@@ -160,10 +192,6 @@ pub call_step : (s : Surroundings) (n : ℕ) (vs : List ℕ)
     → map_action Expr (next.next_passing n (next.parameters_of (slice_get (procedures_in s) n)) vs (next.body_of (slice_get (procedures_in s) n))) ≡ next_part s (Expr (rest.Call n (given vs rest.NoMore)))
 call_step s n vs =
     ap (λ o. map_action Expr (next.next_call n o (slice_get (procedures_in s) n) (next.next_expressions (offsets_of s) (sizes_of s) (procedures_in s) (given vs rest.NoMore)))) (sym (given_values vs))
-
-pub dropped_one : (xs : List declared_scalar.Scalar) → map scalar_of (drop 1 xs) ≡ drop 1 (map scalar_of xs)
-dropped_one [] = refl
-dropped_one (x ∷ xs) = refl
 
 -- the step of a focus, by the step of its part
 pub focus_step : (s : Surroundings) (fs : List Frame) (g : Focus) (p : Part) (a : Action Access Part) → part_of g ≡ p → Active p → a ≡ next_part s p

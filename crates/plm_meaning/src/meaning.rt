@@ -1,7 +1,7 @@
 //! The runnable meaning of a program: its state, the choice of what comes next (a step of the program, an event, an interrupt's
 //! beginning or end, waiting), and what each choice does or why it does not come.
 
-ghost use Rattle.std.specs.Prelude.{◌≡◌, List, IfOk, IfErr, IsSome, None, true, option_map};
+ghost use Rattle.std.specs.Prelude.{◌≡◌, ℕ, IfOk, IfErr, IsSome, None, true, option_map};
 ghost use Rattle.word86.specs.Action.{on_after, halted_after};
 ghost use Rattle.word86.specs.declared.fault.Fault.TheVariants as fault;
 ghost use Rattle.ppi_kbd.specs.BoardChips.{board_chips};
@@ -9,20 +9,20 @@ ghost use Rattle.ppi_kbd.specs.Chips.{ChipState};
 ghost use Rattle.ppi_kbd.specs.Ports.{Shows, is_up};
 ghost use Rattle.plm_decl.specs.Placement as placed;
 ghost use Rattle.plm_decl.specs.Placement.{IsPlacement};
-ghost use Rattle.plm_type.specs.Rest.{Procedure as Blocks, Handler};
+ghost use Rattle.plm_type.specs.Rest.{Handler};
 ghost use Rattle.plm_meaning.specs.declared.meaning.Stop.TheVariants as stop;
 ghost use Rattle.plm_meaning.specs.Store.{shared};
 ghost use Rattle.plm_meaning.specs.System.{is_interrupted, settled, counted, Program as Moves, Occurs, Enter, Leave, Idle};
-ghost use Rattle.plm_meaning.specs.Context.{to_run_of};
+ghost use Rattle.plm_meaning.specs.Context.{Part, to_run_of};
 ghost use Rattle.plm_meaning.specs.Shown.{store_of};
-ghost use Rattle.plm_meaning.specs.Inner.Redex.{action_of, FitsIn};
+ghost use Rattle.plm_meaning.specs.Inner.Redex.{acting, FitsIn};
 ghost use Rattle.plm_meaning.specs.Meaning.{choice_of, state_of, Opens, Made, Stopped};
 ghost use Rattle.plm_meaning.specs.Inner.Meaning.{Performed, StopsAt};
 
 use crate::around::Surroundings;
 use crate::context::{Context, Focus};
 use crate::opening::first_objects;
-use crate::redex::{Action, answered, handler_action, main_action, next_action};
+use crate::redex::{Action, go_on, handler_action, main_action, next_action};
 use crate::settle::settle;
 use crate::store::Store;
 use plm_decl::Placement;
@@ -136,6 +136,8 @@ impl<'a> Meaning<'a> {
     ///
     /// `NotAllowed` where the choice has no step, `Bad` where its step is a Bad one, `Memory` where a growth of memory was
     /// refused; the run is then unchanged.
+    // Inlined, as callers know the choice: what is left of it is that one's step.
+    #[inline(always)]
     pub fn step(&mut self, choice: Choice) -> Result<Step, Stop>
         ensures made { IfOk result (λ s. Made self.old self.new (choice_of choice) s.label) }
         ensures stopped { IfErr result (λ e. Stopped self.old self.new (choice_of choice) e) }
@@ -264,7 +266,7 @@ impl<'a> Meaning<'a> {
         };
         settle(self.alloc, context)?;
         let next = handler_action(context, &self.around);
-        let on = is_on_after(&next, self.on);
+        let on = is_on_after(next, self.on);
         let label = perform(context, &mut self.store, &self.around, next)?;
         self.on = on;
         self.silents = 0;
@@ -285,14 +287,14 @@ impl<'a> Meaning<'a> {
         let next = main_action(&self.main, &self.around);
         let Some((silents, switches)) = counted(
             self.is_interrupted(),
-            &next,
+            next,
             self.silents,
             self.switches,
         ) else {
             return Err(Stop::NotAllowed);
         };
-        let on = is_on_after(&next, self.on);
-        let halted = is_halted_after(&next);
+        let on = is_on_after(next, self.on);
+        let halted = is_halted_after(next);
         let label = perform(&mut self.main, &mut self.store, &self.around, next)?;
         self.on = on;
         self.halted = halted;
@@ -305,22 +307,22 @@ impl<'a> Meaning<'a> {
 
 // The counts after a step of main. Where an interrupt can be taken, it comes after at most 8 silent steps and at most one ENABLE or
 // HALT.
-fn counted(can: bool, next: &Action<'_>, silents: u8, switches: u8) -> Option<(u8, u8)>
-    ensures { (ps : List Blocks) (f : Focus) → result ≡ counted can (action_of ps f next.now) silents switches }
+fn counted(can: bool, next: Action, silents: u8, switches: u8) -> Option<(u8, u8)>
+    ensures { (k : ℕ → Part) → result ≡ counted can (acting next k) silents switches }
 {
     if !can {
         return Some((0, 0));
     }
     match next {
-        Action::Silent(_) if silents < 8 => Some((silents + 1, switches)),
+        Action::Silent if silents < 8 => Some((silents + 1, switches)),
         Action::Enable | Action::Halt if switches < 1 => Some((silents, switches + 1)),
         _ => None,
     }
 }
 
 // Whether interrupts are on after an action.
-fn is_on_after(next: &Action<'_>, on: bool) -> bool
-    ensures { (ps : List Blocks) (f : Focus) → result ≡ on_after (action_of ps f next.now) on }
+fn is_on_after(next: Action, on: bool) -> bool
+    ensures { (k : ℕ → Part) → result ≡ on_after (acting next k) on }
 {
     match next {
         Action::Enable | Action::Halt => true,
@@ -330,8 +332,8 @@ fn is_on_after(next: &Action<'_>, on: bool) -> bool
 }
 
 // Whether main is halted after an action.
-fn is_halted_after(next: &Action<'_>) -> bool
-    ensures { (ps : List Blocks) (f : Focus) → result ≡ halted_after (action_of ps f next.now) }
+fn is_halted_after(next: Action) -> bool
+    ensures { (k : ℕ → Part) → result ≡ halted_after (acting next k) }
 {
     matches!(next, Action::Halt)
 }
@@ -341,20 +343,20 @@ fn perform<'a>(
     context: &mut Context<'a>,
     store: &mut Store,
     around: &Surroundings<'a>,
-    next: Action<'a>,
+    next: Action,
 ) -> Result<Option<Label>, Stop>
     requires { FitsIn next }
-    ensures made { IfOk result (λ l. Performed context.old store.old context.new store.new around.now next.entry l) }
-    ensures stopped { IfErr result (λ e. (StopsAt e next.entry) × (context.new ≡ context.old) × (store.new ≡ store.old)) }
+    ensures made { IfOk result (λ l. Performed context.old store.old context.new store.new around.now next l) }
+    ensures stopped { IfErr result (λ e. (StopsAt e next) × (context.new ≡ context.old) × (store.new ≡ store.old)) }
 {
     match next {
-        Action::Silent(focus) => {
-            context.focus = focus;
+        Action::Silent => {
+            go_on(context, around, 0);
             Ok(None)
         }
-        Action::Touch(access, after) => {
+        Action::Touch(access) => {
             let (answer, label) = store.touch(access);
-            answered(context, around, after, answer);
+            go_on(context, around, answer);
             Ok(label)
         }
         Action::Enable | Action::Disable | Action::Halt => {

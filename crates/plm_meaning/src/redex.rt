@@ -6,12 +6,12 @@ ghost use Rattle.word86.specs.Place.{where_of};
 ghost use Rattle.word86.specs.Access.{Write, Access as Accessed, values};
 ghost use Rattle.word86.specs.Action.{Touch, Over, map_action, Silent as Quiet};
 ghost use Rattle.word86.specs.Arithmetic.{low};
-ghost use Rattle.plm_type.specs.Rest.{Expression as Tree, Passing as Stored, Refer, NoSubscripts, Round, While, Then, End, Stepping as Steps, Procedure as Blocks, Main, Handler};
+ghost use Rattle.plm_type.specs.Rest.{Refer, NoSubscripts, Round, Statements, While, Then, End, Stepping as Steps, Main, Handler};
 ghost use Rattle.plm_type.specs.Next.{is_odd, operated, next, next_case, next_passing, next_statements, behind, rounds_of, step_of, parameters_of, body_of};
 ghost use Rattle.plm_type.specs.View.{scalar_of, expression_of, statements_of, loop_of, procedures_of};
 ghost use Rattle.plm_meaning.specs.Context.{Part, Expr, ToRun, purposed, origin_of, part_of, phase_of, redex_part, to_run_in, to_run_of};
 ghost use Rattle.plm_meaning.specs.Inner.Context.{IsSettled};
-ghost use Rattle.plm_meaning.specs.Inner.Redex.{offsets_of, sizes_of, procedures_in, next_part, stored, passed as passed_part, after_part, action_of, context_action, value_in, IsStep, SaysEnd, HasHalted, FitsIn};
+ghost use Rattle.plm_meaning.specs.Inner.Redex.{offsets_of, sizes_of, procedures_in, next_part, stored, left_of, referred, value_left, loop_left, redex_left, call_left, left, acting, context_action, value_in, IsStep, SaysEnd, HasHalted, FitsIn};
 
 use crate::access::Origin;
 use crate::around::Surroundings;
@@ -20,32 +20,11 @@ use plm_type::{Expression, Line, Loop, Place, Scalar, Statement};
 use std::mem;
 use word86::{Access, Width};
 
-/// What goes on with the answer of an access.
+/// What a context does next. What is left then is said by its focus.
 #[derive(Clone, Copy)]
-pub enum After<'a> {
-    /// The answer is a value.
-    Value,
-    /// The answer is the base of a reference.
-    Based(Purpose<'a>, Line, u64),
-    /// A value is stored.
-    Stored(Destination<'a>),
-    /// A round begins.
-    Round(&'a Loop),
-    /// The answer is the index, which is compared with the bound.
-    Compare(&'a Loop),
-    /// The answer is the index, to which the step is added.
-    Add(u16, &'a Loop),
-    /// The sum is stored.
-    End(u32, &'a Loop),
-    /// A parameter has its value.
-    Passed,
-}
-
-/// What a context does next, and what it goes on with.
-#[derive(Drop)]
-pub enum Action<'a> {
-    Silent(Focus<'a>),
-    Touch(Access, After<'a>),
+pub enum Action {
+    Silent,
+    Touch(Access),
     Enable,
     Disable,
     Halt,
@@ -82,24 +61,19 @@ impl<'a> Destination<'a> {
 }
 
 // A store of a value of which the low bits are kept.
-fn write<'a>(width: Width, place: Place, v: u32, after: After<'a>) -> Action<'a>
-    ensures write { result ≡ Action.Touch (Access.Write width place (low width v)) after.entry }
+fn write(width: Width, place: Place, v: u32) -> Action
+    ensures write { result ≡ Action.Touch (Access.Write width place (low width v)) }
     ensures going { IsStep result }
 {
-    Action::Touch(Access::Write(width, place, width.low(v)), after)
+    Action::Touch(Access::Write(width, place, width.low(v)))
 }
 
 // A store of a destination's value.
-fn store<'a>(width: Width, place: Place, destination: Destination<'a>) -> Action<'a>
-    ensures write { result ≡ Action.Touch (Access.Write width place (low width (value_in destination.entry))) (After.Stored destination.entry) }
+fn store(width: Width, place: Place, destination: Destination<'_>) -> Action
+    ensures write { result ≡ Action.Touch (Access.Write width place (low width (value_in destination.entry))) }
     ensures going { IsStep result }
 {
-    write(
-        width,
-        place,
-        u32::from(destination.value()),
-        After::Stored(destination),
-    )
+    write(width, place, u32::from(destination.value()))
 }
 
 fn is_odd(v: u16) -> bool
@@ -109,27 +83,44 @@ fn is_odd(v: u16) -> bool
 }
 
 // A reference whose address is known.
-fn refer<'a>(
+fn refer(
     around: &Surroundings<'_>,
-    purpose: Purpose<'a>,
+    purpose: Purpose<'_>,
     line: Line,
     origin: Origin,
     offset: u64,
-) -> Action<'a>
-    ensures step { (f : Focus) → action_of (procedures_in around.now) f result ≡ next_part around.now (purposed purpose.entry (Refer line.module line.line (origin_of origin) offset NoSubscripts)) }
+) -> Action
+    ensures step { acting result (referred around.now purpose.entry origin offset) ≡ next_part around.now (purposed purpose.entry (Refer line.module line.line (origin_of origin) offset NoSubscripts)) }
     ensures going { IsStep result }
 {
     let address = around.address(origin, offset);
     match purpose {
-        Purpose::Locate => Action::Silent(Focus::Value(address)),
+        Purpose::Locate => Action::Silent,
         Purpose::Read(width) => match around.place(width, origin, address) {
             None => Action::Bad(line),
-            Some(place) => Action::Touch(Access::Read(width, place), After::Value),
+            Some(place) => Action::Touch(Access::Read(width, place)),
         },
         Purpose::Store(width, destination) => match around.place(width, origin, address) {
             None => Action::Bad(line),
             Some(place) => store(width, place, destination),
         },
+    }
+}
+
+// What a reference leaves.
+fn referred<'a>(
+    around: &Surroundings<'_>,
+    purpose: Purpose<'a>,
+    origin: Origin,
+    offset: u64,
+    answer: u16,
+) -> Focus<'a>
+    ensures { part_of result ≡ referred around.now purpose.entry origin offset answer }
+{
+    match purpose {
+        Purpose::Read(_) => Focus::Value(answer),
+        Purpose::Locate => Focus::Value(around.address(origin, offset)),
+        Purpose::Store(_, destination) => destination.stored(),
     }
 }
 
@@ -204,125 +195,186 @@ fn end_round<'a>(sum: u32, rounds: &'a Loop) -> Focus<'a>
     }
 }
 
-// The value of an operator, or a Bad step.
-fn operate<'a>(line: Line, value: Option<u16>) -> Action<'a>
-    ensures step { (ps : List Blocks) (f : Focus) → action_of ps f result ≡ map_action Expr (operated line.module line.line value) }
+// The step of an operator.
+fn operate(line: Line, value: Option<u16>) -> Action
+    ensures step { acting result (λ v. value_left value) ≡ map_action Expr (operated line.module line.line value) }
     ensures going { IsStep result }
 {
     match value {
         None => Action::Bad(line),
-        Some(v) => Action::Silent(Focus::Value(v)),
+        Some(_) => Action::Silent,
+    }
+}
+
+// What an operator leaves.
+fn operated<'a>(value: Option<u16>) -> Focus<'a>
+    ensures { part_of result ≡ value_left value }
+{
+    match value {
+        None => Focus::Statements(&[]),
+        Some(v) => Focus::Value(v),
     }
 }
 
 // The step of a DO with an index.
-fn loop_step<'a>(phase: Phase, rounds: &'a Loop) -> Action<'a>
-    ensures step { (s : Surroundings) (f : Focus) → action_of (procedures_in s) f result ≡ next_part s (ToRun (Then (phase_of phase (loop_of rounds.now)) End)) }
+fn loop_step(phase: Phase, rounds: &Loop) -> Action
+    ensures step { (s : Surroundings) → acting result (loop_left s phase rounds.now) ≡ next_part s (ToRun (Then (phase_of phase (loop_of rounds.now)) End)) }
     ensures going { IsStep result }
 {
     let width = rounds.index.width;
     let place = rounds.index.place;
-    let read = Access::Read(width, place);
     match phase {
-        Phase::Begin(v) => write(width, place, u32::from(v), After::Round(rounds)),
-        Phase::Round => Action::Touch(read, After::Compare(rounds)),
-        Phase::Comparing(index, bound) => Action::Silent(compare(index, bound, rounds)),
-        Phase::Stepping(step) => Action::Touch(read, After::Add(step, rounds)),
+        Phase::Begin(v) => write(width, place, u32::from(v)),
+        Phase::Storing(sum) => write(width, place, sum),
+        Phase::Round | Phase::Stepping(_) => Action::Touch(Access::Read(width, place)),
+        Phase::Comparing(_, _) | Phase::Adding(_, _) | Phase::Ending(_) => Action::Silent,
+    }
+}
+
+// What the step of a DO with an index leaves.
+fn round_left<'a>(phase: Phase, rounds: &'a Loop, answer: u16) -> Focus<'a>
+    ensures { (s : Surroundings) → part_of result ≡ loop_left s phase rounds.now answer }
+{
+    match phase {
+        Phase::Begin(_) => Focus::Ready(Redex::Loop(Phase::Round, rounds)),
+        Phase::Round => Focus::Bound(answer, rounds),
+        Phase::Comparing(index, bound) => compare(index, bound, rounds),
+        Phase::Stepping(step) => Focus::Ready(Redex::Loop(Phase::Adding(answer, step), rounds)),
         Phase::Adding(index, step) => {
             let sum = u32::from(index) + u32::from(step);
-            Action::Silent(Focus::Ready(Redex::Loop(Phase::Storing(sum), rounds)))
+            Focus::Ready(Redex::Loop(Phase::Storing(sum), rounds))
         }
-        Phase::Storing(sum) => write(width, place, sum, After::End(sum, rounds)),
-        Phase::Ending(sum) => Action::Silent(end_round(sum, rounds)),
+        Phase::Storing(sum) => Focus::Ready(Redex::Loop(Phase::Ending(sum), rounds)),
+        Phase::Ending(sum) => end_round(sum, rounds),
     }
 }
 
 // The step of the part that is rewritten next.
-fn redex_step<'a>(around: &Surroundings<'_>, redex: Redex<'a>) -> Action<'a>
-    ensures step { (f : Focus) → action_of (procedures_in around.now) f result ≡ next_part around.now (redex_part redex.entry) }
+fn redex_step(around: &Surroundings<'_>, redex: &Redex<'_>) -> Action
+    ensures step { acting result (redex_left around.now redex.now) ≡ next_part around.now (redex_part redex.now) }
     ensures going { IsStep result }
 {
     match redex {
-        Redex::Constant(k) => Action::Silent(Focus::Value(k)),
-        Redex::Plain(width, place) => Action::Touch(Access::Read(width, place), After::Value),
-        Redex::Base(purpose, line, base, offset) => Action::Touch(
-            Access::Read(Width::Word, base),
-            After::Based(purpose, line, offset),
-        ),
-        Redex::Refer(purpose, line, origin, offset) => refer(around, purpose, line, origin, offset),
-        Redex::Unary(operation, width, v) => Action::Silent(Focus::Value(operation.value(
-            width, v,
-        ))),
-        Redex::Binary(line, operation, width, x, y) => operate(line, operation.value(width, x, y)),
-        Redex::Store(width, place, destination) => store(width, place, destination),
-        Redex::Input(width, port) => Action::Touch(Access::Input(width, port), After::Value),
+        Redex::Plain(width, place) => Action::Touch(Access::Read(*width, *place)),
+        Redex::Base(_, _, base, _) => Action::Touch(Access::Read(Width::Word, *base)),
+        Redex::Refer(purpose, line, origin, offset) => {
+            refer(around, *purpose, *line, *origin, *offset)
+        }
+        Redex::Binary(line, operation, width, x, y) => {
+            operate(*line, operation.value(*width, *x, *y))
+        }
+        Redex::Store(width, place, destination) => store(*width, *place, *destination),
+        Redex::Input(width, port) => Action::Touch(Access::Input(*width, *port)),
         Redex::Output(width, port, destination) => {
             let v = width.low(u32::from(destination.value()));
-            Action::Touch(Access::Output(width, port, v), After::Stored(destination))
+            Action::Touch(Access::Output(*width, *port, v))
         }
-        Redex::Ended => Action::Silent(Focus::Value(0)),
-        Redex::Given(v) => Action::Silent(Focus::Value(v)),
-        Redex::Empty | Redex::Leaving => Action::Silent(Focus::Statements(&[])),
-        Redex::Return => Action::Silent(Focus::Returned(0)),
-        Redex::ReturnValue(width, v) => Action::Silent(Focus::Returned(width.low(u32::from(v)))),
         Redex::Enable => Action::Enable,
         Redex::Disable => Action::Disable,
         Redex::Halt => Action::Halt,
-        Redex::If(v, taken, other) => Action::Silent(arm(v, taken, other)),
-        Redex::Block(body) => Action::Silent(Focus::Within(Later::Leaving, body)),
-        Redex::While(v, condition, body) => Action::Silent(repeat(v, condition, body)),
-        Redex::Case(v, cases) => Action::Silent(choose(v, cases)),
-        Redex::Loop(phase, rounds) => loop_step(phase, rounds),
+        Redex::Loop(phase, rounds) => loop_step(*phase, rounds),
+        Redex::Constant(_)
+        | Redex::Unary(_, _, _)
+        | Redex::Ended
+        | Redex::Given(_)
+        | Redex::Empty
+        | Redex::Return
+        | Redex::ReturnValue(_, _)
+        | Redex::If(_, _, _)
+        | Redex::Block(_)
+        | Redex::Leaving
+        | Redex::While(_, _, _)
+        | Redex::Case(_, _) => Action::Silent,
+    }
+}
+
+// What the step of the part that is rewritten next leaves, once its access has this answer.
+fn redex_left<'a>(around: &Surroundings<'_>, redex: &Redex<'a>, answer: u16) -> Focus<'a>
+    ensures { part_of result ≡ redex_left around.now redex.now answer }
+{
+    match redex {
+        Redex::Constant(k) => Focus::Value(*k),
+        Redex::Plain(_, _) | Redex::Input(_, _) => Focus::Value(answer),
+        Redex::Base(purpose, line, _, offset) => Focus::Ready(Redex::Refer(
+            *purpose,
+            *line,
+            Origin::There(answer),
+            *offset,
+        )),
+        Redex::Refer(purpose, _, origin, offset) => {
+            referred(around, *purpose, *origin, *offset, answer)
+        }
+        Redex::Unary(operation, width, v) => Focus::Value(operation.value(*width, *v)),
+        Redex::Binary(_, operation, width, x, y) => operated(operation.value(*width, *x, *y)),
+        Redex::Store(_, _, destination) | Redex::Output(_, _, destination) => destination.stored(),
+        Redex::Ended => Focus::Value(0),
+        Redex::Given(v) => Focus::Value(*v),
+        Redex::Empty | Redex::Leaving | Redex::Enable | Redex::Disable | Redex::Halt => {
+            Focus::Statements(&[])
+        }
+        Redex::Return => Focus::Returned(0),
+        Redex::ReturnValue(width, v) => Focus::Returned(width.low(u32::from(*v))),
+        Redex::If(v, taken, other) => arm(*v, taken, other),
+        Redex::Block(body) => Focus::Within(Later::Leaving, body),
+        Redex::While(v, condition, body) => repeat(*v, condition, body),
+        Redex::Case(v, cases) => choose(*v, cases),
+        Redex::Loop(phase, rounds) => round_left(*phase, rounds, answer),
     }
 }
 
 // The next parameter gets its value, or the body begins.
-fn pass<'a>(
-    parameters: &[Scalar],
-    values: &[u16],
-    done: usize,
-    body: &'a [Box<Statement>],
-) -> Action<'a>
-    ensures step { (n : ℕ) (ps : List Blocks) (f : Focus) → passed_part ps f ≡ Expr (Stored n (drop 1 (map scalar_of parameters.now)) (drop (done + 1) values.now)) → action_of ps f result ≡ map_action Expr (next_passing n (map scalar_of parameters.now) (drop done values.now) (statements_of body.now)) }
+fn pass(parameters: &[Scalar], values: &[u16], done: usize) -> Action
+    ensures step { (n : ℕ) (body : Statements) → let next = map_action Expr (next_passing n (map scalar_of parameters.now) (drop done values.now) body) in acting result (left_of next) ≡ next }
     ensures going { IsStep result }
 {
     match parameters.split_first() {
-        None => Action::Silent(Focus::Entering(body)),
+        None => Action::Silent,
         Some((x, _)) => match values.get(done) {
-            None => Action::Silent(Focus::Entering(body)),
-            Some(v) => write(x.width, x.place, u32::from(*v), After::Passed),
+            None => Action::Silent,
+            Some(v) => write(x.width, x.place, u32::from(*v)),
+        },
+    }
+}
+
+// What is left once a parameter has its value, or as the body begins.
+fn passed<'a>(
+    procedure: usize,
+    parameters: &'a [Scalar],
+    values: Vec<u16>,
+    done: usize,
+    body: &'a [Box<Statement>],
+) -> Focus<'a>
+    ensures { (answer : ℕ) → part_of result ≡ left_of (map_action Expr (next_passing procedure (map scalar_of parameters.now) (drop done values.items) (statements_of body.now))) answer }
+{
+    match parameters.split_first() {
+        None => Focus::Entering(body),
+        Some((_, others)) => match values.get(done) {
+            None => Focus::Entering(body),
+            Some(_) => Focus::Passing(procedure, others, values, done.saturating_add(1)),
         },
     }
 }
 
 /// What a settled context does next.
 #[tactic(auto, using(crate::proofs::Steps::whole_step))]
-pub fn next_action<'a>(context: &Context<'a>, around: &Surroundings<'a>) -> Action<'a>
+pub fn next_action(context: &Context<'_>, around: &Surroundings<'_>) -> Action
     requires { IsSettled context.now.focus context.now.frames.items }
-    ensures action { map_action (to_run_in context.now.frames.items) (action_of (procedures_in around.now) context.now.focus result) ≡ next_statements (offsets_of around.now) (sizes_of around.now) (procedures_in around.now) (to_run_of context.now) }
+    ensures action { context_action around.now context.now result ≡ next_statements (offsets_of around.now) (sizes_of around.now) (procedures_in around.now) (to_run_of context.now) }
     ensures end { SaysEnd result (to_run_of context.now) }
     ensures halts { HasHalted result context.now.frames.items }
     ensures fits { FitsIn result }
 {
     match &context.focus {
-        Focus::Ready(redex) => redex_step(around, *redex),
-        Focus::Call(p, values) => {
-            let (parameters, body) = around.procedure(*p);
-            pass(parameters, values, 0, body)
-        }
-        Focus::Passing(p, parameters, values, done) => pass(
-            parameters,
-            values,
-            *done,
-            around.procedure(*p).1,
-        ),
+        Focus::Ready(redex) => redex_step(around, redex),
+        Focus::Call(p, values) => pass(around.procedure(*p).0, values, 0),
+        Focus::Passing(_, parameters, values, done) => pass(parameters, values, *done),
         Focus::Returned(_) => Action::Returned,
         _ => Action::Ended,
     }
 }
 
 /// What main does next, once it is settled: at its end it halts again and again.
-pub fn main_action<'a>(context: &Context<'a>, around: &Surroundings<'a>) -> Action<'a>
+pub fn main_action(context: &Context<'_>, around: &Surroundings<'_>) -> Action
     requires { IsSettled context.now.focus context.now.frames.items }
     ensures action { next (offsets_of around.now) (sizes_of around.now) (procedures_in around.now) (Main (to_run_of context.now)) ≡ map_action Main (context_action around.now context.now result) }
     ensures fits { FitsIn result }
@@ -334,7 +386,7 @@ pub fn main_action<'a>(context: &Context<'a>, around: &Surroundings<'a>) -> Acti
 }
 
 /// What an interrupt procedure does next, once it is settled: it is used up at its end, or by RETURN.
-pub fn handler_action<'a>(context: &Context<'a>, around: &Surroundings<'a>) -> Action<'a>
+pub fn handler_action(context: &Context<'_>, around: &Surroundings<'_>) -> Action
     requires { IsSettled context.now.focus context.now.frames.items }
     ensures action { next (offsets_of around.now) (sizes_of around.now) (procedures_in around.now) (Handler (to_run_of context.now)) ≡ map_action Handler (context_action around.now context.now result) }
     ensures fits { FitsIn result }
@@ -342,62 +394,39 @@ pub fn handler_action<'a>(context: &Context<'a>, around: &Surroundings<'a>) -> A
     next_action(context, around)
 }
 
-// A parameter has its value.
-fn passed<'a>(focus: Focus<'a>, around: &Surroundings<'a>) -> Focus<'a>
-    ensures { part_of result ≡ passed_part (procedures_in around.now) focus.entry }
+// What the step of a call leaves of it: a parameter has its value, or the body begins.
+fn call_left<'a>(focus: Focus<'a>, around: &Surroundings<'a>) -> Focus<'a>
+    ensures { (answer : ℕ) → part_of result ≡ call_left around.now focus.entry answer }
 {
     match focus {
         Focus::Call(p, values) => {
-            let (parameters, _) = around.procedure(p);
-            let others = match parameters.split_first() {
-                None => parameters,
-                Some((_, others)) => others,
-            };
-            Focus::Passing(p, others, values, 1)
+            let (parameters, body) = around.procedure(p);
+            passed(p, parameters, values, 0, body)
         }
-        Focus::Passing(p, parameters, values, done) => match parameters.split_first() {
-            None => Focus::Passing(p, parameters, values, done.saturating_add(1)),
-            Some((_, others)) => Focus::Passing(p, others, values, done.saturating_add(1)),
-        },
-        other => other,
+        Focus::Passing(p, parameters, values, done) => {
+            passed(p, parameters, values, done, around.procedure(p).1)
+        }
+        Focus::Expression(_)
+        | Focus::Value(_)
+        | Focus::Statements(_)
+        | Focus::Statement(_)
+        | Focus::Returned(_)
+        | Focus::Within(_, _)
+        | Focus::Entering(_)
+        | Focus::Bound(_, _)
+        | Focus::Aim(_, _)
+        | Focus::Ready(_) => Focus::Statements(&[]),
     }
 }
 
-// What the answer of an access leaves of a part.
-fn focus_after<'a>(
-    focus: Focus<'a>,
-    around: &Surroundings<'a>,
-    after: After<'a>,
-    answer: u16,
-) -> Focus<'a>
-    ensures { part_of result ≡ after_part (procedures_in around.now) focus.entry after.entry answer }
+/// Goes on with the answer of an access; a silent step needs none.
+pub fn go_on<'a>(context: &mut Context<'a>, around: &Surroundings<'a>, answer: u16)
+    ensures rest { to_run_of context.new ≡ to_run_in context.old.frames.items (left around.now context.old.focus answer) }
 {
-    match after {
-        After::Value => Focus::Value(answer),
-        After::Based(purpose, line, offset) => Focus::Ready(Redex::Refer(
-            purpose,
-            line,
-            Origin::There(answer),
-            offset,
-        )),
-        After::Stored(destination) => destination.stored(),
-        After::Round(rounds) => Focus::Ready(Redex::Loop(Phase::Round, rounds)),
-        After::Compare(rounds) => Focus::Bound(answer, rounds),
-        After::Add(step, rounds) => Focus::Ready(Redex::Loop(Phase::Adding(answer, step), rounds)),
-        After::End(sum, rounds) => Focus::Ready(Redex::Loop(Phase::Ending(sum), rounds)),
-        After::Passed => passed(focus, around),
+    if let Focus::Ready(redex) = &context.focus {
+        context.focus = redex_left(around, redex, answer);
+        return;
     }
-}
-
-/// Goes on with the answer of an access.
-pub fn answered<'a>(
-    context: &mut Context<'a>,
-    around: &Surroundings<'a>,
-    after: After<'a>,
-    answer: u16,
-)
-    ensures { to_run_of context.new ≡ to_run_in context.old.frames.items (after_part (procedures_in around.now) context.old.focus after.entry answer) }
-{
     let focus = mem::replace(&mut context.focus, Focus::Value(answer));
-    context.focus = focus_after(focus, around, after, answer);
+    context.focus = call_left(focus, around);
 }

@@ -1,28 +1,35 @@
 -- The steps of the code as actions on parts.
-use Rattle.std.specs.Prelude.{◌≡◌, ℕ, ◌+◌, ◌<◌, List, [], ◌∷◌, map, drop, None, slice_get}
+use Rattle.std.specs.Prelude.{◌≡◌, ℕ, ◌<◌, List, [], ◌∷◌, map, drop, Option, Some, None, slice_get}
 use Rattle.word86.specs.Access.{Access, Read, Write, Input, Output, values}
+use Rattle.word86.specs.Operation.{binary_value}
 use Rattle.word86.specs.Place.{access_of}
 use Rattle.word86.specs.Action.{Action, Silent, Touch, Enable, Disable, Halt, Over, Bad, map_action}
-use Rattle.plm_type.specs.Rest.{There, Value, Passing, Refer, NoSubscripts, Assign, Round, Comparing, Adding, Ending, Statements, End, Then, Returned, Procedure}
-use Rattle.plm_type.specs.Next.{parameters_of, bound_of, returned, next_expression, next_statements}
+use Rattle.plm_type.specs.declared.program.Loop.{Loop}
+use Rattle.plm_type.specs.declared.program.Target as declared_target
+use Rattle.plm_type.specs.Places.{anchored}
+use Rattle.plm_type.specs.Rest.{There, Value, Refer, NoSubscripts, Assign, Statements, End, Then, Returned, Procedure}
+use Rattle.plm_type.specs.Next.{address_at, parameters_of, body_of, returned, next_expression, next_passing, next_statements}
 use Rattle.plm_type.specs.View.{scalar_of, target_of, targets_of, loop_of}
 use Rattle.plm_type.specs.Programs.{procedures_of}
 use Rattle.plm_decl.specs.Placement as placed
+use Rattle.plm_meaning.specs.declared.access.Origin.{Origin}
 use Rattle.plm_meaning.specs.declared.context.Destination.{Destination}
 use Rattle.plm_meaning.specs.declared.context.Destination.TheVariants as destination
 use Rattle.plm_meaning.specs.declared.context.Focus.{Focus}
 use Rattle.plm_meaning.specs.declared.context.Focus.TheVariants as focus
 use Rattle.plm_meaning.specs.declared.context.Frame.{Frame}
 use Rattle.plm_meaning.specs.declared.context.Context.{Context}
-use Rattle.plm_type.specs.declared.program.Target as declared_target
-use Rattle.plm_meaning.specs.declared.redex.After.{After}
-use Rattle.plm_meaning.specs.declared.redex.After.TheVariants as after
+use Rattle.plm_meaning.specs.declared.context.Phase.{Phase}
+use Rattle.plm_meaning.specs.declared.context.Purpose.{Purpose}
+use Rattle.plm_meaning.specs.declared.context.Purpose.TheVariants as purpose
+use Rattle.plm_meaning.specs.declared.context.Redex.{Redex}
+use Rattle.plm_meaning.specs.declared.context.Redex.TheVariants as redex
 use Rattle.plm_meaning.specs.declared.redex.Action as declared_action
 use Rattle.plm_meaning.specs.declared.redex.Action.TheVariants as action
 use Rattle.plm_meaning.specs.declared.around.Surroundings.{Surroundings}
 use Rattle.plm_meaning.specs.declared.access.PlacedObjects.{PlacedObjects}
 use Rattle.plm_meaning.specs.Around.{names_of}
-use Rattle.plm_meaning.specs.Context.{Part, Expr, ToRun, purposed, part_of, to_run_in}
+use Rattle.plm_meaning.specs.Context.{Part, Expr, ToRun, origin_of, phase_of, purposed, redex_part, to_run_in}
 
 -- where the program's objects lie, how many bytes they have, and what its procedures do
 abbrev pub offsets_of : Surroundings → List ℕ
@@ -56,35 +63,64 @@ abbrev pub stored : Destination → Part
 stored (destination.Assigned v ts) = targets_left v ts.now
 stored (destination.Embedded v) = Expr (Value v)
 
--- what comes once a parameter has its value
-abbrev pub passed : List Procedure → Focus → Part
-passed ps (focus.Call n vs) = Expr (Passing n (drop 1 (parameters_of (slice_get ps n))) (drop 1 vs.items))
-passed ps (focus.Passing n xs vs k) = Expr (Passing n (map scalar_of (drop 1 xs.now)) (drop (k + 1) vs.items))
-passed ps f = part_of f
+-- what a step leaves, once its access has this answer
+abbrev pub left_of : Action Access Part → ℕ → Part
+left_of (Silent p) = λ v. p
+left_of (Touch a k) = k
+left_of (Enable p) = λ v. p
+left_of (Disable p) = λ v. p
+left_of (Halt p) = λ v. p
+left_of Over = λ v. ToRun End
+left_of (Bad module_index line) = λ v. ToRun End
 
-abbrev pub after_part : List Procedure → Focus → After → ℕ → Part
-after_part ps f after.Value v = Expr (Value v)
-after_part ps f (after.Based x l offset) v = purposed x (Refer l.module l.line (There v) offset NoSubscripts)
-after_part ps f (after.Stored d) v = stored d
-after_part ps f (after.Round l) v = ToRun (Then (Round (loop_of l.now)) End)
-after_part ps f (after.Compare l) v = ToRun (Then (Comparing v (bound_of (loop_of l.now)) (loop_of l.now)) End)
-after_part ps f (after.Add s l) v = ToRun (Then (Adding v s (loop_of l.now)) End)
-after_part ps f (after.End sum l) v = ToRun (Then (Ending sum (loop_of l.now)) End)
-after_part ps f after.Passed v = passed ps f
+-- of a silent step to a value
+abbrev pub value_left : Option ℕ → Part
+value_left (Some x) = Expr (Value x)
+value_left None = ToRun End
 
-abbrev pub action_of : List Procedure → Focus → declared_action.Action → Action Access Part
-action_of ps f (action.Silent g) = Silent (part_of g)
-action_of ps f (action.Touch a k) = Touch (access_of a) (after_part ps f k)
-action_of ps f action.Enable = Enable (ToRun End)
-action_of ps f action.Disable = Disable (ToRun End)
-action_of ps f action.Halt = Halt (ToRun End)
-action_of ps f action.Ended = Over
-action_of ps f action.Returned = Over
-action_of ps f (action.Bad l) = Bad l.module l.line
+-- of a reference, wherever its bytes lie
+abbrev pub referred : Surroundings → Purpose → Origin → ℕ → ℕ → Part
+referred s (purpose.Read width) o offset = λ v. Expr (Value v)
+referred s purpose.Locate o offset = λ v. value_left (address_at (anchored (offsets_of s) (sizes_of s) (origin_of o)) offset)
+referred s (purpose.Store width d) o offset = λ v. stored d
+
+abbrev pub loop_left : Surroundings → Phase → Loop → ℕ → Part
+loop_left s p l = left_of (next_part s (ToRun (Then (phase_of p (loop_of l)) End)))
+
+abbrev pub redex_left : Surroundings → Redex → ℕ → Part
+redex_left s (redex.Base x l base offset) = λ v. purposed x (Refer l.module l.line (There v) offset NoSubscripts)
+redex_left s (redex.Refer x l o offset) = referred s x o offset
+redex_left s (redex.Binary l o width x y) = λ v. value_left (binary_value o width x y)
+redex_left s (redex.Store width x d) = λ v. stored d
+redex_left s (redex.Output width port d) = λ v. stored d
+redex_left s (redex.Loop p l) = loop_left s p l.now
+redex_left s r = left_of (next_part s (redex_part r))
+
+abbrev pub call_left : Surroundings → Focus → ℕ → Part
+call_left s (focus.Call n vs) =
+    let p = slice_get (procedures_in s) n in
+    left_of (map_action Expr (next_passing n (parameters_of p) vs.items (body_of p)))
+call_left s (focus.Passing n xs vs k) = left_of (map_action Expr (next_passing n (map scalar_of xs.now) (drop k vs.items) (body_of (slice_get (procedures_in s) n))))
+call_left s f = λ v. ToRun End
+
+abbrev pub left : Surroundings → Focus → ℕ → Part
+left s (focus.Ready r) = redex_left s r
+left s f = call_left s f
+
+-- the code's action, with what it leaves
+abbrev pub acting : declared_action.Action → (ℕ → Part) → Action Access Part
+acting action.Silent k = Silent (k 0)
+acting (action.Touch a) k = Touch (access_of a) k
+acting action.Enable k = Enable (ToRun End)
+acting action.Disable k = Disable (ToRun End)
+acting action.Halt k = Halt (ToRun End)
+acting action.Ended k = Over
+acting action.Returned k = Over
+acting (action.Bad l) k = Bad l.module l.line
 
 -- what the context does next by this action of its part
 abbrev pub context_action : Surroundings → Context → declared_action.Action → Action Access Statements
-context_action s c a = map_action (to_run_in c.frames.items) (action_of (procedures_in s) c.focus a)
+context_action s c a = map_action (to_run_in c.frames.items) (acting a (left s c.focus))
 
 -- whether this says in which way what is to do is used up
 abbrev pub SaysEnd : declared_action.Action → Statements → Type 0
@@ -105,12 +141,12 @@ Fits (Input width port) = Unit {0}
 Fits (Output width port v) = v < values width
 
 abbrev pub FitsIn : declared_action.Action → Type 0
-FitsIn (action.Touch a k) = Fits (access_of a)
+FitsIn (action.Touch a) = Fits (access_of a)
 FitsIn _ = Unit {0}
 
 -- it is a step, or a Bad one, and what it writes has its width
 abbrev pub IsStep : declared_action.Action → Type 0
 IsStep action.Ended = ⊥
 IsStep action.Returned = ⊥
-IsStep (action.Touch a k) = Fits (access_of a)
+IsStep (action.Touch a) = Fits (access_of a)
 IsStep _ = Unit {0}

@@ -1,26 +1,22 @@
-use Rattle.std.proofs.Common.{sym, ap, ◌∙◌, refl}
-use Rattle.word86.specs.Action.{map_action}
-use Rattle.plm_meaning.specs.Context.{Expr, redex_part, part_of, to_run_in}
-use Rattle.plm_meaning.specs.Inner.Redex.{action_of, procedures_in, offsets_of, sizes_of}
-use Rattle.plm_meaning.proofs.Steps as steps
-use Rattle.std.proofs.Common.{map, drop, ◌+◌}
+use Rattle.std.proofs.Common.{◌≡◌, ℕ, List, sym, ap, subst, ◌∙◌, refl, map, drop}
 use Rattle.std.specs.List.{slice_get}
-use Rattle.plm_type.specs.Rest.{Call, Passing, NoMore}
-use Rattle.plm_type.specs.View.{scalar_of, statements_of}
+use Rattle.word86.specs.Action.{map_action}
+use Rattle.plm_type.specs.Rest.{Scalar, Call, Passing, NoMore}
+use Rattle.plm_type.specs.View.{scalar_of}
 use Rattle.plm_type.specs.Next.{returned, next_statements, next_passing, parameters_of, body_of}
-use Rattle.plm_meaning.specs.Context.{given}
-use Rattle.plm_meaning.specs.Inner.Redex.{passed}
-use Rattle.plm_meaning.specs.Context.{to_run_of}
+use Rattle.plm_meaning.specs.Context.{Expr, given, redex_part, part_of, to_run_in, to_run_of}
+use Rattle.plm_meaning.specs.Inner.Redex.{acting, left, left_of, redex_left, procedures_in, offsets_of, sizes_of}
 use Rattle.plm_meaning.proofs.Plug as plug
+use Rattle.plm_meaning.proofs.Steps as steps
 use Rattle.plm_meaning.proofs.redex.next_action.Goals as goal
 
 pub returns-in-Ready-clause-action : goal.returns-in-Ready-clause-action
 returns-in-Ready-clause-action c =
     let s = c.args.around.now in
     let fs = c.args.context.now.frames.items in
-    let f = c.args.context.now.focus in
     let r = c.in-Ready.redex in
-    steps.whole_step s fs (redex_part r) (action_of (procedures_in s) f c.redex_step.result) (steps.redex_active r) (c.redex_step.ensures.step f)
+    ap (λ g. map_action (to_run_in fs) (acting c.redex_step.result (left s g))) c.in-Ready.is
+    ∙ steps.whole_step s fs (redex_part r) (acting c.redex_step.result (redex_left s r)) (steps.redex_active r) c.redex_step.ensures.step
     ∙ ap (λ g. next_statements (offsets_of s) (sizes_of s) (procedures_in s) (to_run_in fs (part_of g))) (sym c.in-Ready.is)
 
 pub returns-in-Ready-clause-end : goal.returns-in-Ready-clause-end
@@ -37,14 +33,12 @@ returns-in-Call-clause-action c =
     let f = c.args.context.now.focus in
     let n = c.in-Call.p in
     let vs = c.in-Call.values.items in
-    let d = c.deref.result.now in
-    let xs = map scalar_of c.procedure.result.0.now in
-    let premise = ap (passed (procedures_in s)) c.in-Call.is ∙ ap (λ ys. Expr (Passing n (drop 1 ys) (drop 1 vs))) (sym c.procedure.ensures.parameters) ∙ ap (λ ws. Expr (Passing n (drop 1 xs) (drop 1 ws))) (sym c.deref.ensures.value) in
-    steps.focus_step s c.args.context.now.frames.items f (Expr (Call n (given vs NoMore))) (action_of (procedures_in s) f c.pass.result) (ap part_of c.in-Call.is) refl
-    (c.pass.ensures.step n (procedures_in s) f premise
-    ∙ ap (λ ys. map_action Expr (next_passing n ys d (statements_of c.procedure.result.1.now))) c.procedure.ensures.parameters
-    ∙ ap (λ b. map_action Expr (next_passing n (parameters_of (slice_get (procedures_in s) n)) d b)) c.procedure.ensures.body
-    ∙ ap (λ ws. map_action Expr (next_passing n (parameters_of (slice_get (procedures_in s) n)) ws (body_of (slice_get (procedures_in s) n)))) c.deref.ensures.value
+    let x = c.pass.result in
+    let body = body_of (slice_get (procedures_in s) n) in
+    let next = λ (ys : List Scalar) (ws : List ℕ). map_action Expr (next_passing n ys ws body) in
+    steps.focus_step s c.args.context.now.frames.items f (Expr (Call n (given vs NoMore))) (acting x (left s f)) (ap part_of c.in-Call.is) refl
+    (ap (λ g. acting x (left s g)) c.in-Call.is
+    ∙ subst (λ m. acting x (left_of m) ≡ m) (ap (λ ys. next ys c.deref.result.now) c.procedure.ensures.parameters ∙ ap (next (parameters_of (slice_get (procedures_in s) n))) c.deref.ensures.value) (c.pass.ensures.step n body)
     ∙ steps.call_step s n vs)
 
 pub returns-in-Call-clause-end : goal.returns-in-Call-clause-end
@@ -56,20 +50,20 @@ pub returns-in-Passing-clause-action : goal.returns-in-Passing-clause-action
 returns-in-Passing-clause-action c =
     let s = c.args.around.now in
     let f = c.args.context.now.focus in
-    let n = c.in-Passing.p in
+    let n = c.in-Passing.field-0 in
     let k = c.in-Passing.done in
     let vs = c.in-Passing.values.items in
-    let xs = c.in-Passing.parameters.now in
-    let premise = ap (passed (procedures_in s)) c.in-Passing.is ∙ ap (λ ys. Expr (Passing n ys (drop (k + 1) vs))) (steps.dropped_one xs) ∙ ap (λ ws. Expr (Passing n (drop 1 (map scalar_of xs)) (drop (k + 1) ws))) (sym c.deref-in-Passing.ensures.value) in
-    steps.focus_step s c.args.context.now.frames.items f (Expr (Passing n (map scalar_of xs) (drop k vs))) (action_of (procedures_in s) f c.pass-in-Passing.result) (ap part_of c.in-Passing.is) refl
-    (c.pass-in-Passing.ensures.step n (procedures_in s) f premise
-    ∙ ap (λ ws. map_action Expr (next_passing n (map scalar_of xs) (drop k ws) (statements_of c.procedure-in-Passing.result.1.now))) c.deref-in-Passing.ensures.value
-    ∙ ap (λ b. map_action Expr (next_passing n (map scalar_of xs) (drop k vs) b)) c.procedure-in-Passing.ensures.body)
+    let xs = map scalar_of c.in-Passing.parameters.now in
+    let x = c.pass-in-Passing.result in
+    let body = body_of (slice_get (procedures_in s) n) in
+    steps.focus_step s c.args.context.now.frames.items f (Expr (Passing n xs (drop k vs))) (acting x (left s f)) (ap part_of c.in-Passing.is) refl
+    (ap (λ g. acting x (left s g)) c.in-Passing.is
+    ∙ subst (λ m. acting x (left_of m) ≡ m) (ap (λ ws. map_action Expr (next_passing n xs (drop k ws) body)) c.deref-in-Passing.ensures.value) (c.pass-in-Passing.ensures.step n body))
 
 pub returns-in-Passing-clause-end : goal.returns-in-Passing-clause-end
 returns-in-Passing-clause-end c =
     steps.says_end c.pass-in-Passing.result (to_run_of c.args.context.now) c.pass-in-Passing.ensures.going
-    (steps.focus_goes c.args.around.now c.args.context.now.frames.items c.args.context.now.focus (Expr (Passing c.in-Passing.p (map scalar_of c.in-Passing.parameters.now) (drop c.in-Passing.done c.in-Passing.values.items))) (ap part_of c.in-Passing.is) refl)
+    (steps.focus_goes c.args.around.now c.args.context.now.frames.items c.args.context.now.focus (Expr (Passing c.in-Passing.field-0 (map scalar_of c.in-Passing.parameters.now) (drop c.in-Passing.done c.in-Passing.values.items))) (ap part_of c.in-Passing.is) refl)
 
 pub returns-in-Ready-clause-fits : goal.returns-in-Ready-clause-fits
 returns-in-Ready-clause-fits c = steps.fits_in c.redex_step.result c.redex_step.ensures.going

@@ -8,7 +8,7 @@ use Rattle.plm_meaning.specs.Context.{to_run_in, to_run_of}
 use Rattle.plm_meaning.specs.Meaning.{state_of}
 use Rattle.plm_meaning.specs.Shown.{store_of, labels_of}
 use Rattle.plm_meaning.specs.Around.{names_of}
-use Rattle.plm_meaning.specs.Inner.Redex.{offsets_of, sizes_of, procedures_in, action_of, context_action}
+use Rattle.plm_meaning.specs.Inner.Redex.{offsets_of, sizes_of, procedures_in, left, acting, context_action}
 use Rattle.plm_meaning.specs.Store.{shared}
 use Rattle.plm_meaning.proofs.Moves as moves
 use Rattle.plm_meaning.proofs.meaning.Meaning.main_step.Goals as goal
@@ -20,7 +20,8 @@ returns-clause-made c p shown =
     let k = c.settle.new.context in
     let ps = procedures_in s in
     let next_is = c.main_action-next.result in
-    let act = action_of ps k.focus next_is in
+    let going = left s k.focus in
+    let act = acting next_is going in
     let put = to_run_in k.frames.items in
     let made = c.in_ok-label.ensures.made p shown in (
       made.0,
@@ -33,9 +34,9 @@ returns-clause-made c p shown =
           (ap (option_map (λ h. Handler (to_run_of h))) c.requires) c.if-self.false
           (c.is_interrupted.ensures.can p shown)
           (ap (λ t. next (offsets_of s) (sizes_of s) ps (Main t)) (sym c.in_ok-settle.ensures.rest) ∙ c.main_action-next.ensures.action)
-          (moves.counted_map put c.is_interrupted.result act m.silents m.switches ∙ sym (c.counted.ensures ps k.focus) ∙ c.in-Some.is)
+          (moves.counted_map put c.is_interrupted.result act m.silents m.switches ∙ sym (c.counted.ensures going) ∙ c.in-Some.is)
           made.2
-          (c.is_on_after-on.ensures ps k.focus ∙ sym (moves.on_map put act m.on))
-          (c.is_halted_after-halted.ensures ps k.focus ∙ sym (moves.halted_map put act))
+          (c.is_on_after-on.ensures going ∙ sym (moves.on_map put act m.on))
+          (c.is_halted_after-halted.ensures going ∙ sym (moves.halted_map put act))
           (c.settle_counts.ensures.state made.0 made.1),
     )
