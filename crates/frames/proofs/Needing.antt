@@ -149,5 +149,18 @@ kept_need t s u m h g i xs d lt em eu eg e =
     ∙ ap (λ ys. both s (need t h ys)) (sym rest)
     ∙ e
 
+-- the same of the words alone
+pub kept_words : (t : ℕ → Need) (s u m h g i : ℕ) (xs : List Instruction) (d : Instruction) → i < length xs → m ≡ (met t (slice_index_or xs i d) h).words → u ≡ max s m → g ≡ after (slice_index_or xs i d) h
+    → max s (need t h (drop i xs)).words ≡ (need t 0 xs).words → max u (need t g (drop (i + 1) xs)).words ≡ (need t 0 xs).words
+kept_words t s u m h g i xs d lt em eu eg e =
+    let x = slice_index_or xs i d in
+    let one : suc i ≡ i + 1 = omega arith in
+    let rest : drop i xs ≡ x ∷ drop (i + 1) xs = drop-cons xs i d lt ∙ ap (λ j. x ∷ drop j xs) one in
+    ap (λ n. max n (need t g (drop (i + 1) xs)).words) (eu ∙ ap (max s) em)
+    ∙ ap (λ k. max (max s (met t x h).words) (need t k (drop (i + 1) xs)).words) eg
+    ∙ max_parts s (met t x h).words (need t (after x h) (drop (i + 1) xs)).words
+    ∙ ap (λ ys. max s (need t h ys).words) (sym rest)
+    ∙ e
+
 pub kept_height : (x : Instruction) (h g i : ℕ) → g ≡ after x h → h ≤ i → g ≤ i + 1
 kept_height x h g i e le = omega (arith, e, after_few x h, le)

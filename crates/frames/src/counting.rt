@@ -110,8 +110,8 @@ pub fn count(alloc: Global, code: &Code) -> Result<Stack, Fault>
     ensures refused { IfErr result (λ f. IsRefusal code.now f) }
 {
     let needs = needs_of(alloc, code)?;
-    let main = Need::of(&needs, code.instructions(Routine::Main));
-    match in_bytes(main.words, largest_room(&needs, code)) {
+    let main = Need::words_of(&needs, code.instructions(Routine::Main));
+    match in_bytes(main, largest_room(&needs, code)) {
         None => Err(Fault::At(0, 1, Number::E501)),
         Some(stack) => Ok(stack),
     }

@@ -76,6 +76,31 @@ impl Need {
         }
     }
 
+    // The words alone of an instruction at which its routine has pushed `height` values.
+    fn words_at(needs: &[Need], instruction: Instruction, height: usize) -> u128
+        requires { (q : ℕ) → (need_at needs.now q).words + 2 ^ 64 < 2 ^ 128 }
+        ensures { result ≡ (met (need_at needs.now) instruction height).words }
+    {
+        match called(instruction) {
+            Some(procedure) => height as u128 + 1 + Need::at(needs, procedure).words,
+            None => height as u128,
+        }
+    }
+
+    /// The words alone of a routine with these instructions, where the procedures need this. They are all that is asked of main.
+    pub(crate) fn words_of(needs: &[Need], instructions: &[Instruction]) -> u128
+        requires { (q : ℕ) → (need_at needs.now q).words + 2 ^ 64 < 2 ^ 128 }
+        ensures { result ≡ (need (need_at needs.now) 0 instructions.now).words }
+    {
+        let mut height = 0;
+        let mut most = 0u128;
+        for instruction in instructions {
+            most = most.max(Need::words_at(needs, *instruction, height));
+            height = height_after(*instruction, height);
+        }
+        most.max(height as u128)
+    }
+
     /// Of a routine with these instructions, where the procedures need this.
     #[tactic(auto, using(crate::proofs::Needing::both_parts, crate::proofs::Needing::both_nothing))]
     pub(crate) fn of(needs: &[Need], instructions: &[Instruction]) -> Need
