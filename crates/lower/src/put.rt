@@ -12,7 +12,8 @@ use word86::{Fault, Width};
 /// Room for the instructions of a statement: few have more.
 pub const ROOM: usize = 12;
 
-/// One more instruction.
+/// One more instruction. It is made where it stands, and not beside it first, where this is no call.
+#[inline(always)]
 pub fn put(code: &mut Vec<Instruction>, instruction: Instruction) -> Result<(), Fault>
     ensures code { OnOk result (code.new.items ≡ code.old.items ++ instruction ∷ []) }
     ensures memory { IsOkUnless result Fault.Memory }

@@ -102,134 +102,116 @@ fn failing(silent: bool, arm: &[Instruction], exit: usize) -> Result<usize, Faul
 }
 
 impl Around<'_> {
-    // The code of an expression.
-    fn value(self, tree: &Expression) -> Result<Instructions, Fault>
-        ensures code { IfOk result (λ r. r.items ≡ expression_code (procedures_of self.entry.callees.procedures.now) (expression_of tree.now)) }
-        ensures memory { IsOkUnless result Fault.Memory }
-    {
-        let mut code = Vec::with_capacity(self.alloc, ROOM)?;
-        expression(&mut code, self.callees, tree)?;
-        Ok(code)
-    }
-
-    // The code of an expression whose value is dropped.
-    fn dropped(self, tree: &Expression) -> Result<Instructions, Fault>
-        ensures code { IfOk result (λ r. r.items ≡ dropped_code (procedures_of self.entry.callees.procedures.now) (expression_of tree.now)) }
-        ensures memory { IsOkUnless result Fault.Memory }
-    {
-        let mut code = Vec::with_capacity(self.alloc, ROOM)?;
-        dropped(&mut code, self.callees, tree)?;
-        Ok(code)
-    }
-
-    // One instruction.
-    fn alone(self, instruction: Instruction) -> Result<Instructions, Fault>
-        ensures code { IfOk result (λ r. r.items ≡ instruction ∷ []) }
-        ensures memory { IsOkUnless result Fault.Memory }
-    {
-        let mut code = Vec::new(self.alloc);
-        put(&mut code, instruction)?;
-        Ok(code)
-    }
-
     // The code of assignments.
     fn assignment(
         self,
+        code: &mut Instructions,
         first: &Target,
         others: &[Target],
-        value: &Expression,
-    ) -> Result<Instructions, Fault>
-        ensures code { IfOk result (λ r. r.items ≡ expression_code (procedures_of self.entry.callees.procedures.now) (expression_of value.now) ++ targets_code (procedures_of self.entry.callees.procedures.now) (targets_of (target_of first.now) others.now)) }
+        given: &Expression,
+    ) -> Result<(), Fault>
+        ensures code { OnOk result (code.new.items ≡ code.old.items ++ (expression_code (procedures_of self.entry.callees.procedures.now) (expression_of given.now) ++ targets_code (procedures_of self.entry.callees.procedures.now) (targets_of (target_of first.now) others.now))) }
         ensures memory { IsOkUnless result Fault.Memory }
     {
-        let mut code = self.value(value)?;
-        assign(&mut code, self.callees, first, others)?;
-        Ok(code)
-    }
-
-    // The code of RETURN without a value.
-    fn bare_return(self) -> Result<Instructions, Fault>
-        ensures code { IfOk result (λ r. r.items ≡ returning self.entry.kind) }
-        ensures memory { IsOkUnless result Fault.Memory }
-    {
-        let mut code = Vec::new(self.alloc);
-        leave(&mut code, self.kind)?;
-        Ok(code)
+        expression(code, self.callees, given)?;
+        assign(code, self.callees, first, others)
     }
 
     // The code of RETURN with a value.
-    fn value_return(self, width: Width, value: &Expression) -> Result<Instructions, Fault>
-        ensures code { IfOk result (λ r. r.items ≡ expression_code (procedures_of self.entry.callees.procedures.now) (expression_of value.now) ++ (narrowed width ++ op.Leave ∷ [])) }
+    fn value_return(
+        self,
+        code: &mut Instructions,
+        width: Width,
+        value: &Expression,
+    ) -> Result<(), Fault>
+        ensures code { OnOk result (code.new.items ≡ code.old.items ++ (expression_code (procedures_of self.entry.callees.procedures.now) (expression_of value.now) ++ (narrowed width ++ op.Leave ∷ []))) }
         ensures memory { IsOkUnless result Fault.Memory }
     {
-        let mut code = self.value(value)?;
-        narrow(&mut code, width)?;
-        put(&mut code, Instruction::Leave)?;
-        Ok(code)
+        expression(code, self.callees, value)?;
+        narrow(code, width)?;
+        put(code, Instruction::Leave)
     }
 
     // IF, by the code of its arms.
     fn choice(
         self,
+        code: &mut Instructions,
         tree: &Expression,
         arm: &[Instruction],
         silent: bool,
         otherwise: &[Instruction],
         exit: usize,
-    ) -> Result<Instructions, Fault>
-        ensures code { IfOk result (λ r. r.items ≡ choosing (condition_code (procedures_of self.entry.callees.procedures.now) (expression_of tree.now)) (test_of (expression_of tree.now)) arm.now silent otherwise.now exit) }
+    ) -> Result<(), Fault>
+        ensures code { OnOk result (code.new.items ≡ code.old.items ++ choosing (condition_code (procedures_of self.entry.callees.procedures.now) (expression_of tree.now)) (test_of (expression_of tree.now)) arm.now silent otherwise.now exit) }
         ensures memory { IsOkUnless result Fault.Memory }
     {
-        let mut code = Vec::with_capacity(self.alloc, ROOM)?;
-        let test = condition(&mut code, self.callees, tree)?;
+        let test = condition(code, self.callees, tree)?;
         let fails = failing(silent, arm, exit)?;
-        put(&mut code, Instruction::AheadUnless(test, fails))?;
-        add(&mut code, arm)?;
-        pass_over(&mut code, silent, otherwise, exit)?;
-        add(&mut code, otherwise)?;
-        Ok(code)
+        put(code, Instruction::AheadUnless(test, fails))?;
+        add(code, arm)?;
+        pass_over(code, silent, otherwise, exit)?;
+        add(code, otherwise)
     }
 
     // The code of a statement after which control goes on at its exit, `exit` instructions after its end.
     #[cycle(statements)]
-    fn statement(self, statement: &Statement, exit: usize) -> Result<Instructions, Fault>
-        ensures code { IfOk result (λ r. r.items ≡ statement_code (procedures_of self.entry.callees.procedures.now) self.entry.kind exit (statement_of statement.now)) }
+    fn statement(
+        self,
+        code: &mut Instructions,
+        statement: &Statement,
+        exit: usize,
+    ) -> Result<(), Fault>
+        ensures code { OnOk result (code.new.items ≡ code.old.items ++ statement_code (procedures_of self.entry.callees.procedures.now) self.entry.kind exit (statement_of statement.now)) }
         ensures memory { IsOkUnless result Fault.Memory }
     {
         trees_have_their_lists();
         match statement {
-            Statement::Empty => Ok(Vec::new(self.alloc)),
-            Statement::Assign(first, others, value) => self.assignment(first, others, value),
-            Statement::Evaluate(value) => self.dropped(value),
-            Statement::Return => self.bare_return(),
-            Statement::ReturnValue(width, value) => self.value_return(*width, value),
-            Statement::Enable => self.alone(Instruction::Enable),
-            Statement::Disable => self.alone(Instruction::Disable),
-            Statement::Halt => self.alone(Instruction::Halt),
+            Statement::Empty => Ok(()),
+            Statement::Assign(first, others, value) => self.assignment(code, first, others, value),
+            Statement::Evaluate(value) => dropped(code, self.callees, value),
+            Statement::Return => leave(code, self.kind),
+            Statement::ReturnValue(width, value) => self.value_return(code, *width, value),
+            Statement::Enable => put(code, Instruction::Enable),
+            Statement::Disable => put(code, Instruction::Disable),
+            Statement::Halt => put(code, Instruction::Halt),
             Statement::If(condition, arm, other) => {
-                let otherwise = self.statements(other, exit)?;
-                self.branch(arm, condition, are_silent(other), &otherwise, exit)
+                let otherwise = self.apart(other, exit)?;
+                self.branch(code, arm, condition, are_silent(other), &otherwise, exit)
             }
-            Statement::Block(body) => self.statements(body, exit),
-            Statement::While(condition, body) => self.repetition(body, condition, exit),
-            Statement::Case(value, cases) => self.cases(cases, value, exit),
-            Statement::Iterate(first, iteration) => self.iteration(iteration, first, exit),
+            Statement::Block(body) => self.statements(code, body, exit),
+            Statement::While(condition, body) => self.repetition(code, body, condition, exit),
+            Statement::Case(value, cases) => self.cases(code, cases, value, exit),
+            Statement::Iterate(first, iteration) => self.iteration(code, iteration, first, exit),
         }
     }
 
     // The code of statements in sequence; the last one has the exit of all.
     #[cycle(statements)]
-    fn statements(self, body: &[Box<Statement>], exit: usize) -> Result<Instructions, Fault>
+    fn statements(
+        self,
+        code: &mut Instructions,
+        body: &[Box<Statement>],
+        exit: usize,
+    ) -> Result<(), Fault>
+        ensures code { OnOk result (code.new.items ≡ code.old.items ++ statements_code (procedures_of self.entry.callees.procedures.now) self.entry.kind exit (statements_of body.now)) }
+        ensures memory { IsOkUnless result Fault.Memory }
+    {
+        let with_code = with_code(body);
+        for (k, statement) in body.iter().enumerate() {
+            let own = exit_before(with_code <= k + 1, exit);
+            self.statement(code, statement, own)?;
+        }
+        Ok(())
+    }
+
+    // The same by itself, where a jump has to know how long it is.
+    #[cycle(statements)]
+    fn apart(self, body: &[Box<Statement>], exit: usize) -> Result<Instructions, Fault>
         ensures code { IfOk result (λ r. r.items ≡ statements_code (procedures_of self.entry.callees.procedures.now) self.entry.kind exit (statements_of body.now)) }
         ensures memory { IsOkUnless result Fault.Memory }
     {
         let mut code = Vec::with_capacity(self.alloc, body.len().saturating_mul(ROOM))?;
-        let with_code = with_code(body);
-        for (k, statement) in body.iter().enumerate() {
-            let own = exit_before(with_code <= k + 1, exit);
-            let more = self.statement(statement, own)?;
-            add(&mut code, &more)?;
-        }
+        self.statements(&mut code, body, exit)?;
         Ok(code)
     }
 
@@ -237,74 +219,70 @@ impl Around<'_> {
     #[cycle(statements)]
     fn branch(
         self,
+        code: &mut Instructions,
         arm: &[Box<Statement>],
         tree: &Expression,
         silent: bool,
         otherwise: &[Instruction],
         exit: usize,
-    ) -> Result<Instructions, Fault>
-        ensures code { IfOk result (λ r. r.items ≡ branching (procedures_of self.entry.callees.procedures.now) self.entry.kind (expression_of tree.now) (statements_of arm.now) silent otherwise.now exit) }
+    ) -> Result<(), Fault>
+        ensures code { OnOk result (code.new.items ≡ code.old.items ++ branching (procedures_of self.entry.callees.procedures.now) self.entry.kind (expression_of tree.now) (statements_of arm.now) silent otherwise.now exit) }
         ensures memory { IsOkUnless result Fault.Memory }
     {
         let own = arm_exit(silent, otherwise, exit)?;
-        let arm = self.statements(arm, own)?;
-        self.choice(tree, &arm, silent, otherwise, exit)
+        let arm = self.apart(arm, own)?;
+        self.choice(code, tree, &arm, silent, otherwise, exit)
     }
 
     // DO WHILE.
     #[cycle(statements)]
     fn repetition(
         self,
+        code: &mut Instructions,
         body: &[Box<Statement>],
         tree: &Expression,
         exit: usize,
-    ) -> Result<Instructions, Fault>
-        ensures code { IfOk result (λ r. r.items ≡ statement_code (procedures_of self.entry.callees.procedures.now) self.entry.kind exit (While (expression_of tree.now) (expression_of tree.now) (statements_of body.now))) }
+    ) -> Result<(), Fault>
+        ensures code { OnOk result (code.new.items ≡ code.old.items ++ statement_code (procedures_of self.entry.callees.procedures.now) self.entry.kind exit (While (expression_of tree.now) (expression_of tree.now) (statements_of body.now))) }
         ensures memory { IsOkUnless result Fault.Memory }
     {
-        let rounds = self.statements(body, 0)?;
-        repeat(self.alloc, self.callees, tree, &rounds, exit)
+        let rounds = self.apart(body, 0)?;
+        let more = repeat(self.alloc, self.callees, tree, &rounds, exit)?;
+        add(code, &more)
     }
 
     // DO with an index.
     #[cycle(statements)]
     fn iteration(
         self,
+        code: &mut Instructions,
         iteration: &Loop,
         first: &Expression,
         exit: usize,
-    ) -> Result<Instructions, Fault>
-        ensures code { IfOk result (λ r. r.items ≡ statement_code (procedures_of self.entry.callees.procedures.now) self.entry.kind exit (Iterate (expression_of first.now) (loop_of iteration.now))) }
+    ) -> Result<(), Fault>
+        ensures code { OnOk result (code.new.items ≡ code.old.items ++ statement_code (procedures_of self.entry.callees.procedures.now) self.entry.kind exit (Iterate (expression_of first.now) (loop_of iteration.now))) }
         ensures memory { IsOkUnless result Fault.Memory }
     {
-        let rounds = self.statements(&iteration.body, 0)?;
-        let mut code = self.value(first)?;
-        iterate(
-            &mut code,
-            self.alloc,
-            self.callees,
-            iteration,
-            &rounds,
-            exit,
-        )?;
-        Ok(code)
+        let rounds = self.apart(&iteration.body, 0)?;
+        expression(code, self.callees, first)?;
+        iterate(code, self.alloc, self.callees, iteration, &rounds, exit)
     }
 
     // DO CASE.
     #[cycle(statements)]
     fn cases(
         self,
+        code: &mut Instructions,
         cases: &[Box<Statement>],
         value: &Expression,
         exit: usize,
-    ) -> Result<Instructions, Fault>
-        ensures code { IfOk result (λ r. r.items ≡ statement_code (procedures_of self.entry.callees.procedures.now) self.entry.kind exit (Case (expression_of value.now) (statements_of cases.now))) }
+    ) -> Result<(), Fault>
+        ensures code { OnOk result (code.new.items ≡ code.old.items ++ statement_code (procedures_of self.entry.callees.procedures.now) self.entry.kind exit (Case (expression_of value.now) (statements_of cases.now))) }
         ensures memory { IsOkUnless result Fault.Memory }
     {
         let codes = self.each_case(cases, exit)?;
-        let mut code = self.value(value)?;
-        switch(&mut code, &codes, exit)?;
-        Ok(code)
+        expression(code, self.callees, value)?;
+        switch(code, &codes, exit)
     }
 
     // The code of each case. The last one is made first, since each jumps over those after it.
@@ -316,7 +294,8 @@ impl Around<'_> {
         let mut behind = exit;
         let mut codes: Vec<Instructions> = Vec::new(self.alloc);
         for k in (0..cases.len()).rev() {
-            let mut code = self.statement(&cases[k], distance(1, behind)?)?;
+            let mut code = Vec::with_capacity(self.alloc, ROOM)?;
+            self.statement(&mut code, &cases[k], distance(1, behind)?)?;
             put(&mut code, Instruction::Ahead(behind))?;
             behind = distance(code.len(), behind)?;
             codes.push(code)?;
@@ -330,7 +309,7 @@ impl Around<'_> {
         ensures code { IfOk result (λ r. r.items ≡ routine_code (procedures_of self.entry.callees.procedures.now) self.entry.kind (statements_of body.now)) }
         ensures memory { IsOkUnless result Fault.Memory }
     {
-        let mut code = self.statements(body, 0)?;
+        let mut code = self.apart(body, 0)?;
         end(&mut code, self.kind)?;
         Ok(code)
     }

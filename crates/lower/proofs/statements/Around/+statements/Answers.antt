@@ -1,4 +1,4 @@
-use Rattle.std.proofs.Common.{◌≡◌, ℕ, IfOk, map, vec_items, drop, ap, subst, sym, ◌∙◌, arith}
+use Rattle.std.proofs.Common.{◌≡◌, ◌++◌, ℕ, OnOk, map, vec_items, drop, ap, subst, sym, ◌∙◌, arith}
 use Rattle.plm_type.specs.Rest.{Block, While, Case}
 use Rattle.plm_type.specs.View.{statement_of, statements_of, expression_of, procedures_of}
 use Rattle.lower.specs.Statements.{statement_code, statements_code, cases_code, are_silent}
@@ -10,27 +10,27 @@ pub statement-returns-in-Block-clause-code : goal.statement-returns-in-Block-cla
 statement-returns-in-Block-clause-code t c =
     let ps = procedures_of c.args.self.callees.procedures.now in
     let is = ap (λ ss. Block (statements_of ss)) c.deref-in-Block.ensures.value ∙ sym (ap statement_of c.in-Block.is ∙ c.trees_have_their_lists.ensures.block c.in-Block.body) in
-    subst (λ s. IfOk c.statements-in-Block.result (λ r. r.items ≡ statement_code ps c.args.self.kind c.args.exit s)) is c.statements-in-Block.ensures.code
+    subst (λ s. OnOk c.statements.result (c.statements.new.code.items ≡ c.args.code.now.items ++ statement_code ps c.args.self.kind c.args.exit s)) is c.statements.ensures.code
 
 pub statement-returns-in-While-clause-code : goal.statement-returns-in-While-clause-code
 statement-returns-in-While-clause-code t c =
     let ps = procedures_of c.args.self.callees.procedures.now in
     let e = expression_of c.in-While.condition in
     let is = ap (λ ss. While e e (statements_of ss)) c.deref-in-While.ensures.value ∙ sym (ap statement_of c.in-While.is ∙ c.trees_have_their_lists.ensures.while_true c.in-While.condition c.in-While.body) in
-    subst (λ s. IfOk c.repetition.result (λ r. r.items ≡ statement_code ps c.args.self.kind c.args.exit s)) is c.repetition.ensures.code
+    subst (λ s. OnOk c.repetition.result (c.repetition.new.code.items ≡ c.args.code.now.items ++ statement_code ps c.args.self.kind c.args.exit s)) is c.repetition.ensures.code
 
 pub statement-returns-in-Case-clause-code : goal.statement-returns-in-Case-clause-code
 statement-returns-in-Case-clause-code t c =
     let ps = procedures_of c.args.self.callees.procedures.now in
     let e = expression_of c.in-Case.value in
     let is = ap (λ ss. Case e (statements_of ss)) c.deref-in-Case.ensures.value ∙ sym (ap statement_of c.in-Case.is ∙ c.trees_have_their_lists.ensures.case_of c.in-Case.value c.in-Case.cases) in
-    subst (λ s. IfOk c.cases.result (λ r. r.items ≡ statement_code ps c.args.self.kind c.args.exit s)) is c.cases.ensures.code
+    subst (λ s. OnOk c.cases.result (c.cases.new.code.items ≡ c.args.code.now.items ++ statement_code ps c.args.self.kind c.args.exit s)) is c.cases.ensures.code
 
 pub statement-returns-in-Iterate-clause-code : goal.statement-returns-in-Iterate-clause-code
 statement-returns-in-Iterate-clause-code t c =
     let ps = procedures_of c.args.self.callees.procedures.now in
     let is = sym (ap statement_of c.in-Iterate.is ∙ c.trees_have_their_lists.ensures.iterate c.in-Iterate.first c.in-Iterate.iteration) in
-    subst (λ s. IfOk c.iteration.result (λ r. r.items ≡ statement_code ps c.args.self.kind c.args.exit s)) is c.iteration.ensures.code
+    subst (λ s. OnOk c.iteration.result (c.iteration.new.code.items ≡ c.args.code.now.items ++ statement_code ps c.args.self.kind c.args.exit s)) is c.iteration.ensures.code
 
 pub statement-returns-in_ok-otherwise-in-If-clause-code : goal.statement-returns-in_ok-otherwise-in-If-clause-code
 statement-returns-in_ok-otherwise-in-If-clause-code t c =
@@ -41,7 +41,7 @@ statement-returns-in_ok-otherwise-in-If-clause-code t c =
     let arm = statements_of c.in-If.arm.items in
     let silent : c.are_silent.result ≡ are_silent (statements_of c.in-If.other.items) = c.are_silent.ensures ∙ ap (λ ss. are_silent (statements_of ss)) c.deref-in-If-3.ensures.value in
     let otherwise = c.deref-in-If-4.ensures.value ∙ c.in_ok-otherwise-in-If.ensures.code ∙ ap (λ ss. statements_code ps kind exit (statements_of ss)) c.deref-in-If.ensures.value in
-    subst (λ x. IfOk c.branch-self.result (λ r. r.items ≡ x))
+    subst (λ x. OnOk c.branch-self.result (c.branch-self.new.code.items ≡ c.args.code.now.items ++ x))
     (ap (λ ss. branching ps kind e (statements_of ss) c.are_silent.result c.deref-in-If-4.result.now exit) c.deref-in-If-2.ensures.value
     ∙ ap (λ b. branching ps kind e arm b c.deref-in-If-4.result.now exit) silent
     ∙ ap (λ o. branching ps kind e arm (are_silent (statements_of c.in-If.other.items)) o exit) otherwise

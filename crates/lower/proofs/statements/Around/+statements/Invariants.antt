@@ -6,7 +6,7 @@ use Rattle.lower.proofs.statements.Around.+statements.Given as goal
 abbrev pub invariant-statements-loop-k : goal.invariant-statements-loop-k
 invariant-statements-loop-k l =
     let ps = procedures_of l.self.callees.procedures.now in
-    l.code.items ++ statements_code ps l.self.kind l.exit (statements_of (drop l.k l.body)) ≡ statements_code ps l.self.kind l.exit (statements_of l.body)
+    l.code.items ++ statements_code ps l.self.kind l.exit (statements_of (drop l.k l.body)) ≡ l.initial.code.items ++ statements_code ps l.self.kind l.exit (statements_of l.body)
 
 abbrev pub invariant-each_case-loop-k : goal.invariant-each_case-loop-k
 invariant-each_case-loop-k l =
