@@ -35,8 +35,8 @@ pub(crate) fn prefix_at(segment: Segment, address: Address) -> Prefixes
 }
 
 /// The prefix that an r/m operand needs.
-fn prefix_of<R: Copy>(place: RmOperand<R>) -> Prefixes
-    ensures { result ≡ prefix_of place }
+fn prefix_of<R: Copy>(place: &RmOperand<R>) -> Prefixes
+    ensures { result ≡ prefix_of place.now }
 {
     match place {
         RmOperand::Register(_) => Prefixes::Nothing,
@@ -76,8 +76,8 @@ fn address_form(address: Address) -> RegisterOrMemory
 }
 
 /// The shortest spelling of an r/m operand.
-fn place_form<R: Numbered>(place: RmOperand<R>) -> RegisterOrMemory
-    ensures { result ≡ place_form R.code place }
+fn place_form<R: Numbered>(place: &RmOperand<R>) -> RegisterOrMemory
+    ensures { result ≡ place_form R.code place.now }
 {
     match place {
         RmOperand::Register(register) => RegisterOrMemory::Register(register.number()),
@@ -97,8 +97,8 @@ pub(crate) fn plain(opcode: Opcode, fields: Fields) -> Form
 }
 
 /// A form with an address byte: its register field, and its r/m operand.
-fn addressed<R: Numbered>(opcode: Opcode, number: u8, place: RmOperand<R>) -> Form
-    ensures { result ≡ addressed R.code opcode number place }
+fn addressed<R: Numbered>(opcode: Opcode, number: u8, place: &RmOperand<R>) -> Form
+    ensures { result ≡ addressed R.code opcode number place.now }
 {
     Form {
         prefixes: prefix_of(place),
@@ -108,8 +108,8 @@ fn addressed<R: Numbered>(opcode: Opcode, number: u8, place: RmOperand<R>) -> Fo
 }
 
 /// A form with an address byte whose operand is in memory.
-fn with_memory(opcode: Opcode, number: u8, memory: Memory) -> Form
-    ensures { result ≡ with_memory opcode number memory }
+fn with_memory(opcode: Opcode, number: u8, memory: &Memory) -> Form
+    ensures { result ≡ with_memory opcode number memory.now }
 {
     Form {
         prefixes: prefix_at(memory.segment, memory.address),
@@ -119,8 +119,8 @@ fn with_memory(opcode: Opcode, number: u8, memory: Memory) -> Form
 }
 
 /// A form with an address byte and an immediate byte.
-fn with_byte<R: Numbered>(opcode: Opcode, number: u8, place: RmOperand<R>, immediate: u8) -> Form
-    ensures { result ≡ with_byte R.code opcode number place immediate }
+fn with_byte<R: Numbered>(opcode: Opcode, number: u8, place: &RmOperand<R>, immediate: u8) -> Form
+    ensures { result ≡ with_byte R.code opcode number place.now immediate }
 {
     Form {
         prefixes: prefix_of(place),
@@ -130,8 +130,8 @@ fn with_byte<R: Numbered>(opcode: Opcode, number: u8, place: RmOperand<R>, immed
 }
 
 /// A form with an address byte and an immediate word.
-fn with_word(opcode: Opcode, number: u8, place: RmOperand<Register16>, immediate: u16) -> Form
-    ensures { result ≡ with_word opcode number place immediate }
+fn with_word(opcode: Opcode, number: u8, place: &RmOperand<Register16>, immediate: u16) -> Form
+    ensures { result ≡ with_word opcode number place.now immediate }
 {
     Form {
         prefixes: prefix_of(place),
@@ -141,8 +141,8 @@ fn with_word(opcode: Opcode, number: u8, place: RmOperand<Register16>, immediate
 }
 
 /// A form of the group F6H, F7H whose operation is its register field, which is not 0.
-fn in_group<R: Numbered>(width: Width, number: u8, place: RmOperand<R>) -> Form
-    ensures { result ≡ in_group R.code width number place }
+fn in_group<R: Numbered>(width: Width, number: u8, place: &RmOperand<R>) -> Form
+    ensures { result ≡ in_group R.code width number place.now }
 {
     Form {
         prefixes: prefix_of(place),
@@ -155,10 +155,10 @@ fn in_group<R: Numbered>(width: Width, number: u8, place: RmOperand<R>) -> Form
 fn from_register<R: Numbered>(
     to_place: Opcode,
     to_register: Opcode,
-    target: RmOperand<R>,
+    target: &RmOperand<R>,
     source: R,
 ) -> Form
-    ensures { result ≡ from_register R.code to_place to_register target source }
+    ensures { result ≡ from_register R.code to_place to_register target.now source }
 {
     match target {
         RmOperand::Register(register) => plain(
@@ -191,9 +191,9 @@ pub(crate) fn accumulator_form(
     is_accumulator: bool,
     opcode: Opcode,
     other: Form,
-    memory: Memory,
+    memory: &Memory,
 ) -> Form
-    ensures { result ≡ accumulator_form is_accumulator opcode other memory.segment memory.address }
+    ensures { result ≡ accumulator_form is_accumulator opcode other memory.now.segment memory.now.address }
 {
     match memory.address {
         Address::Direct(offset) if is_accumulator => Form {
@@ -206,8 +206,8 @@ pub(crate) fn accumulator_form(
 }
 
 /// Arithmetic with an immediate word where no accumulator form serves: 83H where a byte says it, else 81H.
-fn alu_immediate(operation: AluOperation, place: RmOperand<Register16>, number: u16) -> Form
-    ensures { result ≡ alu_immediate_of operation place number }
+fn alu_immediate(operation: AluOperation, place: &RmOperand<Register16>, number: u16) -> Form
+    ensures { result ≡ alu_immediate_of operation place.now number }
 {
     let code = operation_number(operation);
     if is_short(code) && is_near(number) {
@@ -219,57 +219,57 @@ fn alu_immediate(operation: AluOperation, place: RmOperand<Register16>, number: 
 
 /// The best form of byte arithmetic.
 #[tactic(auto, unfolding(crate::specs::Writing::alu_byte_of))]
-fn alu_byte(operation: AluOperation, operands: Operands<Register8, u8>) -> Form
-    ensures { result ≡ alu_byte_of operation operands }
+fn alu_byte(operation: AluOperation, operands: &Operands<Register8, u8>) -> Form
+    ensures { result ≡ alu_byte_of operation operands.now }
 {
     let to_register = Opcode::AluToRegister(operation, Width::Byte);
     match operands {
         Operands::FromRegister(target, source) => {
             let to_place = Opcode::AluToPlace(operation, Width::Byte);
-            from_register(to_place, to_register, target, source)
+            from_register(to_place, to_register, target, *source)
         }
         Operands::FromMemory(register, memory) => {
             with_memory(to_register, register.number(), memory)
         }
         Operands::Immediate(RmOperand::Register(Register8::Al), number) => plain(
             Opcode::AluAccumulator(operation, Width::Byte),
-            Fields::Byte(number),
+            Fields::Byte(*number),
         ),
         Operands::Immediate(place, number) => with_byte(
             Opcode::AluImmediate(Width::Byte),
             operation_number(operation),
             place,
-            number,
+            *number,
         ),
     }
 }
 
 /// The best form of word arithmetic.
 #[tactic(auto, unfolding(crate::specs::Writing::alu_word_of))]
-fn alu_word(operation: AluOperation, operands: Operands<Register16, u16>) -> Form
-    ensures { result ≡ alu_word_of operation operands }
+fn alu_word(operation: AluOperation, operands: &Operands<Register16, u16>) -> Form
+    ensures { result ≡ alu_word_of operation operands.now }
 {
     let to_register = Opcode::AluToRegister(operation, Width::Word);
     match operands {
         Operands::FromRegister(target, source) => {
             let to_place = Opcode::AluToPlace(operation, Width::Word);
-            from_register(to_place, to_register, target, source)
+            from_register(to_place, to_register, target, *source)
         }
         Operands::FromMemory(register, memory) => {
             with_memory(to_register, register.number(), memory)
         }
         Operands::Immediate(RmOperand::Register(Register16::Ax), number) => plain(
             Opcode::AluAccumulator(operation, Width::Word),
-            Fields::Word(number),
+            Fields::Word(*number),
         ),
-        Operands::Immediate(place, number) => alu_immediate(operation, place, number),
+        Operands::Immediate(place, number) => alu_immediate(operation, place, *number),
     }
 }
 
 /// The best form of a byte MOV.
 #[tactic(auto, unfolding(crate::specs::Writing::move_byte_of))]
-fn move_byte(operands: Operands<Register8, u8>) -> Form
-    ensures { result ≡ move_byte_of operands }
+fn move_byte(operands: &Operands<Register8, u8>) -> Form
+    ensures { result ≡ move_byte_of operands.now }
 {
     let to_register = Opcode::MoveToRegister(Width::Byte);
     match operands {
@@ -280,26 +280,26 @@ fn move_byte(operands: Operands<Register8, u8>) -> Form
         Operands::FromRegister(RmOperand::Memory(memory), register) => {
             let other = with_memory(Opcode::MoveToPlace(Width::Byte), register.number(), memory);
             let short = Opcode::MoveToDirect(Width::Byte);
-            accumulator_form(is_al(register), short, other, memory)
+            accumulator_form(is_al(*register), short, other, memory)
         }
         Operands::FromMemory(register, memory) => {
             let other = with_memory(to_register, register.number(), memory);
             let short = Opcode::MoveFromDirect(Width::Byte);
-            accumulator_form(is_al(register), short, other, memory)
+            accumulator_form(is_al(*register), short, other, memory)
         }
         Operands::Immediate(RmOperand::Register(register), number) => {
-            plain(Opcode::MoveRegisterByte(register), Fields::Byte(number))
+            plain(Opcode::MoveRegisterByte(*register), Fields::Byte(*number))
         }
         Operands::Immediate(place, number) => {
-            with_byte(Opcode::MoveImmediate(Width::Byte), 0, place, number)
+            with_byte(Opcode::MoveImmediate(Width::Byte), 0, place, *number)
         }
     }
 }
 
 /// The best form of a word MOV.
 #[tactic(auto, unfolding(crate::specs::Writing::move_word_of))]
-fn move_word(operands: Operands<Register16, u16>) -> Form
-    ensures { result ≡ move_word_of operands }
+fn move_word(operands: &Operands<Register16, u16>) -> Form
+    ensures { result ≡ move_word_of operands.now }
 {
     let to_register = Opcode::MoveToRegister(Width::Word);
     match operands {
@@ -310,63 +310,63 @@ fn move_word(operands: Operands<Register16, u16>) -> Form
         Operands::FromRegister(RmOperand::Memory(memory), register) => {
             let other = with_memory(Opcode::MoveToPlace(Width::Word), register.number(), memory);
             let short = Opcode::MoveToDirect(Width::Word);
-            accumulator_form(is_ax(register), short, other, memory)
+            accumulator_form(is_ax(*register), short, other, memory)
         }
         Operands::FromMemory(register, memory) => {
             let other = with_memory(to_register, register.number(), memory);
             let short = Opcode::MoveFromDirect(Width::Word);
-            accumulator_form(is_ax(register), short, other, memory)
+            accumulator_form(is_ax(*register), short, other, memory)
         }
         Operands::Immediate(RmOperand::Register(register), number) => {
-            plain(Opcode::MoveRegisterWord(register), Fields::Word(number))
+            plain(Opcode::MoveRegisterWord(*register), Fields::Word(*number))
         }
         Operands::Immediate(place, number) => {
-            with_word(Opcode::MoveImmediate(Width::Word), 0, place, number)
+            with_word(Opcode::MoveImmediate(Width::Word), 0, place, *number)
         }
     }
 }
 
 /// The best form of a byte TEST.
-fn test_byte(place: RmOperand<Register8>, mask: TestMask<Register8, u8>) -> Form
-    ensures { result ≡ test_byte_of place mask }
+fn test_byte(place: &RmOperand<Register8>, mask: &TestMask<Register8, u8>) -> Form
+    ensures { result ≡ test_byte_of place.now mask.now }
 {
     match (place, mask) {
         (_, TestMask::Register(register)) => {
             addressed(Opcode::Test(Width::Byte), register.number(), place)
         }
         (RmOperand::Register(Register8::Al), TestMask::Immediate(number)) => {
-            plain(Opcode::TestAccumulator(Width::Byte), Fields::Byte(number))
+            plain(Opcode::TestAccumulator(Width::Byte), Fields::Byte(*number))
         }
         (_, TestMask::Immediate(number)) => Form {
             prefixes: prefix_of(place),
             opcode: Opcode::UnaryGroup(Width::Byte),
-            fields: Fields::TestByte(place_form(place), number),
+            fields: Fields::TestByte(place_form(place), *number),
         },
     }
 }
 
 /// The best form of a word TEST.
-fn test_word(place: RmOperand<Register16>, mask: TestMask<Register16, u16>) -> Form
-    ensures { result ≡ test_word_of place mask }
+fn test_word(place: &RmOperand<Register16>, mask: &TestMask<Register16, u16>) -> Form
+    ensures { result ≡ test_word_of place.now mask.now }
 {
     match (place, mask) {
         (_, TestMask::Register(register)) => {
             addressed(Opcode::Test(Width::Word), register.number(), place)
         }
         (RmOperand::Register(Register16::Ax), TestMask::Immediate(number)) => {
-            plain(Opcode::TestAccumulator(Width::Word), Fields::Word(number))
+            plain(Opcode::TestAccumulator(Width::Word), Fields::Word(*number))
         }
         (_, TestMask::Immediate(number)) => Form {
             prefixes: prefix_of(place),
             opcode: Opcode::UnaryGroup(Width::Word),
-            fields: Fields::TestWord(place_form(place), number),
+            fields: Fields::TestWord(place_form(place), *number),
         },
     }
 }
 
 /// The best form of NOT, NEG, INC and DEC of a byte.
-fn unary_byte(operation: UnaryOperation, place: RmOperand<Register8>) -> Form
-    ensures { result ≡ unary_byte_of operation place }
+fn unary_byte(operation: UnaryOperation, place: &RmOperand<Register8>) -> Form
+    ensures { result ≡ unary_byte_of operation place.now }
 {
     match operation {
         UnaryOperation::Not => in_group(Width::Byte, 2, place),
@@ -377,40 +377,40 @@ fn unary_byte(operation: UnaryOperation, place: RmOperand<Register8>) -> Form
 }
 
 /// The best form of NOT, NEG, INC and DEC of a word: INC and DEC of a register have one byte.
-fn unary_word(operation: UnaryOperation, place: RmOperand<Register16>) -> Form
-    ensures { result ≡ unary_word_of operation place }
+fn unary_word(operation: UnaryOperation, place: &RmOperand<Register16>) -> Form
+    ensures { result ≡ unary_word_of operation place.now }
 {
     let group = Opcode::StepGroup(Width::Word);
     match (operation, place) {
         (UnaryOperation::Not, _) => in_group(Width::Word, 2, place),
         (UnaryOperation::Neg, _) => in_group(Width::Word, 3, place),
         (UnaryOperation::Inc, RmOperand::Register(register)) => {
-            plain(Opcode::Increment(register), Fields::Nothing)
+            plain(Opcode::Increment(*register), Fields::Nothing)
         }
         (UnaryOperation::Inc, RmOperand::Memory(memory)) => with_memory(group, 0, memory),
         (UnaryOperation::Dec, RmOperand::Register(register)) => {
-            plain(Opcode::Decrement(register), Fields::Nothing)
+            plain(Opcode::Decrement(*register), Fields::Nothing)
         }
         (UnaryOperation::Dec, RmOperand::Memory(memory)) => with_memory(group, 1, memory),
     }
 }
 
 /// The best form of PUSH: a register has one byte.
-fn push(place: RmOperand<Register16>) -> Form
-    ensures { result ≡ push_of place }
+fn push(place: &RmOperand<Register16>) -> Form
+    ensures { result ≡ push_of place.now }
 {
     match place {
-        RmOperand::Register(register) => plain(Opcode::Push(register), Fields::Nothing),
+        RmOperand::Register(register) => plain(Opcode::Push(*register), Fields::Nothing),
         RmOperand::Memory(memory) => with_memory(Opcode::StepGroup(Width::Word), 6, memory),
     }
 }
 
 /// The best form of POP: a register has one byte.
-fn pop(place: RmOperand<Register16>) -> Form
-    ensures { result ≡ pop_of place }
+fn pop(place: &RmOperand<Register16>) -> Form
+    ensures { result ≡ pop_of place.now }
 {
     match place {
-        RmOperand::Register(register) => plain(Opcode::Pop(register), Fields::Nothing),
+        RmOperand::Register(register) => plain(Opcode::Pop(*register), Fields::Nothing),
         RmOperand::Memory(memory) => with_memory(Opcode::PopPlace, 0, memory),
     }
 }
@@ -517,53 +517,60 @@ fn word_after(opcode: Opcode, number: u16) -> Form
 
 impl Form {
     /// The form that is written for an instruction.
-    #[tactic(auto, unfolding(crate::specs::Writing::form_of))]
     pub fn of(instruction: Instr) -> Form
         ensures { result ≡ form_of instruction }
     {
+        Form::written(&instruction)
+    }
+
+    // The same. Operands stay where they are: to be handed on by value, those of each arm would be zeroed and copied, whichever arm it is.
+    #[tactic(auto, unfolding(crate::specs::Writing::form_of))]
+    fn written(instruction: &Instr) -> Form
+        ensures { result ≡ form_of instruction.now }
+    {
         match instruction {
             Instr::Nop => alone(Opcode::ExchangeAccumulator(Register16::Ax)),
-            Instr::AluByte(operation, operands) => alu_byte(operation, operands),
-            Instr::AluWord(operation, operands) => alu_word(operation, operands),
-            Instr::UnaryByte(operation, place) => unary_byte(operation, place),
-            Instr::UnaryWord(operation, place) => unary_word(operation, place),
+            Instr::AluByte(operation, operands) => alu_byte(*operation, operands),
+            Instr::AluWord(operation, operands) => alu_word(*operation, operands),
+            Instr::UnaryByte(operation, place) => unary_byte(*operation, place),
+            Instr::UnaryWord(operation, place) => unary_word(*operation, place),
             Instr::TestByte(place, mask) => test_byte(place, mask),
             Instr::TestWord(place, mask) => test_word(place, mask),
             Instr::ShiftByte(operation, place, count) => addressed(
-                Opcode::Shift(Width::Byte, count),
-                shift_number(operation),
+                Opcode::Shift(Width::Byte, *count),
+                shift_number(*operation),
                 place,
             ),
             Instr::ShiftWord(operation, place, count) => addressed(
-                Opcode::Shift(Width::Word, count),
-                shift_number(operation),
+                Opcode::Shift(Width::Word, *count),
+                shift_number(*operation),
                 place,
             ),
             Instr::MultiplyByte(signedness, place) => {
-                in_group(Width::Byte, multiply_number(signedness), place)
+                in_group(Width::Byte, multiply_number(*signedness), place)
             }
             Instr::MultiplyWord(signedness, place) => {
-                in_group(Width::Word, multiply_number(signedness), place)
+                in_group(Width::Word, multiply_number(*signedness), place)
             }
             Instr::DivideByte(signedness, place) => {
-                in_group(Width::Byte, divide_number(signedness), place)
+                in_group(Width::Byte, divide_number(*signedness), place)
             }
             Instr::DivideWord(signedness, place) => {
-                in_group(Width::Word, divide_number(signedness), place)
+                in_group(Width::Word, divide_number(*signedness), place)
             }
             Instr::ConvertByte => alone(Opcode::ConvertByte),
             Instr::ConvertWord => alone(Opcode::ConvertWord),
             Instr::MoveByte(operands) => move_byte(operands),
             Instr::MoveWord(operands) => move_word(operands),
             Instr::MoveFromSegment(place, segment) => {
-                addressed(Opcode::MoveFromSegment, segment_number(segment), place)
+                addressed(Opcode::MoveFromSegment, segment_number(*segment), place)
             }
             Instr::MoveToSegment(segment, place) => {
                 let number = segment_number(segment.segment());
                 addressed(Opcode::MoveToSegment, number, place)
             }
             Instr::LoadAddress(register, address) => {
-                let fields = Fields::Address(register.number(), address_form(address));
+                let fields = Fields::Address(register.number(), address_form(*address));
                 plain(Opcode::LoadAddress, fields)
             }
             Instr::ExchangeBytes(pair) => plain(
@@ -582,8 +589,8 @@ impl Form {
             }
             Instr::Push(place) => push(place),
             Instr::Pop(place) => pop(place),
-            Instr::PushSegment(segment) => alone(Opcode::PushSegment(segment)),
-            Instr::PopSegment(segment) => alone(Opcode::PopSegment(segment)),
+            Instr::PushSegment(segment) => alone(Opcode::PushSegment(*segment)),
+            Instr::PopSegment(segment) => alone(Opcode::PopSegment(*segment)),
             Instr::PushFlags => alone(Opcode::PushFlags),
             Instr::PopFlags => alone(Opcode::PopFlags),
             Instr::MoveString {
@@ -591,30 +598,30 @@ impl Form {
                 source,
                 repeat,
             } => Form {
-                prefixes: string_prefixes(source, repeat),
-                opcode: Opcode::MoveString(width),
+                prefixes: string_prefixes(*source, *repeat),
+                opcode: Opcode::MoveString(*width),
                 fields: Fields::Nothing,
             },
             Instr::StoreString { width, repeat } => Form {
-                prefixes: string_prefixes(Segment::Ds, repeat),
-                opcode: Opcode::StoreString(width),
+                prefixes: string_prefixes(Segment::Ds, *repeat),
+                opcode: Opcode::StoreString(*width),
                 fields: Fields::Nothing,
             },
-            Instr::In(width, port) => input(width, port),
-            Instr::Out(width, port) => output(width, port),
-            Instr::JumpIf(condition, distance) => byte_after(Opcode::JumpIf(condition), distance),
-            Instr::Loop(distance) => byte_after(Opcode::Loop, distance),
-            Instr::JumpIfCxZero(distance) => byte_after(Opcode::JumpIfCxZero, distance),
-            Instr::JumpShort(distance) => byte_after(Opcode::JumpShort, distance),
-            Instr::Jump(distance) => word_after(Opcode::Jump, distance),
+            Instr::In(width, port) => input(*width, *port),
+            Instr::Out(width, port) => output(*width, *port),
+            Instr::JumpIf(condition, distance) => byte_after(Opcode::JumpIf(*condition), *distance),
+            Instr::Loop(distance) => byte_after(Opcode::Loop, *distance),
+            Instr::JumpIfCxZero(distance) => byte_after(Opcode::JumpIfCxZero, *distance),
+            Instr::JumpShort(distance) => byte_after(Opcode::JumpShort, *distance),
+            Instr::Jump(distance) => word_after(Opcode::Jump, *distance),
             Instr::JumpTo(place) => addressed(Opcode::StepGroup(Width::Word), 4, place),
             Instr::JumpFar { offset, segment } => {
-                plain(Opcode::JumpFar, Fields::TwoWords(offset, segment))
+                plain(Opcode::JumpFar, Fields::TwoWords(*offset, *segment))
             }
-            Instr::Call(distance) => word_after(Opcode::Call, distance),
+            Instr::Call(distance) => word_after(Opcode::Call, *distance),
             Instr::CallTo(place) => addressed(Opcode::StepGroup(Width::Word), 2, place),
             Instr::Return => alone(Opcode::Return),
-            Instr::ReturnDropping(bytes) => word_after(Opcode::ReturnDropping, bytes),
+            Instr::ReturnDropping(bytes) => word_after(Opcode::ReturnDropping, *bytes),
             Instr::InterruptReturn => alone(Opcode::InterruptReturn),
             Instr::ComplementCarry => alone(Opcode::ComplementCarry),
             Instr::ClearCarry => alone(Opcode::ClearCarry),

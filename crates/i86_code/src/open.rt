@@ -45,12 +45,12 @@ fn byte_form(usage: Use, register: Register8, memory: Memory) -> Form
                 memory,
             );
             let short = Opcode::MoveFromDirect(Width::Byte);
-            accumulator_form(is_al(register), short, other, memory)
+            accumulator_form(is_al(register), short, other, &memory)
         }
         Use::Store => {
             let other = with_far(Opcode::MoveToPlace(Width::Byte), register.number(), memory);
             let short = Opcode::MoveToDirect(Width::Byte);
-            accumulator_form(is_al(register), short, other, memory)
+            accumulator_form(is_al(register), short, other, &memory)
         }
         Use::Operate(operation) => {
             let opcode = Opcode::AluToRegister(operation, Width::Byte);
@@ -71,12 +71,12 @@ fn word_form(usage: Use, register: Register16, memory: Memory) -> Form
                 memory,
             );
             let short = Opcode::MoveFromDirect(Width::Word);
-            accumulator_form(is_ax(register), short, other, memory)
+            accumulator_form(is_ax(register), short, other, &memory)
         }
         Use::Store => {
             let other = with_far(Opcode::MoveToPlace(Width::Word), register.number(), memory);
             let short = Opcode::MoveToDirect(Width::Word);
-            accumulator_form(is_ax(register), short, other, memory)
+            accumulator_form(is_ax(register), short, other, &memory)
         }
         Use::Operate(operation) => {
             let opcode = Opcode::AluToRegister(operation, Width::Word);
