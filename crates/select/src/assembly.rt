@@ -58,7 +58,7 @@ fn write(code: &mut Vec<u8>, instruction: Instr) -> Result<(), Fault>
     ensures coded { Spells (bytes_of instruction) instruction }
     ensures memory { IsOkUnless result Fault.Memory }
 {
-    Ok(code.extend_from_slice(coded(instruction).as_slice())?)
+    Ok(code.extend_from_slice(coded(&instruction).as_slice())?)
 }
 
 // An instruction with a number at its end, to which something is added.

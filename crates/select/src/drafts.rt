@@ -16,17 +16,17 @@ use word86::Fault;
 pub(crate) type Draft = ArrayVec<u8, 8>;
 
 /// The bytes of an instruction.
-pub(crate) fn coded(instruction: Instr) -> Draft
-    ensures bytes { result.items ≡ bytes_of instruction }
-    ensures coded { Spells (bytes_of instruction) instruction }
+pub(crate) fn coded(instruction: &Instr) -> Draft
+    ensures bytes { result.items ≡ bytes_of instruction.now }
+    ensures coded { Spells (bytes_of instruction.now) instruction.now }
 {
-    encode(&instruction)
+    encode(instruction)
 }
 
 /// The draft of a step.
-fn draft_of(step: Step) -> Draft
-    ensures bytes { result.items ≡ drafted_bytes step }
-    ensures coded { IsCoded step }
+fn draft_of(step: &Step) -> Draft
+    ensures bytes { result.items ≡ drafted_bytes step.now }
+    ensures coded { IsCoded step.now }
 {
     match step {
         Step::Plain(instruction) => coded(instruction),
@@ -34,8 +34,8 @@ fn draft_of(step: Step) -> Draft
             instruction,
             number,
             ..
-        } => encode_open(instruction, number),
-        Step::AtStep { instruction, .. } => encode_open(instruction, 0),
+        } => encode_open(*instruction, *number),
+        Step::AtStep { instruction, .. } => encode_open(*instruction, 0),
         Step::Word { .. } | Step::Goto { .. } | Step::GotoIf { .. } => ArrayVec::new(),
     }
 }
@@ -48,7 +48,7 @@ pub(crate) fn drafts_of(alloc: Global, steps: &[Step]) -> Result<Vec<Draft>, Fau
 {
     let mut drafts = Vec::with_capacity(alloc, steps.len())?;
     for step in steps {
-        drafts.push(draft_of(*step))?;
+        drafts.push(draft_of(step))?;
     }
     Ok(drafts)
 }

@@ -150,18 +150,18 @@ pub(crate) fn access(
 }
 
 /// An instruction on a place: the first one in the data's segment, or the second one in the screen's.
-pub(crate) fn placed(place: Place, ram: Open, screen: Open) -> Step
-    ensures { result ≡ placed place ram screen }
+pub(crate) fn placed(place: &Place, ram: Open, screen: Open) -> Step
+    ensures { result ≡ placed place.now ram screen }
 {
     match place {
         Place::Ram(object, index) => Step::Refer {
             instruction: ram,
-            number: index,
+            number: *index,
             kind: Kind::Offset,
-            name: object,
+            name: *object,
         },
         Place::Screen(page, index) => {
-            Step::Plain(screen.closed(page.begins().wrapping_add(index)))
+            Step::Plain(screen.closed(page.begins().wrapping_add(*index)))
         }
     }
 }

@@ -79,7 +79,7 @@ pub(crate) fn routine_steps(
     let mut steps = Vec::with_capacity(alloc, firsts.last().copied().unwrap_or(0))?;
     save(&mut steps, saves)?;
     for (k, instruction) in instructions.iter().enumerate() {
-        row(&mut steps, &firsts, parts, saves, k + 1, *instruction)?;
+        row(&mut steps, &firsts, parts, saves, k + 1, instruction)?;
     }
     Ok(steps)
 }

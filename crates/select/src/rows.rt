@@ -35,8 +35,8 @@ const BP: Register16 = Register16::Bp;
 const SP: Register16 = Register16::Sp;
 
 /// AL or AX gets what lies at a place, or as far after it as the base says.
-fn load(width: Width, base: Option<Base>, place: Place) -> Step
-    ensures { result ≡ on_place (loads width base) place }
+fn load(width: Width, base: Option<Base>, place: &Place) -> Step
+    ensures { result ≡ on_place (loads width base) place.now }
 {
     let ram = access(Use::Load, Register8::Al, AX, width, spot(base, Segment::Ds));
     let screen = access(Use::Load, Register8::Al, AX, width, spot(base, Segment::Es));
@@ -44,8 +44,8 @@ fn load(width: Width, base: Option<Base>, place: Place) -> Step
 }
 
 /// CL or CX gets what lies at a place.
-fn load_right(width: Width, place: Place) -> Step
-    ensures { result ≡ on_place (loads_right width) place }
+fn load_right(width: Width, place: &Place) -> Step
+    ensures { result ≡ on_place (loads_right width) place.now }
 {
     let ram = access(Use::Load, Register8::Cl, CX, width, spot(None, Segment::Ds));
     let screen = access(Use::Load, Register8::Cl, CX, width, spot(None, Segment::Es));
@@ -53,8 +53,8 @@ fn load_right(width: Width, place: Place) -> Step
 }
 
 /// AL or AX is written at a place, or as far after it as the base says.
-fn store(width: Width, base: Option<Base>, place: Place) -> Step
-    ensures { result ≡ on_place (stores width base) place }
+fn store(width: Width, base: Option<Base>, place: &Place) -> Step
+    ensures { result ≡ on_place (stores width base) place.now }
 {
     let ram = access(
         Use::Store,
@@ -74,8 +74,8 @@ fn store(width: Width, base: Option<Base>, place: Place) -> Step
 }
 
 /// The operation on AX and the word at a place.
-fn operate(operation: AluOperation, place: Place) -> Step
-    ensures { result ≡ on_place (operates operation) place }
+fn operate(operation: AluOperation, place: &Place) -> Step
+    ensures { result ≡ on_place (operates operation) place.now }
 {
     let ram = Open::Word(Use::Operate(operation), AX, spot(None, Segment::Ds));
     let screen = Open::Word(Use::Operate(operation), AX, spot(None, Segment::Es));
@@ -131,9 +131,9 @@ fn by_read(
     operation: BinaryOperation,
     width: Width,
     read: Width,
-    place: Place,
+    place: &Place,
 ) -> Result<(), Fault>
-    ensures steps { OnOk result (steps.new.items ≡ steps.old.items ++ by_read operation width read place) }
+    ensures steps { OnOk result (steps.new.items ≡ steps.old.items ++ by_read operation width read place.now) }
     ensures memory { IsOkUnless result Fault.Memory }
 {
     let takes_it_there = match read {
@@ -164,8 +164,8 @@ fn fails(relation: Relation) -> Condition
 }
 
 /// A jump to a step unless a test holds.
-fn unless(steps: &mut Vec<Step>, test: Test, target: usize) -> Result<(), Fault>
-    ensures steps { OnOk result (steps.new.items ≡ steps.old.items ++ unless test target) }
+fn unless(steps: &mut Vec<Step>, test: &Test, target: usize) -> Result<(), Fault>
+    ensures steps { OnOk result (steps.new.items ≡ steps.old.items ++ unless test.now target) }
     ensures memory { IsOkUnless result Fault.Memory }
 {
     let condition = match test {
@@ -175,8 +175,8 @@ fn unless(steps: &mut Vec<Step>, test: Test, target: usize) -> Result<(), Fault>
             Condition::Equal
         }
         Test::Constant(relation, number) => {
-            add(steps, compares(number))?;
-            fails(relation)
+            add(steps, compares(*number))?;
+            fails(*relation)
         }
         Test::Plain(relation, Width::Byte, place) => {
             put(steps, load_right(Width::Byte, place))?;
@@ -184,15 +184,15 @@ fn unless(steps: &mut Vec<Step>, test: Test, target: usize) -> Result<(), Fault>
                 steps,
                 &[clear_byte(Register8::Ch), alu(AluOperation::Cmp, AX, CX)],
             )?;
-            fails(relation)
+            fails(*relation)
         }
         Test::Plain(relation, Width::Word, place) => {
             put(steps, operate(AluOperation::Cmp, place))?;
-            fails(relation)
+            fails(*relation)
         }
         Test::Top(relation) => {
             all(steps, &[pop(CX), alu(AluOperation::Cmp, CX, AX)])?;
-            fails(relation)
+            fails(*relation)
         }
     };
     put(steps, Step::GotoIf { condition, target })
@@ -284,9 +284,9 @@ fn loaded(
     steps: &mut Vec<Step>,
     width: Width,
     base: Option<Base>,
-    place: Place,
+    place: &Place,
 ) -> Result<(), Fault>
-    ensures steps { OnOk result (steps.new.items ≡ steps.old.items ++ on_place (loads width base) place ∷ plain (narrow width)) }
+    ensures steps { OnOk result (steps.new.items ≡ steps.old.items ++ on_place (loads width base) place.now ∷ plain (narrow width)) }
     ensures memory { IsOkUnless result Fault.Memory }
 {
     put(steps, load(width, base, place))?;
@@ -309,13 +309,13 @@ pub(crate) fn row(
     parts: &[usize],
     saves: Registers,
     next: usize,
-    instruction: Instruction,
+    instruction: &Instruction,
 ) -> Result<(), Fault>
-    ensures steps { OnOk result (steps.new.items ≡ steps.old.items ++ row (step_at firsts.now) (slice_index parts.now) saves next instruction) }
+    ensures steps { OnOk result (steps.new.items ≡ steps.old.items ++ row (step_at firsts.now) (slice_index parts.now) saves next instruction.now) }
     ensures memory { IsOkUnless result Fault.Memory }
 {
     match instruction {
-        Instruction::Constant(number) => add(steps, accumulator_gets(number)),
+        Instruction::Constant(number) => add(steps, accumulator_gets(*number)),
         Instruction::Locate(place) => {
             put(steps, placed(place, Open::Number(AX), Open::Number(AX)))
         }
@@ -323,59 +323,62 @@ pub(crate) fn row(
             let sum = Open::OperateAx(AluOperation::Add);
             put(steps, placed(place, sum, sum))
         }
-        Instruction::Load(width, place) => loaded(steps, width, None, place),
+        Instruction::Load(width, place) => loaded(steps, *width, None, place),
         Instruction::LoadAt(width, place) => {
             add(steps, exchange(BX))?;
-            loaded(steps, width, Some(Base::Bx), place)
+            loaded(steps, *width, Some(Base::Bx), place)
         }
         Instruction::LoadThere(width) => {
             let there = spot(Some(Base::Bx), Segment::Ds);
-            let load = access(Use::Load, Register8::Al, AX, width, there);
+            let load = access(Use::Load, Register8::Al, AX, *width, there);
             all(steps, &[exchange(BX), load.closed(0)])?;
-            narrow(steps, width)
+            narrow(steps, *width)
         }
         Instruction::Push => add(steps, push(AX)),
-        Instruction::Pick(above) => picked(steps, above),
-        Instruction::Drop(count) => add(steps, dropped(count)),
-        Instruction::Unary(operation, width) => changed(steps, operation, width),
+        Instruction::Pick(above) => picked(steps, *above),
+        Instruction::Drop(count) => add(steps, dropped(*count)),
+        Instruction::Unary(operation, width) => changed(steps, *operation, *width),
         Instruction::Binary(operation, width) => {
             all(steps, &[exchange(CX), pop(AX)])?;
-            core(steps, operation, width)
+            core(steps, *operation, *width)
         }
         Instruction::BinaryConstant(operation, width, number) => {
-            by_constant(steps, operation, width, number)
+            by_constant(steps, *operation, *width, *number)
         }
         Instruction::BinaryPlain(operation, width, read, place) => {
-            by_read(steps, operation, width, read, place)
+            by_read(steps, *operation, *width, *read, place)
         }
-        Instruction::Store(width, place) => put(steps, store(width, None, place)),
+        Instruction::Store(width, place) => put(steps, store(*width, None, place)),
         Instruction::StoreAt(width, place) => {
             all(steps, &[exchange(BX), pop(AX)])?;
-            put(steps, store(width, Some(Base::Bx), place))
+            put(steps, store(*width, Some(Base::Bx), place))
         }
         Instruction::StoreThere(width) => {
             let there = spot(Some(Base::Bx), Segment::Ds);
-            let store = access(Use::Store, Register8::Al, AX, width, there);
+            let store = access(Use::Store, Register8::Al, AX, *width, there);
             all(steps, &[exchange(BX), pop(AX), store.closed(0)])
         }
         Instruction::Send(width) => {
-            all(steps, &[exchange(DX), pop(AX), Instr::Out(width, Port::Dx)])
+            all(
+                steps,
+                &[exchange(DX), pop(AX), Instr::Out(*width, Port::Dx)],
+            )
         }
-        Instruction::SendTo(width, port) => sent(steps, width, port),
+        Instruction::SendTo(width, port) => sent(steps, *width, *port),
         Instruction::Receive(width) => {
             add(steps, exchange(DX))?;
-            then_narrow(steps, width, Instr::In(width, Port::Dx))
+            then_narrow(steps, *width, Instr::In(*width, Port::Dx))
         }
-        Instruction::ReceiveFrom(width, port) => received(steps, width, port),
-        Instruction::Ahead(count) => jump(steps, ahead(firsts, next, count)),
-        Instruction::AheadUnless(test, count) => unless(steps, test, ahead(firsts, next, count)),
-        Instruction::Back(count) => jump(steps, step_at(firsts, next.saturating_sub(count))),
+        Instruction::ReceiveFrom(width, port) => received(steps, *width, *port),
+        Instruction::Ahead(count) => jump(steps, ahead(firsts, next, *count)),
+        Instruction::AheadUnless(test, count) => unless(steps, test, ahead(firsts, next, *count)),
+        Instruction::Back(count) => jump(steps, step_at(firsts, next.saturating_sub(*count))),
         Instruction::BackUnless(test, count) => {
-            unless(steps, test, step_at(firsts, next.saturating_sub(count)))
+            unless(steps, test, step_at(firsts, next.saturating_sub(*count)))
         }
-        Instruction::Switch(count) => switch(steps, firsts, next, count),
+        Instruction::Switch(count) => switch(steps, firsts, next, *count),
         Instruction::Case(count) => {
-            let target = ahead(firsts, next, count);
+            let target = ahead(firsts, next, *count);
             put(steps, Step::Word { target })
         }
         Instruction::Invoke(procedure) => put(
@@ -384,7 +387,7 @@ pub(crate) fn row(
                 instruction: Open::Call,
                 number: 0,
                 kind: Kind::Near,
-                name: part_of(parts, procedure),
+                name: part_of(parts, *procedure),
             },
         ),
         Instruction::Leave => add(steps, Instr::Return),
