@@ -2,6 +2,7 @@ pub mod Rows
 pub mod Lists
 pub mod Parts
 pub mod Said
+pub mod Alone
 pub mod Leaning
 pub mod Marking
 pub mod Exploring

@@ -8,3 +8,4 @@ pub mod Sets
 pub mod Typer
 pub mod Builtins
 pub mod Handlers
+pub mod Plain

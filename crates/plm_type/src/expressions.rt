@@ -20,7 +20,7 @@ use crate::types::{
     unary_operation, unary_type, width_of,
 };
 use plm_decl::found::Found;
-use plm_decl::{Binding, Builtin, Location, Selector, resolved_trees_have_their_lists};
+use plm_decl::{Binding, Builtin, Location, Selector, Variable, resolved_trees_have_their_lists};
 use plm_syntax::{BinaryOperator, LocationForm, Position, UnaryOperator};
 use std::alloc::{AllocError, Global};
 use word86::{Number, Width};
@@ -66,6 +66,7 @@ fn assigned(alloc: Global, target: Target, value: Expression) -> Result<Expressi
 }
 
 impl Typer<'_> {
+    #[inline(never)]
     fn number(
         &self,
         number: plm_syntax::Numeral,
@@ -81,6 +82,7 @@ impl Typer<'_> {
         })
     }
 
+    #[inline(never)]
     fn text(
         &self,
         place: Position,
@@ -314,6 +316,36 @@ impl Typer<'_> {
         Ok(Parts { subscripts, member })
     }
 
+    /// A variable as a value, whose subscripts are typed first. It stands apart, as most are named alone.
+    #[cycle(expression)]
+    #[inline(never)]
+    fn read_by_parts(
+        &self,
+        reference: &plm_decl::Reference,
+        variable: Option<Variable>,
+        faults: &mut Vec<Found>,
+    ) -> Result<Typed, AllocError>
+        ensures { IfOk result (λ r. said r faults.new.items ≡ after faults.old.items (spec.read (variables self.now) self.now.module reference.now.place variable (resolved.selector_of reference.now.selector) (parts_by self.now (resolved.reference_of reference.now)))) }
+    {
+        let parts = self.parts(reference, faults)?;
+        self.read(reference, variable, parts, faults)
+    }
+
+    /// The same as a target.
+    #[cycle(expression)]
+    #[inline(never)]
+    fn store_by_parts(
+        &self,
+        reference: &plm_decl::Reference,
+        variable: Option<Variable>,
+        faults: &mut Vec<Found>,
+    ) -> Result<TypedTarget, AllocError>
+        ensures { IfOk result (λ r. target_said r faults.new.items ≡ target_after faults.old.items (spec.stored (variables self.now) self.now.module reference.now.place variable (resolved.selector_of reference.now.selector) (parts_by self.now (resolved.reference_of reference.now)))) }
+    {
+        let parts = self.parts(reference, faults)?;
+        self.stored(reference, variable, parts, faults)
+    }
+
     #[cycle(expression)]
     pub fn value(
         &self,
@@ -324,8 +356,11 @@ impl Typer<'_> {
     {
         match reference.binding {
             Binding::Variable(variable) => {
-                let parts = self.parts(reference, faults)?;
-                self.read(reference, self.variable(variable), parts, faults)
+                let variable = self.variable(variable);
+                match self.read_alone(reference, variable) {
+                    Some(typed) => Ok(typed),
+                    None => self.read_by_parts(reference, variable, faults),
+                }
             }
             Binding::Procedure(procedure) => {
                 let arguments = self.list(&reference.subscripts, faults)?;
@@ -459,8 +494,11 @@ impl Typer<'_> {
     {
         match reference.binding {
             Binding::Variable(variable) => {
-                let parts = self.parts(reference, faults)?;
-                self.stored(reference, self.variable(variable), parts, faults)
+                let variable = self.variable(variable);
+                match self.store_alone(reference, variable) {
+                    Some(typed) => Ok(typed),
+                    None => self.store_by_parts(reference, variable, faults),
+                }
             }
             Binding::Builtin(builtin) => {
                 let arguments = self.list(&reference.subscripts, faults)?;

@@ -1,9 +1,13 @@
 //! References to variables, whose subscripts are typed already: as values, as targets, as locations, and what LENGTH, LAST and
 //! SIZE say of them.
 
-ghost use Rattle.std.specs.Prelude.{◌≡◌, ◌++◌, IfOk, OnOk, map, option_map};
+ghost use Rattle.std.specs.Prelude.{◌≡◌, ◌++◌, IfOk, OnOk, IfSome, List, map, option_map};
+ghost use Rattle.plm_decl.specs.declared.found.Found.{Found as FoundR};
 ghost use Rattle.plm_decl.specs.ResolvedView as resolved;
-ghost use Rattle.plm_type.specs.Inner.Typer.{variables, with_stride, said, target_said, parts_said};
+ghost use Rattle.plm_type.specs.Rest as rest;
+ghost use Rattle.plm_type.specs.Shapes.{anchor_for};
+ghost use Rattle.plm_type.specs.Inner.Plain.{alone_type, stored_type};
+ghost use Rattle.plm_type.specs.Inner.Typer.{variables, with_stride, said, target_said, parts_said, after, target_after, parts_by};
 ghost use Rattle.plm_type.specs.Types as scalars;
 ghost use Rattle.plm_type.specs.Typing as typing;
 ghost use Rattle.plm_type.specs.Faults as found;
@@ -11,11 +15,11 @@ ghost use Rattle.plm_type.specs.Trees as spec;
 ghost use Rattle.plm_type.specs.Expressions as typed;
 ghost use Rattle.plm_type.specs.View as view;
 
-use crate::builtins::{constant, measured};
+use crate::builtins::{constant, is_plain, measured};
 use crate::program::{Anchor, Expression, Reference, Subscript, Target};
 use crate::shapes::{
-    anchor, designated, element_count, element_size, is_on_screen, member_offset, member_stride,
-    read_of, shape_fits, store_to,
+    anchor, designated, element_count, element_size, form_type, is_on_screen, member_offset,
+    member_stride, read_of, shape_fits, store_to,
 };
 use crate::typer::{Typed, TypedList, Typer};
 use crate::types::{are_known_numbers, may_be_numbers, number_type};
@@ -221,7 +225,93 @@ fn use_stored(variable: Option<Variable>, selector: &Selector, reference: Refere
     }
 }
 
+/// The type of a scalar without a dimension, where neither a subscript nor a member follows its name. Most names are used so.
+fn alone_type(variable: &Variable, reference: &plm_decl::Reference) -> Option<ScalarType>
+    ensures { result ≡ alone_type variable.now reference.now }
+{
+    let is_alone = variable.dimension.is_none()
+        && reference.subscripts.is_empty()
+        && is_plain(&reference.selector);
+    if is_alone {
+        form_type(variable.form)
+    } else {
+        None
+    }
+}
+
+/// The same where the variable may be assigned.
+fn stored_type(variable: &Variable, reference: &plm_decl::Reference) -> Option<ScalarType>
+    ensures { result ≡ stored_type variable.now reference.now }
+{
+    if variable.is_data {
+        None
+    } else {
+        alone_type(variable, reference)
+    }
+}
+
 impl Typer<'_> {
+    /// A reference to a whole variable, without subscripts.
+    #[inline(always)]
+    fn refer_alone(&self, place: Position, variable: &Variable) -> Reference
+        ensures { view.reference_of result ≡ rest.Refer self.now.module place.line (anchor_for (variables self.now) variable.now) 0 rest.NoSubscripts }
+    {
+        Reference {
+            line: self.line(place),
+            anchor: anchor(&self.names.variables, variable),
+            offset: 0,
+            subscripts: Vec::new(self.alloc),
+        }
+    }
+
+    /// A scalar that is named alone, as a value. It has no fault.
+    #[inline]
+    pub fn read_alone(
+        &self,
+        reference: &plm_decl::Reference,
+        variable: Option<Variable>,
+    ) -> Option<Typed>
+        ensures { IfSome result (λ r. (noted : List FoundR) → said r noted ≡ after noted (typed.read (variables self.now) self.now.module reference.now.place variable (resolved.selector_of reference.now.selector) (parts_by self.now (resolved.reference_of reference.now)))) }
+    {
+        match variable {
+            None => None,
+            Some(variable) => match alone_type(&variable, reference) {
+                None => None,
+                Some(scalar) => {
+                    let place = self.refer_alone(reference.place, &variable);
+                    Some(Typed {
+                        tree: read_of(scalar, place),
+                        scalar: Some(scalar),
+                    })
+                }
+            },
+        }
+    }
+
+    /// The same as a target, where it may be assigned.
+    #[inline]
+    pub fn store_alone(
+        &self,
+        reference: &plm_decl::Reference,
+        variable: Option<Variable>,
+    ) -> Option<TypedTarget>
+        ensures { IfSome result (λ r. (noted : List FoundR) → target_said r noted ≡ target_after noted (typed.stored (variables self.now) self.now.module reference.now.place variable (resolved.selector_of reference.now.selector) (parts_by self.now (resolved.reference_of reference.now)))) }
+    {
+        match variable {
+            None => None,
+            Some(variable) => match stored_type(&variable, reference) {
+                None => None,
+                Some(scalar) => {
+                    let place = self.refer_alone(reference.place, &variable);
+                    Some(TypedTarget {
+                        tree: store_to(scalar, place),
+                        scalar: Some(scalar),
+                    })
+                }
+            },
+        }
+    }
+
     /// A reference, with its subscripts.
     fn refer(
         &self,

@@ -1,6 +1,7 @@
 //! Statements: the faults of their types, and what they do with names as places.
 
 ghost use Rattle.std.specs.Prelude.{◌≡◌, ◌∷◌, [], ◌++◌, IfOk, OnOk, map};
+ghost use Rattle.plm_decl.specs.Resolved.{references, no_references};
 ghost use Rattle.plm_decl.specs.ResolvedView as resolved;
 ghost use Rattle.plm_type.specs.Inner.Typer.{one, variables, noted, noted_after, targets_said, targets_after, number_by, targets_by, call_by, index_by, step_by, assignment_by, return_by, range_of, range_by, condition_of, condition_by, statement_by, statements_by};
 ghost use Rattle.plm_type.specs.Rest as rest;
@@ -216,8 +217,40 @@ impl Typer<'_> {
         Ok(all)
     }
 
+    /// An assignment to one target, as most are.
     #[inline(never)]
+    fn assign_one(
+        &self,
+        reference: &plm_decl::Reference,
+        e: &plm_decl::Expression,
+        faults: &mut Vec<Found>,
+    ) -> Result<Statement, AllocError>
+        ensures { IfOk result (λ r. noted (view.statement_of r) faults.new.items ≡ noted_after faults.old.items (assignment_by self.now (references (resolved.reference_of reference.now) no_references) (resolved.expression_of e.now))) }
+    {
+        let target = self.target(reference, faults)?;
+        let value = self.expression(e, faults)?;
+        let is_taken = all_take(&[target.scalar], value.scalar);
+        self.note_unless(is_taken, Number::E401, reference.place, faults)?;
+        Ok(Statement::Assign(target.tree, Vec::new(self.alloc), value.tree))
+    }
+
     fn assign(
+        &self,
+        references: &[plm_decl::Reference],
+        e: &plm_decl::Expression,
+        faults: &mut Vec<Found>,
+    ) -> Result<Statement, AllocError>
+        ensures { IfOk result (λ r. noted (view.statement_of r) faults.new.items ≡ noted_after faults.old.items (assignment_by self.now (resolved.references_of references.now) (resolved.expression_of e.now))) }
+    {
+        match references {
+            [reference] => self.assign_one(reference, e, faults),
+            [] | [_, _, ..] => self.assign_all(references, e, faults),
+        }
+    }
+
+    /// An assignment to any number of targets.
+    #[inline(never)]
+    fn assign_all(
         &self,
         references: &[plm_decl::Reference],
         e: &plm_decl::Expression,

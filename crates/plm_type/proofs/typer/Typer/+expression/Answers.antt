@@ -160,17 +160,35 @@ parts-returns t c =
 abbrev meaning : Reference → Binding → ReferenceR'
 meaning r m = Use r.place m (resolved.expressions_of r.subscripts.items) (resolved.selector_of r.selector)
 
-pub value-returns-in_ok-parts-in-Variable : goal.value-returns-in_ok-parts-in-Variable
-value-returns-in_ok-parts-in-Variable t c =
+pub value-returns-in-Some : goal.value-returns-in-Some
+value-returns-in-Some t c =
+    let r = c.args.reference.now in
+    let s = resolved.selector_of r.selector in
+    let self = c.args.self.now in
+    let old = c.args.faults.now.items in
+    c.in-Some.ensures old
+    ∙ (λ j. after old (spec.read (variables self) self.module r.place (c.variable-variable.ensures j) s (parts_by self (resolved.reference_of r))))
+    ∙ ap (λ (m : Binding). after old (value_by self (meaning r m))) (sym c.in-Variable.is)
+
+pub value-returns-in-None : goal.value-returns-in-None
+value-returns-in-None t c =
+    let r = c.args.reference.now in
+    let s = resolved.selector_of r.selector in
+    let self = c.args.self.now in
+    let old = c.args.faults.now.items in
+    let path = (λ j. after old (spec.read (variables self) self.module r.place (c.variable-variable.ensures j) s (parts_by self (resolved.reference_of r))))
+    ∙ ap (λ (m : Binding). after old (value_by self (meaning r m))) (sym c.in-Variable.is) in
+    typed_moved c.read_by_parts.result c.read_by_parts.new.faults.items path c.read_by_parts.ensures
+
+pub read_by_parts-returns : goal.read_by_parts-returns
+read_by_parts-returns t c =
     let r = c.args.reference.now in
     let s = resolved.selector_of r.selector in
     let self = c.args.self.now in
     let old = c.args.faults.now.items in
     let parts = parts_by self (resolved.reference_of r) in
-    let read = spec.read (variables self) self.module r.place in
-    let path = (λ j. read (c.variable.ensures j) s (c.in_ok-parts-in-Variable.ensures j))
-    ∙ own_after (read (c.variable.ensures 1) s parts) old parts.faults _
-    ∙ ap (λ (m : Binding). after old (value_by self (meaning r m))) (sym c.in-Variable.is) in
+    let read = spec.read (variables self) self.module r.place c.args.variable s in
+    let path = ap read c.in_ok-parts.ensures ∙ own_after (read parts) old parts.faults _ in
     typed_moved c.read.result c.read.new.faults.items path c.read.ensures
 
 pub value-returns-in_ok-arguments-in-Procedure : goal.value-returns-in_ok-arguments-in-Procedure
@@ -350,17 +368,35 @@ location-returns-in-Constants t c =
 
 -- ---- a reference as a target
 
-pub target-returns-in_ok-parts-in-Variable : goal.target-returns-in_ok-parts-in-Variable
-target-returns-in_ok-parts-in-Variable t c =
+pub target-returns-in-Some : goal.target-returns-in-Some
+target-returns-in-Some t c =
+    let r = c.args.reference.now in
+    let s = resolved.selector_of r.selector in
+    let self = c.args.self.now in
+    let old = c.args.faults.now.items in
+    c.in-Some.ensures old
+    ∙ (λ j. target_after old (spec.stored (variables self) self.module r.place (c.variable-variable.ensures j) s (parts_by self (resolved.reference_of r))))
+    ∙ ap (λ (m : Binding). target_after old (target_by self (meaning r m))) (sym c.in-Variable.is)
+
+pub target-returns-in-None : goal.target-returns-in-None
+target-returns-in-None t c =
+    let r = c.args.reference.now in
+    let s = resolved.selector_of r.selector in
+    let self = c.args.self.now in
+    let old = c.args.faults.now.items in
+    let path = (λ j. target_after old (spec.stored (variables self) self.module r.place (c.variable-variable.ensures j) s (parts_by self (resolved.reference_of r))))
+    ∙ ap (λ (m : Binding). target_after old (target_by self (meaning r m))) (sym c.in-Variable.is) in
+    target_moved c.store_by_parts.result c.store_by_parts.new.faults.items path c.store_by_parts.ensures
+
+pub store_by_parts-returns : goal.store_by_parts-returns
+store_by_parts-returns t c =
     let r = c.args.reference.now in
     let s = resolved.selector_of r.selector in
     let self = c.args.self.now in
     let old = c.args.faults.now.items in
     let parts = parts_by self (resolved.reference_of r) in
-    let stored = spec.stored (variables self) self.module r.place in
-    let path = (λ j. stored (c.variable.ensures j) s (c.in_ok-parts-in-Variable.ensures j))
-    ∙ target_own_after (stored (c.variable.ensures 1) s parts) old parts.faults _
-    ∙ ap (λ (m : Binding). target_after old (target_by self (meaning r m))) (sym c.in-Variable.is) in
+    let stored = spec.stored (variables self) self.module r.place c.args.variable s in
+    let path = ap stored c.in_ok-parts.ensures ∙ target_own_after (stored parts) old parts.faults _ in
     target_moved c.stored.result c.stored.new.faults.items path c.stored.ensures
 
 pub target-returns-in_ok-arguments-in-Builtin : goal.target-returns-in_ok-arguments-in-Builtin
