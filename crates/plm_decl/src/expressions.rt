@@ -1,6 +1,7 @@
 //! The names of expressions.
 
 ghost use Rattle.std.specs.Prelude.{◌≡◌, IfOk, OnOk, option_map};
+ghost use Rattle.plm_syntax.specs.Tree.{ReferenceE, LocationE};
 ghost use Rattle.plm_syntax.specs.View.{name_of};
 ghost use Rattle.plm_syntax.specs.View as tree;
 ghost use Rattle.plm_decl.specs.Inner.Scope.{frames_of};
@@ -63,12 +64,10 @@ impl Resolver {
                 text.place,
                 string_value(self.alloc, text.text)?,
             )),
-            plm_syntax::Expression::Reference(reference) => Ok(Expression::Reference(self.reference(
-                reference, scope,
-            )?)),
-            plm_syntax::Expression::Location(location) => Ok(Expression::Location(self.location(
-                location, scope,
-            )?)),
+            plm_syntax::Expression::Reference(reference) => {
+                self.reference_expression(reference, scope)
+            }
+            plm_syntax::Expression::Location(location) => self.location_expression(location, scope),
             plm_syntax::Expression::Parenthesised(place, inner) => {
                 Ok(Expression::Parenthesised(*place, self.boxed_expression(inner, scope)?))
             }
@@ -85,6 +84,31 @@ impl Resolver {
                 Ok(Expression::Chain { first, others })
             }
         }
+    }
+
+    // The arms of `expression` for names and locations. They stand apart, where their answers are zeroed for them alone.
+    #[cycle(expression)]
+    #[inline(never)]
+    fn reference_expression(
+        &mut self,
+        reference: &plm_syntax::Reference<'_>,
+        scope: &Scope<'_>,
+    ) -> Result<Expression, AllocError>
+        ensures { IfOk result (λ r. (view.expression_of r, known_of self.new) ≡ spec.expression (frames_of scope.now) (ReferenceE (tree.reference_of reference.now)) (known_of self.old)) }
+    {
+        Ok(Expression::Reference(self.reference(reference, scope)?))
+    }
+
+    #[cycle(expression)]
+    #[inline(never)]
+    fn location_expression(
+        &mut self,
+        location: &plm_syntax::Location<'_>,
+        scope: &Scope<'_>,
+    ) -> Result<Expression, AllocError>
+        ensures { IfOk result (λ r. (view.expression_of r, known_of self.new) ≡ spec.expression (frames_of scope.now) (LocationE (tree.location_of location.now)) (known_of self.old)) }
+    {
+        Ok(Expression::Location(self.location(location, scope)?))
     }
 
     #[cycle(expression)]
@@ -110,7 +134,7 @@ impl Resolver {
     ) -> Result<Vec<Operation>, AllocError>
         ensures { IfOk result (λ r. (left : ExpressionR) → (view.leaned left r.items, known_of self.new) ≡ chained (frames_of scope.now) left operations.now (known_of self.old)) }
     {
-        let mut resolved = Vec::new(self.alloc);
+        let mut resolved = Vec::with_capacity(self.alloc, operations.len())?;
         for operation in operations {
             let operand = self.expression(&operation.operand, scope)?;
             resolved.push(Operation {

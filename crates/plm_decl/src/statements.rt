@@ -104,6 +104,7 @@ impl Resolver {
     }
 
     /// What stands before the body of an iterative DO block.
+    #[inline(never)]
     fn bounds(
         &mut self,
         index: &Name<'_>,
@@ -142,6 +143,7 @@ impl Resolver {
     }
 
     /// A CALL.
+    #[inline(never)]
     fn call(
         &mut self,
         procedure: &plm_syntax::Reference<'_>,
@@ -154,6 +156,7 @@ impl Resolver {
     }
 
     /// A RETURN with a value.
+    #[inline(never)]
     fn return_value(
         &mut self,
         value: &plm_syntax::Expression<'_>,
@@ -179,6 +182,7 @@ impl Resolver {
 
     /// What stands after IF, where there is no ELSE.
     #[cycle(statement)]
+    #[inline(never)]
     fn conditional(
         &mut self,
         body: &plm_syntax::Statement<'_>,
@@ -194,6 +198,7 @@ impl Resolver {
 
     /// What stands after ELSE, where this test and this statement stand before it.
     #[cycle(statement)]
+    #[inline(never)]
     fn alternative(
         &mut self,
         other: &plm_syntax::Statement<'_>,
@@ -228,6 +233,7 @@ impl Resolver {
     /// A DO WHILE block.
     #[cycle(statement)]
     #[tactic(auto, using(crate::proofs::ResolvedRows::statement_row))]
+    #[inline(never)]
     fn repetition(
         &mut self,
         body: &[plm_syntax::Statement<'_>],
@@ -244,6 +250,7 @@ impl Resolver {
     /// A DO CASE block.
     #[cycle(statement)]
     #[tactic(auto, using(crate::proofs::ResolvedRows::statement_row))]
+    #[inline(never)]
     fn selection(
         &mut self,
         cases: &[plm_syntax::Statement<'_>],
@@ -259,6 +266,7 @@ impl Resolver {
 
     /// An iterative DO block.
     #[cycle(statement)]
+    #[inline(never)]
     fn iteration(
         &mut self,
         body: &[plm_syntax::Statement<'_>],
@@ -279,7 +287,8 @@ impl Resolver {
         Ok(Statement::Iterate(place, index, binding, from, to, step, body))
     }
 
-    // The tree stands before the resolver, where a check finds its parts at once.
+    // The tree stands before the resolver, where a check finds its parts at once. Each arm that makes a tree is a function that is not put in
+    // here: else the answers of all arms are zeroed, whichever arm it is.
     #[cycle(statement)]
     fn basic(
         basic: &Basic<'_>,

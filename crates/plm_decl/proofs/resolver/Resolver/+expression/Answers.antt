@@ -1,4 +1,4 @@
-use Rattle.std.proofs.Common.{◌+◌, List, ◌∷◌, map, drop, drop-cons, add-one, sym, ap, ◌∙◌}
+use Rattle.std.proofs.Common.{◌≡◌, ◌+◌, List, ◌∷◌, map, drop, drop-cons, add-one, IfOk, sym, ap, subst, ◌∙◌}
 use Rattle.std.proofs.lemmas.List.{at_drop_all}
 use Rattle.plm_syntax.specs.declared.tree.Operation.{Operation}
 use Rattle.plm_decl.proofs.ListViews.{value_list_from}
@@ -19,13 +19,16 @@ use Rattle.plm_decl.proofs.SyntaxLists.{expression_next}
 use Rattle.plm_decl.proofs.TreeViews.{reference_laid, reference_placed}
 use Rattle.plm_decl.proofs.resolver.Resolver.+expression.Goals as goal
 
-pub expression-returns-in_ok-reference-in-Reference : goal.expression-returns-in_ok-reference-in-Reference
-expression-returns-in_ok-reference-in-Reference t c =
-    let did = c.in_ok-reference-in-Reference in
+pub expression-returns-in-Reference : goal.expression-returns-in-Reference
+expression-returns-in-Reference t c =
+    let is = sym (ap tree.expression_of c.in-Reference.is ∙ ap ReferenceE (reference_laid c.in-Reference.reference)) in
+    subst (λ (e : ExpressionT). IfOk c.reference_expression.result (λ r. (view.expression_of r, known_of c.reference_expression.new.self) ≡ expression (frames_of c.args.scope.now) e (known_of c.args.self.now))) is c.reference_expression.ensures
+
+pub reference_expression-returns : goal.reference_expression-returns
+reference_expression-returns t c =
+    let did = c.in_ok-reference in
     (λ j. (ReferenceR (reference_placed did.field-0 j), known_of c.reference.new.self))
     ∙ (λ j. (ReferenceR (did.ensures j).0, (did.ensures j).1))
-    ∙ ap (λ (e : ExpressionT). expression (frames_of c.args.scope.now) e (known_of c.args.self.now))
-    (sym (ap tree.expression_of c.in-Reference.is ∙ ap ReferenceE (reference_laid c.in-Reference.reference)))
 
 pub location-returns-in_ok-reference-in-Reference : goal.location-returns-in_ok-reference-in-Reference
 location-returns-in_ok-reference-in-Reference t c =
