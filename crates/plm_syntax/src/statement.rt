@@ -208,6 +208,12 @@ fn linkage<'t, 'a>(cursor: Cursor<'t, 'a>) -> (Linkage, Cursor<'t, 'a>)
     (Linkage::None, cursor)
 }
 
+/// For how many statements room is taken at once, where this many tokens are left: a module has many, which are not to be moved again and
+/// again, and a statement has some eight tokens at least. What is not used of it is never touched.
+fn likely(room: u8, tokens: usize) -> usize {
+    if room == INNER_LEVELS { tokens / 8 } else { 0 }
+}
+
 /// Statements up to their END, and the name after it.
 #[cycle(statement)]
 fn statements<'t, 'a>(
@@ -219,7 +225,7 @@ fn statements<'t, 'a>(
     ensures leads { Leads read_body (λ s. Want (StatementsG (base_of label.entry)) ∷ s) (λ v. StatementsR no_statements ∷ v) result cursor.entry room }
     ensures within { Within result cursor.entry }
 {
-    let mut list = Vec::new(alloc);
+    let mut list = Vec::with_capacity(alloc, likely(room, cursor.tokens.len()))?;
     let mut rest = cursor;
     loop {
         if let Some((_, after)) = rest.keyword(Keyword::End) {

@@ -15,7 +15,7 @@ use Rattle.plm_syntax.specs.Faults.{terminal_of}
 use Rattle.plm_syntax.specs.Inner.Blocks.{items_part, statements_part, read_statement, read_basic, read_block, read_body, read_governed, read_procedure, read_header, read_range, read_arm, iteration_goals, procedure_goals, no_parameters_read}
 use Rattle.plm_syntax.specs.Inner.Parts.{read_expression, reference_read, read_elements}
 use Rattle.plm_syntax.proofs.Rows.{name_pushed, statement_pushed, item_pushed, statement_row}
-use Rattle.plm_syntax.proofs.Along.{quiet, taken, refused, entered, too_deep, deeper, failed, refusal, depth_failure, arrives_behind, arrives_left, fails_behind, ahead_length}
+use Rattle.plm_syntax.proofs.Along.{out_of_memory, quiet, taken, refused, entered, too_deep, deeper, failed, refusal, depth_failure, arrives_behind, arrives_left, fails_behind, ahead_length}
 use Rattle.plm_syntax.proofs.Joined.{arrived, ended, lost, stays_less, boxes, besides}
 use Rattle.plm_syntax.proofs.NextBlock.{no_colon, do_refused, no_else, target_goes, statements_go, arm_goes, arm_too_deep, arm_refused, statements_begin, block_parts, failed_item, deep_at_length, item_there, no_item, item_within}
 use Rattle.plm_syntax.proofs.Built.{block_there, procedure_there}
@@ -159,8 +159,11 @@ iteration-returns-clause-leads t c = λ ls s v d. c.in_ok-header.ensures.leads (
     ∙ quiet c.in_ok-bounds.rest (Do (make_iterate c.args.place) ∷ s) s (read_body (c.in_ok-bounds.body, c.in_ok-bounds.end) (read_range (name_of c.args.index) c.in_ok-bounds.bounds (NamesR ls ∷ v))) (StatementR (Labelled ls (IterateS c.args.place (name_of c.args.index) (expression_of c.in_ok-bounds.bounds.first) (expression_of c.in_ok-bounds.bounds.last) (step_of c.in_ok-bounds.bounds.step) (statements_of c.in_ok-bounds.body.items) (base_of c.in_ok-bounds.end))) ∷ v) (λ t q. refl)
     ∙ ap (λ (x : StatementsT). run 64 s (StatementR (Labelled ls (IterateS c.args.place (name_of c.args.index) (expression_of c.in_ok-bounds.bounds.first) (expression_of c.in_ok-bounds.bounds.last) (step_of c.in_ok-bounds.bounds.step) x (base_of c.in_ok-bounds.end))) ∷ v) (ahead c.in_ok-bounds.rest)) (sym (statement_row c.in_ok-bounds.body))
 
+pub statements-returns-in_err-list-clause-leads : goal.statements-returns-in_err-list-clause-leads
+statements-returns-in_err-list-clause-leads t c = λ s v d. out_of_memory read_body s v c.from_residual.result (run 64 (Want (StatementsG (base_of c.args.label)) ∷ s) (StatementsR no_statements ∷ v) (ahead c.args.cursor)) c.from_residual.ensures.1
+
 pub statements-returns-in_err-end-clause-leads : goal.statements-returns-in_err-end-clause-leads
-statements-returns-in_err-end-clause-leads t c = λ s v d. failed read_body s v c.from_residual.result c.in_err-end.field-0.0 c.from_residual.ensures.1
+statements-returns-in_err-end-clause-leads t c = λ s v d. failed read_body s v c.from_residual-in_err-end.result c.in_err-end.field-0.0 c.from_residual-in_err-end.ensures.1
     (c.loop-after.invariant.leads s v d
     ∙ taken (Want (StatementsG (base_of c.args.label)) ∷ s) (StatementsR (statements_of c.loop-after.list.items) ∷ v) c.in-Some.ensures)
     (c.in_err-end.ensures.leads s (StatementsR (statements_of c.loop-after.list.items) ∷ v))
@@ -177,7 +180,7 @@ statements-returns-in_err-rest-clause-leads t c = λ s v d. failed read_body s v
     (lost read_statement (and_more (base_of c.args.label) ++ s) (StatementsR (statements_of c.loop-after.list.items) ∷ v) c.statement.result c.in_err-rest.field-0.0 (run 64 (Want (StatementG None) ∷ and_more (base_of c.args.label) ++ s) (NamesR no_names ∷ StatementsR (statements_of c.loop-after.list.items) ∷ v) (ahead c.loop-after.rest)) c.in_err-rest.ensures (c.statement.ensures.leads (and_more (base_of c.args.label) ++ s) (StatementsR (statements_of c.loop-after.list.items) ∷ v) d))
 
 pub statements-loop-after-init : goal.statements-loop-after-init
-statements-loop-after-init t c = record { leads = λ s v d. ap (λ (xs : List Statement). run 64 (Want (StatementsG (base_of c.args.label)) ∷ s) (StatementsR (statements_of xs) ∷ v) (ahead c.args.cursor)) (sym c.new-list.ensures.items); shorter = omega arith }
+statements-loop-after-init t c = record { leads = λ s v d. ap (λ (xs : List Statement). run 64 (Want (StatementsG (base_of c.args.label)) ∷ s) (StatementsR (statements_of xs) ∷ v) (ahead c.args.cursor)) (sym c.in_ok-list.ensures.items); shorter = omega arith }
 
 pub statements-loop-after-preserved : goal.statements-loop-after-preserved
 statements-loop-after-preserved t c = record {
