@@ -9,8 +9,6 @@ import re
 import tempfile
 import threading
 
-import kit
-
 TABLE = os.path.join(os.path.dirname(os.path.realpath(__file__)), "costs")
 TICKS = os.sysconf("SC_CLK_TCK")
 
@@ -61,9 +59,9 @@ def running():
     return found
 
 
-def spare():
-    """Returns how many processors have no process of the prover now, and at least one: what is tried last of all has the others to itself."""
-    return max(1, kit.processors() - sum(it.is_prover() for it in running().values()))
+def is_quiet():
+    """Returns whether no process of the prover runs now."""
+    return not any(it.is_prover() for it in running().values())
 
 
 class Watch(threading.Thread):
