@@ -346,6 +346,8 @@ impl Typer<'_> {
         self.stored(reference, variable, parts, faults)
     }
 
+    // (put into `expression`, it would take half a kilobyte of stack at each level)
+    #[inline(never)]
     #[cycle(expression)]
     pub fn value(
         &self,
