@@ -61,4 +61,5 @@ lists_are_theirs = record {
   block = λ p ss. ap (DoR p) (statement_row ss);
   while_true = λ p e ss. ap (WhileR p (expression_of e)) (statement_row ss);
   case_of = λ p e ss. ap (CaseR p (expression_of e)) (statement_row ss);
-  iterate = λ p q m a b s ss. ap (IterateR p q m (expression_of a) (expression_of b) (step_of s)) (statement_row ss) }
+  iterate = λ p q m a b s ss. ap (IterateR p q m (expression_of a) (expression_of b) (step_of s)) (statement_row ss);
+}

@@ -70,4 +70,5 @@ lists_are_theirs = record {
   if_else = if_tree;
   while_true = λ e body. ap (rest.While (expression_of e) (expression_of e)) (statement_row body);
   case_of = λ e cases. ap (rest.Case (expression_of e)) (statement_row cases);
-  iterate = iterate_tree }
+  iterate = iterate_tree;
+}
