@@ -1,8 +1,7 @@
 -- One text after another.
-use Rattle.std.proofs.Common.{◌≡◌, ◌≢◌, ◌<◌, ◌∙◌, ◌++◌, [], ℕ, zero, suc, List, Option, Result, Ok, Err, ap, sym, refl, subst, length, take, drop, take-append-drop, append-nil, append_assoc, arith}
-use Rattle.std.proofs.KnownBytes.{Appends-trans, Appends-nil, Appends-kept}
-use Rattle.std.proofs.Math.Seq.{take-length}
-use Rattle.word86.specs.Sink.{Appends, Keeps, Cut, Rises, Writes}
+use Rattle.std.proofs.Common.{◌≡◌, ◌∙◌, ◌++◌, [], ℕ, List, Option, Result, Ok, Err, ap, sym, refl, subst, take, drop, take-append-drop, append-nil, append_assoc}
+use Rattle.std.proofs.KnownBytes.{Appends-trans, Appends-nil}
+use Rattle.word86.specs.Sink.{Appends, Cut, Rises, Writes}
 
 -- a beginning of the first text is one of both
 pub cut_longer : (a b : Option (List ℕ)) (s t : List ℕ) → Cut a b s → Cut a b (s ++ t)
@@ -61,25 +60,6 @@ took_last a b c m n k whole left text r e t h =
     subst (λ (l : List ℕ). Writes a c m k l r) (sym (t.parts ∙ ap (λ (l : List ℕ). t.done ++ l) e)) (writes_after a b c m n k t.done text r (t.taken, t.same) h)
 
 -- ---- one call that mostly takes all
-
--- it failed
-pub cut_none : (a b : Option (List ℕ)) (t : List ℕ) → Keeps a b → Cut a b t
-cut_none a b t k = ([], t, refl, Appends-kept a a b [] (Appends-nil a) k)
-
--- it took nothing of something
-pub cut_nothing : (a b : Option (List ℕ)) (n : ℕ) (t : List ℕ) → n ≡ 0 → Appends a b (take n t) → Cut a b t
-cut_nothing a b n t e h = ([], t, refl, subst (λ k. Appends a b (take k t)) e h)
-
-pub not_all : (n : ℕ) (t : List ℕ) → n ≡ 0 → n ≢ length t → 0 < length t
-not_all n t e other = let d : length t ≢ 0 = λ z. other (e ∙ sym z) in omega (arith, d)
-
--- it took all
-pub took_whole : (a b : Option (List ℕ)) (n : ℕ) (t : List ℕ) → n ≡ length t → Appends a b (take n t) → Appends a b t
-took_whole a b n t e h = subst (Appends a b) (ap (λ k. take k t) e ∙ take-length t) h
-
-pub counts_none : (n l m k : ℕ) → n ≡ l → (0 < n → k ≡ m) → (l ≡ 0 → k ≡ m) → k ≡ m
-counts_none zero l m k e some none = none (sym e)
-counts_none (suc n) l m k e some none = some (omega arith)
 
 -- it took a part, and the rest was put
 pub writes_parted : {T E : Type 0} (a b c : Option (List ℕ)) (m l k n : ℕ) (t : List ℕ) (r : Result T E)

@@ -1,10 +1,10 @@
 -- The object that holds the bytes of an access is the owner of the first.
-use Rattle.std.proofs.Common.{◌≡◌, ◌≢◌, ℕ, zero, suc, ◌+◌, ◌-◌, ◌<◌, ◌≤◌, ◌&&◌, nat_le, Bool, true, false, cond, List, [], ◌∷◌, Some, None, refl, sym, ap, ◌∙◌, subst, length, slice_index, arith, inl, inr, ◌⊎◌, tests}
+use Rattle.std.proofs.Common.{◌≡◌, ◌≢◌, ℕ, zero, suc, ◌+◌, ◌-◌, ◌<◌, ◌≤◌, nat_le, Bool, true, false, cond, List, [], ◌∷◌, Some, None, refl, sym, ap, ◌∙◌, subst, length, slice_index, arith, inl, inr}
 use Rattle.std.proofs.lemmas.Bool.{leb-true, cases_lt, cases_eq, and_parts, cases_Bool}
 use Rattle.std.proofs.lemmas.List.{get_or_past}
-use Rattle.word86.specs.Access.{Where, In}
+use Rattle.word86.specs.Access.{In}
 use Rattle.word86.specs.Place.{covers, held}
-use Rattle.plm_decl.specs.Placement.{Has, HoldsByte, IsApart}
+use Rattle.plm_decl.specs.Placement.{Has, IsApart}
 use Rattle.plm_meaning.specs.Inner.Owners.{OwnTheirs, AreOwners}
 
 none_held : (i : ℕ) (os ss : List ℕ) (a n : ℕ) → ((j : ℕ) → j < length os → j < length ss → covers (slice_index os j) (slice_index ss j) a n ≡ false) → held i os ss a n ≡ None

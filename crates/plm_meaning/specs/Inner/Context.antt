@@ -1,5 +1,5 @@
 -- What comes first of a part, and where a context has settled.
-use Rattle.std.specs.Prelude.{◌≡◌, List, [], ◌∷◌}
+use Rattle.std.specs.Prelude.{◌≡◌, List, []}
 use Rattle.plm_type.specs.Rest.{Binary, Call, Value, Evaluate, End, Then}
 use Rattle.plm_type.specs.View.{expression_of, expressions_of, chained, statements_of}
 use Rattle.plm_meaning.specs.declared.context.Frame.{Frame}

@@ -1,4 +1,4 @@
-use Rattle.std.proofs.Common.{◌≡◌, Some, inl, inr, sym, ap, subst, ◌∙◌, refl}
+use Rattle.std.proofs.Common.{◌≡◌, inl, inr, ap, subst, ◌∙◌, refl}
 use Rattle.word86.specs.Access.{Write, Output}
 use Rattle.word86.specs.declared.access.Access.TheVariants as access
 use Rattle.word86.specs.declared.width.Width.TheVariants as width
