@@ -7,8 +7,10 @@ line then has the word incremental=trusted, which says that its verdict trusts w
 other, is let through beside those that `rt ci` lets through. A library is built whole, and not by its statements alone, so
 that `rt check` takes it. A program is compiled over what its check kept, which the compilers' runs of the prover look through again.
 
-And one thing of its plan: how much memory a check takes is what tools/costs has, and a fifth more. `rt ci` reckons it by lines, which
-is twice as much for the crates on top, so that these waited for one another.
+And its plan, which goes by tools/costs. How much memory a check takes is what was measured, and a fifth more: `rt ci` reckons it by
+lines, which is twice as much for the crates on top, so that these waited for one another. And the check with the longest chain of
+others behind it gets half of the processors at least, where `rt ci` shares them alike among all that may begin: plm_syntax, on
+which most others wait, got one.
 
 usage: tools/one_check.py      at the top of a repository; status and output are those of rt ci
 """
@@ -19,6 +21,7 @@ import re
 import shutil
 import sys
 import types
+from concurrent.futures import FIRST_COMPLETED, ThreadPoolExecutor, wait
 
 sys.dont_write_bytecode = True
 sys.path.insert(0, os.path.dirname(os.path.realpath(__file__)))
@@ -27,6 +30,8 @@ import costs
 # The end of the last line that rt ci lets through.
 ENDING = r" libraries-built=trusted statements=trusted\n\Z"
 KEPT = "out/incremental"
+# Processor seconds a line, for a task that was not measured; and what one job more takes of memory: jobs share what was read, and divide what is made.
+A_LINE, A_JOB = 0.1, 0.15
 # The parts of the kit's crates that are called or changed here, and what they take.
 FORMS = {
     "build_rlib": ("self", "flags", "anew"),
@@ -35,6 +40,8 @@ FORMS = {
     "prove": ("self",),
     "words": ("self", "flags", "tests", "keeps"),
 }
+# The kit's functions and names that are called or changed here.
+WORDS = ("KIT", "ci", "ending", "free", "need", "processors")
 
 
 def command():
@@ -58,7 +65,9 @@ def is_known(rt):
     crate = getattr(rt, "Crate", None)
     takes = {name: getattr(crate, name).__code__.co_varnames for name in FORMS if hasattr(getattr(crate, name, None), "__code__")}
     is_formed = all(takes.get(name, ())[: len(form)] == form for name, form in FORMS.items())
-    return is_formed and pattern.endswith(ENDING) and hasattr(crate, "cuts_libraries") and all(hasattr(rt, it) for it in ("ci", "need", "KIT"))
+    plans = getattr(getattr(rt, "in_lanes", None), "__code__", None)
+    has_lanes = plans is not None and plans.co_varnames[: plans.co_argcount] == ("tasks",)
+    return is_formed and pattern.endswith(ENDING) and hasattr(crate, "cuts_libraries") and has_lanes and all(hasattr(rt, it) for it in WORDS)
 
 
 def plan_as_measured(rt):
@@ -68,6 +77,42 @@ def plan_as_measured(rt):
         if task in ("proof", "tests"):
             most[crate] = max(held, most.get(crate, 0))
     rt.need = lambda crate: 1.2 * most[crate.name] if crate.name in most else reckoned(crate)
+    rt.in_lanes = lambda tasks: in_lanes(rt, tasks)
+
+
+def chains(tasks, seconds):
+    """Returns how long the longest chain is that begins with each task. (A task comes after those that it waits for.)"""
+    behind = dict(seconds)
+    for key in reversed([*tasks]):
+        for it in tasks[key][0]:
+            behind[it] = max(behind[it], seconds[it] + behind[key])
+    return behind
+
+
+def in_lanes(rt, tasks):
+    """Runs the tasks of rt ci side by side, as its own in_lanes does, and returns what each gave. A task is what it waits for, its lines, its memory, and a
+    call with what was given and how many jobs it may use. Longest chain first; what leads gets half of the processors, and all share the rest by their work."""
+    known = costs.known()
+    seconds = {key: known[key][0] if key in known else A_LINE * tasks[key][1] for key in tasks}
+    lanes, memory, behind = rt.processors(), 0.85 * rt.free(), chains(tasks, seconds)
+    left, running, given = sorted(tasks, key=lambda it: -behind[it]), {}, {}
+    with rt.ending(), ThreadPoolExecutor(lanes) as pool:
+        while left or running:
+            leader = max([*left, *(key for key, _, _ in running.values())], key=lambda it: behind[it])
+            ready = [it for it in left if all(below in given for below in tasks[it][0])]
+            for at, key in enumerate(ready):
+                _, _, needs, call = tasks[key]
+                idle = lanes - sum(jobs for _, _, jobs in running.values())
+                room = memory - sum(held for _, held, _ in running.values())
+                if idle > 0 and (not running or needs <= room):
+                    share = round(idle * seconds[key] / max(1, sum(seconds[it] for it in ready[at:])))
+                    wanted = max(share, lanes // 2) if key == leader else share
+                    jobs = max(1, min(4, idle, wanted, 1 + int((room / needs - 1) / A_JOB)))
+                    left.remove(key)
+                    running[pool.submit(call, given, jobs)] = key, needs * (1 + A_JOB * (jobs - 1)), jobs
+            for it in wait(running, return_when=FIRST_COMPLETED).done:
+                given[running.pop(it)[0]] = it.result()
+    return given
 
 
 def change(rt):
