@@ -10,7 +10,7 @@ use Rattle.plm_decl.specs.declared.resolved.Statement.{Statement, Row_of-Stateme
 use Rattle.plm_decl.specs.declared.resolved.Statement.TheBlock.{hidden-the_row-Statement-0}
 use Rattle.plm_decl.specs.Resolved.{ExpressionR, ExpressionsR, ReferenceR, EmbeddedR, BinaryR, Use, LocationOf, DoR, WhileR, CaseR, IterateR, expressions, references, statements, and_expression, and_reference, and_statement}
 use Rattle.plm_decl.specs.ResolvedLists.{ResolvedTreesHaveTheirLists}
-use Rattle.plm_decl.specs.ResolvedView.{expression_of, selector_of, location_of, step_of, leaned_in, leaned, expressions_in, expressions_of, reference_of, references_of, statement_of, statements_in, statements_of}
+use Rattle.plm_decl.specs.ResolvedView.{expression_of, selector_of, step_of, leaned_in, leaned, expressions_in, expressions_of, reference_of, references_of, statement_of, statements_in, statements_of}
 
 expression_rows : {m : _} (row : Row_of-Expression m) → expressions_in row ≡ expressions_of (items-the_row-Expression m row)
 expression_rows end_of-Expression = refl
@@ -61,5 +61,5 @@ lists_are_theirs = record {
   block = λ p ss. ap (DoR p) (statement_row ss);
   while_true = λ p e ss. ap (WhileR p (expression_of e)) (statement_row ss);
   case_of = λ p e ss. ap (CaseR p (expression_of e)) (statement_row ss);
-  iterate = λ p q m a b s ss. ap (IterateR p q m (expression_of a) (expression_of b) (step_of s)) (statement_row ss);
+  iterate = λ p q b ss. ap (IterateR p q b.value.binding (expression_of b.value.from) (expression_of b.value.to) (step_of b.value.step)) (statement_row ss);
 }

@@ -1,9 +1,9 @@
 -- Resolved trees with lists of others: what each stands for is said of what its list's trees stand for.
-use Rattle.std.specs.Prelude.{◌≡◌, Option}
+use Rattle.std.specs.Prelude.{◌≡◌}
 use Rattle.std.specs.Global.{Vec, Box}
 use Rattle.plm_syntax.specs.declared.tree.Position.{Position}
 use Rattle.plm_syntax.specs.declared.tree.LocationForm.{LocationForm}
-use Rattle.plm_decl.specs.declared.resolved.Binding.{Binding}
+use Rattle.plm_decl.specs.declared.resolved.Bounds.{Bounds}
 use Rattle.plm_decl.specs.declared.resolved.Expression.{Expression}
 use Rattle.plm_decl.specs.declared.resolved.Expression.TheVariants as expression
 use Rattle.plm_decl.specs.declared.resolved.Operation.{Operation}
@@ -22,4 +22,4 @@ pub record ResolvedTreesHaveTheirLists : Type 0 where
   pub block : (p : Position) (ss : Vec Statement) → statement_of (statement.Do p ss) ≡ DoR p (statements_of ss.items)
   pub while_true : (p : Position) (e : Expression) (ss : Vec Statement) → statement_of (statement.While p e ss) ≡ WhileR p (expression_of e) (statements_of ss.items)
   pub case_of : (p : Position) (e : Expression) (ss : Vec Statement) → statement_of (statement.Case p e ss) ≡ CaseR p (expression_of e) (statements_of ss.items)
-  pub iterate : (p q : Position) (m : Binding) (a b : Expression) (s : Option Expression) (ss : Vec Statement) → statement_of (statement.Iterate p q m a b s ss) ≡ IterateR p q m (expression_of a) (expression_of b) (step_of s) (statements_of ss.items)
+  pub iterate : (p q : Position) (b : Box Bounds) (ss : Vec Statement) → statement_of (statement.Iterate p q b ss) ≡ IterateR p q b.value.binding (expression_of b.value.from) (expression_of b.value.to) (step_of b.value.step) (statements_of ss.items)

@@ -75,7 +75,7 @@ abbrev mutual
   statement_of (statement.Do' p shape ss) = DoR p (statements_in ss)
   statement_of (statement.While' p e shape ss) = WhileR p (expression_of e) (statements_in ss)
   statement_of (statement.Case' p e shape ss) = CaseR p (expression_of e) (statements_in ss)
-  statement_of (statement.Iterate' p q m a b s shape ss) = IterateR p q m (expression_of a) (expression_of b) (step_of s) (statements_in ss)
+  statement_of (statement.Iterate' p q b shape ss) = IterateR p q b.value.binding (expression_of b.value.from) (expression_of b.value.to) (step_of b.value.step) (statements_in ss)
 
   pub statements_in : {m : _} → Row_of-Statement m → StatementsR
   statements_in end_of-Statement = no_statements

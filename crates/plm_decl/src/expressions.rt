@@ -173,7 +173,7 @@ impl Resolver {
     ) -> Result<Vec<Expression>, AllocError>
         ensures { IfOk result (λ r. (view.expressions_of r.items, known_of self.new) ≡ spec.subscripts (frames_of scope.now) (tree.expressions_of subscripts.now) (known_of self.old)) }
     {
-        let mut resolved = Vec::new(self.alloc);
+        let mut resolved = Vec::with_capacity(self.alloc, subscripts.len())?;
         for subscript in subscripts {
             resolved.push(self.expression(subscript, scope)?)?;
         }

@@ -42,5 +42,7 @@ pub use names::{
     Datum, DeclaredLocation, Item, Main, Names, Object, Procedure, Region, ScreenName, Variable,
 };
 pub use placement::Placement;
-pub use resolved::{Binding, Expression, Location, Operation, Reference, Selector, Statement};
+pub use resolved::{
+    Binding, Bounds, Expression, Location, Operation, Reference, Selector, Statement,
+};
 pub use structure::Structure;

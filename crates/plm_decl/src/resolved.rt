@@ -93,14 +93,16 @@ pub enum Statement {
     Do(Position, Vec<Statement>),
     While(Position, Expression, Vec<Statement>),
     Case(Position, Expression, Vec<Statement>),
-    /// `DO i = a TO b [BY s]`, with the place of the index.
-    Iterate(
-        Position,
-        Position,
-        Binding,
-        Expression,
-        Expression,
-        Option<Expression>,
-        Vec<Statement>,
-    ),
+    /// `DO i = a TO b [BY s]`, with the place of the index. What stands before the statements is in a box: three expressions in it
+    /// would make each statement as large.
+    Iterate(Position, Position, Box<Bounds>, Vec<Statement>),
+}
+
+/// What stands before the statements of an iterative DO: what its index means, its first and last value, and the step.
+#[derive(Drop)]
+pub struct Bounds {
+    pub binding: Binding,
+    pub from: Expression,
+    pub to: Expression,
+    pub step: Option<Expression>,
 }

@@ -13,7 +13,7 @@ ghost use Rattle.plm_decl.specs.Statements as spec;
 ghost use Rattle.plm_decl.specs.Inner.Statements.{bounds_of, bounds_for, iterated, with_alternative};
 
 use crate::procedures::takes_no_room;
-use crate::resolved::{Binding, Expression, Reference, Statement};
+use crate::resolved::{Bounds, Expression, Reference, Statement};
 use crate::resolver::{Resolver, next};
 use crate::scope::Scope;
 use crate::spelling::{block_path, name_path};
@@ -22,15 +22,6 @@ use plm_syntax::{
 };
 use plm_token::normal;
 use std::alloc::AllocError;
-
-/// What stands before the body of an iterative DO block: what its index means, and its bounds.
-#[derive(Drop)]
-struct Bounds {
-    binding: Binding,
-    from: Expression,
-    to: Expression,
-    step: Option<Expression>,
-}
 
 impl Resolver {
     /// The path of a `DO;` block: that of its last label, or the number of an unnamed one.
@@ -108,23 +99,22 @@ impl Resolver {
     fn bounds(
         &mut self,
         index: &Name<'_>,
-        from: &plm_syntax::Expression<'_>,
-        to: &plm_syntax::Expression<'_>,
-        step: &Option<plm_syntax::Expression<'_>>,
+        values: &plm_syntax::Bounds<'_>,
         scope: &Scope<'_>,
-    ) -> Result<Bounds, AllocError>
-        ensures { IfOk result (λ r. (bounds_of r, known_of self.new) ≡ bounds_for (frames_of scope.now) (name_of index.now) (tree.expression_of from.now) (tree.expression_of to.now) (tree.step_of step.now) (known_of self.old)) }
+    ) -> Result<Box<Bounds>, AllocError>
+        ensures { IfOk result (λ r. (bounds_of r.value, known_of self.new) ≡ bounds_for (frames_of scope.now) (name_of index.now) (tree.expression_of values.now.first) (tree.expression_of values.now.last) (tree.step_of values.now.step) (known_of self.old)) }
     {
         let binding = self.used(scope, index)?;
-        let from = self.expression(from, scope)?;
-        let to = self.expression(to, scope)?;
-        let step = self.step(scope, step)?;
-        Ok(Bounds {
+        let from = self.expression(&values.first, scope)?;
+        let to = self.expression(&values.last, scope)?;
+        let step = self.step(scope, &values.step)?;
+        let bounds = Bounds {
             binding,
             from,
             to,
             step,
-        })
+        };
+        Ok(Box::new(self.alloc, bounds)?)
     }
 
     /// An assignment.
@@ -270,21 +260,15 @@ impl Resolver {
     fn iteration(
         &mut self,
         body: &[plm_syntax::Statement<'_>],
-        bounds: Bounds,
+        bounds: Box<Bounds>,
         place: Position,
         index: Position,
         scope: &Scope<'_>,
     ) -> Result<Statement, AllocError>
-        ensures { IfOk result (λ r. (view.statement_of r, known_of self.new) ≡ iterated place index (bounds_of bounds) (spec.statements (frames_of scope.now) (statements_of body.now) (known_of self.old))) }
+        ensures { IfOk result (λ r. (view.statement_of r, known_of self.new) ≡ iterated place index (bounds_of bounds.value) (spec.statements (frames_of scope.now) (statements_of body.now) (known_of self.old))) }
     {
         let body = self.statements(body, scope)?;
-        let Bounds {
-            binding,
-            from,
-            to,
-            step,
-        } = bounds;
-        Ok(Statement::Iterate(place, index, binding, from, to, step, body))
+        Ok(Statement::Iterate(place, index, bounds, body))
     }
 
     // The tree stands before the resolver, where a check finds its parts at once. Each arm that makes a tree is a function that is not put in
@@ -318,8 +302,8 @@ impl Resolver {
             Basic::Case(place, selector, cases, _) => resolver.selection(
                 cases, selector, *place, scope,
             ),
-            Basic::Iterate(place, index, from, to, by, body, _) => {
-                let bounds = resolver.bounds(index, from, to, by, scope)?;
+            Basic::Iterate(place, index, values, body, _) => {
+                let bounds = resolver.bounds(index, values, scope)?;
                 resolver.iteration(body, bounds, *place, index.place, scope)
             }
         }

@@ -138,7 +138,7 @@ fn place_of(statement: &Statement<'_>) -> Option<Position>
         | Basic::Do(place, _, _)
         | Basic::While(place, _, _, _)
         | Basic::Case(place, _, _, _)
-        | Basic::Iterate(place, _, _, _, _, _, _) => Some(*place),
+        | Basic::Iterate(place, _, _, _, _) => Some(*place),
     }
 }
 

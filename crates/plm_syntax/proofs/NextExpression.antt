@@ -1,22 +1,26 @@
 -- What a run does next where the parser has tested the next token, in expressions.
-use Rattle.std.proofs.Common.{◌≡◌, List, [], ◌∷◌, ◌++◌, Bool, true, false, cond, Option, Some, None, is_some, refl, ap, ◌∙◌}
+use Rattle.std.proofs.Common.{◌≡◌, ℕ, ◌-◌, nat_eq, nat_lt, List, [], ◌∷◌, ◌++◌, Bool, true, false, cond, Option, Some, None, is_some, refl, sym, ap, ◌∙◌}
+use Rattle.std.specs.Prelude.{option_map}
+use Rattle.std.proofs.lemmas.Bool.{true≢false, ne_eqb}
 use Rattle.plm_token.specs.declared.token.Keyword.TheVariants as key
 use Rattle.plm_token.specs.declared.token.Mark.TheVariants as mark
 use Rattle.plm_syntax.specs.declared.tree.Position.{Position}
 use Rattle.plm_syntax.specs.declared.tree.UnaryOperator.TheVariants as unary
 use Rattle.plm_syntax.specs.declared.tree.BinaryOperator.{BinaryOperator}
+use Rattle.plm_syntax.specs.declared.tree.BinaryOperator.TheVariants as binary
 use Rattle.plm_syntax.specs.Terminal.{Terminal, Name, Numeral, Text, Key, Sign, Finish, Leaf, leaf_at, is_key}
 use Rattle.plm_syntax.specs.Inner.Terminal.{is_sign}
 use Rattle.plm_syntax.specs.Tree.{LocationForm, Pointer, Offset}
 use Rattle.plm_syntax.specs.Spelling.{form_sign}
 use Rattle.plm_syntax.specs.Inner.Symbol.{Value, Precedence, Symbol, depth, behind, Products, Sums, Relations, Conjunctions, Disjunctions, PrimaryG, SignedG, NegationG, MoreG, InsideG, AfterReferenceG, MoreSubscriptsG, LocatedG, ValueG, NegativeG, MoreValuesG, Want, Do, Leave, Refused, Over, Take, Keep}
-use Rattle.plm_syntax.specs.Inner.Machine.{again, an_expression, operator_of, operation, more, make_unary, add_expression, primary, expression_at, closing, inside, more_subscripts, member_rule, locate_values, location_value, add_value, a_value_list, located, value_rule, negative, more_values, run}
+use Rattle.plm_syntax.specs.WellFormed.{precedence_of}
+use Rattle.plm_syntax.specs.Inner.Machine.{operand, again, an_expression, number_of, operator_of, make_binary, operation, more, make_unary, add_expression, primary, expression_at, closing, inside, more_subscripts, member_rule, locate_values, location_value, add_value, a_value_list, located, value_rule, negative, more_values, run}
 use Rattle.plm_syntax.proofs.DriveParts.{after_goes}
 use Rattle.plm_syntax.proofs.DriveBlock.{expression_goes}
 use Rattle.plm_syntax.proofs.Along.{at_front, same_goal, passed_over}
 use Rattle.plm_syntax.specs.declared.cursor.Cursor.{Cursor}
 use Rattle.plm_syntax.specs.Inner.Parsed.{ahead, next_of, is_name, is_number, is_text}
-use Rattle.plm_syntax.specs.Inner.Parts.{joined, all_precedences, is_relations}
+use Rattle.plm_syntax.specs.Inner.Parts.{joined, all_precedences, is_relations, level_of, level_at, tightness, looser, looser_than, operators_from}
 use Rattle.plm_syntax.proofs.DriveExpression.{negation_is, no_not}
 
 pub negation_goes : (c : Cursor) (s : List Symbol) (v : List Value) → is_key key.Not (next_of c) ≡ false → run 64 (Want NegationG ∷ s) v (ahead c) ≡ run 64 (joined Relations s) v (ahead c)
@@ -129,6 +133,13 @@ depth_again Relations s = refl
 depth_again Conjunctions s = refl
 depth_again Disjunctions s = refl
 
+pub depth_looser : (l : Precedence) (s : List Symbol) → depth (looser_than l s) ≡ depth s
+depth_looser Products s = refl
+depth_looser Sums s = refl
+depth_looser Relations s = refl
+depth_looser Conjunctions s = refl
+depth_looser Disjunctions s = refl
+
 -- ---- no operator comes next
 
 no_operator : (l : Precedence) (t : Terminal) → is_some (operator_of t) ≡ false → more l t ≡ Over
@@ -145,3 +156,112 @@ all_over c s v h =
     ∙ passed_over (MoreG Relations) c (Want (MoreG Conjunctions) ∷ Want (MoreG Disjunctions) ∷ s) v (no_operator Relations (next_of c) h)
     ∙ passed_over (MoreG Conjunctions) c (Want (MoreG Disjunctions) ∷ s) v (no_operator Conjunctions (next_of c) h)
     ∙ passed_over (MoreG Disjunctions) c s v (no_operator Disjunctions (next_of c) h)
+
+pub no_level : (t : Terminal) → level_at t ≡ None → is_some (operator_of t) ≡ false
+no_level t h = by (operator_of t) h
+  where
+    by : (o : Option BinaryOperator) → option_map level_of o ≡ None → is_some o ≡ false
+    by None g = refl
+    by (Some k) g = absurd cc
+
+-- ---- an operator comes next, of this precedence
+
+level_number : (o : BinaryOperator) → number_of (level_of o) ≡ precedence_of o
+level_number binary.Multiply = refl
+level_number binary.Divide = refl
+level_number binary.Modulo = refl
+level_number binary.Add = refl
+level_number binary.Subtract = refl
+level_number binary.Equal = refl
+level_number binary.NotEqual = refl
+level_number binary.Less = refl
+level_number binary.LessEqual = refl
+level_number binary.Greater = refl
+level_number binary.GreaterEqual = refl
+level_number binary.And = refl
+level_number binary.Or = refl
+level_number binary.ExclusiveOr = refl
+
+-- an operator of another precedence is passed over
+other_level : (l : Precedence) (o : BinaryOperator) → nat_eq (number_of (level_of o)) (number_of l) ≡ false → operation l o ≡ Over
+other_level l o h = ap (λ (b : Bool). cond b (Keep false (λ p. operand l ++ (Do (make_binary p o) ∷ again l))) Over) (ap (λ (n : ℕ). nat_eq n (number_of l)) (sym (level_number o)) ∙ h)
+
+-- what there is, and else this
+abbrev given : Precedence → Option Precedence → Precedence
+given l None = l
+given l (Some m) = m
+
+other_operator : (l m : Precedence) (t : Terminal) → level_at t ≡ Some m → nat_eq (number_of m) (number_of l) ≡ false → more l t ≡ Over
+other_operator l m t h e = by (operator_of t) h
+  where
+    by : (o : Option BinaryOperator) → option_map level_of o ≡ Some m → elim o [ None ↦ Over | Some k ↦ operation l k ] ≡ Over
+    by None g = absurd cc
+    by (Some k) g = other_level l k (ap (λ (x : Precedence). nat_eq (number_of x) (number_of l)) (ap (given m) g) ∙ e)
+
+passed : (l m : Precedence) (c : Cursor) (s : List Symbol) (v : List Value) → level_at (next_of c) ≡ Some m → nat_eq (number_of m) (number_of l) ≡ false → run 64 (Want (MoreG l) ∷ s) v (ahead c) ≡ run 64 s v (ahead c)
+passed l m c s v h e = passed_over (MoreG l) c s v (other_operator l m (next_of c) h e)
+
+-- those that bind more are passed over
+loosened : (l m : Precedence) (c : Cursor) (s : List Symbol) (v : List Value) → level_at (next_of c) ≡ Some m → nat_lt (tightness m) (tightness l) ≡ true → run 64 (looser_than l s) v (ahead c) ≡ run 64 (operators_from m s) v (ahead c)
+loosened Products Products c s v h e = absurd cc
+loosened Products Sums c s v h e = refl
+loosened Products Relations c s v h e = passed Sums Relations c (looser_than Sums s) v h refl
+loosened Products Conjunctions c s v h e = passed Sums Conjunctions c (looser_than Sums s) v h refl ∙ passed Relations Conjunctions c (looser_than Relations s) v h refl
+loosened Products Disjunctions c s v h e = passed Sums Disjunctions c (looser_than Sums s) v h refl ∙ passed Relations Disjunctions c (looser_than Relations s) v h refl ∙ passed Conjunctions Disjunctions c (looser_than Conjunctions s) v h refl
+loosened Sums Products c s v h e = absurd cc
+loosened Sums Sums c s v h e = absurd cc
+loosened Sums Relations c s v h e = refl
+loosened Sums Conjunctions c s v h e = passed Relations Conjunctions c (looser_than Relations s) v h refl
+loosened Sums Disjunctions c s v h e = passed Relations Disjunctions c (looser_than Relations s) v h refl ∙ passed Conjunctions Disjunctions c (looser_than Conjunctions s) v h refl
+loosened Relations Products c s v h e = absurd cc
+loosened Relations Sums c s v h e = absurd cc
+loosened Relations Relations c s v h e = absurd cc
+loosened Relations Conjunctions c s v h e = refl
+loosened Relations Disjunctions c s v h e = passed Conjunctions Disjunctions c (looser_than Conjunctions s) v h refl
+loosened Conjunctions Products c s v h e = absurd cc
+loosened Conjunctions Sums c s v h e = absurd cc
+loosened Conjunctions Relations c s v h e = absurd cc
+loosened Conjunctions Conjunctions c s v h e = absurd cc
+loosened Conjunctions Disjunctions c s v h e = refl
+loosened Disjunctions Products c s v h e = absurd cc
+loosened Disjunctions Sums c s v h e = absurd cc
+loosened Disjunctions Relations c s v h e = absurd cc
+loosened Disjunctions Conjunctions c s v h e = absurd cc
+loosened Disjunctions Disjunctions c s v h e = absurd cc
+
+pub first_operator : (m : Precedence) (c : Cursor) (s : List Symbol) (v : List Value) → level_at (next_of c) ≡ Some m → run 64 (all_precedences s) v (ahead c) ≡ run 64 (operators_from m s) v (ahead c)
+first_operator Products c s v h = refl
+first_operator Sums c s v h = passed Products Sums c (looser_than Products s) v h refl
+first_operator Relations c s v h = passed Products Relations c (looser_than Products s) v h refl ∙ loosened Products Relations c s v h refl
+first_operator Conjunctions c s v h = passed Products Conjunctions c (looser_than Products s) v h refl ∙ loosened Products Conjunctions c s v h refl
+first_operator Disjunctions c s v h = passed Products Disjunctions c (looser_than Products s) v h refl ∙ loosened Products Disjunctions c s v h refl
+
+-- ---- an operator comes next that binds less, or none
+
+looser_is : (l m : Precedence) (o : Option Precedence) → looser l o ≡ Some m → (o ≡ Some m) × (nat_lt (tightness m) (tightness l) ≡ true)
+looser_is l m None h = absurd cc
+looser_is l m (Some n) h = by (nat_lt (tightness n) (tightness l)) refl h
+  where
+    by : (b : Bool) → nat_lt (tightness n) (tightness l) ≡ b → cond b (Some n) None ≡ Some m → (Some n ≡ Some m) × (nat_lt (tightness m) (tightness l) ≡ true)
+    by true e g = (g, sym (ap (λ (x : Precedence). nat_lt (tightness x) (tightness l)) (ap (given m) g)) ∙ e)
+    by false e g = absurd cc
+
+pub looser_operator : (l m : Precedence) (c : Cursor) (s : List Symbol) (v : List Value) → looser l (level_at (next_of c)) ≡ Some m → run 64 (looser_than l s) v (ahead c) ≡ run 64 (operators_from m s) v (ahead c)
+looser_operator l m c s v h = let is = looser_is l m (level_at (next_of c)) h in loosened l m c s v is.0 is.1
+
+not_looser : (l m : Precedence) (t : Terminal) → looser l (level_at t) ≡ None → nat_lt (tightness m) (tightness l) ≡ true → more m t ≡ Over
+not_looser l m t h e = by (operator_of t) h
+  where
+    by : (o : Option BinaryOperator) → looser l (option_map level_of o) ≡ None → elim o [ None ↦ Over | Some k ↦ operation m k ] ≡ Over
+    by None g = refl
+    by (Some k) g = other_level m k (ne_eqb (number_of (level_of k)) (number_of m) (λ q. true≢false (ap is_some (sym (ap (λ (b : Bool). cond b (Some (level_of k)) None) (ap (λ (n : ℕ). nat_lt (7 - n) (tightness l)) q ∙ e)) ∙ g))))
+
+all_passed : (l : Precedence) (c : Cursor) (s : List Symbol) (v : List Value) → ((m : Precedence) → nat_lt (tightness m) (tightness l) ≡ true → more m (next_of c) ≡ Over) → run 64 (looser_than l s) v (ahead c) ≡ run 64 s v (ahead c)
+all_passed Products c s v h = passed_over (MoreG Sums) c (looser_than Sums s) v (h Sums refl) ∙ passed_over (MoreG Relations) c (looser_than Relations s) v (h Relations refl) ∙ passed_over (MoreG Conjunctions) c (looser_than Conjunctions s) v (h Conjunctions refl) ∙ passed_over (MoreG Disjunctions) c s v (h Disjunctions refl)
+all_passed Sums c s v h = passed_over (MoreG Relations) c (looser_than Relations s) v (h Relations refl) ∙ passed_over (MoreG Conjunctions) c (looser_than Conjunctions s) v (h Conjunctions refl) ∙ passed_over (MoreG Disjunctions) c s v (h Disjunctions refl)
+all_passed Relations c s v h = passed_over (MoreG Conjunctions) c (looser_than Conjunctions s) v (h Conjunctions refl) ∙ passed_over (MoreG Disjunctions) c s v (h Disjunctions refl)
+all_passed Conjunctions c s v h = passed_over (MoreG Disjunctions) c s v (h Disjunctions refl)
+all_passed Disjunctions c s v h = refl
+
+pub no_looser : (l : Precedence) (c : Cursor) (s : List Symbol) (v : List Value) → looser l (level_at (next_of c)) ≡ None → run 64 (looser_than l s) v (ahead c) ≡ run 64 s v (ahead c)
+no_looser l c s v h = all_passed l c s v (λ m e. not_looser l m (next_of c) h e)

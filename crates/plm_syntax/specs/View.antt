@@ -217,7 +217,7 @@ abbrev mutual
   basic_of (basic.Do p b n) = DoS p (block_of b) (base_of n)
   basic_of (basic.While' p e shape ss n) = WhileS p (expression_of e) (statements_in ss no_statements) (base_of n)
   basic_of (basic.Case' p e shape ss n) = CaseS p (expression_of e) (statements_in ss no_statements) (base_of n)
-  basic_of (basic.Iterate' p i a b t shape ss n) = IterateS p (name_of i) (expression_of a) (expression_of b) (step_of t) (statements_in ss no_statements) (base_of n)
+  basic_of (basic.Iterate' p i b shape ss n) = IterateS p (name_of i) (expression_of b.value.first) (expression_of b.value.last) (step_of b.value.step) (statements_in ss no_statements) (base_of n)
 
   pub block_of : Block → BlockT
   block_of (Block' shape is form ss) = BlockOf (items_in is no_items) (statements_in ss no_statements)

@@ -11,12 +11,12 @@ ghost use Rattle.plm_token.specs.declared.token.Mark.TheVariants.{RightParenthes
 ghost use Rattle.plm_syntax.specs.Inner.Symbol.{ExpressionR, need, Want, PrimaryG, SignedG, NegationG, MoreG, InsideG, AfterReferenceG, SubscriptsG, SelectorG, LocatedG, ValueG};
 ghost use Rattle.plm_syntax.specs.Inner.Machine.{operand, an_expression, a_value_list};
 ghost use Rattle.plm_syntax.specs.Inner.Parsed.{Leads, Within};
-ghost use Rattle.plm_syntax.specs.Inner.Parts.{precedence_view, read_expression, read_boxed, read_operations, read_reference, read_subscripts, read_selector, read_location, read_value, read_values, reference_read, nothing_read, joined, all_precedences, IsForm, IsUnary};
+ghost use Rattle.plm_syntax.specs.Inner.Parts.{precedence_view, read_expression, read_boxed, read_operations, read_reference, read_subscripts, read_selector, read_location, read_value, read_values, reference_read, nothing_read, joined, all_precedences, operators_from, IsForm, IsUnary};
 
 use crate::cursor::Cursor;
 use crate::failure::Failure;
-use crate::operator::{Precedence, is_at_operator, operator_at};
-use crate::parts::{beside, boxed, closing, pushed};
+use crate::operator::{Precedence, looser_at, operator_at, precedence_at};
+use crate::parts::{MOSTLY, beside, boxed, closing, pushed};
 use crate::tree::{
     Expression, Location, LocationForm, Name, Operation, Position, Reference, Selector,
     UnaryOperator, Value,
@@ -102,7 +102,7 @@ fn operations<'t, 'a>(
     ensures leads { (left : ExpressionT) → Leads (λ os. read_operations left os.items) (λ s. Want (MoreG (precedence_view precedence)) ∷ s) (λ v. ExpressionR left ∷ v) result cursor.entry room }
     ensures within { Within result cursor.entry }
 {
-    let mut list = Vec::new(alloc);
+    let mut list = Vec::with_capacity(alloc, MOSTLY)?;
     let mut rest = cursor;
     while let Some((place, operator, after)) = operator_at(precedence, rest) {
         let (operand, behind) = operand(alloc, room, precedence, after)?;
@@ -300,26 +300,31 @@ fn climb<'t, 'a>(
     ensures leads { Leads read_expression all_precedences (read_expression first.entry) result cursor.entry room }
     ensures within { Within result cursor.entry }
 {
-    if !is_at_operator(cursor) {
-        return Ok((first, cursor));
+    match precedence_at(cursor) {
+        Some(precedence) => climb_from(alloc, room, precedence, first, cursor),
+        None => Ok((first, cursor)),
     }
-    let (term, after_term) = more(alloc, room, Precedence::Products, first, cursor)?;
-    let (sum, after_sum) = more(alloc, room, Precedence::Sums, term, after_term)?;
-    let (relation, after_relation) = more(alloc, room, Precedence::Relations, sum, after_sum)?;
-    let (conjunction, after_conjunction) = more(
-        alloc,
-        room,
-        Precedence::Conjunctions,
-        relation,
-        after_relation,
-    )?;
-    more(
-        alloc,
-        room,
-        Precedence::Disjunctions,
-        conjunction,
-        after_conjunction,
-    )
+}
+
+/// The operators of a precedence after their first operand, and those that bind less. It stands apart, as most primaries have no operator
+/// after them.
+#[cycle(expression)]
+#[inline(never)]
+fn climb_from<'t, 'a>(
+    alloc: Global,
+    room: u8,
+    precedence: Precedence,
+    first: Expression<'a>,
+    cursor: Cursor<'t, 'a>,
+) -> Result<(Expression<'a>, Cursor<'t, 'a>), Failure>
+    ensures leads { Leads read_expression (operators_from (precedence_view precedence)) (read_expression first.entry) result cursor.entry room }
+    ensures within { Within result cursor.entry }
+{
+    let (left, rest) = more(alloc, room, precedence, first, cursor)?;
+    match looser_at(precedence, rest) {
+        Some(next) => climb_from(alloc, room, next, left, rest),
+        None => Ok((left, rest)),
+    }
 }
 
 /// A reference after its name.
@@ -355,11 +360,11 @@ fn subscripts<'t, 'a>(
     ensures leads { (n : NameT) → Leads (λ es. read_subscripts n es.items) (λ s. Want SubscriptsG ∷ s) (reference_read n) result cursor.entry room }
     ensures within { Within result cursor.entry }
 {
-    let mut list = Vec::new(alloc);
     let Some((_, inner)) = cursor.mark(Mark::LeftParenthesis) else {
-        return Ok((list, cursor));
+        return Ok((Vec::new(alloc), cursor));
     };
     let inside = inner.level_down(room)?;
+    let mut list = Vec::with_capacity(alloc, MOSTLY)?;
     let mut rest = pushed(&mut list, whole(alloc, inside, inner))?;
     while let Some((_, after)) = rest.mark(Mark::Comma) {
         rest = pushed(&mut list, whole(alloc, inside, after))?;

@@ -29,7 +29,7 @@ pub use answer::parse;
 pub use laws::{literals_in_force, spell_once};
 pub use literals::{Expansion, expand};
 pub use tree::{
-    At, Attributes, Basic, BinaryOperator, Block, Declared, Dimension, Element, Expression,
+    At, Attributes, Basic, BinaryOperator, Block, Bounds, Declared, Dimension, Element, Expression,
     Initial, Item, Linkage, Location, LocationForm, Member, MemberNames, Module, Name, Numeral,
     Operation, Position, Procedure, Reference, Scalar, Selector, Statement, Text, UnaryOperator,
     Value, Variable, VariableType,

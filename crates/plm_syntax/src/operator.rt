@@ -1,12 +1,12 @@
 //! Binary operators and their precedences.
 
-ghost use Rattle.std.specs.Prelude.{◌≡◌, ℕ, List, nat_eq, is_some};
+ghost use Rattle.std.specs.Prelude.{◌≡◌, ◌<◌, ℕ, List, IfSome, nat_eq, option_map};
 ghost use Rattle.plm_syntax.specs.declared.tree.Position.{Position as SomePlace};
 ghost use Rattle.plm_syntax.specs.WellFormed.{precedence_of};
 ghost use Rattle.plm_syntax.specs.Inner.Machine.{number_of, operator_of};
 ghost use Rattle.plm_syntax.specs.Inner.Parsed.{next_of};
 ghost use Rattle.plm_syntax.specs.Faults.{terminal_of};
-ghost use Rattle.plm_syntax.specs.Inner.Parts.{precedence_view, is_relations, IsOperator};
+ghost use Rattle.plm_syntax.specs.Inner.Parts.{precedence_view, is_relations, tightness, level_of, level_at, looser, IsOperator};
 
 use crate::cursor::Cursor;
 use crate::tree::{BinaryOperator, Position};
@@ -28,6 +28,19 @@ impl Precedence {
         ensures { result ≡ is_relations (precedence_view self) }
     {
         matches!(self, Precedence::Relations)
+    }
+
+    /// How tightly its operators bind.
+    fn tightness(self) -> u8
+        ensures { result ≡ tightness (precedence_view self) }
+    {
+        match self {
+            Precedence::Products => 5,
+            Precedence::Sums => 4,
+            Precedence::Relations => 3,
+            Precedence::Conjunctions => 1,
+            Precedence::Disjunctions => 0,
+        }
     }
 }
 
@@ -84,13 +97,45 @@ fn is_of(operator: BinaryOperator, precedence: Precedence) -> bool
     }
 }
 
-/// Whether an operator comes next.
-pub(crate) fn is_at_operator(cursor: Cursor<'_, '_>) -> bool
-    ensures { result ≡ is_some (operator_of (next_of cursor.entry)) }
+/// The precedence of an operator.
+fn precedence_of(operator: BinaryOperator) -> Precedence
+    ensures { precedence_view result ≡ level_of operator }
 {
-    match cursor.next() {
-        Some((token, _, _)) => operator(token.kind).is_some(),
-        None => false,
+    match operator {
+        BinaryOperator::Multiply | BinaryOperator::Divide | BinaryOperator::Modulo => {
+            Precedence::Products
+        }
+        BinaryOperator::Add | BinaryOperator::Subtract => Precedence::Sums,
+        BinaryOperator::And => Precedence::Conjunctions,
+        BinaryOperator::Or | BinaryOperator::ExclusiveOr => Precedence::Disjunctions,
+        BinaryOperator::Equal
+        | BinaryOperator::NotEqual
+        | BinaryOperator::Less
+        | BinaryOperator::LessEqual
+        | BinaryOperator::Greater
+        | BinaryOperator::GreaterEqual => Precedence::Relations,
+    }
+}
+
+/// The precedence of the operator that comes next, where there is one.
+pub(crate) fn precedence_at(cursor: Cursor<'_, '_>) -> Option<Precedence>
+    ensures { option_map precedence_view result ≡ level_at (next_of cursor.entry) }
+{
+    let (token, _, _) = cursor.next()?;
+    let operator = operator(token.kind)?;
+    Some(precedence_of(operator))
+}
+
+/// The precedence of the operator that comes next, where there is one that binds less than those of this precedence.
+pub(crate) fn looser_at(precedence: Precedence, cursor: Cursor<'_, '_>) -> Option<Precedence>
+    ensures level { option_map precedence_view result ≡ looser (precedence_view precedence) (level_at (next_of cursor.entry)) }
+    ensures less { IfSome result (λ next. tightness (precedence_view next) < tightness (precedence_view precedence)) }
+{
+    let next = precedence_at(cursor)?;
+    if next.tightness() < precedence.tightness() {
+        Some(next)
+    } else {
+        None
     }
 }
 

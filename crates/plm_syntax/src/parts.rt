@@ -9,6 +9,9 @@ use crate::failure::Failure;
 use plm_token::Mark;
 use std::alloc::Global;
 
+/// How many targets, subscripts and operators of one precedence there mostly are. A list takes room for so many at first.
+pub(crate) const MOSTLY: usize = 1;
+
 /// What was read, and what is left after the special token that has to come next.
 pub(crate) fn closing<'t, 'a, T: Drop>(
     read: Result<(T, Cursor<'t, 'a>), Failure>,

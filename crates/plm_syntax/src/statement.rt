@@ -20,10 +20,10 @@ use crate::cursor::Cursor;
 use crate::declaration::{elements, names, scalar_at};
 use crate::expression::{expression, reference};
 use crate::failure::Failure;
-use crate::parts::{beside, boxed, closing, pushed};
+use crate::parts::{MOSTLY, beside, boxed, closing, pushed};
 use crate::tree::{
-    Basic, Block, Expression, Item, Linkage, Module, Name, Numeral, Position, Procedure, Scalar,
-    Statement,
+    Basic, Block, Bounds, Expression, Item, Linkage, Module, Name, Numeral, Position, Procedure,
+    Scalar, Statement,
 };
 use plm_token::{Keyword, Kind, Mark, Token, same_name};
 use std::alloc::Global;
@@ -209,9 +209,9 @@ fn linkage<'t, 'a>(cursor: Cursor<'t, 'a>) -> (Linkage, Cursor<'t, 'a>)
 }
 
 /// For how many statements room is taken at once, where this many tokens are left: a module has many, which are not to be moved again and
-/// again, and a statement has some eight tokens at least. What is not used of it is never touched.
+/// again, and a statement has some eight tokens at least. What is not used of it is never touched. A block inside mostly has few.
 fn likely(room: u8, tokens: usize) -> usize {
-    if room == INNER_LEVELS { tokens / 8 } else { 0 }
+    if room == INNER_LEVELS { tokens / 8 } else { 2 }
 }
 
 /// Statements up to their END, and the name after it.
@@ -336,7 +336,7 @@ fn assignment<'t, 'a>(
     ensures leads { (ls : NamesT) → Leads (read_basic ls) (λ s. Want SubscriptsG ∷ Want SelectorG ∷ Want MoreTargetsG ∷ s) (λ v. reference_read (name_of name.entry) (ReferencesR no_references ∷ NamesR ls ∷ v)) result cursor.entry room }
     ensures within { Within result cursor.entry }
 {
-    let mut targets = Vec::new(alloc);
+    let mut targets = Vec::with_capacity(alloc, MOSTLY)?;
     let (first, mut rest) = reference(alloc, room, name, cursor)?;
     let mut last = first;
     while let Some((_, after)) = rest.mark(Mark::Comma) {
@@ -581,26 +581,7 @@ fn iteration<'t, 'a>(
 {
     let (header, start) = range(alloc, room, cursor)?;
     let ((bounds, (body, end)), rest) = beside(header, statements(alloc, room, label, start))?;
-    Ok((
-        Basic::Iterate(
-            place,
-            index,
-            bounds.first,
-            bounds.last,
-            bounds.step,
-            body,
-            end,
-        ),
-        rest,
-    ))
-}
-
-/// The first and the last value of an iteration's index, and the step.
-#[derive(Drop)]
-struct Bounds<'a> {
-    first: Expression<'a>,
-    last: Expression<'a>,
-    step: Option<Expression<'a>>,
+    Ok((Basic::Iterate(place, index, bounds, body, end), rest))
 }
 
 /// `= a TO b [BY s]` and the semicolon after it.
@@ -608,7 +589,7 @@ fn range<'t, 'a>(
     alloc: Global,
     room: u8,
     cursor: Cursor<'t, 'a>,
-) -> Result<(Bounds<'a>, Cursor<'t, 'a>), Failure>
+) -> Result<(Box<Bounds<'a>>, Cursor<'t, 'a>), Failure>
     ensures leads { (i : NameT) → Leads (read_range i) range_goals (λ v. NameR i ∷ v) result cursor.entry room }
     ensures within { Shrinks result cursor.entry }
 {
@@ -616,7 +597,8 @@ fn range<'t, 'a>(
     let (start, bound) = expression_before(alloc, room, Keyword::To, begun)?;
     let (ends, behind) = beside(start, expression(alloc, room, bound))?;
     let (((first, last), step), rest) = beside(ends, step(alloc, room, behind))?;
-    Ok((Bounds { first, last, step }, rest))
+    let bounds = Box::new(alloc, Bounds { first, last, step })?;
+    Ok((bounds, rest))
 }
 
 /// The step of an iteration, where the word BY comes next, and the semicolon after it.

@@ -254,16 +254,16 @@ pub enum Basic<'a> {
     Do(Position, Block<'a>, Option<Name<'a>>),
     While(Position, Expression<'a>, Vec<Statement<'a>>, Option<Name<'a>>),
     Case(Position, Expression<'a>, Vec<Statement<'a>>, Option<Name<'a>>),
-    /// `DO i = a TO b [BY s]`.
-    Iterate(
-        Position,
-        Name<'a>,
-        Expression<'a>,
-        Expression<'a>,
-        Option<Expression<'a>>,
-        Vec<Statement<'a>>,
-        Option<Name<'a>>,
-    ),
+    /// `DO i = a TO b [BY s]`. The values are in a box: three expressions in it would make each statement as large.
+    Iterate(Position, Name<'a>, Box<Bounds<'a>>, Vec<Statement<'a>>, Option<Name<'a>>),
+}
+
+/// The first and the last value of an iteration's index, and the step.
+#[derive(Drop)]
+pub struct Bounds<'a> {
+    pub first: Expression<'a>,
+    pub last: Expression<'a>,
+    pub step: Option<Expression<'a>>,
 }
 
 /// Declarations and procedures, then statements.

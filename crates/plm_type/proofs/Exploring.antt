@@ -1,8 +1,7 @@
 -- What the search knows, and that it finds all.
 use Rattle.std.proofs.lemmas.Bool.{cases_lt}
-use Rattle.std.proofs.Common.{◌≡◌, ℕ, zero, suc, ◌<◌, ◌≤◌, List, [], ◌∷◌, ◌++◌, Bool, true, false, true≢false, ◌⊎◌, inl, inr, length, slice_get, take, ◌-◌, Contains, refl, sym, ap, subst, ◌∙◌, arith, ◌↔◌, nat_lt}
+use Rattle.std.proofs.Common.{◌≡◌, ℕ, zero, suc, ◌<◌, ◌≤◌, List, [], ◌∷◌, ◌++◌, Bool, false, true≢false, ◌⊎◌, inl, inr, length, slice_get, take, ◌-◌, Contains, sym, ap, subst, ◌∙◌, arith, ◌↔◌}
 use Rattle.std.proofs.Math.ListN.{replicate}
-use Rattle.std.proofs.lemmas.Bool.Decides.{nat_tests}
 use Rattle.std.proofs.lemmas.Option.{slice_get_past}
 use Rattle.std.proofs.lemmas.List.Elements.{Contains-push, Contains-push_cases}
 use Rattle.plm_type.specs.Reach.{Graph, row_of, LeadsBy, Leads, IsOnCycle}

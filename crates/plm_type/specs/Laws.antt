@@ -19,4 +19,4 @@ pub record TreesHaveTheirLists : Type 0 where
   pub if_else : (e : Expression) (arm other : Vec (Box Statement)) → statement_of (statement.If e arm other) ≡ rest.If (expression_of e) (statements_of arm.items) (statements_of other.items)
   pub while_true : (e : Expression) (body : Vec (Box Statement)) → statement_of (statement.While e body) ≡ rest.While (expression_of e) (expression_of e) (statements_of body.items)
   pub case_of : (e : Expression) (cases : Vec (Box Statement)) → statement_of (statement.Case e cases) ≡ rest.Case (expression_of e) (statements_of cases.items)
-  pub iterate : (e : Expression) (l : Loop) → statement_of (statement.Iterate e l) ≡ rest.Iterate (expression_of e) (loop_of l)
+  pub iterate : (e : Expression) (l : Box Loop) → statement_of (statement.Iterate e l) ≡ rest.Iterate (expression_of e) (loop_of l.value)

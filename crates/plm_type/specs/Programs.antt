@@ -1,6 +1,5 @@
 -- What the names of a program say: the faults of its types, its trees, and what its contexts have to do at first.
 use Rattle.std.specs.Prelude.{ℕ, List, ◌++◌, map, position, slice_get, Option, Some, None}
-use Rattle.plm_decl.specs.declared.names.Variable.{Variable}
 use Rattle.plm_decl.specs.declared.names.Names.{Names}
 use Rattle.plm_decl.specs.declared.found.Found.{Found}
 use Rattle.plm_decl.specs.Names.{ProcedureR, handles, procedure_of, declared_location_of, main_of}

@@ -93,7 +93,7 @@ abbrev mutual
   statement_of (statement.Block' shape ss) = Block (statements_in ss)
   statement_of (statement.While' e shape ss) = While (expression_of e) (expression_of e) (statements_in ss)
   statement_of (statement.Case' e shape ss) = Case (expression_of e) (statements_in ss)
-  statement_of (statement.Iterate' a x bound step shape ss) = Iterate (expression_of a) (Count (scalar_of x) (expression_of bound) (expression_of step) (statements_in ss))
+  statement_of (statement.Iterate' a p x bound step shape ss) = Iterate (expression_of a) (Count (scalar_of x) (expression_of bound) (expression_of step) (statements_in ss))
 
   pub statements_in : {m : _} → Row_of-Statement-If-1-1 m → Statements
   statements_in end_of-Statement-If-1-1 = End

@@ -10,6 +10,7 @@ ghost use Rattle.plm_type.specs.Inner.Builtins.{the_only};
 ghost use Rattle.plm_type.specs.View as view;
 
 use crate::program::{Expression, Line, Operation, Target};
+use crate::typer::alone;
 use crate::types::{are_known_numbers, width_of};
 use plm_decl::{Builtin, ScalarType, Selector};
 use std::alloc::{AllocError, Global};
@@ -232,8 +233,7 @@ pub fn operation(
         others.push(operation)?;
         return Ok(Expression::Chain(first, others));
     }
-    let mut others = Vec::new(alloc);
-    others.push(operation)?;
+    let others = alone(alloc, operation)?;
     Ok(Expression::Chain(Box::new(alloc, left)?, others))
 }
 

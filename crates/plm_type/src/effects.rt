@@ -8,7 +8,7 @@ ghost use Rattle.plm_type.specs.Inner.Effects as inner;
 
 use crate::builtins::is_measure;
 use plm_decl::{
-    Binding, Expression, Location, Operation, Reference, Selector, Statement,
+    Binding, Bounds, Expression, Location, Operation, Reference, Selector, Statement,
     resolved_trees_have_their_lists,
 };
 use std::alloc::AllocError;
@@ -142,6 +142,14 @@ fn add_step(step: &Option<Expression>, effects: &mut Vec<Effect>) -> Result<(), 
     }
 }
 
+fn add_bounds(bounds: &Bounds, effects: &mut Vec<Effect>) -> Result<(), AllocError>
+    ensures { OnOk result (effects.new.items ≡ effects.old.items ++ (spec.of_expression (resolved.expression_of bounds.now.from) ++ (spec.of_expression (resolved.expression_of bounds.now.to) ++ spec.of_step (resolved.step_of bounds.now.step)))) }
+{
+    add_expression(&bounds.from, effects)?;
+    add_expression(&bounds.to, effects)?;
+    add_step(&bounds.step, effects)
+}
+
 #[cycle(statement_effects)]
 fn add_statement(statement: &Statement, effects: &mut Vec<Effect>) -> Result<(), AllocError>
     ensures { OnOk result (effects.new.items ≡ effects.old.items ++ spec.of_statement (resolved.statement_of statement.now)) }
@@ -176,10 +184,8 @@ fn add_statement(statement: &Statement, effects: &mut Vec<Effect>) -> Result<(),
             add_expression(value, effects)?;
             add_statements(cases, effects)
         }
-        Statement::Iterate(_, _, _, first, bound, step, body) => {
-            add_expression(first, effects)?;
-            add_expression(bound, effects)?;
-            add_step(step, effects)?;
+        Statement::Iterate(_, _, bounds, body) => {
+            add_bounds(bounds, effects)?;
             add_statements(body, effects)
         }
         Statement::Empty(_) | Statement::Return(_) | Statement::Disable(_) => Ok(()),

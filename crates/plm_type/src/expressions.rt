@@ -274,7 +274,7 @@ impl Typer<'_> {
     ) -> Result<TypedList, AllocError>
         ensures { IfOk result (λ r. list_said r faults.new.items ≡ list_after faults.old.items (list_by self.now (resolved.expressions_of es.now))) }
     {
-        let mut all = TypedList::new(self.alloc);
+        let mut all = TypedList::with_capacity(self.alloc, es.len())?;
         for e in es {
             let typed = self.expression(e, faults)?;
             all.push(typed)?;

@@ -108,8 +108,8 @@ pub enum Statement {
     Block(Vec<Box<Statement>>),
     While(Expression, Vec<Box<Statement>>),
     Case(Expression, Vec<Box<Statement>>),
-    /// The first value, and the loop.
-    Iterate(Expression, Loop),
+    /// The first value, and the loop. It is in a box: in it each statement would be as large.
+    Iterate(Expression, Box<Loop>),
 }
 
 /// A DO with an index: the index, the bound, the step, and the body.

@@ -322,7 +322,12 @@ impl Typer<'_> {
     ) -> Result<Reference, AllocError>
         ensures { IfOk result (λ r. view.reference_of r ≡ spec.refer (variables self.now) self.now.module place.line variable (resolved.selector_of selector.now) (view.expressions_of parts.subscripts.trees.items) (view.expressions_of parts.member.trees.items)) }
     {
-        let mut subscripts = Vec::new(self.alloc);
+        let count = parts
+            .subscripts
+            .trees
+            .len()
+            .saturating_add(parts.member.trees.len());
+        let mut subscripts = Vec::with_capacity(self.alloc, count)?;
         let line = self.line(place);
         let Some(variable) = variable else {
             return Ok(Reference {

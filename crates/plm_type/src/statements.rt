@@ -13,13 +13,13 @@ use crate::expressions::first_place;
 use crate::program::{Expression, Loop, Scalar, Statement, Target};
 use crate::references::{TypedTarget, may_be_assigned};
 use crate::shapes::{form_type, has_room, is_based, scalar, scalar_size};
-use crate::typer::Typer;
+use crate::typer::{Typer, alone};
 use crate::types::{
     may_be_number, may_be_numbers, may_be_pointer, may_be_pointers, takes, width_of,
 };
 use plm_decl::found::Found;
 use plm_decl::{
-    Binding, ScalarType, Statement as Resolved, Variable, resolved_trees_have_their_lists,
+    Binding, Bounds, ScalarType, Statement as Resolved, Variable, resolved_trees_have_their_lists,
 };
 use plm_syntax::Position;
 use std::alloc::AllocError;
@@ -234,6 +234,7 @@ impl Typer<'_> {
         Ok(Statement::Assign(target.tree, Vec::new(self.alloc), value.tree))
     }
 
+    #[inline(never)]
     fn assign(
         &self,
         references: &[plm_decl::Reference],
@@ -341,22 +342,21 @@ impl Typer<'_> {
         }
     }
 
-    /// An iterative DO with its index, up to its statements.
+    /// An iterative DO up to its statements, with the place of its index.
     #[inline(never)]
     fn range(
         &self,
         place: Position,
-        index: Scalar,
-        from: &plm_decl::Expression,
-        to: &plm_decl::Expression,
-        by: &Option<plm_decl::Expression>,
+        name: Position,
+        bounds: &Bounds,
         faults: &mut Vec<Found>,
     ) -> Result<Range, AllocError>
-        ensures { IfOk result (λ r. noted (range_of r) faults.new.items ≡ noted_after faults.old.items (range_by self.now place (view.scalar_of index) (resolved.expression_of from.now) (resolved.expression_of to.now) (resolved.step_of by.now))) }
+        ensures { IfOk result (λ r. noted (range_of r) faults.new.items ≡ noted_after faults.old.items (range_by self.now place name bounds.now)) }
     {
-        let from = self.number_in(place, from, faults)?;
-        let bound = self.number_in(place, to, faults)?;
-        let step = self.step(place, by, faults)?;
+        let index = self.index(place, name, bounds.binding, faults)?;
+        let from = self.number_in(place, &bounds.from, faults)?;
+        let bound = self.number_in(place, &bounds.to, faults)?;
+        let step = self.step(place, &bounds.step, faults)?;
         Ok(Range {
             index,
             from,
@@ -366,6 +366,7 @@ impl Typer<'_> {
     }
 
     /// CALL as a statement: a value is dropped.
+    #[inline(never)]
     fn call_statement(
         &self,
         place: Position,
@@ -392,6 +393,7 @@ impl Typer<'_> {
     }
 
     /// RETURN with a value.
+    #[inline(never)]
     fn return_value(
         &self,
         around: Around,
@@ -439,9 +441,8 @@ impl Typer<'_> {
             Resolved::Case(place, value, cases) => {
                 self.case(around, cases, *place, value, faults)
             }
-            Resolved::Iterate(place, name, index, from, to, by, body) => {
-                let index = self.index(*place, *name, *index, faults)?;
-                let range = self.range(*place, index, from, to, by, faults)?;
+            Resolved::Iterate(place, name, bounds, body) => {
+                let range = self.range(*place, *name, bounds, faults)?;
                 self.rounds(around, range, body, faults)
             }
         }
@@ -466,6 +467,7 @@ impl Typer<'_> {
 
     /// IF with ELSE.
     #[cycle(statement)]
+    #[inline(never)]
     fn choice(
         &self,
         around: Around,
@@ -480,6 +482,7 @@ impl Typer<'_> {
     }
 
     #[cycle(statement)]
+    #[inline(never)]
     fn block(
         &self,
         around: Around,
@@ -494,6 +497,7 @@ impl Typer<'_> {
 
     /// DO WHILE.
     #[cycle(statement)]
+    #[inline(never)]
     fn while_loop(
         &self,
         around: Around,
@@ -511,6 +515,7 @@ impl Typer<'_> {
 
     /// DO CASE.
     #[cycle(statement)]
+    #[inline(never)]
     fn case(
         &self,
         around: Around,
@@ -528,6 +533,7 @@ impl Typer<'_> {
 
     /// An iterative DO with its index and values, and its statements.
     #[cycle(statement)]
+    #[inline(never)]
     fn rounds(
         &self,
         around: Around,
@@ -544,15 +550,13 @@ impl Typer<'_> {
             step,
         } = range;
         let body = self.statements(around, body, faults)?;
-        Ok(Statement::Iterate(
-            from,
-            Loop {
-                index,
-                bound,
-                step,
-                body,
-            },
-        ))
+        let rounds = Loop {
+            index,
+            bound,
+            step,
+            body,
+        };
+        Ok(Statement::Iterate(from, Box::new(self.alloc, rounds)?))
     }
 
     /// An arm of IF: a list of one statement.
@@ -566,9 +570,7 @@ impl Typer<'_> {
         ensures { IfOk result (λ r. noted (view.statements_of r.items) faults.new.items ≡ noted_after faults.old.items (one (statement_by self.now around (resolved.statement_of statement.now)))) }
     {
         let statement = self.statement(around, statement, faults)?;
-        let mut arm = Vec::new(self.alloc);
-        arm.push(Box::new(self.alloc, statement)?)?;
-        Ok(arm)
+        Ok(alone(self.alloc, Box::new(self.alloc, statement)?)?)
     }
 
     #[cycle(statement)]
@@ -580,7 +582,7 @@ impl Typer<'_> {
     ) -> Result<Vec<Box<Statement>>, AllocError>
         ensures { IfOk result (λ r. noted (view.statements_of r.items) faults.new.items ≡ noted_after faults.old.items (statements_by self.now around (resolved.statements_of statements.now))) }
     {
-        let mut typed = Vec::new(self.alloc);
+        let mut typed = Vec::with_capacity(self.alloc, statements.len())?;
         for statement in statements {
             let tree = self.statement(around, statement, faults)?;
             typed.push(Box::new(self.alloc, tree)?)?;

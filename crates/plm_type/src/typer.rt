@@ -1,6 +1,6 @@
 //! What is known while statements are typed: the names and the module; and what is said of an expression: its tree and its type.
 
-ghost use Rattle.std.specs.Prelude.{◌≡◌, ◌∷◌, [], ◌++◌, OnOk, option_map, slice_get};
+ghost use Rattle.std.specs.Prelude.{◌≡◌, ◌∷◌, [], ◌++◌, IfOk, OnOk, option_map, slice_get};
 ghost use Rattle.plm_decl.specs.Names as known;
 ghost use Rattle.plm_type.specs.Inner.Typer.{variables, procedures};
 ghost use Rattle.plm_type.specs.Typing.{given_if};
@@ -48,6 +48,15 @@ impl Typed {
     }
 }
 
+/// A list of one item, without room for others.
+pub fn alone<T: Drop>(alloc: Global, item: T) -> Result<Vec<T>, AllocError>
+    ensures { IfOk result (λ list. list.items ≡ item ∷ []) }
+{
+    let mut list = Vec::with_capacity(alloc, 1)?;
+    list.push(item)?;
+    Ok(list)
+}
+
 impl TypedList {
     /// None yet.
     pub fn new(alloc: Global) -> TypedList
@@ -58,6 +67,16 @@ impl TypedList {
             trees: Vec::new(alloc),
             types: Vec::new(alloc),
         }
+    }
+
+    /// None yet, with room for so many.
+    pub fn with_capacity(alloc: Global, count: usize) -> Result<TypedList, AllocError>
+        ensures trees { IfOk result (λ r. r.trees.items ≡ []) }
+        ensures types { IfOk result (λ r. r.types.items ≡ []) }
+    {
+        let trees = Vec::with_capacity(alloc, count)?;
+        let types = Vec::with_capacity(alloc, count)?;
+        Ok(TypedList { trees, types })
     }
 
     /// Adds one at the end.

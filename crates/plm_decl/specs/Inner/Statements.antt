@@ -2,7 +2,7 @@
 use Rattle.std.specs.Prelude.{List, Option}
 use Rattle.plm_syntax.specs.Tree.{ExpressionT}
 use Rattle.plm_decl.specs.declared.resolved.Binding.{Binding}
-use Rattle.plm_decl.specs.declared.statements.Bounds.{Bounds}
+use Rattle.plm_decl.specs.declared.resolved.Bounds.{Bounds}
 use Rattle.plm_decl.specs.Scope.{Frame}
 use Rattle.plm_decl.specs.Uses.{used}
 use Rattle.plm_decl.specs.Resolved.{ExpressionR, StatementR, StatementsR, IfElseR, IterateR}

@@ -13,12 +13,12 @@ use Rattle.plm_syntax.specs.declared.tree.Linkage.{Linkage}
 use Rattle.plm_syntax.specs.declared.tree.Expression.{Expression}
 use Rattle.plm_syntax.specs.declared.tree.Statement.{Statement}
 use Rattle.plm_syntax.specs.declared.tree.Basic.{Basic}
+use Rattle.plm_syntax.specs.declared.tree.Bounds.{Bounds}
 use Rattle.plm_syntax.specs.declared.tree.Block.{Block}
 use Rattle.plm_syntax.specs.declared.tree.Item.{Item}
 use Rattle.plm_syntax.specs.declared.tree.Procedure.{Procedure}
 use Rattle.plm_syntax.specs.declared.tree.Module.{Module}
 use Rattle.plm_syntax.specs.declared.statement.Signature.{Signature}
-use Rattle.plm_syntax.specs.declared.statement.Bounds.{Bounds}
 use Rattle.plm_syntax.specs.declared.cursor.Cursor.{Cursor}
 use Rattle.plm_syntax.specs.declared.failure.Failure.{Failure}
 use Rattle.plm_syntax.specs.Terminal.{NameT, NumeralT, Terminal, Name, Numeral, Text, Key, Sign, Finish, Leaf, leaf_at, is_key}
@@ -130,8 +130,8 @@ read_governed x v = EndR (base_of x.1.1) ∷ StatementsR (statements_of x.1.0.it
 abbrev pub read_step : Option Expression → List Value → List Value
 read_step s v = StepR (step_of s) ∷ v
 
-abbrev pub read_range : NameT → Bounds → List Value → List Value
-read_range i r v = StepR (step_of r.step) ∷ RangeR i (expression_of r.first) (expression_of r.last) ∷ v
+abbrev pub read_range : NameT → Box Bounds → List Value → List Value
+read_range i r v = StepR (step_of r.value.step) ∷ RangeR i (expression_of r.value.first) (expression_of r.value.last) ∷ v
 
 abbrev pub read_header : NameT → Signature → List Value → List Value
 read_header n h v = HeaderR n (names_of h.parameters.items) h.returned (counted h.interrupt) (linkage_of h.linkage) ∷ v

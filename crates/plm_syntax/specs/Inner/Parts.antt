@@ -1,7 +1,8 @@
 -- What the parser's functions read.
-use Rattle.std.specs.Prelude.{◌≡◌, nat_eq, List, ◌∷◌, ◌++◌, Bool, true, false, Option, Some, None, Result, Ok, Err}
+use Rattle.std.specs.Prelude.{◌≡◌, ℕ, ◌-◌, nat_eq, nat_lt, List, ◌∷◌, ◌++◌, Bool, true, false, cond, Option, Some, None, option_map, Result, Ok, Err}
 use Rattle.plm_syntax.specs.declared.tree.Position.{Position}
 use Rattle.plm_syntax.specs.declared.tree.BinaryOperator.{BinaryOperator}
+use Rattle.plm_syntax.specs.declared.tree.BinaryOperator.TheVariants as binary
 use Rattle.plm_syntax.specs.declared.tree.UnaryOperator.{UnaryOperator}
 use Rattle.plm_syntax.specs.declared.tree.Expression.{Expression}
 use Rattle.plm_syntax.specs.declared.failure.Failure.{Failure}
@@ -29,14 +30,14 @@ use Rattle.plm_syntax.specs.declared.tree.At.{At}
 use Rattle.plm_syntax.specs.declared.tree.Initial.{Initial}
 use Rattle.plm_syntax.specs.declared.tree.Attributes.{Attributes as Extras}
 use Rattle.plm_syntax.specs.declared.tree.Element.{Element}
-use Rattle.plm_syntax.specs.Terminal.{NameT}
+use Rattle.plm_syntax.specs.Terminal.{NameT, Terminal}
 use Rattle.plm_syntax.specs.Inner.Terminal.{is_sign}
 use Rattle.plm_syntax.specs.Tree.{ExpressionT, ElementsT, elements, no_variables, no_members, no_linkage, no_initial, AtT, Attributes, LocationForm, ReferenceE, LocationE, UnaryE, ReferenceOf, ExpressionsT, no_expressions, no_member}
 use Rattle.plm_syntax.specs.View.{name_of, counted, names_of, variable_of, variables_from, dimension_of, member_of, members_from, type_of, at_of, initial_of, attributes_of, element_of, elements_of, expression_of, leaned, expressions_of, reference_of, selector_of, location_of, value_of, values_of}
 use Rattle.plm_syntax.specs.Spelling.{binary_sign, form_sign, scalar_key}
 use Rattle.plm_syntax.specs.WellFormed.{precedence_of}
 use Rattle.plm_syntax.specs.Inner.Symbol.{NamesR, NameR, VariableR, VariablesR, DimensionR, CountR, MembersR, MemberR, TypeR, AttributesR, ElementsR, HeaderR, Value, Precedence, Symbol, Over, Want, MoreG, ExpressionR, ValueR, ValuesR, Products, Sums, Relations, Conjunctions, Disjunctions}
-use Rattle.plm_syntax.specs.Inner.Machine.{operand, number_of, more, scalar_of}
+use Rattle.plm_syntax.specs.Inner.Machine.{operand, number_of, operator_of, more, scalar_of}
 use Rattle.plm_syntax.specs.Inner.Parsed.{next_of, Takes}
 
 abbrev pub precedence_view : CodePrecedence → Precedence
@@ -113,6 +114,47 @@ joined l s = operand l ++ (Want (MoreG l) ∷ s)
 -- the operators of all precedences after a primary
 abbrev pub all_precedences : List Symbol → List Symbol
 all_precedences s = Want (MoreG Products) ∷ Want (MoreG Sums) ∷ Want (MoreG Relations) ∷ Want (MoreG Conjunctions) ∷ Want (MoreG Disjunctions) ∷ s
+
+-- ---- the precedence of the operator that comes next
+
+abbrev pub level_of : BinaryOperator → Precedence
+level_of binary.Multiply = Products
+level_of binary.Divide = Products
+level_of binary.Modulo = Products
+level_of binary.Add = Sums
+level_of binary.Subtract = Sums
+level_of binary.Equal = Relations
+level_of binary.NotEqual = Relations
+level_of binary.Less = Relations
+level_of binary.LessEqual = Relations
+level_of binary.Greater = Relations
+level_of binary.GreaterEqual = Relations
+level_of binary.And = Conjunctions
+level_of binary.Or = Disjunctions
+level_of binary.ExclusiveOr = Disjunctions
+
+abbrev pub level_at : Terminal → Option Precedence
+level_at t = option_map level_of (operator_of t)
+
+-- how tightly the operators of a precedence bind
+abbrev pub tightness : Precedence → ℕ
+tightness l = 7 - number_of l
+
+-- a precedence, where it binds less than this one
+abbrev pub looser : Precedence → Option Precedence → Option Precedence
+looser l None = None
+looser l (Some m) = cond (nat_lt (tightness m) (tightness l)) (Some m) None
+
+-- the operators that bind less than those of a precedence
+abbrev pub looser_than : Precedence → List Symbol → List Symbol
+looser_than Products s = Want (MoreG Sums) ∷ Want (MoreG Relations) ∷ Want (MoreG Conjunctions) ∷ Want (MoreG Disjunctions) ∷ s
+looser_than Sums s = Want (MoreG Relations) ∷ Want (MoreG Conjunctions) ∷ Want (MoreG Disjunctions) ∷ s
+looser_than Relations s = Want (MoreG Conjunctions) ∷ Want (MoreG Disjunctions) ∷ s
+looser_than Conjunctions s = Want (MoreG Disjunctions) ∷ s
+looser_than Disjunctions s = s
+
+abbrev pub operators_from : Precedence → List Symbol → List Symbol
+operators_from l s = Want (MoreG l) ∷ looser_than l s
 
 -- ---- declarations
 

@@ -3,10 +3,12 @@ use Rattle.std.specs.Prelude.{ℕ, List, [], ◌++◌, map, Option}
 use Rattle.plm_syntax.specs.declared.tree.Position.{Position}
 use Rattle.plm_decl.specs.declared.builtin.Builtin.{Builtin}
 use Rattle.plm_decl.specs.declared.resolved.Binding.{Binding}
+use Rattle.plm_decl.specs.declared.resolved.Bounds.{Bounds}
 use Rattle.plm_decl.specs.declared.names.Variable.{Variable}
 use Rattle.plm_decl.specs.declared.found.Found.{Found}
 use Rattle.plm_decl.specs.Names.{ProcedureR, procedure_of}
 use Rattle.plm_decl.specs.Resolved.{ExpressionR, ExpressionsR, ReferenceR', Use, LocationR', SelectorR, ReferencesR, StatementR, StatementsR}
+use Rattle.plm_decl.specs.ResolvedView as resolved
 use Rattle.plm_decl.specs.Placement.{sizes_of}
 use Rattle.plm_type.specs.declared.typer.Typer.{Typer}
 use Rattle.plm_type.specs.declared.typer.Typed as declared
@@ -160,8 +162,8 @@ statements_by t around ss = statements.typed_statements (variables t) (procedure
 abbrev pub condition_by : Typer → Around → Position → ExpressionR → StatementR → Noted rest.Statement
 condition_by t around p e s = statements.conditional (number_by t p e) (statement_by t around s)
 
-abbrev pub range_by : Typer → Position → rest.Scalar → (from to : ExpressionR) → (by : Option ExpressionR) → Noted rest.Statement
-range_by t p i a b s = statements.iteration (noted i []) (number_by t p a) (number_by t p b) (step_by t p s) (noted rest.End [])
+abbrev pub range_by : Typer → Position → Position → Bounds → Noted rest.Statement
+range_by t p q b = statements.iteration (index_by t p q b.binding) (number_by t p (resolved.expression_of b.from)) (number_by t p (resolved.expression_of b.to)) (step_by t p (resolved.step_of b.step)) (noted rest.End [])
 
 abbrev pub one : Noted Statement → Noted Statements
 one s = record { tree = Then s.tree End; faults = s.faults }

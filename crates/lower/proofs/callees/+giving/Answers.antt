@@ -1,4 +1,5 @@
 use Rattle.std.proofs.Common.{ap, sym, ◌∙◌}
+use Rattle.plm_type.specs.declared.program.Loop.{Loop}
 use Rattle.plm_type.specs.View.{statement_of, statements_of}
 use Rattle.lower.specs.Expressions.{is_giving, are_giving}
 use Rattle.lower.proofs.Bools.{first_or, second_or}
@@ -32,5 +33,6 @@ is_giving-returns-in-Case t c =
 
 pub is_giving-returns-in-Iterate : goal.is_giving-returns-in-Iterate
 is_giving-returns-in-Iterate t c =
-    c.are_giving-in-Iterate.ensures ∙ ap (λ ss. are_giving (statements_of ss)) c.deref-in-Iterate.ensures.value
+    c.are_giving-in-Iterate.ensures ∙ ap (λ ss. are_giving (statements_of ss)) c.deref-in-Iterate-2.ensures.value
+    ∙ ap (λ (l : Loop). are_giving (statements_of l.body.items)) c.deref-in-Iterate.ensures
     ∙ sym (ap is_giving (ap statement_of c.in-Iterate.is ∙ c.trees_have_their_lists.ensures.iterate c.in-Iterate.field-0 c.in-Iterate.iteration))

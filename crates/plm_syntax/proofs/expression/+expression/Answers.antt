@@ -15,12 +15,12 @@ use Rattle.plm_syntax.specs.View.{name_of, number_of, text_of, expression_of, le
 use Rattle.plm_syntax.specs.Inner.Symbol.{Symbol, depth, need, push, ExpressionR, ExpressionsR, ValueR, ValuesR, Conjunctions, Disjunctions, Want, Do, Leave, PrimaryG, SignedG, NegationG, MoreG, InsideG, AfterReferenceG, SubscriptsG, MoreSubscriptsG, SelectorG, MemberG, MemberSubscriptG, LocatedG, ValueG, NegativeG, MoreValuesG}
 use Rattle.plm_syntax.specs.Inner.Machine.{again, an_expression, a_value_list, reference_begun, closing, make_binary, make_unary, make_parenthesised, make_embedded, add_expression, set_subscripts, set_member, set_member_subscript, locate, locate_values, location_value, add_value, Stop, Reading, run}
 use Rattle.plm_syntax.specs.Inner.Parsed.{ahead, next_of}
-use Rattle.plm_syntax.specs.Inner.Parts.{precedence_view, read_expression, read_boxed, read_operations, read_reference, read_subscripts, read_selector, read_location, read_value, read_values, reference_read, all_precedences}
+use Rattle.plm_syntax.specs.Inner.Parts.{precedence_view, read_expression, read_boxed, read_operations, read_reference, read_subscripts, read_selector, read_location, read_value, read_values, reference_read, all_precedences, looser_than}
 use Rattle.plm_syntax.proofs.Rows.{expression_pushed, operation_pushed, value_pushed}
 use Rattle.plm_syntax.proofs.Seen.{seen, reference_laid, embedded_laid, constants_laid, location_laid, chain_laid}
 use Rattle.plm_syntax.proofs.Along.{out_of_memory, passed_over, quiet, taken, refused, entered, too_deep, deeper, failed, refusal, depth_failure, arrives_behind, arrives_left, operator_taken}
 use Rattle.plm_syntax.proofs.Joined.{arrived, ended, lost, stays_within, closes, closes_by, closes_within, boxes, operated}
-use Rattle.plm_syntax.proofs.NextExpression.{negation_goes, inside_goes, reference_goes, signed_goes, primary_refused, value_refused, negative_refused, member_refused, located_refused, more_subscripts_refused, more_values_refused, located_value, again_relations, again_others, depth_again, all_over}
+use Rattle.plm_syntax.proofs.NextExpression.{negation_goes, inside_goes, reference_goes, signed_goes, primary_refused, value_refused, negative_refused, member_refused, located_refused, more_subscripts_refused, more_values_refused, located_value, again_relations, again_others, depth_again, depth_looser, all_over, no_level, first_operator, looser_operator, no_looser}
 use Rattle.plm_syntax.proofs.expression.+expression.Goals as goal
 
 pub behind_reference-returns-in_err-target-clause-leads : goal.behind_reference-returns-in_err-target-clause-leads
@@ -101,8 +101,11 @@ more-returns-clause-leads t c = λ s v d. arrived (λ (os : Vec Operation). read
 abbrev operation : Position → BinaryOperator → Expression → Operation
 operation p o e = record { place = p; operator = o; operand = e }
 
+pub operations-returns-in_err-list-clause-leads : goal.operations-returns-in_err-list-clause-leads
+operations-returns-in_err-list-clause-leads t c = λ left s v d. out_of_memory (λ (os : Vec Operation). read_operations left os.items) s v c.from_residual.result (run 64 (Want (MoreG (precedence_view c.args.precedence)) ∷ s) (ExpressionR left ∷ v) (ahead c.args.cursor)) c.from_residual.ensures.1
+
 pub operations-returns-in_err-operand-clause-leads : goal.operations-returns-in_err-operand-clause-leads
-operations-returns-in_err-operand-clause-leads t c = λ left s v d. failed (λ (os : Vec Operation). read_operations left os.items) s v c.from_residual.result c.in_err-operand.field-0.0 c.from_residual.ensures.1
+operations-returns-in_err-operand-clause-leads t c = λ left s v d. failed (λ (os : Vec Operation). read_operations left os.items) s v c.from_residual-in_err-operand.result c.in_err-operand.field-0.0 c.from_residual-in_err-operand.ensures.1
     (c.loop-place.invariant.leads left s v d
     ∙ taken (Want (MoreG (precedence_view c.args.precedence)) ∷ s) (read_operations left c.loop-place.list.items v) c.in-Some.ensures.0
     ∙ operator_taken (precedence_view c.args.precedence) c.in-Some.operator c.in-Some.place s (read_operations left c.loop-place.list.items v) (ahead c.in-Some.after) c.in-Some.ensures.1)
@@ -119,7 +122,7 @@ operations-returns-then-is_relations-clause-leads t c = λ left s v d. c.loop-pl
     ∙ ap (λ (os : List Operation). run 64 s (read_operations left os v) (ahead c.in_ok-operand.behind)) (sym c.in_ok-push.ensures.items)
 
 pub operations-loop-place-init : goal.operations-loop-place-init
-operations-loop-place-init t c = record { leads = λ left s v d. ap (λ (os : List Operation). run 64 (Want (MoreG (precedence_view c.args.precedence)) ∷ s) (read_operations left os v) (ahead c.args.cursor)) (sym c.new-list.ensures.items); shorter = omega arith }
+operations-loop-place-init t c = record { leads = λ left s v d. ap (λ (os : List Operation). run 64 (Want (MoreG (precedence_view c.args.precedence)) ∷ s) (read_operations left os v) (ahead c.args.cursor)) (sym c.in_ok-list.ensures.items); shorter = omega arith }
 
 pub operations-loop-place-preserved : goal.operations-loop-place-preserved
 operations-loop-place-preserved t c = record {
@@ -290,6 +293,9 @@ subscripts-returns-in_err-rest-clause-leads t c = λ n s v d. failed (λ es. rea
     ∙ quiet c.in-Some.inner (push (ExpressionsR no_expressions) ∷ an_expression (Do add_expression ∷ Want MoreSubscriptsG ∷ Leave ∷ Do set_subscripts ∷ s)) (an_expression (Do add_expression ∷ Want MoreSubscriptsG ∷ Leave ∷ Do set_subscripts ∷ s)) (reference_read n v) (ExpressionsR no_expressions ∷ reference_read n v) (λ t q. refl))
     (lost read_expression (Do add_expression ∷ Want MoreSubscriptsG ∷ Leave ∷ Do set_subscripts ∷ s) (ExpressionsR no_expressions ∷ reference_read n v) c.whole.result c.in_err-rest.field-0.0 (run 64 (an_expression (Do add_expression ∷ Want MoreSubscriptsG ∷ Leave ∷ Do set_subscripts ∷ s)) (ExpressionsR no_expressions ∷ reference_read n v) (ahead c.in-Some.inner)) c.in_err-rest.ensures (c.whole.ensures.leads (Do add_expression ∷ Want MoreSubscriptsG ∷ Leave ∷ Do set_subscripts ∷ s) (ExpressionsR no_expressions ∷ reference_read n v) (deeper (depth s) c.args.room c.in_ok-inside.inside d c.in_ok-inside.ensures)))
 
+pub subscripts-returns-in_err-list-clause-leads : goal.subscripts-returns-in_err-list-clause-leads
+subscripts-returns-in_err-list-clause-leads t c = λ n s v d. out_of_memory (λ es. read_subscripts n es.items) s v c.from_residual-in_err-list.result (run 64 (Want SubscriptsG ∷ s) (reference_read n v) (ahead c.args.cursor)) c.from_residual-in_err-list.ensures.1
+
 pub subscripts-loop-after-init : goal.subscripts-loop-after-init
 subscripts-loop-after-init t c = record {
   leads = λ n s v d. taken (Want SubscriptsG ∷ s) (reference_read n v) c.in-Some.ensures
@@ -297,7 +303,7 @@ subscripts-loop-after-init t c = record {
       ∙ quiet c.in-Some.inner (push (ExpressionsR no_expressions) ∷ an_expression (Do add_expression ∷ Want MoreSubscriptsG ∷ Leave ∷ Do set_subscripts ∷ s)) (an_expression (Do add_expression ∷ Want MoreSubscriptsG ∷ Leave ∷ Do set_subscripts ∷ s)) (reference_read n v) (ExpressionsR no_expressions ∷ reference_read n v) (λ t q. refl)
       ∙ arrived read_expression (Do add_expression ∷ Want MoreSubscriptsG ∷ Leave ∷ Do set_subscripts ∷ s) (ExpressionsR no_expressions ∷ reference_read n v) c.in_ok-rest.ensures.1.0 (c.whole.ensures.leads (Do add_expression ∷ Want MoreSubscriptsG ∷ Leave ∷ Do set_subscripts ∷ s) (ExpressionsR no_expressions ∷ reference_read n v) (deeper (depth s) c.args.room c.in_ok-inside.inside d c.in_ok-inside.ensures))
       ∙ quiet c.in_ok-rest.rest (Do add_expression ∷ Want MoreSubscriptsG ∷ Leave ∷ Do set_subscripts ∷ s) (Want MoreSubscriptsG ∷ Leave ∷ Do set_subscripts ∷ s) (read_expression c.in_ok-rest.ensures.0 (ExpressionsR no_expressions ∷ reference_read n v)) (ExpressionsR (expressions no_expressions (expression_of c.in_ok-rest.ensures.0)) ∷ (reference_read n v)) (λ t q. refl)
-      ∙ ap (λ (es : List Expression). run 64 (Want MoreSubscriptsG ∷ Leave ∷ Do set_subscripts ∷ s) (ExpressionsR (expressions_of es) ∷ (reference_read n v)) (ahead c.in_ok-rest.rest)) (sym (c.in_ok-rest.ensures.1.1 ∙ ap (λ (es : List Expression). es ++ c.in_ok-rest.ensures.0 ∷ []) c.new-list.ensures.items));
+      ∙ ap (λ (es : List Expression). run 64 (Want MoreSubscriptsG ∷ Leave ∷ Do set_subscripts ∷ s) (ExpressionsR (expressions_of es) ∷ (reference_read n v)) (ahead c.in_ok-rest.rest)) (sym (c.in_ok-rest.ensures.1.1 ∙ ap (λ (es : List Expression). es ++ c.in_ok-rest.ensures.0 ∷ []) c.in_ok-list.ensures.items));
   inside = c.in_ok-inside.ensures;
   shorter = omega (arith, c.in-Some.ensures.shorter, stays_within c.in-Some.inner c.in_ok-rest.ensures.1.0 c.whole.ensures.within);
 }
@@ -418,5 +424,25 @@ whole-returns-clause-leads t c = λ s v d. arrives_behind read_expression s v c.
     (negation_goes c.args.cursor (Want (MoreG Conjunctions) ∷ Want (MoreG Disjunctions) ∷ s) v c.in_default.ensures ∙ c.in_ok-first.ensures.leads (all_precedences s) v d)
     (c.climb.ensures.leads s v d)
 
-pub climb-returns-then-not-is_at_operator-clause-leads : goal.climb-returns-then-not-is_at_operator-clause-leads
-climb-returns-then-not-is_at_operator-clause-leads t c = λ s v d. all_over c.args.cursor s (read_expression c.args.first v) (sym c.is_at_operator.ensures ∙ c.if-not-is_at_operator.true)
+pub climb-returns-in-Some-clause-leads : goal.climb-returns-in-Some-clause-leads
+climb-returns-in-Some-clause-leads t c = λ s v d. arrives_behind read_expression s v c.climb_from.result
+    (first_operator (precedence_view c.in-Some.precedence) c.args.cursor s (read_expression c.args.first v) (sym c.in-Some.ensures))
+    (c.climb_from.ensures.leads s v d)
+
+pub climb-returns-in-None-clause-leads : goal.climb-returns-in-None-clause-leads
+climb-returns-in-None-clause-leads t c = λ s v d. all_over c.args.cursor s (read_expression c.args.first v) (no_level (next_of c.args.cursor) (sym c.in-None.ensures))
+
+pub climb_from-returns-in_err-left-clause-leads : goal.climb_from-returns-in_err-left-clause-leads
+climb_from-returns-in_err-left-clause-leads t c = λ s v d. let l = precedence_view c.args.precedence in failed read_expression s v c.from_residual.result c.in_err-left.field-0.0 c.from_residual.ensures.1 refl
+    (c.in_err-left.ensures.leads (looser_than l s) v (ap (λ (n : ℕ). n + c.args.room) (depth_looser l s) ∙ d))
+
+pub climb_from-returns-in-Some-clause-leads : goal.climb_from-returns-in-Some-clause-leads
+climb_from-returns-in-Some-clause-leads t c = λ s v d. let l = precedence_view c.args.precedence in arrives_behind read_expression s v c.climb_from.result
+    (c.in_ok-left.ensures.leads (looser_than l s) v (ap (λ (n : ℕ). n + c.args.room) (depth_looser l s) ∙ d)
+    ∙ looser_operator l (precedence_view c.in-Some.next) c.in_ok-left.rest s (read_expression c.in_ok-left.left v) (sym c.in-Some.ensures.level))
+    (c.climb_from.ensures.leads s v d)
+
+pub climb_from-returns-in-None-clause-leads : goal.climb_from-returns-in-None-clause-leads
+climb_from-returns-in-None-clause-leads t c = λ s v d. let l = precedence_view c.args.precedence in
+    c.in_ok-left.ensures.leads (looser_than l s) v (ap (λ (n : ℕ). n + c.args.room) (depth_looser l s) ∙ d)
+    ∙ no_looser l c.in_ok-left.rest s (read_expression c.in_ok-left.left v) (sym c.in-None.ensures.level)

@@ -5,7 +5,7 @@ use Rattle.plm_syntax.specs.View.{expressions_of, values_of}
 use Rattle.plm_syntax.specs.Inner.Symbol.{Value, Precedence, Symbol, depth, Products, Sums, Relations, Conjunctions, Disjunctions, ExpressionR, ExpressionsR, ValuesR, Want, Do, Leave, MoreG, SubscriptsG, MoreSubscriptsG, MoreValuesG}
 use Rattle.plm_syntax.specs.Inner.Machine.{a_value_list, set_subscripts, run}
 use Rattle.plm_syntax.specs.Inner.Parsed.{ahead}
-use Rattle.plm_syntax.specs.Inner.Parts.{precedence_view, read_operations, reference_read}
+use Rattle.plm_syntax.specs.Inner.Parts.{precedence_view, tightness, read_operations, reference_read}
 use Rattle.plm_syntax.proofs.expression.+expression.Given as goal
 
 -- how many calls may follow one at the same token
@@ -23,10 +23,13 @@ abbrev pub decreases-operations : goal.decreases-operations
 decreases-operations l = 16 * length l.cursor.tokens.now
 
 abbrev pub decreases-climb : goal.decreases-climb
-decreases-climb l = 16 * length l.cursor.tokens.now + 2
+decreases-climb l = 16 * length l.cursor.tokens.now + 10
+
+abbrev pub decreases-climb_from : goal.decreases-climb_from
+decreases-climb_from l = 16 * length l.cursor.tokens.now + (2 + tightness (precedence_view l.precedence))
 
 abbrev pub decreases-behind_reference : goal.decreases-behind_reference
-decreases-behind_reference l = 16 * length l.cursor.tokens.now + 3
+decreases-behind_reference l = 16 * length l.cursor.tokens.now + 11
 
 abbrev pub decreases-subscripts : goal.decreases-subscripts
 decreases-subscripts l = 16 * length l.cursor.tokens.now

@@ -4,7 +4,7 @@ use Rattle.plm_syntax.specs.declared.tree.Name.{Name as NameTree}
 use Rattle.plm_syntax.specs.declared.tree.Statement.{Statement}
 use Rattle.std.specs.Global.{Box}
 use Rattle.plm_syntax.specs.declared.tree.Expression.{Expression}
-use Rattle.plm_syntax.specs.declared.statement.Bounds.{Bounds}
+use Rattle.plm_syntax.specs.declared.tree.Bounds.{Bounds}
 use Rattle.plm_syntax.specs.declared.tree.Item.{Item}
 use Rattle.plm_syntax.specs.Tree.{BlockT, ProcedureI, NamesT, names, no_names, ReferenceE, no_references, StatementsT, statements, no_statements, ItemsT, items, no_items, no_elements, DeclareI, Labelled, IfS, IfElseS, DoS, WhileS, CaseS, IterateS, BlockOf}
 use Rattle.plm_syntax.specs.View.{block_of, name_of, base_of, names_of, expression_of, elements_of, statement_of, statements_of, items_of, step_of, counted, linkage_of}
@@ -155,9 +155,9 @@ pub iteration-returns-clause-leads : goal.iteration-returns-clause-leads
 iteration-returns-clause-leads t c = λ ls s v d. c.in_ok-header.ensures.leads (name_of c.args.index) (no_statement_yet ∷ Want (StatementsG (base_of c.args.label)) ∷ Do (make_iterate c.args.place) ∷ s) (NamesR ls ∷ v) d
     ∙ quiet c.in_ok-header.start (no_statement_yet ∷ Want (StatementsG (base_of c.args.label)) ∷ Do (make_iterate c.args.place) ∷ s) (Want (StatementsG (base_of c.args.label)) ∷ Do (make_iterate c.args.place) ∷ s) (read_range (name_of c.args.index) c.in_ok-header.header (NamesR ls ∷ v)) (StatementsR no_statements ∷ read_range (name_of c.args.index) c.in_ok-header.header (NamesR ls ∷ v)) (λ t q. refl)
     ∙ arrived read_body (Do (make_iterate c.args.place) ∷ s) (read_range (name_of c.args.index) c.in_ok-header.header (NamesR ls ∷ v)) c.in_ok-bounds.ensures.1 (c.statements.ensures.leads (Do (make_iterate c.args.place) ∷ s) (read_range (name_of c.args.index) c.in_ok-header.header (NamesR ls ∷ v)) d)
-    ∙ ap (λ (x : Bounds). run 64 (Do (make_iterate c.args.place) ∷ s) (read_body (c.in_ok-bounds.body, c.in_ok-bounds.end) (read_range (name_of c.args.index) x (NamesR ls ∷ v))) (ahead c.in_ok-bounds.rest)) (sym c.in_ok-bounds.ensures.0)
-    ∙ quiet c.in_ok-bounds.rest (Do (make_iterate c.args.place) ∷ s) s (read_body (c.in_ok-bounds.body, c.in_ok-bounds.end) (read_range (name_of c.args.index) c.in_ok-bounds.bounds (NamesR ls ∷ v))) (StatementR (Labelled ls (IterateS c.args.place (name_of c.args.index) (expression_of c.in_ok-bounds.bounds.first) (expression_of c.in_ok-bounds.bounds.last) (step_of c.in_ok-bounds.bounds.step) (statements_of c.in_ok-bounds.body.items) (base_of c.in_ok-bounds.end))) ∷ v) (λ t q. refl)
-    ∙ ap (λ (x : StatementsT). run 64 s (StatementR (Labelled ls (IterateS c.args.place (name_of c.args.index) (expression_of c.in_ok-bounds.bounds.first) (expression_of c.in_ok-bounds.bounds.last) (step_of c.in_ok-bounds.bounds.step) x (base_of c.in_ok-bounds.end))) ∷ v) (ahead c.in_ok-bounds.rest)) (sym (statement_row c.in_ok-bounds.body))
+    ∙ ap (λ (x : Box Bounds). run 64 (Do (make_iterate c.args.place) ∷ s) (read_body (c.in_ok-bounds.body, c.in_ok-bounds.end) (read_range (name_of c.args.index) x (NamesR ls ∷ v))) (ahead c.in_ok-bounds.rest)) (sym c.in_ok-bounds.ensures.0)
+    ∙ quiet c.in_ok-bounds.rest (Do (make_iterate c.args.place) ∷ s) s (read_body (c.in_ok-bounds.body, c.in_ok-bounds.end) (read_range (name_of c.args.index) c.in_ok-bounds.bounds (NamesR ls ∷ v))) (StatementR (Labelled ls (IterateS c.args.place (name_of c.args.index) (expression_of c.in_ok-bounds.bounds.value.first) (expression_of c.in_ok-bounds.bounds.value.last) (step_of c.in_ok-bounds.bounds.value.step) (statements_of c.in_ok-bounds.body.items) (base_of c.in_ok-bounds.end))) ∷ v) (λ t q. refl)
+    ∙ ap (λ (x : StatementsT). run 64 s (StatementR (Labelled ls (IterateS c.args.place (name_of c.args.index) (expression_of c.in_ok-bounds.bounds.value.first) (expression_of c.in_ok-bounds.bounds.value.last) (step_of c.in_ok-bounds.bounds.value.step) x (base_of c.in_ok-bounds.end))) ∷ v) (ahead c.in_ok-bounds.rest)) (sym (statement_row c.in_ok-bounds.body))
 
 pub statements-returns-in_err-list-clause-leads : goal.statements-returns-in_err-list-clause-leads
 statements-returns-in_err-list-clause-leads t c = λ s v d. out_of_memory read_body s v c.from_residual.result (run 64 (Want (StatementsG (base_of c.args.label)) ∷ s) (StatementsR no_statements ∷ v) (ahead c.args.cursor)) c.from_residual.ensures.1

@@ -9,13 +9,13 @@ use Rattle.plm_syntax.specs.Inner.Parsed.{ahead, next_of}
 use Rattle.plm_syntax.specs.Inner.Blocks.{read_basic}
 use Rattle.plm_syntax.specs.Inner.Parts.{read_expression, read_reference, reference_read}
 use Rattle.plm_syntax.proofs.Rows.{reference_pushed}
-use Rattle.plm_syntax.proofs.Along.{quiet, taken, refused, failed, refusal}
+use Rattle.plm_syntax.proofs.Along.{out_of_memory, quiet, taken, refused, failed, refusal}
 use Rattle.plm_syntax.proofs.NextBlock.{more_targets_refused, target_refused}
 use Rattle.plm_syntax.proofs.statement.assignment.Goals as goal
 
 pub loop-after-init : goal.loop-after-init
 loop-after-init c = record {
-  leads = λ ls s v d. c.in_ok-first.ensures.leads (Want MoreTargetsG ∷ s) (ReferencesR no_references ∷ NamesR ls ∷ v) d ∙ ap (λ (xs : List Reference). run 64 (Want MoreTargetsG ∷ s) (read_reference c.in_ok-first.first (ReferencesR (references_from xs no_references) ∷ NamesR ls ∷ v)) (ahead c.in_ok-first.rest)) (sym c.new-targets.ensures.items);
+  leads = λ ls s v d. c.in_ok-first.ensures.leads (Want MoreTargetsG ∷ s) (ReferencesR no_references ∷ NamesR ls ∷ v) d ∙ ap (λ (xs : List Reference). run 64 (Want MoreTargetsG ∷ s) (read_reference c.in_ok-first.first (ReferencesR (references_from xs no_references) ∷ NamesR ls ∷ v)) (ahead c.in_ok-first.rest)) (sym c.in_ok-targets.ensures.items);
   shorter = c.in_ok-first.ensures.within;
 }
 
@@ -30,6 +30,9 @@ loop-after-preserved c = record {
       ∙ ap (λ (xs : List Reference). run 64 (Want MoreTargetsG ∷ s) (read_reference c.in_ok-next.next (ReferencesR (references_from xs no_references) ∷ NamesR ls ∷ v)) (ahead c.in_ok-next.behind)) (sym c.in_ok-push.ensures.items);
   shorter = omega (arith, c.loop-after.invariant.shorter, c.in-Some.ensures.shorter, c.in_ok-name.ensures.shorter, c.in_ok-next.ensures.within);
 }
+
+pub returns-in_err-targets-clause-leads : goal.returns-in_err-targets-clause-leads
+returns-in_err-targets-clause-leads c = λ ls s v d. out_of_memory (read_basic ls) s v c.from_residual.result (run 64 (Want SubscriptsG ∷ Want SelectorG ∷ Want MoreTargetsG ∷ s) (reference_read (name_of c.args.name) (ReferencesR no_references ∷ NamesR ls ∷ v)) (ahead c.args.cursor)) c.from_residual.ensures.1
 
 pub returns-in_err-name-clause-leads : goal.returns-in_err-name-clause-leads
 returns-in_err-name-clause-leads c = λ ls s v d. failed (read_basic ls) s v c.from_residual-in_err-name.result c.in_err-name.field-0.0 c.from_residual-in_err-name.ensures.1

@@ -2,14 +2,15 @@ use Rattle.std.proofs.Common.{◌∷◌, List, None, refl, sym, ap, ◌∙◌, a
 use Rattle.plm_token.specs.declared.token.Mark.TheVariants as mark
 use Rattle.plm_token.specs.declared.token.Keyword.TheVariants as key
 use Rattle.plm_syntax.specs.declared.tree.Expression.{Expression}
+use Rattle.plm_syntax.specs.declared.tree.Bounds.{Bounds}
 use Rattle.plm_syntax.specs.Terminal.{Sign, Key}
 use Rattle.plm_syntax.specs.View.{expression_of, step_of}
 use Rattle.plm_syntax.specs.Inner.Symbol.{Symbol, need, push, Need, Want, Do, NameR, StepR, RangeR, StepG}
 use Rattle.plm_syntax.specs.Inner.Machine.{an_expression, make_range, run}
 use Rattle.plm_syntax.specs.Inner.Parsed.{ahead}
-use Rattle.plm_syntax.specs.Inner.Blocks.{read_range, read_step}
+use Rattle.plm_syntax.specs.Inner.Blocks.{read_range, read_step, range_goals}
 use Rattle.plm_syntax.specs.Inner.Parts.{read_expression}
-use Rattle.plm_syntax.proofs.Along.{quiet, taken, need_refused, failed, refusal}
+use Rattle.plm_syntax.proofs.Along.{out_of_memory, quiet, taken, need_refused, failed, refusal}
 use Rattle.plm_syntax.proofs.Joined.{arrived, ended, stays_within, stays_less}
 use Rattle.plm_syntax.proofs.statement.range.Goals as goal
 
@@ -43,6 +44,9 @@ returns-in_err-first-clause-leads c = λ i s v d. failed (read_range i) s v c.fr
     (ended read_step s (RangeR i (expression_of c.in_ok-start.start) (expression_of c.in_ok-ends.ends.1) ∷ v) (run 64 (Want StepG ∷ need mark.Semicolon ∷ s) (StepR None ∷ RangeR i (expression_of c.in_ok-start.start) (expression_of c.in_ok-ends.ends.1) ∷ v) (ahead c.in_ok-ends.behind)) c.in_err-first.ensures
     (c.step.ensures.leads s (RangeR i (expression_of c.in_ok-start.start) (expression_of c.in_ok-ends.ends.1) ∷ v) d))
 
+pub returns-in_err-bounds-clause-leads : goal.returns-in_err-bounds-clause-leads
+returns-in_err-bounds-clause-leads c = λ i s v d. out_of_memory (read_range i) s v c.from_residual-in_err-bounds.result (run 64 (range_goals s) (NameR i ∷ v) (ahead c.args.cursor)) c.from_residual-in_err-bounds.ensures.1
+
 pub returns-clause-leads : goal.returns-clause-leads
 returns-clause-leads c = λ i s v d. taken (need mark.Equal ∷ an_expression (Need (Key key.To) ∷ an_expression (to_step s))) (NameR i ∷ v) c.in_ok-begun.ensures.1
     ∙ c.in_ok-start.ensures.leads (an_expression (to_step s)) (NameR i ∷ v) d
@@ -51,6 +55,7 @@ returns-clause-leads c = λ i s v d. taken (need mark.Equal ∷ an_expression (N
     ∙ arrived read_step s (RangeR i (expression_of c.in_ok-start.start) (expression_of c.in_ok-ends.ends.1) ∷ v) c.in_ok-first.ensures.1 (c.step.ensures.leads s (RangeR i (expression_of c.in_ok-start.start) (expression_of c.in_ok-ends.ends.1) ∷ v) d)
     ∙ ap (λ (x : Expression). run 64 s (StepR (step_of c.in_ok-first.step) ∷ RangeR i (expression_of x) (expression_of c.in_ok-ends.ends.1) ∷ v) (ahead c.in_ok-first.rest)) (sym c.in_ok-ends.ensures.0)
     ∙ ap (λ (x : Expression × Expression). run 64 s (StepR (step_of c.in_ok-first.step) ∷ RangeR i (expression_of x.0) (expression_of x.1) ∷ v) (ahead c.in_ok-first.rest)) (sym c.in_ok-first.ensures.0)
+    ∙ ap (λ (x : Bounds). run 64 s (StepR (step_of x.step) ∷ RangeR i (expression_of x.first) (expression_of x.last) ∷ v) (ahead c.in_ok-first.rest)) (sym c.in_ok-bounds.ensures.ok)
 
 pub returns-clause-within : goal.returns-clause-within
 returns-clause-within c = omega (arith, c.in_ok-begun.ensures.1.shorter, c.in_ok-start.ensures.within, stays_within c.in_ok-start.bound c.in_ok-ends.ensures.1 c.expression.ensures.within, stays_less c.in_ok-ends.behind c.in_ok-first.ensures.1 c.step.ensures.within)

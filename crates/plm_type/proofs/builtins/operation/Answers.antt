@@ -1,4 +1,4 @@
-use Rattle.std.proofs.Common.{[], ◌∷◌, ◌++◌, sym, ap, ◌∙◌}
+use Rattle.std.proofs.Common.{sym, ap, ◌∙◌}
 use Rattle.plm_type.specs.Rest as rest
 use Rattle.plm_type.specs.View.{expression_of, chained}
 use Rattle.plm_type.proofs.Rows.{operation_row}
@@ -19,6 +19,6 @@ pub returns : goal.returns
 returns c =
     let o = c.args.operation in
     let e = expression_of c.in_ok-new.field-0.value in
-    operation_row c.push-2.new.self e
-    ∙ ap (chained e) (c.in_ok-push-2.ensures.items ∙ ap (λ l. l ++ o ∷ []) c.new-others.ensures.items)
+    operation_row c.in_ok-others.others e
+    ∙ ap (chained e) c.in_ok-others.ensures
     ∙ ap (λ l. rest.Binary o.line.module o.line.line o.operation o.width (expression_of l) (expression_of o.operand)) c.in_ok-new.ensures.ok

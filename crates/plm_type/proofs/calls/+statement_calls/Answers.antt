@@ -38,11 +38,11 @@ pub add_statement-returns-in_ok-add_calls-in-Iterate : goal.add_statement-return
 add_statement-returns-in_ok-add_calls-in-Iterate t c =
     let old = c.args.called.now.items in
     let e = view.expression_of c.in-Iterate.first in
-    let r = c.in-Iterate.rounds in
+    let r = c.in-Iterate.rounds.value in
     let is = ap view.statement_of c.in-Iterate.is
     ∙ ap (λ (ss : rest.Statements). rest.Iterate e (rest.Count (view.scalar_of r.index) (view.expression_of r.bound) (view.expression_of r.step) ss)) (statement_row r.body) in
     let path =
-    ap (λ (l : List ℕ). l ++ spec.loop_calls (view.loop_of r)) c.in_ok-add_calls-in-Iterate.ensures
+    (λ j. c.in_ok-add_calls-in-Iterate.ensures j ++ spec.loop_calls (view.loop_of (c.deref-in-Iterate.ensures j)))
     ∙ append_assoc old (spec.calls_in e) (spec.loop_calls (view.loop_of r))
     ∙ ap (λ (s : rest.Statement). old ++ spec.statement_calls s) (sym is) in
     subst (λ (l : List ℕ). OnOk c.add_rounds.result (c.add_rounds.new.called.items ≡ l)) path c.add_rounds.ensures

@@ -1,6 +1,6 @@
 use Rattle.std.proofs.Common.{◌≡◌, ◌+◌, drop, [], ◌∷◌, ◌++◌, OnOk, List, append_assoc, append-nil, subst, sym, ap, ◌∙◌}
 use Rattle.plm_decl.specs.declared.resolved.Operation.{Operation}
-use Rattle.plm_decl.specs.Resolved.{ExpressionR, ReferenceR, ReferenceR', EmbeddedR, BinaryR, LocationR', LocationOf}
+use Rattle.plm_decl.specs.Resolved.{ExpressionR, BinaryR, LocationR'}
 use Rattle.plm_decl.specs.ResolvedView as resolved
 use Rattle.plm_type.specs.declared.effects.Effect.{Effect}
 use Rattle.plm_type.specs.Effects as spec

@@ -1,5 +1,6 @@
 use Rattle.std.proofs.Common.{◌≡◌, ◌+◌, ◌++◌, OnOk, List, drop, append_assoc, subst, sym, ap, ◌∙◌}
-use Rattle.plm_decl.specs.Resolved.{StatementR, DoR, WhileR, CaseR, IterateR}
+use Rattle.plm_decl.specs.declared.resolved.Bounds.{Bounds}
+use Rattle.plm_decl.specs.Resolved.{StatementR}
 use Rattle.plm_decl.specs.ResolvedView as resolved
 use Rattle.plm_type.specs.declared.effects.Effect.{Effect}
 use Rattle.plm_type.specs.Effects as spec
@@ -39,21 +40,25 @@ add_statement-returns-in_ok-add_expression-in-Case t c =
     ∙ ap (λ (s : StatementR). old ++ spec.of_statement s) (sym is) in
     subst (λ (l : List Effect). OnOk c.add_statements-in-Case.result (c.add_statements-in-Case.new.effects.items ≡ l)) path c.add_statements-in-Case.ensures
 
-pub add_statement-returns-in_ok-add_step-in-Iterate : goal.add_statement-returns-in_ok-add_step-in-Iterate
-add_statement-returns-in_ok-add_step-in-Iterate t c =
+-- what stands before the statements of an iterative DO
+abbrev before : Bounds → List Effect
+before b = spec.of_expression (resolved.expression_of b.from) ++ (spec.of_expression (resolved.expression_of b.to) ++ spec.of_step (resolved.step_of b.step))
+
+pub add_statement-returns-in_ok-add_bounds-in-Iterate : goal.add_statement-returns-in_ok-add_bounds-in-Iterate
+add_statement-returns-in_ok-add_bounds-in-Iterate t c =
     let old = c.args.effects.now.items in
     let at = c.in-Iterate in
-    let a = spec.of_expression (resolved.expression_of at.first) in
-    let b = spec.of_expression (resolved.expression_of at.bound) in
-    let s = spec.of_step (resolved.step_of at.step) in
+    let bounds = at.bounds.value in
+    let a = spec.of_expression (resolved.expression_of bounds.from) in
+    let b = spec.of_expression (resolved.expression_of bounds.to) in
+    let s = spec.of_step (resolved.step_of bounds.step) in
     let body = spec.of_statements (resolved.statements_of at.body.items) in
-    let is = ap resolved.statement_of at.is
-    ∙ c.resolved_trees_have_their_lists.ensures.iterate at.field-0 at.field-1 at.field-2 at.first at.bound at.step at.body in
-    let two = c.in_ok-add_expression-in-Iterate-2.ensures ∙ ap (λ (l : List Effect). l ++ b) c.in_ok-add_expression-in-Iterate.ensures in
-    let three = c.in_ok-add_step-in-Iterate.ensures ∙ ap (λ (l : List Effect). l ++ s) two in
+    let is = ap resolved.statement_of at.is ∙ c.resolved_trees_have_their_lists.ensures.iterate at.field-0 at.field-1 at.bounds at.body in
+    let done = c.in_ok-add_bounds-in-Iterate.ensures ∙ ap (λ (x : Bounds). old ++ before x) c.deref-in-Iterate.ensures in
     let path =
-    (λ j. three j ++ spec.of_statements (resolved.statements_of (c.deref-in-Iterate.ensures.value j)))
-    ∙ append_assoc ((old ++ a) ++ b) s body ∙ append_assoc (old ++ a) b (s ++ body) ∙ append_assoc old a (b ++ (s ++ body))
+    (λ j. done j ++ spec.of_statements (resolved.statements_of (c.deref-in-Iterate-2.ensures.value j)))
+    ∙ append_assoc old (a ++ (b ++ s)) body
+    ∙ ap (λ (l : List Effect). old ++ l) (append_assoc a (b ++ s) body ∙ ap (λ (l : List Effect). a ++ l) (append_assoc b s body))
     ∙ ap (λ (x : StatementR). old ++ spec.of_statement x) (sym is) in
     subst (λ (l : List Effect). OnOk c.add_statements-in-Iterate.result (c.add_statements-in-Iterate.new.effects.items ≡ l)) path c.add_statements-in-Iterate.ensures
 

@@ -1,6 +1,6 @@
 use Rattle.std.proofs.Common.{◌≡◌, ◌++◌, ℕ, OnOk, map, vec_items, drop, ap, subst, sym, ◌∙◌, arith}
-use Rattle.plm_type.specs.Rest.{Block, While, Case}
-use Rattle.plm_type.specs.View.{statement_of, statements_of, expression_of, procedures_of}
+use Rattle.plm_type.specs.Rest.{Block, While, Case, Iterate}
+use Rattle.plm_type.specs.View.{statement_of, statements_of, expression_of, loop_of, procedures_of}
 use Rattle.lower.specs.Statements.{statement_code, statements_code, cases_code, are_silent}
 use Rattle.lower.specs.Inner.Parts.{branching}
 use Rattle.lower.proofs.Turned.{turned}
@@ -29,7 +29,7 @@ statement-returns-in-Case-clause-code t c =
 pub statement-returns-in-Iterate-clause-code : goal.statement-returns-in-Iterate-clause-code
 statement-returns-in-Iterate-clause-code t c =
     let ps = procedures_of c.args.self.callees.procedures.now in
-    let is = sym (ap statement_of c.in-Iterate.is ∙ c.trees_have_their_lists.ensures.iterate c.in-Iterate.first c.in-Iterate.iteration) in
+    let is = ap (λ l. Iterate (expression_of c.in-Iterate.first) (loop_of l)) c.deref-in-Iterate.ensures ∙ sym (ap statement_of c.in-Iterate.is ∙ c.trees_have_their_lists.ensures.iterate c.in-Iterate.first c.in-Iterate.iteration) in
     subst (λ s. OnOk c.iteration.result (c.iteration.new.code.items ≡ c.args.code.now.items ++ statement_code ps c.args.self.kind c.args.exit s)) is c.iteration.ensures.code
 
 pub statement-returns-in_ok-otherwise-in-If-clause-code : goal.statement-returns-in_ok-otherwise-in-If-clause-code

@@ -2,6 +2,7 @@ use Rattle.std.proofs.Common.{◌≡◌, ℕ, length, List, ◌∷◌, ◌||◌,
 use Rattle.std.specs.Prelude.{IfOk}
 use Rattle.std.proofs.lemmas.List.{take_all}
 use Rattle.plm_syntax.specs.declared.tree.Basic.{Basic}
+use Rattle.plm_syntax.specs.declared.tree.Bounds.{Bounds}
 use Rattle.plm_syntax.specs.declared.tree.Item.{Item}
 use Rattle.plm_syntax.specs.declared.tree.Name.{Name}
 use Rattle.plm_syntax.specs.declared.tree.Procedure.{Procedure}
@@ -111,10 +112,11 @@ basic-returns-in_ok-bounds-in-Iterate t c =
     let k = known_of c.args.resolver.now in
     let label = last_name (tree.names_of c.args.labels.now) in
     let at = c.in-Iterate in
-    let read = bounds_for frames (tree.name_of at.index) (tree.expression_of at.from) (tree.expression_of at.to) (tree.step_of at.by) k in
-    let did = c.in_ok-bounds-in-Iterate.ensures in
+    let bounds = λ (b : Bounds). bounds_for frames (tree.name_of at.index) (tree.expression_of b.first) (tree.expression_of b.last) (tree.step_of b.step) k in
+    let read = bounds at.values.value in
+    let did = c.in_ok-bounds-in-Iterate.ensures ∙ ap bounds c.deref-in-Iterate.ensures in
     let all =
-    (λ j. iterated at.place at.index.place (did j).0 (statements frames (tree.statements_of (c.deref-in-Iterate.ensures.value j)) (did j).1))
+    (λ j. iterated at.place at.index.place (did j).0 (statements frames (tree.statements_of (c.deref-in-Iterate-2.ensures.value j)) (did j).1))
     ∙ ap (λ (ss : StatementsT). iterated at.place at.index.place read.0 (statements frames ss read.1)) (sym (statement_row at.body))
     ∙ ap (λ (b : Basic). basic frames label (tree.basic_of b) k) (sym at.is) in
     subst (λ (x : StatementR × Known). IfOk c.iteration.result (λ s. (view.statement_of s, known_of c.iteration.new.self) ≡ x)) all c.iteration.ensures
@@ -165,7 +167,7 @@ selection-returns t c =
 pub iteration-returns : goal.iteration-returns
 iteration-returns t c =
     let body = c.in_ok-body in
-    let made = iterated c.args.place c.args.index (bounds_of c.args.bounds) in
+    let made = iterated c.args.place c.args.index (bounds_of c.args.bounds.value) in
     (λ j. made (rows.statement_row body.body j, known_of c.statements.new.self)) ∙ ap made body.ensures
 
 pub statements-loop-statement-preserved : goal.statements-loop-statement-preserved

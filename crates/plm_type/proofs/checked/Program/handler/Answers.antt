@@ -1,4 +1,4 @@
-use Rattle.std.proofs.Common.{◌≡◌, ap, sym, slice_get, ◌∙◌}
+use Rattle.std.proofs.Common.{ap, sym, slice_get, ◌∙◌}
 use Rattle.plm_type.specs.Next.{body_of}
 use Rattle.plm_type.specs.Programs.{procedures_of, body_for}
 use Rattle.plm_type.specs.View as view

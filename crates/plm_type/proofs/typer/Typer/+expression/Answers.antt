@@ -6,7 +6,7 @@ use Rattle.plm_decl.specs.declared.found.Found.{Found}
 use Rattle.plm_decl.specs.declared.resolved.Binding.{Binding}
 use Rattle.plm_decl.specs.declared.resolved.Expression as declared_resolved
 use Rattle.plm_decl.specs.declared.resolved.Reference.{Reference}
-use Rattle.plm_decl.specs.Resolved.{ExpressionR, TextR, ReferenceR, ParenthesisedR, EmbeddedR, ReferenceR', Use, ExpressionsR, LocationR', LocationOf}
+use Rattle.plm_decl.specs.Resolved.{ExpressionR, TextR, ReferenceR, ParenthesisedR, ReferenceR', Use, ExpressionsR, LocationR', LocationOf}
 use Rattle.plm_decl.specs.ResolvedView as resolved
 use Rattle.plm_type.specs.declared.program.Expression.{Expression}
 use Rattle.plm_type.specs.declared.typer.Typed as declared

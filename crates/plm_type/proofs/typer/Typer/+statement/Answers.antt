@@ -1,17 +1,19 @@
-use Rattle.std.proofs.Common.{◌+◌, [], ◌++◌, List, drop, append_assoc, sym, ap, ◌∙◌}
+use Rattle.std.proofs.Common.{◌+◌, ◌++◌, List, drop, append_assoc, sym, ap, ◌∙◌}
 use Rattle.std.proofs.lemmas.List.{append-nil, drop_all}
 use Rattle.std.specs.Global.{Box}
 use Rattle.plm_decl.specs.declared.found.Found.{Found}
+use Rattle.plm_decl.specs.declared.resolved.Bounds.{Bounds}
 use Rattle.plm_decl.specs.declared.resolved.Statement as declared_resolved
 use Rattle.plm_decl.specs.Resolved.{StatementR, IfR, IfElseR, DoR, WhileR, CaseR, IterateR, StatementsR}
 use Rattle.plm_decl.specs.ResolvedView as resolved
+use Rattle.plm_type.specs.declared.program.Loop.{Loop}
 use Rattle.plm_type.specs.declared.program.Statement.{Statement}
 use Rattle.plm_type.specs.Rest as rest
-use Rattle.plm_type.specs.Inner.Typer.{one, noted, noted_after, number_by, index_by, step_by, statement_by, statements_by}
+use Rattle.plm_type.specs.Inner.Typer.{one, noted, noted_after, number_by, index_by, step_by, range_by, statement_by, statements_by}
 use Rattle.plm_type.specs.Typer.{Noted}
 use Rattle.plm_type.specs.Statements as spec
 use Rattle.plm_type.specs.View as view
-use Rattle.plm_type.proofs.Rows.{statement_row}
+use Rattle.plm_type.proofs.Rows.{statement_row, iterate_tree}
 use Rattle.plm_type.proofs.Said.{noted_moved}
 use Rattle.plm_type.proofs.Lists.{statements_at, statements_before, statements_pushed, statements_all, noted_before}
 use Rattle.plm_type.proofs.typer.Typer.+statement.Goals as goal
@@ -85,20 +87,20 @@ statement-returns-in_ok-range-in-Iterate t c =
     let around = c.args.around in
     let old = c.args.faults.now.items in
     let at = c.in-Iterate in
-    let of = IterateR at.place at.name at.index (resolved.expression_of at.from) (resolved.expression_of at.to) (resolved.step_of at.by) in
-    let is = ap (λ (l : List declared_resolved.Statement). of (resolved.statements_of l)) c.deref-in-Iterate.ensures.value ∙ sym (ap resolved.statement_of at.is ∙ c.resolved_trees_have_their_lists.ensures.iterate at.place at.name at.index at.from at.to at.by at.body) in
-    let index = c.in_ok-index-in-Iterate.ensures in
-    let range = c.in_ok-range-in-Iterate.ensures in
-    let i = index_by self at.place at.name at.index in
-    let a = number_by self at.place (resolved.expression_of at.from) in
-    let b = number_by self at.place (resolved.expression_of at.to) in
-    let s = step_by self at.place (resolved.step_of at.by) in
-    let all = statements_by self around (resolved.statements_of c.deref-in-Iterate.result.now) in
-    let faults = ap (λ (l : List Found). ((old ++ i.faults) ++ (a.faults ++ (b.faults ++ l))) ++ all.faults) (append-nil s.faults)
-    ∙ append_assoc (old ++ i.faults) (a.faults ++ (b.faults ++ s.faults)) all.faults ∙ append_assoc old i.faults ((a.faults ++ (b.faults ++ s.faults)) ++ all.faults)
+    let bounds = at.bounds.value in
+    let of = IterateR at.place at.name bounds.binding (resolved.expression_of bounds.from) (resolved.expression_of bounds.to) (resolved.step_of bounds.step) in
+    let is = ap (λ (l : List declared_resolved.Statement). of (resolved.statements_of l)) c.deref-in-Iterate-2.ensures.value ∙ sym (ap resolved.statement_of at.is ∙ c.resolved_trees_have_their_lists.ensures.iterate at.place at.name at.bounds at.body) in
+    let range = c.in_ok-range-in-Iterate.ensures ∙ ap (λ (x : Bounds). noted_after old (range_by self at.place at.name x)) c.deref-in-Iterate.ensures in
+    let i = index_by self at.place at.name bounds.binding in
+    let a = number_by self at.place (resolved.expression_of bounds.from) in
+    let b = number_by self at.place (resolved.expression_of bounds.to) in
+    let s = step_by self at.place (resolved.step_of bounds.step) in
+    let all = statements_by self around (resolved.statements_of c.deref-in-Iterate-2.result.now) in
+    let faults = ap (λ (l : List Found). (old ++ (i.faults ++ (a.faults ++ (b.faults ++ l)))) ++ all.faults) (append-nil s.faults)
+    ∙ append_assoc old (i.faults ++ (a.faults ++ (b.faults ++ s.faults))) all.faults
+    ∙ ap (λ (l : List Found). old ++ l) (append_assoc i.faults (a.faults ++ (b.faults ++ s.faults)) all.faults)
     ∙ ap (λ (l : List Found). old ++ (i.faults ++ l)) (append_assoc a.faults (b.faults ++ s.faults) all.faults ∙ ap (λ (l : List Found). a.faults ++ l) (append_assoc b.faults s.faults all.faults)) in
     let path = ap (λ (x : Noted rest.Statement). noted (with_body x.tree all.tree) (x.faults ++ all.faults)) range
-    ∙ (λ j. noted (rest.Iterate a.tree (rest.Count (index j).tree b.tree s.tree all.tree)) (((index j).faults ++ (a.faults ++ (b.faults ++ (s.faults ++ [])))) ++ all.faults))
     ∙ ap (noted (rest.Iterate a.tree (rest.Count i.tree b.tree s.tree all.tree))) faults
     ∙ ap (λ (x : StatementR). noted_after old (statement_by self around x)) is in
     noted_moved view.statement_of c.rounds.result c.rounds.new.faults.items path c.rounds.ensures
@@ -141,9 +143,11 @@ pub rounds-returns : goal.rounds-returns
 rounds-returns t c =
     let r = c.args.range in
     let did = c.in_ok-body.ensures in
+    let made = c.in_ok-new in
+    let first = rest.Iterate (view.expression_of r.from) in
     let count = rest.Count (view.scalar_of r.index) (view.expression_of r.bound) (view.expression_of r.step) in
-    let tree = statement_row c.in_ok-body.body ∙ (λ j. (did j).tree) in
-    λ j. noted (rest.Iterate (view.expression_of r.from) (count (tree j))) (did j).faults
+    let tree = iterate_tree r.from made.field-0 ∙ ap (λ (l : Loop). first (view.loop_of l)) made.ensures.ok ∙ (λ j. first (count (did j).tree)) in
+    λ j. noted (tree j) (did j).faults
 
 -- ---- lists
 

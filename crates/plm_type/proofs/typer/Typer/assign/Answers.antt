@@ -1,4 +1,4 @@
-use Rattle.std.proofs.Common.{◌≡◌, sym, ap}
+use Rattle.std.proofs.Common.{sym, ap}
 use Rattle.plm_decl.specs.Resolved.{ReferencesR}
 use Rattle.plm_decl.specs.ResolvedView as resolved
 use Rattle.plm_type.specs.Inner.Typer.{noted_after, assignment_by}

@@ -20,8 +20,8 @@ returns-in_default c =
     let es = view.expressions_of c.args.parts.subscripts.trees.items in
     let fs = view.expressions_of c.args.parts.member.trees.items in
     let made = c.line-line.ensures in
-    reference_made c.line-line.result (anchor.InObject 0 0 0) 0 c.new-subscripts.result
-    ∙ (λ j. rest.Refer (made.module j) (made.line j) (rest.InObject 0 0 0) 0 (view.subscripts_of (c.new-subscripts.ensures.items j)))
+    reference_made c.line-line.result (anchor.InObject 0 0 0) 0 c.in_ok-subscripts.subscripts
+    ∙ (λ j. rest.Refer (made.module j) (made.line j) (rest.InObject 0 0 0) 0 (view.subscripts_of (c.in_ok-subscripts.ensures.items j)))
     ∙ sym (ap (λ (v : Option Variable). spec.refer (variables c.args.self.now) c.args.self.now.module c.args.place.line v s es fs) c.in_default.is)
 
 pub returns : goal.returns
@@ -36,7 +36,7 @@ returns c =
     let made = c.line-line.ensures in
     let first : c.strided.new.subscripts.items ≡ map (with_stride v.stride) outer.items =
     c.in_ok-strided.ensures
-    ∙ ap (λ (l : List Subscript). l ++ map (with_stride v.stride) c.into_trees.result.items) c.new-subscripts.ensures.items
+    ∙ ap (λ (l : List Subscript). l ++ map (with_stride v.stride) c.into_trees.result.items) c.in_ok-subscripts.ensures.items
     ∙ ap (λ (t : Vec Expression). map (with_stride v.stride) t.items) c.into_trees.ensures in
     let both = c.in_ok-strided-2.ensures ∙ (λ j. first j ++ map (with_stride (c.member_stride.ensures j)) (c.into_trees-2.ensures j).items) in
     let anchored = c.anchor.ensures ∙ ap (λ (l : List Variable). anchor_for l v) c.deref.ensures.value in
