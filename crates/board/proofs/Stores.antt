@@ -2,6 +2,7 @@
 use Rattle.std.proofs.Common.{◌≡◌, ℕ, ◌+◌, ◌-◌, ◌<◌, ◌≤◌, Bool, true, false, List, length, arith, ap, sym, subst, refl, ◌∙◌}
 use Rattle.std.specs.Prelude.{slice_set, nat_lt, nat_le, ◌&&◌, if◌then◌else◌, Option, Some, None}
 use Rattle.std.proofs.lemmas.Bool.{lt-leb, lt-ltb, le-leb, le-ltb, ltb-true, leb-true, and_parts}
+use Rattle.std.proofs.lemmas.List.{length-set}
 use Rattle.word86.specs.declared.label.Label.TheVariants.{ScrW}
 use Rattle.word86.specs.declared.page.Page.{Page}
 use Rattle.word86.specs.declared.page.Page.TheVariants.{Monochrome, Colour}
@@ -43,6 +44,29 @@ put_on_colour l i v whole lt =
     ap (λ t. if t && nat_lt (base + i) (base + length l) then slice_set l (base + i - base) v else l) (le-leb base (base + i) low)
     ∙ ap (λ t. if t then slice_set l (base + i - base) v else l) (lt-ltb (base + i) (base + length l) high)
     ∙ ap (λ k. slice_set l k v) at
+
+-- ---- words in RAM
+
+in_region : (l : List ℕ) (a v : ℕ) → a < length l → put 0 l a v ≡ slice_set l a v
+in_region l a v lt =
+    let low : 0 ≤ a = omega arith in
+    let high : a < 0 + length l = omega (arith, lt) in
+    let at : a - 0 ≡ a = omega arith in
+    ap (λ t. if t && nat_lt a (0 + length l) then slice_set l (a - 0) v else l) (le-leb 0 a low)
+    ∙ ap (λ t. if t then slice_set l (a - 0) v else l) (lt-ltb a (0 + length l) high)
+    ∙ ap (λ k. slice_set l k v) at
+
+pub word_in_ram : (l : List ℕ) (a v w : ℕ) → length l ≡ ram_size → a + 1 < ram_size → put 0 (put 0 l a v) (a + 1) w ≡ slice_set (slice_set l a v) (a + 1) w
+word_in_ram l a v w whole lt =
+    let low : a < length l = omega (arith, whole, lt) in
+    let high : a + 1 < length (slice_set l a v) = omega (arith, whole, lt, length-set l a v) in
+    ap (λ k. put 0 k (a + 1) w) (in_region l a v low) ∙ in_region (slice_set l a v) (a + 1) w high
+
+pub word_below_monochrome : (l : List ℕ) (a v w : ℕ) → a + 1 < ram_size → put (page_at Monochrome) (put (page_at Monochrome) l a v) (a + 1) w ≡ l
+word_below_monochrome l a v w lt = ap (λ k. put (page_at Monochrome) k (a + 1) w) (below_monochrome l a v (omega (arith, lt))) ∙ below_monochrome l (a + 1) w lt
+
+pub word_below_colour : (l : List ℕ) (a v w : ℕ) → a + 1 < ram_size → put (page_at Colour) (put (page_at Colour) l a v) (a + 1) w ≡ l
+word_below_colour l a v w lt = ap (λ k. put (page_at Colour) k (a + 1) w) (below_colour l a v (omega (arith, lt))) ∙ below_colour l (a + 1) w lt
 
 -- what lies below a page is not on it
 below_page : (page : Page) (a : ℕ) → a < page_at page → is_on page a ≡ false

@@ -9,16 +9,17 @@ use ppi_kbd::Ports;
 /// Memory, and the chips on the ports.
 #[derive(Drop)]
 pub(crate) struct Attached {
+    /// Up to address 0FFFFFH. It stands before RAM, since what stands first is at the address of the whole, which turns hand on: it would be
+    /// found by one more machine instruction.
+    pub(crate) rom: Vec<u8>,
+    /// The address of the ROM's first byte.
+    pub(crate) rom_start: u32,
     /// From address 0 on.
     pub(crate) ram: Vec<u8>,
     /// The monochrome page, from address 0B0000H on.
     pub(crate) monochrome: Vec<u8>,
     /// The colour page, from address 0B8000H on.
     pub(crate) colour: Vec<u8>,
-    /// Up to address 0FFFFFH.
-    pub(crate) rom: Vec<u8>,
-    /// The address of the ROM's first byte.
-    pub(crate) rom_start: u32,
     /// The chips, by their ports.
     pub(crate) ports: Ports,
     ghost ram_is_whole: { vec_len ram ≡ ram_size },

@@ -1,6 +1,6 @@
 //! What the processor sees of the board: loads, stores and ports, and the short ways for bytes and words in RAM.
 
-ghost use Rattle.std.specs.Prelude.{◌≡◌, ◌+◌, ◌<◌};
+ghost use Rattle.std.specs.Prelude.{◌≡◌, ◌+◌, ◌%◌, ◌/◌, ◌<◌};
 ghost use Rattle.ppi_kbd.specs.Chips.{ChipState};
 ghost use Rattle.word86.specs.declared.width.Width.TheVariants.{Word};
 ghost use Rattle.word86.specs.declared.page.Page.TheVariants.{Monochrome, Colour};
@@ -15,7 +15,7 @@ ghost use Rattle.board.specs.Inner.LawfulMemory.{load_after_store_law, ports_law
 
 use crate::attached::Attached;
 use crate::chips::{acknowledge, int_line, read_port, write_port};
-use crate::regions::{byte_in, put, shown_store, word_in_ram, word_on_colour};
+use crate::regions::{byte_in, put, put_word, shown_store, word_in_ram, word_on_colour};
 use cpu8086::{Bus, Store, physical};
 use word86::{Label, Page, RAM_SIZE, Width};
 
@@ -47,6 +47,20 @@ impl Attached {
         ensures ports { self.new.ports ≡ self.old.ports }
     {
         self.ram[address as usize] = value;
+    }
+
+    /// Stores a word in RAM, its bytes side by side: where RAM lies is looked up once.
+    #[tactic(auto, using(crate::proofs::Stores::word_in_ram, crate::proofs::Stores::word_below_monochrome, crate::proofs::Stores::word_below_colour))]
+    #[inline(always)]
+    fn put_word_in_ram(&mut self, address: u32, value: u16)
+        requires { address + 1 < ram_size }
+        ensures ram { self.new.ram.items ≡ put 0 (put 0 self.old.ram.items address (value % 256)) (address + 1) (value / 256) }
+        ensures monochrome { self.new.monochrome.items ≡ put (page_at Monochrome) (put (page_at Monochrome) self.old.monochrome.items address (value % 256)) (address + 1) (value / 256) }
+        ensures colour { self.new.colour.items ≡ put (page_at Colour) (put (page_at Colour) self.old.colour.items address (value % 256)) (address + 1) (value / 256) }
+        ensures rom { self.new.rom ≡ self.old.rom }
+        ensures ports { self.new.ports ≡ self.old.ports }
+    {
+        put_word(self.ram.as_mut_slice(), address as usize, value);
     }
 
     /// Stores a byte on the colour page: RAM and the other page are not looked at.
@@ -211,8 +225,7 @@ impl Bus for Attached {
     fn store_word(&mut self, segment: u16, offset: u16, value: u16) -> Option<Label> {
         match word_in_ram(segment, offset) {
             Some(address) => {
-                self.put_in_ram(address, (value % 256) as u8);
-                self.put_in_ram(address + 1, (value / 256) as u8);
+                self.put_word_in_ram(address, value);
                 None
             }
             None => self.store_word_beside_ram(segment, offset, value),

@@ -1,6 +1,6 @@
 //! Regions of memory: bytes from an address on.
 
-ghost use Rattle.std.specs.Prelude.{◌≡◌, ◌+◌, ◌*◌, ◌-◌, ◌<◌, ◌≤◌, ◌^◌, Some, None, IfSome, if◌then◌else◌, slice_index, length};
+ghost use Rattle.std.specs.Prelude.{◌≡◌, ◌+◌, ◌*◌, ◌-◌, ◌%◌, ◌/◌, ◌<◌, ◌≤◌, ◌^◌, Some, None, IfSome, if◌then◌else◌, slice_index, slice_set, length};
 ghost use Rattle.word86.specs.MemoryMap.{ram_size};
 ghost use Rattle.word86.specs.declared.page.Page.TheVariants.{Colour};
 ghost use Rattle.word86.specs.Page.{page_at, page_size};
@@ -59,6 +59,16 @@ pub(crate) fn put(bytes: &mut [u8], start: u32, address: u32, value: u8)
     if start <= address && ((address - start) as usize) < bytes.len() {
         bytes[(address - start) as usize] = value;
     }
+}
+
+/// Stores a word, its bytes side by side.
+#[inline(always)]
+pub(crate) fn put_word(bytes: &mut [u8], at: usize, value: u16)
+    requires { at + 1 < length bytes.old }
+    ensures { bytes.new ≡ slice_set (slice_set bytes.old at (value % 256)) (at + 1) (value / 256) }
+{
+    bytes[at] = (value % 256) as u8;
+    bytes[at + 1] = (value / 256) as u8;
 }
 
 /// The offset in this page, if the address is there.

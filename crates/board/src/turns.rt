@@ -64,11 +64,11 @@ impl Board {
         Ok(Board {
             cpu: Cpu::reset(),
             attached: Attached {
+                rom,
+                rom_start,
                 ram,
                 monochrome,
                 colour,
-                rom,
-                rom_start,
                 ports: Ports::reset(),
             },
             cache,
