@@ -266,8 +266,8 @@ impl<'a> Meaning<'a> {
         };
         settle(self.alloc, context)?;
         let next = handler_action(context, &self.around);
-        let on = is_on_after(next, self.on);
-        let label = perform(context, &mut self.store, &self.around, next)?;
+        let on = is_on_after(&next, self.on);
+        let label = perform(context, &mut self.store, &self.around, &next)?;
         self.on = on;
         self.silents = 0;
         self.switches = 0;
@@ -287,15 +287,15 @@ impl<'a> Meaning<'a> {
         let next = main_action(&self.main, &self.around);
         let Some((silents, switches)) = counted(
             self.is_interrupted(),
-            next,
+            &next,
             self.silents,
             self.switches,
         ) else {
             return Err(Stop::NotAllowed);
         };
-        let on = is_on_after(next, self.on);
-        let halted = is_halted_after(next);
-        let label = perform(&mut self.main, &mut self.store, &self.around, next)?;
+        let on = is_on_after(&next, self.on);
+        let halted = is_halted_after(&next);
+        let label = perform(&mut self.main, &mut self.store, &self.around, &next)?;
         self.on = on;
         self.halted = halted;
         self.silents = silents;
@@ -307,8 +307,8 @@ impl<'a> Meaning<'a> {
 
 // The counts after a step of main. Where an interrupt can be taken, it comes after at most 8 silent steps and at most one ENABLE or
 // HALT.
-fn counted(can: bool, next: Action, silents: u8, switches: u8) -> Option<(u8, u8)>
-    ensures { (k : ℕ → Part) → result ≡ counted can (acting next k) silents switches }
+fn counted(can: bool, next: &Action, silents: u8, switches: u8) -> Option<(u8, u8)>
+    ensures { (k : ℕ → Part) → result ≡ counted can (acting next.now k) silents switches }
 {
     if !can {
         return Some((0, 0));
@@ -321,8 +321,8 @@ fn counted(can: bool, next: Action, silents: u8, switches: u8) -> Option<(u8, u8
 }
 
 // Whether interrupts are on after an action.
-fn is_on_after(next: Action, on: bool) -> bool
-    ensures { (k : ℕ → Part) → result ≡ on_after (acting next k) on }
+fn is_on_after(next: &Action, on: bool) -> bool
+    ensures { (k : ℕ → Part) → result ≡ on_after (acting next.now k) on }
 {
     match next {
         Action::Enable | Action::Halt => true,
@@ -332,22 +332,23 @@ fn is_on_after(next: Action, on: bool) -> bool
 }
 
 // Whether main is halted after an action.
-fn is_halted_after(next: Action) -> bool
-    ensures { (k : ℕ → Part) → result ≡ halted_after (acting next k) }
+fn is_halted_after(next: &Action) -> bool
+    ensures { (k : ℕ → Part) → result ≡ halted_after (acting next.now k) }
 {
     matches!(next, Action::Halt)
 }
 
 // Makes what the context does next: its label.
+#[inline(always)]
 fn perform<'a>(
     context: &mut Context<'a>,
     store: &mut Store,
     around: &Surroundings<'a>,
-    next: Action,
+    next: &Action,
 ) -> Result<Option<Label>, Stop>
-    requires { FitsIn next }
-    ensures made { IfOk result (λ l. Performed context.old store.old context.new store.new around.now next l) }
-    ensures stopped { IfErr result (λ e. (StopsAt e next) × (context.new ≡ context.old) × (store.new ≡ store.old)) }
+    requires { FitsIn next.now }
+    ensures made { IfOk result (λ l. Performed context.old store.old context.new store.new around.now next.now l) }
+    ensures stopped { IfErr result (λ e. (StopsAt e next.now) × (context.new ≡ context.old) × (store.new ≡ store.old)) }
 {
     match next {
         Action::Silent => {
@@ -355,7 +356,7 @@ fn perform<'a>(
             Ok(None)
         }
         Action::Touch(access) => {
-            let (answer, label) = store.touch(access);
+            let (answer, label) = store.touch(*access);
             go_on(context, around, answer);
             Ok(label)
         }
@@ -364,6 +365,6 @@ fn perform<'a>(
             Ok(None)
         }
         Action::Ended | Action::Returned => Err(Stop::NotAllowed),
-        Action::Bad(line) => Err(Stop::Bad(line)),
+        Action::Bad(line) => Err(Stop::Bad(*line)),
     }
 }

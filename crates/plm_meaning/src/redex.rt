@@ -374,15 +374,17 @@ pub fn next_action(context: &Context<'_>, around: &Surroundings<'_>) -> Action
 }
 
 /// What main does next, once it is settled: at its end it halts again and again.
+#[inline(always)]
 pub fn main_action(context: &Context<'_>, around: &Surroundings<'_>) -> Action
     requires { IsSettled context.now.focus context.now.frames.items }
     ensures action { next (offsets_of around.now) (sizes_of around.now) (procedures_in around.now) (Main (to_run_of context.now)) ≡ map_action Main (context_action around.now context.now result) }
     ensures fits { FitsIn result }
 {
-    match next_action(context, around) {
-        Action::Ended => Action::Halt,
-        other => other,
+    let found = next_action(context, around);
+    if let Action::Ended = found {
+        return Action::Halt;
     }
+    found
 }
 
 /// What an interrupt procedure does next, once it is settled: it is used up at its end, or by RETURN.

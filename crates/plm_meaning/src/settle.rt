@@ -3,7 +3,7 @@
 //! Each way to begin is a function of its own, never inlined: room for what it makes is cleared where it is entered, and `settle`
 //! would clear that of all of them at each step.
 
-ghost use Rattle.std.specs.Prelude.{◌≡◌, suc, ◌<◌, OnOk, IfSome, IfNone, vec_len, vec_capacity};
+ghost use Rattle.std.specs.Prelude.{◌≡◌, suc, ◌+◌, ◌<◌, ◌≤◌, OnOk, IfSome, IfNone, vec_len, vec_capacity};
 ghost use Rattle.plm_type.specs.Next.{behind, bound_of};
 ghost use Rattle.plm_type.specs.Rest.{Call, More, Then, End, Returned, Running, Comparing as Compare, Value as Known};
 ghost use Rattle.plm_type.specs.View.{expression_of, expressions_of, target_of, statement_of, statements_of, loop_of};
@@ -15,6 +15,10 @@ use crate::context::{Context, Destination, Focus, Frame, Hole, Later, Redex, Sta
 use crate::start::{expression_start, leaf, statement_start, target_start};
 use plm_type::{Expression, Loop, Operation, Statement, Target};
 use std::alloc::{AllocError, Global};
+
+// How many frames are put down at most before an expression begins: what stands around statements, what comes after the first of them,
+// and what that one waits for.
+const ROOM: usize = 3;
 
 // Both operands are known.
 #[tactic(auto, using(crate::proofs::Plug::to_run_last))]
@@ -48,26 +52,26 @@ fn operate<'a>(
 #[tactic(auto, using(crate::proofs::Plug::to_run_last))]
 fn put_down<'a>(
     alloc: Global,
-    start: Start<'a>,
+    start: &Start<'a>,
     context: &mut Context<'a>,
 ) -> Option<&'a Expression>
     requires room { vec_len context.old.frames < vec_capacity context.old.frames }
-    ensures rest { IfNone result (to_run_of context.new ≡ to_run_in context.old.frames.items (start_part start.entry)) }
+    ensures rest { IfNone result (to_run_of context.new ≡ to_run_in context.old.frames.items (start_part start.now)) }
     ensures settled { IfNone result (IsSettled context.new.focus context.new.frames.items) }
-    ensures first { IfSome result (λ e. to_run_in context.new.frames.items (Expr (expression_of e.now)) ≡ to_run_in context.old.frames.items (start_part start.entry)) }
-    ensures depth { IfSome result (λ e. suc (depth (expression_of e.now)) ≡ start_depth start.entry) }
+    ensures first { IfSome result (λ e. to_run_in context.new.frames.items (Expr (expression_of e.now)) ≡ to_run_in context.old.frames.items (start_part start.now)) }
+    ensures depth { IfSome result (λ e. suc (depth (expression_of e.now)) ≡ start_depth start.now) }
 {
     match start {
         Start::Ready(redex) => {
-            context.focus = Focus::Ready(redex);
+            context.focus = Focus::Ready(*redex);
             None
         }
         Start::Operate(x, y, operation, more) => {
-            operate(x, y, operation, more, context);
+            operate(*x, *y, operation, more, context);
             None
         }
         Start::Within(hole, e) => {
-            context.frames.push_reserved(Frame::Hole(hole));
+            context.frames.push_reserved(Frame::Hole(*hole));
             Some(e)
         }
         Start::Evaluate(e) => {
@@ -76,13 +80,13 @@ fn put_down<'a>(
         }
         Start::Call(procedure, arguments) => match arguments.split_first() {
             None => {
-                context.focus = Focus::Call(procedure, Vec::new(alloc));
+                context.focus = Focus::Call(*procedure, Vec::new(alloc));
                 None
             }
             Some((e, more)) => {
                 context
                     .frames
-                    .push_reserved(Frame::Argument(procedure, Vec::new(alloc), more));
+                    .push_reserved(Frame::Argument(*procedure, Vec::new(alloc), more));
                 Some(e)
             }
         },
@@ -111,7 +115,7 @@ fn begin_expression<'a>(
             context.focus = Focus::Expression(first);
             return Err(refused);
         }
-        match put_down(alloc, expression_start(first), context) {
+        match put_down(alloc, &expression_start(first), context) {
             None => return Ok(()),
             Some(inner) => first = inner,
         }
@@ -120,9 +124,9 @@ fn begin_expression<'a>(
 
 // Goes on to what comes first.
 #[tactic(auto, using(crate::proofs::Plug::to_run_last))]
-fn begin<'a>(alloc: Global, start: Start<'a>, context: &mut Context<'a>) -> Result<(), AllocError>
+fn begin<'a>(alloc: Global, start: &Start<'a>, context: &mut Context<'a>) -> Result<(), AllocError>
     requires room { vec_len context.old.frames < vec_capacity context.old.frames }
-    ensures rest { to_run_of context.new ≡ to_run_in context.old.frames.items (start_part start.entry) }
+    ensures rest { to_run_of context.new ≡ to_run_in context.old.frames.items (start_part start.now) }
     ensures settled { OnOk result (IsSettled context.new.focus context.new.frames.items) }
 {
     match put_down(alloc, start, context) {
@@ -142,7 +146,7 @@ fn begin_alone<'a>(
     ensures rest { to_run_of context.new ≡ to_run_in context.old.frames.items (ToRun (Then (statement_of s.now) End)) }
     ensures settled { OnOk result (IsSettled context.new.focus context.new.frames.items) }
 {
-    begin(alloc, statement_start(s), context)
+    begin(alloc, &statement_start(s), context)
 }
 
 // A target begins.
@@ -157,7 +161,7 @@ fn begin_target<'a>(
     ensures rest { to_run_of context.new ≡ to_run_in context.old.frames.items (aimed destination.entry (target_of target.now)) }
     ensures settled { OnOk result (IsSettled context.new.focus context.new.frames.items) }
 {
-    begin(alloc, target_start(target, destination), context)
+    begin(alloc, &target_start(target, destination), context)
 }
 
 // The bound of a DO begins, with which the index is compared.
@@ -173,7 +177,7 @@ fn begin_bound<'a>(
     ensures settled { OnOk result (IsSettled context.new.focus context.new.frames.items) }
 {
     let start = Start::Within(Hole::Comparing(index, rounds), &rounds.bound);
-    begin(alloc, start, context)
+    begin(alloc, &start, context)
 }
 
 // A statement begins, before others.
@@ -184,19 +188,18 @@ fn begin_statement<'a>(
     after: &'a [Box<Statement>],
     context: &mut Context<'a>,
 ) -> Result<(), AllocError>
-    requires room { vec_len context.old.frames < vec_capacity context.old.frames }
+    requires room { vec_len context.old.frames + 2 ≤ vec_capacity context.old.frames }
     ensures rest { to_run_of context.new ≡ to_run_in context.old.frames.items (ToRun (Then (statement_of s.now) (statements_of after.now))) }
     ensures settled { OnOk result (IsSettled context.new.focus context.new.frames.items) }
 {
     context.frames.push_reserved(Frame::Behind(after));
-    context.focus = Focus::Statement(s);
-    context.frames.reserve(1)?;
     begin_alone(alloc, s, context)
 }
 
 // Nothing is left to do here: what comes after it is next.
 #[tactic(auto, using(crate::proofs::Plug::to_run_last))]
 fn at_end<'a>(alloc: Global, context: &mut Context<'a>) -> Result<(), AllocError>
+    requires room { vec_len context.old.frames < vec_capacity context.old.frames }
     ensures rest { to_run_of context.new ≡ to_run_in context.old.frames.items (ToRun End) }
     ensures settled { OnOk result (IsSettled context.new.focus context.new.frames.items) }
 {
@@ -208,7 +211,7 @@ fn at_end<'a>(alloc: Global, context: &mut Context<'a>) -> Result<(), AllocError
                     return begin_statement(alloc, s, others, context);
                 }
             },
-            Frame::Later(later) => return begin(alloc, later.start(), context),
+            Frame::Later(later) => return begin(alloc, &later.start(), context),
             Frame::Running => {
                 context.focus = Focus::Ready(Redex::Ended);
                 return Ok(());
@@ -255,7 +258,7 @@ fn begin_statements<'a>(
     statements: &'a [Box<Statement>],
     context: &mut Context<'a>,
 ) -> Result<(), AllocError>
-    requires room { vec_len context.old.frames < vec_capacity context.old.frames }
+    requires room { vec_len context.old.frames + 2 ≤ vec_capacity context.old.frames }
     ensures rest { to_run_of context.new ≡ to_run_in context.old.frames.items (ToRun (statements_of statements.now)) }
     ensures settled { OnOk result (IsSettled context.new.focus context.new.frames.items) }
 {
@@ -273,13 +276,11 @@ fn begin_within<'a>(
     statements: &'a [Box<Statement>],
     context: &mut Context<'a>,
 ) -> Result<(), AllocError>
-    requires room { vec_len context.old.frames < vec_capacity context.old.frames }
+    requires room { vec_len context.old.frames + 3 ≤ vec_capacity context.old.frames }
     ensures rest { to_run_of context.new ≡ to_run_in context.old.frames.items (around frame.entry (ToRun (statements_of statements.now))) }
     ensures settled { OnOk result (IsSettled context.new.focus context.new.frames.items) }
 {
     context.frames.push_reserved(frame);
-    context.focus = Focus::Statements(statements);
-    context.frames.reserve(1)?;
     begin_statements(alloc, statements, context)
 }
 
@@ -291,7 +292,7 @@ fn begin_before<'a>(
     statements: &'a [Box<Statement>],
     context: &mut Context<'a>,
 ) -> Result<(), AllocError>
-    requires room { vec_len context.old.frames < vec_capacity context.old.frames }
+    requires room { vec_len context.old.frames + 3 ≤ vec_capacity context.old.frames }
     ensures rest { to_run_of context.new ≡ to_run_in context.old.frames.items (ToRun (behind (statements_of statements.now) (later_of later.entry))) }
     ensures settled { OnOk result (IsSettled context.new.focus context.new.frames.items) }
 {
@@ -305,7 +306,7 @@ fn begin_body<'a>(
     body: &'a [Box<Statement>],
     context: &mut Context<'a>,
 ) -> Result<(), AllocError>
-    requires room { vec_len context.old.frames < vec_capacity context.old.frames }
+    requires room { vec_len context.old.frames + 3 ≤ vec_capacity context.old.frames }
     ensures rest { to_run_of context.new ≡ to_run_in context.old.frames.items (Expr (Running (statements_of body.now))) }
     ensures settled { OnOk result (IsSettled context.new.focus context.new.frames.items) }
 {
@@ -353,13 +354,14 @@ fn argument<'a>(
 #[tactic(auto, using(crate::proofs::Plug::to_run_last))]
 #[inline(never)]
 fn resume<'a>(alloc: Global, v: u16, context: &mut Context<'a>) -> Result<(), AllocError>
-    requires { context.old.focus ≡ Focus.Value v }
+    requires room { vec_len context.old.frames < vec_capacity context.old.frames }
+    requires focus { context.old.focus ≡ Focus.Value v }
     ensures rest { to_run_of context.new ≡ to_run_of context.old }
     ensures settled { OnOk result (IsSettled context.new.focus context.new.frames.items) }
 {
     match context.frames.pop() {
         None | Some(Frame::Evaluate) => at_end(alloc, context),
-        Some(Frame::Hole(hole)) => begin(alloc, hole.filled(v), context),
+        Some(Frame::Hole(hole)) => begin(alloc, &hole.filled(v), context),
         Some(Frame::Argument(procedure, values, more)) => argument(
             alloc, procedure, values, v, more, context,
         ),
@@ -375,7 +377,7 @@ pub fn settle<'a>(alloc: Global, context: &mut Context<'a>) -> Result<(), AllocE
     ensures rest { to_run_of context.new ≡ to_run_of context.old }
     ensures settled { OnOk result (IsSettled context.new.focus context.new.frames.items) }
 {
-    context.frames.reserve(1)?;
+    context.frames.reserve(ROOM)?;
     match &context.focus {
         Focus::Expression(e) => begin_expression(alloc, e, context),
         Focus::Value(v) => resume(alloc, *v, context),

@@ -1,6 +1,6 @@
 use Rattle.std.proofs.Common.{sym, ap, ◌∙◌}
-use Rattle.plm_type.specs.Rest.{If, Block, While, Case, Then, End}
-use Rattle.plm_type.specs.View.{expression_of, statement_of, statements_of}
+use Rattle.plm_type.specs.Rest.{If, Block, While, Case, Iterate, Then, End}
+use Rattle.plm_type.specs.View.{expression_of, loop_of, statement_of, statements_of}
 use Rattle.plm_meaning.specs.Context.{ToRun}
 use Rattle.plm_meaning.proofs.start.statement_start.Goals as goal
 
@@ -30,7 +30,11 @@ returns-in-Case c =
     ∙ ap statement_of (sym c.in-Case.is))
 
 pub returns-in-Iterate : goal.returns-in-Iterate
-returns-in-Iterate c = ap (λ s. ToRun (Then s End)) (sym (c.trees_have_their_lists.ensures.iterate c.in-Iterate.first c.in-Iterate.rounds) ∙ ap statement_of (sym c.in-Iterate.is))
+returns-in-Iterate c =
+    ap (λ s. ToRun (Then s End))
+    (ap (λ l. Iterate (expression_of c.in-Iterate.first) (loop_of l)) c.deref-in-Iterate.ensures
+    ∙ sym (c.trees_have_their_lists.ensures.iterate c.in-Iterate.first c.in-Iterate.rounds)
+    ∙ ap statement_of (sym c.in-Iterate.is))
 
 pub returns-in-Block : goal.returns-in-Block
 returns-in-Block c =
