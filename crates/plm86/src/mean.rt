@@ -75,7 +75,8 @@ fn take_step(meaning: &mut Meaning<'_>) -> Result<Option<Step>, Ending>
     }
 }
 
-// Writes the line of a label, if there is one.
+// Writes the line of a label, if there is one. It is put into the loop of steps, most of which have none.
+#[inline(always)]
 fn put_line<S: Sink>(label: Option<Label>, sink: &mut S) -> Result<(), SinkFault>
     ensures { Writes (S.taken sink.old) (S.taken sink.new) (S.failures sink.old) (S.failures sink.new) (lines (labels_of label)) result }
 {
@@ -86,6 +87,7 @@ fn put_line<S: Sink>(label: Option<Label>, sink: &mut S) -> Result<(), SinkFault
 }
 
 // Shows what came, by its line: whether anything did.
+#[inline(always)]
 fn show<S: Sink>(came: Result<Option<Step>, Ending>, sink: &mut S) -> Result<bool, Ending>
     ensures far { (m n : Meaning) (choices : List (Chosen Event)) (names : Names) (placement : Placement) (whole : List Label × MeanEnd) (left : Alternatives) (old : Option (List ℕ)) (before : ℕ)
         → Came m n choices came → Far names placement whole (choices ∷ left) m old (S.taken sink.old) before (S.failures sink.old)
