@@ -7,10 +7,10 @@ line then has the word incremental=trusted, which says that its verdict trusts w
 other, is let through beside those that `rt ci` lets through. A library is built whole, and not by its statements alone, so
 that `rt check` takes it. A program is compiled over what its check kept, which the compilers' runs of the prover look through again.
 
-And its plan, which goes by tools/costs. How much memory a check takes is what was measured, and a fifth more: `rt ci` reckons it by
+And its plan, which goes by tools/costs. How much memory a check takes is what was measured, and a tenth more: `rt ci` reckons it by
 lines, which is twice as much for the crates on top, so that these waited for one another. And the check with the longest chain of
-others behind it gets half of the processors at least, where `rt ci` shares them alike among all that may begin: plm_syntax, on
-which most others wait, got one.
+others behind it gets three quarters of the processors, where `rt ci` shares them alike among all that may begin: plm_syntax, on
+which most others wait, got one. It leaves memory for the next one: acceptance's tests with two jobs had plm86 wait for their end.
 
 usage: tools/one_check.py      at the top of a repository; status and output are those of rt ci
 """
@@ -32,6 +32,8 @@ ENDING = r" libraries-built=trusted statements=trusted\n\Z"
 KEPT = "out/incremental"
 # Processor seconds a line, for a task that was not measured; and what one job more takes of memory: jobs share what was read, and divide what is made.
 A_LINE, A_JOB = 0.1, 0.15
+# Seconds of a task for which no memory is kept.
+SHORT = 60
 # The parts of the kit's crates that are called or changed here, and what they take.
 FORMS = {
     "build_rlib": ("self", "flags", "anew"),
@@ -76,7 +78,7 @@ def plan_as_measured(rt):
     for (crate, task), (_, held) in costs.known().items():
         if task in ("proof", "tests"):
             most[crate] = max(held, most.get(crate, 0))
-    rt.need = lambda crate: 1.2 * most[crate.name] if crate.name in most else reckoned(crate)
+    rt.need = lambda crate: 1.1 * most[crate.name] if crate.name in most else reckoned(crate)
     rt.in_lanes = lambda tasks: in_lanes(rt, tasks)
 
 
@@ -91,7 +93,7 @@ def chains(tasks, seconds):
 
 def in_lanes(rt, tasks):
     """Runs the tasks of rt ci side by side, as its own in_lanes does, and returns what each gave. A task is what it waits for, its lines, its memory, and a
-    call with what was given and how many jobs it may use. Longest chain first; what leads gets half of the processors, and all share the rest by their work."""
+    call with what was given and how many jobs it may use. Longest chain first; what leads gets three of four processors, and all share the rest by their work."""
     known = costs.known()
     seconds = {key: known[key][0] if key in known else A_LINE * tasks[key][1] for key in tasks}
     lanes, memory, behind = rt.processors(), 0.85 * rt.free(), chains(tasks, seconds)
@@ -106,8 +108,9 @@ def in_lanes(rt, tasks):
                 room = memory - sum(held for _, held, _ in running.values())
                 if idle > 0 and (not running or needs <= room):
                     share = round(idle * seconds[key] / max(1, sum(seconds[it] for it in ready[at:])))
-                    wanted = max(share, lanes // 2) if key == leader else share
-                    jobs = max(1, min(4, idle, wanted, 1 + int((room / needs - 1) / A_JOB)))
+                    wanted = max(share, lanes * 3 // 4) if key == leader else share
+                    spare = room - max((tasks[it][2] for it in ready[at + 1 :] if seconds[it] > SHORT), default=0)
+                    jobs = max(1, min(4, idle, wanted, 1 + int((spare / needs - 1) / A_JOB)))
                     left.remove(key)
                     running[pool.submit(call, given, jobs)] = key, needs * (1 + A_JOB * (jobs - 1)), jobs
             for it in wait(running, return_when=FIRST_COMPLETED).done:
