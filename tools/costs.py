@@ -65,17 +65,20 @@ def is_quiet():
 
 
 class Watch(threading.Thread):
-    """Looks at the prover's processes below this one, every five seconds until it is told to end."""
+    """Looks at the prover's processes below this one every five seconds, and each fourth time at their memory, until it is told to end."""
 
     def __init__(self):
         super().__init__(daemon=True)
         self.ended, self.seconds, self.most = threading.Event(), {}, {}
 
     def run(self):
+        looks = 0
         while not self.ended.wait(5):
-            self.look()
+            # (of a large process Linux takes a tenth of a second for it)
+            self.look(looks % 4 == 0)
+            looks += 1
 
-    def look(self):
+    def look(self, is_for_memory):
         now, memory = running(), {}
         for it in now.values():
             top, above = it, now.get(it.parent)
@@ -84,7 +87,7 @@ class Watch(threading.Thread):
             if not it.is_prover() or not self.is_below(top, now):
                 continue
             try:
-                task, held = top.task(), it.memory()
+                task, held = top.task(), it.memory() if is_for_memory else 0
             except (OSError, ValueError, TypeError):
                 continue
             memory[task] = memory.get(task, 0) + held

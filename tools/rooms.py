@@ -15,12 +15,13 @@ from must_fail import Room, Rounds, edits_in, text_of
 
 
 class Repository:
-    """The crates of a repository, by its crates.txt."""
+    """The crates of a repository, by its crates.txt, and their edits but for those that are spared."""
 
-    def __init__(self, top):
+    def __init__(self, top, spared=frozenset()):
         rows = [re.match(r"([\w-]+)[^:]*:?(.*)", line.partition("#")[0]) for line in text_of(f"{top}/crates.txt").split("\n")]
         found = {row[1]: re.findall(r"[\w-]+", row[2]) for row in rows if row}
         self.top, self.deps = top, {name: [it for it in deps if it in found] for name, deps in found.items()}
+        self.spared = spared
 
     def folder(self, name):
         return f"{self.top}/crates/{name}"
@@ -39,7 +40,7 @@ class Repository:
         return any(name in deps for deps in self.deps.values())
 
     def edits(self, name):
-        return edits_in(self.folder(name))
+        return [it for it in edits_in(self.folder(name)) if f"{name}/{os.path.basename(it)}" not in self.spared]
 
 
 class Task:

@@ -1,0 +1,87 @@
+"""The record of refused edits, tools/refused: it spares a gate the edits that a gate before it saw refused over the same text.
+
+What an edit comes to rests on what its digest is of: the kit, the tool that judges, the text of the edit's crate and of those below it, and the edit.
+Where the digest stands in the record, the edit need not be tried. A sample of these is tried all the same, which the commit's hash chooses, so that
+nobody can know it while writing the record: whole crates, since a crate's first edit costs as much as ten more.
+"""
+
+import hashlib
+import os
+import re
+import subprocess
+
+import kit
+from must_fail import PARTS, text_of
+
+TOOLS = os.path.dirname(os.path.realpath(__file__))
+# How much of what need not be tried is the sample, at least.
+SAMPLE = 0.1
+
+
+def digest(*texts):
+    """Returns a digest of texts, each with its length before it."""
+    whole = hashlib.sha256()
+    for text in texts:
+        coded = text.encode()
+        whole.update(b"%d:%b" % (len(coded), coded))
+    return whole.hexdigest()
+
+
+class Digests:
+    """The digests of a repository's crates, each with what it stands on, and of their edits."""
+
+    def __init__(self, repository):
+        self.repository, self.crates = repository, {}
+        self.judge = digest(kit.identity(), text_of(f"{TOOLS}/must_fail.py"))
+
+    def crate(self, name):
+        if name not in self.crates:
+            folder = self.repository.folder(name)
+            files = sorted(f"{at}/{it}" for part in PARTS for at, _, names in os.walk(f"{folder}/{part}") for it in names)
+            texts = [text for it in files for text in (os.path.relpath(it, folder), text_of(it))]
+            rows = [it for it in text_of(f"{self.repository.top}/crates.txt").split("\n") if re.split(r"[ :]", it)[0] == name]
+            self.crates[name] = digest(self.judge, *rows, *map(self.crate, self.repository.deps[name]), *texts)
+        return self.crates[name]
+
+    def edits(self):
+        """Returns the digest of each edit, by its crate's and its own name."""
+        files = {f"{crate}/{os.path.basename(it)}": it for crate in self.repository.deps for it in self.repository.edits(crate)}
+        return {name: digest(self.crate(name.split("/")[0]), name, text_of(it)) for name, it in files.items()}
+
+
+def recorded(path):
+    """Returns the digests of a record, by the edits' names."""
+    rows = text_of(path).split("\n") if os.path.isfile(path) else []
+    return dict(it.split() for it in rows if it and not it.startswith("#"))
+
+
+def commit(top):
+    """Returns the name of the commit that the repository stands at, or nothing where there is none."""
+    ran = subprocess.run(["git", "-C", top, "rev-parse", "--verify", "-q", "HEAD"], capture_output=True, text=True)
+    return ran.stdout.strip()
+
+
+def sample(names, of_commit):
+    """Returns a tenth or more of these edits: those of the crates that the commit's hash puts first."""
+    chosen = set()
+    for crate in sorted({it.split("/")[0] for it in names}, key=lambda it: digest(of_commit, it)):
+        if len(chosen) < SAMPLE * len(names):
+            chosen |= {it for it in names if it.split("/")[0] == crate}
+    return chosen
+
+
+def spared(repository):
+    """Returns the edits that need not be tried, and how many of the record are tried as its sample. Without a commit all are tried."""
+    of_commit, known = commit(repository.top), recorded(f"{repository.top}/tools/refused")
+    held = {it for it, made in Digests(repository).edits().items() if known.get(it) == made} if of_commit else set()
+    tried = sample(held, of_commit)
+    return held - tried, len(tried)
+
+
+def leave(repository, refused):
+    """Writes .git/refused: the edits that were seen refused now, and those of the record that it still holds for. It is to be copied to tools/refused."""
+    if os.path.isdir(f"{repository.top}/.git"):
+        known, made = recorded(f"{repository.top}/tools/refused") | recorded(f"{repository.top}/.git/refused"), Digests(repository).edits()
+        rows = [f"{it} {its}\n" for it, its in sorted(made.items()) if it in refused or known.get(it) == its]
+        with open(f"{repository.top}/.git/refused", "w", encoding="utf-8") as it:
+            it.writelines(["# Edits that the prover was seen to refuse, each with a digest of what that rests on: tools/record.py.\n", *rows])
