@@ -72,13 +72,14 @@ class Elsewhere:
 
 def side_by_side(tasks, lanes, room, elsewhere):
     """Runs tasks in so many lanes, each once those that it comes after are done here or elsewhere, first those with the longest chain behind them.
-    The running ones get so many bytes together, or what is free but for a tenth where that is less; where nothing else runs one alone is always run. Raises what a task raises."""
+    The running ones get as many bytes together as room answers then, or what is free but for a tenth where that is less; where nothing else runs one alone is always run.
+    Raises what a task raises."""
     behind, done, running = chains(tasks), set(), {}
     left = sorted(tasks, key=lambda it: -behind[it])
     with ThreadPoolExecutor(lanes) as pool:
         while left or running:
             for key in [it for it in left if all(below in done or elsewhere.is_over(below) for below in tasks[it].after)]:
-                spare = min(room - sum(tasks[it].memory for it in running.values()), kit.free_memory() - 0.1 * kit.memory())
+                spare = min(room() - sum(tasks[it].memory for it in running.values()), kit.free_memory() - 0.1 * kit.memory())
                 is_alone = not running and elsewhere.has_ended()
                 if len(running) < lanes and (is_alone or tasks[key].memory <= spare):
                     left.remove(key)
