@@ -1,8 +1,8 @@
 """The record of refused edits, tools/refused: it spares a gate the edits that a gate before it saw refused over the same text.
 
 What an edit comes to rests on what its digest is of: the kit, the tool that judges, the text of the edit's crate and of those below it, and the edit.
-Where the digest stands in the record, the edit need not be tried. A sample of these is tried all the same, which the commit's hash chooses, so that
-nobody can know it while writing the record: whole crates, since a crate's first edit costs as much as ten more.
+Where the digest stands in the record, the edit need not be tried. A sample of these is tried all the same, which the hash of the commit with the
+record chooses: whole crates, since a crate's first edit costs as much as ten more.
 """
 
 import hashlib
@@ -78,10 +78,10 @@ def spared(repository):
     return held - tried, len(tried)
 
 
-def leave(repository, refused):
-    """Writes .git/refused: the edits that were seen refused now, and those of the record that it still holds for. It is to be copied to tools/refused."""
+def leave(repository, tried, refused):
+    """Writes .git/refused: of the edits tried now those that were seen refused, and of the others those that the record still holds for. It is to be copied to tools/refused."""
     if os.path.isdir(f"{repository.top}/.git"):
         known, made = recorded(f"{repository.top}/tools/refused") | recorded(f"{repository.top}/.git/refused"), Digests(repository).edits()
-        rows = [f"{it} {its}\n" for it, its in sorted(made.items()) if it in refused or known.get(it) == its]
+        rows = [f"{it} {its}\n" for it, its in sorted(made.items()) if (it in refused if it in tried else known.get(it) == its)]
         with open(f"{repository.top}/.git/refused", "w", encoding="utf-8") as it:
             it.writelines(["# Edits that the prover was seen to refuse, each with a digest of what that rests on: tools/record.py.\n", *rows])
