@@ -6,11 +6,11 @@ syntax case ignore
 syntax iskeyword @,48-57,_,$
 syntax keyword plmStatement CALL CASE DISABLE DO ELSE ENABLE END HALT IF PROCEDURE RETURN THEN TO BY WHILE INTERRUPT
 syntax keyword plmDeclare DECLARE AT BASED DATA EXTERNAL INITIAL LITERALLY PUBLIC STRUCTURE
-syntax keyword plmType ADDRESS BYTE POINTER WORD
+syntax keyword plmType ADDRESS BYTE INTEGER POINTER WORD
 syntax keyword plmOperator AND MOD NOT OR XOR
-syntax keyword plmBuiltin LENGTH LAST SIZE LOW HIGH DOUBLE SHL SHR ROL ROR INPUT INWORD OUTPUT OUTWORD
+syntax keyword plmBuiltin LENGTH LAST SIZE LOW HIGH DOUBLE SHL SHR ROL ROR INPUT INWORD OUTPUT OUTWORD SIGNED UNSIGN
 " Reserved words of Intel's language that the profile refuses.
-syntax keyword plmRefused DWORD GO GOTO INTEGER LABEL MINUS PLUS REAL REENTRANT SELECTOR
+syntax keyword plmRefused DWORD GO GOTO LABEL MINUS PLUS REAL REENTRANT SELECTOR
 syntax match plmNumber "\<\d[0-9A-Za-z_$]*\>"
 syntax region plmString start="'" end="'" oneline
 syntax region plmComment start="/\*" end="\*/"

@@ -15,6 +15,7 @@ which most others wait, got one. It leaves memory for the next one: acceptance's
 usage: tools/one_check.py      at the top of a repository; status and output are those of rt ci
 """
 
+import contextlib
 import importlib.machinery
 import os
 import re
@@ -43,7 +44,7 @@ FORMS = {
     "words": ("self", "flags", "tests", "keeps"),
 }
 # The kit's functions and names that are called or changed here.
-WORDS = ("KIT", "ci", "ending", "free", "need", "processors")
+WORDS = ("KIT", "ci", "free", "need", "processors")
 
 
 def command():
@@ -98,7 +99,9 @@ def in_lanes(rt, tasks):
     seconds = {key: known[key][0] if key in known else A_LINE * tasks[key][1] for key in tasks}
     lanes, memory, behind = rt.processors(), 0.85 * rt.free(), chains(tasks, seconds)
     left, running, given = sorted(tasks, key=lambda it: -behind[it]), {}, {}
-    with rt.ending(), ThreadPoolExecutor(lanes) as pool:
+    # (13f ends what it began where it is itself ended; 13b has no such word)
+    ending = getattr(rt, "ending", contextlib.nullcontext)
+    with ending(), ThreadPoolExecutor(lanes) as pool:
         while left or running:
             leader = max([*left, *(key for key, _, _ in running.values())], key=lambda it: behind[it])
             ready = [it for it in left if all(below in given for below in tasks[it][0])]

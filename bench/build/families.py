@@ -106,6 +106,12 @@ def arguments():
 
 
 @family
+def calls_without_arguments():
+    ns = names(8000)
+    return main("CALL P;" * 10900, f"P: PROCEDURE({','.join(ns)}); DECLARE ({','.join(ns)}) BYTE; END P;")
+
+
+@family
 def wrong_arguments():
     return main(f"CALL P({','.join(['1'] * 32000)});", "P: PROCEDURE; END P;")
 
@@ -314,6 +320,16 @@ def constants_list():
 @family
 def sum_long():
     return main("B=1" + "+1" * 32000 + ";", "DECLARE B BYTE;")
+
+
+@family
+def sum_turned_integer():
+    return main("I=1" + "+1" * 31990 + "+I;", "DECLARE I INTEGER;")
+
+
+@family
+def sums_turned_integer():
+    return main(("B=1" + "+1" * 29 + "<I;") * 1000, "DECLARE I INTEGER, B BYTE;")
 
 
 @family

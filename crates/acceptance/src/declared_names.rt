@@ -16,6 +16,8 @@ const WORD: Form = Form::Scalar(ScalarType::Word);
 
 const POINTER: Form = Form::Scalar(ScalarType::Pointer);
 
+const INTEGER: Form = Form::Scalar(ScalarType::Integer);
+
 /// A variable's form, dimension, stride and region.
 type WantedVariable = (Form, Option<u32>, u64, Region);
 
@@ -71,7 +73,36 @@ fn are_objects(objects: &[Object], wanted: &[WantedObject]) -> bool {
 }
 
 /// What texts declare, worked by hand.
-static DECLARED: [(&[u8], &[WantedVariable], &[WantedObject]); 10] = [
+static DECLARED: [(&[u8], &[WantedVariable], &[WantedObject]); 12] = [
+    (
+        b"M: DO; DECLARE V (*) INTEGER INITIAL (-32768, 32767, -1, -0); ; END M;",
+        &[(INTEGER, Some(4), 2, Region::Ram(0, 0))],
+        &[(
+            b"M.V",
+            8,
+            &[
+                Datum::Word(0x8000),
+                Datum::Word(0x7FFF),
+                Datum::Word(0xFFFF),
+                Datum::Word(0),
+            ],
+        )],
+    ),
+    (
+        b"M: DO; DECLARE S STRUCTURE (X (2) BYTE, Y INTEGER) INITIAL ('AB', -2), K INTEGER; ; END M;",
+        &[
+            (Form::Structure(0), None, 4, Region::Ram(0, 0)),
+            (INTEGER, None, 2, Region::Ram(1, 0)),
+        ],
+        &[
+            (
+                b"M.S",
+                4,
+                &[Datum::Byte(0x41), Datum::Byte(0x42), Datum::Word(0xFFFE)],
+            ),
+            (b"M.K", 2, &[]),
+        ],
+    ),
     (
         b"M: DO; DECLARE A (5) BYTE INITIAL ('A''B', 1, -1); ; END M;",
         &[(BYTE, Some(5), 1, Region::Ram(0, 0))],

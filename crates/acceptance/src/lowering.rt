@@ -238,7 +238,7 @@ fn labels_of(
 }
 
 /// A text, its objects' offsets, its labels, and whether it ends by a Bad step.
-type Row<'a> = (&'a [u8], &'a [u16], &'a [Label], bool);
+pub(crate) type Row<'a> = (&'a [u8], &'a [u16], &'a [Label], bool);
 
 /// Whether the code of a text makes just these labels up to main's first HALT or Bad step.
 fn is_shown(alloc: Global, row: &Row<'_>) -> Result<bool, Fault> {
@@ -261,7 +261,7 @@ fn is_meant(alloc: Global, row: &Row<'_>) -> Result<bool, Fault> {
 }
 
 /// Whether both do so for each text.
-fn are_shown(alloc: Global, rows: &[Row<'_>]) -> Result<bool, Fault> {
+pub(crate) fn are_shown(alloc: Global, rows: &[Row<'_>]) -> Result<bool, Fault> {
     for row in rows {
         if !is_shown(alloc, row)? || !is_meant(alloc, row)? {
             return Ok(false);

@@ -1,11 +1,12 @@
 //! The parts of a program, and of its sections: the bytes are from the manual's table.
 
+use crate::expect::Expect;
 use crate::sources::code_of;
-use icode::Code;
+use icode::{Code, Instruction, is_direct};
 use select::{Entry, Part, select, select_section};
 use std::alloc::Global;
 use std::test::Fail;
-use word86::Fault;
+use word86::{BinaryOperation, Fault, Width};
 
 /// Two modules: in the first one two interrupt procedures, in the second one main.
 fn two_modules(alloc: Global) -> Result<Code, Fault> {
@@ -52,4 +53,20 @@ fn sections_are_in_order(rt: HostRuntime) -> Result<(), Fail> {
     assert_eq!(rt; second.len(), 1);
     assert!(rt; is_part(&second[0], Entry::Main, &main));
     Ok(())
+}
+
+/// An interrupt procedure saves DX where it divides with sign, as CWD writes it, and CX where a relation is a value, as its sign bit is
+/// turned.
+#[test]
+fn signed_operators_change_registers(rt: HostRuntime) {
+    let mut expect = Expect::new(&rt);
+    for operation in [BinaryOperation::DivideSigned, BinaryOperation::ModuloSigned] {
+        let changed = Instruction::BinaryConstant(operation, Width::Word, 3).changes();
+        expect.holds(changed.accumulator && changed.right && changed.high);
+        expect.holds(!changed.address && !changed.frame);
+        expect.holds(!is_direct(operation));
+    }
+    let relation = Instruction::Binary(BinaryOperation::LessSigned, Width::Word).changes();
+    expect.holds(relation.accumulator && relation.right);
+    expect.holds(!relation.high && !relation.address && !relation.frame);
 }

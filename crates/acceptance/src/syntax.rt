@@ -182,7 +182,19 @@ fn declarations(rt: HostRuntime) {
             Refused(Number::E201, 2),
         ),
         (b"M: DO; DECLARE A (3\nBYTE; END;", Refused(Number::E201, 2)),
-        (b"M: DO; DECLARE A INTEGER; END;", Refused(Number::E201, 1)),
+        (b"M: DO; DECLARE A INTEGER; END;", Fine),
+        (
+            b"M: DO; DECLARE S (3) STRUCTURE (A BYTE, B (2) INTEGER), C BASED P INTEGER; END;",
+            Fine,
+        ),
+        (
+            b"M: DO; F: PROCEDURE INTEGER; END F; G: PROCEDURE (X) INTEGER EXTERNAL; END G; END;",
+            Fine,
+        ),
+        (
+            b"M: DO; DECLARE A BYTE\nINTEGER; END;",
+            Refused(Number::E201, 2),
+        ),
         (b"M: DO; DECLARE (A) BYTE; END;", Fine),
         (b"M: DO; DECLARE () BYTE; END;", Refused(Number::E201, 1)),
         (

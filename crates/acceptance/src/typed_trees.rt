@@ -2,7 +2,8 @@
 
 use crate::sources::{program_of, seen};
 use plm_type::{
-    Anchor, Expression, Operation, Place, Program, Reference, Statement, Subscript, Target,
+    Anchor, Counting, Expression, Operation, Place, Program, Reference, Statement, Subscript,
+    Target,
 };
 use std::process::Abort;
 use std::test::Fail;
@@ -140,6 +141,109 @@ fn trees_show_widths(rt: HostRuntime) -> Result<(), Fail> {
     for (text, wanted) in ROWS {
         let width = seen(program_of(alloc, &[*text]), width_of_first)?;
         assert_eq!(rt; width, *wanted, "in {text:?}");
+    }
+    Ok(())
+}
+
+/// The operators of the chain that main's only statement stores, as far as there are two.
+fn first_two(program: &Program) -> Option<[(BinaryOperation, Width); 2]> {
+    let (_, _, value) = assignment(only(program)?)?;
+    match chain(value)? {
+        (_, [first, second, ..]) => Some([
+            (first.operation, first.width),
+            (second.operation, second.width),
+        ]),
+        _ => None,
+    }
+}
+
+// a number expression is INTEGER throughout where one is wanted: its divisions and relations are those of words with sign
+#[test]
+fn trees_are_turned_integer(rt: HostRuntime) -> Result<(), Fail> {
+    let alloc = rt.alloc();
+    const ROWS: &[(&[u8], [(BinaryOperation, Width); 2])] = &[
+        (
+            b"M: DO; DECLARE I INTEGER; I = 7 / 2 * 3; END M;",
+            [
+                (BinaryOperation::DivideSigned, Width::Word),
+                (BinaryOperation::Multiply, Width::Word),
+            ],
+        ),
+        (
+            b"M: DO; DECLARE W WORD; W = 7 / 2 * 3; END M;",
+            [
+                (BinaryOperation::Divide, Width::Byte),
+                (BinaryOperation::Multiply, Width::Word),
+            ],
+        ),
+        (
+            b"M: DO; DECLARE I INTEGER; I = 250 + 10 + I; END M;",
+            [
+                (BinaryOperation::Add, Width::Word),
+                (BinaryOperation::Add, Width::Word),
+            ],
+        ),
+        (
+            b"M: DO; DECLARE I INTEGER, B BYTE; B = I MOD 7 <= 3; END M;",
+            [
+                (BinaryOperation::ModuloSigned, Width::Word),
+                (BinaryOperation::LessEqualSigned, Width::Byte),
+            ],
+        ),
+        (
+            b"M: DO; DECLARE I INTEGER, B BYTE; B = 1 - 2 > I; END M;",
+            [
+                (BinaryOperation::Subtract, Width::Word),
+                (BinaryOperation::GreaterSigned, Width::Byte),
+            ],
+        ),
+    ];
+    for (text, wanted) in ROWS {
+        let shown = seen(program_of(alloc, &[*text]), first_two)?;
+        assert_eq!(rt; shown, Some(*wanted), "in {text:?}");
+    }
+    Ok(())
+}
+
+/// How main's only statement, a DO with an index, counts, and its step.
+fn counting(program: &Program) -> Option<(Counting, bool)> {
+    match only(program)? {
+        Statement::Iterate(_, rounds) => {
+            Some((rounds.counting, is_constant(&rounds.step, 0xFFFF)))
+        }
+        _ => None,
+    }
+}
+
+// by a step of -1, which is 65,535 as a word
+#[test]
+fn trees_show_how_loops_count(rt: HostRuntime) -> Result<(), Fail> {
+    let alloc = rt.alloc();
+    const ROWS: &[(&[u8], (Counting, bool))] = &[
+        (
+            b"M: DO; DECLARE I INTEGER; DO I = 3 TO 1 BY -1; END; END M;",
+            (Counting::SignedDown, true),
+        ),
+        (
+            b"M: DO; DECLARE I INTEGER; DO I = 1 TO 3 BY +1; END; END M;",
+            (Counting::SignedUp, false),
+        ),
+        (
+            b"M: DO; DECLARE I INTEGER; DO I = 1 TO 3; END; END M;",
+            (Counting::SignedUp, false),
+        ),
+        (
+            b"M: DO; DECLARE I INTEGER; DO I = 1 TO 3 BY -0; END; END M;",
+            (Counting::SignedUp, false),
+        ),
+        (
+            b"M: DO; DECLARE W WORD; DO W = 1 TO 3 BY 65535; END; END M;",
+            (Counting::Up, true),
+        ),
+    ];
+    for (text, wanted) in ROWS {
+        let shown = seen(program_of(alloc, &[*text]), counting)?;
+        assert_eq!(rt; shown, Some(*wanted), "in {text:?}");
     }
     Ok(())
 }

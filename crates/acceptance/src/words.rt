@@ -3,8 +3,9 @@
 use crate::expect::Expect;
 use std::test::Fail;
 use word86::{
-    CutSink, Event, Fault, Label, Number, PAGE_SIZE, PowerOn, RAM_SIZE, SinkFault, Width,
-    WriterSink, add8, add16, div16, mul16, put_all, put_word, rol, ror, shl, shr, sub16, word_at,
+    BinaryOperation, CutSink, Event, Fault, Label, Number, PAGE_SIZE, PowerOn, RAM_SIZE, SinkFault,
+    Width, WriterSink, add8, add16, div16, idiv16, mul16, put_all, put_word, rol, ror, shl, shr,
+    signed16, sub16, unsigned16, word_at,
 };
 
 #[test]
@@ -32,6 +33,72 @@ fn shifts_and_turns(rt: HostRuntime) {
     expect.same(ror(Width::Byte, 0x81, 1), 0xC0);
     expect.same(ror(Width::Word, 0x8001, 0), 0x8001);
     expect.same(ror(Width::Byte, 0x12, 4), 0x21);
+}
+
+#[test]
+fn reads_words_with_sign(rt: HostRuntime) {
+    let mut expect = Expect::new(&rt);
+    let rows = [
+        (0, 0),
+        (0x7FFF, 32767),
+        (0x8000, -32768),
+        (0xFFF9, -7),
+        (0xFFFF, -1),
+    ];
+    for (word, number) in rows {
+        expect.same(signed16(word), number);
+        expect.same(unsigned16(number), word);
+    }
+    // The remainder has the sign of the dividend.
+    expect.same(idiv16(-7, 2), (-3, -1));
+    expect.same(idiv16(7, -2), (-3, 1));
+    expect.same(idiv16(-7, -2), (3, -1));
+    expect.same(idiv16(-32768, 1), (-32768, 0));
+    expect.same(idiv16(-32768, -2), (16384, 0));
+    expect.same(idiv16(32767, -1), (-32767, 0));
+}
+
+// Operators of words with sign: -7 is 0FFF9H, -3 is 0FFFDH, -2 is 0FFFEH, -1 is 0FFFFH, -32,768 is 8000H.
+const SIGNED: &[(BinaryOperation, u16, u16, Option<u16>)] = &[
+    (BinaryOperation::DivideSigned, 0xFFF9, 2, Some(0xFFFD)),
+    (BinaryOperation::DivideSigned, 7, 0xFFFE, Some(0xFFFD)),
+    (BinaryOperation::DivideSigned, 0xFFF9, 0xFFFE, Some(3)),
+    (BinaryOperation::DivideSigned, 0x8000, 1, Some(0x8000)),
+    (BinaryOperation::DivideSigned, 0x8000, 0xFFFE, Some(0x4000)),
+    (BinaryOperation::DivideSigned, 0x7FFF, 0xFFFF, Some(0x8001)),
+    (BinaryOperation::DivideSigned, 0x8000, 0xFFFF, None),
+    (BinaryOperation::DivideSigned, 5, 0, None),
+    (BinaryOperation::ModuloSigned, 0xFFF9, 2, Some(0xFFFF)),
+    (BinaryOperation::ModuloSigned, 7, 0xFFFE, Some(1)),
+    (BinaryOperation::ModuloSigned, 0xFFF9, 0xFFFE, Some(0xFFFF)),
+    (BinaryOperation::ModuloSigned, 0x8000, 0x8000, Some(0)),
+    (BinaryOperation::ModuloSigned, 0x8000, 0xFFFF, None),
+    (BinaryOperation::ModuloSigned, 0x8000, 0, None),
+    (BinaryOperation::LessSigned, 0xFFFF, 1, Some(0xFF)),
+    (BinaryOperation::LessSigned, 0x7FFF, 0x8000, Some(0)),
+    (BinaryOperation::LessSigned, 0xFFFE, 0xFFFE, Some(0)),
+    (BinaryOperation::LessEqualSigned, 0x8000, 0x7FFF, Some(0xFF)),
+    (BinaryOperation::LessEqualSigned, 0xFFFB, 0xFFFB, Some(0xFF)),
+    (BinaryOperation::LessEqualSigned, 0, 0xFFFF, Some(0)),
+    (BinaryOperation::GreaterSigned, 0, 0xFFFF, Some(0xFF)),
+    (BinaryOperation::GreaterSigned, 0xFFFF, 0, Some(0)),
+    (BinaryOperation::GreaterSigned, 5, 5, Some(0)),
+    (BinaryOperation::GreaterEqualSigned, 5, 5, Some(0xFF)),
+    (
+        BinaryOperation::GreaterEqualSigned,
+        0x7FFF,
+        0x8000,
+        Some(0xFF),
+    ),
+    (BinaryOperation::GreaterEqualSigned, 0x8000, 0x7FFF, Some(0)),
+];
+
+#[test]
+fn computes_with_sign(rt: HostRuntime) {
+    let mut expect = Expect::new(&rt);
+    for (operation, left, right, value) in SIGNED {
+        expect.same(operation.value(Width::Word, *left, *right), *value);
+    }
 }
 
 #[test]

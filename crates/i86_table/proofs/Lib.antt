@@ -11,3 +11,4 @@ pub mod FlagLists
 pub mod LateLaws
 pub mod WordProofs
 pub mod InverseProofs
+pub mod SignedProofs

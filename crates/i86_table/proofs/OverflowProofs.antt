@@ -8,7 +8,8 @@ use Rattle.i86_table.specs.declared.instruction.UnaryOperation.TheVariants.{Neg,
 use Rattle.i86_table.specs.declared.flags.Flags.{Flags}
 use Rattle.word86.specs.Access.{values}
 use Rattle.i86_table.specs.Arithmetic.{number_of, sign, same, is_carry, carry, with_result, added, subtracted, operated, changed}
-use Rattle.i86_table.specs.ArithmeticLaw.{signed, in_range, OverflowTells, OverflowLaws}
+use Rattle.word86.specs.Signed.{signed, in_range}
+use Rattle.i86_table.specs.ArithmeticLaw.{OverflowTells, OverflowLaws}
 use Rattle.i86_table.proofs.FlagLists.{Row, has_put}
 use Rattle.i86_table.proofs.FlagProofs.{has_other}
 

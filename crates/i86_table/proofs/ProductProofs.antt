@@ -1,10 +1,10 @@
 -- Products and quotients are those of numbers with sign.
 use Rattle.std.proofs.Common.{◌≡◌, ℕ, zero, suc, ◌+◌, ◌-◌, ◌*◌, ◌/◌, ◌%◌, ◌<◌, ◌≤◌, ◌==◌, not, Bool, true, false, [], ◌∷◌, Option, Some, None, ap, ◌∙◌, refl, sym, subst, nat_le, nat_lt, lit<, arith, if◌then◌else◌, ◌⊎◌, inl, inr}
-use Rattle.std.specs.Prelude.{ℤ, pos, negsuc, ◌+ℤ◌, ◌-ℤ◌, ◌*ℤ◌, neg_ℤ, int_div, int_lt, unsigned_abs}
+use Rattle.std.specs.Prelude.{ℤ, pos, negsuc, ◌+ℤ◌, ◌-ℤ◌, ◌*ℤ◌, neg_ℤ, int_div, int_rem, int_lt, unsigned_abs}
 use Rattle.std.proofs.lemmas.Int.{ints}
 use Rattle.std.proofs.lemmas.Bool.{true≢false, leb-true, leb-false, ltb-true, ltb-false, lt-ltb, le-ltb, le-leb, lt-leb, eqb-true}
 use Rattle.std.proofs.lemmas.Nat.{div-add-mod', mod_below, mul-le}
-use Rattle.std.proofs.Math.Nat.{mod-eq_of_lt, mod_self, zero-div, div-zero}
+use Rattle.std.proofs.Math.Nat.{mod-eq_of_lt, mod_self, zero-div, zero-mod, div-zero}
 use Rattle.std.proofs.Math.IntN.{pos-*ℤ-pos, negsuc-*ℤ-pos, pos-*ℤ-negsuc, *ℤ-negsuc, *ℤ-zero, zero-*ℤ, neg_ℤ-neg_ℤ}
 use Rattle.word86.specs.declared.width.Width.{Width}
 use Rattle.word86.specs.declared.width.Width.TheVariants.{Byte, Word}
@@ -13,12 +13,14 @@ use Rattle.i86_table.specs.declared.outcome.Division.{Division}
 use Rattle.i86_table.specs.declared.flags.Flags.{Flags}
 use Rattle.word86.specs.Access.{values}
 use Rattle.i86_table.specs.Arithmetic.{same, has, magnitude, is_negative, with_sign, carry_and_overflow, multiplied, divided}
-use Rattle.i86_table.specs.ArithmeticLaw.{signed, in_range, ProductLaws, IsQuotient, QuotientLaws}
+use Rattle.word86.specs.Signed.{signed, in_range}
+use Rattle.word86.specs.DivisionLaw.{IsQuotient}
+use Rattle.i86_table.specs.ArithmeticLaw.{ProductLaws, QuotientLaws}
 use Rattle.i86_table.proofs.FlagLists.{has_put}
 
 -- ---- a number by its sign and its absolute value
 
-abbrev minus : Bool → ℕ → ℤ
+abbrev pub minus : Bool → ℕ → ℤ
 minus p m = if p then neg_ℤ (pos m) else pos m
 
 taken : (a size : ℕ) → a < size → pos a -ℤ pos size ≡ neg_ℤ (pos (size - a))
@@ -28,7 +30,7 @@ parts_of : (size a : ℕ) (p : Bool) → nat_le (size / 2) a ≡ p → a < size 
 parts_of size a true e h = rw (le-ltb a (size / 2) (leb-true (size / 2) a e)) (taken a size h)
 parts_of size a false e h = rw (lt-ltb a (size / 2) (leb-false (size / 2) a e)) refl
 
-parts : (size a : ℕ) → a < size → signed size a ≡ minus (is_negative size a) (magnitude size a)
+pub parts : (size a : ℕ) → a < size → signed size a ≡ minus (is_negative size a) (magnitude size a)
 parts size a h = parts_of size a (is_negative size a) refl h
 
 -- the sizes are even
@@ -74,7 +76,7 @@ some_of : (size a : ℕ) (p : Bool) → nat_lt a (size / 2) ≡ p → a < size �
 some_of size a true e h g = g
 some_of size a false e h g = omega (arith, h)
 
-magnitude_some : (size a : ℕ) → a < size → 0 < a → 0 < magnitude size a
+pub magnitude_some : (size a : ℕ) → a < size → 0 < a → 0 < magnitude size a
 magnitude_some size a h g = some_of size a (nat_lt a (size / 2)) refl h g
 
 -- ---- products
@@ -160,7 +162,7 @@ value_or x None = x
 value_or x (Some d) = d
 
 -- what the tests of a division say
-found : (none over : Bool) (x d : Division) → (if none then None else if over then None else Some x) ≡ Some d → (none ≡ false) × (over ≡ false) × (x ≡ d)
+pub found : (none over : Bool) (x d : Division) → (if none then None else if over then None else Some x) ≡ Some d → (none ≡ false) × (over ≡ false) × (x ≡ d)
 unfolding value_or
 found true over x d e = absurd (let wrong = e in cc)
 found false true x d e = absurd (let wrong = e in cc)
@@ -171,7 +173,7 @@ fault true over x e = inl refl
 fault false true x e = inr refl
 fault false false x e = absurd (let wrong = e in cc)
 
-quotient_parts : (p q : Bool) (m n : ℕ) → int_div (minus p m) (minus q n) ≡ minus (not (same p q)) (m / n)
+pub quotient_parts : (p q : Bool) (m n : ℕ) → int_div (minus p m) (minus q n) ≡ minus (not (same p q)) (m / n)
 quotient_parts true true zero zero = refl
 quotient_parts true true zero (suc n) = ap (λ (x : ℕ). neg_ℤ (pos x)) (zero-div (suc n)) ∙ ap pos (sym (zero-div (suc n)))
 quotient_parts true true (suc m) zero = ap (λ (x : ℕ). neg_ℤ (pos x)) (div-zero (suc m)) ∙ ap pos (sym (div-zero (suc m)))
@@ -182,6 +184,16 @@ quotient_parts false true m zero = ap pos (div-zero m) ∙ ap (λ (x : ℕ). neg
 quotient_parts false true m (suc n) = refl
 quotient_parts false false m n = refl
 
+abs_parts : (p : Bool) (m : ℕ) → unsigned_abs (minus p m) ≡ m
+abs_parts true zero = refl
+abs_parts true (suc m) = refl
+abs_parts false m = refl
+
+pub remainder_parts : (p q : Bool) (m n : ℕ) → int_rem (minus p m) (minus q n) ≡ minus p (m % n)
+remainder_parts true q zero n = ap (λ (x : ℕ). pos (0 % x)) (abs_parts q n) ∙ ap pos (zero-mod n) ∙ ap (λ (x : ℕ). neg_ℤ (pos x)) (sym (zero-mod n))
+remainder_parts true q (suc m) n = ap (λ (x : ℕ). neg_ℤ (pos (suc m % x))) (abs_parts q n)
+remainder_parts false q m n = ap (λ (x : ℕ). pos (m % x)) (abs_parts q n)
+
 sign_again : (p q : Bool) → not (same (not (same p q)) q) ≡ p
 sign_again true true = refl
 sign_again true false = refl
@@ -191,11 +203,6 @@ sign_again false false = refl
 sum_parts : (p : Bool) (m n : ℕ) → minus p m +ℤ minus p n ≡ minus p (m + n)
 sum_parts true m n = omega (arith, ints)
 sum_parts false m n = refl
-
-abs_parts : (p : Bool) (m : ℕ) → unsigned_abs (minus p m) ≡ m
-abs_parts true zero = refl
-abs_parts true (suc m) = refl
-abs_parts false m = refl
 
 sign_parts : (p : Bool) (m r : ℕ) → r ≤ m → (minus p r ≡ pos 0) ⊎ (int_lt (minus p r) (pos 0) ≡ int_lt (minus p m) (pos 0))
 sign_parts true m zero h = inl refl

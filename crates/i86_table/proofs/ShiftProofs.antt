@@ -13,7 +13,8 @@ use Rattle.i86_table.specs.declared.instruction.ShiftOperation.TheVariants.{Rol,
 use Rattle.i86_table.specs.declared.flags.Flags.{Flags}
 use Rattle.word86.specs.Access.{values}
 use Rattle.i86_table.specs.Arithmetic.{half_of, sign, has, is_carry, carry, overflow, with_result, moved, moved_once, with_shift_result, shift_overflow, shifted}
-use Rattle.i86_table.specs.ArithmeticLaw.{signed, ShiftLaws}
+use Rattle.word86.specs.Signed.{signed}
+use Rattle.i86_table.specs.ArithmeticLaw.{ShiftLaws}
 use Rattle.i86_table.proofs.FlagLists.{has_put}
 
 -- ---- the value and CF of what is shifted

@@ -1,8 +1,10 @@
 -- What the arithmetic computes, in terms of numbers with sign, powers of two, quotients and remainders.
-use Rattle.std.specs.Prelude.{ℕ, Bool, false, not, ◌&&◌, ◌+◌, ◌-◌, ◌*◌, ◌/◌, ◌%◌, ◌^◌, ◌<◌, ◌≤◌, ◌≡◌, ◌⊎◌, ◌==◌, nat_le, ℤ, pos, neg_ℤ, ◌+ℤ◌, ◌-ℤ◌, ◌*ℤ◌, int_le, int_lt, int_div, unsigned_abs, Some, None, if◌then◌else◌}
+use Rattle.std.specs.Prelude.{ℕ, false, not, ◌+◌, ◌-◌, ◌*◌, ◌/◌, ◌%◌, ◌^◌, ◌<◌, ◌≤◌, ◌≡◌, ◌⊎◌, ◌==◌, nat_le, ℤ, pos, neg_ℤ, ◌+ℤ◌, ◌-ℤ◌, ◌*ℤ◌, int_div, Some, None}
 use Rattle.std.specs.Int.Signed.{shr_z}
 use Rattle.word86.specs.declared.width.Width.{Width}
 use Rattle.word86.specs.Arithmetic.{rotated_left, rotated_right}
+use Rattle.word86.specs.Signed.{signed, in_range}
+use Rattle.word86.specs.DivisionLaw.{IsQuotient}
 use Rattle.i86_table.specs.declared.instruction.AluOperation.TheVariants.{Add, Adc, Sub, Sbb, Cmp}
 use Rattle.i86_table.specs.declared.instruction.UnaryOperation.TheVariants.{Neg, Inc, Dec}
 use Rattle.i86_table.specs.declared.instruction.ShiftOperation.TheVariants.{Rol, Ror, Shl, Shr, Sar}
@@ -10,15 +12,7 @@ use Rattle.i86_table.specs.declared.instruction.Signedness.TheVariants.{Unsigned
 use Rattle.i86_table.specs.declared.outcome.Division.{Division}
 use Rattle.i86_table.specs.declared.flags.Flags.{Flags}
 use Rattle.word86.specs.Access.{values}
-use Rattle.i86_table.specs.Arithmetic.{number_of, has, is_carry, sign, is_negative, operated, changed, shifted, multiplied, divided}
-
--- a number below `size`, read as two's complement
-abbrev pub signed : (size : ℕ) → ℕ → ℤ
-signed size a = if is_negative size a then pos a -ℤ pos size else pos a
-
--- whether two's complement of `size` values has this number
-abbrev pub in_range : (size : ℕ) → ℤ → Bool
-in_range size z = int_le (neg_ℤ (pos (size / 2))) z && int_lt z (pos (size / 2))
+use Rattle.i86_table.specs.Arithmetic.{number_of, has, is_carry, sign, operated, changed, shifted, multiplied, divided}
 
 -- OF is set exactly where a result with sign leaves the range of its width
 abbrev pub OverflowTells : Width → ℤ → Flags → Type 0
@@ -70,12 +64,6 @@ pub record ProductLaws : Type 0 where
       has (multiplied Signed width a b f).flags 1 ≡ not (in_range (values width) (signed (values width) a *ℤ signed (values width) b))
   pub imul_overflow : (width : Width) (a b : ℕ) (f : Flags) → a < values width → b < values width →
       OverflowTells width (signed (values width) a *ℤ signed (values width) b) (multiplied Signed width a b f).flags
-
--- Quotient times divisor plus remainder is the dividend; the remainder is smaller than the divisor and has the dividend's sign, if it is not 0.
-pub record IsQuotient (dividend divisor quotient remainder : ℤ) : Type 0 where
-  pub sum : quotient *ℤ divisor +ℤ remainder ≡ dividend
-  pub smaller : unsigned_abs remainder < unsigned_abs divisor
-  pub same_sign : (remainder ≡ pos 0) ⊎ (int_lt remainder (pos 0) ≡ int_lt dividend (pos 0))
 
 -- A division is a fault where the divisor is 0 or the quotient out of its range alone; the dividend has twice the width.
 pub record QuotientLaws : Type 0 where

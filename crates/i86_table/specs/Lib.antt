@@ -5,6 +5,7 @@ pub mod Arithmetic
 pub mod Condition
 pub mod FlagLaws
 pub mod ArithmeticLaw
+pub mod SignedLaw
 pub mod Pairs
 pub mod PairLaw
 pub mod Contexts

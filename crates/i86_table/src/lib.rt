@@ -17,6 +17,7 @@ mod pair_law;
 mod pairs;
 mod registers;
 mod shifts;
+mod signed_law;
 mod width;
 mod words;
 
@@ -36,4 +37,5 @@ pub use outcome::{Division, Outcome, Product};
 pub use pair_law::pair_laws;
 pub use pairs::{BytePair, WordPair};
 pub use registers::{LoadableSegment, Register8, Register16, Regs, Segment};
+pub use signed_law::signed_laws;
 pub use words::instructions_keep_words;

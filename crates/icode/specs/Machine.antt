@@ -1,5 +1,5 @@
 -- What intermediate code means: a machine with an accumulator and a stack of words, as the 8086 has them. An instruction makes at
--- most one access. What no compiled program does (an access outside the objects and the screen, a division by zero, a word of
+-- most one access. What no compiled program does (an access outside the objects and the screen, a quotient that there is not, a word of
 -- the wrong kind on top) is Bad.
 use Rattle.std.specs.Prelude.{ℕ, suc, ◌+◌, ◌-◌, ◌%◌, Bool, not, nat_eq, nat_lt, nat_le, if◌then◌else◌, List, [], ◌∷◌, drop, length, Option, Some, None, slice_get, slice_index}
 use Rattle.word86.specs.declared.width.Width.{Width}
@@ -10,6 +10,7 @@ use Rattle.word86.specs.Access as access
 use Rattle.word86.specs.Action.{Action, Silent, Touch, Enable, Disable, Halt, Over, Bad}
 use Rattle.word86.specs.Arithmetic.{low}
 use Rattle.word86.specs.Operation.{unary_value, binary_value}
+use Rattle.word86.specs.Signed.{signed_less}
 use Rattle.word86.specs.Page.{page_begins, page_size}
 use Rattle.word86.specs.Place.{bytes, covers, held}
 use Rattle.icode.specs.declared.instruction.Instruction.{Instruction}
@@ -38,6 +39,10 @@ stands relation.Less x y = nat_lt x y
 stands relation.LessEqual x y = nat_le x y
 stands relation.Greater x y = nat_lt y x
 stands relation.GreaterEqual x y = nat_le y x
+stands relation.LessSigned x y = signed_less x y
+stands relation.LessEqualSigned x y = not (signed_less y x)
+stands relation.GreaterSigned x y = signed_less y x
+stands relation.GreaterEqualSigned x y = not (signed_less x y)
 
 -- ---- what needs a value, a word of the right kind, or a place
 
@@ -45,7 +50,7 @@ abbrev pub operated : Option ℕ → (ℕ → Context) → Action Access Context
 operated (Some v) k = Silent (k v)
 operated None k = Bad 0 0
 
--- the quotient by what was read; nothing goes on where that is zero
+-- the value at what was read; nothing goes on where there is none
 abbrev pub computed : Option ℕ → Routine → (next : ℕ) → List Word → Context
 computed (Some x) r p ws = At r p x ws
 computed None r p ws = At Nowhere 0 0 ws

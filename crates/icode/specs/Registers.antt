@@ -50,6 +50,12 @@ of_operator binary.ShiftLeft = record none { accumulator = true; right = true }
 of_operator binary.ShiftRight = record none { accumulator = true; right = true }
 of_operator binary.RotateLeft = record none { accumulator = true; right = true }
 of_operator binary.RotateRight = record none { accumulator = true; right = true }
+of_operator binary.DivideSigned = record none { accumulator = true; right = true; high = true }
+of_operator binary.ModuloSigned = record none { accumulator = true; right = true; high = true }
+of_operator binary.LessSigned = record none { accumulator = true; right = true }
+of_operator binary.LessEqualSigned = record none { accumulator = true; right = true }
+of_operator binary.GreaterSigned = record none { accumulator = true; right = true }
+of_operator binary.GreaterEqualSigned = record none { accumulator = true; right = true }
 
 -- these need no right operand where it is a constant or a word in memory
 abbrev pub is_direct : BinaryOperation → Bool
@@ -71,6 +77,12 @@ is_direct binary.ShiftLeft = false
 is_direct binary.ShiftRight = false
 is_direct binary.RotateLeft = false
 is_direct binary.RotateRight = false
+is_direct binary.DivideSigned = false
+is_direct binary.ModuloSigned = false
+is_direct binary.LessSigned = false
+is_direct binary.LessEqualSigned = false
+is_direct binary.GreaterSigned = false
+is_direct binary.GreaterEqualSigned = false
 
 abbrev pub of_direct : BinaryOperation → Registers
 of_direct o = if is_direct o then just_accumulator else of_operator o

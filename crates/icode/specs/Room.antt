@@ -3,18 +3,46 @@ use Rattle.std.specs.Prelude.{ℕ, ◌+◌, if◌then◌else◌, List, [], ◌�
 use Rattle.word86.specs.declared.width.Width.{Width}
 use Rattle.word86.specs.declared.width.Width.TheVariants as widths
 use Rattle.word86.specs.declared.operation.BinaryOperation.{BinaryOperation}
+use Rattle.word86.specs.declared.operation.BinaryOperation.TheVariants as binary
 use Rattle.icode.specs.declared.instruction.Instruction.{Instruction}
 use Rattle.icode.specs.declared.instruction.Instruction.TheVariants as op
 use Rattle.icode.specs.declared.instruction.Test.{Test}
 use Rattle.icode.specs.declared.instruction.Test.TheVariants as test
 use Rattle.icode.specs.Registers.{is_direct}
 
+-- two sign bits are turned, four bytes more than the longest of the others
+abbrev pub room_of_signs : BinaryOperation → ℕ
+room_of_signs binary.Multiply = 0
+room_of_signs binary.Divide = 0
+room_of_signs binary.Modulo = 0
+room_of_signs binary.Add = 0
+room_of_signs binary.Subtract = 0
+room_of_signs binary.Equal = 0
+room_of_signs binary.NotEqual = 0
+room_of_signs binary.Less = 0
+room_of_signs binary.LessEqual = 0
+room_of_signs binary.Greater = 0
+room_of_signs binary.GreaterEqual = 0
+room_of_signs binary.And = 0
+room_of_signs binary.Or = 0
+room_of_signs binary.ExclusiveOr = 0
+room_of_signs binary.ShiftLeft = 0
+room_of_signs binary.ShiftRight = 0
+room_of_signs binary.RotateLeft = 0
+room_of_signs binary.RotateRight = 0
+room_of_signs binary.DivideSigned = 0
+room_of_signs binary.ModuloSigned = 0
+room_of_signs binary.LessSigned = 4
+room_of_signs binary.LessEqualSigned = 4
+room_of_signs binary.GreaterSigned = 4
+room_of_signs binary.GreaterEqualSigned = 4
+
 abbrev pub room_of_constant : BinaryOperation → ℕ
 room_of_constant o = if is_direct o then 5 else 14
 
 abbrev pub room_of_read : Width → BinaryOperation → ℕ
-room_of_read widths.Byte o = 18
-room_of_read widths.Word o = if is_direct o then 7 else 16
+room_of_read widths.Byte o = 18 + room_of_signs o
+room_of_read widths.Word o = if is_direct o then 7 else 16 + room_of_signs o
 
 -- a jump that is too far for a short one
 abbrev pub room_of_test : Test → ℕ
@@ -35,7 +63,7 @@ room_of op.Push = 1
 room_of (op.Pick n) = 6
 room_of (op.Drop n) = 4
 room_of (op.Unary o width) = 4
-room_of (op.Binary o width) = 14
+room_of (op.Binary o width) = 14 + room_of_signs o
 room_of (op.BinaryConstant o width k) = room_of_constant o
 room_of (op.BinaryPlain o width read x) = room_of_read read o
 room_of (op.Store width x) = 4

@@ -8,7 +8,7 @@ ghost use Rattle.icode.specs.Vectors.{is_number};
 use crate::instruction::Instruction;
 
 /// Whose instructions: main's; those of a procedure by its number; those for a vector without a procedure, which are used up at
-/// once. A division by zero leads to one without instructions, where nothing goes on.
+/// once. A quotient by what was read that there is not leads to one without instructions, where nothing goes on.
 #[derive(Debug, Clone, Copy, PartialEq, Eq)]
 pub enum Routine {
     Main,

@@ -11,6 +11,11 @@ pub enum Relation {
     LessEqual,
     Greater,
     GreaterEqual,
+    /// Of words with sign.
+    LessSigned,
+    LessEqualSigned,
+    GreaterSigned,
+    GreaterEqualSigned,
 }
 
 /// What a conditional jump asks.

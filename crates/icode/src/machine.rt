@@ -19,7 +19,7 @@ use crate::code::{Code, Position, Routine, Word};
 use crate::instruction::{Instruction, Relation, Test};
 use crate::ram_objects::RamObjects;
 use std::alloc::Global;
-use word86::{Access, BinaryOperation, Place, Width};
+use word86::{Access, BinaryOperation, Place, Width, signed16};
 
 /// What a step does.
 #[derive(Debug, Clone, Copy, PartialEq, Eq)]
@@ -38,8 +38,8 @@ pub enum Step {
 pub enum Stop {
     /// The interrupt procedure is used up.
     Over,
-    /// The step would be a Bad one: an access outside the objects and the screen, a division by zero, or none that a compiled
-    /// program makes.
+    /// The step would be a Bad one: an access outside the objects and the screen, a quotient that there is not, or none that a
+    /// compiled program makes.
     Bad,
     /// A growth of memory was refused.
     Memory,
@@ -103,6 +103,10 @@ impl Relation {
             Relation::LessEqual => left <= right,
             Relation::Greater => left > right,
             Relation::GreaterEqual => left >= right,
+            Relation::LessSigned => signed16(left) < signed16(right),
+            Relation::LessEqualSigned => signed16(left) <= signed16(right),
+            Relation::GreaterSigned => signed16(left) > signed16(right),
+            Relation::GreaterEqualSigned => signed16(left) >= signed16(right),
         }
     }
 }

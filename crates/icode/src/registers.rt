@@ -78,7 +78,11 @@ fn of_operator(operation: BinaryOperation) -> Registers
     ensures { result ≡ of_operator operation }
 {
     let high = match operation {
-        BinaryOperation::Multiply | BinaryOperation::Divide | BinaryOperation::Modulo => true,
+        BinaryOperation::Multiply
+        | BinaryOperation::Divide
+        | BinaryOperation::Modulo
+        | BinaryOperation::DivideSigned
+        | BinaryOperation::ModuloSigned => true,
         BinaryOperation::Add
         | BinaryOperation::Subtract
         | BinaryOperation::Equal
@@ -93,7 +97,11 @@ fn of_operator(operation: BinaryOperation) -> Registers
         | BinaryOperation::ShiftLeft
         | BinaryOperation::ShiftRight
         | BinaryOperation::RotateLeft
-        | BinaryOperation::RotateRight => false,
+        | BinaryOperation::RotateRight
+        | BinaryOperation::LessSigned
+        | BinaryOperation::LessEqualSigned
+        | BinaryOperation::GreaterSigned
+        | BinaryOperation::GreaterEqualSigned => false,
     };
     Registers {
         accumulator: true,
@@ -125,7 +133,13 @@ pub fn is_direct(operation: BinaryOperation) -> bool
         | BinaryOperation::ShiftLeft
         | BinaryOperation::ShiftRight
         | BinaryOperation::RotateLeft
-        | BinaryOperation::RotateRight => false,
+        | BinaryOperation::RotateRight
+        | BinaryOperation::DivideSigned
+        | BinaryOperation::ModuloSigned
+        | BinaryOperation::LessSigned
+        | BinaryOperation::LessEqualSigned
+        | BinaryOperation::GreaterSigned
+        | BinaryOperation::GreaterEqualSigned => false,
     }
 }
 

@@ -25,14 +25,16 @@ use Rattle.plm_type.specs.Rest.{Expression, Expressions, NoMore, More, Reference
 use Rattle.plm_type.specs.Shapes.{designated, fixed_place, read_of, store_to, member_stride}
 use Rattle.word86.specs.declared.number.Number.TheVariants.{E401, E402}
 use Rattle.plm_type.specs.Faults.{fault_unless, port_faults}
-use Rattle.plm_type.specs.Statements.{assignment, targets}
+use Rattle.plm_type.specs.Expressions.{wanted_beside}
+use Rattle.plm_type.specs.Statements.{wanted_of_return, variable_meant, wanted_among, assignment, targets, signed_step, integer_step}
 use Rattle.plm_type.specs.Trees.{use_read, use_stored, refer, strided, to_port, operated, read_port, shifted, builtin_value}
-use Rattle.plm_type.specs.Types.{width_of, may_be_numbers}
-use Rattle.plm_type.specs.Typing.{is_plain, is_measure, is_target, first_type}
+use Rattle.plm_type.specs.Types.{width_of, is_integer, may_be_numbers}
+use Rattle.plm_type.specs.Typing.{is_plain, is_measure, is_target, first_type, other_types, variable_type, wanted_arguments, parameters_wanted}
 use Rattle.plm_type.specs.Effects.{is_unevaluated}
 use Rattle.plm_type.specs.Nodes.{expression_nodes, expressions_nodes, selector_nodes, reference_nodes, location_nodes, target_nodes, targets_nodes, step_nodes, statement_nodes, statements_nodes}
-use Rattle.lower.proofs.Typed.{tree_of, trees_of, selector_trees, value_of, location_of, target_of, types_of, target_faults, measured_value, argument_value, reference_value, of_number, target_trees, of_targets, called, of_index, step_for, of_step, statement_for, statements_for, of_statement, of_statements}
+use Rattle.lower.proofs.Typed.{tree_of, type_of, is_turned, wanted_tree, given_trees, given_types, trees_of, selector_trees, value_of, location_of, target_of, target_type, target_faults, measured_value, argument_value, reference_value, of_number, of_count, of_bound, target_types, target_trees, of_targets, called, of_index, step_for, of_step, statement_for, statements_for, of_statement, of_statements}
 use Rattle.lower.proofs.Rooms as typed
+use Rattle.lower.proofs.Integers.{turned_count}
 
 -- ---- lists without items
 
@@ -132,6 +134,8 @@ builtin_count module_index line builtin.Last w es = omega arith
 builtin_count module_index line builtin.Size w es = omega arith
 builtin_count module_index line builtin.Output w es = omega arith
 builtin_count module_index line builtin.OutputWord w es = omega arith
+builtin_count module_index line builtin.Signed w es = operated_count unary.Double w es
+builtin_count module_index line builtin.Unsigned w es = operated_count unary.Double w es
 
 reference_count : (variables : List Variable) (procedures : List ProcedureR) (objects : List ℕ) (module_index : ℕ) (at : Position) (b : Builtin) (x : ReferenceR') → typed.nodes (reference_value variables procedures objects module_index at b x) ≤ 1
 reference_count variables procedures objects module_index at b (Use p (binding.Variable v) es s) = omega arith
@@ -183,10 +187,17 @@ module _ (variables : List Variable) (procedures : List ProcedureR) (objects : L
   abbrev trees : ExpressionsR → Expressions
   trees es = trees_of variables procedures objects module_index es
 
-  built_in : (p : Position) (b : Builtin) (es : ExpressionsR) (s : SelectorR) (m : Bool) → typed.all_nodes (trees es) ≤ expressions_nodes es
-      → typed.nodes (cond m (measured_value variables procedures objects module_index p b es) (builtin_value module_index p.line b (width_of (first_type (types_of variables procedures objects module_index es))) (trees es))) ≤ cond m 1 (1 + expressions_nodes es + selector_nodes s)
-  built_in p b es s true h = measured_count variables procedures objects module_index p b es
-  built_in p b es s false h = let k = builtin_count module_index p.line b (width_of (first_type (types_of variables procedures objects module_index es))) (trees es) in omega (arith, h, k)
+  -- where values of these types are wanted
+  abbrev given : List (Option ScalarType) → ExpressionsR → Expressions
+  given ts es = given_trees variables procedures objects module_index ts es
+
+  abbrev turned : Option ScalarType → ExpressionR → Bool
+  turned t e = is_turned variables procedures objects module_index t e
+
+  built_in : (p : Position) (b : Builtin) (es : ExpressionsR) (s : SelectorR) (m : Bool) (w : Width) (us : Expressions) → typed.all_nodes us ≤ expressions_nodes es
+      → typed.nodes (cond m (measured_value variables procedures objects module_index p b es) (builtin_value module_index p.line b w us)) ≤ cond m 1 (1 + expressions_nodes es + selector_nodes s)
+  built_in p b es s true w us h = measured_count variables procedures objects module_index p b es
+  built_in p b es s false w us h = let k = builtin_count module_index p.line b w us in omega (arith, h, k)
 
   -- OUTPUT without a port is a fault of types
   loose_port : (b : Builtin) (es : ExpressionsR) (s : SelectorR) (m : Bool) → typed.all_nodes (trees es) ≤ expressions_nodes es
@@ -201,13 +212,26 @@ module _ (variables : List Variable) (procedures : List ProcedureR) (objects : L
     tree_count (ReferenceR x) = value_count x
     tree_count (LocationR l) = location_count l
     tree_count (ParenthesisedR p e) = tree_count e
-    tree_count (EmbeddedR p x e) = let h = target_count x in let i = tree_count e in omega (arith, h, i)
+    tree_count (EmbeddedR p x e) =
+        let h = target_count x in
+        let i = turned_count (turned (target_type variables procedures objects module_index x) e) (tree e) (expression_nodes e) (tree_count e) in
+        omega (arith, h, i)
     tree_count (UnaryR p o e) = let h = tree_count e in omega (arith, h)
-    tree_count (BinaryR p o a b) = let x = tree_count a in let y = tree_count b in omega (arith, x, y)
+    tree_count (BinaryR p o a b) =
+        let x = turned_count (turned (wanted_beside o (type_of variables procedures objects module_index b)) a) (tree a) (expression_nodes a) (tree_count a) in
+        let y = turned_count (turned (wanted_beside o (type_of variables procedures objects module_index a)) b) (tree b) (expression_nodes b) (tree_count b) in
+        omega (arith, x, y)
 
     trees_count : (es : ExpressionsR) → typed.all_nodes (trees es) ≤ expressions_nodes es
     trees_count no_expressions = omega arith
     trees_count (expressions e es) = let x = tree_count e in let y = trees_count es in omega (arith, x, y)
+
+    given_count : (es : ExpressionsR) (ts : List (Option ScalarType)) → typed.all_nodes (given ts es) ≤ expressions_nodes es
+    given_count no_expressions ts = omega arith
+    given_count (expressions e es) ts =
+        let x = turned_count (turned (first_type ts) e) (tree e) (expression_nodes e) (tree_count e) in
+        let y = given_count es (other_types ts) in
+        omega (arith, x, y)
 
     selector_count : (s : SelectorR) → typed.all_nodes (selector_trees variables procedures objects module_index s) ≤ selector_nodes s
     selector_count no_member = omega arith
@@ -222,8 +246,10 @@ module _ (variables : List Variable) (procedures : List ProcedureR) (objects : L
         let j = trees_count es in
         let k = selector_count s in
         omega (arith, h, i, j, k)
-    value_count (Use p (binding.Procedure q) es s) = let h = trees_count es in omega (arith, h)
-    value_count (Use p (binding.Builtin b) es s) = built_in p b es s (is_measure b) (trees_count es)
+    value_count (Use p (binding.Procedure q) es s) = let h = given_count es (parameters_wanted variables (slice_get procedures q)) in omega (arith, h)
+    value_count (Use p (binding.Builtin b) es s) =
+        let ts = wanted_arguments b in
+        built_in p b es s (is_measure b) (width_of (first_type (given_types variables procedures objects module_index ts es))) (given ts es) (given_count es ts)
     value_count (Use p binding.Nothing es s) = omega arith
 
     location_count : (l : LocationR') → typed.nodes (location_of variables procedures objects module_index l) ≤ location_nodes l
@@ -271,6 +297,8 @@ module _ (variables : List Variable) (procedures : List ProcedureR) (objects : L
   no_port p builtin.RotateRight s e = omega arith
   no_port p builtin.Input s e = omega arith
   no_port p builtin.InputWord s e = omega arith
+  no_port p builtin.Signed s e = omega arith
+  no_port p builtin.Unsigned s e = omega arith
 
   tight_port : (p : Position) (b : Builtin) (es : ExpressionsR) (s : SelectorR) → target_faults variables procedures objects module_index (Use p (binding.Builtin b) es s) ≡ []
       → typed.target_nodes (to_port b (trees es)) ≤ cond (is_target b) (expressions_nodes es) (1 + expressions_nodes es + selector_nodes s)
@@ -308,17 +336,20 @@ module _ (variables : List Variable) (procedures : List ProcedureR) (objects : L
       let i = targets_count xs (none_right (target_faults variables procedures objects module_index x) (of_targets variables procedures objects module_index xs) e) in
       omega (arith, h, i)
 
-  assignment_count : (xs : ReferencesR) (d : ExpressionR) → of_targets variables procedures objects module_index xs ≡ []
-      → typed.statement_nodes (assignment (target_trees variables procedures objects module_index xs) (tree d)) ≤ 1 + targets_nodes xs + expression_nodes d
-  assignment_count no_references d e = let h = tree_count d in omega (arith, h)
-  assignment_count (references x xs) d e =
+  wanted_count : (t : Option ScalarType) (d : ExpressionR) → typed.nodes (wanted_tree variables procedures objects module_index t d) ≤ expression_nodes d
+  wanted_count t d = turned_count (turned t d) (tree d) (expression_nodes d) (tree_count d)
+
+  assignment_count : (xs : ReferencesR) (t : Option ScalarType) (d : ExpressionR) → of_targets variables procedures objects module_index xs ≡ []
+      → typed.statement_nodes (assignment (target_trees variables procedures objects module_index xs) (wanted_tree variables procedures objects module_index t d)) ≤ 1 + targets_nodes xs + expression_nodes d
+  assignment_count no_references t d e = let h = wanted_count t d in omega (arith, h)
+  assignment_count (references x xs) t d e =
       let h = targets_sum (target_of variables procedures objects module_index x) (target_trees variables procedures objects module_index xs) in
       let i = targets_count (references x xs) e in
-      let j = tree_count d in
+      let j = wanted_count t d in
       omega (arith, h, i, j)
 
   called_count : (p : Position) (x : ReferenceR') → typed.nodes (called variables procedures objects module_index p x) ≤ reference_nodes x
-  called_count p (Use q (binding.Procedure n) es s) = let h = trees_count es in omega (arith, h)
+  called_count p (Use q (binding.Procedure n) es s) = let h = given_count es (parameters_wanted variables (slice_get procedures n)) in omega (arith, h)
   called_count p (Use q (binding.Variable v) es s) = omega arith
   called_count p (Use q (binding.Builtin b) es s) = use_positive (Use q (binding.Builtin b) es s)
   called_count p (Use q binding.Nothing es s) = omega arith
@@ -337,9 +368,20 @@ module _ (variables : List Variable) (procedures : List ProcedureR) (objects : L
   step_at_most (rest.Passing p xs vs) = omega arith
   step_at_most (rest.Running ss) = omega arith
 
-  step_count : (p : Position) (s : Option ExpressionR) → typed.step_nodes (step_for variables procedures objects module_index p s) ≤ step_nodes s
-  step_count p None = omega arith
-  step_count p (Some e) = let h = step_at_most (tree e) in let i = tree_count e in omega (arith, h, i)
+  integer_step_count : (p : Position) (o : Option _) (n : ℕ) → typed.step_nodes (integer_step module_index p o).tree ≤ n
+  integer_step_count p None n = omega arith
+  integer_step_count p (Some s) n = omega arith
+
+  chosen_count : (c : Bool) (a b : Expression) (n : ℕ) → typed.step_nodes a ≤ n → typed.step_nodes b ≤ n → typed.step_nodes (cond c a b) ≤ n
+  chosen_count true a b n x y = x
+  chosen_count false a b n x y = y
+
+  step_count : (t : Option ScalarType) (p : Position) (s : Option ExpressionR) → typed.step_nodes (step_for variables procedures objects module_index t p s) ≤ step_nodes s
+  step_count t p None = omega arith
+  step_count t p (Some e) =
+      let h = step_at_most (tree e) in
+      let i = tree_count e in
+      chosen_count (is_integer t) (integer_step module_index p (signed_step e)).tree (tree e) (expression_nodes e) (integer_step_count p (signed_step e) (expression_nodes e)) (omega (arith, h, i))
 
   -- ---- statements
 
@@ -352,13 +394,19 @@ module _ (variables : List Variable) (procedures : List ProcedureR) (objects : L
   abbrev number_faults : Position → ExpressionR → List Found
   number_faults p e = of_number variables procedures objects module_index p e
 
+  abbrev count_faults : Position → ExpressionR → List Found
+  count_faults p e = of_count variables procedures objects module_index p e
+
+  abbrev bound_faults : Option ScalarType → Position → ExpressionR → List Found
+  bound_faults t p e = of_bound variables procedures objects module_index t p e
+
   mutual
     statement_count : (around : Around) (s : StatementR) → faults_for around s ≡ [] → typed.statement_nodes (statement_for variables procedures objects module_index around s) ≤ statement_nodes s
     statement_count around (EmptyR p) n = omega arith
-    statement_count around (AssignR xs e) n = assignment_count xs e (none_left (of_targets variables procedures objects module_index xs) _ n)
+    statement_count around (AssignR xs e) n = assignment_count xs (wanted_among (target_types variables procedures objects module_index xs)) e (none_left (of_targets variables procedures objects module_index xs) _ n)
     statement_count around (CallR p x) n = let h = called_count p x in omega (arith, h)
     statement_count around (ReturnR p) n = omega arith
-    statement_count around (ReturnValueR p e) n = let h = tree_count e in omega (arith, h)
+    statement_count around (ReturnValueR p e) n = let h = wanted_count (wanted_of_return around) e in omega (arith, h)
     statement_count around (EnableR p) n = omega arith
     statement_count around (DisableR p) n = omega arith
     statement_count around (HaltR p) n = omega arith
@@ -379,15 +427,16 @@ module _ (variables : List Variable) (procedures : List ProcedureR) (objects : L
         omega (arith, h, i)
     statement_count around (CaseR p e ss) n =
         let h = tree_count e in
-        let i = statements_count around ss (none_right (number_faults p e) (faults_among around ss) n) in
+        let i = statements_count around ss (none_right (count_faults p e) (faults_among around ss) n) in
         omega (arith, h, i)
     statement_count around (IterateR p q m a b s ss) n =
-        let last = of_step variables procedures objects module_index p s in
-        let h = tree_count a in
-        let i = tree_count b in
-        let j = step_count p s in
-        let k = statements_count around ss (none_right last (faults_among around ss) (none_right (number_faults p b) (last ++ faults_among around ss) (none_right (number_faults p a) (number_faults p b ++ (last ++ faults_among around ss))
-        (none_right (of_index variables procedures objects module_index p q m) (number_faults p a ++ (number_faults p b ++ (last ++ faults_among around ss))) n)))) in
+        let t = variable_type (variable_meant variables m) in
+        let last = of_step variables procedures objects module_index t p s in
+        let h = wanted_count t a in
+        let i = wanted_count t b in
+        let j = step_count t p s in
+        let k = statements_count around ss (none_right last (faults_among around ss) (none_right (bound_faults t p b) (last ++ faults_among around ss) (none_right (bound_faults t p a) (bound_faults t p b ++ (last ++ faults_among around ss))
+        (none_right (of_index variables procedures objects module_index p q m) (bound_faults t p a ++ (bound_faults t p b ++ (last ++ faults_among around ss))) n)))) in
         omega (arith, h, i, j, k)
 
     pub statements_count : (around : Around) (ss : StatementsR) → faults_among around ss ≡ [] → typed.statements_nodes (statements_for variables procedures objects module_index around ss) ≤ statements_nodes ss

@@ -9,9 +9,11 @@ use Rattle.icode.specs.declared.instruction.Instruction.TheVariants as op
 use Rattle.icode.specs.declared.instruction.Test.{Test}
 use Rattle.icode.specs.Heights.{after, behind, popped}
 use Rattle.icode.specs.Made.{asked_constant, is_case}
+use Rattle.plm_type.specs.declared.program.Counting.{Counting}
 use Rattle.plm_type.specs.Rest.{Scalar}
 use Rattle.lower.specs.Expressions.{Operand, Number, Name, Computed, place_of}
 use Rattle.lower.specs.Statements.{next_round, add_pushed, over, failing, choosing, all_of, entries, switching, exit_before}
+use Rattle.lower.proofs.Sums.{left_word}
 use Rattle.lower.proofs.Heights.{Keeps, behind_append}
 
 -- a constant operand is a word
@@ -63,10 +65,10 @@ all_level (c ∷ cs) f = level_then c (all_of cs) f.0 (all_level cs f.1)
 pub switching_level : (cases : List (List Instruction)) (exit : ℕ) → AreLevel cases → behind 0 (switching cases exit) ≡ 0
 switching_level cases exit f = level_then (entries 0 cases) (op.Ahead (length (all_of cases) + exit) ∷ all_of cases) (entries_level 0 cases) (all_level cases f)
 
-pub next_level : (x : Scalar) (step : Operand) (code : List Instruction) (before : ℕ) → Keeps code → behind 0 (next_round x step code before) ≡ 0
-next_level x (Number s) code before k = refl
-next_level x (Name read y) code before k = level_then code (add_pushed x (before + length code)) (k 0) refl
-next_level x Computed code before k = level_then code (add_pushed x (before + length code)) (k 0) refl
+pub next_level : (o : Counting) (x : Scalar) (step : Operand) (code : List Instruction) (before : ℕ) → Keeps code → behind 0 (next_round o x step code before) ≡ 0
+next_level o x (Number s) code before k = refl
+next_level o x (Name read y) code before k = level_then code (add_pushed x (before + length code)) (k 0) refl
+next_level o x Computed code before k = level_then code (add_pushed x (before + length code)) (k 0) refl
 
 -- which procedures may be called; whether ENABLE and HALT may stand; whether the end of an interrupt procedure may; where jumps may lead
 module _ (MayCall : ℕ → Type 0) (Enables Finishes : Type 0) (Spot : ℕ → Type 0) where
@@ -242,18 +244,18 @@ module _ (MayCall : ℕ → Type 0) (Enables Finishes : Type 0) (Spot : ℕ → 
   added_fits : (x : Scalar) (before q : ℕ) → Spot (q - before) → Fits q 0 (add_pushed x before)
   added_fits x before q s = (tt, (tt, (tt, (tt, (tt, ((omega arith, subst Spot (omega arith) s, omega arith), tt))))))
 
-  next_fits : (x : Scalar) (step : Operand) (code : List Instruction) (before q : ℕ) → IsWord step → Keeps code → Calm 0 code → Spot (q - before) → Fits q 0 (next_round x step code before)
-  next_fits x (Number n) code before q lt k f s = (tt, (lt, (tt, ((omega arith, subst Spot (omega arith) s, lt), tt))))
-  next_fits x (Name read y) code before q lt k f s = fits_then q 0 0 code (add_pushed x (before + length code)) (f q) (k 0) (added_fits x (before + length code) (q + length code) (subst Spot (omega arith) s))
-  next_fits x Computed code before q lt k f s = fits_then q 0 0 code (add_pushed x (before + length code)) (f q) (k 0) (added_fits x (before + length code) (q + length code) (subst Spot (omega arith) s))
+  next_fits : (o : Counting) (x : Scalar) (step : Operand) (code : List Instruction) (before q : ℕ) → IsWord step → Keeps code → Calm 0 code → Spot (q - before) → Fits q 0 (next_round o x step code before)
+  next_fits o x (Number n) code before q lt k f s = (tt, (lt, (tt, ((omega arith, subst Spot (omega arith) s, left_word o n lt), tt))))
+  next_fits o x (Name read y) code before q lt k f s = fits_then q 0 0 code (add_pushed x (before + length code)) (f q) (k 0) (added_fits x (before + length code) (q + length code) (subst Spot (omega arith) s))
+  next_fits o x Computed code before q lt k f s = fits_then q 0 0 code (add_pushed x (before + length code)) (f q) (k 0) (added_fits x (before + length code) (q + length code) (subst Spot (omega arith) s))
 
-  pub counted_fits : (first compared body step : List Instruction) (x : Scalar) (by : Operand) (t : Test) (exit : ℕ) → Calm 0 first → behind 0 first ≡ 0 → Calm 0 compared → behind 0 compared ≡ popped t → asked_constant t < 65536
+  pub counted_fits : (first compared body step : List Instruction) (o : Counting) (x : Scalar) (by : Operand) (t : Test) (exit : ℕ) → Calm 0 first → behind 0 first ≡ 0 → Calm 0 compared → behind 0 compared ≡ popped t → asked_constant t < 65536
       → behind 0 body ≡ 0 → Fitting 0 body → IsWord by → Keeps step → Calm 0 step
       → Fitting exit (first
       ++ (op.Store x.width (place_of x.place) ∷ op.Load x.width (place_of x.place)
-      ∷ (compared ++ (op.AheadUnless t (length body + length (next_round x by step (length compared + length body + 2)) + exit) ∷ (body ++ next_round x by step (length compared + length body + 2))))))
-  counted_fits first compared body step x by t exit f fl c up word level fits lt k g p s end =
-      let again = next_round x by step (length compared + length body + 2) in
+      ∷ (compared ++ (op.AheadUnless t (length body + length (next_round o x by step (length compared + length body + 2)) + exit) ∷ (body ++ next_round o x by step (length compared + length body + 2))))))
+  counted_fits first compared body step o x by t exit f fl c up word level fits lt k g p s end =
+      let again = next_round o x by step (length compared + length body + 2) in
       let n = length body + length again + exit in
       let test = op.AheadUnless t n ∷ (body ++ again) in
       let q = suc (suc (p + length first)) in
@@ -271,6 +273,6 @@ module _ (MayCall : ℕ → Type 0) (Enables Finishes : Type 0) (Spot : ℕ → 
           tt,
           tested_fits compared (body ++ again) t n q c up word (subst Spot (omega (arith, lf, lc, lb)) end)
               (fits_then r 0 0 body again (fits r (spots_front r body again rest) (subst Spot (omega arith) (spots_first (r + length body) again (spots_back r body again level rest)))) level
-              (next_fits x by step (length compared + length body + 2) (r + length body) lt k g (subst Spot (omega arith) (spots_first (suc (p + length first)) (op.Load x.width (place_of x.place) ∷ (compared ++ test)) round)))),
+              (next_fits o x by step (length compared + length body + 2) (r + length body) lt k g (subst Spot (omega arith) (spots_first (suc (p + length first)) (op.Load x.width (place_of x.place) ∷ (compared ++ test)) round)))),
         ),
       )

@@ -5,10 +5,9 @@ use Rattle.word86.specs.declared.width.Width.TheVariants as widths
 use Rattle.plm_type.specs.Rest.{Expression, Loop, Count, Statement, Empty, Assign, Evaluate, Return, ReturnValue, Enabling, Disabling, Halting, If, Block, While, Case, Iterate, Leaving, Round, Comparing, Stepping, Adding, Storing, Ending, Statements, End, Then, Returned, Procedure}
 use Rattle.icode.specs.declared.instruction.Instruction.{Instruction}
 use Rattle.icode.specs.declared.instruction.Instruction.TheVariants as op
-use Rattle.icode.specs.declared.instruction.Relation.TheVariants as relation
 use Rattle.icode.specs.Heights.{behind}
 use Rattle.lower.specs.Expressions.{operand_of, place_of, beside, stands_to, test_of, expression_code, targets_code, condition_code}
-use Rattle.lower.specs.Statements.{Kind, OfMain, Called, Giving, Serving, returning, narrowed, next_round, are_silent, over, all_of, switching, exit_before, statement_code, statements_code, cases_code}
+use Rattle.lower.specs.Statements.{Kind, OfMain, Called, Giving, Serving, returning, narrowed, within, next_round, are_silent, over, all_of, switching, exit_before, statement_code, statements_code, cases_code}
 use Rattle.lower.specs.Well.{MayReturn, IsStatement, AreStatements}
 use Rattle.lower.proofs.Heights.{Keeps, expression_keeps, dropped_keeps, targets_keep}
 use Rattle.lower.proofs.Fits.{Fits, Calm, Fitting, AreLevel, level_then, tested_level, choosing_level, switching_level, next_level, fits_then, choosing_fits, one_then_more, repeated_fits, switching_fits, case_fits, counted_fits}
@@ -28,7 +27,7 @@ abbrev mutual
   Lets _ = ⊥
 
   pub LoopLets : Loop → Type 0
-  LoopLets (Count x bound step ss) = Let ss
+  LoopLets (Count o x bound step ss) = Let ss
 
   pub Let : Statements → Type 0
   Let End = ⊥
@@ -73,23 +72,23 @@ module _ (procedures : List Procedure) (around : Kind) where
         let back = op.Back (length (condition_code procedures c) + length body + 2) ∷ [] in
         tested_level (condition_code procedures c) (body ++ back) (test_of c) (length body + 1 + exit) (condition_up procedures c) (level_then body back (statements_level ss 0) refl)
     statement_level (Case e ss) exit = level_then (expression_code procedures e) (switching (cases_code procedures around exit ss) exit) (expression_keeps procedures e 0) (switching_level (cases_code procedures around exit ss) exit (cases_level ss exit))
-    statement_level (Iterate a (Count x bound step ss)) exit =
+    statement_level (Iterate a (Count o x bound step ss)) exit =
         let compared = beside (operand_of bound) (expression_code procedures bound) in
         let body = statements_code procedures around 0 ss in
         let before = length compared + length body + 2 in
-        let again = next_round x (operand_of step) (expression_code procedures step) before in
+        let again = next_round o x (operand_of step) (expression_code procedures step) before in
         let n = length body + length again + exit in
-        let t = stands_to relation.LessEqual (operand_of bound) in
+        let t = stands_to (within o) (operand_of bound) in
         level_then (expression_code procedures a) (op.Store x.width (place_of x.place) ∷ op.Load x.width (place_of x.place) ∷ (compared ++ (op.AheadUnless t n ∷ (body ++ again)))) (expression_keeps procedures a 0)
-        (tested_level compared (body ++ again) t n (beside_up relation.LessEqual (operand_of bound) (expression_code procedures bound) (expression_keeps procedures bound))
-        (level_then body again (statements_level ss 0) (next_level x (operand_of step) (expression_code procedures step) before (expression_keeps procedures step))))
+        (tested_level compared (body ++ again) t n (beside_up (within o) (operand_of bound) (expression_code procedures bound) (expression_keeps procedures bound))
+        (level_then body again (statements_level ss 0) (next_level o x (operand_of step) (expression_code procedures step) before (expression_keeps procedures step))))
     statement_level Leaving exit = refl
     statement_level (Round l) exit = refl
     statement_level (Comparing i e l) exit = refl
     statement_level (Stepping e l) exit = refl
     statement_level (Adding i s l) exit = refl
-    statement_level (Storing s l) exit = refl
-    statement_level (Ending s l) exit = refl
+    statement_level (Storing s b l) exit = refl
+    statement_level (Ending b l) exit = refl
 
     pub statements_level : (ss : Statements) (exit : ℕ) → behind 0 (statements_code procedures around exit ss) ≡ 0
     statements_level End exit = refl
@@ -153,11 +152,11 @@ module _ (MayCall : ℕ → Type 0) (Enables : Type 0) (Spot : ℕ → Type 0) (
         one_then_more MayCall Enables (IsServing around) Spot false (expression_code procedures e) (switching (cases_code procedures around exit ss) exit) exit (λ h. cc) (expression_keeps procedures e 0)
         (calm e (expression_calm MayCall Enables (IsServing around) Spot sizes procedures e good.0 0) 0)
         (switching_fits MayCall Enables (IsServing around) Spot (cases_code procedures around exit ss) exit (cases_level procedures around ss exit) (cases_fit ss good.1 lets exit))
-    statement_fits (Iterate a (Count x bound step ss)) good lets exit =
-        counted_fits MayCall Enables (IsServing around) Spot (expression_code procedures a) (beside (operand_of bound) (expression_code procedures bound)) (statements_code procedures around 0 ss) (expression_code procedures step) x (operand_of step)
-        (stands_to relation.LessEqual (operand_of bound)) exit (expression_calm MayCall Enables (IsServing around) Spot sizes procedures a good.0 0) (expression_keeps procedures a 0)
+    statement_fits (Iterate a (Count o x bound step ss)) good lets exit =
+        counted_fits MayCall Enables (IsServing around) Spot (expression_code procedures a) (beside (operand_of bound) (expression_code procedures bound)) (statements_code procedures around 0 ss) (expression_code procedures step) o x (operand_of step)
+        (stands_to (within o) (operand_of bound)) exit (expression_calm MayCall Enables (IsServing around) Spot sizes procedures a good.0 0) (expression_keeps procedures a 0)
         (beside_calm MayCall Enables (IsServing around) Spot (operand_of bound) (expression_code procedures bound) (expression_calm MayCall Enables (IsServing around) Spot sizes procedures bound good.1.1) 0)
-        (beside_up relation.LessEqual (operand_of bound) (expression_code procedures bound) (expression_keeps procedures bound)) (bound_word MayCall Enables (IsServing around) Spot sizes procedures relation.LessEqual bound good.1.1)
+        (beside_up (within o) (operand_of bound) (expression_code procedures bound) (expression_keeps procedures bound)) (bound_word MayCall Enables (IsServing around) Spot sizes procedures (within o) bound good.1.1)
         (statements_level procedures around ss 0) (statements_fit ss good.1.3 lets 0) (operand_word MayCall Enables (IsServing around) Spot sizes procedures step good.1.2) (expression_keeps procedures step)
         (expression_calm MayCall Enables (IsServing around) Spot sizes procedures step good.1.2 0)
     statement_fits Leaving good lets exit = absurd good
@@ -165,8 +164,8 @@ module _ (MayCall : ℕ → Type 0) (Enables : Type 0) (Spot : ℕ → Type 0) (
     statement_fits (Comparing i e l) good lets exit = absurd good
     statement_fits (Stepping e l) good lets exit = absurd good
     statement_fits (Adding i s l) good lets exit = absurd good
-    statement_fits (Storing s l) good lets exit = absurd good
-    statement_fits (Ending s l) good lets exit = absurd good
+    statement_fits (Storing s b l) good lets exit = absurd good
+    statement_fits (Ending b l) good lets exit = absurd good
 
     pub statements_fit : (ss : Statements) → AreStatements sizes procedures MayCall around ss → (Let ss → Enables) → (exit : ℕ) → F exit (statements_code procedures around exit ss)
     statements_fit End good lets exit = λ p s end. tt

@@ -22,11 +22,11 @@ abbrev mutual
   lead (Comparing i e l) = 0
   lead (Stepping e l) = 0
   lead (Adding i s l) = 0
-  lead (Storing s l) = 0
-  lead (Ending s l) = 0
+  lead (Storing s b l) = 0
+  lead (Ending b l) = 0
 
   pub loop_lead : Loop → ℕ
-  loop_lead (Count x b s ss) = leads ss
+  loop_lead (Count o x b s ss) = leads ss
 
   pub leads : Statements → ℕ
   leads End = 0

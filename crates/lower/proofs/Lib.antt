@@ -2,6 +2,7 @@ pub mod Setting
 pub mod Sim
 pub mod Holes
 pub mod Bools
+pub mod Sums
 pub mod Memory
 pub mod Values
 pub mod Exprs
@@ -29,6 +30,7 @@ pub mod LastCode
 pub mod Turned
 pub mod Rooms
 pub mod Rooming
+pub mod Integers
 pub mod Counts
 pub mod Peaks
 pub mod Lows

@@ -23,11 +23,12 @@ use Rattle.plm_type.specs.declared.statements.Around.TheVariants as stands
 use Rattle.plm_type.specs.Rest as rest
 use Rattle.plm_type.specs.Rest.{Expression, Expressions, NoMore, More, Reference, Refer, Subscripts, NoSubscripts, Target, Statements, End, Procedure}
 use Rattle.plm_type.specs.Shapes.{designated, fixed_place, read_of, store_to, member_stride}
-use Rattle.plm_type.specs.Statements.{assignment, targets}
+use Rattle.plm_type.specs.Expressions.{wanted_beside}
+use Rattle.plm_type.specs.Statements.{wanted_of_return, variable_meant, wanted_among, assignment, targets, signed_step, integer_step}
 use Rattle.plm_decl.specs.Names.{is_external_linkage}
 use Rattle.plm_type.specs.Trees.{use_read, use_stored, refer, strided, operated, read_port, shifted, builtin_value}
-use Rattle.plm_type.specs.Types.{width_of}
-use Rattle.plm_type.specs.Typing.{is_measure, is_target, first_type}
+use Rattle.plm_type.specs.Types.{width_of, is_integer}
+use Rattle.plm_type.specs.Typing.{is_measure, is_target, first_type, other_types, variable_type, wanted_arguments, parameters_wanted}
 use Rattle.plm_type.specs.Effects.{is_unevaluated}
 use Rattle.plm_type.specs.Leaves.{expression_leaves, expressions_leaves, selector_leaves, reference_leaves, target_leaves, location_leaves, targets_leaves, step_leaves, most_in, most_of, procedures_most, most_leaves}
 use Rattle.plm_decl.specs.declared.names.Names.{Names}
@@ -37,10 +38,12 @@ use Rattle.icode.specs.declared.code.Routine.{Routine}
 use Rattle.icode.specs.declared.code.Routine.TheVariants as routine
 use Rattle.icode.specs.declared.instruction.Instruction.TheVariants.{Finish}
 use Rattle.icode.specs.Heights.{height}
-use Rattle.lower.proofs.Typed.{tree_of, trees_of, selector_trees, value_of, location_of, target_of, types_of, measured_value, argument_value, reference_value, target_trees, called, step_for, statement_for, statements_for, body_for, procedure_for}
+use Rattle.lower.proofs.Typed.{tree_of, type_of, is_turned, wanted_tree, given_trees, given_types, trees_of, selector_trees, value_of, location_of, target_of, target_type, measured_value, argument_value, reference_value, target_types, target_trees, called, step_for, statement_for, statements_for, body_for, procedure_for}
 use Rattle.lower.specs.Expressions.{are_giving}
 use Rattle.lower.specs.Statements.{OfMain}
 use Rattle.lower.specs.Lowering.{kind_of, serves, procedure_code, vectors_of, program_code}
+use Rattle.plm_type.specs.Numbers.{integer_of}
+use Rattle.lower.proofs.Integers.{turned_peak}
 use Rattle.lower.proofs.Peaks.{peak, pushed_peak, reference_peak, subscripts_peak, port_peak, target_peak, targets_peak, statement_peak, statements_peak, low, routine_low}
 
 -- ---- references
@@ -138,6 +141,8 @@ builtin_peak module_index line builtin.Last w es = omega arith
 builtin_peak module_index line builtin.Size w es = omega arith
 builtin_peak module_index line builtin.Output w es = omega arith
 builtin_peak module_index line builtin.OutputWord w es = omega arith
+builtin_peak module_index line builtin.Signed w es = operated_peak unary.Double w es
+builtin_peak module_index line builtin.Unsigned w es = operated_peak unary.Double w es
 
 reference_value_peak : (variables : List Variable) (procedures : List ProcedureR) (objects : List ℕ) (module_index : ℕ) (at : Position) (b : Builtin) (x : ReferenceR') → peak (reference_value variables procedures objects module_index at b x) ≤ 0
 reference_value_peak variables procedures objects module_index at b (Use p (binding.Variable v) es s) = omega arith
@@ -183,10 +188,22 @@ module _ (variables : List Variable) (procedures : List ProcedureR) (objects : L
   abbrev member_trees : SelectorR → Expressions
   member_trees s = selector_trees variables procedures objects module_index s
 
-  built_in : (p : Position) (b : Builtin) (es : ExpressionsR) (s : SelectorR) (m : Bool) → pushed_peak (trees es) ≤ expressions_leaves es
-      → suc (peak (cond m (measured_value variables procedures objects module_index p b es) (builtin_value module_index p.line b (width_of (first_type (types_of variables procedures objects module_index es))) (trees es)))) ≤ cond m 1 (1 + expressions_leaves es + selector_leaves s)
-  built_in p b es s true h = let k = measured_peak variables procedures objects module_index p b es in omega (arith, k)
-  built_in p b es s false h = let k = builtin_peak module_index p.line b (width_of (first_type (types_of variables procedures objects module_index es))) (trees es) in omega (arith, h, k)
+  -- where values of these types are wanted
+  abbrev given : List (Option ScalarType) → ExpressionsR → Expressions
+  given ts es = given_trees variables procedures objects module_index ts es
+
+  abbrev turned : Option ScalarType → ExpressionR → Bool
+  turned t e = is_turned variables procedures objects module_index t e
+
+  -- a tree that may be turned INTEGER
+  below : (b : Bool) (e : Expression) (n : ℕ) → suc (peak e) ≤ n → suc (peak (cond b (integer_of e) e)) ≤ n
+  below b e zero h = absurd (omega (arith, h))
+  below b e (suc n) h = let k = turned_peak b e n (omega (arith, h)) in omega (arith, k)
+
+  built_in : (p : Position) (b : Builtin) (es : ExpressionsR) (s : SelectorR) (m : Bool) (w : Width) (us : Expressions) → pushed_peak us ≤ expressions_leaves es
+      → suc (peak (cond m (measured_value variables procedures objects module_index p b es) (builtin_value module_index p.line b w us))) ≤ cond m 1 (1 + expressions_leaves es + selector_leaves s)
+  built_in p b es s true w us h = let k = measured_peak variables procedures objects module_index p b es in omega (arith, k)
+  built_in p b es s false w us h = let k = builtin_peak module_index p.line b w us in omega (arith, h, k)
 
   mutual
     pub tree_peak : (e : ExpressionR) → suc (peak (tree e)) ≤ expression_leaves e
@@ -195,13 +212,22 @@ module _ (variables : List Variable) (procedures : List ProcedureR) (objects : L
     tree_peak (ReferenceR x) = value_peak x
     tree_peak (LocationR l) = location_peak l
     tree_peak (ParenthesisedR p e) = tree_peak e
-    tree_peak (EmbeddedR p x e) = let h = stored_at_peak x in let i = tree_peak e in omega (arith, h, i)
+    tree_peak (EmbeddedR p x e) =
+        let h = stored_at_peak x in
+        let i = below (turned (target_type variables procedures objects module_index x) e) (tree e) (expression_leaves e) (tree_peak e) in
+        omega (arith, h, i)
     tree_peak (UnaryR p o e) = tree_peak e
-    tree_peak (BinaryR p o a b) = let x = tree_peak a in let y = tree_peak b in omega (arith, x, y)
+    tree_peak (BinaryR p o a b) =
+        let x = below (turned (wanted_beside o (type_of variables procedures objects module_index b)) a) (tree a) (expression_leaves a) (tree_peak a) in
+        let y = below (turned (wanted_beside o (type_of variables procedures objects module_index a)) b) (tree b) (expression_leaves b) (tree_peak b) in
+        omega (arith, x, y)
 
-    trees_peak : (es : ExpressionsR) → pushed_peak (trees es) ≤ expressions_leaves es
-    trees_peak no_expressions = omega arith
-    trees_peak (expressions e es) = let x = tree_peak e in let y = trees_peak es in omega (arith, x, y)
+    given_peak : (es : ExpressionsR) (ts : List (Option ScalarType)) → pushed_peak (given ts es) ≤ expressions_leaves es
+    given_peak no_expressions ts = omega arith
+    given_peak (expressions e es) ts =
+        let x = below (turned (first_type ts) e) (tree e) (expression_leaves e) (tree_peak e) in
+        let y = given_peak es (other_types ts) in
+        omega (arith, x, y)
 
     indices_peak : (es : ExpressionsR) → indexed_peak (trees es) ≤ expressions_leaves es
     indices_peak no_expressions = omega arith
@@ -219,8 +245,10 @@ module _ (variables : List Variable) (procedures : List ProcedureR) (objects : L
         let j = indices_peak es in
         let k = selector_peak s in
         omega (arith, h, i, j, k)
-    value_peak (Use p (binding.Procedure q) es s) = let h = trees_peak es in omega (arith, h)
-    value_peak (Use p (binding.Builtin b) es s) = built_in p b es s (is_measure b) (trees_peak es)
+    value_peak (Use p (binding.Procedure q) es s) = let h = given_peak es (parameters_wanted variables (slice_get procedures q)) in omega (arith, h)
+    value_peak (Use p (binding.Builtin b) es s) =
+        let ts = wanted_arguments b in
+        built_in p b es s (is_measure b) (width_of (first_type (given_types variables procedures objects module_index ts es))) (given ts es) (given_peak es ts)
     value_peak (Use p binding.Nothing es s) = omega arith
 
     location_peak : (l : LocationR') → suc (peak (location_of variables procedures objects module_index l)) ≤ location_leaves l
@@ -262,31 +290,44 @@ module _ (variables : List Variable) (procedures : List ProcedureR) (objects : L
   highest_low no_references = omega arith
   highest_low (references x xs) = let h = stored_at_peak x in let i = highest_low xs in omega (arith, h, i)
 
-  assignment_peak : (xs : ReferencesR) (d : ExpressionR) → statement_peak (assignment (target_trees variables procedures objects module_index xs) (tree d)) ≤ targets_leaves xs + expression_leaves d
-  assignment_peak no_references d = let h = tree_peak d in omega (arith, h)
-  assignment_peak (references x xs) d =
+  wanted_peak : (t : Option ScalarType) (d : ExpressionR) → suc (peak (wanted_tree variables procedures objects module_index t d)) ≤ expression_leaves d
+  wanted_peak t d = below (turned t d) (tree d) (expression_leaves d) (tree_peak d)
+
+  assignment_peak : (xs : ReferencesR) (t : Option ScalarType) (d : ExpressionR) → statement_peak (assignment (target_trees variables procedures objects module_index xs) (wanted_tree variables procedures objects module_index t d)) ≤ targets_leaves xs + expression_leaves d
+  assignment_peak no_references t d = let h = wanted_peak t d in omega (arith, h)
+  assignment_peak (references x xs) t d =
       let h = targets_highest (target_of variables procedures objects module_index x) (target_trees variables procedures objects module_index xs) in
       let i = highest_low (references x xs) in
-      let j = tree_peak d in
+      let j = wanted_peak t d in
       omega (arith, h, i, j)
 
   called_peak : (p : Position) (x : ReferenceR') → peak (called variables procedures objects module_index p x) ≤ reference_leaves x
-  called_peak p (Use q (binding.Procedure n) es s) = let h = trees_peak es in omega (arith, h)
+  called_peak p (Use q (binding.Procedure n) es s) = let h = given_peak es (parameters_wanted variables (slice_get procedures n)) in omega (arith, h)
   called_peak p (Use q (binding.Variable v) es s) = omega arith
   called_peak p (Use q (binding.Builtin b) es s) = omega arith
   called_peak p (Use q binding.Nothing es s) = omega arith
 
-  step_peak : (p : Position) (s : Option ExpressionR) → peak (step_for variables procedures objects module_index p s) ≤ step_leaves s
-  step_peak p None = omega arith
-  step_peak p (Some e) = let h = tree_peak e in omega (arith, h)
+  integer_step_peak : (p : Position) (o : Option _) (n : ℕ) → peak (integer_step module_index p o).tree ≤ n
+  integer_step_peak p None n = omega arith
+  integer_step_peak p (Some s) n = omega arith
+
+  chosen_peak : (c : Bool) (a b : Expression) (n : ℕ) → peak a ≤ n → peak b ≤ n → peak (cond c a b) ≤ n
+  chosen_peak true a b n x y = x
+  chosen_peak false a b n x y = y
+
+  step_peak : (t : Option ScalarType) (p : Position) (s : Option ExpressionR) → peak (step_for variables procedures objects module_index t p s) ≤ step_leaves s
+  step_peak t p None = omega arith
+  step_peak t p (Some e) =
+      let h = tree_peak e in
+      chosen_peak (is_integer t) (integer_step module_index p (signed_step e)).tree (tree e) (expression_leaves e) (integer_step_peak p (signed_step e) (expression_leaves e)) (omega (arith, h))
 
   mutual
     statement_low : (around : Around) (s : StatementR) → statement_peak (statement_for variables procedures objects module_index around s) ≤ most_in s
     statement_low around (EmptyR p) = omega arith
-    statement_low around (AssignR xs e) = assignment_peak xs e
+    statement_low around (AssignR xs e) = assignment_peak xs (wanted_among (target_types variables procedures objects module_index xs)) e
     statement_low around (CallR p x) = called_peak p x
     statement_low around (ReturnR p) = omega arith
-    statement_low around (ReturnValueR p e) = let h = tree_peak e in omega (arith, h)
+    statement_low around (ReturnValueR p e) = let h = wanted_peak (wanted_of_return around) e in omega (arith, h)
     statement_low around (EnableR p) = omega arith
     statement_low around (DisableR p) = omega arith
     statement_low around (HaltR p) = omega arith
@@ -296,9 +337,10 @@ module _ (variables : List Variable) (procedures : List ProcedureR) (objects : L
     statement_low around (WhileR p e ss) = let h = tree_peak e in let i = statements_low around ss in omega (arith, h, i)
     statement_low around (CaseR p e ss) = let h = tree_peak e in let i = statements_low around ss in omega (arith, h, i)
     statement_low around (IterateR p q m a b s ss) =
-        let h = tree_peak a in
-        let i = tree_peak b in
-        let j = step_peak p s in
+        let t = variable_type (variable_meant variables m) in
+        let h = wanted_peak t a in
+        let i = wanted_peak t b in
+        let j = step_peak t p s in
         let k = statements_low around ss in
         omega (arith, h, i, j, k)
 

@@ -102,13 +102,13 @@ module _ (sizes : List ℕ) (procedures : List Procedure) (A B : ℕ → Type 0)
       statement_all (Comparing i e l) good all = absurd good
       statement_all (Stepping e l) good all = absurd good
       statement_all (Adding i s l) good all = absurd good
-      statement_all (Storing sum l) good all = absurd good
-      statement_all (Ending sum l) good all = absurd good
+      statement_all (Storing s b l) good all = absurd good
+      statement_all (Ending b l) good all = absurd good
 
       loop_all : (l : Loop) → IsLoop sizes procedures A around l → All (loop_calls l) → IsLoop sizes procedures (λ q. A q × B q) around l
-      loop_all (Count y bound step ss) good all =
+      loop_all (Count o y bound step ss) good all =
           let some = right (calls_in bound) (calls_in step ++ statements_calls ss) all in
-          (good.0, expression_all bound good.1 (left (calls_in bound) (calls_in step ++ statements_calls ss) all), expression_all step good.2 (left (calls_in step) (statements_calls ss) some), statements_all ss good.3 (right (calls_in step) (statements_calls ss) some))
+          (good.0, expression_all bound good.1 (left (calls_in bound) (calls_in step ++ statements_calls ss) all), expression_all step good.2 (left (calls_in step) (statements_calls ss) some), statements_all ss good.3 (right (calls_in step) (statements_calls ss) some), good.4)
 
       pub statements_all : (ss : Statements) → AreStatements sizes procedures A around ss → ((q : ℕ) → q < length procedures → Contains (statements_calls ss) q → B q) → AreStatements sizes procedures (λ q. A q × B q) around ss
       statements_all End good all = tt

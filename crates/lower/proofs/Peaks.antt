@@ -6,16 +6,16 @@ use Rattle.word86.specs.declared.width.Width.TheVariants as widths
 use Rattle.word86.specs.declared.operation.BinaryOperation.{BinaryOperation}
 use Rattle.word86.specs.declared.operation.BinaryOperation.TheVariants as binary
 use Rattle.word86.specs.Access.{Where}
+use Rattle.plm_type.specs.declared.program.Counting.{Counting}
 use Rattle.plm_type.specs.Rest.{Anchor, InObject, OnScreen, Behind, There, Scalar, Expression, Constant, Plain, Variable, Location, Unary, Binary, Embedded, Input, Call, Value, Passing, Running, Expressions, NoMore, More, Reference, Refer, Subscripts, NoSubscripts, Subscript, Target, ToPlain, ToVariable, ToPort, Targets, Only, Also, Count, Statement, Empty, Assign, Evaluate, Return, ReturnValue, Enabling, Disabling, Halting, If, Block, While, Case, Iterate, Leaving, Round, Comparing, Stepping, Adding, Storing, Ending, Statements, End, Then, Returned, Procedure}
 use Rattle.plm_type.specs.Next.{parameters_of}
 use Rattle.icode.specs.declared.instruction.Instruction.{Instruction}
 use Rattle.icode.specs.declared.instruction.Instruction.TheVariants as op
 use Rattle.icode.specs.declared.instruction.Relation.{Relation}
-use Rattle.icode.specs.declared.instruction.Relation.TheVariants as relation
 use Rattle.icode.specs.declared.instruction.Test.{Test}
 use Rattle.icode.specs.Heights.{popped, after, behind, height}
 use Rattle.lower.specs.Expressions.{Operand, Number, Name, Computed, operand_of, place_of, beside, operation, anchor_place, scaled, moved, based, reading, locating, writing, receiving, sending, passing, alone, count_of, relation_of, stands_to, asked, test_of, asking, gives, used, expression_code, first_code, pushed_code, subscripts_code, further_code, target_code, calling, dropped_code, targets_code, condition_code}
-use Rattle.lower.specs.Statements.{Kind, OfMain, Called, Giving, Serving, returning, narrowed, add_pushed, next_round, are_silent, over, failing, choosing, all_of, entries, switching, exit_before, statement_code, statements_code, cases_code, ending, routine_code}
+use Rattle.lower.specs.Statements.{Kind, OfMain, Called, Giving, Serving, returning, narrowed, within, add_pushed, next_round, are_silent, over, failing, choosing, all_of, entries, switching, exit_before, statement_code, statements_code, cases_code, ending, routine_code}
 
 -- ---- peaks of typed trees
 
@@ -68,7 +68,7 @@ abbrev mutual
   statement_peak (Block ss) = statements_peak ss
   statement_peak (While c d ss) = max (peak d) (statements_peak ss)
   statement_peak (Case e ss) = max (peak e) (statements_peak ss)
-  statement_peak (Iterate a (Count x bound step ss)) = max (max (max (peak a) (suc (peak bound))) (max (peak step) 2)) (statements_peak ss)
+  statement_peak (Iterate a (Count o x bound step ss)) = max (max (max (peak a) (suc (peak bound))) (max (peak step) 2)) (statements_peak ss)
   statement_peak _ = 0
 
   pub statements_peak : Statements → ℕ
@@ -341,19 +341,19 @@ module _ (procedures : List Procedure) where
       let one : 1 ≤ m = omega (arith, le) in
       then_stays m 0 0 0 code (add_pushed x before) s (omega arith, (one, (le, (le, (one, (one, (omega arith, refl)))))))
 
-  next_stays : (m : ℕ) (x : Scalar) (e : Expression) (before : ℕ) → 2 ≤ m → Stays m 0 0 (value_code e) → Stays m 0 0 (next_round x (operand_of e) (value_code e) before)
-  next_stays m x (Constant k) before le s = let low : 0 ≤ m = omega arith in (low, (low, (low, (low, (low, refl)))))
-  next_stays m x (Plain w y) before le s = added_stays m x (value_code (Plain w y)) (before + length (value_code (Plain w y))) le s
-  next_stays m x (Variable w r) before le s = added_stays m x (value_code (Variable w r)) (before + length (value_code (Variable w r))) le s
-  next_stays m x (Location r) before le s = added_stays m x (value_code (Location r)) (before + length (value_code (Location r))) le s
-  next_stays m x (Unary o w e) before le s = added_stays m x (value_code (Unary o w e)) (before + length (value_code (Unary o w e))) le s
-  next_stays m x (Binary i l o w a b) before le s = added_stays m x (value_code (Binary i l o w a b)) (before + length (value_code (Binary i l o w a b))) le s
-  next_stays m x (Embedded t e) before le s = added_stays m x (value_code (Embedded t e)) (before + length (value_code (Embedded t e))) le s
-  next_stays m x (Input w e) before le s = added_stays m x (value_code (Input w e)) (before + length (value_code (Input w e))) le s
-  next_stays m x (Call p es) before le s = added_stays m x (value_code (Call p es)) (before + length (value_code (Call p es))) le s
-  next_stays m x (Value v) before le s = added_stays m x (value_code (Value v)) (before + length (value_code (Value v))) le s
-  next_stays m x (Passing p xs vs) before le s = added_stays m x (value_code (Passing p xs vs)) (before + length (value_code (Passing p xs vs))) le s
-  next_stays m x (Running ss) before le s = added_stays m x (value_code (Running ss)) (before + length (value_code (Running ss))) le s
+  next_stays : (m : ℕ) (c : Counting) (x : Scalar) (e : Expression) (before : ℕ) → 2 ≤ m → Stays m 0 0 (value_code e) → Stays m 0 0 (next_round c x (operand_of e) (value_code e) before)
+  next_stays m c x (Constant k) before le s = let low : 0 ≤ m = omega arith in (low, (low, (low, (low, (low, refl)))))
+  next_stays m c x (Plain w y) before le s = added_stays m x (value_code (Plain w y)) (before + length (value_code (Plain w y))) le s
+  next_stays m c x (Variable w r) before le s = added_stays m x (value_code (Variable w r)) (before + length (value_code (Variable w r))) le s
+  next_stays m c x (Location r) before le s = added_stays m x (value_code (Location r)) (before + length (value_code (Location r))) le s
+  next_stays m c x (Unary o w e) before le s = added_stays m x (value_code (Unary o w e)) (before + length (value_code (Unary o w e))) le s
+  next_stays m c x (Binary i l o w a b) before le s = added_stays m x (value_code (Binary i l o w a b)) (before + length (value_code (Binary i l o w a b))) le s
+  next_stays m c x (Embedded t e) before le s = added_stays m x (value_code (Embedded t e)) (before + length (value_code (Embedded t e))) le s
+  next_stays m c x (Input w e) before le s = added_stays m x (value_code (Input w e)) (before + length (value_code (Input w e))) le s
+  next_stays m c x (Call p es) before le s = added_stays m x (value_code (Call p es)) (before + length (value_code (Call p es))) le s
+  next_stays m c x (Value v) before le s = added_stays m x (value_code (Value v)) (before + length (value_code (Value v))) le s
+  next_stays m c x (Passing p xs vs) before le s = added_stays m x (value_code (Passing p xs vs)) (before + length (value_code (Passing p xs vs))) le s
+  next_stays m c x (Running ss) before le s = added_stays m x (value_code (Running ss)) (before + length (value_code (Running ss))) le s
 
 over_stays : (m : ℕ) (silent : Bool) (otherwise : List Instruction) (exit : ℕ) → Stays m 0 0 (over silent otherwise exit)
 over_stays m true otherwise exit = (omega arith, refl)
@@ -400,17 +400,17 @@ ending_stays m Serving = (omega arith, (omega arith, refl))
 -- ---- statements
 
 module _ (procedures : List Procedure) (around : Kind) where
-  iterate_stays : (m : ℕ) (a : Expression) (x : Scalar) (bound step : Expression) (body : List Instruction) (n exit : ℕ) → max (max (peak a) (suc (peak bound))) (max (peak step) 2) ≤ m → Stays m 0 0 body
+  iterate_stays : (m : ℕ) (a : Expression) (c : Counting) (x : Scalar) (bound step : Expression) (body : List Instruction) (n exit : ℕ) → max (max (peak a) (suc (peak bound))) (max (peak step) 2) ≤ m → Stays m 0 0 body
       → Stays m 0 0 (expression_code procedures a ++ (op.Store x.width (place_of x.place) ∷ op.Load x.width (place_of x.place)
       ∷ (beside (operand_of bound) (expression_code procedures bound)
-      ++ (op.AheadUnless (stands_to relation.LessEqual (operand_of bound)) exit ∷ (body ++ next_round x (operand_of step) (expression_code procedures step) n)))))
-  iterate_stays m a x bound step body n exit le sb =
-      let again = next_round x (operand_of step) (expression_code procedures step) n in
+      ++ (op.AheadUnless (stands_to (within c) (operand_of bound)) exit ∷ (body ++ next_round c x (operand_of step) (expression_code procedures step) n)))))
+  iterate_stays m a c x bound step body n exit le sb =
+      let again = next_round c x (operand_of step) (expression_code procedures step) n in
       let compared = beside (operand_of bound) (expression_code procedures bound) in
-      let t = stands_to relation.LessEqual (operand_of bound) in
+      let t = stands_to (within c) (operand_of bound) in
       let rest = op.AheadUnless t exit ∷ (body ++ again) in
-      let sn = next_stays procedures m x step n (omega (arith, le)) (expression_stays procedures step m 0 (omega (arith, le))) in
-      let sc = beside_stays m relation.LessEqual (operand_of bound) (expression_code procedures bound) (expression_stays procedures bound m 1 (omega (arith, le))) in
+      let sn = next_stays procedures m c x step n (omega (arith, le)) (expression_stays procedures step m 0 (omega (arith, le))) in
+      let sc = beside_stays m (within c) (operand_of bound) (expression_code procedures bound) (expression_stays procedures bound m 1 (omega (arith, le))) in
       let sr = step_stays m (popped t) 0 0 (op.AheadUnless t exit) (body ++ again) (ends m 0 (popped t) compared sc) (omega arith) (then_stays m 0 0 0 body again sb sn) in
       then_stays m 0 0 0 (expression_code procedures a) (op.Store x.width (place_of x.place) ∷ op.Load x.width (place_of x.place) ∷ (compared ++ rest)) (expression_stays procedures a m 0 (omega (arith, le)))
       (omega arith, (omega arith, then_stays m 0 (popped t) 0 compared rest sc sr))
@@ -440,17 +440,17 @@ module _ (procedures : List Procedure) (around : Kind) where
     statement_stays (Case e ss) exit m le =
         let cs = cases_code procedures around exit ss in
         then_stays m 0 0 0 (expression_code procedures e) (switching cs exit) (expression_stays procedures e m 0 (omega (arith, le))) (switching_stays m cs exit (cases_stay ss exit m (omega (arith, le))))
-    statement_stays (Iterate a (Count x bound step ss)) exit m le =
+    statement_stays (Iterate a (Count o x bound step ss)) exit m le =
         let body = statements_code procedures around 0 ss in
         let n = length (beside (operand_of bound) (expression_code procedures bound)) + length body + 2 in
-        iterate_stays m a x bound step body n (length body + length (next_round x (operand_of step) (expression_code procedures step) n) + exit) (omega (arith, le)) (statements_stay ss 0 m (omega (arith, le)))
+        iterate_stays m a o x bound step body n (length body + length (next_round o x (operand_of step) (expression_code procedures step) n) + exit) (omega (arith, le)) (statements_stay ss 0 m (omega (arith, le)))
     statement_stays Leaving exit m le = (le, refl)
     statement_stays (Round l) exit m le = (le, refl)
     statement_stays (Comparing i e l) exit m le = (le, refl)
     statement_stays (Stepping e l) exit m le = (le, refl)
     statement_stays (Adding i s l) exit m le = (le, refl)
-    statement_stays (Storing s l) exit m le = (le, refl)
-    statement_stays (Ending s l) exit m le = (le, refl)
+    statement_stays (Storing s b l) exit m le = (le, refl)
+    statement_stays (Ending b l) exit m le = (le, refl)
 
     statements_stay : (ss : Statements) (exit m : ℕ) → statements_peak ss ≤ m → Stays m 0 0 (statements_code procedures around exit ss)
     statements_stay End exit m le = (le, refl)

@@ -6,17 +6,17 @@ use Rattle.word86.specs.declared.width.Width.TheVariants as widths
 use Rattle.word86.specs.declared.operation.BinaryOperation.{BinaryOperation}
 use Rattle.word86.specs.declared.operation.BinaryOperation.TheVariants as binary
 use Rattle.word86.specs.Access.{Where}
+use Rattle.plm_type.specs.declared.program.Counting.{Counting}
 use Rattle.plm_type.specs.Rest.{Anchor, InObject, OnScreen, Behind, There, Scalar, Expression, Constant, Plain, Variable, Location, Unary, Binary, Embedded, Input, Call, Value, Passing, Running, Expressions, NoMore, More, Reference, Refer, Subscripts, NoSubscripts, Subscript, Target, ToPlain, ToVariable, ToPort, Targets, Only, Also, Count, Statement, Empty, Assign, Evaluate, Return, ReturnValue, Enabling, Disabling, Halting, If, Block, While, Case, Iterate, Leaving, Round, Comparing, Stepping, Adding, Storing, Ending, Statements, End, Then, Returned, Procedure}
 use Rattle.plm_type.specs.Next.{parameters_of}
 use Rattle.icode.specs.declared.instruction.Instruction.{Instruction}
 use Rattle.icode.specs.declared.instruction.Instruction.TheVariants as op
 use Rattle.icode.specs.declared.instruction.Relation.{Relation}
-use Rattle.icode.specs.declared.instruction.Relation.TheVariants as relation
 use Rattle.icode.specs.declared.instruction.Test.{Test}
 use Rattle.icode.specs.Registers.{is_direct}
-use Rattle.icode.specs.Room.{room_of, room_of_constant, room_of_read, room_of_test, room_in}
+use Rattle.icode.specs.Room.{room_of, room_of_signs, room_of_constant, room_of_read, room_of_test, room_in}
 use Rattle.lower.specs.Expressions.{Operand, Number, Name, Computed, operand_of, place_of, beside, operation, anchor_place, scaled, moved, based, reading, locating, writing, receiving, sending, passing, alone, count_of, relation_of, stands_to, asked, test_of, asking, gives, used, expression_code, pushed_code, subscripts_code, further_code, target_code, calling, dropped_code, targets_code, condition_code}
-use Rattle.lower.specs.Statements.{Kind, OfMain, Called, Giving, Serving, returning, narrowed, add_pushed, next_round, are_silent, over, failing, choosing, all_of, entries, switching, exit_before, statement_code, statements_code, cases_code, ending, routine_code}
+use Rattle.lower.specs.Statements.{Kind, OfMain, Called, Giving, Serving, returning, narrowed, within, add_pushed, next_round, are_silent, over, failing, choosing, all_of, entries, switching, exit_before, statement_code, statements_code, cases_code, ending, routine_code}
 use Rattle.lower.specs.Well.{IsExpression, AreExpressions, AreSubscripts, IsTarget, AreTargets, IsStatement, AreStatements}
 
 -- ---- the nodes of typed trees
@@ -70,7 +70,7 @@ abbrev mutual
   statement_nodes (Block ss) = 1 + statements_nodes ss
   statement_nodes (While c d ss) = 1 + nodes d + statements_nodes ss
   statement_nodes (Case e ss) = 1 + nodes e + statements_nodes ss
-  statement_nodes (Iterate a (Count x bound step ss)) = 2 + nodes a + nodes bound + step_nodes step + statements_nodes ss
+  statement_nodes (Iterate a (Count o x bound step ss)) = 2 + nodes a + nodes bound + step_nodes step + statements_nodes ss
   statement_nodes _ = 1
 
   pub statements_nodes : Statements → ℕ
@@ -91,13 +91,39 @@ constant_room o = cases (is_direct o)
     cases true = omega arith
     cases false = omega arith
 
-read_room : (width : Width) (o : BinaryOperation) → room_of_read width o ≤ 18
-read_room widths.Byte o = omega arith
+signs_room : (o : BinaryOperation) → room_of_signs o ≤ 4
+signs_room binary.Multiply = omega arith
+signs_room binary.Divide = omega arith
+signs_room binary.Modulo = omega arith
+signs_room binary.Add = omega arith
+signs_room binary.Subtract = omega arith
+signs_room binary.Equal = omega arith
+signs_room binary.NotEqual = omega arith
+signs_room binary.Less = omega arith
+signs_room binary.LessEqual = omega arith
+signs_room binary.Greater = omega arith
+signs_room binary.GreaterEqual = omega arith
+signs_room binary.And = omega arith
+signs_room binary.Or = omega arith
+signs_room binary.ExclusiveOr = omega arith
+signs_room binary.ShiftLeft = omega arith
+signs_room binary.ShiftRight = omega arith
+signs_room binary.RotateLeft = omega arith
+signs_room binary.RotateRight = omega arith
+signs_room binary.DivideSigned = omega arith
+signs_room binary.ModuloSigned = omega arith
+signs_room binary.LessSigned = omega arith
+signs_room binary.LessEqualSigned = omega arith
+signs_room binary.GreaterSigned = omega arith
+signs_room binary.GreaterEqualSigned = omega arith
+
+read_room : (width : Width) (o : BinaryOperation) → room_of_read width o ≤ 22
+read_room widths.Byte o = omega (arith, signs_room o)
 read_room widths.Word o = cases (is_direct o)
   where
-    cases : (b : Bool) → (if b then 7 else 16) ≤ 18
+    cases : (b : Bool) → (if b then 7 else 16 + room_of_signs o) ≤ 22
     cases true = omega arith
-    cases false = omega arith
+    cases false = omega (arith, signs_room o)
 
 chosen_room : (b : Bool) (x : Instruction) → room_in (cond b [] (x ∷ [])) ≤ room_of x
 chosen_room true x = omega arith
@@ -159,10 +185,10 @@ sending_room width (Number port) code = omega arith
 sending_room width (Name read x) code = let h = room_append code (op.Send width ∷ []) in omega (arith, h)
 sending_room width Computed code = let h = room_append code (op.Send width ∷ []) in omega (arith, h)
 
-operated_room : (o : BinaryOperation) (width : Width) (right : Operand) (code : List Instruction) → room_in (beside right code ++ operation o width right ∷ []) ≤ 18 + room_in code
+operated_room : (o : BinaryOperation) (width : Width) (right : Operand) (code : List Instruction) → room_in (beside right code ++ operation o width right ∷ []) ≤ 22 + room_in code
 operated_room o width (Number k) code = let h = constant_room o in omega (arith, h)
 operated_room o width (Name read x) code = let h = read_room read o in omega (arith, h)
-operated_room o width Computed code = let h = room_append code (op.Binary o width ∷ []) in omega (arith, h)
+operated_room o width Computed code = let h = room_append code (op.Binary o width ∷ []) in let k = signs_room o in omega (arith, h, k)
 
 tested_room : (o : Relation) (right : Operand) (code : List Instruction) → room_in (beside right code) + room_of_test (stands_to o right) ≤ 14 + room_in code
 tested_room o (Number k) code = omega arith
@@ -377,34 +403,34 @@ module _ (sizes : List ℕ) (procedures : List Procedure) (MayCall : ℕ → Typ
   computed_step_room : (x : Scalar) (e : Expression) (before : ℕ) → IsExpression sizes procedures MayCall e → room_in (value_code e ++ add_pushed x before) ≤ 46 * nodes e + 34
   computed_step_room x e before is = let h = pushed_step_room x (value_code e) before in let i = expression_room sizes procedures MayCall e is in omega (arith, h, i)
 
-  next_room : (x : Scalar) (e : Expression) (before : ℕ) → IsExpression sizes procedures MayCall e → room_in (next_round x (operand_of e) (value_code e) before) ≤ 46 * step_nodes e + 34
-  next_room x (Constant k) before is = omega arith
-  next_room x (Plain width y) before is = computed_step_room x (Plain width y) (before + length (value_code (Plain width y))) is
-  next_room x (Variable width r) before is = computed_step_room x (Variable width r) (before + length (value_code (Variable width r))) is
-  next_room x (Location r) before is = computed_step_room x (Location r) (before + length (value_code (Location r))) is
-  next_room x (Unary o width e) before is = computed_step_room x (Unary o width e) (before + length (value_code (Unary o width e))) is
-  next_room x (Binary m l o width a b) before is = computed_step_room x (Binary m l o width a b) (before + length (value_code (Binary m l o width a b))) is
-  next_room x (Embedded t e) before is = computed_step_room x (Embedded t e) (before + length (value_code (Embedded t e))) is
-  next_room x (Input width e) before is = computed_step_room x (Input width e) (before + length (value_code (Input width e))) is
-  next_room x (Call p es) before is = computed_step_room x (Call p es) (before + length (value_code (Call p es))) is
-  next_room x (Value v) before is = absurd is
-  next_room x (Passing p xs vs) before is = absurd is
-  next_room x (Running ss) before is = absurd is
+  next_room : (c : Counting) (x : Scalar) (e : Expression) (before : ℕ) → IsExpression sizes procedures MayCall e → room_in (next_round c x (operand_of e) (value_code e) before) ≤ 46 * step_nodes e + 34
+  next_room c x (Constant k) before is = omega arith
+  next_room c x (Plain width y) before is = computed_step_room x (Plain width y) (before + length (value_code (Plain width y))) is
+  next_room c x (Variable width r) before is = computed_step_room x (Variable width r) (before + length (value_code (Variable width r))) is
+  next_room c x (Location r) before is = computed_step_room x (Location r) (before + length (value_code (Location r))) is
+  next_room c x (Unary o width e) before is = computed_step_room x (Unary o width e) (before + length (value_code (Unary o width e))) is
+  next_room c x (Binary m l o width a b) before is = computed_step_room x (Binary m l o width a b) (before + length (value_code (Binary m l o width a b))) is
+  next_room c x (Embedded t e) before is = computed_step_room x (Embedded t e) (before + length (value_code (Embedded t e))) is
+  next_room c x (Input width e) before is = computed_step_room x (Input width e) (before + length (value_code (Input width e))) is
+  next_room c x (Call p es) before is = computed_step_room x (Call p es) (before + length (value_code (Call p es))) is
+  next_room c x (Value v) before is = absurd is
+  next_room c x (Passing p xs vs) before is = absurd is
+  next_room c x (Running ss) before is = absurd is
 
-  iterate_room : (a : Expression) (x : Scalar) (bound step : Expression) (body : List Instruction) (n exit : ℕ) → IsExpression sizes procedures MayCall a → IsExpression sizes procedures MayCall bound
+  iterate_room : (a : Expression) (c : Counting) (x : Scalar) (bound step : Expression) (body : List Instruction) (n exit : ℕ) → IsExpression sizes procedures MayCall a → IsExpression sizes procedures MayCall bound
       → IsExpression sizes procedures MayCall step
       → room_in (value_code a ++ (op.Store x.width (place_of x.place) ∷ op.Load x.width (place_of x.place)
-      ∷ (beside (operand_of bound) (value_code bound) ++ (op.AheadUnless (stands_to relation.LessEqual (operand_of bound)) exit ∷ (body ++ next_round x (operand_of step) (value_code step) n)))))
+      ∷ (beside (operand_of bound) (value_code bound) ++ (op.AheadUnless (stands_to (within c) (operand_of bound)) exit ∷ (body ++ next_round c x (operand_of step) (value_code step) n)))))
       ≤ 46 * (nodes a + nodes bound + step_nodes step) + room_in body + 18
-  iterate_room a x bound step body n exit ia ib is =
-      let again = next_round x (operand_of step) (value_code step) n in
+  iterate_room a c x bound step body n exit ia ib is =
+      let again = next_round c x (operand_of step) (value_code step) n in
       let compared = beside (operand_of bound) (value_code bound) in
-      let rest = op.AheadUnless (stands_to relation.LessEqual (operand_of bound)) exit ∷ (body ++ again) in
+      let rest = op.AheadUnless (stands_to (within c) (operand_of bound)) exit ∷ (body ++ again) in
       let h = room_append (value_code a) (op.Store x.width (place_of x.place) ∷ op.Load x.width (place_of x.place) ∷ (compared ++ rest)) in
       let i = room_append compared rest in
       let j = room_append body again in
-      let k = tested_room relation.LessEqual (operand_of bound) (value_code bound) in
-      let l = next_room x step n is in
+      let k = tested_room (within c) (operand_of bound) (value_code bound) in
+      let l = next_room c x step n is in
       let m = expression_room sizes procedures MayCall a ia in
       let o = expression_room sizes procedures MayCall bound ib in
       omega (arith, h, i, j, k, l, m, o)
@@ -453,10 +479,10 @@ module _ (sizes : List ℕ) (procedures : List Procedure) (MayCall : ℕ → Typ
         let j = expression_room sizes procedures MayCall e is.0 in
         let k = cases_room ss exit is.1 in
         omega (arith, h, i, j, k)
-    statement_room (Iterate a (Count x bound step ss)) exit is =
+    statement_room (Iterate a (Count o x bound step ss)) exit is =
         let body = statements_code procedures around 0 ss in
         let n = length (beside (operand_of bound) (value_code bound)) + length body + 2 in
-        let h = iterate_room a x bound step body n (length body + length (next_round x (operand_of step) (value_code step) n) + exit) is.0 is.1.1 is.1.2 in
+        let h = iterate_room a o x bound step body n (length body + length (next_round o x (operand_of step) (value_code step) n) + exit) is.0 is.1.1 is.1.2 in
         let i = statements_room ss 0 is.1.3 in
         omega (arith, h, i)
     statement_room Leaving exit is = absurd is
@@ -464,8 +490,8 @@ module _ (sizes : List ℕ) (procedures : List Procedure) (MayCall : ℕ → Typ
     statement_room (Comparing i e l) exit is = absurd is
     statement_room (Stepping e l) exit is = absurd is
     statement_room (Adding i s l) exit is = absurd is
-    statement_room (Storing s l) exit is = absurd is
-    statement_room (Ending s l) exit is = absurd is
+    statement_room (Storing s b l) exit is = absurd is
+    statement_room (Ending b l) exit is = absurd is
 
     pub statements_room : (ss : Statements) (exit : ℕ) → AreStatements sizes procedures MayCall around ss → room_in (statements_code procedures around exit ss) ≤ 46 * statements_nodes ss
     statements_room End exit is = omega arith

@@ -1,8 +1,7 @@
 -- The code of statements does what their rest does.
 use Rattle.std.proofs.lemmas.Bool.{and_parts, ltb-true, ltb-false}
 use Rattle.std.proofs.Common.{◌≡◌, ℕ, zero, suc, ◌+◌, ◌-◌, ◌%◌, ◌<◌, ◌≤◌, Bool, true, false, List, [], ◌∷◌, ◌++◌, length, Some, refl, sym, ap, ◌∙◌, subst, arith, slice_get, length-append}
-use Rattle.std.specs.Prelude.{if◌then◌else◌, nat_lt, not, ◌&&◌}
-use Rattle.std.proofs.lemmas.Bool.Decides.{nat_tests}
+use Rattle.std.specs.Prelude.{if◌then◌else◌, nat_lt, ◌&&◌}
 use Rattle.word86.specs.declared.width.Width.{Width}
 use Rattle.word86.specs.declared.width.Width.TheVariants as widths
 use Rattle.word86.specs.declared.operation.UnaryOperation.TheVariants as unary
@@ -10,8 +9,10 @@ use Rattle.word86.specs.declared.operation.BinaryOperation.TheVariants as binary
 use Rattle.word86.specs.Access.{Read, Write, values}
 use Rattle.word86.specs.Action.{Silent, Touch}
 use Rattle.word86.specs.Arithmetic.{low}
+use Rattle.plm_type.specs.declared.program.Counting.{Counting}
+use Rattle.plm_type.specs.declared.program.Counting.TheVariants as counting
 use Rattle.plm_type.specs.Rest.{Scalar, Expression, Constant, Plain, Variable, Location, Unary, Binary, Embedded, Input, Call, Value, Passing, Running, Target, Targets, Only, Also, Loop, Count, Statement, Empty, Assign, Evaluate, Return, ReturnValue, Enabling, Disabling, Halting, If, Block, While, Case, Iterate, Leaving, Round, Comparing, Stepping, Adding, Storing, Ending, Statements, End, Then, Returned, Rest}
-use Rattle.plm_type.specs.Next.{value_of, is_odd, behind, evaluated}
+use Rattle.plm_type.specs.Next.{value_of, is_odd, behind, evaluated, leaves}
 use Rattle.icode.specs.declared.instruction.Instruction.{Instruction}
 use Rattle.icode.specs.declared.instruction.Instruction.TheVariants as op
 use Rattle.icode.specs.declared.instruction.Relation.TheVariants as relation
@@ -21,12 +22,13 @@ use Rattle.icode.specs.declared.code.Word.{Word}
 use Rattle.icode.specs.declared.code.Word.TheVariants as words
 use Rattle.icode.specs.Machine.{Context, At, stored, loaded, switched}
 use Rattle.lower.specs.Expressions.{Operand, Number, Name, Computed, operand_of, place_of, beside, stands_to, test_of, expression_code, target_code, targets_code, calling, condition_code, are_giving}
-use Rattle.lower.specs.Statements.{Kind, OfMain, Called, Giving, Serving, returning, narrowed, next_by_number, add_pushed, next_round, is_silent, are_silent, over, choosing, all_of, entries, switching, exit_before, statement_code, statements_code, cases_code}
-use Rattle.lower.specs.Well.{Lies, IsExpression, AreTargets, MayReturn, MayReturnValue, IsStatement, IsLoop, AreStatements}
+use Rattle.lower.specs.Statements.{Kind, OfMain, Called, Giving, Serving, returning, narrowed, within, left_in, left_from, next_by_number, add_pushed, next_round, is_silent, are_silent, over, choosing, all_of, entries, switching, exit_before, statement_code, statements_code, cases_code}
+use Rattle.lower.specs.Well.{StepIs, Lies, IsExpression, AreTargets, MayReturn, MayReturnValue, IsStatement, IsLoop, AreStatements}
 use Rattle.lower.proofs.Setting.{Setting}
 use Rattle.lower.proofs.Sim.{N, X, S, fewer, eased, then_, up, down, down_more, both, both_more, touches, enables, disables, halts}
 use Rattle.lower.proofs.Holes.{IsBody, in_assign, in_evaluate, in_return, in_if, in_while, in_case, in_iterate, in_comparing, in_stepping, in_only, in_also, acts, HasAt, has_front, has_back}
 use Rattle.lower.proofs.Bools.{true_false}
+use Rattle.lower.proofs.Sums.{left_sum, named_up, computed_up, pushed_sum}
 use Rattle.lower.proofs.Memory.{found_plain}
 use Rattle.lower.proofs.Values.{low_word}
 use Rattle.lower.proofs.Exprs.{IsOperand, operand_is, Left, ProcedureRuns, moved_to, has_at, rise, soon, push_then}
@@ -62,8 +64,8 @@ module _ (procedures : List Rattle.plm_type.specs.Rest.Procedure) (around : Kind
     silent_code (Comparing i e l) h exit = absurd (true_false (sym h))
     silent_code (Stepping e l) h exit = absurd (true_false (sym h))
     silent_code (Adding i s l) h exit = absurd (true_false (sym h))
-    silent_code (Storing s l) h exit = absurd (true_false (sym h))
-    silent_code (Ending s l) h exit = absurd (true_false (sym h))
+    silent_code (Storing s b l) h exit = absurd (true_false (sym h))
+    silent_code (Ending b l) h exit = absurd (true_false (sym h))
 
     pub silents_code : (ss : Statements) → are_silent ss ≡ true → (exit : ℕ) → statements_code procedures around exit ss ≡ []
     silents_code End h exit = refl
@@ -75,22 +77,6 @@ module _ (procedures : List Rattle.plm_type.specs.Rest.Procedure) (around : Kind
 low_twice : (w : Width) (v : ℕ) → low w (low w v) ≡ low w v
 low_twice widths.Byte v = omega arith
 low_twice widths.Word v = omega arith
-
-below_byte : (i s : ℕ) (a b : Bool) → i < 256 → nat_lt ((i + s) % 256) s ≡ a → nat_lt (i + s) 256 ≡ b → a ≡ not b
-below_byte i s true false h e f = refl
-below_byte i s false true h e f = refl
-below_byte i s true true h e f = absurd (omega (arith, h, ltb-true ((i + s) % 256) s e, ltb-true (i + s) 256 f))
-below_byte i s false false h e f = absurd (omega (arith, h, ltb-false ((i + s) % 256) s e, ltb-false (i + s) 256 f))
-
-below_word : (i s : ℕ) (a b : Bool) → i < 65536 → nat_lt ((i + s) % 65536) s ≡ a → nat_lt (i + s) 65536 ≡ b → a ≡ not b
-below_word i s true false h e f = refl
-below_word i s false true h e f = refl
-below_word i s true true h e f = absurd (omega (arith, h, ltb-true ((i + s) % 65536) s e, ltb-true (i + s) 65536 f))
-below_word i s false false h e f = absurd (omega (arith, h, ltb-false ((i + s) % 65536) s e, ltb-false (i + s) 65536 f))
-
-below_sum : (w : Width) (i s : ℕ) → i < values w → nat_lt (low w (i + s)) s ≡ not (nat_lt (i + s) (values w))
-below_sum widths.Byte i s h = below_byte i s _ _ h refl refl
-below_sum widths.Word i s h = below_word i s _ _ h refl refl
 
 behind_if : (b : Bool) (s t later : Statements) → behind (if b then s else t) later ≡ (if b then behind s later else behind t later)
 behind_if true s t later = refl
@@ -154,8 +140,8 @@ module _ (x : Setting) (MayCall : ℕ → Type 0) (calls : (q : ℕ) → MayCall
     silent_sim (Comparing i e l) h n k f later p le go = absurd (true_false (sym h))
     silent_sim (Stepping e l) h n k f later p le go = absurd (true_false (sym h))
     silent_sim (Adding i s l) h n k f later p le go = absurd (true_false (sym h))
-    silent_sim (Storing s l) h n k f later p le go = absurd (true_false (sym h))
-    silent_sim (Ending s l) h n k f later p le go = absurd (true_false (sym h))
+    silent_sim (Storing s b l) h n k f later p le go = absurd (true_false (sym h))
+    silent_sim (Ending b l) h n k f later p le go = absurd (true_false (sym h))
 
     silents_sim : (ss : Statements) → are_silent ss ≡ true → (n k f : ℕ) (later : Statements) (p : ℕ) → f ≤ 2 → K k f n later p → K (k + leads ss) f n (behind ss later) p
     silents_sim End h n k f later p le go = k_more k (k + 0) f f n later p (omega arith) (omega arith) go
@@ -547,38 +533,38 @@ module _ (x : Setting) (MayCall : ℕ → Type 0) (calls : (q : ℕ) → MayCall
 
   -- ---- a DO with an index
 
-  module _ (y : Scalar) (bound step : Expression) (ss : Statements) (lies : Lies x.sizes y.width y.place) (gb : IsExpression x.sizes x.procedures MayCall bound) (gs : IsExpression x.sizes x.procedures MayCall step) (run : ArmRuns ss) (later : Statements) (pr : ℕ) where
+  module _ (o : Counting) (y : Scalar) (bound step : Expression) (ss : Statements) (lies : Lies x.sizes y.width y.place) (gb : IsExpression x.sizes x.procedures MayCall bound) (gs : IsExpression x.sizes x.procedures MayCall step) (by : StepIs o y.width (operand_of step)) (run : ArmRuns ss) (later : Statements) (pr : ℕ) where
     abbrev l : Loop
-    l = Count y bound step ss
+    l = Count o y bound step ss
 
     abbrev w : Width
     w = y.width
 
     -- the sum is tested: a round begins, or the loop ends
-    ending_by : (n k sum z : ℕ) (i : Context) (pe : ℕ) → k ≤ x.room → ((a : ℕ) → S x 2 n 0 (D (Then (Round l) later)) (At r pr a ws)) → K k 2 (suc n) later pe → (b : Bool) → nat_lt sum (values w) ≡ b → X x i ≡ Silent (At r (if not (nat_lt sum (values w)) then pe else pr) z ws) → S x 2 (suc n) 0 (D (Then (Ending sum l) later)) i
-    ending_by n k sum z i pe small round go true e h =
-        both_more x 1 n 0 (D (Then (Ending sum l) later)) (D (Then (Round l) later)) i (At r pr z ws) (dx (Then (Ending sum l) later) refl ∙ ap (λ b. Silent (D (if b then Then (Round l) later else later))) e) (h ∙ ap (λ b. Silent (At r (if not b then pe else pr) z ws)) e) (soon x n 0 2 (D (Then (Round l) later)) (At r pr z ws) (omega arith) (round z))
-    ending_by n k sum z i pe small round go false e h =
-        both_more x 1 n 0 (D (Then (Ending sum l) later)) (D later) i (At r pe z ws) (dx (Then (Ending sum l) later) refl ∙ ap (λ b. Silent (D (if b then Then (Round l) later else later))) e) (h ∙ ap (λ b. Silent (At r (if not b then pe else pr) z ws)) e)
+    ending_by : (n k z : ℕ) (i : Context) (pe : ℕ) → k ≤ x.room → ((a : ℕ) → S x 2 n 0 (D (Then (Round l) later)) (At r pr a ws)) → K k 2 (suc n) later pe → (b : Bool) → X x i ≡ Silent (At r (if b then pe else pr) z ws) → S x 2 (suc n) 0 (D (Then (Ending b l) later)) i
+    ending_by n k z i pe small round go false h =
+        both_more x 1 n 0 (D (Then (Ending false l) later)) (D (Then (Round l) later)) i (At r pr z ws) (dx (Then (Ending false l) later) refl) h (soon x n 0 2 (D (Then (Round l) later)) (At r pr z ws) (omega arith) (round z))
+    ending_by n k z i pe small round go true h =
+        both_more x 1 n 0 (D (Then (Ending true l) later)) (D later) i (At r pe z ws) (dx (Then (Ending true l) later) refl) h
         (then_ x k n 2 2 (D later) (At r pe z ws) (omega (arith, small)) (omega arith) (k_fewer k 2 n later pe go z))
 
     -- the sum is stored, and tested by the jump after it
-    storing_then : (n sum : ℕ) (us : List Word) (p : ℕ) → slice_get (x.code r) p ≡ Some (op.Store w (place_of y.place)) → S x 2 n 0 (D (Then (Ending sum l) later)) (At r (p + 1) (low w sum) us) → S x 2 n 0 (D (Then (Storing sum l) later)) (At r p (low w sum) us)
-    storing_then n sum us p h k =
+    storing_then : (n sum : ℕ) (left : Bool) (us : List Word) (p : ℕ) → slice_get (x.code r) p ≡ Some (op.Store w (place_of y.place)) → S x 2 n 0 (D (Then (Ending left l) later)) (At r (p + 1) (low w sum) us) → S x 2 n 0 (D (Then (Storing sum left l) later)) (At r p (low w sum) us)
+    storing_then n sum left us p h k =
         let z = low w sum in
-        touches x 2 n 0 (Write w y.place z) (D (Then (Storing sum l) later)) (λ v. D (Then (Ending sum l) later)) (At r p z us) (λ v. At r (p + 1) z us) (dx (Then (Storing sum l) later) refl)
+        touches x 2 n 0 (Write w y.place z) (D (Then (Storing sum left l) later)) (λ v. D (Then (Ending left l) later)) (At r p z us) (λ v. At r (p + 1) z us) (dx (Then (Storing sum left l) later) refl)
         (acts x r p z us (op.Store w (place_of y.place)) h ∙ ap (λ o. stored w o z (At r (p + 1) z us)) (found_plain x w y.place lies) ∙ ap (λ t. Touch (Write w y.place t) (λ v. At r (p + 1) z us)) (low_twice w sum))
-        (λ v lt. soon x n 0 2 (D (Then (Ending sum l) later)) (At r (p + 1) z us) (omega arith) k)
+        (λ v lt. soon x n 0 2 (D (Then (Ending left l) later)) (At r (p + 1) z us) (omega arith) k)
 
     -- the index is read, and the step added
     adding_then : (n s a : ℕ) (us vs : List Word) (p : ℕ) → slice_get (x.code r) p ≡ Some (op.Load w (place_of y.place)) → ((i : ℕ) → X x (At r (p + 1) i us) ≡ Silent (At r (p + 2) (low w (i + s)) vs)) → slice_get (x.code r) (p + 2) ≡ Some (op.Store w (place_of y.place))
-        → ((i : ℕ) → i < values w → S x 2 n 0 (D (Then (Ending (i + s) l) later)) (At r (p + 2 + 1) (low w (i + s)) vs)) → (f : ℕ) → S x 2 n f (D (Then (Stepping (Value s) l) later)) (At r p a us)
+        → ((i : ℕ) → i < values w → S x 2 n 0 (D (Then (Ending (leaves o w i s) l) later)) (At r (p + 2 + 1) (low w (i + s)) vs)) → (f : ℕ) → S x 2 n f (D (Then (Stepping (Value s) l) later)) (At r p a us)
     adding_then n s a us vs p h add st k f =
         touches x 2 n f (Read w y.place) (D (Then (Stepping (Value s) l) later)) (λ i. D (Then (Adding i s l) later)) (At r p a us) (λ i. At r (p + 1) i us) (dx (Then (Stepping (Value s) l) later) refl)
         (acts x r p a us (op.Load w (place_of y.place)) h ∙ ap (λ o. loaded w o (λ i. At r (p + 1) i us)) (found_plain x w y.place lies))
         (λ i lt. soon x n 0 2 (D (Then (Adding i s l) later)) (At r (p + 1) i us) (omega arith)
-        (both x 1 n 0 (D (Then (Adding i s l) later)) (D (Then (Storing (i + s) l) later)) (At r (p + 1) i us) (At r (p + 2) (low w (i + s)) vs) (dx (Then (Adding i s l) later) refl) (add i)
-        (soon x n 0 2 (D (Then (Storing (i + s) l) later)) (At r (p + 2) (low w (i + s)) vs) (omega arith) (storing_then n (i + s) vs (p + 2) st (k i lt)))))
+        (both x 1 n 0 (D (Then (Adding i s l) later)) (D (Then (Storing (i + s) (leaves o w i s) l) later)) (At r (p + 1) i us) (At r (p + 2) (low w (i + s)) vs) (dx (Then (Adding i s l) later) refl) (add i)
+        (soon x n 0 2 (D (Then (Storing (i + s) (leaves o w i s) l) later)) (At r (p + 2) (low w (i + s)) vs) (omega arith) (storing_then n (i + s) (leaves o w i s) vs (p + 2) st (k i lt)))))
 
     back_to : (before p : ℕ) → p ≡ pr + before → p + 4 - (before + 4) ≡ pr
     back_to before p e = omega (arith, e)
@@ -587,20 +573,20 @@ module _ (x : Setting) (MayCall : ℕ → Type 0) (calls : (q : ℕ) → MayCall
     back_far before p e = omega (arith, e)
 
     -- a constant step
-    number_then : (n k s before p : ℕ) → k ≤ x.room → p ≡ pr + before → HasAt (x.code r) p (next_by_number y s before) → ((a : ℕ) → S x 2 n 0 (D (Then (Round l) later)) (At r pr a ws)) → K k 2 (suc n) later (p + 4) → (a : ℕ) → S x 3 (suc n) 1 (D (Then (Stepping (Constant s) l) later)) (At r p a ws)
-    number_then n k s before p small at has round go a =
+    number_then : (n k s before p : ℕ) → StepIs o w (Number s) → s < 65536 → k ≤ x.room → p ≡ pr + before → HasAt (x.code r) p (next_by_number o y s before) → ((a : ℕ) → S x 2 n 0 (D (Then (Round l) later)) (At r pr a ws)) → K k 2 (suc n) later (p + 4) → (a : ℕ) → S x 3 (suc n) 1 (D (Then (Stepping (Constant s) l) later)) (At r p a ws)
+    number_then n k s before p is word small at has round go a =
         up x 2 (suc n) 1 (omega arith) (D (Then (Stepping (Constant s) l) later)) (D (Then (Stepping (Value s) l) later)) (At r p a ws) (in_stepping x D dx later l (Constant s) refl)
         (adding_then (suc n) s a ws ws p has.0 (λ i. acts x r (p + 1) i ws (op.BinaryConstant binary.Add w s) has.1.0 ∙ ap (λ q. Silent (At r q (low w (i + s)) ws)) (omega arith))
         (subst (λ q. slice_get (x.code r) q ≡ Some (op.Store w (place_of y.place))) (omega arith) has.1.1.0)
-        (λ i lt. ending_by n k (i + s) (low w (i + s)) (At r (p + 2 + 1) (low w (i + s)) ws) (p + 4) small round go (nat_lt (i + s) (values w)) refl
-        (acts x r (p + 2 + 1) (low w (i + s)) ws (op.BackUnless (test.Constant relation.Less s) (before + 4)) (subst (λ q. slice_get (x.code r) q ≡ Some (op.BackUnless (test.Constant relation.Less s) (before + 4))) (omega arith) has.1.1.1.0)
-        ∙ ap (λ b. Silent (At r (if b then p + 2 + 1 + 1 else p + 2 + 1 + 1 - (before + 4)) (low w (i + s)) ws)) (below_sum w i s lt)
-        ∙ ap (λ q. Silent (At r (if not (nat_lt (i + s) (values w)) then q else p + 2 + 1 + 1 - (before + 4)) (low w (i + s)) ws)) (omega arith)
-        ∙ ap (λ q. Silent (At r (if not (nat_lt (i + s) (values w)) then p + 4 else q) (low w (i + s)) ws)) (ap (λ q. q - (before + 4)) (omega arith) ∙ back_to before p at))) 1)
+        (λ i lt. ending_by n k (low w (i + s)) (At r (p + 2 + 1) (low w (i + s)) ws) (p + 4) small round go (leaves o w i s)
+        (acts x r (p + 2 + 1) (low w (i + s)) ws (op.BackUnless (test.Constant (left_in o) (left_from o s)) (before + 4)) (subst (λ q. slice_get (x.code r) q ≡ Some (op.BackUnless (test.Constant (left_in o) (left_from o s)) (before + 4))) (omega arith) has.1.1.1.0)
+        ∙ ap (λ b. Silent (At r (if b then p + 2 + 1 + 1 else p + 2 + 1 + 1 - (before + 4)) (low w (i + s)) ws)) (left_sum o w i s is word lt)
+        ∙ ap (λ q. Silent (At r (if leaves o w i s then q else p + 2 + 1 + 1 - (before + 4)) (low w (i + s)) ws)) (omega arith)
+        ∙ ap (λ q. Silent (At r (if leaves o w i s then p + 4 else q) (low w (i + s)) ws)) (ap (λ q. q - (before + 4)) (omega arith) ∙ back_to before p at))) 1)
 
     -- every other step is pushed twice
-    pushed_then : (n k s before p : ℕ) → k ≤ x.room → p ≡ pr + before → HasAt (x.code r) p (add_pushed y before) → ((a : ℕ) → S x 2 n 0 (D (Then (Round l) later)) (At r pr a ws)) → K k 2 (suc n) later (p + 6) → S x 2 (suc n) 2 (D (Then (Stepping (Value s) l) later)) (At r p s ws)
-    pushed_then n k s before p small at has round go =
+    pushed_then : (n k s before p : ℕ) → o ≡ counting.Up → k ≤ x.room → p ≡ pr + before → HasAt (x.code r) p (add_pushed y before) → ((a : ℕ) → S x 2 n 0 (D (Then (Round l) later)) (At r pr a ws)) → K k 2 (suc n) later (p + 6) → S x 2 (suc n) 2 (D (Then (Stepping (Value s) l) later)) (At r p s ws)
+    pushed_then n k s before p upwards small at has round go =
         let us = words.Value s ∷ ws in
         let R = D (Then (Stepping (Value s) l) later) in
         push_then x 2 (suc n) 1 R r p s ws has.0
@@ -610,36 +596,38 @@ module _ (x : Setting) (MayCall : ℕ → Type 0) (calls : (q : ℕ) → MayCall
         (adding_then (suc n) s s (words.Value s ∷ us) us (p + 1 + 1) has.1.1.0
         (λ i. acts x r (p + 1 + 1 + 1) i (words.Value s ∷ us) (op.Binary binary.Add w) has.1.1.1.0 ∙ ap (λ q. Silent (At r q (low w (s + i)) us)) (omega arith) ∙ ap (λ z. Silent (At r (p + 1 + 1 + 2) (low w z) us)) (omega arith))
         (subst (λ q. slice_get (x.code r) q ≡ Some (op.Store w (place_of y.place))) (omega arith) has.1.1.1.1.0)
-        (λ i lt. ending_by n k (i + s) (low w (i + s)) (At r (p + 1 + 1 + 2 + 1) (low w (i + s)) us) (p + 6) small round go (nat_lt (i + s) (values w)) refl
+        (λ i lt. ending_by n k (low w (i + s)) (At r (p + 1 + 1 + 2 + 1) (low w (i + s)) us) (p + 6) small round go (leaves o w i s)
         (acts x r (p + 1 + 1 + 2 + 1) (low w (i + s)) us (op.BackUnless (test.Top relation.Greater) (before + 6)) (subst (λ q. slice_get (x.code r) q ≡ Some (op.BackUnless (test.Top relation.Greater) (before + 6))) (omega arith) has.1.1.1.1.1.0)
-        ∙ ap (λ b. Silent (At r (if b then p + 1 + 1 + 2 + 1 + 1 else p + 1 + 1 + 2 + 1 + 1 - (before + 6)) (low w (i + s)) ws)) (below_sum w i s lt)
-        ∙ ap (λ q. Silent (At r (if not (nat_lt (i + s) (values w)) then q else p + 1 + 1 + 2 + 1 + 1 - (before + 6)) (low w (i + s)) ws)) (omega arith)
-        ∙ ap (λ q. Silent (At r (if not (nat_lt (i + s) (values w)) then p + 6 else q) (low w (i + s)) ws)) (ap (λ q. q - (before + 6)) (omega arith) ∙ back_far before p at))) 0))))
+        ∙ ap (λ b. Silent (At r (if b then p + 1 + 1 + 2 + 1 + 1 else p + 1 + 1 + 2 + 1 + 1 - (before + 6)) (low w (i + s)) ws)) (pushed_sum o w i s upwards lt)
+        ∙ ap (λ q. Silent (At r (if leaves o w i s then q else p + 1 + 1 + 2 + 1 + 1 - (before + 6)) (low w (i + s)) ws)) (omega arith)
+        ∙ ap (λ q. Silent (At r (if leaves o w i s then p + 6 else q) (low w (i + s)) ws)) (ap (λ q. q - (before + 6)) (omega arith) ∙ back_far before p at))) 0))))
 
-    computed_then : (n k before p : ℕ) → k ≤ x.room → p ≡ pr + before → HasAt (x.code r) p (expression_code x.procedures step ++ add_pushed y (before + length (expression_code x.procedures step))) → ((a : ℕ) → S x 2 n 0 (D (Then (Round l) later)) (At r pr a ws))
+    computed_then : (n k before p : ℕ) → o ≡ counting.Up → k ≤ x.room → p ≡ pr + before → HasAt (x.code r) p (expression_code x.procedures step ++ add_pushed y (before + length (expression_code x.procedures step))) → ((a : ℕ) → S x 2 n 0 (D (Then (Round l) later)) (At r pr a ws))
         → K k 2 (suc n) later (p + length (expression_code x.procedures step ++ add_pushed y (before + length (expression_code x.procedures step)))) → (a : ℕ) → S x 3 (suc n) 1 (D (Then (Stepping step l) later)) (At r p a ws)
-    computed_then n k before p small at has round go a =
+    computed_then n k before p upwards small at has round go a =
         let ce = expression_code x.procedures step in
         let ca = add_pushed y (before + length ce) in
         let pe = p + length ce in
         eased x 2 3 (suc n) 0 1 (D (Then (Stepping step l) later)) (At r p a ws) (omega arith) (omega arith)
         (expression_sim x MayCall calls step gs (suc n) (λ e. D (Then (Stepping e l) later)) (in_stepping x D dx later l) r p ws (has_front (x.code r) p ce ca has)
         (λ s lt. rise x (suc n) 2 (D (Then (Stepping (Value s) l) later)) (At r pe s ws) (omega arith)
-        (pushed_then n k s (before + length ce) pe small (omega (arith, at)) (has_back (x.code r) p ce ca has) round (k_at k 2 (suc n) later (p + length (ce ++ ca)) (pe + 6) (omega (arith, length-append ce ca)) go))) a)
+        (pushed_then n k s (before + length ce) pe upwards small (omega (arith, at)) (has_back (x.code r) p ce ca has) round (k_at k 2 (suc n) later (p + length (ce ++ ca)) (pe + 6) (omega (arith, length-append ce ca)) go))) a)
 
-    step_then : (o : Operand) → IsOperand step o → (n k before p : ℕ) → k ≤ x.room → p ≡ pr + before → HasAt (x.code r) p (next_round y o (expression_code x.procedures step) before) → ((a : ℕ) → S x 2 n 0 (D (Then (Round l) later)) (At r pr a ws))
-        → K k 2 (suc n) later (p + length (next_round y o (expression_code x.procedures step) before)) → (a : ℕ) → S x 3 (suc n) 1 (D (Then (Stepping step l) later)) (At r p a ws)
-    step_then (Number s) is n k before p small at has round go a = subst (λ e. S x 3 (suc n) 1 (D (Then (Stepping e (Count y bound step ss)) later)) (At r p a ws)) (sym is) (number_then n k s before p small at has round go a)
-    step_then (Name read z) is n k before p small at has round go a = computed_then n k before p small at has round go a
-    step_then Computed is n k before p small at has round go a = computed_then n k before p small at has round go a
+    step_then : (q : Operand) → IsOperand step q → StepIs o w q → (n k before p : ℕ) → k ≤ x.room → p ≡ pr + before → HasAt (x.code r) p (next_round o y q (expression_code x.procedures step) before) → ((a : ℕ) → S x 2 n 0 (D (Then (Round l) later)) (At r pr a ws))
+        → K k 2 (suc n) later (p + length (next_round o y q (expression_code x.procedures step) before)) → (a : ℕ) → S x 3 (suc n) 1 (D (Then (Stepping step l) later)) (At r p a ws)
+    step_then (Number s) is by n k before p small at has round go a =
+        subst (λ e. S x 3 (suc n) 1 (D (Then (Stepping e (Count o y bound step ss)) later)) (At r p a ws)) (sym is)
+        (number_then n k s before p by (subst (λ e. IsExpression x.sizes x.procedures MayCall e) is gs) small at has round go a)
+    step_then (Name read z) is by n k before p small at has round go a = computed_then n k before p (named_up o w read z by) small at has round go a
+    step_then Computed is by n k before p small at has round go a = computed_then n k before p (computed_up o w by) small at has round go a
 
     -- the rounds, by induction on the number of instructions
-    round_sim : (exit k : ℕ) → k + (leads ss + 5) ≤ x.room → (cb cs ca : List Instruction) → cb ≡ beside (operand_of bound) (expression_code x.procedures bound) → cs ≡ codes_at 0 ss → ca ≡ next_round y (operand_of step) (expression_code x.procedures step) (length cb + length cs + 2)
-        → HasAt (x.code r) pr (op.Load w (place_of y.place) ∷ (cb ++ (op.AheadUnless (stands_to relation.LessEqual (operand_of bound)) (length cs + length ca + exit) ∷ (cs ++ ca))))
+    round_sim : (exit k : ℕ) → k + (leads ss + 5) ≤ x.room → (cb cs ca : List Instruction) → cb ≡ beside (operand_of bound) (expression_code x.procedures bound) → cs ≡ codes_at 0 ss → ca ≡ next_round o y (operand_of step) (expression_code x.procedures step) (length cb + length cs + 2)
+        → HasAt (x.code r) pr (op.Load w (place_of y.place) ∷ (cb ++ (op.AheadUnless (stands_to (within o) (operand_of bound)) (length cs + length ca + exit) ∷ (cs ++ ca))))
         → (n : ℕ) → Returns around n → K k 2 n later (pr + 1 + length cb + 1 + length cs + length ca) → K k 1 n later (pr + 1 + length cb + 1 + length cs + length ca + exit) → (a : ℕ) → S x 2 n 0 (D (Then (Round l) later)) (At r pr a ws)
     round_sim exit k small cb cs ca eb es ea has zero ret to out a = tt
     round_sim exit k small cb cs ca eb es ea has (suc n) ret to out a =
-        let jump = op.AheadUnless (stands_to relation.LessEqual (operand_of bound)) (length cs + length ca + exit) in
+        let jump = op.AheadUnless (stands_to (within o) (operand_of bound)) (length cs + length ca + exit) in
         let m = suc n in
         let p1 = pr + 1 in
         let pj = p1 + length cb in
@@ -651,8 +639,8 @@ module _ (x : Setting) (MayCall : ℕ → Type 0) (calls : (q : ℕ) → MayCall
         let h2 = has_front (x.code r) on cs ca h1.1 in
         let h3 = has_back (x.code r) on cs ca h1.1 in
         let round = round_sim exit k small cb cs ca eb es ea has n (fewer_returns around n ret) (k_fewer k 2 n later pe to) (k_fewer k 1 n later (pe + exit) out) in
-        let next : K 3 1 m (Then (Stepping step l) later) pg = step_then (operand_of step) (operand_is step) n k (length cb + length cs + 2) pg (omega (arith, small)) (omega arith)
-        (subst (λ c. HasAt (x.code r) pg c) ea h3) round (k_at k 2 m later pe (pg + length (next_round y (operand_of step) (expression_code x.procedures step) (length cb + length cs + 2))) (omega (arith, ap length ea)) to) in
+        let next : K 3 1 m (Then (Stepping step l) later) pg = step_then (operand_of step) (operand_is step) by n k (length cb + length cs + 2) pg (omega (arith, small)) (omega arith)
+        (subst (λ c. HasAt (x.code r) pg c) ea h3) round (k_at k 2 m later pe (pg + length (next_round o y (operand_of step) (expression_code x.procedures step) (length cb + length cs + 2))) (omega (arith, ap length ea)) to) in
         let kk = k + leads ss + 3 in
         let ours = run m ret 0 (Then (Stepping step l) later) on 3 (omega (arith, small)) (subst (λ c. HasAt (x.code r) on c) es h2)
         (k_more 3 3 1 2 m (Then (Stepping step l) later) (on + length (codes_at 0 ss)) (omega arith) (omega arith) (k_at 3 1 m (Then (Stepping step l) later) pg (on + length (codes_at 0 ss)) (omega (arith, ap length es)) next))
@@ -665,24 +653,24 @@ module _ (x : Setting) (MayCall : ℕ → Type 0) (calls : (q : ℕ) → MayCall
         (bound_sim x MayCall calls m kk (omega (arith, small)) D (behind ss (Then (Stepping step l) later)) later r on (on + d) ws
         (k_more (3 + leads ss) kk 2 2 m (behind ss (Then (Stepping step l) later)) on (omega arith) (omega arith) ours)
         (k_more k kk 1 2 m later (on + d) (omega arith) (omega arith) (k_at k 1 m later (pe + exit) (on + d) (omega arith) out))
-        i (λ e. D (Then (Comparing i e l) later)) (in_comparing x D dx later i l) (λ v. dx (Then (Comparing i (Value v) l) later) refl) bound gb p1 d
+        o i (λ e. D (Then (Comparing i e l) later)) (in_comparing x D dx later i l) (λ v. dx (Then (Comparing i (Value v) l) later) refl) bound gb p1 d
         (subst (λ c. HasAt (x.code r) p1 (c ++ jump ∷ [])) eb (has_head (x.code r) p1 cb jump (cs ++ ca) has.1)) (omega (arith, len)) (omega (arith, len))))
 
   abbrev pub LoopRuns : Loop → Type 0
-  LoopRuns (Count y bound step ss) = ArmRuns ss
+  LoopRuns (Count o y bound step ss) = ArmRuns ss
 
   iterate_runs : (e : Expression) (l : Loop) → IsExpression x.sizes x.procedures MayCall e → IsLoop x.sizes x.procedures MayCall around l → LoopRuns l → StatementRuns (Iterate e l)
-  iterate_runs e (Count y bound step ss) ge gl runs not n ret exit later p k small has to out a =
+  iterate_runs e (Count o y bound step ss) ge gl runs not n ret exit later p k small has to out a =
       let ce = expression_code x.procedures e in
       let cb = beside (operand_of bound) (expression_code x.procedures bound) in
       let cs = codes_at 0 ss in
-      let ca = next_round y (operand_of step) (expression_code x.procedures step) (length cb + length cs + 2) in
-      let jump = op.AheadUnless (stands_to relation.LessEqual (operand_of bound)) (length cs + length ca + exit) in
+      let ca = next_round o y (operand_of step) (expression_code x.procedures step) (length cb + length cs + 2) in
+      let jump = op.AheadUnless (stands_to (within o) (operand_of bound)) (length cs + length ca + exit) in
       let rounds = op.Load y.width (place_of y.place) ∷ (cb ++ (jump ∷ (cs ++ ca))) in
       let tail = op.Store y.width (place_of y.place) ∷ rounds in
       let pe = p + length ce in
       let pr = pe + 1 in
-      let l = Count y bound step ss in
+      let l = Count o y bound step ss in
       let len = length-append ce tail in
       let len2 = length-append cb (jump ∷ (cs ++ ca)) in
       let len3 = length-append cs ca in
@@ -694,7 +682,7 @@ module _ (x : Setting) (MayCall : ℕ → Type 0) (calls : (q : ℕ) → MayCall
       (touches x 2 n 0 (Write y.width y.place (low y.width v)) (D (Then (Iterate (Value v) l) later)) (λ z. D (Then (Round l) later)) (At r pe v ws) (λ z. At r pr v ws) (dx (Then (Iterate (Value v) l) later) refl)
       (acts x r pe v ws (op.Store y.width (place_of y.place)) h.0 ∙ ap (λ o. stored y.width o v (At r pr v ws)) (found_plain x y.width y.place gl.0))
       (λ z zt. soon x n 0 2 (D (Then (Round l) later)) (At r pr v ws) (omega arith)
-      (round_sim y bound step ss gl.0 gl.1 gl.2 runs later pr exit k small cb cs ca refl refl refl h.1 n ret
+      (round_sim o y bound step ss gl.0 gl.1 gl.2 gl.4 runs later pr exit k small cb cs ca refl refl refl h.1 n ret
       (k_at k 2 n later (p + length (ce ++ tail)) end (omega (arith, len, len2, len3)) to) (k_at k 1 n later (p + length (ce ++ tail) + exit) (end + exit) (omega (arith, len, len2, len3)) out) v)))) a)
 
   -- ---- all statements
@@ -736,11 +724,11 @@ module _ (x : Setting) (MayCall : ℕ → Type 0) (calls : (q : ℕ) → MayCall
     statement_sim (Comparing i e l) good = absurd good
     statement_sim (Stepping e l) good = absurd good
     statement_sim (Adding i s l) good = absurd good
-    statement_sim (Storing sum l) good = absurd good
-    statement_sim (Ending sum l) good = absurd good
+    statement_sim (Storing s b l) good = absurd good
+    statement_sim (Ending b l) good = absurd good
 
     loop_sim : (l : Loop) → IsLoop x.sizes x.procedures MayCall around l → LoopRuns l
-    loop_sim (Count y bound step ss) good = arm_runs ss (statements_sim ss good.3) (are_silent ss) refl
+    loop_sim (Count o y bound step ss) good = arm_runs ss (statements_sim ss good.3) (are_silent ss) refl
 
     cases_sim : (ss : Statements) → AreStatements x.sizes x.procedures MayCall around ss → CasesRun ss
     cases_sim End good = tt

@@ -1,7 +1,7 @@
 -- Conditions, and the jumps that test them.
 use Rattle.std.proofs.lemmas.Option.{none-some, same_Some}
 use Rattle.std.proofs.Common.{◌≡◌, ℕ, zero, suc, ◌+◌, ◌%◌, ◌<◌, ◌≤◌, Bool, true, false, List, [], ◌∷◌, ◌++◌, length, Option, Some, None, refl, sym, ap, ◌∙◌, subst, arith, slice_get, length-append}
-use Rattle.std.specs.Prelude.{if◌then◌else◌, nat_le, nat_lt, not}
+use Rattle.std.specs.Prelude.{if◌then◌else◌, not}
 use Rattle.word86.specs.declared.width.Width.{Width}
 use Rattle.word86.specs.declared.operation.BinaryOperation.{BinaryOperation}
 use Rattle.word86.specs.declared.operation.BinaryOperation.TheVariants as binary
@@ -9,7 +9,8 @@ use Rattle.word86.specs.Access.{Read}
 use Rattle.word86.specs.Action.{Silent, Touch, map_action}
 use Rattle.word86.specs.Operation.{truth, binary_value}
 use Rattle.plm_type.specs.Rest.{Expression, Constant, Plain, Variable, Location, Unary, Binary, Embedded, Input, Call, Value, Passing, Running, Statements, Rest}
-use Rattle.plm_type.specs.Next.{is_odd, operated}
+use Rattle.plm_type.specs.declared.program.Counting.{Counting}
+use Rattle.plm_type.specs.Next.{is_odd, operated, has_passed}
 use Rattle.icode.specs.declared.instruction.Instruction.TheVariants as op
 use Rattle.icode.specs.declared.instruction.Relation.{Relation}
 use Rattle.icode.specs.declared.instruction.Relation.TheVariants as relation
@@ -19,11 +20,12 @@ use Rattle.icode.specs.declared.code.Word.{Word}
 use Rattle.icode.specs.declared.code.Word.TheVariants as words
 use Rattle.icode.specs.Machine.{Context, At, stands, loaded}
 use Rattle.lower.specs.Expressions.{Operand, Number, Name, Computed, operand_of, beside, relation_of, stands_to, asked, test_of, asking, expression_code, condition_code}
+use Rattle.lower.specs.Statements.{within}
 use Rattle.lower.specs.Well.{Lies, IsExpression}
 use Rattle.lower.proofs.Setting.{Setting}
 use Rattle.lower.proofs.Sim.{N, X, T, S, eased, then_, up, both, touches}
 use Rattle.lower.proofs.Holes.{IsHole, in_left, in_right, acts, HasAt, has_front, has_back}
-use Rattle.lower.proofs.Bools.{not_less}
+use Rattle.lower.proofs.Sums.{reaches}
 use Rattle.lower.proofs.Memory.{found_plain}
 use Rattle.lower.proofs.Exprs.{IsOperand, operand_is, ProcedureRuns, rise, soon, push_then}
 use Rattle.lower.proofs.Terms.{expression_sim}
@@ -52,6 +54,12 @@ relation_is binary.ShiftLeft q h w u v = absurd (none-some q h)
 relation_is binary.ShiftRight q h w u v = absurd (none-some q h)
 relation_is binary.RotateLeft q h w u v = absurd (none-some q h)
 relation_is binary.RotateRight q h w u v = absurd (none-some q h)
+relation_is binary.DivideSigned q h w u v = absurd (none-some q h)
+relation_is binary.ModuloSigned q h w u v = absurd (none-some q h)
+relation_is binary.LessSigned q h w u v = ap (λ y. Some (truth (stands y u v))) (same_Some relation.LessSigned q h)
+relation_is binary.LessEqualSigned q h w u v = ap (λ y. Some (truth (stands y u v))) (same_Some relation.LessEqualSigned q h)
+relation_is binary.GreaterSigned q h w u v = ap (λ y. Some (truth (stands y u v))) (same_Some relation.GreaterSigned q h)
+relation_is binary.GreaterEqualSigned q h w u v = ap (λ y. Some (truth (stands y u v))) (same_Some relation.GreaterEqualSigned q h)
 
 module _ (x : Setting) (MayCall : ℕ → Type 0) (calls : (q : ℕ) → MayCall q → ProcedureRuns x q) where
   -- where a test leads: on where it holds, else further
@@ -165,15 +173,15 @@ module _ (x : Setting) (MayCall : ℕ → Type 0) (calls : (q : ℕ) → MayCall
       condition_sim (Passing q xs vs) good p d has at to a = absurd good
       condition_sim (Running ss) good p d has at to a = absurd good
 
-    -- the bound of an index i, which goes on where it is not below it
-    pub bound_sim : (i : ℕ) (Q : Expression → Rest) → IsHole x Q → ((v : ℕ) → N x (Q (Value v)) ≡ Silent (D (if nat_lt v i then no else yes))) → (e : Expression) → IsExpression x.sizes x.procedures MayCall e → (p d : ℕ)
-        → HasAt (x.code r) p (beside (operand_of e) (expression_code x.procedures e) ++ op.AheadUnless (stands_to relation.LessEqual (operand_of e)) d ∷ [])
+    -- the bound of an index i, which is not behind it
+    pub bound_sim : (o : Counting) (i : ℕ) (Q : Expression → Rest) → IsHole x Q → ((v : ℕ) → N x (Q (Value v)) ≡ Silent (D (if has_passed o i v then no else yes))) → (e : Expression) → IsExpression x.sizes x.procedures MayCall e → (p d : ℕ)
+        → HasAt (x.code r) p (beside (operand_of e) (expression_code x.procedures e) ++ op.AheadUnless (stands_to (within o) (operand_of e)) d ∷ [])
         → p + length (beside (operand_of e) (expression_code x.procedures e)) + 1 ≡ on → p + length (beside (operand_of e) (expression_code x.procedures e)) + 1 + d ≡ further → S x 3 n 1 (Q e) (At r p i ws)
-    bound_sim i Q qx steps e good p d has at to =
-        let leads : (v : ℕ) → N x (Q (Value v)) ≡ Silent (D (if nat_le i v then yes else no)) = λ v. steps v ∙ ap (λ s. Silent (D s)) (other_way (nat_lt v i) no yes) ∙ ap (λ b. Silent (D (if b then yes else no))) (sym (not_less i v)) in
-        compared_sim relation.LessEqual i Q
-        (λ v j f c le h. eased x (suc j) (suc (suc j)) n f f (Q (Value v)) c (omega arith) (omega arith) (up x j n f le (Q (Value v)) (D (if nat_le i v then yes else no)) c (leads v) h))
-        (λ v c z h. both x 1 n 0 (Q (Value v)) (D (if nat_le i v then yes else no)) c (At r (if nat_le i v then on else further) z ws) (leads v) h (led_soon (nat_le i v) z))
+    bound_sim o i Q qx steps e good p d has at to =
+        let leads : (v : ℕ) → N x (Q (Value v)) ≡ Silent (D (if stands (within o) i v then yes else no)) = λ v. steps v ∙ ap (λ s. Silent (D s)) (other_way (has_passed o i v) no yes) ∙ ap (λ b. Silent (D (if b then yes else no))) (sym (reaches o i v)) in
+        compared_sim (within o) i Q
+        (λ v j f c le h. eased x (suc j) (suc (suc j)) n f f (Q (Value v)) c (omega arith) (omega arith) (up x j n f le (Q (Value v)) (D (if stands (within o) i v then yes else no)) c (leads v) h))
+        (λ v c z h. both x 1 n 0 (Q (Value v)) (D (if stands (within o) i v then yes else no)) c (At r (if stands (within o) i v then on else further) z ws) (leads v) h (led_soon (stands (within o) i v) z))
         qx e good (operand_of e) (operand_is e) p d has at to
       where
         other_way : (b : Bool) (s t : Statements) → (if b then s else t) ≡ (if not b then t else s)

@@ -21,19 +21,22 @@ use Rattle.plm_decl.specs.Resolved.{ExpressionR, NumberR, TextR, ReferenceR, Loc
 use Rattle.plm_type.specs.declared.effects.Effect.{Effect}
 use Rattle.plm_type.specs.declared.effects.Effect.TheVariants.{Calls, Enables}
 use Rattle.plm_type.specs.declared.statements.Around.{Around}
+use Rattle.plm_type.specs.Typer.{TypedStep}
 use Rattle.plm_type.specs.Rest.{Expression, Plain, Expressions, NoMore, More, Reference, Subscripts, NoSubscripts, Target, ToPlain, Targets}
 use Rattle.plm_type.specs.Rest as rest
-use Rattle.plm_type.specs.Typing.{is_measure, is_target}
-use Rattle.plm_type.specs.Types.{width_of}
+use Rattle.plm_type.specs.Expressions.{wanted_beside}
+use Rattle.plm_type.specs.Typing.{is_measure, is_target, first_type, other_types, variable_type, wanted_arguments, parameters_wanted}
+use Rattle.plm_type.specs.Types.{width_of, is_integer}
 use Rattle.plm_type.specs.Shapes.{fixed_place, designated, read_of, store_to}
 use Rattle.plm_type.specs.Trees.{entry_of, strided, use_read, use_stored, refer, builtin_value, operated, shifted, read_port, to_port}
-use Rattle.plm_type.specs.Statements.{targets, assignment}
-use Rattle.lower.proofs.Typed.{tree_of, trees_of, selector_trees, value_of, location_of, target_of, faults_of, faults_in, selector_faults, value_faults, location_faults, target_faults, measured_value, argument_value, reference_value, target_trees, called, step_for, statement_for, statements_for}
+use Rattle.plm_type.specs.Statements.{wanted_of_return, variable_meant, wanted_among, targets, assignment, signed_step, integer_step, number_step, chosen_step, number_in}
+use Rattle.lower.proofs.Typed.{type_of, is_turned, wanted_tree, wanted_faults, given_trees, given_faults, target_type, target_types, tree_of, trees_of, selector_trees, value_of, location_of, target_of, faults_of, faults_in, selector_faults, value_faults, location_faults, target_faults, measured_value, argument_value, reference_value, target_trees, called, step_for, statement_for, statements_for}
 use Rattle.lower.proofs.Typed as typed
 use Rattle.plm_type.specs.Faults.{fault_unless}
 use Rattle.plm_type.specs.Calls.{calls_in, argument_calls, reference_calls, subscript_calls, target_calls, targets_calls, statement_calls, statements_calls}
 use Rattle.plm_type.specs.Effects.{of_expression, of_list, of_selector, of_parts, of_value, of_location, of_targets, of_step, of_statement, of_statements}
 use Rattle.plm_type.specs.Interrupts as interrupts
+use Rattle.lower.proofs.Integers.{turned_calls}
 use Rattle.lower.proofs.Fitting.{Lets, Let}
 
 -- ---- lists without a fault
@@ -142,6 +145,8 @@ module _ (ps : List ProcedureR) where
     builtin_within builtin.Low line w es fs f = operated_within es fs f _ w
     builtin_within builtin.High line w es fs f = operated_within es fs f _ w
     builtin_within builtin.Double line w es fs f = operated_within es fs f _ w
+    builtin_within builtin.Signed line w es fs f = operated_within es fs f _ w
+    builtin_within builtin.Unsigned line w es fs f = operated_within es fs f _ w
     builtin_within builtin.ShiftLeft line w es fs f = shifted_within line es fs f _ w
     builtin_within builtin.ShiftRight line w es fs f = shifted_within line es fs f _ w
     builtin_within builtin.RotateLeft line w es fs f = shifted_within line es fs f _ w
@@ -165,13 +170,17 @@ module _ (ps : List ProcedureR) where
     measured_within at b (expressions e (expressions d es)) fs = none fs
 
     -- what a measure holds is not evaluated
-    either_within : (p : Position) (b : Builtin) (es : ExpressionsR) (s : SelectorR) (measures : Bool) (fs gs : List Found) → cond measures fs (faults_in variables ps sizes m es ++ gs) ≡ []
-        → (faults_in variables ps sizes m es ≡ [] → Within (argument_calls (trees_of variables ps sizes m es)) (of_list es)) → (w : Width)
-        → Within (calls_in (cond measures (measured_value variables ps sizes m p b es) (builtin_value m p.line b w (trees_of variables ps sizes m es)))) (cond measures [] (of_list es ++ of_selector s))
-    either_within p b es s true fs gs h f w = measured_within p b es []
-    either_within p b es s false fs gs h f w =
-        let all = trees_of variables ps sizes m es in
-        builtin_within b p.line w all (of_list es ++ of_selector s) (left (argument_calls all) (of_list es) (of_selector s) (f (none_of_both (faults_in variables ps sizes m es) gs h).0))
+    either_within : (p : Position) (b : Builtin) (es : ExpressionsR) (s : SelectorR) (measures : Bool) (ts : List (Option ScalarType)) (fs gs : List Found) → cond measures fs (given_faults variables ps sizes m ts es ++ gs) ≡ []
+        → (given_faults variables ps sizes m ts es ≡ [] → Within (argument_calls (given_trees variables ps sizes m ts es)) (of_list es)) → (w : Width)
+        → Within (calls_in (cond measures (measured_value variables ps sizes m p b es) (builtin_value m p.line b w (given_trees variables ps sizes m ts es)))) (cond measures [] (of_list es ++ of_selector s))
+    either_within p b es s true ts fs gs h f w = measured_within p b es []
+    either_within p b es s false ts fs gs h f w =
+        let all = given_trees variables ps sizes m ts es in
+        builtin_within b p.line w all (of_list es ++ of_selector s) (left (argument_calls all) (of_list es) (of_selector s) (f (none_of_both (given_faults variables ps sizes m ts es) gs h).0))
+
+    -- a tree that may be turned INTEGER
+    turned_within : (t : Option ScalarType) (e : ExpressionR) (fs : List Effect) → Within (calls_in (tree_of variables ps sizes m e)) fs → Within (calls_in (wanted_tree variables ps sizes m t e)) fs
+    turned_within t e fs f = subst (λ (xs : List ℕ). Within xs fs) (sym (turned_calls (is_turned variables ps sizes m t e) (tree_of variables ps sizes m e))) f
 
     called_within : (n : ℕ) (xs : List ℕ) (fs : List Effect) → Within xs fs → Within (entry_of (slice_get ps n) ∷ xs) (Calls n ∷ fs)
     called_within n xs fs f q c =
@@ -188,19 +197,32 @@ module _ (ps : List ProcedureR) where
       expression_within (ParenthesisedR p e) h = expression_within e h
       expression_within (EmbeddedR p x e) h =
           let a = none_of_both (target_faults variables ps sizes m x) _ h in
-          all (calls_in (tree_of variables ps sizes m e)) (target_calls (target_of variables ps sizes m x)) (of_parts x ++ of_expression e)
-          (right (calls_in (tree_of variables ps sizes m e)) (of_parts x) (of_expression e) (expression_within e (none_of_both (faults_of variables ps sizes m e) _ a.1).0))
+          let t = target_type variables ps sizes m x in
+          let own = none_of_both (wanted_faults variables ps sizes m t e) _ a.1 in
+          let stored = calls_in (wanted_tree variables ps sizes m t e) in
+          all stored (target_calls (target_of variables ps sizes m x)) (of_parts x ++ of_expression e)
+          (right stored (of_parts x) (of_expression e) (turned_within t e (of_expression e) (expression_within e (none_of_both (faults_of variables ps sizes m e) _ own.0).0)))
           (left (target_calls (target_of variables ps sizes m x)) (of_parts x) (of_expression e) (target_within x a.0))
       expression_within (UnaryR p o e) h = expression_within e (none_of_both (faults_of variables ps sizes m e) _ h).0
       expression_within (BinaryR p o a b) h =
           let f = none_of_both (faults_of variables ps sizes m a) _ h in
-          both (calls_in (tree_of variables ps sizes m a)) (calls_in (tree_of variables ps sizes m b)) (of_expression a) (of_expression b) (expression_within a f.0) (expression_within b (none_of_both (faults_of variables ps sizes m b) _ f.1).0)
+          let t = wanted_beside o (type_of variables ps sizes m b) in
+          let u = wanted_beside o (type_of variables ps sizes m a) in
+          both (calls_in (wanted_tree variables ps sizes m t a)) (calls_in (wanted_tree variables ps sizes m u b)) (of_expression a) (of_expression b)
+          (turned_within t a (of_expression a) (expression_within a f.0)) (turned_within u b (of_expression b) (expression_within b (none_of_both (faults_of variables ps sizes m b) _ f.1).0))
 
       expressions_within : (es : ExpressionsR) → faults_in variables ps sizes m es ≡ [] → Within (argument_calls (trees_of variables ps sizes m es)) (of_list es)
       expressions_within no_expressions h = none []
       expressions_within (expressions e es) h =
           let f = none_of_both (faults_of variables ps sizes m e) _ h in
           both (calls_in (tree_of variables ps sizes m e)) (argument_calls (trees_of variables ps sizes m es)) (of_expression e) (of_list es) (expression_within e f.0) (expressions_within es f.1)
+
+      given_within : (es : ExpressionsR) (ts : List (Option ScalarType)) → given_faults variables ps sizes m ts es ≡ [] → Within (argument_calls (given_trees variables ps sizes m ts es)) (of_list es)
+      given_within no_expressions ts h = none []
+      given_within (expressions e es) ts h =
+          let f = none_of_both (wanted_faults variables ps sizes m (first_type ts) e) (given_faults variables ps sizes m (other_types ts) es) h in
+          both (calls_in (wanted_tree variables ps sizes m (first_type ts) e)) (argument_calls (given_trees variables ps sizes m (other_types ts) es)) (of_expression e) (of_list es)
+          (turned_within (first_type ts) e (of_expression e) (expression_within e (none_of_both (faults_of variables ps sizes m e) _ f.0).0)) (given_within es (other_types ts) f.1)
 
       selector_within : (s : SelectorR) → selector_faults variables ps sizes m s ≡ [] → Within (argument_calls (selector_trees variables ps sizes m s)) (of_selector s)
       selector_within no_member h = none []
@@ -214,9 +236,11 @@ module _ (ps : List ProcedureR) where
           (refer_within p.line (slice_get variables v) s (trees_of variables ps sizes m es) (selector_trees variables ps sizes m s) (of_list es ++ of_selector s)
           (left (argument_calls (trees_of variables ps sizes m es)) (of_list es) (of_selector s) (expressions_within es f.0)) (right (argument_calls (selector_trees variables ps sizes m s)) (of_list es) (of_selector s) (selector_within s f.1)))
       value_within (Use p (binding.Procedure n) es s) h =
-          called_within n (argument_calls (trees_of variables ps sizes m es)) (of_list es ++ of_selector s)
-          (left (argument_calls (trees_of variables ps sizes m es)) (of_list es) (of_selector s) (expressions_within es (none_of_both (faults_in variables ps sizes m es) _ h).0))
-      value_within (Use p (binding.Builtin b) es s) h = either_within p b es s (is_measure b) _ _ (none_of_both (fault_unless m _ _ p) _ h).1 (λ k. expressions_within es k) _
+          let ts = parameters_wanted variables (slice_get ps n) in
+          let all = argument_calls (given_trees variables ps sizes m ts es) in
+          called_within n all (of_list es ++ of_selector s) (left all (of_list es) (of_selector s) (given_within es ts (none_of_both (given_faults variables ps sizes m ts es) _ h).0))
+      value_within (Use p (binding.Builtin b) es s) h =
+          either_within p b es s (is_measure b) (wanted_arguments b) _ _ (none_of_both (fault_unless m _ _ p) _ h).1 (λ k. given_within es (wanted_arguments b) k) _
       value_within (Use p binding.Nothing es s) h = none (of_list es ++ of_selector s)
 
       location_within : (l : LocationR') → location_faults variables ps sizes m l ≡ [] → Within (calls_in (location_of variables ps sizes m l)) (of_location l)
@@ -266,15 +290,29 @@ module _ (ps : List ProcedureR) where
 
     call_within : (p : Position) (x : ReferenceR') → typed.of_call variables ps sizes m p x ≡ [] → Within (calls_in (called variables ps sizes m p x)) (of_value x)
     call_within p (Use r (binding.Procedure n) es s) h =
-        called_within n (argument_calls (trees_of variables ps sizes m es)) (of_list es ++ of_selector s)
-        (left (argument_calls (trees_of variables ps sizes m es)) (of_list es) (of_selector s) (expressions_within es (none_of_both (faults_in variables ps sizes m es) _ h).0))
+        let ts = parameters_wanted variables (slice_get ps n) in
+        let args = argument_calls (given_trees variables ps sizes m ts es) in
+        called_within n args (of_list es ++ of_selector s) (left args (of_list es) (of_selector s) (given_within es ts (none_of_both (given_faults variables ps sizes m ts es) _ h).0))
     call_within p (Use r (binding.Variable v) es s) h = none (of_value (Use r (binding.Variable v) es s))
     call_within p (Use r (binding.Builtin b) es s) h = none (of_value (Use r (binding.Builtin b) es s))
     call_within p (Use r binding.Nothing es s) h = none (of_value (Use r binding.Nothing es s))
 
-    step_within : (p : Position) (o : Option ExpressionR) → typed.of_step variables ps sizes m p o ≡ [] → Within (calls_in (step_for variables ps sizes m p o)) (of_step o)
-    step_within p None h = none []
-    step_within p (Some e) h = expression_within e (none_of_both (faults_of variables ps sizes m e) _ h).0
+    wanted_within : (t : Option ScalarType) (e : ExpressionR) → wanted_faults variables ps sizes m t e ≡ [] → Within (calls_in (wanted_tree variables ps sizes m t e)) (of_expression e)
+    wanted_within t e h = turned_within t e (of_expression e) (expression_within e (none_of_both (faults_of variables ps sizes m e) _ h).0)
+
+    integer_step_within : (p : Position) (o : Option _) (fs : List Effect) → Within (calls_in (integer_step m p o).tree) fs
+    integer_step_within p None fs = none fs
+    integer_step_within p (Some s) fs = none fs
+
+    chosen_within : (c : Bool) (a b : TypedStep) (fs : List Effect) → Within (calls_in a.tree) fs → (b.faults ≡ [] → Within (calls_in b.tree) fs) → (chosen_step c a b).faults ≡ [] → Within (calls_in (chosen_step c a b).tree) fs
+    chosen_within true a b fs f g h = f
+    chosen_within false a b fs f g h = g h
+
+    step_within : (t : Option ScalarType) (p : Position) (o : Option ExpressionR) → typed.of_step variables ps sizes m t p o ≡ [] → Within (calls_in (step_for variables ps sizes m t p o)) (of_step o)
+    step_within t p None h = none []
+    step_within t p (Some e) h =
+        chosen_within (is_integer t) (integer_step m p (signed_step e)) (number_step (number_in variables ps sizes m p e)) (of_expression e) (integer_step_within p (signed_step e) (of_expression e))
+        (λ k. expression_within e (none_of_both (faults_of variables ps sizes m e) _ k).0) h
 
     abbrev tree : ExpressionR → List ℕ
     tree e = calls_in (tree_of variables ps sizes m e)
@@ -284,10 +322,11 @@ module _ (ps : List ProcedureR) where
       statement_within around (EmptyR p) h = none []
       statement_within around (AssignR xs e) h =
           let f = none_of_both (typed.of_targets variables ps sizes m xs) _ h in
-          assignment_within (target_trees variables ps sizes m xs) (tree_of variables ps sizes m e) (of_targets xs) (of_expression e) (target_trees_within xs f.0) (expression_within e (none_of_both (faults_of variables ps sizes m e) _ f.1).0)
+          let t = wanted_among (target_types variables ps sizes m xs) in
+          assignment_within (target_trees variables ps sizes m xs) (wanted_tree variables ps sizes m t e) (of_targets xs) (of_expression e) (target_trees_within xs f.0) (wanted_within t e (none_of_both (wanted_faults variables ps sizes m t e) _ f.1).0)
       statement_within around (CallR p x) h = call_within p x h
       statement_within around (ReturnR p) h = none []
-      statement_within around (ReturnValueR p e) h = expression_within e (none_of_both (faults_of variables ps sizes m e) _ h).0
+      statement_within around (ReturnValueR p e) h = wanted_within (wanted_of_return around) e (none_of_both (wanted_faults variables ps sizes m (wanted_of_return around) e) _ h).0
       statement_within around (EnableR p) h = none (Enables ∷ [])
       statement_within around (DisableR p) h = none []
       statement_within around (HaltR p) h = none (Enables ∷ [])
@@ -308,18 +347,21 @@ module _ (ps : List ProcedureR) where
           let f = none_of_both (typed.of_number variables ps sizes m p e) (typed.of_statements variables ps sizes m around ss) h in
           both (tree e) (statements_calls (statements_for variables ps sizes m around ss)) (of_expression e) (of_statements ss) (expression_within e (none_of_both (faults_of variables ps sizes m e) _ f.0).0) (statements_within around ss f.1)
       statement_within around (CaseR p e ss) h =
-          let f = none_of_both (typed.of_number variables ps sizes m p e) (typed.of_statements variables ps sizes m around ss) h in
+          let f = none_of_both (typed.of_count variables ps sizes m p e) (typed.of_statements variables ps sizes m around ss) h in
           both (tree e) (statements_calls (statements_for variables ps sizes m around ss)) (of_expression e) (of_statements ss) (expression_within e (none_of_both (faults_of variables ps sizes m e) _ f.0).0) (statements_within around ss f.1)
       statement_within around (IterateR p q i a b s ss) h =
+          let t = variable_type (variable_meant variables i) in
           let f = none_of_both (typed.of_index variables ps sizes m p q i) _ h in
-          let g = none_of_both (typed.of_number variables ps sizes m p a) _ f.1 in
-          let k = none_of_both (typed.of_number variables ps sizes m p b) _ g.1 in
-          let l = none_of_both (typed.of_step variables ps sizes m p s) (typed.of_statements variables ps sizes m around ss) k.1 in
-          let step = calls_in (step_for variables ps sizes m p s) in
+          let g = none_of_both (typed.of_bound variables ps sizes m t p a) _ f.1 in
+          let k = none_of_both (typed.of_bound variables ps sizes m t p b) _ g.1 in
+          let l = none_of_both (typed.of_step variables ps sizes m t p s) (typed.of_statements variables ps sizes m around ss) k.1 in
+          let start = calls_in (wanted_tree variables ps sizes m t a) in
+          let bound = calls_in (wanted_tree variables ps sizes m t b) in
+          let step = calls_in (step_for variables ps sizes m t p s) in
           let body = statements_calls (statements_for variables ps sizes m around ss) in
-          both (tree a) (tree b ++ (step ++ body)) (of_expression a) (of_expression b ++ (of_step s ++ of_statements ss)) (expression_within a (none_of_both (faults_of variables ps sizes m a) _ g.0).0)
-          (both (tree b) (step ++ body) (of_expression b) (of_step s ++ of_statements ss) (expression_within b (none_of_both (faults_of variables ps sizes m b) _ k.0).0)
-          (both step body (of_step s) (of_statements ss) (step_within p s l.0) (statements_within around ss l.1)))
+          both start (bound ++ (step ++ body)) (of_expression a) (of_expression b ++ (of_step s ++ of_statements ss)) (wanted_within t a (none_of_both (wanted_faults variables ps sizes m t a) _ g.0).0)
+          (both bound (step ++ body) (of_expression b) (of_step s ++ of_statements ss) (wanted_within t b (none_of_both (wanted_faults variables ps sizes m t b) _ k.0).0)
+          (both step body (of_step s) (of_statements ss) (step_within t p s l.0) (statements_within around ss l.1)))
 
       pub statements_within : (around : Around) (ss : StatementsR) → typed.of_statements variables ps sizes m around ss ≡ [] → Within (statements_calls (statements_for variables ps sizes m around ss)) (of_statements ss)
       statements_within around no_statements h = none []
@@ -347,7 +389,7 @@ module _ (variables : List Variable) (ps : List ProcedureR) (sizes : List ℕ) (
   mutual
     statement_lets : (around : Around) (s : StatementR) → Lets (statement_for variables ps sizes m around s) → interrupts.lets_in (of_statement s) ≡ true
     statement_lets around (EmptyR p) l = absurd l
-    statement_lets around (AssignR xs e) l = absurd (assignment_lets (target_trees variables ps sizes m xs) (tree_of variables ps sizes m e) l)
+    statement_lets around (AssignR xs e) l = absurd (assignment_lets (target_trees variables ps sizes m xs) (wanted_tree variables ps sizes m (wanted_among (target_types variables ps sizes m xs)) e) l)
     statement_lets around (CallR p x) l = absurd l
     statement_lets around (ReturnR p) l = absurd l
     statement_lets around (ReturnValueR p e) l = absurd l

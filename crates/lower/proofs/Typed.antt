@@ -8,8 +8,11 @@ use Rattle.plm_decl.specs.declared.resolved.Binding.{Binding}
 use Rattle.plm_decl.specs.declared.found.Found.{Found}
 use Rattle.plm_decl.specs.Names.{ProcedureR, MainR}
 use Rattle.plm_decl.specs.Resolved.{ExpressionR, ExpressionsR, SelectorR, ReferenceR', LocationR', ReferencesR, StatementR, StatementsR}
+use Rattle.plm_type.specs.declared.numbers.Numbers.{Numbers}
+use Rattle.plm_type.specs.declared.program.Counting.{Counting}
 use Rattle.plm_type.specs.declared.statements.Around.{Around}
 use Rattle.plm_type.specs.Rest.{Expression, Expressions, Target, Scalar, Statement, Statements, Procedure}
+use Rattle.plm_type.specs.Numbers.{turns}
 use Rattle.plm_type.specs.Expressions as expressions
 use Rattle.plm_type.specs.Statements as statements
 
@@ -22,6 +25,34 @@ module _ (variables : List Variable) (procedures : List ProcedureR) (sizes : Lis
 
   abbrev pub faults_of : ExpressionR → List Found
   faults_of e = (expressions.typed variables procedures sizes module_index e).faults
+
+  abbrev pub numbers_of : ExpressionR → Numbers
+  numbers_of e = (expressions.typed variables procedures sizes module_index e).numbers
+
+  -- ---- where a value of a type is wanted
+
+  abbrev pub is_turned : Option ScalarType → ExpressionR → Bool
+  is_turned t e = turns t (numbers_of e)
+
+  abbrev pub wanted_tree : Option ScalarType → ExpressionR → Expression
+  wanted_tree t e = (expressions.wanted module_index t (expressions.typed variables procedures sizes module_index e)).tree
+
+  abbrev pub wanted_type : Option ScalarType → ExpressionR → Option ScalarType
+  wanted_type t e = (expressions.wanted module_index t (expressions.typed variables procedures sizes module_index e)).scalar
+
+  abbrev pub wanted_faults : Option ScalarType → ExpressionR → List Found
+  wanted_faults t e = (expressions.wanted module_index t (expressions.typed variables procedures sizes module_index e)).faults
+
+  abbrev pub given_trees : List (Option ScalarType) → ExpressionsR → Expressions
+  given_trees ts es = (expressions.given variables procedures sizes module_index ts es).trees
+
+  abbrev pub given_types : List (Option ScalarType) → ExpressionsR → List (Option ScalarType)
+  given_types ts es = (expressions.given variables procedures sizes module_index ts es).types
+
+  abbrev pub given_faults : List (Option ScalarType) → ExpressionsR → List Found
+  given_faults ts es = (expressions.given variables procedures sizes module_index ts es).faults
+
+  -- ---- lists
 
   abbrev pub trees_of : ExpressionsR → Expressions
   trees_of es = (expressions.list variables procedures sizes module_index es).trees
@@ -56,6 +87,9 @@ module _ (variables : List Variable) (procedures : List ProcedureR) (sizes : Lis
   abbrev pub target_of : ReferenceR' → Target
   target_of x = (expressions.target variables procedures sizes module_index x).tree
 
+  abbrev pub target_type : ReferenceR' → Option ScalarType
+  target_type x = (expressions.target variables procedures sizes module_index x).scalar
+
   abbrev pub target_faults : ReferenceR' → List Found
   target_faults x = (expressions.target variables procedures sizes module_index x).faults
 
@@ -73,6 +107,15 @@ module _ (variables : List Variable) (procedures : List ProcedureR) (sizes : Lis
   abbrev pub of_number : Position → ExpressionR → List Found
   of_number p e = (statements.number_in variables procedures sizes module_index p e).faults
 
+  abbrev pub of_count : Position → ExpressionR → List Found
+  of_count p e = (statements.count_in variables procedures sizes module_index p e).faults
+
+  abbrev pub of_bound : Option ScalarType → Position → ExpressionR → List Found
+  of_bound t p e = (statements.bound_in variables procedures sizes module_index t p e).faults
+
+  abbrev pub target_types : ReferencesR → List (Option ScalarType)
+  target_types xs = (statements.typed_targets variables procedures sizes module_index xs).types
+
   abbrev pub target_trees : ReferencesR → List Target
   target_trees xs = (statements.typed_targets variables procedures sizes module_index xs).trees
 
@@ -88,11 +131,14 @@ module _ (variables : List Variable) (procedures : List ProcedureR) (sizes : Lis
   abbrev pub of_index : Position → Position → Binding → List Found
   of_index p q m = (statements.typed_index variables procedures sizes module_index p q m).faults
 
-  abbrev pub step_for : Position → Option ExpressionR → Expression
-  step_for p s = (statements.typed_step variables procedures sizes module_index p s).tree
+  abbrev pub step_for : Option ScalarType → Position → Option ExpressionR → Expression
+  step_for t p s = (statements.typed_step variables procedures sizes module_index t p s).tree
 
-  abbrev pub of_step : Position → Option ExpressionR → List Found
-  of_step p s = (statements.typed_step variables procedures sizes module_index p s).faults
+  abbrev pub counting_for : Option ScalarType → Position → Option ExpressionR → Counting
+  counting_for t p s = (statements.typed_step variables procedures sizes module_index t p s).counting
+
+  abbrev pub of_step : Option ScalarType → Position → Option ExpressionR → List Found
+  of_step t p s = (statements.typed_step variables procedures sizes module_index t p s).faults
 
   abbrev pub statement_for : Around → StatementR → Statement
   statement_for around s = (statements.typed_statement variables procedures sizes module_index around s).tree

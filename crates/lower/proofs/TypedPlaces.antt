@@ -10,7 +10,7 @@ use Rattle.plm_syntax.specs.declared.tree.Position.{Position}
 use Rattle.plm_decl.specs.declared.layout.Form.{Form}
 use Rattle.plm_decl.specs.declared.layout.Form.TheVariants as form
 use Rattle.plm_decl.specs.declared.layout.ScalarType.{ScalarType}
-use Rattle.plm_decl.specs.declared.layout.ScalarType.TheVariants.{Byte, Word, Pointer}
+use Rattle.plm_decl.specs.declared.layout.ScalarType.TheVariants.{Byte, Word, Pointer, Integer}
 use Rattle.plm_decl.specs.declared.names.Region.{Region}
 use Rattle.plm_decl.specs.declared.names.Region.TheVariants as region
 use Rattle.plm_decl.specs.declared.names.Variable.{Variable}
@@ -40,6 +40,7 @@ pub width_bytes : (t : ScalarType) → bytes (width_of (Some t)) ≡ size_of t
 width_bytes Byte = refl
 width_bytes Word = refl
 width_bytes Pointer = refl
+width_bytes Integer = refl
 
 pub capped_least : (i : ℕ) → capped i ≤ i
 capped_least i = min-le_left i 0xFFFF

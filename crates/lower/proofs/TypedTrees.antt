@@ -30,14 +30,16 @@ use Rattle.word86.specs.Page.{page_size}
 use Rattle.plm_type.specs.Rest as rest
 use Rattle.plm_type.specs.Rest.{Anchor, InObject, OnScreen, Behind, There, Expression, Constant, Expressions, NoMore, More, Reference, Refer, Subscripts, NoSubscripts, Subscript, Target, Scalar, Procedure}
 use Rattle.plm_type.specs.Types.{width_of}
-use Rattle.plm_type.specs.Typing.{is_measure, is_target, first_type, measure, may_be_located}
+use Rattle.plm_type.specs.Expressions.{wanted_beside}
+use Rattle.plm_type.specs.Typing.{is_measure, is_target, first_type, other_types, wanted_arguments, parameters_wanted, measure, may_be_located}
 use Rattle.plm_type.specs.Shapes.{subscripts_fit, selector_fits, shape_fits, designated, member_stride, capped, read_of, store_to}
 use Rattle.plm_type.specs.Faults.{fault_unless, may_be_used, use_faults, builtin_faults, call_faults}
 use Rattle.plm_type.specs.Trees.{constant, text_value, operated, read_port, to_port, shifted, builtin_value, strided, entry_of, object_size, use_read, use_stored, constants_at, refer}
-use Rattle.lower.proofs.Typed.{tree_of, trees_of, selector_trees, value_of, location_of, target_of, types_of, selector_types, faults_of, faults_in, selector_faults, value_faults, location_faults, target_faults, measured_value, argument_value, reference_value}
+use Rattle.lower.proofs.Typed.{type_of, is_turned, wanted_tree, wanted_faults, given_trees, given_types, given_faults, target_type, tree_of, trees_of, selector_trees, value_of, location_of, target_of, types_of, selector_types, faults_of, faults_in, selector_faults, value_faults, location_faults, target_faults, measured_value, argument_value, reference_value}
 use Rattle.lower.specs.Expressions.{count_of}
 use Rattle.lower.specs.Well.{Lies, IsCall, IsExpression, AreExpressions, IsReference, AreSubscripts, IsTarget}
 use Rattle.lower.proofs.Bools.{true_false}
+use Rattle.lower.proofs.Integers.{turned_well}
 use Rattle.lower.proofs.TypedPlaces.{none_both, holds_there, width_bytes, capped_least, IsLying, AreLying, anchor_lies}
 
 -- ---- parts
@@ -172,6 +174,8 @@ module _ (sizes : List ℕ) (trees : List Procedure) (MayCall : ℕ → Type 0) 
   builtin_well m line builtin.Size w es h = zero_well
   builtin_well m line builtin.Output w es h = zero_well
   builtin_well m line builtin.OutputWord w es h = zero_well
+  builtin_well m line builtin.Signed w es h = operated_well unary.Double w es h
+  builtin_well m line builtin.Unsigned w es h = operated_well unary.Double w es h
 
   measured_well : (vs : List Variable) (ps : List ProcedureR) (m : ℕ) (at : Position) (b : Builtin) (es : ExpressionsR) → IsExpression sizes trees MayCall (measured_value vs ps sizes m at b es)
   measured_well vs ps m at b no_expressions = zero_well
@@ -209,6 +213,8 @@ targets_evaluate builtin.RotateLeft h = refl
 targets_evaluate builtin.RotateRight h = refl
 targets_evaluate builtin.Input h = refl
 targets_evaluate builtin.InputWord h = refl
+targets_evaluate builtin.Signed h = refl
+targets_evaluate builtin.Unsigned h = refl
 
 -- ---- calls
 
@@ -248,6 +254,10 @@ module _ (ps : List ProcedureR) (sizes : List ℕ) (trees : List Procedure) (May
     as_many no_expressions = refl
     as_many (expressions e es) = ap suc (as_many es)
 
+    pub given_many : (es : ExpressionsR) (ts : List (Option ScalarType)) → length (given_types vs ps sizes m ts es) ≡ count_of (given_trees vs ps sizes m ts es)
+    given_many no_expressions ts = refl
+    given_many (expressions e es) ts = ap suc (given_many es (other_types ts))
+
     few_members : (s : SelectorR) → count_of (selector_trees vs ps sizes m s) ≤ 1
     few_members no_member = omega arith
     few_members (member p o) = omega arith
@@ -270,15 +280,18 @@ module _ (ps : List ProcedureR) (sizes : List ℕ) (trees : List Procedure) (May
       tree_well (ParenthesisedR p e) f g = tree_well e f g
       tree_well (EmbeddedR p x e) f g =
           let first = none_both (target_faults vs ps sizes m x) _ f in
-          let second = none_both (faults_of vs ps sizes m e) _ first.1 in
+          let t = target_type vs ps sizes m x in
+          let second = none_both (wanted_faults vs ps sizes m t e) _ first.1 in
           let calls = parted (effects.of_parts x) (effects.of_expression e) g in
-          (target_well x first.0 calls.0, tree_well e second.0 calls.1)
+          (target_well x first.0 calls.0, turned_well sizes trees MayCall (is_turned vs ps sizes m t e) (tree_of vs ps sizes m e) (tree_well e (none_both (faults_of vs ps sizes m e) _ second.0).0 calls.1))
       tree_well (UnaryR p o e) f g = tree_well e (none_both (faults_of vs ps sizes m e) _ f).0 g
       tree_well (BinaryR p o a b) f g =
           let first = none_both (faults_of vs ps sizes m a) _ f in
           let second = none_both (faults_of vs ps sizes m b) _ first.1 in
-          let calls = parted (effects.of_expression a) (effects.of_expression b) g in
-          (tree_well a first.0 calls.0, tree_well b second.0 calls.1)
+          let calls = parted (effects.of_expression a) (effects.of_expression b) g in (
+            turned_well sizes trees MayCall (is_turned vs ps sizes m (wanted_beside o (type_of vs ps sizes m b)) a) (tree_of vs ps sizes m a) (tree_well a first.0 calls.0),
+            turned_well sizes trees MayCall (is_turned vs ps sizes m (wanted_beside o (type_of vs ps sizes m a)) b) (tree_of vs ps sizes m b) (tree_well b second.0 calls.1),
+          )
 
       pub trees_well : (es : ExpressionsR) → faults_in vs ps sizes m es ≡ [] → AllCallable (effects.of_list es) → AreExpressions sizes trees MayCall (trees_of vs ps sizes m es)
       trees_well no_expressions f g = tt
@@ -286,6 +299,15 @@ module _ (ps : List ProcedureR) (sizes : List ℕ) (trees : List Procedure) (May
           let both = none_both (faults_of vs ps sizes m e) (faults_in vs ps sizes m es) f in
           let calls = parted (effects.of_expression e) (effects.of_list es) g in
           (tree_well e both.0 calls.0, trees_well es both.1 calls.1)
+
+      pub given_well : (es : ExpressionsR) (ts : List (Option ScalarType)) → given_faults vs ps sizes m ts es ≡ [] → AllCallable (effects.of_list es) → AreExpressions sizes trees MayCall (given_trees vs ps sizes m ts es)
+      given_well no_expressions ts f g = tt
+      given_well (expressions e es) ts f g =
+          let both = none_both (wanted_faults vs ps sizes m (first_type ts) e) (given_faults vs ps sizes m (other_types ts) es) f in
+          let calls = parted (effects.of_expression e) (effects.of_list es) g in (
+            turned_well sizes trees MayCall (is_turned vs ps sizes m (first_type ts) e) (tree_of vs ps sizes m e) (tree_well e (none_both (faults_of vs ps sizes m e) _ both.0).0 calls.0),
+            given_well es (other_types ts) both.1 calls.1,
+          )
 
       pub selector_well : (s : SelectorR) → selector_faults vs ps sizes m s ≡ [] → AllCallable (effects.of_selector s) → AreExpressions sizes trees MayCall (selector_trees vs ps sizes m s)
       selector_well no_member f g = tt
@@ -299,15 +321,17 @@ module _ (ps : List ProcedureR) (sizes : List ℕ) (trees : List Procedure) (May
           let calls = parted (effects.of_list es) (effects.of_selector s) g in
           use_read_well sizes trees MayCall (slice_get vs v) s _ (used_well false p.line p v es s both.1 (trees_well es parts.0 calls.0) (selector_well s parts.1 calls.1))
       value_well (Use p (binding.Procedure q) es s) f g =
-          let both = none_both (faults_in vs ps sizes m es) _ f in
-          let call = none_both (call_faults vs m p (slice_get ps q) s (types_of vs ps sizes m es)) _ both.1 in
+          let ts = parameters_wanted vs (slice_get ps q) in
+          let both = none_both (given_faults vs ps sizes m ts es) _ f in
+          let call = none_both (call_faults vs m p (slice_get ps q) s (given_types vs ps sizes m ts es)) _ both.1 in
           let calls = parted (effects.of_list es) (effects.of_selector s) g.1 in
-          (call_well vs m p (slice_get ps q) s (types_of vs ps sizes m es) _ (as_many es) g.0 call.0, trees_well es both.0 calls.0)
+          (call_well vs m p (slice_get ps q) s (given_types vs ps sizes m ts es) _ (given_many es ts) g.0 call.0, given_well es ts both.0 calls.0)
       value_well (Use p (binding.Builtin b) es s) f g =
           let both = none_both (fault_unless m (not (is_target b)) E401 p) _ f in
+          let ts = wanted_arguments b in
           builtin_if (is_measure b) _ _ _ _ (effects.of_list es ++ effects.of_selector s) (measured_well sizes trees MayCall vs ps m p b es)
-          (λ own calls. builtin_well sizes trees MayCall m p.line b (width_of (first_type (types_of vs ps sizes m es))) (trees_of vs ps sizes m es)
-          (trees_well es (none_both (faults_in vs ps sizes m es) (builtin_faults m p b s (types_of vs ps sizes m es)) own).0 (parted (effects.of_list es) (effects.of_selector s) calls).0))
+          (λ own calls. builtin_well sizes trees MayCall m p.line b (width_of (first_type (given_types vs ps sizes m ts es))) (given_trees vs ps sizes m ts es)
+          (given_well es ts (none_both (given_faults vs ps sizes m ts es) (builtin_faults m p b s (given_types vs ps sizes m ts es)) own).0 (parted (effects.of_list es) (effects.of_selector s) calls).0))
           both.1 g
       value_well (Use p binding.Nothing es s) f g = zero_well sizes trees MayCall
 
@@ -337,3 +361,7 @@ module _ (ps : List ProcedureR) (sizes : List ℕ) (trees : List Procedure) (May
           to_port_well sizes trees MayCall b (trees_of vs ps sizes m es) (trees_well es both.0 (parted (effects.of_list es) (effects.of_selector s) evaluated).0)
       target_well (Use p (binding.Procedure q) es s) f g = zero_well sizes trees MayCall
       target_well (Use p binding.Nothing es s) f g = zero_well sizes trees MayCall
+
+    -- where a value of a type is wanted
+    pub wanted_well : (t : Option ScalarType) (e : ExpressionR) → wanted_faults vs ps sizes m t e ≡ [] → AllCallable (effects.of_expression e) → IsExpression sizes trees MayCall (wanted_tree vs ps sizes m t e)
+    wanted_well t e f g = turned_well sizes trees MayCall (is_turned vs ps sizes m t e) (tree_of vs ps sizes m e) (tree_well e (none_both (faults_of vs ps sizes m e) _ f).0 g)

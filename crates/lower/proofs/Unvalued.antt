@@ -29,14 +29,14 @@ module _ (sizes : List ℕ) (procedures : List Procedure) (MayCall : ℕ → Typ
     statement_called (Block ss) lacks good = statements_called ss lacks good
     statement_called (While l c ss) lacks good = (good.0, good.1, statements_called ss lacks good.2)
     statement_called (Case e ss) lacks good = (good.0, statements_called ss lacks good.1)
-    statement_called (Iterate a (Count x bound step ss)) lacks good = (good.0, (good.1.0, good.1.1, good.1.2, statements_called ss lacks good.1.3))
+    statement_called (Iterate a (Count o x bound step ss)) lacks good = (good.0, (good.1.0, good.1.1, good.1.2, statements_called ss lacks good.1.3, good.1.4))
     statement_called Leaving lacks good = absurd good
     statement_called (Round l) lacks good = absurd good
     statement_called (Comparing i e l) lacks good = absurd good
     statement_called (Stepping e l) lacks good = absurd good
     statement_called (Adding i s l) lacks good = absurd good
-    statement_called (Storing s l) lacks good = absurd good
-    statement_called (Ending s l) lacks good = absurd good
+    statement_called (Storing s b l) lacks good = absurd good
+    statement_called (Ending b l) lacks good = absurd good
 
     statements_called : (ss : Statements) → are_giving ss ≡ false → AreStatements sizes procedures MayCall Giving ss → AreStatements sizes procedures MayCall Called ss
     statements_called End lacks good = tt

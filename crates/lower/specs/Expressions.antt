@@ -151,7 +151,7 @@ abbrev mutual
   is_giving (Block ss) = are_giving ss
   is_giving (While c d ss) = are_giving ss
   is_giving (Case e ss) = are_giving ss
-  is_giving (Iterate a (Count x bound step ss)) = are_giving ss
+  is_giving (Iterate a (Count o x bound step ss)) = are_giving ss
   is_giving Empty = false
   is_giving (Assign ts e) = false
   is_giving (Evaluate e) = false
@@ -164,8 +164,8 @@ abbrev mutual
   is_giving (Comparing i e l) = false
   is_giving (Stepping e l) = false
   is_giving (Adding i s l) = false
-  is_giving (Storing s l) = false
-  is_giving (Ending s l) = false
+  is_giving (Storing s leaves l) = false
+  is_giving (Ending leaves l) = false
 
   pub are_giving : Statements → Bool
   are_giving End = false
@@ -203,6 +203,12 @@ relation_of binary.ShiftLeft = None
 relation_of binary.ShiftRight = None
 relation_of binary.RotateLeft = None
 relation_of binary.RotateRight = None
+relation_of binary.LessSigned = Some relation.LessSigned
+relation_of binary.LessEqualSigned = Some relation.LessEqualSigned
+relation_of binary.GreaterSigned = Some relation.GreaterSigned
+relation_of binary.GreaterEqualSigned = Some relation.GreaterEqualSigned
+relation_of binary.DivideSigned = None
+relation_of binary.ModuloSigned = None
 
 -- whether the left operand stands in a relation to the right one
 abbrev pub stands_to : Relation → Operand → Test

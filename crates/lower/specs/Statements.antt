@@ -1,13 +1,16 @@
 -- The code of statements, and of a routine.
-use Rattle.std.specs.Prelude.{ℕ, ◌+◌, Bool, true, false, ◌&&◌, List, [], ◌∷◌, ◌++◌, length}
+use Rattle.std.specs.Prelude.{ℕ, ◌+◌, ◌%◌, Bool, true, false, ◌&&◌, List, [], ◌∷◌, ◌++◌, length}
 use Rattle.word86.specs.declared.width.Width.{Width}
 use Rattle.word86.specs.declared.width.Width.TheVariants as widths
 use Rattle.word86.specs.declared.operation.UnaryOperation.TheVariants as unary
 use Rattle.word86.specs.declared.operation.BinaryOperation.TheVariants as binary
 use Rattle.word86.specs.Access.{Where}
+use Rattle.plm_type.specs.declared.program.Counting.{Counting}
+use Rattle.plm_type.specs.declared.program.Counting.TheVariants as counting
 use Rattle.plm_type.specs.Rest.{Scalar, Count, Statement, Empty, Assign, Evaluate, Return, ReturnValue, Enabling, Disabling, Halting, If, Block, While, Case, Iterate, Leaving, Round, Comparing, Stepping, Adding, Storing, Ending, Statements, End, Then, Returned, Procedure}
 use Rattle.icode.specs.declared.instruction.Instruction.{Instruction}
 use Rattle.icode.specs.declared.instruction.Instruction.TheVariants as op
+use Rattle.icode.specs.declared.instruction.Relation.{Relation}
 use Rattle.icode.specs.declared.instruction.Relation.TheVariants as relation
 use Rattle.icode.specs.declared.instruction.Test.{Test}
 use Rattle.icode.specs.declared.instruction.Test.TheVariants as test
@@ -28,22 +31,40 @@ abbrev pub narrowed : Width → List Instruction
 narrowed widths.Byte = op.Unary unary.Low widths.Word ∷ []
 narrowed widths.Word = []
 
--- The end of a round: the step is added, and unless the sum is below the step, as where it wrapped, a next round begins
--- `before` instructions back. A constant step is an operand; every other one is pushed twice.
-abbrev pub next_by_number : Scalar → (step before : ℕ) → List Instruction
-next_by_number x s before =
+-- a round begins where the index stands in this relation to the bound
+abbrev pub within : Counting → Relation
+within counting.Up = relation.LessEqual
+within counting.SignedUp = relation.LessEqualSigned
+within counting.SignedDown = relation.GreaterEqualSigned
+
+-- A sum left the range of the index where it stands in this relation to this number: a BYTE or WORD where it is below the step, an
+-- INTEGER, by a step of s, where it is below s - 32,768, or, where s is negative, above s + 32,767.
+abbrev pub left_in : Counting → Relation
+left_in counting.Up = relation.Less
+left_in counting.SignedUp = relation.LessSigned
+left_in counting.SignedDown = relation.GreaterSigned
+
+abbrev pub left_from : Counting → (step : ℕ) → ℕ
+left_from counting.Up s = s
+left_from counting.SignedUp s = (s + 32768) % 65536
+left_from counting.SignedDown s = (s + 32767) % 65536
+
+-- The end of a round: the step is added, and unless the sum left the range of the index a next round begins `before` instructions back.
+-- A constant step is an operand, as each one of an INTEGER is; every other one is pushed twice.
+abbrev pub next_by_number : Counting → Scalar → (step before : ℕ) → List Instruction
+next_by_number o x s before =
     op.Load x.width (place_of x.place) ∷ op.BinaryConstant binary.Add x.width s ∷ op.Store x.width (place_of x.place)
-    ∷ op.BackUnless (test.Constant relation.Less s) (before + 4) ∷ []
+    ∷ op.BackUnless (test.Constant (left_in o) (left_from o s)) (before + 4) ∷ []
 
 abbrev pub add_pushed : Scalar → (before : ℕ) → List Instruction
 add_pushed x before =
     op.Push ∷ op.Push ∷ op.Load x.width (place_of x.place) ∷ op.Binary binary.Add x.width ∷ op.Store x.width (place_of x.place)
     ∷ op.BackUnless (test.Top relation.Greater) (before + 6) ∷ []
 
-abbrev pub next_round : Scalar → Operand → List Instruction → (before : ℕ) → List Instruction
-next_round x (Number s) code before = next_by_number x s before
-next_round x (Name read y) code before = code ++ add_pushed x (before + length code)
-next_round x Computed code before = code ++ add_pushed x (before + length code)
+abbrev pub next_round : Counting → Scalar → Operand → List Instruction → (before : ℕ) → List Instruction
+next_round o x (Number s) code before = next_by_number o x s before
+next_round o x (Name read y) code before = code ++ add_pushed x (before + length code)
+next_round o x Computed code before = code ++ add_pushed x (before + length code)
 
 -- a statement without code: nothing stands for the empty one, nor for a block of such
 abbrev mutual
@@ -66,8 +87,8 @@ abbrev mutual
   is_silent (Comparing i e l) = false
   is_silent (Stepping e l) = false
   is_silent (Adding i s l) = false
-  is_silent (Storing s l) = false
-  is_silent (Ending s l) = false
+  is_silent (Storing s leaves l) = false
+  is_silent (Ending leaves l) = false
 
   pub are_silent : Statements → Bool
   are_silent End = true
@@ -130,20 +151,20 @@ module _ (procedures : List Procedure) (around : Kind) where
         let body = statements_code 0 ss in
         condition ++ (op.AheadUnless (test_of d) (length body + 1 + exit) ∷ (body ++ op.Back (length condition + length body + 2) ∷ []))
     statement_code exit (Case e ss) = expression_code procedures e ++ switching (cases_code exit ss) exit
-    statement_code exit (Iterate a (Count x bound step ss)) =
+    statement_code exit (Iterate a (Count o x bound step ss)) =
         let compared = beside (operand_of bound) (expression_code procedures bound) in
         let body = statements_code 0 ss in
-        let again = next_round x (operand_of step) (expression_code procedures step) (length compared + length body + 2) in
+        let again = next_round o x (operand_of step) (expression_code procedures step) (length compared + length body + 2) in
         expression_code procedures a
         ++ (op.Store x.width (place_of x.place) ∷ op.Load x.width (place_of x.place)
-        ∷ (compared ++ (op.AheadUnless (stands_to relation.LessEqual (operand_of bound)) (length body + length again + exit) ∷ (body ++ again))))
+        ∷ (compared ++ (op.AheadUnless (stands_to (within o) (operand_of bound)) (length body + length again + exit) ∷ (body ++ again))))
     statement_code exit Leaving = []
     statement_code exit (Round l) = []
     statement_code exit (Comparing i e l) = []
     statement_code exit (Stepping e l) = []
     statement_code exit (Adding i s l) = []
-    statement_code exit (Storing s l) = []
-    statement_code exit (Ending s l) = []
+    statement_code exit (Storing s leaves l) = []
+    statement_code exit (Ending leaves l) = []
 
     -- the last one has the exit of all
     pub statements_code : (exit : ℕ) → Statements → List Instruction

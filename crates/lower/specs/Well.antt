@@ -5,9 +5,21 @@ use Rattle.word86.specs.declared.width.Width.TheVariants as widths
 use Rattle.word86.specs.Access.{Where, In, Screen}
 use Rattle.word86.specs.Page.{page_size}
 use Rattle.word86.specs.Place.{bytes}
+use Rattle.plm_type.specs.declared.program.Counting.{Counting}
+use Rattle.plm_type.specs.declared.program.Counting.TheVariants as counting
 use Rattle.plm_type.specs.Rest.{Anchor, InObject, OnScreen, Behind, There, Scalar, Expression, Constant, Plain, Variable, Location, Unary, Binary, Embedded, Input, Call, Value, Passing, Running, Expressions, NoMore, More, Reference, Refer, Subscripts, NoSubscripts, Subscript, Target, ToPlain, ToVariable, ToPort, Targets, Only, Also, Loop, Count, Statement, Empty, Assign, Evaluate, Return, ReturnValue, Enabling, Disabling, Halting, If, Block, While, Case, Iterate, Leaving, Round, Comparing, Stepping, Adding, Storing, Ending, Statements, End, Then, Returned, Procedure}
-use Rattle.lower.specs.Expressions.{count_of}
+use Rattle.lower.specs.Expressions.{Operand, Number, Name, Computed, operand_of, count_of}
 use Rattle.lower.specs.Statements.{Kind, OfMain, Called, Giving, Serving}
+
+-- an INTEGER counts by a number, of the sign by which it counts
+abbrev pub StepIs : Counting → Width → Operand → Type 0
+StepIs counting.Up width step = Unit {0}
+StepIs counting.SignedUp width (Number s) = (s < 32768) × (width ≡ widths.Word)
+StepIs counting.SignedUp width (Name read x) = ⊥
+StepIs counting.SignedUp width Computed = ⊥
+StepIs counting.SignedDown width (Number s) = (32768 ≤ s) × (width ≡ widths.Word)
+StepIs counting.SignedDown width (Name read x) = ⊥
+StepIs counting.SignedDown width Computed = ⊥
 
 -- the objects' sizes
 module _ (sizes : List ℕ) where
@@ -106,11 +118,11 @@ module _ (sizes : List ℕ) where
         IsStatement (Comparing i e l) = ⊥
         IsStatement (Stepping e l) = ⊥
         IsStatement (Adding i s l) = ⊥
-        IsStatement (Storing sum l) = ⊥
-        IsStatement (Ending sum l) = ⊥
+        IsStatement (Storing sum leaves l) = ⊥
+        IsStatement (Ending leaves l) = ⊥
 
         pub IsLoop : Loop → Type 0
-        IsLoop (Count x bound step ss) = ScalarLies x × IsExpression bound × IsExpression step × AreStatements ss
+        IsLoop (Count o x bound step ss) = ScalarLies x × IsExpression bound × IsExpression step × AreStatements ss × StepIs o x.width (operand_of step)
 
         pub AreStatements : Statements → Type 0
         AreStatements End = Unit {0}

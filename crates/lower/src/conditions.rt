@@ -24,6 +24,10 @@ pub fn relation(operation: BinaryOperation) -> Option<Relation>
         BinaryOperation::LessEqual => Some(Relation::LessEqual),
         BinaryOperation::Greater => Some(Relation::Greater),
         BinaryOperation::GreaterEqual => Some(Relation::GreaterEqual),
+        BinaryOperation::LessSigned => Some(Relation::LessSigned),
+        BinaryOperation::LessEqualSigned => Some(Relation::LessEqualSigned),
+        BinaryOperation::GreaterSigned => Some(Relation::GreaterSigned),
+        BinaryOperation::GreaterEqualSigned => Some(Relation::GreaterEqualSigned),
         BinaryOperation::Multiply
         | BinaryOperation::Divide
         | BinaryOperation::Modulo
@@ -35,7 +39,9 @@ pub fn relation(operation: BinaryOperation) -> Option<Relation>
         | BinaryOperation::ShiftLeft
         | BinaryOperation::ShiftRight
         | BinaryOperation::RotateLeft
-        | BinaryOperation::RotateRight => None,
+        | BinaryOperation::RotateRight
+        | BinaryOperation::DivideSigned
+        | BinaryOperation::ModuloSigned => None,
     }
 }
 

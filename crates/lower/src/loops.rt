@@ -3,7 +3,7 @@
 ghost use Rattle.std.specs.Prelude.{◌≡◌, ◌++◌, ◌+◌, length, IfOk, OnOk, IsOkUnless};
 ghost use Rattle.plm_type.specs.View.{expression_of, procedures_of, scalar_of};
 ghost use Rattle.lower.specs.Expressions.{operand_of, beside, expression_code, condition_code, test_of};
-ghost use Rattle.lower.specs.Statements.{next_by_number, add_pushed, next_round};
+ghost use Rattle.lower.specs.Statements.{within, left_in, left_from, next_by_number, add_pushed, next_round};
 ghost use Rattle.lower.specs.Inner.Parts.{repeating, counting, iterating};
 
 use crate::callees::Callees;
@@ -11,9 +11,9 @@ use crate::conditions::{condition, stands_to};
 use crate::expressions::{expression, right};
 use crate::put::{Operand, ROOM, add, as_operand, distance, put};
 use icode::{Instruction, Relation, Test};
-use plm_type::{Expression, Loop, Scalar};
+use plm_type::{Counting, Expression, Loop, Scalar};
 use std::alloc::Global;
-use word86::{BinaryOperation, Fault};
+use word86::{BinaryOperation, Fault, add16};
 
 type Instructions = Vec<Instruction>;
 
@@ -57,6 +57,17 @@ fn count(
     add(code, again)
 }
 
+// A round begins where the index stands in this relation to the bound.
+fn within(counting: Counting) -> Relation
+    ensures { result ≡ within counting }
+{
+    match counting {
+        Counting::Up => Relation::LessEqual,
+        Counting::SignedUp => Relation::LessEqualSigned,
+        Counting::SignedDown => Relation::GreaterEqualSigned,
+    }
+}
+
 /// DO with an index, whose first value is in the accumulator.
 pub fn iterate(
     code: &mut Instructions,
@@ -66,35 +77,65 @@ pub fn iterate(
     body: &[Instruction],
     exit: usize,
 ) -> Result<(), Fault>
-    ensures code { OnOk result (code.new.items ≡ code.old.items ++ iterating (scalar_of iteration.now.index) (operand_of (expression_of iteration.now.bound)) (beside (operand_of (expression_of iteration.now.bound)) (expression_code (procedures_of callees.entry.procedures.now) (expression_of iteration.now.bound))) (operand_of (expression_of iteration.now.step)) (expression_code (procedures_of callees.entry.procedures.now) (expression_of iteration.now.step)) body.now exit) }
+    ensures code { OnOk result (code.new.items ≡ code.old.items ++ iterating iteration.now.counting (scalar_of iteration.now.index) (operand_of (expression_of iteration.now.bound)) (beside (operand_of (expression_of iteration.now.bound)) (expression_code (procedures_of callees.entry.procedures.now) (expression_of iteration.now.bound))) (operand_of (expression_of iteration.now.step)) (expression_code (procedures_of callees.entry.procedures.now) (expression_of iteration.now.step)) body.now exit) }
     ensures memory { IsOkUnless result Fault.Memory }
 {
     let Scalar { width, place } = iteration.index;
     let mut compared = Vec::new(alloc);
     right(&mut compared, callees, &iteration.bound)?;
     let before = distance(distance(compared.len(), body.len())?, 2)?;
-    let again = next_round(alloc, callees, iteration.index, &iteration.step, before)?;
+    let again = next_round(
+        alloc,
+        callees,
+        iteration.counting,
+        iteration.index,
+        &iteration.step,
+        before,
+    )?;
     put(code, Instruction::Store(width, place))?;
     put(code, Instruction::Load(width, place))?;
-    let test = stands_to(Relation::LessEqual, as_operand(&iteration.bound));
+    let test = stands_to(within(iteration.counting), as_operand(&iteration.bound));
     count(code, &compared, test, body, &again, exit)
 }
 
-// The end of a round: the step is added, and a next round begins `before` instructions back, unless the sum wrapped.
+// The end of a round: the step is added, and a next round begins `before` instructions back, unless the sum left the range of the index.
 fn next_round(
     alloc: Global,
     callees: Callees<'_>,
+    counting: Counting,
     index: Scalar,
     step: &Expression,
     before: usize,
 ) -> Result<Instructions, Fault>
-    ensures code { IfOk result (λ r. r.items ≡ next_round (scalar_of index) (operand_of (expression_of step.now)) (expression_code (procedures_of callees.entry.procedures.now) (expression_of step.now)) before) }
+    ensures code { IfOk result (λ r. r.items ≡ next_round counting (scalar_of index) (operand_of (expression_of step.now)) (expression_code (procedures_of callees.entry.procedures.now) (expression_of step.now)) before) }
     ensures memory { IsOkUnless result Fault.Memory }
 {
     match as_operand(step) {
-        Operand::Number(value) => next_by_number(alloc, index, value, before),
+        Operand::Number(value) => next_by_number(alloc, counting, index, value, before),
         Operand::Name(_, _) => next_by_stack(alloc, callees, index, step, before),
         Operand::Computed => next_by_stack(alloc, callees, index, step, before),
+    }
+}
+
+// A sum that left the range of the index stands in this relation to a number.
+fn left_in(counting: Counting) -> Relation
+    ensures { result ≡ left_in counting }
+{
+    match counting {
+        Counting::Up => Relation::Less,
+        Counting::SignedUp => Relation::LessSigned,
+        Counting::SignedDown => Relation::GreaterSigned,
+    }
+}
+
+// That number: the step; the least INTEGER and the step; the greatest INTEGER and the step.
+fn left_from(counting: Counting, step: u16) -> u16
+    ensures { result ≡ left_from counting step }
+{
+    match counting {
+        Counting::Up => step,
+        Counting::SignedUp => add16(step, 0x8000),
+        Counting::SignedDown => add16(step, 0x7FFF),
     }
 }
 
@@ -102,20 +143,22 @@ fn next_round(
 #[tactic(auto, using(crate::proofs::Trees::same_place))]
 fn next_by_number(
     alloc: Global,
+    counting: Counting,
     index: Scalar,
     step: u16,
     before: usize,
 ) -> Result<Instructions, Fault>
-    ensures code { IfOk result (λ r. r.items ≡ next_by_number (scalar_of index) step before) }
+    ensures code { IfOk result (λ r. r.items ≡ next_by_number counting (scalar_of index) step before) }
     ensures memory { IsOkUnless result Fault.Memory }
 {
     let Scalar { width, place } = index;
     let back = distance(before, 4)?;
+    let left = Test::Constant(left_in(counting), left_from(counting, step));
     let sum = [
         Instruction::Load(width, place),
         Instruction::BinaryConstant(BinaryOperation::Add, width, step),
         Instruction::Store(width, place),
-        Instruction::BackUnless(Test::Constant(Relation::Less, step), back),
+        Instruction::BackUnless(left, back),
     ];
     let mut code = Vec::new(alloc);
     add(&mut code, &sum)?;

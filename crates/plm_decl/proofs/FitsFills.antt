@@ -17,7 +17,7 @@ use Rattle.plm_syntax.specs.Terminal.{NameT}
 use Rattle.plm_syntax.specs.Tree.{ExpressionT, NumeralE, TextE, ReferenceE, LocationE, ParenthesisedE, EmbeddedE, UnaryE, BinaryE, ReferenceT, ReferenceOf, ExpressionsT, SelectorT, LocationT, ValueT, NumeralV, NegativeV, TextV, LocationV, VariableT}
 use Rattle.plm_syntax.specs.Tree as tree
 use Rattle.plm_decl.specs.declared.layout.ScalarType.{ScalarType}
-use Rattle.plm_decl.specs.declared.layout.ScalarType.TheVariants.{Byte, Word, Pointer}
+use Rattle.plm_decl.specs.declared.layout.ScalarType.TheVariants.{Byte, Word, Pointer, Integer}
 use Rattle.plm_decl.specs.declared.names.Datum.{Datum}
 use Rattle.plm_decl.specs.declared.names.Datum.TheVariants as datum
 use Rattle.plm_decl.specs.declared.names.Region.{Region}
@@ -162,6 +162,7 @@ number_fits : (s : ScalarType) (n : ℕ) (negative : Bool) → maybe (datum_fits
 number_fits Byte n negative = byte_fits (nat_lt n 256) (signed negative 256 n)
 number_fits Word n negative = word_fits (nat_lt n 65536) (signed negative 65536 n)
 number_fits Pointer n negative = refl
+number_fits Integer n negative = word_fits (nat_le n (cond negative 32768 32767)) (signed negative 65536 n)
 
 characters_fit : (xs : List ℕ) → maybe (datum_fits Word) (word_datum xs) ≡ true
 characters_fit [] = refl
@@ -173,11 +174,13 @@ text_fits : (s : ScalarType) (xs : List ℕ) → maybe (datum_fits s) (text_datu
 text_fits Byte xs = refl
 text_fits Word xs = characters_fit xs
 text_fits Pointer xs = refl
+text_fits Integer xs = refl
 
 character_fits : (s : ScalarType) (x : ℕ) → maybe (datum_fits s) (character_datum s x) ≡ true
 character_fits Byte x = refl
 character_fits Word x = refl
 character_fits Pointer x = refl
+character_fits Integer x = refl
 
 -- a value of at most two bytes
 abbrev is_pair : Datum → Bool
@@ -213,6 +216,7 @@ location_fits Byte form.Offset d h = refl
 location_fits Byte form.Pointer d h = refl
 location_fits Word f d h = maybe_unless is_pair (takes Word f) d h
 location_fits Pointer f d h = maybe_unless is_pair (takes Pointer f) d h
+location_fits Integer f d h = maybe_unless is_pair (takes Integer f) d h
 
 pub value_fits : (frames : List Frame) (s : ScalarType) (v : ValueT) (k : Known) → maybe (datum_fits s) (datum_for frames s v k).0 ≡ true
 value_fits frames s (NumeralV n) k = number_fits s n.value false

@@ -13,7 +13,7 @@ use Rattle.plm_syntax.specs.Tree.{MemberT, TypeT, ScalarType, StructureType, Dim
 use Rattle.plm_decl.specs.declared.layout.Form.{Form}
 use Rattle.plm_decl.specs.declared.layout.Form.TheVariants as form
 use Rattle.plm_decl.specs.declared.layout.ScalarType as layout
-use Rattle.plm_decl.specs.declared.layout.ScalarType.TheVariants.{Byte, Word, Pointer}
+use Rattle.plm_decl.specs.declared.layout.ScalarType.TheVariants.{Byte, Word, Pointer, Integer}
 use Rattle.plm_decl.specs.declared.shape.Shape.{Shape}
 use Rattle.plm_decl.specs.Layout.{FieldR, StructureR, counted, scalar_of, size_of, elements, is_dimension, no_fields, with_field, has_field, scalar_in}
 use Rattle.plm_decl.specs.Resolver.{Known, note_unless}
@@ -154,6 +154,7 @@ bytes_are_more (f ∷ fs) = let rest = bytes_are_more fs in let one = at_least (
     at_least n Byte = omega arith
     at_least n Word = omega arith
     at_least n Pointer = omega arith
+    at_least n Integer = omega arith
 
 row_scalar : (s : StructureR) (i p : ℕ) → p < s.scalars → scalar_of_structure s (i * s.scalars + p) ≡ scalar_in s.fields p
 row_scalar s i p h = chosen (nat_lt 0 s.scalars) (grind (arith, nat_tests)) ∙ ap (scalar_in s.fields) (mod-mul-add i s.scalars p h)
@@ -194,6 +195,7 @@ alike_fit s n = record {
     bounded Byte n m p = omega (arith, p)
     bounded Word n m p = omega (arith, p)
     bounded Pointer n m p = omega (arith, p)
+    bounded Integer n m p = omega (arith, p)
 
 unsaturated : (n : ℕ) → counted n < 18446744073709551615 → counted n ≡ n
 unsaturated n h = omega (arith, h)

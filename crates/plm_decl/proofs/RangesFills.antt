@@ -1,5 +1,5 @@
 -- Initial values are within the final counts.
-use Rattle.std.proofs.Common.{◌≡◌, ℕ, ◌+◌, ◌-◌, List, [], ◌∷◌, length, Bool, true, false, ◌&&◌, not, cond, Option, Some, None, nat_lt, ◌≤◌, subst, refl}
+use Rattle.std.proofs.Common.{◌≡◌, ℕ, ◌+◌, ◌-◌, List, [], ◌∷◌, length, Bool, true, false, ◌&&◌, not, cond, Option, Some, None, nat_lt, nat_le, ◌≤◌, subst, refl}
 use Rattle.std.specs.Prelude.{slice_get}
 use Rattle.std.specs.Option.{option_map_or}
 use Rattle.std.proofs.lemmas.List.{length-set}
@@ -8,7 +8,7 @@ use Rattle.plm_token.specs.Strings.{string_characters}
 use Rattle.plm_syntax.specs.declared.tree.Position.{Position}
 use Rattle.plm_syntax.specs.Tree.{VariableT, ValueT, NumeralV, NegativeV, TextV, LocationV, LocationT, ElementT, LiteralElement, VariableElement, AttributesT, DimensionT, TypeT}
 use Rattle.plm_decl.specs.declared.layout.ScalarType.{ScalarType}
-use Rattle.plm_decl.specs.declared.layout.ScalarType.TheVariants.{Byte, Word, Pointer}
+use Rattle.plm_decl.specs.declared.layout.ScalarType.TheVariants.{Byte, Word, Pointer, Integer}
 use Rattle.plm_decl.specs.declared.names.Datum.{Datum}
 use Rattle.plm_decl.specs.declared.names.Datum.TheVariants as datum
 use Rattle.plm_decl.specs.declared.names.Region.{Region}
@@ -91,6 +91,7 @@ number_within : (c : Counts) (s : ScalarType) (n : ℕ) (negative : Bool) → ma
 number_within c Byte n negative = number_byte c (nat_lt n 256) _
 number_within c Word n negative = number_word c (nat_lt n 65536) _
 number_within c Pointer n negative = refl
+number_within c Integer n negative = number_word c (nat_le n (cond negative 32768 32767)) _
 
 word_within : (c : Counts) (xs : List ℕ) → maybe (datum_within c) (word_datum xs) ≡ true
 word_within c [] = refl
@@ -102,11 +103,13 @@ text_within : (c : Counts) (s : ScalarType) (xs : List ℕ) → maybe (datum_wit
 text_within c Byte xs = refl
 text_within c Word xs = word_within c xs
 text_within c Pointer xs = refl
+text_within c Integer xs = refl
 
 character_within : (c : Counts) (s : ScalarType) (x : ℕ) → maybe (datum_within c) (character_datum s x) ≡ true
 character_within c Byte x = refl
 character_within c Word x = refl
 character_within c Pointer x = refl
+character_within c Integer x = refl
 
 datum_reads : (c : Counts) (frames : List Frame) (s : ScalarType) (v : ValueT) (k : Known) → Reads c frames k (datum_for frames s v k).1
 datum_reads c frames s (NumeralV n) k = reads (kept c k)

@@ -1,9 +1,10 @@
 -- What a value fills a scalar with, if it fits.
-use Rattle.std.specs.Prelude.{ℕ, ◌+◌, ◌*◌, ◌-◌, ◌%◌, List, [], ◌∷◌, Bool, true, false, cond, nat_lt, Option, Some, None}
+use Rattle.std.specs.Prelude.{ℕ, ◌+◌, ◌*◌, ◌-◌, ◌%◌, List, [], ◌∷◌, Bool, true, false, cond, nat_lt, nat_le, Option, Some, None}
 use Rattle.plm_syntax.specs.declared.tree.LocationForm.{LocationForm}
 use Rattle.plm_syntax.specs.declared.tree.LocationForm.TheVariants as form
 use Rattle.plm_decl.specs.declared.layout.ScalarType.{ScalarType}
-use Rattle.plm_decl.specs.declared.layout.ScalarType.TheVariants.{Byte, Word, Pointer}
+use Rattle.plm_decl.specs.declared.layout.ScalarType.TheVariants.{Byte, Word, Pointer, Integer}
+use Rattle.plm_decl.specs.Layout.{same_scalar}
 use Rattle.plm_decl.specs.declared.names.Datum.{Datum}
 use Rattle.plm_decl.specs.declared.names.Datum.TheVariants as datum
 
@@ -16,6 +17,8 @@ abbrev pub number_datum : ScalarType → ℕ → Bool → Option Datum
 number_datum Byte n negative = cond (nat_lt n 256) (Some (datum.Byte (signed negative 256 n))) None
 number_datum Word n negative = cond (nat_lt n 65536) (Some (datum.Word (signed negative 65536 n))) None
 number_datum Pointer n negative = None
+-- up to 32,767, or up to 32,768 after a minus
+number_datum Integer n negative = cond (nat_le n (cond negative 32768 32767)) (Some (datum.Word (signed negative 65536 n))) None
 
 -- a WORD takes one character, or two with the first high
 abbrev pub word_datum : List ℕ → Option Datum
@@ -28,22 +31,21 @@ abbrev pub text_datum : ScalarType → List ℕ → Option Datum
 text_datum Byte characters = None
 text_datum Word characters = word_datum characters
 text_datum Pointer characters = None
+text_datum Integer characters = None
 
 abbrev pub is_byte : ScalarType → Bool
 is_byte Byte = true
 is_byte Word = false
 is_byte Pointer = false
+is_byte Integer = false
 
 abbrev pub character_datum : ScalarType → ℕ → Option Datum
-character_datum Byte c = Some (datum.Byte c)
-character_datum Word c = None
-character_datum Pointer c = None
+character_datum s c = cond (is_byte s) (Some (datum.Byte c)) None
 
--- a WORD takes an offset, a POINTER a location
+-- an offset is a WORD, a location in the data segment a POINTER
+abbrev pub location_type : LocationForm → ScalarType
+location_type form.Offset = Word
+location_type form.Pointer = Pointer
+
 abbrev pub takes : ScalarType → LocationForm → Bool
-takes Byte form.Offset = false
-takes Byte form.Pointer = false
-takes Word form.Offset = true
-takes Word form.Pointer = false
-takes Pointer form.Offset = false
-takes Pointer form.Pointer = true
+takes s f = same_scalar s (location_type f)

@@ -12,7 +12,7 @@ use Rattle.plm_syntax.specs.declared.tree.Linkage.{Linkage}
 use Rattle.plm_syntax.specs.declared.tree.Linkage.TheVariants as linkage
 use Rattle.plm_syntax.specs.Terminal.{NameT}
 use Rattle.plm_syntax.specs.Tree.{VariableT, VariableOf, DeclaredT, OneVariable, VariableList}
-use Rattle.plm_decl.specs.declared.layout.ScalarType.TheVariants.{Byte, Word, Pointer}
+use Rattle.plm_decl.specs.declared.layout.ScalarType.TheVariants.{Byte, Word, Pointer, Integer}
 use Rattle.plm_decl.specs.declared.layout.Form.{Form}
 use Rattle.plm_decl.specs.declared.layout.Form.TheVariants as form
 use Rattle.plm_decl.specs.declared.names.Region.{Region}
@@ -41,6 +41,7 @@ abbrev pub is_plain_form : Form → Bool
 is_plain_form (form.Scalar Byte) = false
 is_plain_form (form.Scalar Word) = true
 is_plain_form (form.Scalar Pointer) = true
+is_plain_form (form.Scalar Integer) = false
 is_plain_form (form.Structure n) = false
 
 abbrev pub is_based : Region → Bool

@@ -5,7 +5,6 @@ use Rattle.word86.specs.MemoryMap.{data_room}
 use Rattle.plm_syntax.specs.Tree.{ModuleT, ModuleOf, BlockT, BlockOf, no_statements, statements}
 use Rattle.plm_token.specs.Names.{normal}
 use Rattle.plm_decl.specs.declared.layout.ScalarType.{ScalarType}
-use Rattle.plm_decl.specs.declared.layout.ScalarType.TheVariants.{Byte, Word, Pointer}
 use Rattle.plm_decl.specs.declared.layout.Member.{Member}
 use Rattle.plm_decl.specs.declared.layout.Form.{Form}
 use Rattle.plm_decl.specs.declared.layout.Form.TheVariants as form
@@ -14,7 +13,7 @@ use Rattle.plm_decl.specs.declared.names.Variable.{Variable}
 use Rattle.plm_decl.specs.declared.names.Item.{Item}
 use Rattle.plm_decl.specs.declared.names.Item.TheVariants as item
 use Rattle.plm_decl.specs.declared.found.Found.{Found}
-use Rattle.plm_decl.specs.Layout.{FieldR, StructureR, counted}
+use Rattle.plm_decl.specs.Layout.{FieldR, StructureR, counted, same_scalar}
 use Rattle.plm_decl.specs.Found.{precedes}
 use Rattle.plm_decl.specs.Scope.{frame, found_in}
 use Rattle.plm_decl.specs.Resolver.{Known, ExternalR, note_whole, nothing_known}
@@ -24,17 +23,6 @@ use Rattle.plm_decl.specs.Elements.{start, found_item}
 use Rattle.plm_decl.specs.Statements.{block}
 
 -- ---- agreement
-
-abbrev pub same_scalar : ScalarType → ScalarType → Bool
-same_scalar Byte Byte = true
-same_scalar Byte Word = false
-same_scalar Byte Pointer = false
-same_scalar Word Byte = false
-same_scalar Word Word = true
-same_scalar Word Pointer = false
-same_scalar Pointer Byte = false
-same_scalar Pointer Word = false
-same_scalar Pointer Pointer = true
 
 abbrev pub same_dimension : Option ℕ → Option ℕ → Bool
 same_dimension None None = true

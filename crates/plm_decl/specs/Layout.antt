@@ -1,12 +1,12 @@
 -- What the bytes of a variable are.
-use Rattle.std.specs.Prelude.{ℕ, ◌+◌, ◌*◌, ◌-◌, ◌^◌, List, [], ◌∷◌, ◌++◌, min, map, Bool, ◌&&◌, nat_lt, nat_le, cond, find, bytes_eq, Option, Some, None, option_map}
+use Rattle.std.specs.Prelude.{ℕ, ◌+◌, ◌*◌, ◌-◌, ◌^◌, List, [], ◌∷◌, ◌++◌, min, map, Bool, ◌&&◌, nat_eq, nat_lt, nat_le, cond, find, bytes_eq, Option, Some, None, option_map}
 use Rattle.std.specs.List.{list_any}
 use Rattle.word86.specs.declared.width.Width.{Width}
 use Rattle.word86.specs.declared.width.Width.TheVariants as width
 use Rattle.plm_syntax.specs.declared.tree.Scalar.{Scalar}
 use Rattle.plm_syntax.specs.declared.tree.Scalar.TheVariants as scalar
 use Rattle.plm_decl.specs.declared.layout.ScalarType.{ScalarType}
-use Rattle.plm_decl.specs.declared.layout.ScalarType.TheVariants.{Byte, Word, Pointer}
+use Rattle.plm_decl.specs.declared.layout.ScalarType.TheVariants.{Byte, Word, Pointer, Integer}
 use Rattle.plm_decl.specs.declared.layout.Member.{Member}
 use Rattle.plm_decl.specs.declared.layout.Field.{Field}
 use Rattle.plm_decl.specs.declared.structure.Structure.{Structure}
@@ -21,16 +21,29 @@ scalar_of scalar.Byte = Byte
 scalar_of scalar.Word = Word
 scalar_of scalar.Address = Word
 scalar_of scalar.Pointer = Pointer
+scalar_of scalar.Integer = Integer
+
+-- each type has its own
+abbrev pub scalar_number : ScalarType → ℕ
+scalar_number Byte = 0
+scalar_number Word = 1
+scalar_number Pointer = 2
+scalar_number Integer = 3
+
+abbrev pub same_scalar : ScalarType → ScalarType → Bool
+same_scalar a b = nat_eq (scalar_number a) (scalar_number b)
 
 abbrev pub width_of : ScalarType → Width
 width_of Byte = width.Byte
 width_of Word = width.Word
 width_of Pointer = width.Word
+width_of Integer = width.Word
 
 abbrev pub size_of : ScalarType → ℕ
 size_of Byte = 1
 size_of Word = 2
 size_of Pointer = 2
+size_of Integer = 2
 
 -- how many elements there are
 abbrev pub elements : Option ℕ → ℕ

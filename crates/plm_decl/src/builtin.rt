@@ -20,9 +20,11 @@ pub enum Builtin {
     InputWord,
     Output,
     OutputWord,
+    Signed,
+    Unsigned,
 }
 
-static BUILTINS: [Builtin; 14] = [
+static BUILTINS: [Builtin; 16] = [
     Builtin::Length,
     Builtin::Last,
     Builtin::Size,
@@ -37,6 +39,8 @@ static BUILTINS: [Builtin; 14] = [
     Builtin::InputWord,
     Builtin::Output,
     Builtin::OutputWord,
+    Builtin::Signed,
+    Builtin::Unsigned,
 ];
 
 impl Builtin {
@@ -59,6 +63,8 @@ impl Builtin {
             Builtin::InputWord => b"INWORD",
             Builtin::Output => b"OUTPUT",
             Builtin::OutputWord => b"OUTWORD",
+            Builtin::Signed => b"SIGNED",
+            Builtin::Unsigned => b"UNSIGN",
         }
     }
 

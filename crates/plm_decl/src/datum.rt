@@ -21,6 +21,12 @@ pub fn number_datum(scalar: ScalarType, value: u32, negative: bool) -> Option<Da
             Some(Datum::Word(if negative { word.wrapping_neg() } else { word }))
         }
         ScalarType::Pointer => None,
+        ScalarType::Integer => {
+            let greatest = if negative { 0x8000 } else { 0x7FFF };
+            let word = u16::try_from(value).ok()?;
+            let held = if negative { word.wrapping_neg() } else { word };
+            (word <= greatest).then_some(Datum::Word(held))
+        }
     }
 }
 
@@ -41,7 +47,7 @@ pub fn text_datum(scalar: ScalarType, characters: &[u8]) -> Option<Datum>
 {
     match scalar {
         ScalarType::Word => word_datum(characters),
-        ScalarType::Byte | ScalarType::Pointer => None,
+        ScalarType::Byte | ScalarType::Pointer | ScalarType::Integer => None,
     }
 }
 
@@ -55,6 +61,7 @@ pub fn takes(scalar: ScalarType, form: LocationForm) -> bool
         (ScalarType::Byte, LocationForm::Offset | LocationForm::Pointer) => false,
         (ScalarType::Word, LocationForm::Pointer) => false,
         (ScalarType::Pointer, LocationForm::Offset) => false,
+        (ScalarType::Integer, LocationForm::Offset | LocationForm::Pointer) => false,
     }
 }
 
@@ -64,6 +71,6 @@ pub fn character_datum(scalar: ScalarType, character: u8) -> Option<Datum>
 {
     match scalar {
         ScalarType::Byte => Some(Datum::Byte(character)),
-        ScalarType::Word | ScalarType::Pointer => None,
+        ScalarType::Word | ScalarType::Pointer | ScalarType::Integer => None,
     }
 }

@@ -47,7 +47,7 @@ fn is_plain_form(form: Form) -> bool
 {
     match form {
         Form::Scalar(ScalarType::Word | ScalarType::Pointer) => true,
-        Form::Scalar(ScalarType::Byte) | Form::Structure(_) => false,
+        Form::Scalar(ScalarType::Byte | ScalarType::Integer) | Form::Structure(_) => false,
     }
 }
 

@@ -14,6 +14,8 @@ pub enum ScalarType {
     Word,
     /// An offset in the one data segment.
     Pointer,
+    /// A number from -32,768 to 32,767.
+    Integer,
 }
 
 impl ScalarType {
@@ -25,6 +27,7 @@ impl ScalarType {
             Scalar::Byte => ScalarType::Byte,
             Scalar::Word | Scalar::Address => ScalarType::Word,
             Scalar::Pointer => ScalarType::Pointer,
+            Scalar::Integer => ScalarType::Integer,
         }
     }
 
@@ -34,7 +37,7 @@ impl ScalarType {
     {
         match self {
             ScalarType::Byte => true,
-            ScalarType::Word | ScalarType::Pointer => false,
+            ScalarType::Word | ScalarType::Pointer | ScalarType::Integer => false,
         }
     }
 
@@ -44,7 +47,7 @@ impl ScalarType {
     {
         match self {
             ScalarType::Byte => Width::Byte,
-            ScalarType::Word | ScalarType::Pointer => Width::Word,
+            ScalarType::Word | ScalarType::Pointer | ScalarType::Integer => Width::Word,
         }
     }
 
@@ -54,7 +57,7 @@ impl ScalarType {
     {
         match self {
             ScalarType::Byte => 1,
-            ScalarType::Word | ScalarType::Pointer => 2,
+            ScalarType::Word | ScalarType::Pointer | ScalarType::Integer => 2,
         }
     }
 }

@@ -93,7 +93,7 @@ module _ (offsets sizes : List ℕ) (procedures : List Procedure) where
   stepping_before None l more later a = sym (map_twice _ _ a)
   stepping_before (Some v) l more later a = refl
 
-  ends : (p : Bool) (l : Loop) (more later : Statements) → (if p then Then (rest.Round l) (behind more later) else behind more later) ≡ behind (if p then Then (rest.Round l) more else more) later
+  ends : (p : Bool) (l : Loop) (more later : Statements) → (if p then behind more later else Then (rest.Round l) (behind more later)) ≡ behind (if p then more else Then (rest.Round l) more) later
   ends true l more later = refl
   ends false l more later = refl
 
@@ -137,8 +137,8 @@ module _ (offsets sizes : List ℕ) (procedures : List Procedure) where
   statement_before (rest.Comparing i r l) more later = comparing_before i (value_of r) l more later (E r)
   statement_before (rest.Stepping r l) more later = stepping_before (value_of r) l more later (E r)
   statement_before (rest.Adding i s l) more later = refl
-  statement_before (rest.Storing sum l) more later = refl
-  statement_before (rest.Ending sum l) more later = ap Silent (ends _ l more later)
+  statement_before (rest.Storing sum leaves l) more later = refl
+  statement_before (rest.Ending leaves l) more later = ap Silent (ends leaves l more later)
 
   -- statements that have a step have the same before others
   pub behind_step : (ss later : Statements) → returned ss ≡ None → S (behind ss later) ≡ map_action (λ q. behind q later) (S ss)

@@ -97,8 +97,8 @@ phase_of phase.Round l = Round l
 phase_of (phase.Comparing i b) l = Comparing i (Value b) l
 phase_of (phase.Stepping s) l = Stepping (Value s) l
 phase_of (phase.Adding i s) l = Adding i s l
-phase_of (phase.Storing sum) l = Storing sum l
-phase_of (phase.Ending sum) l = Ending sum l
+phase_of (phase.Storing sum leaves) l = Storing sum leaves l
+phase_of (phase.Ending leaves) l = Ending leaves l
 
 abbrev pub redex_part : Redex → Part
 redex_part (redex.Constant k) = Expr (Constant k)

@@ -82,10 +82,10 @@ pub enum Phase {
     Stepping(u16),
     /// The step is added to the index.
     Adding(u16, u16),
-    /// The index gets the sum.
-    Storing(u32),
-    /// The sum is tested.
-    Ending(u32),
+    /// The index gets the sum, which leaves its range or not.
+    Storing(u32, bool),
+    /// The loop ends where the sum left the range of the index.
+    Ending(bool),
 }
 
 /// The part that is rewritten next: all that it needs has its value.

@@ -1,13 +1,13 @@
 //! The step of the part that is rewritten next: the access, the switch of interrupts or the silent step that it makes, and what
 //! stands in its place afterwards.
 
-ghost use Rattle.std.specs.Prelude.{◌≡◌, ℕ, List, ◌+◌, ◌<◌, Bool, if◌then◌else◌, nat_lt, Some, None, map, slice_get, drop, length};
+ghost use Rattle.std.specs.Prelude.{◌≡◌, ℕ, List, ◌+◌, ◌<◌, Bool, if◌then◌else◌, Some, None, map, slice_get, drop, length};
 ghost use Rattle.word86.specs.Place.{where_of};
 ghost use Rattle.word86.specs.Access.{Write, Access as Accessed, values};
 ghost use Rattle.word86.specs.Action.{Touch, Over, map_action, Silent as Quiet};
 ghost use Rattle.word86.specs.Arithmetic.{low};
 ghost use Rattle.plm_type.specs.Rest.{Refer, NoSubscripts, Round, Statements, While, Then, End, Stepping as Steps, Main, Handler};
-ghost use Rattle.plm_type.specs.Next.{is_odd, operated, next, next_case, next_passing, next_statements, behind, rounds_of, step_of, parameters_of, body_of};
+ghost use Rattle.plm_type.specs.Next.{is_odd, operated, next, next_case, next_passing, next_statements, has_passed, leaves, counting_of, behind, rounds_of, step_of, parameters_of, body_of};
 ghost use Rattle.plm_type.specs.View.{scalar_of, expression_of, statements_of, loop_of, procedures_of};
 ghost use Rattle.plm_meaning.specs.Context.{Part, Expr, ToRun, purposed, origin_of, part_of, phase_of, redex_part, to_run_in, to_run_of};
 ghost use Rattle.plm_meaning.specs.Inner.Context.{IsSettled};
@@ -16,9 +16,9 @@ ghost use Rattle.plm_meaning.specs.Inner.Redex.{offsets_of, sizes_of, procedures
 use crate::access::Origin;
 use crate::around::Surroundings;
 use crate::context::{Context, Destination, Focus, Later, Phase, Purpose, Redex};
-use plm_type::{Expression, Line, Loop, Place, Scalar, Statement};
+use plm_type::{Counting, Expression, Line, Loop, Place, Scalar, Statement};
 use std::mem;
-use word86::{Access, Width};
+use word86::{Access, Width, signed16};
 
 /// What a context does next. What is left then is said by its focus.
 #[derive(Clone, Copy)]
@@ -163,11 +163,22 @@ fn repeat<'a>(v: u16, condition: &'a Expression, body: &'a [Box<Statement>]) -> 
     }
 }
 
+// Whether an index is behind the bound.
+fn has_passed(counting: Counting, index: u16, bound: u16) -> bool
+    ensures { result ≡ has_passed counting index bound }
+{
+    match counting {
+        Counting::Up => bound < index,
+        Counting::SignedUp => signed16(bound) < signed16(index),
+        Counting::SignedDown => signed16(index) < signed16(bound),
+    }
+}
+
 // A DO with an index, after the comparison with its bound.
 fn compare<'a>(index: u16, bound: u16, rounds: &'a Loop) -> Focus<'a>
-    ensures { part_of result ≡ ToRun (if nat_lt bound index then End else behind (rounds_of (loop_of rounds.now)) (Then (Steps (step_of (loop_of rounds.now)) (loop_of rounds.now)) End)) }
+    ensures { part_of result ≡ ToRun (if has_passed (counting_of (loop_of rounds.now)) index bound then End else behind (rounds_of (loop_of rounds.now)) (Then (Steps (step_of (loop_of rounds.now)) (loop_of rounds.now)) End)) }
 {
-    if bound < index {
+    if has_passed(rounds.counting, index, bound) {
         Focus::Statements(&[])
     } else {
         Focus::Within(Later::Next(rounds), &rounds.body)
@@ -184,14 +195,27 @@ fn values(width: Width) -> u32
     }
 }
 
-// A DO with an index, after the store of its sum: the next round, unless the sum does not fit the index.
-fn end_round<'a>(sum: u32, rounds: &'a Loop) -> Focus<'a>
-    ensures { part_of result ≡ ToRun (if nat_lt sum (values rounds.now.index.width) then Then (Round (loop_of rounds.now)) End else End) }
+// Whether an index and a step have a sum outside the range of the index.
+fn leaves(counting: Counting, width: Width, index: u16, step: u16) -> bool
+    ensures { result ≡ leaves counting width index step }
 {
-    if sum < values(rounds.index.width) {
-        Focus::Ready(Redex::Loop(Phase::Round, rounds))
-    } else {
+    match counting {
+        Counting::Up => u32::from(index) + u32::from(step) >= values(width),
+        Counting::SignedUp | Counting::SignedDown => {
+            let sum = i32::from(signed16(index)) + i32::from(signed16(step));
+            sum < -0x8000 || sum >= 0x8000
+        }
+    }
+}
+
+// A DO with an index, after the store of its sum: the next round, unless the sum left the range of the index.
+fn end_round<'a>(leaves: bool, rounds: &'a Loop) -> Focus<'a>
+    ensures { part_of result ≡ ToRun (if leaves then End else Then (Round (loop_of rounds.now)) End) }
+{
+    if leaves {
         Focus::Statements(&[])
+    } else {
+        Focus::Ready(Redex::Loop(Phase::Round, rounds))
     }
 }
 
@@ -225,7 +249,7 @@ fn loop_step(phase: Phase, rounds: &Loop) -> Action
     let place = rounds.index.place;
     match phase {
         Phase::Begin(v) => write(width, place, u32::from(v)),
-        Phase::Storing(sum) => write(width, place, sum),
+        Phase::Storing(sum, _) => write(width, place, sum),
         Phase::Round | Phase::Stepping(_) => Action::Touch(Access::Read(width, place)),
         Phase::Comparing(_, _) | Phase::Adding(_, _) | Phase::Ending(_) => Action::Silent,
     }
@@ -235,6 +259,7 @@ fn loop_step(phase: Phase, rounds: &Loop) -> Action
 fn round_left<'a>(phase: Phase, rounds: &'a Loop, answer: u16) -> Focus<'a>
     ensures { (s : Surroundings) → part_of result ≡ loop_left s phase rounds.now answer }
 {
+    let width = rounds.index.width;
     match phase {
         Phase::Begin(_) => Focus::Ready(Redex::Loop(Phase::Round, rounds)),
         Phase::Round => Focus::Bound(answer, rounds),
@@ -242,10 +267,11 @@ fn round_left<'a>(phase: Phase, rounds: &'a Loop, answer: u16) -> Focus<'a>
         Phase::Stepping(step) => Focus::Ready(Redex::Loop(Phase::Adding(answer, step), rounds)),
         Phase::Adding(index, step) => {
             let sum = u32::from(index) + u32::from(step);
-            Focus::Ready(Redex::Loop(Phase::Storing(sum), rounds))
+            let leaves = leaves(rounds.counting, width, index, step);
+            Focus::Ready(Redex::Loop(Phase::Storing(sum, leaves), rounds))
         }
-        Phase::Storing(sum) => Focus::Ready(Redex::Loop(Phase::Ending(sum), rounds)),
-        Phase::Ending(sum) => end_round(sum, rounds),
+        Phase::Storing(_, leaves) => Focus::Ready(Redex::Loop(Phase::Ending(leaves), rounds)),
+        Phase::Ending(leaves) => end_round(leaves, rounds),
     }
 }
 

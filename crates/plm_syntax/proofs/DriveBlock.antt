@@ -370,6 +370,7 @@ returned_drives (Some scalar.Byte) i k n ps s v ls r h = ap (Then 0) (acted (set
 returned_drives (Some scalar.Word) i k n ps s v ls r h = ap (Then 0) (acted (set_returned scalar.Word) (Want InterruptG ∷ Want LinkageG ∷ need mark.Semicolon ∷ s) _ _ (some_interrupt i k ls) refl ∙ interrupt_drives i k n ps (Some scalar.Word) s v ls r h)
 returned_drives (Some scalar.Address) i k n ps s v ls r h = ap (Then 0) (acted (set_returned scalar.Address) (Want InterruptG ∷ Want LinkageG ∷ need mark.Semicolon ∷ s) _ _ (some_interrupt i k ls) refl ∙ interrupt_drives i k n ps (Some scalar.Address) s v ls r h)
 returned_drives (Some scalar.Pointer) i k n ps s v ls r h = ap (Then 0) (acted (set_returned scalar.Pointer) (Want InterruptG ∷ Want LinkageG ∷ need mark.Semicolon ∷ s) _ _ (some_interrupt i k ls) refl ∙ interrupt_drives i k n ps (Some scalar.Pointer) s v ls r h)
+returned_drives (Some scalar.Integer) i k n ps s v ls r h = ap (Then 0) (acted (set_returned scalar.Integer) (Want InterruptG ∷ Want LinkageG ∷ need mark.Semicolon ∷ s) _ _ (some_interrupt i k ls) refl ∙ interrupt_drives i k n ps (Some scalar.Integer) s v ls r h)
 
 pub some_returned : (t : Option Scalar) (i : Option NumeralT) (k : LinkageT) (ls : List Leaf) → Some_leaf (returned put_leaf t (interrupt put_leaf i (linkage put_leaf k (leaf (Sign mark.Semicolon) ∷ ls))))
 some_returned None i k ls = some_interrupt i k ls
@@ -384,6 +385,7 @@ no_parameters (Some scalar.Byte) i k s v ls = refl
 no_parameters (Some scalar.Word) i k s v ls = refl
 no_parameters (Some scalar.Address) i k s v ls = refl
 no_parameters (Some scalar.Pointer) i k s v ls = refl
+no_parameters (Some scalar.Integer) i k s v ls = refl
 
 abbrev pub parameter_and_more : List Symbol → List Symbol
 parameter_and_more s = Want ParameterG ∷ Want MoreParametersG ∷ s

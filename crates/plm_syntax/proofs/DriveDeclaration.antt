@@ -113,10 +113,12 @@ member_end None scalar.Byte m w s v ls r e q k = ap (Then 0) (acted (make_member
 member_end None scalar.Word m w s v ls r e q k = ap (Then 0) (acted (make_member scalar.Word) s _ _ q e ∙ k)
 member_end None scalar.Address m w s v ls r e q k = ap (Then 0) (acted (make_member scalar.Address) s _ _ q e ∙ k)
 member_end None scalar.Pointer m w s v ls r e q k = ap (Then 0) (acted (make_member scalar.Pointer) s _ _ q e ∙ k)
+member_end None scalar.Integer m w s v ls r e q k = ap (Then 0) (acted (make_member scalar.Integer) s _ _ q e ∙ k)
 member_end (Some n) scalar.Byte m w s v ls r e q k = ap (λ (x : Trace). Then 0 (Then 0 (Then 0 (Then 0 x)))) (acted (make_member scalar.Byte) s _ _ q e ∙ k)
 member_end (Some n) scalar.Word m w s v ls r e q k = ap (λ (x : Trace). Then 0 (Then 0 (Then 0 (Then 0 x)))) (acted (make_member scalar.Word) s _ _ q e ∙ k)
 member_end (Some n) scalar.Address m w s v ls r e q k = ap (λ (x : Trace). Then 0 (Then 0 (Then 0 (Then 0 x)))) (acted (make_member scalar.Address) s _ _ q e ∙ k)
 member_end (Some n) scalar.Pointer m w s v ls r e q k = ap (λ (x : Trace). Then 0 (Then 0 (Then 0 (Then 0 x)))) (acted (make_member scalar.Pointer) s _ _ q e ∙ k)
+member_end (Some n) scalar.Integer m w s v ls r e q k = ap (λ (x : Trace). Then 0 (Then 0 (Then 0 (Then 0 x)))) (acted (make_member scalar.Integer) s _ _ q e ∙ k)
 
 pub some_count : (c : Option NumeralT) (t : Terminal) (ls : List Leaf) → Some_leaf (count put_leaf c (leaf t ∷ ls))
 some_count None t ls = some_leaf
@@ -153,6 +155,7 @@ type_drives (ScalarType scalar.Byte) w s v ls r q k = ap (Then 0) (pushed (TypeR
 type_drives (ScalarType scalar.Word) w s v ls r q k = ap (Then 0) (pushed (TypeR (ScalarType scalar.Word)) s v q ∙ k)
 type_drives (ScalarType scalar.Address) w s v ls r q k = ap (Then 0) (pushed (TypeR (ScalarType scalar.Address)) s v q ∙ k)
 type_drives (ScalarType scalar.Pointer) w s v ls r q k = ap (Then 0) (pushed (TypeR (ScalarType scalar.Pointer)) s v q ∙ k)
+type_drives (ScalarType scalar.Integer) w s v ls r q k = ap (Then 0) (pushed (TypeR (ScalarType scalar.Integer)) s v q ∙ k)
 type_drives (StructureType no_members) w s v ls r q k = absurd w
 type_drives (StructureType (members ms m)) w s v ls r q k = ap (λ (x : Trace). Then 0 (Then 0 x))
     (pushed (MembersR no_members) (member_and_more (Do make_structure ∷ s)) v (some_members ms (some_member m (leaf (Sign mark.RightParenthesis) ∷ ls)))
@@ -183,6 +186,7 @@ no_dimension_there (ScalarType scalar.Byte) s v ls = refl
 no_dimension_there (ScalarType scalar.Word) s v ls = refl
 no_dimension_there (ScalarType scalar.Address) s v ls = refl
 no_dimension_there (ScalarType scalar.Pointer) s v ls = refl
+no_dimension_there (ScalarType scalar.Integer) s v ls = refl
 no_dimension_there (StructureType ms) s v ls = refl
 
 pub dimension_drives : (c : DimensionT) (t : TypeT) (s : List Symbol) (v : List Value) (ls : List Leaf) (r : Trace) → trace s (DimensionR c ∷ v) (type_leaves put_leaf t ls) ≡ r → trace (Want DimensionG ∷ s) (DimensionR no_dimension ∷ v) (dimension_leaves put_leaf c (type_leaves put_leaf t ls)) ≡ dimension_leaves put_then c r
@@ -244,6 +248,7 @@ lead_type x (ScalarType scalar.Byte) s v {ls} q = ap (Then 0) (acted one_variabl
 lead_type x (ScalarType scalar.Word) s v {ls} q = ap (Then 0) (acted one_variable (push (DimensionR no_dimension) ∷ push (TypeR (ScalarType scalar.Word)) ∷ push (the_attributes false no_at no_initial) ∷ Want AttributesG ∷ Do make_element ∷ Do add_element ∷ s) _ _ q refl ∙ pushed (DimensionR no_dimension) (push (TypeR (ScalarType scalar.Word)) ∷ push (the_attributes false no_at no_initial) ∷ Want AttributesG ∷ Do make_element ∷ Do add_element ∷ s) _ q)
 lead_type x (ScalarType scalar.Address) s v {ls} q = ap (Then 0) (acted one_variable (push (DimensionR no_dimension) ∷ push (TypeR (ScalarType scalar.Address)) ∷ push (the_attributes false no_at no_initial) ∷ Want AttributesG ∷ Do make_element ∷ Do add_element ∷ s) _ _ q refl ∙ pushed (DimensionR no_dimension) (push (TypeR (ScalarType scalar.Address)) ∷ push (the_attributes false no_at no_initial) ∷ Want AttributesG ∷ Do make_element ∷ Do add_element ∷ s) _ q)
 lead_type x (ScalarType scalar.Pointer) s v {ls} q = ap (Then 0) (acted one_variable (push (DimensionR no_dimension) ∷ push (TypeR (ScalarType scalar.Pointer)) ∷ push (the_attributes false no_at no_initial) ∷ Want AttributesG ∷ Do make_element ∷ Do add_element ∷ s) _ _ q refl ∙ pushed (DimensionR no_dimension) (push (TypeR (ScalarType scalar.Pointer)) ∷ push (the_attributes false no_at no_initial) ∷ Want AttributesG ∷ Do make_element ∷ Do add_element ∷ s) _ q)
+lead_type x (ScalarType scalar.Integer) s v {ls} q = ap (Then 0) (acted one_variable (push (DimensionR no_dimension) ∷ push (TypeR (ScalarType scalar.Integer)) ∷ push (the_attributes false no_at no_initial) ∷ Want AttributesG ∷ Do make_element ∷ Do add_element ∷ s) _ _ q refl ∙ pushed (DimensionR no_dimension) (push (TypeR (ScalarType scalar.Integer)) ∷ push (the_attributes false no_at no_initial) ∷ Want AttributesG ∷ Do make_element ∷ Do add_element ∷ s) _ q)
 lead_type x (StructureType ms) s v q = refl
 
 pub lead_drives : (x : VariableT) (c : DimensionT) (t : TypeT) (a : AttributesT) → WellType t → WellAttributes a → (es : ElementsT) (s : List Symbol) (v : List Value) (ls : List Leaf) (r : Trace) → Follows ls → trace s (ElementsR (elements es (VariableElement (OneVariable x) c t a)) ∷ v) ls ≡ r

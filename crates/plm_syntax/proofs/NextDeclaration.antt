@@ -171,35 +171,39 @@ at_body_refused (Sign m) g e f = ap (λ (x : Bool). cond x (Keep false (λ p. Wa
 
 -- ---- scalar types
 
-pub no_scalar : (t : Terminal) → is_key key.Byte t ≡ false → is_key key.Word t ≡ false → is_key key.Address t ≡ false → is_key key.Pointer t ≡ false → scalar_of t ≡ None
-no_scalar (Name n) a b c d = refl
-no_scalar (Numeral n) a b c d = refl
-no_scalar (Text n) a b c d = refl
-no_scalar (Sign n) a b c d = refl
-no_scalar Finish a b c d = refl
-no_scalar (Key key.Byte) a b c d = absurd cc
-no_scalar (Key key.Word) a b c d = absurd cc
-no_scalar (Key key.Address) a b c d = absurd cc
-no_scalar (Key key.Pointer) a b c d = absurd cc
-no_scalar (Key k) a b c d = refl
+pub no_scalar : (t : Terminal) → is_key key.Byte t ≡ false → is_key key.Word t ≡ false → is_key key.Address t ≡ false → is_key key.Pointer t ≡ false → is_key key.Integer t ≡ false → scalar_of t ≡ None
+no_scalar (Name n) a b c d e = refl
+no_scalar (Numeral n) a b c d e = refl
+no_scalar (Text n) a b c d e = refl
+no_scalar (Sign n) a b c d e = refl
+no_scalar Finish a b c d e = refl
+no_scalar (Key key.Byte) a b c d e = absurd cc
+no_scalar (Key key.Word) a b c d e = absurd cc
+no_scalar (Key key.Address) a b c d e = absurd cc
+no_scalar (Key key.Pointer) a b c d e = absurd cc
+no_scalar (Key key.Integer) a b c d e = absurd cc
+no_scalar (Key k) a b c d e = refl
 
 pub type_taken : (k : Scalar) (p : Position) (s : List Symbol) (v : List Value) (ls : List Leaf) → run 64 (Want TypeG ∷ s) v (leaf_at (scalar_key k) p ∷ ls) ≡ run 64 (push (TypeR (ScalarType k)) ∷ s) v ls
 type_taken scalar.Byte p s v ls = refl
 type_taken scalar.Word p s v ls = refl
 type_taken scalar.Address p s v ls = refl
 type_taken scalar.Pointer p s v ls = refl
+type_taken scalar.Integer p s v ls = refl
 
 pub member_type_taken : (k : Scalar) (p : Position) (s : List Symbol) (v : List Value) (ls : List Leaf) → run 64 (Want MemberTypeG ∷ s) v (leaf_at (scalar_key k) p ∷ ls) ≡ run 64 (Do (make_member k) ∷ s) v ls
 member_type_taken scalar.Byte p s v ls = refl
 member_type_taken scalar.Word p s v ls = refl
 member_type_taken scalar.Address p s v ls = refl
 member_type_taken scalar.Pointer p s v ls = refl
+member_type_taken scalar.Integer p s v ls = refl
 
 pub returned_taken : (k : Scalar) (p : Position) (s : List Symbol) (v : List Value) (ls : List Leaf) → run 64 (Want ReturnedTypeG ∷ s) v (leaf_at (scalar_key k) p ∷ ls) ≡ run 64 (Do (set_returned k) ∷ s) v ls
 returned_taken scalar.Byte p s v ls = refl
 returned_taken scalar.Word p s v ls = refl
 returned_taken scalar.Address p s v ls = refl
 returned_taken scalar.Pointer p s v ls = refl
+returned_taken scalar.Integer p s v ls = refl
 
 pub member_made : (names : MemberNames) (c : Option NumeralT) (k : Scalar) (v : List Value) → make_member k (CountR c ∷ member_names_read names v) ≡ Some (MemberR (member_with names c k) ∷ v)
 member_made (member_names.One n) c k v = refl

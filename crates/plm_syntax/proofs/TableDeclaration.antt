@@ -19,6 +19,7 @@ scalar_is (Key key.Byte) scalar.Byte h = refl
 scalar_is (Key key.Word) scalar.Word h = refl
 scalar_is (Key key.Address) scalar.Address h = refl
 scalar_is (Key key.Pointer) scalar.Pointer h = refl
+scalar_is (Key key.Integer) scalar.Integer h = refl
 scalar_is t s h = absurd cc
 
 -- ---- names in parentheses

@@ -125,6 +125,7 @@ calm_scalar scalar.Byte = refl
 calm_scalar scalar.Word = refl
 calm_scalar scalar.Address = refl
 calm_scalar scalar.Pointer = refl
+calm_scalar scalar.Integer = refl
 
 pub calm_form : (f : LocationForm) → is_calm (word_of (form_sign f)) ≡ true
 calm_form Pointer = refl

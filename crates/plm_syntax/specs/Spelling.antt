@@ -43,6 +43,7 @@ scalar_key scalar.Byte = Key key.Byte
 scalar_key scalar.Word = Key key.Word
 scalar_key scalar.Address = Key key.Address
 scalar_key scalar.Pointer = Key key.Pointer
+scalar_key scalar.Integer = Key key.Integer
 
 -- the last label, if there is one
 abbrev pub last_name : NamesT → Option NameT

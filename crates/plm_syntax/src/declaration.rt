@@ -159,8 +159,11 @@ pub(crate) fn scalar_at<'t, 'a>(cursor: Cursor<'t, 'a>) -> Option<(Scalar, Curso
     if let Some((_, rest)) = cursor.keyword(Keyword::Address) {
         return Some((Scalar::Address, rest));
     }
-    let (_, rest) = cursor.keyword(Keyword::Pointer)?;
-    Some((Scalar::Pointer, rest))
+    if let Some((_, rest)) = cursor.keyword(Keyword::Pointer) {
+        return Some((Scalar::Pointer, rest));
+    }
+    let (_, rest) = cursor.keyword(Keyword::Integer)?;
+    Some((Scalar::Integer, rest))
 }
 
 /// What an element's names are.

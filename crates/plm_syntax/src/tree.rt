@@ -15,6 +15,7 @@ pub enum Scalar {
     /// Another word for `Word`.
     Address,
     Pointer,
+    Integer,
 }
 
 /// An operator before its operand.

@@ -11,6 +11,7 @@ use Rattle.plm_decl.specs.declared.resolved.Reference.{Reference}
 use Rattle.plm_decl.specs.Resolved.{SelectorR, no_member, member, member_at}
 use Rattle.plm_decl.specs.ResolvedView as resolved
 use Rattle.plm_type.specs.declared.typer.Typer.{Typer}
+use Rattle.plm_type.specs.declared.numbers.Numbers.TheVariants.{Other}
 use Rattle.plm_type.specs.Rest as rest
 use Rattle.plm_type.specs.Shapes.{form_type, anchor_for, read_of, store_to}
 use Rattle.plm_type.specs.Typing.{is_plain}
@@ -54,7 +55,7 @@ module _ (self : Typer) (p : Position) where
   place_of v = rest.Refer self.module p.line (anchor_for (variables self) v) 0 rest.NoSubscripts
 
   abbrev pub read_as : Variable → ScalarType → Typed
-  read_as v t = record { tree = read_of t (place_of v); scalar = Some t; faults = [] }
+  read_as v t = record { tree = read_of t (place_of v); scalar = Some t; numbers = Other; faults = [] }
 
   abbrev pub stored_as : Variable → ScalarType → TypedTarget
   stored_as v t = record { tree = store_to t (place_of v); scalar = Some t; faults = [] }

@@ -4,6 +4,7 @@ pub mod Parts
 pub mod Said
 pub mod Alone
 pub mod Leaning
+pub mod Turning
 pub mod Marking
 pub mod Exploring
 pub mod MarkedTwice

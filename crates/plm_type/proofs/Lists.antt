@@ -1,5 +1,5 @@
 -- Lists as the code goes over them, and as it builds them.
-use Rattle.std.proofs.Common.{◌≡◌, ℕ, ◌+◌, ◌<◌, ◌≤◌, arith, List, [], ◌∷◌, ◌++◌, length, get_or, take, drop, drop-cons, add-one, map, Bool, true, false, ◌&&◌, Option, append_assoc, refl, sym, ap, ◌∙◌}
+use Rattle.std.proofs.Common.{◌≡◌, ℕ, zero, suc, ◌+◌, ◌<◌, ◌≤◌, arith, List, [], ◌∷◌, ◌++◌, length, get_or, slice_get, take, drop, drop-cons, add-one, map, Bool, true, false, ◌&&◌, Option, is_some, append_assoc, refl, sym, ap, ◌∙◌}
 use Rattle.std.proofs.lemmas.List.{append-nil}
 use Rattle.std.specs.Global.{Box}
 use Rattle.plm_decl.specs.declared.resolved.Expression as declared_resolved
@@ -17,7 +17,7 @@ use Rattle.plm_decl.specs.declared.found.Found.{Found}
 use Rattle.plm_type.specs.declared.typer.TypedList as declared_list
 use Rattle.plm_type.specs.declared.statements.TypedTargets as declared_targets
 use Rattle.plm_type.specs.Typer.{TypedList, TypedTargets, Noted}
-use Rattle.plm_type.specs.Types.{may_be_number, may_be_numbers, is_known_number, are_known_numbers}
+use Rattle.plm_type.specs.Types.{may_count, may_all_count, are_known_counts}
 use Rattle.plm_type.specs.Trees.{strided}
 use Rattle.plm_type.specs.Inner.Typer.{with_stride, noted, noted_after}
 use Rattle.plm_type.specs.Statements.{targets, assignment}
@@ -25,7 +25,8 @@ use Rattle.plm_syntax.specs.declared.tree.Position.{Position}
 use Rattle.plm_decl.specs.declared.builtin.Builtin.{Builtin}
 use Rattle.plm_decl.specs.declared.names.Variable.{Variable}
 use Rattle.plm_decl.specs.Names.{ProcedureR}
-use Rattle.plm_type.specs.Expressions.{miscounted, argument, arguments}
+use Rattle.plm_type.specs.Typing.{variable_type, parameter_types}
+use Rattle.plm_type.specs.Expressions.{before, wanted, typed, given, miscounted, argument, arguments}
 
 pub drop_at : {X : Type 0} → (xs : List X) (i : ℕ) (x : X) → i < length xs → x ≡ get_or xs i x → drop i xs ≡ x ∷ drop (i + 1) xs
 drop_at xs i x h e = drop-cons xs i x h ∙ (λ j. sym e j ∷ drop (sym (add-one i) j) xs)
@@ -41,6 +42,29 @@ references_at es i x h e = ap resolved.references_of (drop_at es i x h e)
 pub statements_at : (es : List resolved_statement.Statement) (i : ℕ) (x : resolved_statement.Statement) → i < length es → x ≡ get_or es i x
     → resolved.statements_of (drop i es) ≡ statements (resolved.statement_of x) (resolved.statements_of (drop (i + 1) es))
 statements_at es i x h e = ap resolved.statements_of (drop_at es i x h e)
+
+-- ---- types of as many parameters as there are arguments
+
+abbrev no_types : List (Option ScalarType)
+no_types = []
+
+pub none_taken : (n : ℕ) → take n no_types ≡ []
+none_taken zero = refl
+none_taken (suc n) = refl
+
+module _ (variables : List Variable) where
+  pub types_taken : (n : ℕ) (xs : List ℕ) → parameter_types variables (take n xs) ≡ take n (parameter_types variables xs)
+  types_taken zero xs = refl
+  types_taken (suc n) [] = refl
+  types_taken (suc n) (x ∷ xs) = ap (λ (ts : List (Option ScalarType)). variable_type (slice_get variables x) ∷ ts) (types_taken n xs)
+
+module _ (variables : List Variable) (procedures : List ProcedureR) (sizes : List ℕ) (module_index : ℕ) where
+  -- types beyond the arguments are not asked
+  pub given_taken : (ts : List (Option ScalarType)) (es : List declared_resolved.Expression)
+      → given variables procedures sizes module_index (take (length es) ts) (resolved.expressions_of es) ≡ given variables procedures sizes module_index ts (resolved.expressions_of es)
+  given_taken ts [] = refl
+  given_taken [] (e ∷ es) = refl
+  given_taken (t ∷ ts) (e ∷ es) = ap (before (wanted module_index t (typed variables procedures sizes module_index (resolved.expression_of e)))) (given_taken ts es)
 
 -- ---- trees so far, before others
 
@@ -97,17 +121,17 @@ targets_are t (u ∷ us) = ap (rest.Also (view.target_of t)) (targets_are u us)
 
 -- ---- types of two lists
 
-pub may_be_numbers_both : (ts us : List (Option ScalarType)) → may_be_numbers (ts ++ us) ≡ (may_be_numbers ts && may_be_numbers us)
-may_be_numbers_both [] us = refl
-may_be_numbers_both (t ∷ ts) us = and_more (may_be_number t) _ _ _ (may_be_numbers_both ts us)
+pub may_all_count_both : (ts us : List (Option ScalarType)) → may_all_count (ts ++ us) ≡ (may_all_count ts && may_all_count us)
+may_all_count_both [] us = refl
+may_all_count_both (t ∷ ts) us = and_more (may_count t) _ _ _ (may_all_count_both ts us)
   where
     and_more : (p a b c : Bool) → a ≡ (b && c) → (p && a) ≡ ((p && b) && c)
     and_more true a b c e = e
     and_more false a b c e = refl
 
-pub known_numbers_both : (ts us : List (Option ScalarType)) → are_known_numbers (ts ++ us) ≡ (are_known_numbers ts && are_known_numbers us)
-known_numbers_both [] us = refl
-known_numbers_both (t ∷ ts) us = and_more (is_known_number t) _ _ _ (known_numbers_both ts us)
+pub known_counts_both : (ts us : List (Option ScalarType)) → are_known_counts (ts ++ us) ≡ (are_known_counts ts && are_known_counts us)
+known_counts_both [] us = refl
+known_counts_both (t ∷ ts) us = and_more (is_some t && may_count t) _ _ _ (known_counts_both ts us)
   where
     and_more : (p a b c : Bool) → a ≡ (b && c) → (p && a) ≡ ((p && b) && c)
     and_more true a b c e = e

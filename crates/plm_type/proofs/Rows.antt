@@ -59,7 +59,7 @@ unfolding out-Reference denote.Hole.Carrier.out
 reference_tree (Reference' l a offset shape ss) = ap (rest.Refer l.module l.line (anchor_of a) offset) (subscript_rows ss ∙ ap subscripts_of (sym (items_shown-the_row-Subscript-2 shape ss)))
 
 pub iterate_tree : (e : Expression) (l : Box Loop) → statement_of (statement.Iterate e l) ≡ rest.Iterate (expression_of e) (loop_of l.value)
-iterate_tree e l = ap (λ ss. rest.Iterate (expression_of e) (rest.Count (scalar_of l.value.index) (expression_of l.value.bound) (expression_of l.value.step) ss)) (statement_row l.value.body)
+iterate_tree e l = ap (λ ss. rest.Iterate (expression_of e) (rest.Count l.value.counting (scalar_of l.value.index) (expression_of l.value.bound) (expression_of l.value.step) ss)) (statement_row l.value.body)
 
 pub lists_are_theirs : TreesHaveTheirLists
 lists_are_theirs = record {

@@ -59,11 +59,11 @@ abbrev mutual
   statement_calls (Comparing i e l) = []
   statement_calls (Stepping e l) = []
   statement_calls (Adding i s l) = []
-  statement_calls (Storing v l) = []
-  statement_calls (Ending v l) = []
+  statement_calls (Storing sum leaves l) = []
+  statement_calls (Ending leaves l) = []
 
   pub loop_calls : Loop → List ℕ
-  loop_calls (Count x b s ss) = calls_in b ++ (calls_in s ++ statements_calls ss)
+  loop_calls (Count o x b s ss) = calls_in b ++ (calls_in s ++ statements_calls ss)
 
   pub statements_calls : Statements → List ℕ
   statements_calls End = []

@@ -9,9 +9,9 @@ use Rattle.plm_decl.specs.declared.names.Variable.{Variable}
 use Rattle.plm_decl.specs.declared.found.Found.{Found}
 use Rattle.plm_decl.specs.Names.{ProcedureR}
 use Rattle.plm_decl.specs.Resolved.{ExpressionR, NumberR, TextR, ReferenceR, LocationR, ParenthesisedR, EmbeddedR, UnaryR, BinaryR, Use, SelectorR, LocationOf, ConstantsOf}
-use Rattle.plm_type.specs.Types.{may_be_numbers}
+use Rattle.plm_type.specs.Types.{may_all_count}
 use Rattle.plm_type.specs.Shapes.{shape_fits, element_count, element_size}
-use Rattle.plm_type.specs.Typing.{is_plain, arity, is_target, measured, take_all, parameter_types, returned_type}
+use Rattle.plm_type.specs.Typing.{is_plain, arity, may_be_arguments, is_target, measured, take_all, parameter_types, returned_type}
 
 -- ---- where an expression begins
 
@@ -34,7 +34,7 @@ measure_fits b (Some v) n s = not (shape_fits true v n s) || nat_le (measured b 
 -- a reference to a variable is of its shape, and no subscript is a POINTER
 abbrev pub may_be_used : (part : Bool) → Option Variable → SelectorR → List (Option ScalarType) → List (Option ScalarType) → Bool
 may_be_used part None s ts us = false
-may_be_used part (Some v) s ts us = shape_fits part v (length ts) s && may_be_numbers (ts ++ us)
+may_be_used part (Some v) s ts us = shape_fits part v (length ts) s && may_all_count (ts ++ us)
 
 -- ---- faults in the module of this number
 module _ (module_index : ℕ) where
@@ -44,11 +44,11 @@ module _ (module_index : ℕ) where
   abbrev pub use_faults : (part : Bool) → Position → Option Variable → SelectorR → List (Option ScalarType) → List (Option ScalarType) → List Found
   use_faults part p v s ts us = fault_unless (may_be_used part v s ts us) E401 p
 
-  -- each argument that has a parameter is a number, however many there are
+  -- each argument that has a parameter is taken by it, however many there are
   abbrev pub builtin_faults : Position → Builtin → SelectorR → List (Option ScalarType) → List Found
   builtin_faults p b s ts =
       fault_unless (is_plain s) E401 p
-      ++ (fault_unless (nat_eq (length ts) (arity b)) E402 p ++ fault_unless (may_be_numbers (take (arity b) ts)) E401 p)
+      ++ (fault_unless (nat_eq (length ts) (arity b)) E402 p ++ fault_unless (may_be_arguments b (take (arity b) ts)) E401 p)
 
   -- ports are targets, and no other built-in is one
   abbrev pub port_faults : Position → Builtin → SelectorR → List (Option ScalarType) → List Found

@@ -9,3 +9,4 @@ pub mod Typer
 pub mod Builtins
 pub mod Handlers
 pub mod Plain
+pub mod Turned

@@ -6,6 +6,7 @@ pub mod Types
 pub mod Shapes
 pub mod Typing
 pub mod Faults
+pub mod Numbers
 pub mod Trees
 pub mod Typer
 pub mod Expressions

@@ -1,7 +1,7 @@
 -- What a context does next: the first part of its rest that can be rewritten. Silent steps are a constant or a location taken as a
 -- value, an operator or a built-in on values, a test, the empty statement, entering and leaving a DO block, the comparison, the
 -- sum and the end test of a DO with an index, a case dropped or taken, RETURN, and the start and the end of a call.
-use Rattle.std.specs.Prelude.{ℕ, zero, suc, ◌+◌, ◌*◌, ◌%◌, Bool, nat_eq, nat_lt, if◌then◌else◌, List, [], ◌∷◌, Option, Some, None, slice_get}
+use Rattle.std.specs.Prelude.{ℕ, zero, suc, ◌+◌, ◌*◌, ◌%◌, Bool, not, ◌+ℤ◌, nat_eq, nat_lt, if◌then◌else◌, List, [], ◌∷◌, Option, Some, None, slice_get}
 use Rattle.word86.specs.declared.width.Width.{Width}
 use Rattle.word86.specs.declared.width.Width.TheVariants as widths
 use Rattle.word86.specs.declared.operation.UnaryOperation.{UnaryOperation}
@@ -10,6 +10,9 @@ use Rattle.word86.specs.Access.{Access, Read, Write, Input, Output, values, Wher
 use Rattle.word86.specs.Action.{Action, Silent, Touch, Enable, Disable, Halt, Over, Bad, map_action}
 use Rattle.word86.specs.Arithmetic.{low}
 use Rattle.word86.specs.Operation.{unary_value, binary_value}
+use Rattle.word86.specs.Signed.{signed, in_range, signed_less}
+use Rattle.plm_type.specs.declared.program.Counting.{Counting}
+use Rattle.plm_type.specs.declared.program.Counting.TheVariants as counting
 use Rattle.plm_type.specs.Rest.{Anchor, InObject, OnScreen, Behind, There, Scalar, Expression, Constant, Plain, Variable, Location, Unary, Binary, Embedded, Call, Value, Passing, Running, Expressions, NoMore, More, Reference, Refer, Subscripts, NoSubscripts, Subscript, Target, ToPlain, ToVariable, ToPort, Targets, Only, Also, Loop, Count, Statement, Empty, Assign, Evaluate, Return, ReturnValue, Enabling, Disabling, Halting, If, Block, While, Case, Iterate, Leaving, Round, Comparing, Stepping, Adding, Storing, Ending, Statements, End, Then, Returned, Procedure, Rest, Main, Handler}
 use Rattle.plm_type.specs.Rest as rest
 use Rattle.plm_type.specs.Places.{anchored, placed}
@@ -192,32 +195,47 @@ next_case (Some zero) (Then s cases) later value = Silent (Then s later)
 next_case (Some (suc v)) (Then s cases) later value = Silent (Then (Case (Value v) cases) later)
 
 abbrev pub index_of : Loop → Scalar
-index_of (Count x bound step body) = x
+index_of (Count o x bound step body) = x
+
+abbrev pub counting_of : Loop → Counting
+counting_of (Count o x bound step body) = o
 
 abbrev pub bound_of : Loop → Expression
-bound_of (Count x bound step body) = bound
+bound_of (Count o x bound step body) = bound
 
 abbrev pub step_of : Loop → Expression
-step_of (Count x bound step body) = step
+step_of (Count o x bound step body) = step
 
 abbrev pub rounds_of : Loop → Statements
-rounds_of (Count x bound step body) = body
+rounds_of (Count o x bound step body) = body
 
 abbrev pub next_iterate : Option ℕ → Loop → Statements → Action Access Expression → Action Access Statements
 next_iterate None l later first = map_action (λ r. Then (Iterate r l) later) first
 next_iterate (Some v) l later first = scalar_written (index_of l) v (Then (Round l) later)
 
+-- whether an index is behind the bound
+abbrev pub has_passed : Counting → (index bound : ℕ) → Bool
+has_passed counting.Up i b = nat_lt b i
+has_passed counting.SignedUp i b = signed_less b i
+has_passed counting.SignedDown i b = signed_less i b
+
+-- whether an index and a step have a sum outside the range of the index
+abbrev pub leaves : Counting → Width → (index step : ℕ) → Bool
+leaves counting.Up width i s = not (nat_lt (i + s) (values width))
+leaves counting.SignedUp width i s = not (in_range 65536 (signed 65536 i +ℤ signed 65536 s))
+leaves counting.SignedDown width i s = not (in_range 65536 (signed 65536 i +ℤ signed 65536 s))
+
 abbrev pub next_comparing : (index : ℕ) → Option ℕ → Loop → Statements → Action Access Expression → Action Access Statements
 next_comparing i None l later bound = map_action (λ r. Then (Comparing i r l) later) bound
-next_comparing i (Some b) l later bound = Silent (if nat_lt b i then later else behind (rounds_of l) (Then (Stepping (step_of l) l) later))
+next_comparing i (Some b) l later bound = Silent (if has_passed (counting_of l) i b then later else behind (rounds_of l) (Then (Stepping (step_of l) l) later))
 
 abbrev pub next_stepping : Option ℕ → Loop → Statements → Action Access Expression → Action Access Statements
 next_stepping None l later step = map_action (λ r. Then (Stepping r l) later) step
 next_stepping (Some s) l later step = scalar_read (index_of l) (λ i. Then (Adding i s l) later)
 
--- the loop ends where the sum does not fit the index
-abbrev pub next_ending : (sum : ℕ) → Loop → Statements → Action Access Statements
-next_ending sum l later = Silent (if nat_lt sum (values (index_of l).width) then Then (Round l) later else later)
+-- the loop ends where the sum leaves the range of the index
+abbrev pub next_ending : (leaves : Bool) → Loop → Statements → Action Access Statements
+next_ending leaves l later = Silent (if leaves then later else Then (Round l) later)
 
 -- ---- what comes next
 
@@ -295,9 +313,9 @@ module _ (offsets sizes : List ℕ) (procedures : List Procedure) where
     next_statement (Round l) later = scalar_read (index_of l) (λ i. Then (Comparing i (bound_of l) l) later)
     next_statement (Comparing i r l) later = next_comparing i (value_of r) l later (next_expression r)
     next_statement (Stepping r l) later = next_stepping (value_of r) l later (next_expression r)
-    next_statement (Adding i s l) later = Silent (Then (Storing (i + s) l) later)
-    next_statement (Storing sum l) later = scalar_written (index_of l) sum (Then (Ending sum l) later)
-    next_statement (Ending sum l) later = next_ending sum l later
+    next_statement (Adding i s l) later = Silent (Then (Storing (i + s) (leaves (counting_of l) (index_of l).width i s) l) later)
+    next_statement (Storing sum leaves l) later = scalar_written (index_of l) sum (Then (Ending leaves l) later)
+    next_statement (Ending leaves l) later = next_ending leaves l later
 
     pub next_statements : Statements → Action Access Statements
     next_statements End = Over

@@ -1,11 +1,12 @@
 -- What a context has still to do: trees of the language in which names stand for places and types are known, and whose evaluated
 -- parts are replaced by their values. What a program has to do at first are the same trees, without the forms of rests.
-use Rattle.std.specs.Prelude.{ℕ, List}
+use Rattle.std.specs.Prelude.{ℕ, Bool, List}
 use Rattle.word86.specs.declared.width.Width.{Width}
 use Rattle.word86.specs.declared.operation.UnaryOperation.{UnaryOperation}
 use Rattle.word86.specs.declared.operation.BinaryOperation.{BinaryOperation}
 use Rattle.word86.specs.declared.page.Page.{Page}
 use Rattle.word86.specs.Access.{Where}
+use Rattle.plm_type.specs.declared.program.Counting.{Counting}
 
 -- where a variable's bytes begin: at this index of a RAM object or of a page of the screen, with the size of what its declaration takes, or
 -- at the address that its base holds
@@ -74,9 +75,9 @@ mutual
     Also : Target → Targets → Targets
     deriving IsSet as Targets-set
 
-  -- DO i = .. TO b BY s: the index, the bound, the step and the body
+  -- DO i = .. TO b BY s: how the index counts, the index, the bound, the step and the body
   pub data Loop : Type 0 where
-    Count : Scalar → (bound step : Expression) → Statements → Loop
+    Count : Counting → Scalar → (bound step : Expression) → Statements → Loop
     deriving IsSet as Loop-set
 
   pub data Statement : Type 0 where
@@ -102,11 +103,12 @@ mutual
     -- a round of a DO with an index begins; its index is compared with the bound
     Round : Loop → Statement
     Comparing : (index : ℕ) → Expression → Loop → Statement
-    -- after the body: the step; the index, to which the step is added; the sum, which the index gets, and which is tested
+    -- after the body: the step; the index, to which the step is added; the sum, which the index gets, and whether it leaves the range
+    -- of the index
     Stepping : Expression → Loop → Statement
     Adding : (index step : ℕ) → Loop → Statement
-    Storing : (sum : ℕ) → Loop → Statement
-    Ending : (sum : ℕ) → Loop → Statement
+    Storing : (sum : ℕ) → (leaves : Bool) → Loop → Statement
+    Ending : (leaves : Bool) → Loop → Statement
     deriving IsSet as Statement-set
 
   pub data Statements : Type 0 where

@@ -1,5 +1,5 @@
 -- Statements, procedures and main: what is said of each, with names as places.
-use Rattle.std.specs.Prelude.{ℕ, Bool, true, false, not, ◌&&◌, ◌||◌, nat_eq, nat_le, cond, List, [], ◌∷◌, ◌++◌, length, map, slice_get, Option, Some, None, is_some}
+use Rattle.std.specs.Prelude.{ℕ, Bool, true, false, not, ◌&&◌, ◌||◌, nat_eq, nat_lt, nat_le, cond, List, [], ◌∷◌, ◌++◌, length, map, slice_get, Option, Some, None, is_some, option_map}
 use Rattle.std.specs.List.{flat_map}
 use Rattle.word86.specs.declared.number.Number.TheVariants.{E401, E403}
 use Rattle.word86.specs.declared.width.Width.{Width}
@@ -12,31 +12,39 @@ use Rattle.plm_decl.specs.declared.resolved.Binding.{Binding}
 use Rattle.plm_decl.specs.declared.resolved.Binding.TheVariants as binding
 use Rattle.plm_decl.specs.declared.found.Found.{Found}
 use Rattle.plm_decl.specs.Names.{ProcedureR, DeclaredLocationR, MainR, is_external_linkage}
-use Rattle.plm_decl.specs.Resolved.{ExpressionR, ReferenceR', Use, ReferencesR, no_references, references, StatementR, EmptyR, AssignR, CallR, ReturnR, ReturnValueR, EnableR, DisableR, HaltR, IfR, IfElseR, DoR, WhileR, CaseR, IterateR, StatementsR, no_statements, statements}
+use Rattle.plm_decl.specs.Resolved.{ExpressionR, NumberR, TextR, ReferenceR, LocationR, ParenthesisedR, EmbeddedR, UnaryR, BinaryR, ReferenceR', Use, ReferencesR, no_references, references, StatementR, EmptyR, AssignR, CallR, ReturnR, ReturnValueR, EnableR, DisableR, HaltR, IfR, IfElseR, DoR, WhileR, CaseR, IterateR, StatementsR, no_statements, statements}
 use Rattle.plm_type.specs.declared.statements.Around.{Around}
+use Rattle.plm_type.specs.declared.statements.SignedStep.{SignedStep}
+use Rattle.plm_type.specs.declared.program.Counting.{Counting}
+use Rattle.plm_type.specs.declared.program.Counting.TheVariants as counting
+use Rattle.plm_decl.specs.declared.layout.ScalarType.TheVariants.{Integer}
+use Rattle.plm_decl.specs.Datum.{signed}
+use Rattle.plm_syntax.specs.Terminal.{NumeralT}
+use Rattle.plm_syntax.specs.declared.tree.UnaryOperator.TheVariants as sign
 use Rattle.plm_type.specs.declared.statements.Around.TheVariants as stands
 use Rattle.plm_type.specs.Rest.{Expression, Constant, Call, Target, Targets, Only, Also, Scalar, Count, Statement, Empty, Assign, Evaluate, Return, ReturnValue, Enabling, Disabling, Halting, If, Block, While, Case, Iterate, Statements, End, Then, Procedure}
-use Rattle.plm_type.specs.Types.{width_of, may_be_number, may_be_pointer, takes, may_be_numbers, may_be_pointers}
+use Rattle.plm_type.specs.Types.{width_of, may_be_number, may_be_integer, may_be_pointer, may_count, is_integer, takes, may_be_numbers, may_be_integers, may_be_pointers, has_integer}
 use Rattle.plm_type.specs.Shapes.{form_type, has_room, is_based, scalar_for, scalar_size}
-use Rattle.plm_type.specs.Typing.{may_be_assigned}
+use Rattle.plm_type.specs.Typing.{may_be_assigned, variable_type, parameters_wanted}
 use Rattle.plm_type.specs.Faults.{first_place, fault_unless, call_faults}
 use Rattle.plm_type.specs.Trees.{entry_of}
-use Rattle.plm_type.specs.Typer.{Typed, TypedTargets, Noted}
-use Rattle.plm_type.specs.Expressions.{typed, list, location, target}
+use Rattle.plm_type.specs.Typer.{Typed, TypedTargets, TypedStep, Noted}
+use Rattle.plm_type.specs.Expressions.{typed, wanted, given, location, target}
 
 -- RETURN stands in procedures alone, with a value exactly in a typed one
 abbrev pub may_return : Around → Bool
 may_return stands.Main = false
 may_return (stands.Procedure t) = not (is_some t)
 
+abbrev pub wanted_of_return : Around → Option ScalarType
+wanted_of_return stands.Main = None
+wanted_of_return (stands.Procedure t) = t
+
 abbrev pub may_return_value : Around → Option ScalarType → Bool
-may_return_value stands.Main v = false
-may_return_value (stands.Procedure None) v = false
-may_return_value (stands.Procedure (Some t)) v = takes (Some t) v
+may_return_value around v = is_some (wanted_of_return around) && takes (wanted_of_return around) v
 
 abbrev pub returned_width : Around → Width
-returned_width stands.Main = width.Word
-returned_width (stands.Procedure t) = width_of t
+returned_width around = width_of (wanted_of_return around)
 
 -- a scalar that is not based
 abbrev pub is_plain_scalar : Variable → Bool
@@ -46,18 +54,26 @@ is_plain_scalar v = is_some (form_type v.form) && (not (is_some v.dimension) && 
 abbrev pub is_placed_scalar : Variable → Bool
 is_placed_scalar v = is_plain_scalar v && has_room (scalar_size (form_type v.form)) v
 
--- an index is a BYTE or WORD scalar that lies somewhere
+-- an index is a BYTE, WORD or INTEGER scalar that lies somewhere
 abbrev pub is_index : Option Variable → Bool
 is_index None = false
-is_index (Some v) = is_placed_scalar v && may_be_number (form_type v.form)
+is_index (Some v) = is_placed_scalar v && may_count (form_type v.form)
+
+-- a start or a bound of the second type may stand where the index has the first
+abbrev pub may_bound : Option ScalarType → Option ScalarType → Bool
+may_bound t v = cond (is_integer t) (may_be_integer v) (may_be_number v)
 
 abbrev pub index_for : Option Variable → Scalar
 index_for (Some v) = scalar_for v
 index_for None = record { width = width.Word; place = In 0 0 }
 
--- of the types that are known, targets' and value's, no two are of different kinds: all are numbers, or all are POINTERs
+-- of the types that are known, targets' and value's, no two are of different kinds: all are numbers, all INTEGERs, or all POINTERs
 abbrev pub all_take : List (Option ScalarType) → Option ScalarType → Bool
-all_take xs t = (may_be_number t && may_be_numbers xs) || (may_be_pointer t && may_be_pointers xs)
+all_take xs t = (may_be_number t && may_be_numbers xs) || ((may_be_integer t && may_be_integers xs) || (may_be_pointer t && may_be_pointers xs))
+
+-- an INTEGER is wanted where some target is one
+abbrev pub wanted_among : List (Option ScalarType) → Option ScalarType
+wanted_among xs = cond (has_integer xs) (Some Integer) None
 
 abbrev pub first_target : ReferencesR → ExpressionR → Position
 first_target no_references e = first_place e
@@ -110,23 +126,79 @@ while_loop e ss = record { tree = While e.tree e.tree ss.tree; faults = e.faults
 abbrev pub cases : Noted Expression → Noted Statements → Noted Statement
 cases e ss = record { tree = Case e.tree ss.tree; faults = e.faults ++ ss.faults }
 
-abbrev pub iteration : Noted Scalar → (from bound step : Noted Expression) → Noted Statements → Noted Statement
+abbrev pub iteration : Noted Scalar → (from bound : Noted Expression) → TypedStep → Noted Statements → Noted Statement
 iteration i a b s ss = record {
-  tree = Iterate a.tree (Count i.tree b.tree s.tree ss.tree);
+  tree = Iterate a.tree (Count s.counting i.tree b.tree s.tree ss.tree);
   faults = i.faults ++ (a.faults ++ (b.faults ++ (s.faults ++ ss.faults)));
 }
+
+-- ---- the step of a DO with an INTEGER index: a number, perhaps after one sign
+
+abbrev pub number_alone : ExpressionR → Option NumeralT
+number_alone (NumberR n) = Some n
+number_alone (TextR p cs) = None
+number_alone (ReferenceR x) = None
+number_alone (LocationR l) = None
+number_alone (ParenthesisedR p e) = None
+number_alone (EmbeddedR p x e) = None
+number_alone (UnaryR p o e) = None
+number_alone (BinaryR p o a b) = None
+
+abbrev pub with_its_sign : (negative : Bool) → NumeralT → SignedStep
+with_its_sign negative n = record { negative = negative; value = n.value; place = n.place }
+
+abbrev pub signed_step : ExpressionR → Option SignedStep
+signed_step (NumberR n) = Some (with_its_sign false n)
+signed_step (TextR p cs) = None
+signed_step (ReferenceR x) = None
+signed_step (LocationR l) = None
+signed_step (ParenthesisedR p e) = None
+signed_step (EmbeddedR p x e) = None
+signed_step (UnaryR p sign.Plus e) = option_map (with_its_sign false) (number_alone e)
+signed_step (UnaryR p sign.Minus e) = option_map (with_its_sign true) (number_alone e)
+signed_step (UnaryR p sign.Not e) = None
+signed_step (BinaryR p o a b) = None
+
+abbrev pub step_fits : SignedStep → Bool
+step_fits s = nat_le s.value (cond s.negative 32768 32767)
+
+-- it is one constant with its sign
+abbrev pub step_value : SignedStep → ℕ
+step_value s = cond (step_fits s) (signed s.negative 65536 s.value) 0
+
+abbrev pub counting_by : SignedStep → Counting
+counting_by s = cond (s.negative && nat_lt 0 s.value) counting.SignedDown counting.SignedUp
+
+abbrev pub integer_step : (module_index : ℕ) → Position → Option SignedStep → TypedStep
+integer_step module_index p None = record { tree = Constant 0; counting = counting.SignedUp; faults = fault_unless module_index false E401 p }
+integer_step module_index p (Some s) = record { tree = Constant (step_value s); counting = counting_by s; faults = fault_unless module_index (step_fits s) E401 s.place }
+
+abbrev pub number_step : Noted Expression → TypedStep
+number_step e = record { tree = e.tree; counting = counting.Up; faults = e.faults }
+
+abbrev pub chosen_step : Bool → TypedStep → TypedStep → TypedStep
+chosen_step c a b = record { tree = cond c a.tree b.tree; counting = cond c a.counting b.counting; faults = cond c a.faults b.faults }
 
 -- ---- in a program that declares these
 module _ (variables : List Variable) (procedures : List ProcedureR) (sizes : List ℕ) (module_index : ℕ) where
   abbrev expression : ExpressionR → Typed
   expression e = typed variables procedures sizes module_index e
 
-  -- a condition, a bound, the value of DO CASE
+  -- a value that stands where it fits
+  abbrev pub fitting : Position → Bool → Typed → Noted Expression
+  fitting p fits e = record { tree = e.tree; faults = e.faults ++ fault_unless module_index fits E401 p }
+
+  -- a condition, or the step of a DO with a BYTE or WORD index
   abbrev pub number_in : Position → ExpressionR → Noted Expression
-  number_in p e = record {
-    tree = (expression e).tree;
-    faults = (expression e).faults ++ fault_unless module_index (may_be_number (expression e).scalar) E401 p;
-  }
+  number_in p e = fitting p (may_be_number (expression e).scalar) (expression e)
+
+  -- the value of DO CASE
+  abbrev pub count_in : Position → ExpressionR → Noted Expression
+  count_in p e = fitting p (may_count (expression e).scalar) (expression e)
+
+  -- the start or the bound of a DO whose index has this type
+  abbrev pub bound_in : Option ScalarType → Position → ExpressionR → Noted Expression
+  bound_in t p e = let value = wanted module_index t (expression e) in fitting p (may_bound t value.scalar) value
 
   abbrev pub typed_targets : ReferencesR → TypedTargets
   typed_targets no_references = record { trees = []; types = []; faults = [] }
@@ -142,7 +214,7 @@ module _ (variables : List Variable) (procedures : List ProcedureR) (sizes : Lis
   abbrev pub typed_call : Position → ReferenceR' → Noted Expression
   typed_call p (Use q (binding.Procedure n) es s) =
       let procedure = slice_get procedures n in
-      let arguments = list variables procedures sizes module_index es in
+      let arguments = given variables procedures sizes module_index (parameters_wanted variables procedure) es in
       record { tree = Call (entry_of procedure) arguments.trees; faults = arguments.faults ++ call_faults variables module_index q procedure s arguments.types }
   typed_call p (Use q (binding.Variable v) es s) = uncalled p
   typed_call p (Use q (binding.Builtin b) es s) = uncalled p
@@ -154,24 +226,25 @@ module _ (variables : List Variable) (procedures : List ProcedureR) (sizes : Lis
       record { tree = index_for variable; faults = fault_unless module_index (is_index variable) E401 p ++ fault_unless module_index (may_be_assigned variable) E403 q }
 
   -- the step is 1 if it is missing
-  abbrev pub typed_step : Position → Option ExpressionR → Noted Expression
-  typed_step p None = record { tree = Constant 1; faults = [] }
-  typed_step p (Some e) = number_in p e
+  abbrev pub typed_step : Option ScalarType → Position → Option ExpressionR → TypedStep
+  typed_step t p None = record { tree = Constant 1; counting = cond (is_integer t) counting.SignedUp counting.Up; faults = [] }
+  typed_step t p (Some e) = chosen_step (is_integer t) (integer_step module_index p (signed_step e)) (number_step (number_in p e))
 
   abbrev pub typed_assignment : ReferencesR → ExpressionR → Noted Statement
   typed_assignment xs e =
       let stored = typed_targets xs in
-      let value = expression e in
+      let value = wanted module_index (wanted_among stored.types) (expression e) in
       record {
         tree = assignment stored.trees value.tree;
         faults = stored.faults ++ (value.faults ++ fault_unless module_index (all_take stored.types value.scalar) E401 (first_target xs e));
       }
 
   abbrev pub typed_return : Around → Position → ExpressionR → Noted Expression
-  typed_return around p e = record {
-    tree = (expression e).tree;
-    faults = (expression e).faults ++ fault_unless module_index (may_return_value around (expression e).scalar) E401 p;
-  }
+  typed_return around p e = let value = wanted module_index (wanted_of_return around) (expression e) in fitting p (may_return_value around value.scalar) value
+
+  -- a DO with an index, up to its statements
+  abbrev pub typed_range : Option ScalarType → Noted Scalar → Position → (from to : ExpressionR) → (by : Option ExpressionR) → Noted Statements → Noted Statement
+  typed_range t i p a b s ss = iteration i (bound_in t p a) (bound_in t p b) (typed_step t p s) ss
 
   abbrev mutual
     pub typed_statement : Around → StatementR → Noted Statement
@@ -187,9 +260,9 @@ module _ (variables : List Variable) (procedures : List ProcedureR) (sizes : Lis
     typed_statement around (IfElseR p e s t) = alternative (number_in p e) (typed_statement around s) (typed_statement around t)
     typed_statement around (DoR p ss) = block (typed_statements around ss)
     typed_statement around (WhileR p e ss) = while_loop (number_in p e) (typed_statements around ss)
-    typed_statement around (CaseR p e ss) = cases (number_in p e) (typed_statements around ss)
+    typed_statement around (CaseR p e ss) = cases (count_in p e) (typed_statements around ss)
     typed_statement around (IterateR p q m a b s ss) =
-        iteration (typed_index p q m) (number_in p a) (number_in p b) (typed_step p s) (typed_statements around ss)
+        typed_range (variable_type (variable_meant variables m)) (typed_index p q m) p a b s (typed_statements around ss)
 
     pub typed_statements : Around → StatementsR → Noted Statements
     typed_statements around no_statements = record { tree = End; faults = [] }

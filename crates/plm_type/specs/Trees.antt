@@ -84,6 +84,8 @@ module _ (module_index : ℕ) where
   builtin_value line builtin.Low w es = operated unary.Low w es
   builtin_value line builtin.High w es = operated unary.High w es
   builtin_value line builtin.Double w es = operated unary.Double w es
+  builtin_value line builtin.Signed w es = operated unary.Double w es
+  builtin_value line builtin.Unsigned w es = operated unary.Double w es
   builtin_value line builtin.ShiftLeft w es = shifted line binary.ShiftLeft w es
   builtin_value line builtin.ShiftRight w es = shifted line binary.ShiftRight w es
   builtin_value line builtin.RotateLeft w es = shifted line binary.RotateLeft w es

@@ -2,12 +2,15 @@
 use Rattle.std.specs.Prelude.{List, Option}
 use Rattle.plm_decl.specs.declared.layout.ScalarType.{ScalarType}
 use Rattle.plm_decl.specs.declared.found.Found.{Found}
+use Rattle.plm_type.specs.declared.numbers.Numbers.{Numbers}
+use Rattle.plm_type.specs.declared.program.Counting.{Counting}
 use Rattle.plm_type.specs.Rest.{Expression, Expressions, Target}
 
 -- an expression; what has a fault has no type
 pub record Typed : Type 0 where
   pub tree : Expression
   pub scalar : Option ScalarType
+  pub numbers : Numbers
   pub faults : List Found
 
 -- a target; that of DATA keeps its type
@@ -39,4 +42,10 @@ pub record TypedTargets : Type 0 where
 -- what has no type
 pub record Noted (A : Type 0) : Type 0 where
   pub tree : A
+  pub faults : List Found
+
+-- the step of a DO with an index, and how it counts
+pub record TypedStep : Type 0 where
+  pub tree : Expression
+  pub counting : Counting
   pub faults : List Found

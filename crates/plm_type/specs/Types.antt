@@ -1,6 +1,6 @@
 -- The types of values, and which types operators, stores and arguments take. What has a fault has no type; no fault is found in what
 -- holds it unless the other parts alone are faulty.
-use Rattle.std.specs.Prelude.{ℕ, Bool, true, false, ◌&&◌, ◌||◌, nat_le, cond, List, [], ◌∷◌, Option, Some, None, is_some}
+use Rattle.std.specs.Prelude.{ℕ, Bool, true, false, ◌&&◌, ◌||◌, nat_le, nat_lt, nat_eq, cond, List, [], ◌∷◌, Option, Some, None, is_some}
 use Rattle.word86.specs.declared.width.Width.{Width}
 use Rattle.word86.specs.declared.width.Width.TheVariants as width
 use Rattle.word86.specs.declared.operation.UnaryOperation.{UnaryOperation}
@@ -11,13 +11,16 @@ use Rattle.plm_syntax.specs.declared.tree.UnaryOperator.{UnaryOperator}
 use Rattle.plm_syntax.specs.declared.tree.UnaryOperator.TheVariants as before
 use Rattle.plm_syntax.specs.declared.tree.BinaryOperator.{BinaryOperator}
 use Rattle.plm_syntax.specs.declared.tree.BinaryOperator.TheVariants as between
+use Rattle.plm_syntax.specs.WellFormed.{precedence_of}
 use Rattle.plm_decl.specs.declared.layout.ScalarType.{ScalarType}
-use Rattle.plm_decl.specs.declared.layout.ScalarType.TheVariants.{Byte, Word, Pointer}
+use Rattle.plm_decl.specs.declared.layout.ScalarType.TheVariants.{Byte, Word, Pointer, Integer}
+use Rattle.plm_decl.specs.Datum.{is_byte}
 
 abbrev pub width_of : Option ScalarType → Width
 width_of (Some Byte) = width.Byte
 width_of (Some Word) = width.Word
 width_of (Some Pointer) = width.Word
+width_of (Some Integer) = width.Word
 -- not known
 width_of None = width.Word
 
@@ -28,17 +31,34 @@ abbrev pub may_be_number : Option ScalarType → Bool
 may_be_number (Some Byte) = true
 may_be_number (Some Word) = true
 may_be_number (Some Pointer) = false
+may_be_number (Some Integer) = false
 may_be_number None = true
 
 abbrev pub may_be_pointer : Option ScalarType → Bool
 may_be_pointer (Some Byte) = false
 may_be_pointer (Some Word) = false
 may_be_pointer (Some Pointer) = true
+may_be_pointer (Some Integer) = false
 may_be_pointer None = true
 
--- a POINTER goes only into a POINTER, which takes nothing else
+abbrev pub may_be_integer : Option ScalarType → Bool
+may_be_integer (Some Byte) = false
+may_be_integer (Some Word) = false
+may_be_integer (Some Pointer) = false
+may_be_integer (Some Integer) = true
+may_be_integer None = true
+
+-- a subscript, or the value of DO CASE: an INTEGER counts as the WORD of its bits
+abbrev pub may_count : Option ScalarType → Bool
+may_count t = may_be_number t || may_be_integer t
+
+-- one kind on both sides: BYTE and WORD, POINTER, or INTEGER
 abbrev pub takes : Option ScalarType → Option ScalarType → Bool
-takes t v = (may_be_number t && may_be_number v) || (may_be_pointer t && may_be_pointer v)
+takes t v = (may_be_number t && may_be_number v) || ((may_be_integer t && may_be_integer v) || (may_be_pointer t && may_be_pointer v))
+
+-- AND, OR and XOR stand behind the relations
+abbrev pub is_bitwise : BinaryOperator → Bool
+is_bitwise o = nat_lt 4 (precedence_of o)
 
 abbrev pub is_equality : BinaryOperator → Bool
 is_equality between.Multiply = false
@@ -57,24 +77,21 @@ is_equality between.Or = false
 is_equality between.ExclusiveOr = false
 
 abbrev pub is_relation : BinaryOperator → Bool
-is_relation between.Multiply = false
-is_relation between.Divide = false
-is_relation between.Modulo = false
-is_relation between.Add = false
-is_relation between.Subtract = false
-is_relation between.Equal = true
-is_relation between.NotEqual = true
-is_relation between.Less = true
-is_relation between.LessEqual = true
-is_relation between.Greater = true
-is_relation between.GreaterEqual = true
-is_relation between.And = false
-is_relation between.Or = false
-is_relation between.ExclusiveOr = false
+is_relation o = nat_eq (precedence_of o) 4
 
--- only = and <> take POINTERs, on both sides
+-- both are numbers, or both INTEGER
+abbrev pub are_alike : Option ScalarType → Option ScalarType → Bool
+are_alike a b = (may_be_number a && may_be_number b) || (may_be_integer a && may_be_integer b)
+
+-- AND, OR and XOR take numbers; = and <> any kind, the same on both sides; the others numbers or INTEGERs
 abbrev pub operands_fit : BinaryOperator → Option ScalarType → Option ScalarType → Bool
-operands_fit o a b = cond (is_equality o) (takes a b) (may_be_number a && may_be_number b)
+operands_fit o a b = cond (is_bitwise o) (may_be_number a && may_be_number b) (cond (is_equality o) (takes a b) (are_alike a b))
+
+-- NOT takes a number, a sign an INTEGER too
+abbrev pub unary_fits : UnaryOperator → Option ScalarType → Bool
+unary_fits before.Not t = may_be_number t
+unary_fits before.Plus t = may_count t
+unary_fits before.Minus t = may_count t
 
 -- ---- the types of values
 
@@ -91,15 +108,7 @@ text_type (c ∷ d ∷ e ∷ others) = None
 
 -- the type of two BYTEs together is BYTE, else WORD
 abbrev pub wider : ScalarType → ScalarType → ScalarType
-wider Byte Byte = Byte
-wider Byte Word = Word
-wider Byte Pointer = Word
-wider Word Byte = Word
-wider Word Word = Word
-wider Word Pointer = Word
-wider Pointer Byte = Word
-wider Pointer Word = Word
-wider Pointer Pointer = Word
+wider a b = cond (is_byte a && is_byte b) Byte Word
 
 -- what is worked out of two numbers; a relation is not asked
 abbrev pub number_result : BinaryOperator → ScalarType → ScalarType → ScalarType
@@ -118,9 +127,13 @@ number_result between.And a b = wider a b
 number_result between.Or a b = wider a b
 number_result between.ExclusiveOr a b = wider a b
 
--- relations answer 0FFH or 0
+-- known to be INTEGER
+abbrev pub is_integer : Option ScalarType → Bool
+is_integer t = is_some t && may_be_integer t
+
+-- relations answer 0FFH or 0; of INTEGERs a sum, difference, product, quotient and remainder is INTEGER
 abbrev pub result_type : BinaryOperator → ScalarType → ScalarType → ScalarType
-result_type o a b = cond (is_relation o) Byte (number_result o a b)
+result_type o a b = cond (is_relation o) Byte (cond (is_integer (Some a)) Integer (number_result o a b))
 
 abbrev pub both : (ScalarType → ScalarType → ScalarType) → Option ScalarType → Option ScalarType → Option ScalarType
 both f (Some a) (Some b) = Some (f a b)
@@ -131,21 +144,32 @@ abbrev pub binary_type : BinaryOperator → Option ScalarType → Option ScalarT
 binary_type o a b = cond (operands_fit o a b) (both (result_type o) a b) None
 
 -- unary operators keep the type of their operand
-abbrev pub unary_type : Option ScalarType → Option ScalarType
-unary_type t = cond (may_be_number t) t None
+abbrev pub unary_type : UnaryOperator → Option ScalarType → Option ScalarType
+unary_type o t = cond (unary_fits o t) t None
 
 -- ---- the types of several values
-
-abbrev pub is_known_number : Option ScalarType → Bool
-is_known_number t = is_some t && may_be_number t
-
-abbrev pub are_known_numbers : List (Option ScalarType) → Bool
-are_known_numbers [] = true
-are_known_numbers (t ∷ ts) = is_known_number t && are_known_numbers ts
 
 abbrev pub may_be_numbers : List (Option ScalarType) → Bool
 may_be_numbers [] = true
 may_be_numbers (t ∷ ts) = may_be_number t && may_be_numbers ts
+
+abbrev pub may_be_integers : List (Option ScalarType) → Bool
+may_be_integers [] = true
+may_be_integers (t ∷ ts) = may_be_integer t && may_be_integers ts
+
+-- subscripts
+abbrev pub may_all_count : List (Option ScalarType) → Bool
+may_all_count [] = true
+may_all_count (t ∷ ts) = may_count t && may_all_count ts
+
+abbrev pub are_known_counts : List (Option ScalarType) → Bool
+are_known_counts [] = true
+are_known_counts (t ∷ ts) = (is_some t && may_count t) && are_known_counts ts
+
+-- some of them is INTEGER
+abbrev pub has_integer : List (Option ScalarType) → Bool
+has_integer [] = false
+has_integer (t ∷ ts) = is_integer t || has_integer ts
 
 abbrev pub may_be_pointers : List (Option ScalarType) → Bool
 may_be_pointers [] = true
@@ -177,3 +201,34 @@ binary_operation between.GreaterEqual = binary.GreaterEqual
 binary_operation between.And = binary.And
 binary_operation between.Or = binary.Or
 binary_operation between.ExclusiveOr = binary.ExclusiveOr
+
+-- INTEGERs are divided and compared with their signs
+abbrev pub with_sign : BinaryOperation → BinaryOperation
+with_sign binary.Multiply = binary.Multiply
+with_sign binary.Divide = binary.DivideSigned
+with_sign binary.Modulo = binary.ModuloSigned
+with_sign binary.Add = binary.Add
+with_sign binary.Subtract = binary.Subtract
+with_sign binary.Equal = binary.Equal
+with_sign binary.NotEqual = binary.NotEqual
+with_sign binary.Less = binary.LessSigned
+with_sign binary.LessEqual = binary.LessEqualSigned
+with_sign binary.Greater = binary.GreaterSigned
+with_sign binary.GreaterEqual = binary.GreaterEqualSigned
+with_sign binary.And = binary.And
+with_sign binary.Or = binary.Or
+with_sign binary.ExclusiveOr = binary.ExclusiveOr
+with_sign binary.ShiftLeft = binary.ShiftLeft
+with_sign binary.ShiftRight = binary.ShiftRight
+with_sign binary.RotateLeft = binary.RotateLeft
+with_sign binary.RotateRight = binary.RotateRight
+with_sign binary.DivideSigned = binary.DivideSigned
+with_sign binary.ModuloSigned = binary.ModuloSigned
+with_sign binary.LessSigned = binary.LessSigned
+with_sign binary.LessEqualSigned = binary.LessEqualSigned
+with_sign binary.GreaterSigned = binary.GreaterSigned
+with_sign binary.GreaterEqualSigned = binary.GreaterEqualSigned
+
+-- an operator on operands of this type
+abbrev pub operation_on : Option ScalarType → BinaryOperator → BinaryOperation
+operation_on t o = cond (is_integer t) (with_sign (binary_operation o)) (binary_operation o)

@@ -1,16 +1,16 @@
 -- Types of constructs whose parts have their types; what has a fault has none.
-use Rattle.std.specs.Prelude.{ℕ, ◌-◌, ◌*◌, Bool, true, false, not, ◌&&◌, nat_eq, cond, List, [], ◌∷◌, ◌++◌, length, slice_get, Option, Some, None, is_some}
+use Rattle.std.specs.Prelude.{ℕ, ◌-◌, ◌*◌, Bool, true, false, not, ◌&&◌, ◌||◌, nat_eq, cond, List, [], ◌∷◌, ◌++◌, length, slice_get, Option, Some, None, is_some}
 use Rattle.plm_syntax.specs.declared.tree.LocationForm.{LocationForm}
-use Rattle.plm_syntax.specs.declared.tree.LocationForm.TheVariants as locating
 use Rattle.plm_decl.specs.declared.builtin.Builtin.{Builtin}
 use Rattle.plm_decl.specs.declared.builtin.Builtin.TheVariants as builtin
 use Rattle.plm_decl.specs.declared.layout.ScalarType.{ScalarType}
-use Rattle.plm_decl.specs.declared.layout.ScalarType.TheVariants.{Byte, Word, Pointer}
+use Rattle.plm_decl.specs.declared.layout.ScalarType.TheVariants.{Byte, Word, Integer}
 use Rattle.plm_decl.specs.declared.names.Variable.{Variable}
+use Rattle.plm_decl.specs.Datum.{location_type}
 use Rattle.plm_decl.specs.Names.{ProcedureR}
 use Rattle.plm_decl.specs.Layout.{counted}
 use Rattle.plm_decl.specs.Resolved.{SelectorR, no_member, member, member_at}
-use Rattle.plm_type.specs.Types.{are_known_numbers, are_known, takes, number_type}
+use Rattle.plm_type.specs.Types.{are_known_counts, has_integer, may_be_integers, may_be_numbers, are_known, takes, number_type}
 use Rattle.plm_type.specs.Shapes.{shape_fits, designated, form_type, element_count, element_size, is_on_screen}
 
 -- each argument that has a parameter is taken by it
@@ -19,27 +19,6 @@ take_all [] [] = true
 take_all [] (t ∷ ts) = true
 take_all (p ∷ ps) [] = true
 take_all (p ∷ ps) (t ∷ ts) = takes p t && take_all ps ts
-
-abbrev pub location_type : LocationForm → ScalarType
-location_type locating.Pointer = Pointer
-location_type locating.Offset = Word
-
--- how many arguments a built-in takes
-abbrev pub arity : Builtin → ℕ
-arity builtin.Length = 1
-arity builtin.Last = 1
-arity builtin.Size = 1
-arity builtin.Low = 1
-arity builtin.High = 1
-arity builtin.Double = 1
-arity builtin.ShiftLeft = 2
-arity builtin.ShiftRight = 2
-arity builtin.RotateLeft = 2
-arity builtin.RotateRight = 2
-arity builtin.Input = 1
-arity builtin.InputWord = 1
-arity builtin.Output = 1
-arity builtin.OutputWord = 1
 
 -- LENGTH, LAST and SIZE of a reference: elements, elements less one, bytes
 abbrev pub measured : Builtin → (elements size : ℕ) → ℕ
@@ -58,26 +37,42 @@ measured builtin.Input elements size = counted (elements * size)
 measured builtin.InputWord elements size = counted (elements * size)
 measured builtin.Output elements size = counted (elements * size)
 measured builtin.OutputWord elements size = counted (elements * size)
-
-abbrev pub is_measure : Builtin → Bool
-is_measure builtin.Length = true
-is_measure builtin.Last = true
-is_measure builtin.Size = true
-is_measure builtin.Low = false
-is_measure builtin.High = false
-is_measure builtin.Double = false
-is_measure builtin.ShiftLeft = false
-is_measure builtin.ShiftRight = false
-is_measure builtin.RotateLeft = false
-is_measure builtin.RotateRight = false
-is_measure builtin.Input = false
-is_measure builtin.InputWord = false
-is_measure builtin.Output = false
-is_measure builtin.OutputWord = false
+measured builtin.Signed elements size = counted (elements * size)
+measured builtin.Unsigned elements size = counted (elements * size)
 
 abbrev pub first_type : List (Option ScalarType) → Option ScalarType
 first_type [] = None
 first_type (t ∷ ts) = t
+
+abbrev pub other_types : List (Option ScalarType) → List (Option ScalarType)
+other_types [] = []
+other_types (t ∷ ts) = ts
+
+-- what is wanted of each argument of a built-in: UNSIGN takes an INTEGER
+abbrev pub wanted_arguments : Builtin → List (Option ScalarType)
+wanted_arguments builtin.Length = None ∷ []
+wanted_arguments builtin.Last = None ∷ []
+wanted_arguments builtin.Size = None ∷ []
+wanted_arguments builtin.Low = None ∷ []
+wanted_arguments builtin.High = None ∷ []
+wanted_arguments builtin.Double = None ∷ []
+wanted_arguments builtin.ShiftLeft = None ∷ None ∷ []
+wanted_arguments builtin.ShiftRight = None ∷ None ∷ []
+wanted_arguments builtin.RotateLeft = None ∷ None ∷ []
+wanted_arguments builtin.RotateRight = None ∷ None ∷ []
+wanted_arguments builtin.Input = None ∷ []
+wanted_arguments builtin.InputWord = None ∷ []
+wanted_arguments builtin.Output = None ∷ []
+wanted_arguments builtin.OutputWord = None ∷ []
+wanted_arguments builtin.Signed = None ∷ []
+wanted_arguments builtin.Unsigned = Some Integer ∷ []
+
+abbrev pub arity : Builtin → ℕ
+arity b = length (wanted_arguments b)
+
+-- the others take numbers
+abbrev pub may_be_arguments : Builtin → List (Option ScalarType) → Bool
+may_be_arguments b ts = cond (has_integer (wanted_arguments b)) (may_be_integers ts) (may_be_numbers ts)
 
 -- what is measured has the type of its number, and a target no value
 abbrev pub builtin_type : Builtin → List (Option ScalarType) → Option ScalarType
@@ -89,6 +84,8 @@ builtin_type builtin.High ts = Some Byte
 builtin_type builtin.Double ts = Some Word
 builtin_type builtin.Input ts = Some Byte
 builtin_type builtin.InputWord ts = Some Word
+builtin_type builtin.Signed ts = Some Integer
+builtin_type builtin.Unsigned ts = Some Word
 builtin_type builtin.ShiftLeft ts = first_type ts
 builtin_type builtin.ShiftRight ts = first_type ts
 builtin_type builtin.RotateLeft ts = first_type ts
@@ -112,10 +109,16 @@ port_type builtin.Input = None
 port_type builtin.InputWord = None
 port_type builtin.Output = Some Byte
 port_type builtin.OutputWord = Some Word
+port_type builtin.Signed = None
+port_type builtin.Unsigned = None
 
 -- OUTPUT and OUTWORD are targets alone
 abbrev pub is_target : Builtin → Bool
 is_target b = is_some (port_type b)
+
+-- LENGTH, LAST and SIZE alone are no targets and have no type by those of their arguments
+abbrev pub is_measure : Builtin → Bool
+is_measure b = not (is_target b || is_some (builtin_type b (Some Byte ∷ [])))
 
 abbrev pub is_plain : SelectorR → Bool
 is_plain no_member = true
@@ -133,10 +136,10 @@ abbrev pub returned_type : Option ProcedureR → Option ScalarType
 returned_type None = None
 returned_type (Some p) = p.returned
 
--- a reference to a variable is of its shape; its subscripts, and that of its member, are numbers
+-- a reference to a variable is of its shape; its subscripts, and that of its member, are no POINTERs
 abbrev pub use_fits : (part : Bool) → Option Variable → SelectorR → List (Option ScalarType) → List (Option ScalarType) → Bool
 use_fits part None s ts us = false
-use_fits part (Some v) s ts us = shape_fits part v (length ts) s && are_known_numbers (ts ++ us)
+use_fits part (Some v) s ts us = shape_fits part v (length ts) s && are_known_counts (ts ++ us)
 
 abbrev pub designated_in : Option Variable → SelectorR → Option ScalarType
 designated_in None s = None
@@ -154,7 +157,7 @@ abbrev pub measure_type : Builtin → Option Variable → SelectorR → List (Op
 measure_type b v s ts us = given_if (use_fits true v s ts us) (number_type (measure b v (length ts) s))
 
 abbrev pub builtin_fits : Builtin → SelectorR → List (Option ScalarType) → Bool
-builtin_fits b s ts = is_plain s && (nat_eq (length ts) (arity b) && are_known_numbers ts)
+builtin_fits b s ts = is_plain s && (nat_eq (length ts) (arity b) && (are_known ts && may_be_arguments b ts))
 
 -- a location of what is on a page of the screen is refused
 abbrev pub may_be_located : Option Variable → Bool
@@ -174,6 +177,11 @@ module _ (variables : List Variable) where
   abbrev pub parameter_types : List ℕ → List (Option ScalarType)
   parameter_types [] = []
   parameter_types (x ∷ xs) = variable_type (slice_get variables x) ∷ parameter_types xs
+
+  -- what a procedure's arguments are wanted as
+  abbrev pub parameters_wanted : Option ProcedureR → List (Option ScalarType)
+  parameters_wanted None = []
+  parameters_wanted (Some p) = parameter_types p.parameters
 
   -- a call gives its procedure's type, where its arguments are as many as the parameters and are taken by them
   abbrev pub call_fits : Option ProcedureR → List (Option ScalarType) → Bool

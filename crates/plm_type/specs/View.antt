@@ -93,7 +93,7 @@ abbrev mutual
   statement_of (statement.Block' shape ss) = Block (statements_in ss)
   statement_of (statement.While' e shape ss) = While (expression_of e) (expression_of e) (statements_in ss)
   statement_of (statement.Case' e shape ss) = Case (expression_of e) (statements_in ss)
-  statement_of (statement.Iterate' a p x bound step shape ss) = Iterate (expression_of a) (Count (scalar_of x) (expression_of bound) (expression_of step) (statements_in ss))
+  statement_of (statement.Iterate' a p o x bound step shape ss) = Iterate (expression_of a) (Count o (scalar_of x) (expression_of bound) (expression_of step) (statements_in ss))
 
   pub statements_in : {m : _} → Row_of-Statement-If-1-1 m → Statements
   statements_in end_of-Statement-If-1-1 = End
@@ -104,7 +104,7 @@ statements_of [] = End
 statements_of (s ∷ ss) = Then (statement_of s.value) (statements_of ss)
 
 abbrev pub loop_of : declared_loop.Loop → Loop
-loop_of l = Count (scalar_of l.index) (expression_of l.bound) (expression_of l.step) (statements_of l.body.items)
+loop_of l = Count l.counting (scalar_of l.index) (expression_of l.bound) (expression_of l.step) (statements_of l.body.items)
 
 abbrev pub procedure_of : declared_procedure.Procedure → Procedure
 procedure_of p = record { parameters = map scalar_of p.parameters.items; body = statements_of p.body.items }

@@ -10,21 +10,23 @@ ghost use Rattle.plm_type.specs.Trees as spec;
 ghost use Rattle.plm_type.specs.Expressions as typed;
 
 use crate::builtins::{
-    arity, builtin_fits, builtin_type, builtin_value, first_width, is_plain, is_target, port_type,
-    to_port,
+    arity, builtin_fits, builtin_type, builtin_value, first_width, is_plain, is_target,
+    may_be_arguments, port_type, to_port,
 };
+use crate::numbers::Numbers;
 use crate::program::Expression;
 use crate::references::TypedTarget;
 use crate::shapes::form_type;
 use crate::typer::{Typed, TypedList, Typer};
-use crate::types::{are_known, may_be_numbers, takes};
+use crate::types::{are_known, takes};
 use plm_decl::found::Found;
 use plm_decl::{Builtin, Procedure, Reference, ScalarType, Selector, Variable};
 use plm_syntax::Position;
 use std::alloc::AllocError;
 use word86::Number;
 
-fn variable_type(variable: Option<Variable>) -> Option<ScalarType>
+/// The type of a variable that is no structure.
+pub fn variable_type(variable: Option<Variable>) -> Option<ScalarType>
     ensures { result ≡ typing.variable_type variable }
 {
     match variable {
@@ -51,18 +53,43 @@ pub fn entry_of(procedure: Option<&Procedure>) -> usize
     }
 }
 
-/// The types of as many arguments, or of all where there are fewer.
-fn first(types: &[Option<ScalarType>], count: usize) -> &[Option<ScalarType>]
-    ensures { result.now ≡ take count types.now }
+/// As many as `count`, or all where there are fewer.
+fn first<T>(items: &[T], count: usize) -> &[T]
+    ensures { result.now ≡ take count items.now }
 {
-    if count <= types.len() {
-        types.split_at(count).0
+    if count <= items.len() {
+        items.split_at(count).0
     } else {
-        types
+        items
     }
 }
 
 impl Typer<'_> {
+    /// What the first arguments of a procedure are wanted as, for as many of them.
+    pub fn parameters_wanted(
+        &self,
+        procedure: Option<&Procedure>,
+        count: usize,
+    ) -> Result<Vec<Option<ScalarType>>, AllocError>
+        ensures { IfOk result (λ r. r.items ≡ take count (typing.parameters_wanted (variables self.now) (option_map (λ p. procedure_of p.now) procedure.entry))) }
+    {
+        match procedure {
+            Some(procedure) => self.parameter_types(first(&procedure.parameters, count)),
+            None => Ok(Vec::new(self.alloc)),
+        }
+    }
+
+    /// The types of parameters.
+    fn parameter_types(&self, parameters: &[usize]) -> Result<Vec<Option<ScalarType>>, AllocError>
+        ensures { IfOk result (λ r. r.items ≡ typing.parameter_types (variables self.now) parameters.now) }
+    {
+        let mut types = Vec::new(self.alloc);
+        for parameter in parameters {
+            types.push(variable_type(self.variable(*parameter)))?;
+        }
+        Ok(types)
+    }
+
     /// Whether each argument that has a parameter is taken by it.
     fn take_all(&self, parameters: &[usize], types: &[Option<ScalarType>]) -> bool
         ensures { result ≡ typing.take_all (typing.parameter_types (variables self.now) parameters.now) types.now }
@@ -142,6 +169,7 @@ impl Typer<'_> {
         Ok(Typed {
             scalar: self.called_type(procedure, selector, &arguments.types),
             tree: Expression::Call(entry_of(procedure), arguments.trees),
+            numbers: Numbers::Other,
         })
     }
 
@@ -159,7 +187,7 @@ impl Typer<'_> {
         self.note_unless(is_plain(selector), Number::E401, place, faults)?;
         let has_all = types.len() == arity(builtin);
         self.note_unless(has_all, Number::E402, place, faults)?;
-        let are_taken = may_be_numbers(first(types, arity(builtin)));
+        let are_taken = may_be_arguments(builtin, first(types, arity(builtin)));
         self.note_unless(are_taken, Number::E401, place, faults)
     }
 
@@ -183,7 +211,11 @@ impl Typer<'_> {
         let width = first_width(&arguments.types);
         let line = self.line(reference.place);
         let tree = builtin_value(self.alloc, line, builtin, width, arguments.trees)?;
-        Ok(Typed { tree, scalar })
+        Ok(Typed {
+            tree,
+            scalar,
+            numbers: Numbers::Other,
+        })
     }
 
     /// OUTPUT or OUTWORD as a target; another built-in is none.

@@ -11,29 +11,10 @@ ghost use Rattle.plm_type.specs.View as view;
 
 use crate::program::{Expression, Line, Operation, Target};
 use crate::typer::alone;
-use crate::types::{are_known_numbers, width_of};
+use crate::types::{are_known, has_integer, may_be_integers, may_be_numbers, width_of};
 use plm_decl::{Builtin, ScalarType, Selector};
 use std::alloc::{AllocError, Global};
 use word86::{BinaryOperation, UnaryOperation, Width};
-
-/// How many arguments it takes.
-pub fn arity(builtin: Builtin) -> usize
-    ensures { result ≡ typing.arity builtin }
-{
-    match builtin {
-        Builtin::ShiftLeft | Builtin::ShiftRight | Builtin::RotateLeft | Builtin::RotateRight => 2,
-        Builtin::Length
-        | Builtin::Last
-        | Builtin::Size
-        | Builtin::Low
-        | Builtin::High
-        | Builtin::Double
-        | Builtin::Input
-        | Builtin::InputWord
-        | Builtin::Output
-        | Builtin::OutputWord => 1,
-    }
-}
 
 /// What LENGTH, LAST and SIZE answer where there are `elements` elements of `size` bytes each.
 pub fn measured(builtin: Builtin, elements: u64, size: u64) -> u64
@@ -54,7 +35,9 @@ pub fn measured(builtin: Builtin, elements: u64, size: u64) -> u64
         | Builtin::Input
         | Builtin::InputWord
         | Builtin::Output
-        | Builtin::OutputWord => elements.saturating_mul(size),
+        | Builtin::OutputWord
+        | Builtin::Signed
+        | Builtin::Unsigned => elements.saturating_mul(size),
     }
 }
 
@@ -74,16 +57,70 @@ pub fn is_measure(builtin: Builtin) -> bool
         | Builtin::Input
         | Builtin::InputWord
         | Builtin::Output
-        | Builtin::OutputWord => false,
+        | Builtin::OutputWord
+        | Builtin::Signed
+        | Builtin::Unsigned => false,
     }
 }
 
-fn first_type(types: &[Option<ScalarType>]) -> Option<ScalarType>
+/// The first of several types.
+pub fn first_type(types: &[Option<ScalarType>]) -> Option<ScalarType>
     ensures { result ≡ typing.first_type types.now }
 {
     match types.first() {
         Some(scalar) => *scalar,
         None => None,
+    }
+}
+
+/// The types after the first.
+pub fn other_types(types: &[Option<ScalarType>]) -> &[Option<ScalarType>]
+    ensures { result.now ≡ typing.other_types types.now }
+{
+    match types.split_first() {
+        Some((_, others)) => others,
+        None => types,
+    }
+}
+
+/// What each of its arguments is wanted as: UNSIGN takes an INTEGER.
+pub fn wanted_arguments(builtin: Builtin) -> &'static [Option<ScalarType>]
+    ensures { result.now ≡ typing.wanted_arguments builtin }
+{
+    match builtin {
+        Builtin::Unsigned => &[Some(ScalarType::Integer)],
+        Builtin::ShiftLeft | Builtin::ShiftRight | Builtin::RotateLeft | Builtin::RotateRight => {
+            &[None, None]
+        }
+        Builtin::Length
+        | Builtin::Last
+        | Builtin::Size
+        | Builtin::Low
+        | Builtin::High
+        | Builtin::Double
+        | Builtin::Input
+        | Builtin::InputWord
+        | Builtin::Output
+        | Builtin::OutputWord
+        | Builtin::Signed => &[None],
+    }
+}
+
+/// How many arguments it takes.
+pub fn arity(builtin: Builtin) -> usize
+    ensures { result ≡ typing.arity builtin }
+{
+    wanted_arguments(builtin).len()
+}
+
+/// Whether its arguments may have these types: numbers, but for UNSIGN.
+pub fn may_be_arguments(builtin: Builtin, types: &[Option<ScalarType>]) -> bool
+    ensures { result ≡ typing.may_be_arguments builtin types.now }
+{
+    if has_integer(wanted_arguments(builtin)) {
+        may_be_integers(types)
+    } else {
+        may_be_numbers(types)
     }
 }
 
@@ -93,7 +130,8 @@ pub fn builtin_type(builtin: Builtin, types: &[Option<ScalarType>]) -> Option<Sc
 {
     match builtin {
         Builtin::Low | Builtin::High | Builtin::Input => Some(ScalarType::Byte),
-        Builtin::Double | Builtin::InputWord => Some(ScalarType::Word),
+        Builtin::Double | Builtin::InputWord | Builtin::Unsigned => Some(ScalarType::Word),
+        Builtin::Signed => Some(ScalarType::Integer),
         Builtin::ShiftLeft | Builtin::ShiftRight | Builtin::RotateLeft | Builtin::RotateRight =>
             first_type(types),
         Builtin::Length | Builtin::Last | Builtin::Size | Builtin::Output | Builtin::OutputWord =>
@@ -119,7 +157,9 @@ pub fn port_type(builtin: Builtin) -> Option<ScalarType>
         | Builtin::RotateLeft
         | Builtin::RotateRight
         | Builtin::Input
-        | Builtin::InputWord => None,
+        | Builtin::InputWord
+        | Builtin::Signed
+        | Builtin::Unsigned => None,
     }
 }
 
@@ -144,7 +184,10 @@ pub fn is_plain(selector: &Selector) -> bool
 pub fn builtin_fits(builtin: Builtin, selector: &Selector, types: &[Option<ScalarType>]) -> bool
     ensures { result ≡ typing.builtin_fits builtin (selector_of selector.now) types.now }
 {
-    is_plain(selector) && types.len() == arity(builtin) && are_known_numbers(types)
+    is_plain(selector)
+        && types.len() == arity(builtin)
+        && are_known(types)
+        && may_be_arguments(builtin, types)
 }
 
 /// A number as a constant; numbers above 65,535 are refused.
@@ -277,7 +320,9 @@ pub fn builtin_value(
     match builtin {
         Builtin::Low => operated(alloc, UnaryOperation::Low, width, trees),
         Builtin::High => operated(alloc, UnaryOperation::High, width, trees),
-        Builtin::Double => operated(alloc, UnaryOperation::Double, width, trees),
+        Builtin::Double | Builtin::Signed | Builtin::Unsigned => {
+            operated(alloc, UnaryOperation::Double, width, trees)
+        }
         Builtin::ShiftLeft => shifted(alloc, line, BinaryOperation::ShiftLeft, width, trees),
         Builtin::ShiftRight => shifted(alloc, line, BinaryOperation::ShiftRight, width, trees),
         Builtin::RotateLeft => shifted(alloc, line, BinaryOperation::RotateLeft, width, trees),

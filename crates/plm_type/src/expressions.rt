@@ -1,26 +1,36 @@
 //! Expressions: their types, their faults, and their trees with names as places.
 
-ghost use Rattle.std.specs.Prelude.{◌≡◌, [], slice_get, IfOk, None};
+ghost use Rattle.std.specs.Prelude.{◌≡◌, [], slice_get, option_map, IfOk, None};
 ghost use Rattle.word86.specs.declared.number.Number.TheVariants.{E401, E402};
+ghost use Rattle.plm_decl.specs.Names.{procedure_of};
 ghost use Rattle.plm_decl.specs.ResolvedView as resolved;
 ghost use Rattle.plm_type.specs.Rest.{Constant, Embedded};
+ghost use Rattle.plm_type.specs.Typing.{parameters_wanted};
 ghost use Rattle.plm_type.specs.Faults as found;
 ghost use Rattle.plm_type.specs.Trees as trees;
+ghost use Rattle.plm_type.specs.declared.numbers.Numbers.TheVariants.{Other};
 ghost use Rattle.plm_type.specs.Expressions as spec;
-ghost use Rattle.plm_type.specs.Inner.Typer.{variables, procedures, sizes, said, target_said, list_said, parts_said, after, target_after, list_after, parts_after, typed_by, list_by, selector_by, parts_by, value_by, arguments_by, argument_by, location_by, target_by};
+ghost use Rattle.plm_type.specs.Inner.Typer.{variables, procedures, sizes, said, target_said, list_said, parts_said, after, target_after, list_after, parts_after, typed_by, list_by, given_by, selector_by, parts_by, value_by, arguments_by, argument_by, location_by, target_by};
 ghost use Rattle.plm_type.specs.Inner.Chains.{chain};
 ghost use Rattle.plm_type.specs.View as view;
 
-use crate::builtins::{applied, constant, is_measure, is_plain, is_target, operation, text_value};
+use crate::builtins::{
+    applied, constant, first_type, is_measure, is_plain, is_target, operation, other_types,
+    text_value, wanted_arguments,
+};
+use crate::numbers::Numbers;
 use crate::program::{Anchor, Expression, Operation, Reference, Target};
 use crate::references::{Parts, TypedTarget, location_type};
 use crate::typer::{Typed, TypedList, Typer};
 use crate::types::{
-    binary_operation, binary_type, may_be_number, number_type, operands_fit, takes, text_type,
+    binary_type, is_bitwise, number_type, operands_fit, operation_on, takes, text_type, unary_fits,
     unary_operation, unary_type, width_of,
 };
 use plm_decl::found::Found;
-use plm_decl::{Binding, Builtin, Location, Selector, Variable, resolved_trees_have_their_lists};
+use plm_decl::{
+    Binding, Builtin, Location, Procedure, ScalarType, Selector, Variable,
+    resolved_trees_have_their_lists,
+};
 use plm_syntax::{BinaryOperator, LocationForm, Position, UnaryOperator};
 use std::alloc::{AllocError, Global};
 use word86::{Number, Width};
@@ -49,10 +59,12 @@ pub fn first_place(e: &plm_decl::Expression) -> Position
 fn nothing() -> Typed
     ensures tree { view.expression_of result.tree ≡ Constant 0 }
     ensures scalar { result.scalar ≡ None }
+    ensures numbers { result.numbers ≡ Other }
 {
     Typed {
         tree: Expression::Constant(0),
         scalar: None,
+        numbers: Numbers::Other,
     }
 }
 
@@ -79,6 +91,7 @@ impl Typer<'_> {
         Ok(Typed {
             tree: constant(value),
             scalar: number_type(value),
+            numbers: Numbers::of(value, number.place),
         })
     }
 
@@ -96,6 +109,7 @@ impl Typer<'_> {
         Ok(Typed {
             tree: constant(text_value(characters)),
             scalar,
+            numbers: Numbers::Other,
         })
     }
 
@@ -109,6 +123,20 @@ impl Typer<'_> {
     ) -> Result<Typed, AllocError>
         ensures { IfOk result (λ r. said r faults.new.items ≡ spec.embedded self.now.module place (target_said target faults.old.items) (said value [])) }
     {
+        let value = self.wanted(target.scalar, value, faults)?;
+        self.assigned(place, target, value, faults)
+    }
+
+    /// A value as it is, which a target takes on the way.
+    fn assigned(
+        &self,
+        place: Position,
+        target: TypedTarget,
+        value: Typed,
+        faults: &mut Vec<Found>,
+    ) -> Result<Typed, AllocError>
+        ensures { IfOk result (λ r. said r faults.new.items ≡ spec.assigned self.now.module place (target_said target faults.old.items) (said value [])) }
+    {
         let is_taken = takes(target.scalar, value.scalar);
         self.note_unless(is_taken, Number::E401, place, faults)?;
         let has_value = target.scalar.is_some() && is_taken;
@@ -116,6 +144,7 @@ impl Typer<'_> {
         let typed = Typed {
             tree,
             scalar: value.scalar,
+            numbers: Numbers::Other,
         };
         Ok(typed.given_if(has_value))
     }
@@ -130,12 +159,60 @@ impl Typer<'_> {
     ) -> Result<Typed, AllocError>
         ensures { IfOk result (λ r. said r faults.new.items ≡ spec.unary self.now.module place operator (said operand faults.old.items)) }
     {
-        self.note_unless(may_be_number(operand.scalar), Number::E401, place, faults)?;
+        let is_taken = unary_fits(operator, operand.scalar);
+        self.note_unless(is_taken, Number::E401, place, faults)?;
         let operation = unary_operation(operator);
         let width = width_of(operand.scalar);
         Ok(Typed {
             tree: applied(self.alloc, operation, width, operand.tree)?,
-            scalar: unary_type(operand.scalar),
+            scalar: unary_type(operator, operand.scalar),
+            numbers: operand.numbers.signed_by(operator),
+        })
+    }
+
+    /// An operand beside one of this type. AND, OR and XOR turn none INTEGER.
+    fn beside(
+        &self,
+        operator: BinaryOperator,
+        other: Option<ScalarType>,
+        e: Typed,
+        faults: &mut Vec<Found>,
+    ) -> Result<Typed, AllocError>
+        ensures { IfOk result (λ r. said r faults.new.items ≡ spec.wanted self.now.module (spec.wanted_beside operator other) (said e faults.old.items)) }
+    {
+        self.wanted(if is_bitwise(operator) { None } else { other }, e, faults)
+    }
+
+    /// An operator between two operands as they are, of which the first begins at the second place.
+    fn operated_on(
+        &self,
+        place: Position,
+        operator: BinaryOperator,
+        first: Position,
+        numbers: Numbers,
+        left: Typed,
+        right: Typed,
+        faults: &mut Vec<Found>,
+    ) -> Result<Typed, AllocError>
+        ensures { IfOk result (λ r. said r faults.new.items ≡ spec.operated_on self.now.module place operator first numbers (said left faults.old.items) (said right [])) }
+    {
+        let fit = operands_fit(operator, left.scalar, right.scalar);
+        self.note_unless(fit, Number::E401, first, faults)?;
+        let scalar = binary_type(operator, left.scalar, right.scalar);
+        let tree = operation(
+            self.alloc,
+            left.tree,
+            Operation {
+                line: self.line(place),
+                operation: operation_on(left.scalar, operator),
+                width: width_of(scalar),
+                operand: right.tree,
+            },
+        )?;
+        Ok(Typed {
+            tree,
+            scalar,
+            numbers,
         })
     }
 
@@ -151,20 +228,11 @@ impl Typer<'_> {
     ) -> Result<Typed, AllocError>
         ensures { IfOk result (λ r. said r faults.new.items ≡ spec.binary self.now.module place operator first (said left faults.old.items) (said right [])) }
     {
-        let fit = operands_fit(operator, left.scalar, right.scalar);
-        self.note_unless(fit, Number::E401, first, faults)?;
-        let scalar = binary_type(operator, left.scalar, right.scalar);
-        let tree = operation(
-            self.alloc,
-            left.tree,
-            Operation {
-                line: self.line(place),
-                operation: binary_operation(operator),
-                width: width_of(scalar),
-                operand: right.tree,
-            },
-        )?;
-        Ok(Typed { tree, scalar })
+        let numbers = left.numbers.with_operator(operator, right.numbers);
+        let left_type = left.scalar;
+        let x = self.beside(operator, right.scalar, left, faults)?;
+        let y = self.beside(operator, left_type, right, faults)?;
+        self.operated_on(place, operator, first, numbers, x, y, faults)
     }
 
     /// What is faulty, and has no value.
@@ -206,6 +274,7 @@ impl Typer<'_> {
                 subscripts: Vec::new(self.alloc),
             }),
             scalar: Some(location_type(form)),
+            numbers: Numbers::Other,
         }
     }
 
@@ -223,7 +292,10 @@ impl Typer<'_> {
             plm_decl::Expression::Text(place, text) => self.text(*place, text, faults),
             plm_decl::Expression::Reference(reference) => self.value(reference, faults),
             plm_decl::Expression::Location(location) => self.location(location, faults),
-            plm_decl::Expression::Parenthesised(_, inner) => self.expression(inner, faults),
+            plm_decl::Expression::Parenthesised(_, inner) => {
+                let typed = self.expression(inner, faults)?;
+                Ok(typed.parenthesised())
+            }
             plm_decl::Expression::Embedded(place, target, value) => {
                 let target = self.target(target, faults)?;
                 let value = self.expression(value, faults)?;
@@ -280,6 +352,41 @@ impl Typer<'_> {
             all.push(typed)?;
         }
         Ok(all)
+    }
+
+    /// Arguments, where values of these types are wanted.
+    #[cycle(expression)]
+    pub fn given(
+        &self,
+        es: &[plm_decl::Expression],
+        types: &[Option<ScalarType>],
+        faults: &mut Vec<Found>,
+    ) -> Result<TypedList, AllocError>
+        ensures { IfOk result (λ r. list_said r faults.new.items ≡ list_after faults.old.items (given_by self.now types.now (resolved.expressions_of es.now))) }
+    {
+        let mut all = TypedList::new(self.alloc);
+        let mut others = types;
+        for e in es {
+            let typed = self.expression(e, faults)?;
+            let value = self.wanted(first_type(others), typed, faults)?;
+            all.push(value)?;
+            others = other_types(others);
+        }
+        Ok(all)
+    }
+
+    /// A procedure's arguments, where values of its parameters' types are wanted.
+    #[cycle(expression)]
+    pub fn passed(
+        &self,
+        es: &[plm_decl::Expression],
+        procedure: Option<&Procedure>,
+        faults: &mut Vec<Found>,
+    ) -> Result<TypedList, AllocError>
+        ensures { IfOk result (λ r. list_said r faults.new.items ≡ list_after faults.old.items (given_by self.now (parameters_wanted (variables self.now) (option_map (λ p. procedure_of p.now) procedure.entry)) (resolved.expressions_of es.now))) }
+    {
+        let types = self.parameters_wanted(procedure, es.len())?;
+        self.given(es, &types, faults)
     }
 
     /// A member's subscript.
@@ -365,15 +472,17 @@ impl Typer<'_> {
                 }
             }
             Binding::Procedure(procedure) => {
-                let arguments = self.list(&reference.subscripts, faults)?;
-                self.called(reference, self.procedure(procedure), arguments, faults)
+                let procedure = self.procedure(procedure);
+                let arguments = self.passed(&reference.subscripts, procedure, faults)?;
+                self.called(reference, procedure, arguments, faults)
             }
             Binding::Builtin(builtin) => {
                 self.note_unless(!is_target(builtin), Number::E401, reference.place, faults)?;
                 if is_measure(builtin) {
                     return self.measure_call(reference, builtin, faults);
                 }
-                let arguments = self.list(&reference.subscripts, faults)?;
+                let types = wanted_arguments(builtin);
+                let arguments = self.given(&reference.subscripts, types, faults)?;
                 self.operated(reference, builtin, arguments, faults)
             }
             Binding::Nothing => self.refused(reference.place, faults),

@@ -11,6 +11,7 @@ mod expressions;
 mod handlers;
 mod interrupts;
 mod laws;
+mod numbers;
 mod order;
 mod procedures;
 mod program;
@@ -26,8 +27,8 @@ pub use checked::Program;
 pub use checking::check;
 pub use laws::trees_have_their_lists;
 pub use program::{
-    Anchor, Expression, Line, Loop, Operation, Procedure, Reference, Scalar, Statement, Subscript,
-    Target,
+    Anchor, Counting, Expression, Line, Loop, Operation, Procedure, Reference, Scalar, Statement,
+    Subscript, Target,
 };
 pub use sharing::{Warning, warnings};
 pub use word86::Place;

@@ -112,10 +112,22 @@ pub enum Statement {
     Iterate(Expression, Box<Loop>),
 }
 
-/// A DO with an index: the index, the bound, the step, and the body.
+/// How the index of a DO counts.
+#[derive(Debug, Clone, Copy, PartialEq, Eq)]
+pub enum Counting {
+    /// A BYTE or WORD, which counts up.
+    Up,
+    /// An INTEGER, by a step that is not negative.
+    SignedUp,
+    /// An INTEGER, by a negative step.
+    SignedDown,
+}
+
+/// A DO with an index: how it counts, the index, the bound, the step, and the body.
 #[derive(Drop)]
 #[cycle(program_statement)]
 pub struct Loop {
+    pub counting: Counting,
     pub index: Scalar,
     pub bound: Expression,
     pub step: Expression,

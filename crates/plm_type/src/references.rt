@@ -3,6 +3,7 @@
 
 ghost use Rattle.std.specs.Prelude.{◌≡◌, ◌++◌, IfOk, OnOk, IfSome, List, map, option_map};
 ghost use Rattle.plm_decl.specs.declared.found.Found.{Found as FoundR};
+ghost use Rattle.plm_decl.specs.Datum.{location_type};
 ghost use Rattle.plm_decl.specs.ResolvedView as resolved;
 ghost use Rattle.plm_type.specs.Rest as rest;
 ghost use Rattle.plm_type.specs.Shapes.{anchor_for};
@@ -16,13 +17,14 @@ ghost use Rattle.plm_type.specs.Expressions as typed;
 ghost use Rattle.plm_type.specs.View as view;
 
 use crate::builtins::{constant, is_plain, measured};
+use crate::numbers::Numbers;
 use crate::program::{Anchor, Expression, Reference, Subscript, Target};
 use crate::shapes::{
     anchor, designated, element_count, element_size, form_type, is_on_screen, member_offset,
     member_stride, read_of, shape_fits, store_to,
 };
 use crate::typer::{Typed, TypedList, Typer};
-use crate::types::{are_known_numbers, may_be_numbers, number_type};
+use crate::types::{are_known_counts, may_all_count, number_type};
 use plm_decl::found::Found;
 use plm_decl::{Builtin, ScalarType, Selector, Variable};
 use plm_syntax::{LocationForm, Position};
@@ -45,19 +47,19 @@ pub struct TypedTarget {
 
 impl Parts {
     /// Whether no subscript is a POINTER.
-    #[tactic(auto, using(crate::proofs::Lists::may_be_numbers_both))]
-    fn may_be_numbers(&self) -> bool
-        ensures { result ≡ scalars.may_be_numbers (self.now.subscripts.types.items ++ self.now.member.types.items) }
+    #[tactic(auto, using(crate::proofs::Lists::may_all_count_both))]
+    fn may_all_count(&self) -> bool
+        ensures { result ≡ scalars.may_all_count (self.now.subscripts.types.items ++ self.now.member.types.items) }
     {
-        may_be_numbers(&self.subscripts.types) && may_be_numbers(&self.member.types)
+        may_all_count(&self.subscripts.types) && may_all_count(&self.member.types)
     }
 
-    /// Whether each subscript is known to be BYTE or WORD.
-    #[tactic(auto, using(crate::proofs::Lists::known_numbers_both))]
-    fn are_known_numbers(&self) -> bool
-        ensures { result ≡ scalars.are_known_numbers (self.now.subscripts.types.items ++ self.now.member.types.items) }
+    /// Whether each subscript is known to be no POINTER.
+    #[tactic(auto, using(crate::proofs::Lists::known_counts_both))]
+    fn are_known_counts(&self) -> bool
+        ensures { result ≡ scalars.are_known_counts (self.now.subscripts.types.items ++ self.now.member.types.items) }
     {
-        are_known_numbers(&self.subscripts.types) && are_known_numbers(&self.member.types)
+        are_known_counts(&self.subscripts.types) && are_known_counts(&self.member.types)
     }
 }
 
@@ -86,20 +88,20 @@ fn may_be_used(part: bool, variable: Option<Variable>, selector: &Selector, part
     match variable {
         Some(variable) => {
             shape_fits(part, &variable, parts.subscripts.types.len(), selector)
-                && parts.may_be_numbers()
+                && parts.may_all_count()
         }
         None => false,
     }
 }
 
-/// Whether a reference to a variable has its shape, and subscripts that are numbers.
+/// Whether a reference to a variable has its shape, and subscripts that are no POINTERs.
 fn use_fits(part: bool, variable: Option<Variable>, selector: &Selector, parts: &Parts) -> bool
     ensures { result ≡ typing.use_fits part variable (resolved.selector_of selector.now) parts.now.subscripts.types.items parts.now.member.types.items }
 {
     match variable {
         Some(variable) => {
             shape_fits(part, &variable, parts.subscripts.types.len(), selector)
-                && parts.are_known_numbers()
+                && parts.are_known_counts()
         }
         None => false,
     }
@@ -150,7 +152,7 @@ fn may_be_located(variable: Option<Variable>) -> bool
 
 /// The type of a location.
 pub fn location_type(form: LocationForm) -> ScalarType
-    ensures { result ≡ typing.location_type form }
+    ensures { result ≡ location_type form }
 {
     match form {
         LocationForm::Pointer => ScalarType::Pointer,
@@ -282,6 +284,7 @@ impl Typer<'_> {
                     Some(Typed {
                         tree: read_of(scalar, place),
                         scalar: Some(scalar),
+                        numbers: Numbers::Other,
                     })
                 }
             },
@@ -373,6 +376,7 @@ impl Typer<'_> {
         Ok(Typed {
             tree: use_read(variable, selector, place),
             scalar,
+            numbers: Numbers::Other,
         })
     }
 
@@ -432,6 +436,7 @@ impl Typer<'_> {
         Ok(Typed {
             tree: Expression::Location(reference),
             scalar,
+            numbers: Numbers::Other,
         })
     }
 
@@ -470,6 +475,7 @@ impl Typer<'_> {
         Ok(Typed {
             tree: constant(value),
             scalar,
+            numbers: Numbers::Other,
         })
     }
 }

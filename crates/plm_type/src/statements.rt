@@ -1,27 +1,29 @@
 //! Statements: the faults of their types, and what they do with names as places.
 
-ghost use Rattle.std.specs.Prelude.{◌≡◌, ◌∷◌, [], ◌++◌, IfOk, OnOk, map};
+ghost use Rattle.std.specs.Prelude.{◌≡◌, ◌∷◌, [], ◌++◌, IfOk, OnOk, map, option_map};
+ghost use Rattle.plm_syntax.specs.View.{number_of};
 ghost use Rattle.plm_decl.specs.Resolved.{references, no_references};
 ghost use Rattle.plm_decl.specs.ResolvedView as resolved;
-ghost use Rattle.plm_type.specs.Inner.Typer.{one, variables, noted, noted_after, targets_said, targets_after, number_by, targets_by, call_by, index_by, step_by, assignment_by, return_by, range_of, range_by, condition_of, condition_by, statement_by, statements_by};
+ghost use Rattle.plm_type.specs.Inner.Typer.{one, variables, noted, noted_after, targets_said, targets_after, step_said, step_after, number_by, count_by, bound_by, targets_by, call_by, index_by, step_by, assignment_by, return_by, range_of, range_by, condition_of, condition_by, statement_by, statements_by};
 ghost use Rattle.plm_type.specs.Rest as rest;
 ghost use Rattle.plm_type.specs.Statements as spec;
 ghost use Rattle.plm_type.specs.View as view;
 
-use crate::applications::entry_of;
+use crate::applications::{entry_of, variable_type};
 use crate::expressions::first_place;
-use crate::program::{Expression, Loop, Scalar, Statement, Target};
+use crate::program::{Counting, Expression, Loop, Scalar, Statement, Target};
 use crate::references::{TypedTarget, may_be_assigned};
 use crate::shapes::{form_type, has_room, is_based, scalar, scalar_size};
 use crate::typer::{Typer, alone};
 use crate::types::{
-    may_be_number, may_be_numbers, may_be_pointer, may_be_pointers, takes, width_of,
+    has_integer, is_integer, may_be_integer, may_be_integers, may_be_number, may_be_numbers,
+    may_be_pointer, may_be_pointers, may_count, takes, width_of,
 };
 use plm_decl::found::Found;
 use plm_decl::{
     Binding, Bounds, ScalarType, Statement as Resolved, Variable, resolved_trees_have_their_lists,
 };
-use plm_syntax::Position;
+use plm_syntax::{Numeral, Position, UnaryOperator};
 use std::alloc::AllocError;
 use word86::{Number, Place, Width};
 
@@ -50,6 +52,16 @@ impl Around {
         match self {
             Around::Main | Around::Procedure(None) => false,
             Around::Procedure(Some(returned)) => takes(Some(returned), value),
+        }
+    }
+
+    /// The type that is wanted where a value is returned.
+    fn wanted(self) -> Option<ScalarType>
+        ensures { result ≡ spec.wanted_of_return self }
+    {
+        match self {
+            Around::Main => None,
+            Around::Procedure(returned) => returned,
         }
     }
 
@@ -93,7 +105,122 @@ struct Range {
     index: Scalar,
     from: Expression,
     bound: Expression,
-    step: Expression,
+    step: Step,
+}
+
+/// The step of an iterative DO, and how it counts.
+#[derive(Drop)]
+struct Step {
+    tree: Expression,
+    counting: Counting,
+}
+
+/// A number, and whether a minus stands before it.
+#[derive(Clone, Copy)]
+struct SignedStep {
+    negative: bool,
+    value: u32,
+    place: Position,
+}
+
+impl SignedStep {
+    fn new(negative: bool, number: Numeral) -> SignedStep
+        ensures { result ≡ spec.with_its_sign negative (number_of number) }
+    {
+        SignedStep {
+            negative,
+            value: number.value,
+            place: number.place,
+        }
+    }
+
+    /// Whether an INTEGER can have it.
+    fn fits(self) -> bool
+        ensures { result ≡ spec.step_fits self }
+    {
+        self.value <= if self.negative { 32_768 } else { 32_767 }
+    }
+
+    /// Its word; 0 if no INTEGER can have it.
+    fn word(self) -> u16
+        ensures { result ≡ spec.step_value self }
+    {
+        if !self.fits() {
+            return 0;
+        }
+        let value = self.value as u16;
+        if self.negative {
+            value.wrapping_neg()
+        } else {
+            value
+        }
+    }
+
+    fn counting(self) -> Counting
+        ensures { result ≡ spec.counting_by self }
+    {
+        if self.negative && self.value > 0 {
+            Counting::SignedDown
+        } else {
+            Counting::SignedUp
+        }
+    }
+}
+
+/// A number that stands alone.
+#[cycle(number_alone)]
+fn number_alone(e: &plm_decl::Expression) -> Option<Numeral>
+    ensures { option_map number_of result ≡ spec.number_alone (resolved.expression_of e.now) }
+{
+    resolved_trees_have_their_lists();
+    match e {
+        plm_decl::Expression::Number(number) => Some(*number),
+        // Without operators it is its first operand.
+        plm_decl::Expression::Chain { first, others } => {
+            if others.is_empty() {
+                return number_alone(first);
+            }
+            None
+        }
+        plm_decl::Expression::Text(_, _)
+        | plm_decl::Expression::Reference(_)
+        | plm_decl::Expression::Location(_)
+        | plm_decl::Expression::Parenthesised(_, _)
+        | plm_decl::Expression::Embedded(_, _, _)
+        | plm_decl::Expression::Unary(_, _, _) => None,
+    }
+}
+
+/// The step of a DO with an INTEGER index: a number, perhaps after one sign.
+#[cycle(signed_step)]
+fn signed_step(e: &plm_decl::Expression) -> Option<SignedStep>
+    ensures { result ≡ spec.signed_step (resolved.expression_of e.now) }
+{
+    resolved_trees_have_their_lists();
+    match e {
+        plm_decl::Expression::Number(number) => Some(SignedStep::new(false, *number)),
+        plm_decl::Expression::Unary(_, UnaryOperator::Plus, operand) => {
+            let number = number_alone(operand)?;
+            Some(SignedStep::new(false, number))
+        }
+        plm_decl::Expression::Unary(_, UnaryOperator::Minus, operand) => {
+            let number = number_alone(operand)?;
+            Some(SignedStep::new(true, number))
+        }
+        // Without operators it is its first operand.
+        plm_decl::Expression::Chain { first, others } => {
+            if others.is_empty() {
+                return signed_step(first);
+            }
+            None
+        }
+        plm_decl::Expression::Unary(_, UnaryOperator::Not, _)
+        | plm_decl::Expression::Text(_, _)
+        | plm_decl::Expression::Reference(_)
+        | plm_decl::Expression::Location(_)
+        | plm_decl::Expression::Embedded(_, _, _)
+        | plm_decl::Expression::Parenthesised(_, _) => None,
+    }
 }
 
 impl TypedTargets {
@@ -122,13 +249,24 @@ pub fn is_placed_scalar(variable: &Variable) -> bool
     is_plain_scalar(variable) && has_room(scalar_size(form_type(variable.form)), variable)
 }
 
-/// Whether it is a BYTE or WORD scalar that lies somewhere.
+/// Whether it is a BYTE, WORD or INTEGER scalar that lies somewhere.
 fn is_index(variable: Option<Variable>) -> bool
     ensures { result ≡ spec.is_index variable }
 {
     match variable {
-        Some(variable) => is_placed_scalar(&variable) && may_be_number(form_type(variable.form)),
+        Some(variable) => is_placed_scalar(&variable) && may_count(form_type(variable.form)),
         None => false,
+    }
+}
+
+/// Whether a start or a bound may have the second type where the index has the first.
+fn may_bound(index: Option<ScalarType>, value: Option<ScalarType>) -> bool
+    ensures { result ≡ spec.may_bound index value }
+{
+    if is_integer(index) {
+        may_be_integer(value)
+    } else {
+        may_be_number(value)
     }
 }
 
@@ -145,12 +283,24 @@ pub fn index_for(variable: Option<Variable>) -> Scalar
     }
 }
 
-/// Whether targets and value, as far as their types are known, are all numbers, or all POINTERs.
+/// Whether targets and value, as far as their types are known, are all numbers, all INTEGERs, or all POINTERs.
 fn all_take(targets: &[Option<ScalarType>], value: Option<ScalarType>) -> bool
     ensures { result ≡ spec.all_take targets.now value }
 {
     (may_be_number(value) && may_be_numbers(targets))
+        || (may_be_integer(value) && may_be_integers(targets))
         || (may_be_pointer(value) && may_be_pointers(targets))
+}
+
+/// What is wanted for targets of these types: an INTEGER where one of them is.
+fn wanted_among(targets: &[Option<ScalarType>]) -> Option<ScalarType>
+    ensures { result ≡ spec.wanted_among targets.now }
+{
+    if has_integer(targets) {
+        Some(ScalarType::Integer)
+    } else {
+        None
+    }
 }
 
 /// Where an assignment begins.
@@ -185,7 +335,7 @@ impl Typer<'_> {
         }
     }
 
-    /// A condition, a bound, or the value of DO CASE.
+    /// A condition, or the step of a DO with a BYTE or WORD index.
     fn number_in(
         &self,
         place: Position,
@@ -197,6 +347,37 @@ impl Typer<'_> {
         let typed = self.expression(e, faults)?;
         self.note_unless(may_be_number(typed.scalar), Number::E401, place, faults)?;
         Ok(typed.tree)
+    }
+
+    /// The value of DO CASE.
+    fn count_in(
+        &self,
+        place: Position,
+        e: &plm_decl::Expression,
+        faults: &mut Vec<Found>,
+    ) -> Result<Expression, AllocError>
+        ensures { IfOk result (λ r. noted (view.expression_of r) faults.new.items ≡ noted_after faults.old.items (count_by self.now place (resolved.expression_of e.now))) }
+    {
+        let typed = self.expression(e, faults)?;
+        self.note_unless(may_count(typed.scalar), Number::E401, place, faults)?;
+        Ok(typed.tree)
+    }
+
+    /// The start or the bound of an iterative DO whose index has this type.
+    fn bound_in(
+        &self,
+        scalar: Option<ScalarType>,
+        place: Position,
+        e: &plm_decl::Expression,
+        faults: &mut Vec<Found>,
+    ) -> Result<Expression, AllocError>
+        ensures { IfOk result (λ r. noted (view.expression_of r) faults.new.items ≡ noted_after faults.old.items (bound_by self.now scalar place (resolved.expression_of e.now))) }
+    {
+        let typed = self.expression(e, faults)?;
+        let value = self.wanted(scalar, typed, faults)?;
+        let is_taken = may_bound(scalar, value.scalar);
+        self.note_unless(is_taken, Number::E401, place, faults)?;
+        Ok(value.tree)
     }
 
     fn targets(
@@ -228,7 +409,8 @@ impl Typer<'_> {
         ensures { IfOk result (λ r. noted (view.statement_of r) faults.new.items ≡ noted_after faults.old.items (assignment_by self.now (references (resolved.reference_of reference.now) no_references) (resolved.expression_of e.now))) }
     {
         let target = self.target(reference, faults)?;
-        let value = self.expression(e, faults)?;
+        let typed = self.expression(e, faults)?;
+        let value = self.wanted(target.scalar, typed, faults)?;
         let is_taken = all_take(&[target.scalar], value.scalar);
         self.note_unless(is_taken, Number::E401, reference.place, faults)?;
         Ok(Statement::Assign(target.tree, Vec::new(self.alloc), value.tree))
@@ -260,7 +442,8 @@ impl Typer<'_> {
         ensures { IfOk result (λ r. noted (view.statement_of r) faults.new.items ≡ noted_after faults.old.items (assignment_by self.now (resolved.references_of references.now) (resolved.expression_of e.now))) }
     {
         let targets = self.targets(references, faults)?;
-        let value = self.expression(e, faults)?;
+        let typed = self.expression(e, faults)?;
+        let value = self.wanted(wanted_among(&targets.types), typed, faults)?;
         let are_taken = all_take(&targets.types, value.scalar);
         self.note_unless(are_taken, Number::E401, first_target(references, e), faults)?;
         Ok(assignment(targets.trees, value.tree))
@@ -277,8 +460,8 @@ impl Typer<'_> {
     {
         match reference.binding {
             Binding::Procedure(number) => {
-                let arguments = self.list(&reference.subscripts, faults)?;
                 let procedure = self.procedure(number);
+                let arguments = self.passed(&reference.subscripts, procedure, faults)?;
                 let selector = &reference.selector;
                 self.note_call(
                     reference.place,
@@ -306,9 +489,10 @@ impl Typer<'_> {
         ensures { IfOk result (λ r. noted (view.expression_of r) faults.new.items ≡ noted_after faults.old.items (return_by self.now around place (resolved.expression_of e.now))) }
     {
         let typed = self.expression(e, faults)?;
-        let is_taken = around.may_return_value(typed.scalar);
+        let value = self.wanted(around.wanted(), typed, faults)?;
+        let is_taken = around.may_return_value(value.scalar);
         self.note_unless(is_taken, Number::E401, place, faults)?;
-        Ok(typed.tree)
+        Ok(value.tree)
     }
 
     /// The index of an iterative DO.
@@ -327,18 +511,57 @@ impl Typer<'_> {
         Ok(index_for(variable))
     }
 
-    /// The step of an iterative DO: 1 if it is missing.
+    /// The step of an iterative DO with an INTEGER index.
+    fn integer_step(
+        &self,
+        place: Position,
+        step: Option<SignedStep>,
+        faults: &mut Vec<Found>,
+    ) -> Result<Step, AllocError>
+        ensures { IfOk result (λ r. step_said r faults.new.items ≡ step_after faults.old.items (spec.integer_step self.now.module place step)) }
+    {
+        let Some(step) = step else {
+            self.note_unless(false, Number::E401, place, faults)?;
+            return Ok(Step {
+                tree: Expression::Constant(0),
+                counting: Counting::SignedUp,
+            });
+        };
+        self.note_unless(step.fits(), Number::E401, step.place, faults)?;
+        Ok(Step {
+            tree: Expression::Constant(step.word()),
+            counting: step.counting(),
+        })
+    }
+
+    /// The step of an iterative DO whose index has this type: 1 if it is missing.
     fn step(
         &self,
+        scalar: Option<ScalarType>,
         place: Position,
         step: &Option<plm_decl::Expression>,
         faults: &mut Vec<Found>,
-    ) -> Result<Expression, AllocError>
-        ensures { IfOk result (λ r. noted (view.expression_of r) faults.new.items ≡ noted_after faults.old.items (step_by self.now place (resolved.step_of step.now))) }
+    ) -> Result<Step, AllocError>
+        ensures { IfOk result (λ r. step_said r faults.new.items ≡ step_after faults.old.items (step_by self.now scalar place (resolved.step_of step.now))) }
     {
         match step {
-            Some(step) => self.number_in(place, step, faults),
-            None => Ok(Expression::Constant(1)),
+            Some(step) => {
+                if is_integer(scalar) {
+                    return self.integer_step(place, signed_step(step), faults);
+                }
+                Ok(Step {
+                    tree: self.number_in(place, step, faults)?,
+                    counting: Counting::Up,
+                })
+            }
+            None => Ok(Step {
+                tree: Expression::Constant(1),
+                counting: if is_integer(scalar) {
+                    Counting::SignedUp
+                } else {
+                    Counting::Up
+                },
+            }),
         }
     }
 
@@ -353,10 +576,11 @@ impl Typer<'_> {
     ) -> Result<Range, AllocError>
         ensures { IfOk result (λ r. noted (range_of r) faults.new.items ≡ noted_after faults.old.items (range_by self.now place name bounds.now)) }
     {
+        let scalar = variable_type(self.variable_meant(bounds.binding));
         let index = self.index(place, name, bounds.binding, faults)?;
-        let from = self.number_in(place, &bounds.from, faults)?;
-        let bound = self.number_in(place, &bounds.to, faults)?;
-        let step = self.step(place, &bounds.step, faults)?;
+        let from = self.bound_in(scalar, place, &bounds.from, faults)?;
+        let bound = self.bound_in(scalar, place, &bounds.to, faults)?;
+        let step = self.step(scalar, place, &bounds.step, faults)?;
         Ok(Range {
             index,
             from,
@@ -524,9 +748,9 @@ impl Typer<'_> {
         value: &plm_decl::Expression,
         faults: &mut Vec<Found>,
     ) -> Result<Statement, AllocError>
-        ensures { IfOk result (λ r. noted (view.statement_of r) faults.new.items ≡ noted_after faults.old.items (spec.cases (number_by self.now place (resolved.expression_of value.now)) (statements_by self.now around (resolved.statements_of cases.now)))) }
+        ensures { IfOk result (λ r. noted (view.statement_of r) faults.new.items ≡ noted_after faults.old.items (spec.cases (count_by self.now place (resolved.expression_of value.now)) (statements_by self.now around (resolved.statements_of cases.now)))) }
     {
-        let value = self.number_in(place, value, faults)?;
+        let value = self.count_in(place, value, faults)?;
         let cases = self.statements(around, cases, faults)?;
         Ok(Statement::Case(value, cases))
     }
@@ -541,7 +765,7 @@ impl Typer<'_> {
         body: &[Resolved],
         faults: &mut Vec<Found>,
     ) -> Result<Statement, AllocError>
-        ensures { IfOk result (λ r. noted (view.statement_of r) faults.new.items ≡ noted_after faults.old.items (spec.iteration (noted (view.scalar_of range.index) []) (noted (view.expression_of range.from) []) (noted (view.expression_of range.bound) []) (noted (view.expression_of range.step) []) (statements_by self.now around (resolved.statements_of body.now)))) }
+        ensures { IfOk result (λ r. noted (view.statement_of r) faults.new.items ≡ noted_after faults.old.items (spec.iteration (noted (view.scalar_of range.index) []) (noted (view.expression_of range.from) []) (noted (view.expression_of range.bound) []) (step_said range.step []) (statements_by self.now around (resolved.statements_of body.now)))) }
     {
         let Range {
             index,
@@ -551,9 +775,10 @@ impl Typer<'_> {
         } = range;
         let body = self.statements(around, body, faults)?;
         let rounds = Loop {
+            counting: step.counting,
             index,
             bound,
-            step,
+            step: step.tree,
             body,
         };
         Ok(Statement::Iterate(from, Box::new(self.alloc, rounds)?))

@@ -1,11 +1,17 @@
 //! What is known while statements are typed: the names and the module; and what is said of an expression: its tree and its type.
 
-ghost use Rattle.std.specs.Prelude.{◌≡◌, ◌∷◌, [], ◌++◌, IfOk, OnOk, option_map, slice_get};
+ghost use Rattle.std.specs.Prelude.{◌≡◌, ◌∷◌, [], ◌++◌, IfOk, OnOk, Some, option_map, slice_get};
 ghost use Rattle.plm_decl.specs.Names as known;
-ghost use Rattle.plm_type.specs.Inner.Typer.{variables, procedures};
+ghost use Rattle.plm_type.specs.Inner.Typer.{variables, procedures, said};
+ghost use Rattle.plm_decl.specs.declared.layout.ScalarType.TheVariants.{Integer};
+ghost use Rattle.plm_type.specs.declared.numbers.Numbers.TheVariants.{Other};
+ghost use Rattle.plm_type.specs.Numbers as number;
+ghost use Rattle.plm_type.specs.Expressions as spec;
+ghost use Rattle.plm_type.specs.View as view;
 ghost use Rattle.plm_type.specs.Typing.{given_if};
 ghost use Rattle.plm_type.specs.Faults as found;
 
+use crate::numbers::{Numbers, as_integer};
 use crate::program::{Expression, Line};
 use plm_decl::found::Found;
 use plm_decl::{Names, Procedure, ScalarType, Variable};
@@ -21,11 +27,12 @@ pub struct Typer<'n> {
     pub module: usize,
 }
 
-/// An expression's tree, and its type: none where it has a fault.
+/// An expression's tree, its type, which is none where it has a fault, and its numbers.
 #[derive(Drop)]
 pub struct Typed {
     pub tree: Expression,
     pub scalar: Option<ScalarType>,
+    pub numbers: Numbers,
 }
 
 /// The trees and the types of several expressions, in order.
@@ -40,10 +47,40 @@ impl Typed {
     pub fn given_if(self, holds: bool) -> Typed
         ensures tree { result.tree ≡ self.tree }
         ensures scalar { result.scalar ≡ given_if holds self.scalar }
+        ensures numbers { result.numbers ≡ self.numbers }
     {
         Typed {
             tree: self.tree,
             scalar: if holds { self.scalar } else { None },
+            numbers: self.numbers,
+        }
+    }
+
+    /// In parentheses: 32,768 in them does not stand directly after a minus.
+    pub fn parenthesised(self) -> Typed
+        ensures tree { result.tree ≡ self.tree }
+        ensures scalar { result.scalar ≡ self.scalar }
+        ensures numbers { result.numbers ≡ number.settled self.numbers }
+    {
+        Typed {
+            tree: self.tree,
+            scalar: self.scalar,
+            numbers: self.numbers.settled(),
+        }
+    }
+
+    /// A number expression as an INTEGER, which has no type where an INTEGER cannot have one of its numbers.
+    fn turned(self) -> Typed
+        ensures tree { view.expression_of result.tree ≡ number.integer_of (view.expression_of self.tree) }
+        ensures scalar { result.scalar ≡ given_if (number.fits self.numbers) (Some Integer) }
+        ensures numbers { result.numbers ≡ Other }
+    {
+        let mut tree = self.tree;
+        as_integer(&mut tree);
+        Typed {
+            tree,
+            scalar: self.numbers.fit().then_some(ScalarType::Integer),
+            numbers: Numbers::Other,
         }
     }
 }
@@ -117,6 +154,34 @@ impl Typer<'_> {
             number,
         })?;
         Ok(())
+    }
+
+    /// Notes the first number that no INTEGER can have.
+    fn note_range(&self, numbers: Numbers, faults: &mut Vec<Found>) -> Result<(), AllocError>
+        ensures { OnOk result (faults.new.items ≡ faults.old.items ++ number.range_faults self.now.module numbers) }
+    {
+        match numbers {
+            Numbers::Other | Numbers::Fits => Ok(()),
+            Numbers::Least(place) | Numbers::Beyond(place) => {
+                self.note_unless(false, Number::E401, place, faults)
+            }
+        }
+    }
+
+    /// An expression where a value of this type is wanted.
+    pub fn wanted(
+        &self,
+        scalar: Option<ScalarType>,
+        e: Typed,
+        faults: &mut Vec<Found>,
+    ) -> Result<Typed, AllocError>
+        ensures { IfOk result (λ r. said r faults.new.items ≡ spec.wanted self.now.module scalar (said e faults.old.items)) }
+    {
+        if !e.numbers.turn(scalar) {
+            return Ok(e);
+        }
+        self.note_range(e.numbers, faults)?;
+        Ok(e.turned())
     }
 
     /// The line of a place.

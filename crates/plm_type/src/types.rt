@@ -13,7 +13,7 @@ pub fn width_of(scalar: Option<ScalarType>) -> Width
 {
     match scalar {
         Some(ScalarType::Byte) => Width::Byte,
-        Some(ScalarType::Word | ScalarType::Pointer) | None => Width::Word,
+        Some(ScalarType::Word | ScalarType::Pointer | ScalarType::Integer) | None => Width::Word,
     }
 }
 
@@ -22,9 +22,36 @@ pub fn may_be_number(scalar: Option<ScalarType>) -> bool
     ensures { result ≡ spec.may_be_number scalar }
 {
     match scalar {
-        Some(ScalarType::Pointer) => false,
+        Some(ScalarType::Pointer | ScalarType::Integer) => false,
         Some(ScalarType::Byte | ScalarType::Word) | None => true,
     }
+}
+
+/// Whether it is INTEGER, or not known.
+pub fn may_be_integer(scalar: Option<ScalarType>) -> bool
+    ensures { result ≡ spec.may_be_integer scalar }
+{
+    match scalar {
+        Some(ScalarType::Integer) | None => true,
+        Some(ScalarType::Byte | ScalarType::Word | ScalarType::Pointer) => false,
+    }
+}
+
+/// Whether it is INTEGER.
+pub fn is_integer(scalar: Option<ScalarType>) -> bool
+    ensures { result ≡ spec.is_integer scalar }
+{
+    match scalar {
+        Some(ScalarType::Integer) => true,
+        Some(ScalarType::Byte | ScalarType::Word | ScalarType::Pointer) | None => false,
+    }
+}
+
+/// Whether it may be a subscript, or the value of DO CASE.
+pub fn may_count(scalar: Option<ScalarType>) -> bool
+    ensures { result ≡ spec.may_count scalar }
+{
+    may_be_number(scalar) || may_be_integer(scalar)
 }
 
 /// Whether it is POINTER, or not known.
@@ -33,7 +60,7 @@ pub fn may_be_pointer(scalar: Option<ScalarType>) -> bool
 {
     match scalar {
         Some(ScalarType::Pointer) | None => true,
-        Some(ScalarType::Byte | ScalarType::Word) => false,
+        Some(ScalarType::Byte | ScalarType::Word | ScalarType::Integer) => false,
     }
 }
 
@@ -41,7 +68,29 @@ pub fn may_be_pointer(scalar: Option<ScalarType>) -> bool
 pub fn takes(into: Option<ScalarType>, value: Option<ScalarType>) -> bool
     ensures { result ≡ spec.takes into value }
 {
-    (may_be_number(into) && may_be_number(value)) || (may_be_pointer(into) && may_be_pointer(value))
+    (may_be_number(into) && may_be_number(value))
+        || (may_be_integer(into) && may_be_integer(value))
+        || (may_be_pointer(into) && may_be_pointer(value))
+}
+
+/// Whether it is AND, OR or XOR.
+pub fn is_bitwise(operator: BinaryOperator) -> bool
+    ensures { result ≡ spec.is_bitwise operator }
+{
+    match operator {
+        BinaryOperator::And | BinaryOperator::Or | BinaryOperator::ExclusiveOr => true,
+        BinaryOperator::Multiply
+        | BinaryOperator::Divide
+        | BinaryOperator::Modulo
+        | BinaryOperator::Add
+        | BinaryOperator::Subtract
+        | BinaryOperator::Equal
+        | BinaryOperator::NotEqual
+        | BinaryOperator::Less
+        | BinaryOperator::LessEqual
+        | BinaryOperator::Greater
+        | BinaryOperator::GreaterEqual => false,
+    }
 }
 
 fn is_equality(operator: BinaryOperator) -> bool
@@ -64,7 +113,8 @@ fn is_equality(operator: BinaryOperator) -> bool
     }
 }
 
-fn is_relation(operator: BinaryOperator) -> bool
+/// Whether it compares its operands.
+pub fn is_relation(operator: BinaryOperator) -> bool
     ensures { result ≡ spec.is_relation operator }
 {
     match operator {
@@ -85,6 +135,13 @@ fn is_relation(operator: BinaryOperator) -> bool
     }
 }
 
+/// Whether both may be numbers, or both INTEGER.
+fn are_alike(left: Option<ScalarType>, right: Option<ScalarType>) -> bool
+    ensures { result ≡ spec.are_alike left right }
+{
+    (may_be_number(left) && may_be_number(right)) || (may_be_integer(left) && may_be_integer(right))
+}
+
 /// Whether an operator may take operands of these types.
 pub fn operands_fit(
     operator: BinaryOperator,
@@ -93,10 +150,22 @@ pub fn operands_fit(
 ) -> bool
     ensures { result ≡ spec.operands_fit operator left right }
 {
-    if is_equality(operator) {
+    if is_bitwise(operator) {
+        may_be_number(left) && may_be_number(right)
+    } else if is_equality(operator) {
         takes(left, right)
     } else {
-        may_be_number(left) && may_be_number(right)
+        are_alike(left, right)
+    }
+}
+
+/// Whether a unary operator may take an operand of this type.
+pub fn unary_fits(operator: UnaryOperator, operand: Option<ScalarType>) -> bool
+    ensures { result ≡ spec.unary_fits operator operand }
+{
+    match operator {
+        UnaryOperator::Not => may_be_number(operand),
+        UnaryOperator::Plus | UnaryOperator::Minus => may_count(operand),
     }
 }
 
@@ -131,12 +200,19 @@ fn wider(left: ScalarType, right: ScalarType) -> ScalarType
         (ScalarType::Byte, ScalarType::Byte) => ScalarType::Byte,
         (ScalarType::Byte, ScalarType::Word)
         | (ScalarType::Byte, ScalarType::Pointer)
+        | (ScalarType::Byte, ScalarType::Integer)
         | (ScalarType::Word, ScalarType::Byte)
         | (ScalarType::Word, ScalarType::Word)
         | (ScalarType::Word, ScalarType::Pointer)
+        | (ScalarType::Word, ScalarType::Integer)
         | (ScalarType::Pointer, ScalarType::Byte)
         | (ScalarType::Pointer, ScalarType::Word)
-        | (ScalarType::Pointer, ScalarType::Pointer) => ScalarType::Word,
+        | (ScalarType::Pointer, ScalarType::Pointer)
+        | (ScalarType::Pointer, ScalarType::Integer)
+        | (ScalarType::Integer, ScalarType::Byte)
+        | (ScalarType::Integer, ScalarType::Word)
+        | (ScalarType::Integer, ScalarType::Pointer)
+        | (ScalarType::Integer, ScalarType::Integer) => ScalarType::Word,
     }
 }
 
@@ -167,6 +243,8 @@ fn result_type(operator: BinaryOperator, left: ScalarType, right: ScalarType) ->
 {
     if is_relation(operator) {
         ScalarType::Byte
+    } else if is_integer(Some(left)) {
+        ScalarType::Integer
     } else {
         number_result(operator, left, right)
     }
@@ -190,10 +268,10 @@ pub fn binary_type(
 }
 
 /// The type of a unary operator's value.
-pub fn unary_type(operand: Option<ScalarType>) -> Option<ScalarType>
-    ensures { result ≡ spec.unary_type operand }
+pub fn unary_type(operator: UnaryOperator, operand: Option<ScalarType>) -> Option<ScalarType>
+    ensures { result ≡ spec.unary_type operator operand }
 {
-    if may_be_number(operand) {
+    if unary_fits(operator, operand) {
         operand
     } else {
         None
@@ -233,19 +311,51 @@ pub fn binary_operation(operator: BinaryOperator) -> BinaryOperation
     }
 }
 
-/// Whether each of the types is known, and BYTE or WORD.
-pub fn are_known_numbers(types: &[Option<ScalarType>]) -> bool
-    ensures { result ≡ spec.are_known_numbers types.now }
+/// The operation on INTEGERs.
+pub fn with_sign(operation: BinaryOperation) -> BinaryOperation
+    ensures { result ≡ spec.with_sign operation }
 {
-    for scalar in types {
-        if scalar.is_none() || !may_be_number(*scalar) {
-            return false;
-        }
+    match operation {
+        BinaryOperation::Divide => BinaryOperation::DivideSigned,
+        BinaryOperation::Modulo => BinaryOperation::ModuloSigned,
+        BinaryOperation::Less => BinaryOperation::LessSigned,
+        BinaryOperation::LessEqual => BinaryOperation::LessEqualSigned,
+        BinaryOperation::Greater => BinaryOperation::GreaterSigned,
+        BinaryOperation::GreaterEqual => BinaryOperation::GreaterEqualSigned,
+        BinaryOperation::Multiply
+        | BinaryOperation::Add
+        | BinaryOperation::Subtract
+        | BinaryOperation::Equal
+        | BinaryOperation::NotEqual
+        | BinaryOperation::And
+        | BinaryOperation::Or
+        | BinaryOperation::ExclusiveOr
+        | BinaryOperation::ShiftLeft
+        | BinaryOperation::ShiftRight
+        | BinaryOperation::RotateLeft
+        | BinaryOperation::RotateRight
+        | BinaryOperation::DivideSigned
+        | BinaryOperation::ModuloSigned
+        | BinaryOperation::LessSigned
+        | BinaryOperation::LessEqualSigned
+        | BinaryOperation::GreaterSigned
+        | BinaryOperation::GreaterEqualSigned => operation,
     }
-    true
 }
 
-/// Whether none of the types is POINTER.
+/// What an operator on operands of this type does.
+pub fn operation_on(scalar: Option<ScalarType>, operator: BinaryOperator) -> BinaryOperation
+    ensures { result ≡ spec.operation_on scalar operator }
+{
+    let operation = binary_operation(operator);
+    if is_integer(scalar) {
+        with_sign(operation)
+    } else {
+        operation
+    }
+}
+
+/// Whether each of the types is BYTE or WORD, or not known.
 pub fn may_be_numbers(types: &[Option<ScalarType>]) -> bool
     ensures { result ≡ spec.may_be_numbers types.now }
 {
@@ -255,6 +365,54 @@ pub fn may_be_numbers(types: &[Option<ScalarType>]) -> bool
         }
     }
     true
+}
+
+/// Whether each of the types is INTEGER, or not known.
+pub fn may_be_integers(types: &[Option<ScalarType>]) -> bool
+    ensures { result ≡ spec.may_be_integers types.now }
+{
+    for scalar in types {
+        if !may_be_integer(*scalar) {
+            return false;
+        }
+    }
+    true
+}
+
+/// Whether none of the types is POINTER.
+pub fn may_all_count(types: &[Option<ScalarType>]) -> bool
+    ensures { result ≡ spec.may_all_count types.now }
+{
+    for scalar in types {
+        if !may_count(*scalar) {
+            return false;
+        }
+    }
+    true
+}
+
+/// Whether each of the types is known, and none of them POINTER.
+pub fn are_known_counts(types: &[Option<ScalarType>]) -> bool
+    ensures { result ≡ spec.are_known_counts types.now }
+{
+    for scalar in types {
+        if scalar.is_none() || !may_count(*scalar) {
+            return false;
+        }
+    }
+    true
+}
+
+/// Whether some of the types is INTEGER.
+pub fn has_integer(types: &[Option<ScalarType>]) -> bool
+    ensures { result ≡ spec.has_integer types.now }
+{
+    for scalar in types {
+        if is_integer(*scalar) {
+            return true;
+        }
+    }
+    false
 }
 
 /// Whether each of the types is POINTER, or not known.

@@ -1,6 +1,6 @@
 -- The operators on AX and CX.
 use Rattle.std.proofs.Common.{◌≡◌, ℕ, zero, suc, ◌+◌, ◌-◌, ◌*◌, ◌/◌, ◌%◌, ◌^◌, ◌<◌, ◌≤◌, ◌⊎◌, inl, inr, Bool, true, false, List, [], ◌∷◌, length, Option, Some, None, refl, sym, ap, ◌∙◌, subst, arith}
-use Rattle.std.specs.Prelude.{cond, not, ◌==◌, if◌then◌else◌, nat_eq, nat_lt, nat_le}
+use Rattle.std.specs.Prelude.{cond, not, ◌==◌, if◌then◌else◌, nat_eq, nat_lt, nat_le, int_div, int_rem}
 use Rattle.std.specs.Int.RustNames.{bit_and, bit_or, bit_xor}
 use Rattle.std.proofs.lemmas.Bool.{cases_lt, lt-ltb, le-ltb, lt-leb, eq-eqb, ne_eqb, eqb-true}
 use Rattle.std.proofs.Math.Nat.{div-le_self, mod-le}
@@ -13,6 +13,7 @@ use Rattle.word86.specs.declared.operation.UnaryOperation.{UnaryOperation}
 use Rattle.word86.specs.declared.operation.UnaryOperation.TheVariants as unary
 use Rattle.word86.specs.Arithmetic.{low, rotated, rotated_left, rotated_right}
 use Rattle.word86.specs.Operation.{truth, quotient, remainder, unary_value, binary_value}
+use Rattle.word86.specs.Signed.{signed, signed_word, has_quotient, signed_quotient, signed_remainder, signed_less}
 use Rattle.word86.specs.Action.{Silent}
 use Rattle.word86.specs.Following.{Does}
 use Rattle.i86_table.specs.declared.registers.Register16.{Register16}
@@ -22,7 +23,7 @@ use Rattle.i86_table.specs.declared.instruction.AluOperation.TheVariants.{Add, S
 use Rattle.i86_table.specs.declared.instruction.UnaryOperation.TheVariants as changes
 use Rattle.i86_table.specs.declared.instruction.ShiftOperation.{ShiftOperation}
 use Rattle.i86_table.specs.declared.instruction.ShiftOperation.TheVariants as shifts
-use Rattle.i86_table.specs.declared.instruction.Signedness.TheVariants.{Unsigned}
+use Rattle.i86_table.specs.declared.instruction.Signedness.TheVariants.{Unsigned, Signed}
 use Rattle.i86_table.specs.declared.instruction.Count.{Count}
 use Rattle.i86_table.specs.declared.instruction.Count.TheVariants as counts
 use Rattle.i86_table.specs.declared.instruction.RmOperand.TheVariants as rm
@@ -31,9 +32,9 @@ use Rattle.i86_table.specs.declared.instruction.Instr.{Instr}
 use Rattle.i86_table.specs.declared.instruction.Instr.TheVariants as i
 use Rattle.i86_table.specs.declared.flags.Flags.{Flags}
 use Rattle.i86_table.specs.declared.outcome.Division.{Division}
-use Rattle.i86_table.specs.Arithmetic.{operated, added, subtracted, combined, changed, shifted, multiplied, divided, is_carry, number_of}
+use Rattle.i86_table.specs.Arithmetic.{operated, added, subtracted, combined, changed, shifted, multiplied, divided, is_carry, number_of, sign_word}
 use Rattle.i86_table.specs.Contexts.{Own, Working, Given, offered, divides, word_quotient, word_product, alu_word, alu_byte, count_in, is_sp, word_in, exchanged, unless, silently, set_byte, set_word, set_flags, word_result, byte_result}
-use Rattle.select.specs.Rows.{core, narrow, then_narrow, from_carry, from_no_carry, clear_high, load_number, accumulator_gets, exchange, alu, alu_number, shift_word, shift_byte, left_by, right_by, direct, narrow_sum, sum_number, sum_with, load_count, counted, exponent, by_number, powered, by_constant}
+use Rattle.select.specs.Rows.{sign_turned, by_turned, core, narrow, then_narrow, from_carry, from_no_carry, clear_high, load_number, accumulator_gets, exchange, alu, alu_number, shift_word, shift_byte, left_by, right_by, direct, narrow_sum, sum_number, sum_with, load_count, counted, exponent, by_number, by_product, by_quotient, by_remainder, by_constant}
 use Rattle.i86_table.specs.Numbers.{word_register_code}
 use Rattle.i86_table.specs.Pairs.{word_pair}
 use Rattle.select.specs.Rows as rows
@@ -49,10 +50,20 @@ use Rattle.select.proofs.Flags.{flipped_le}
 abbrev pub with_high : Registers
 with_high = record none { accumulator = true; high = true }
 
+-- a count may be in CL, a sign bit be turned in CX
+abbrev pub with_right : Registers
+with_right = record none { accumulator = true; right = true }
+
 abbrev pub core_changes : BinaryOperation → Registers
 core_changes binary.Multiply = with_high
 core_changes binary.Divide = with_high
 core_changes binary.Modulo = with_high
+core_changes binary.DivideSigned = with_high
+core_changes binary.ModuloSigned = with_high
+core_changes binary.LessSigned = with_right
+core_changes binary.LessEqualSigned = with_right
+core_changes binary.GreaterSigned = with_right
+core_changes binary.GreaterEqualSigned = with_right
 core_changes _ = just_accumulator
 
 pub core_within : (o : BinaryOperation) → joined (of_operator o) (core_changes o) ≡ of_operator o
@@ -74,6 +85,12 @@ core_within binary.ShiftLeft = refl
 core_within binary.ShiftRight = refl
 core_within binary.RotateLeft = refl
 core_within binary.RotateRight = refl
+core_within binary.DivideSigned = refl
+core_within binary.ModuloSigned = refl
+core_within binary.LessSigned = refl
+core_within binary.LessEqualSigned = refl
+core_within binary.GreaterSigned = refl
+core_within binary.GreaterEqualSigned = refl
 
 pub operator_changes : (o : BinaryOperation) → ((of_operator o).accumulator ≡ true) × ((of_operator o).right ≡ true)
 operator_changes binary.Multiply = (refl, refl)
@@ -94,6 +111,12 @@ operator_changes binary.ShiftLeft = (refl, refl)
 operator_changes binary.ShiftRight = (refl, refl)
 operator_changes binary.RotateLeft = (refl, refl)
 operator_changes binary.RotateRight = (refl, refl)
+operator_changes binary.DivideSigned = (refl, refl)
+operator_changes binary.ModuloSigned = (refl, refl)
+operator_changes binary.LessSigned = (refl, refl)
+operator_changes binary.LessEqualSigned = (refl, refl)
+operator_changes binary.GreaterSigned = (refl, refl)
+operator_changes binary.GreaterEqualSigned = (refl, refl)
 
 same_as : (b : Bool) (u v : ℕ) → v ≡ u → Same b u v
 same_as true u v q = tt
@@ -194,6 +217,12 @@ short binary.RotateLeft widths.Byte = omega arith
 short binary.RotateLeft widths.Word = omega arith
 short binary.RotateRight widths.Byte = omega arith
 short binary.RotateRight widths.Word = omega arith
+short binary.DivideSigned width = omega arith
+short binary.ModuloSigned width = omega arith
+short binary.LessSigned width = omega arith
+short binary.LessEqualSigned width = omega arith
+short binary.GreaterSigned width = omega arith
+short binary.GreaterEqualSigned width = omega arith
 
 counted_pace : (n : ℕ) (shift : Count → List Instr) → with_each (shift counts.One) 8 ≤ 19 → with_each (shift counts.Cl) 8 ≤ 19 → with_each (counted n shift) 8 ≤ 20
 counted_pace n shift one many = by (nat_eq n 1)
@@ -213,15 +242,15 @@ right_pace widths.Word n = counted_pace n (right_by widths.Word) (omega arith) (
 number_pace : (o : BinaryOperation) (width : Width) (k : ℕ) → with_each (by_number o width k) 8 ≤ 20
 number_pace o width k = omega (arith, short o width)
 
-product_pace : (width : Width) (k : ℕ) (e : Option ℕ) → with_each (powered binary.Multiply width k e) 8 ≤ 20
+product_pace : (width : Width) (k : ℕ) (e : Option ℕ) → with_each (by_product width k e) 8 ≤ 20
 product_pace width k None = number_pace binary.Multiply width k
 product_pace width k (Some n) = left_pace width n
 
-quotient_pace : (width : Width) (k : ℕ) (e : Option ℕ) → with_each (powered binary.Divide width k e) 8 ≤ 20
+quotient_pace : (width : Width) (k : ℕ) (e : Option ℕ) → with_each (by_quotient width k e) 8 ≤ 20
 quotient_pace width k None = number_pace binary.Divide width k
 quotient_pace width k (Some n) = right_pace widths.Word n
 
-remainder_pace : (width : Width) (k : ℕ) (e : Option ℕ) → with_each (powered binary.Modulo width k e) 8 ≤ 20
+remainder_pace : (width : Width) (k : ℕ) (e : Option ℕ) → with_each (by_remainder width k e) 8 ≤ 20
 remainder_pace width k None = number_pace binary.Modulo width k
 remainder_pace width k (Some n) = omega arith
 
@@ -239,17 +268,23 @@ right_some : (width : Width) (n : ℕ) → 0 < length (counted n (right_by width
 right_some widths.Byte n = counted_some n (right_by widths.Byte) (omega arith)
 right_some widths.Word n = counted_some n (right_by widths.Word) (omega arith)
 
-powered_some : (o : BinaryOperation) (width : Width) (k : ℕ) (e : Option ℕ) → 0 < length (powered o width k e)
-powered_some o width k None = omega arith
-powered_some binary.Multiply width k (Some n) = left_some width n
-powered_some binary.Divide width k (Some n) = right_some widths.Word n
-powered_some _ width k (Some n) = omega arith
+product_some : (width : Width) (k : ℕ) (e : Option ℕ) → 0 < length (by_product width k e)
+product_some width k None = omega arith
+product_some width k (Some n) = left_some width n
+
+quotient_some : (width : Width) (k : ℕ) (e : Option ℕ) → 0 < length (by_quotient width k e)
+quotient_some width k None = omega arith
+quotient_some width k (Some n) = right_some widths.Word n
+
+remainder_some : (width : Width) (k : ℕ) (e : Option ℕ) → 0 < length (by_remainder width k e)
+remainder_some width k None = omega arith
+remainder_some width k (Some n) = omega arith
 
 -- there is an instruction for each operator
 pub some_constant : (o : BinaryOperation) (width : Width) (k : ℕ) → 0 < length (by_constant o width k)
-some_constant binary.Multiply width k = powered_some binary.Multiply width k (exponent k)
-some_constant binary.Divide width k = powered_some binary.Divide width k (exponent k)
-some_constant binary.Modulo width k = powered_some binary.Modulo width k (exponent k)
+some_constant binary.Multiply width k = product_some width k (exponent k)
+some_constant binary.Divide width k = quotient_some width k (exponent k)
+some_constant binary.Modulo width k = remainder_some width k (exponent k)
 some_constant binary.ShiftLeft width k = left_some width (k % 256)
 some_constant binary.ShiftRight width k = right_some width (k % 256)
 some_constant _ width k = omega arith
@@ -275,6 +310,12 @@ constant_pace binary.Less width k = number_pace binary.Less width k
 constant_pace binary.LessEqual width k = number_pace binary.LessEqual width k
 constant_pace binary.Greater width k = number_pace binary.Greater width k
 constant_pace binary.GreaterEqual width k = number_pace binary.GreaterEqual width k
+constant_pace binary.DivideSigned width k = number_pace binary.DivideSigned width k
+constant_pace binary.ModuloSigned width k = number_pace binary.ModuloSigned width k
+constant_pace binary.LessSigned width k = omega arith
+constant_pace binary.LessEqualSigned width k = omega arith
+constant_pace binary.GreaterSigned width k = omega arith
+constant_pace binary.GreaterEqualSigned width k = omega arith
 
 module _ (laws : Laws) (find : ℕ → ℕ → Option (ℕ × ℕ)) (words : ℕ → Option ℕ) (main handler : ℕ) (given : Option Given) where
   abbrev S : List Instr → Working → List ℕ → Working → List ℕ → Type 0
@@ -297,6 +338,10 @@ module _ (laws : Laws) (find : ℕ → ℕ → Option (ℕ × ℕ)) (words : ℕ
 
   only : (s : Registers) (n : Instr) (g h : Working) (st : List ℕ) (v : ℕ) → On n g st h st → OnlyChanges s g h → h.ax ≡ v → v < 65536 → Computes s (n ∷ []) g st v
   only s n g h st v e keep is lt = (h, (h, st, e, (refl, refl)), is, lt, keep)
+
+  -- with other registers that may change
+  wider : (s t : Registers) (ns : List Instr) (g : Working) (st : List ℕ) (v : ℕ) → joined s t ≡ s → Computes t ns g st v → Computes s ns g st v
+  wider s t ns g st v e c = (c.0, c.1, c.2, c.3, changes_wider s t g c.0 e c.4)
 
   -- ---- AX and another register change places
 
@@ -406,6 +451,26 @@ module _ (laws : Laws) (find : ℕ → ℕ → Option (ℕ × ℕ)) (words : ℕ
   unfolding subtracts tests_equal
   equal_carry g a c = cmp_flags (subtracts g).ax 1 (subtracts g).flags ∙ ap (λ z. nat_lt z 1) (difference_is g.ax g.cx g.flags) ∙ no_difference g.ax g.cx a c
 
+  less_by : (g : Working) (st : List ℕ) (b : Bool) → nat_lt g.ax g.cx ≡ b → Computes just_accumulator (alu Cmp Ax Cx ∷ from_carry) g st (truth b)
+  unfolding compared
+  less_by g st b e =
+      first just_accumulator (alu Cmp Ax Cx) from_carry g (compared g g.ax g.cx) st (truth b) (λ q. refl) (tt, refl, refl, refl, refl, refl, refl) (carried (compared g g.ax g.cx) st b (cmp_flags g.ax g.cx g.flags ∙ e))
+
+  not_less_by : (g : Working) (st : List ℕ) (b : Bool) → nat_lt g.ax g.cx ≡ b → Computes just_accumulator (alu Cmp Ax Cx ∷ from_no_carry) g st (truth (not b))
+  unfolding compared
+  not_less_by g st b e =
+      first just_accumulator (alu Cmp Ax Cx) from_no_carry g (compared g g.ax g.cx) st (truth (not b)) (λ q. refl) (tt, refl, refl, refl, refl, refl, refl) (not_carried (compared g g.ax g.cx) st b (cmp_flags g.ax g.cx g.flags ∙ e))
+
+  greater_by : (g : Working) (st : List ℕ) (b : Bool) → nat_lt g.cx g.ax ≡ b → Computes just_accumulator (alu Cmp Cx Ax ∷ from_carry) g st (truth b)
+  unfolding compared
+  greater_by g st b e =
+      first just_accumulator (alu Cmp Cx Ax) from_carry g (compared g g.cx g.ax) st (truth b) (λ q. refl) (tt, refl, refl, refl, refl, refl, refl) (carried (compared g g.cx g.ax) st b (cmp_flags g.cx g.ax g.flags ∙ e))
+
+  not_greater_by : (g : Working) (st : List ℕ) (b : Bool) → nat_lt g.cx g.ax ≡ b → Computes just_accumulator (alu Cmp Cx Ax ∷ from_no_carry) g st (truth (not b))
+  unfolding compared
+  not_greater_by g st b e =
+      first just_accumulator (alu Cmp Cx Ax) from_no_carry g (compared g g.cx g.ax) st (truth (not b)) (λ q. refl) (tt, refl, refl, refl, refl, refl, refl) (not_carried (compared g g.cx g.ax) st b (cmp_flags g.cx g.ax g.flags ∙ e))
+
   -- ---- the operators
 
   sum_is : (a b : ℕ) (f : Flags) → (operated Add widths.Word a b f).value ≡ (a + b + 0) % 65536
@@ -450,6 +515,52 @@ module _ (laws : Laws) (find : ℕ → ℕ → Option (ℕ × ℕ)) (words : ℕ
       let d = divides_by g st y a e in
       let h = swapped Dx d.0 in
       (h, also find words main handler given (load_number Dx 0 ∷ i.DivideWord Unsigned (rm.Register Cx) ∷ []) (exchange Dx ∷ []) g st d.0 st h st d.1 (h, st, exchanges Dx refl refl d.0 st, (refl, refl)), d.3, omega (arith, a, mod-le g.ax (suc y)), changes_then with_high g d.0 h d.4 (tt, refl, tt, refl, refl, refl, refl))
+
+  -- ---- words with sign
+
+  signed_divides : (g : Working) (st : List ℕ) → g.ax < 65536 → g.cx < 65536 → has_quotient g.ax g.cx ≡ true
+      → (h : Working) × S (i.ConvertWord ∷ i.DivideWord Signed (rm.Register Cx) ∷ []) g st h st × (signed_quotient g.ax g.cx ≡ Some h.ax) × (signed_remainder g.ax g.cx ≡ Some h.dx) × (h.ax < 65536) × (h.dx < 65536) × OnlyChanges with_high g h
+  signed_divides g st a c e =
+      let g1 = set_word g Dx (sign_word g.ax) in
+      let d = laws.signed.divides g.ax g.cx a c e in
+      let h = word_quotient d.0 g1 in
+      (h, (g1, st, λ q. refl, (h, st, λ q. ap (λ z. divides z (λ w. Own q (word_quotient w g1) st false given)) d.1, (refl, refl))), d.2, d.3, d.4, d.5, (tt, refl, tt, refl, refl, refl, refl))
+
+  signed_quotient_gives : (g : Working) (st : List ℕ) (width : Width) → g.ax < 65536 → g.cx < 65536 → Gives with_high (core binary.DivideSigned width) g st (signed_quotient g.ax g.cx)
+  signed_quotient_gives g st width a c = by (has_quotient g.ax g.cx) refl
+    where
+      by : (b : Bool) → has_quotient g.ax g.cx ≡ b → Gives with_high (core binary.DivideSigned width) g st (signed_quotient g.ax g.cx)
+      by true e = let d = signed_divides g st a c e in subst (λ v. Gives with_high (core binary.DivideSigned width) g st v) (sym d.2) (d.0, d.1, refl, d.4, d.6)
+      by false e =
+          subst (λ (b : Bool). Gives with_high (core binary.DivideSigned width) g st (if b then Some (signed_word (int_div (signed 65536 g.ax) (signed 65536 g.cx))) else None)) (sym e) tt
+
+  signed_remainder_gives : (g : Working) (st : List ℕ) (width : Width) → g.ax < 65536 → g.cx < 65536 → Gives with_high (core binary.ModuloSigned width) g st (signed_remainder g.ax g.cx)
+  signed_remainder_gives g st width a c = by (has_quotient g.ax g.cx) refl
+    where
+      by : (b : Bool) → has_quotient g.ax g.cx ≡ b → Gives with_high (core binary.ModuloSigned width) g st (signed_remainder g.ax g.cx)
+      by true e =
+          let d = signed_divides g st a c e in
+          let h = swapped Dx d.0 in
+          subst (λ v. Gives with_high (core binary.ModuloSigned width) g st v) (sym d.3)
+          (h, also find words main handler given (i.ConvertWord ∷ i.DivideWord Signed (rm.Register Cx) ∷ []) (exchange Dx ∷ []) g st d.0 st h st d.1 (h, st, exchanges Dx refl refl d.0 st, (refl, refl)), refl, d.5, changes_then with_high g d.0 h d.6 (tt, refl, tt, refl, refl, refl, refl))
+      by false e =
+          subst (λ (b : Bool). Gives with_high (core binary.ModuloSigned width) g st (if b then Some (signed_word (int_rem (signed 65536 g.ax) (signed 65536 g.cx))) else None)) (sym e) tt
+
+  turn_is : (x : ℕ) (f : Flags) → (operated Add widths.Word x 32768 f).value ≡ (x + 32768) % 65536
+  turn_is x f = let e : x + 32768 + 0 ≡ x + 32768 = omega arith in sum_is x 32768 f ∙ ap (λ z. z % 65536) e
+
+  -- what follows finds both operands with their sign bits turned
+  turned_then : (ns : List Instr) (v : ℕ) (g : Working) (st : List ℕ) → ((h : Working) → h.ax ≡ (g.ax + 32768) % 65536 → h.cx ≡ (g.cx + 32768) % 65536 → Computes just_accumulator ns h st v)
+      → Computes with_right (sign_turned Ax ∷ sign_turned Cx ∷ ns) g st v
+  turned_then ns v g st gives =
+      let g1 = alu_word Add Ax 32768 g in
+      let g2 = alu_word Add Cx 32768 g1 in
+      first with_right (sign_turned Ax) (sign_turned Cx ∷ ns) g g1 st v (λ q. refl) (tt, tt, refl, refl, refl, refl, refl)
+      (first with_right (sign_turned Cx) ns g1 g2 st v (λ q. refl) (tt, tt, refl, refl, refl, refl, refl)
+      (wider with_right just_accumulator ns g2 st v refl (gives g2 (turn_is g.ax g.flags) (turn_is g.cx g1.flags))))
+
+  turned_less : (x y a b : ℕ) → a < 65536 → b < 65536 → x ≡ (a + 32768) % 65536 → y ≡ (b + 32768) % 65536 → nat_lt x y ≡ signed_less a b
+  turned_less x y a b ha hb ex ey = ap (λ z. nat_lt z y) ex ∙ ap (nat_lt ((a + 32768) % 65536)) ey ∙ laws.signed.turned a b ha hb
 
   low_again : (x n : ℕ) → (rotated widths.Byte (x % 256) n) ≡ rotated widths.Byte x n
   low_again x n = ap (λ z. let turned = z * 2 ^ n in (turned % 256 + turned / 256) % 256) again
@@ -497,7 +608,7 @@ module _ (laws : Laws) (find : ℕ → ℕ → Option (ℕ × ℕ)) (words : ℕ
   right_gives widths.Word c g st a = let e : g.ax ≡ g.ax % 65536 = omega (arith, a) in shifts_right c g st (g.ax % 65536) (count_in g c) e refl (omega arith)
 
   pub core_gives : (o : BinaryOperation) (width : Width) (g : Working) (st : List ℕ) → g.ax < 65536 → g.cx < 65536 → Gives (core_changes o) (core o width) g st (binary_value o width g.ax g.cx)
-  unfolding subtracts tests_equal compared
+  unfolding subtracts tests_equal
   core_gives binary.Multiply width g st a c =
       wrapped with_high refl width (i.MultiplyWord Unsigned (rm.Register Cx)) g (word_product (multiplied Unsigned widths.Word g.ax g.cx g.flags) g) st (g.ax * g.cx) (low width (g.ax * g.cx)) (λ q. refl) (tt, refl, tt, refl, refl, refl, refl) (ap (λ z. z % 65536) (product_is g.ax g.cx g.flags)) refl
   core_gives binary.Divide width g st a c = quotient_gives g st width g.cx a refl
@@ -514,16 +625,20 @@ module _ (laws : Laws) (find : ℕ → ℕ → Option (ℕ × ℕ)) (words : ℕ
   core_gives binary.NotEqual width g st a c =
       first just_accumulator (alu Sub Ax Cx) (i.AluWord Cmp (Immediate (rm.Register Ax) 1) ∷ from_no_carry) g (subtracts g) st (truth (not (nat_eq g.ax g.cx))) (λ q. refl) (tt, refl, refl, refl, refl, refl, refl)
       (first just_accumulator (i.AluWord Cmp (Immediate (rm.Register Ax) 1)) from_no_carry (subtracts g) (tests_equal g) st (truth (not (nat_eq g.ax g.cx))) (λ q. refl) (tt, refl, refl, refl, refl, refl, refl) (not_carried (tests_equal g) st (nat_eq g.ax g.cx) (equal_carry g a c)))
-  core_gives binary.Less width g st a c =
-      first just_accumulator (alu Cmp Ax Cx) from_carry g (compared g g.ax g.cx) st (truth (nat_lt g.ax g.cx)) (λ q. refl) (tt, refl, refl, refl, refl, refl, refl) (carried (compared g g.ax g.cx) st (nat_lt g.ax g.cx) (cmp_flags g.ax g.cx g.flags))
-  core_gives binary.LessEqual width g st a c =
-      subst (λ z. Computes just_accumulator (core binary.LessEqual width) g st z) (ap truth (flipped_le g.ax g.cx))
-      (first just_accumulator (alu Cmp Cx Ax) from_no_carry g (compared g g.cx g.ax) st (truth (not (nat_lt g.cx g.ax))) (λ q. refl) (tt, refl, refl, refl, refl, refl, refl) (not_carried (compared g g.cx g.ax) st (nat_lt g.cx g.ax) (cmp_flags g.cx g.ax g.flags)))
-  core_gives binary.Greater width g st a c =
-      first just_accumulator (alu Cmp Cx Ax) from_carry g (compared g g.cx g.ax) st (truth (nat_lt g.cx g.ax)) (λ q. refl) (tt, refl, refl, refl, refl, refl, refl) (carried (compared g g.cx g.ax) st (nat_lt g.cx g.ax) (cmp_flags g.cx g.ax g.flags))
-  core_gives binary.GreaterEqual width g st a c =
-      subst (λ z. Computes just_accumulator (core binary.GreaterEqual width) g st z) (ap truth (flipped_le g.cx g.ax))
-      (first just_accumulator (alu Cmp Ax Cx) from_no_carry g (compared g g.ax g.cx) st (truth (not (nat_lt g.ax g.cx))) (λ q. refl) (tt, refl, refl, refl, refl, refl, refl) (not_carried (compared g g.ax g.cx) st (nat_lt g.ax g.cx) (cmp_flags g.ax g.cx g.flags)))
+  core_gives binary.Less width g st a c = less_by g st (nat_lt g.ax g.cx) refl
+  core_gives binary.LessEqual width g st a c = subst (λ z. Computes just_accumulator (core binary.LessEqual width) g st z) (ap truth (flipped_le g.ax g.cx)) (not_greater_by g st (nat_lt g.cx g.ax) refl)
+  core_gives binary.Greater width g st a c = greater_by g st (nat_lt g.cx g.ax) refl
+  core_gives binary.GreaterEqual width g st a c = subst (λ z. Computes just_accumulator (core binary.GreaterEqual width) g st z) (ap truth (flipped_le g.cx g.ax)) (not_less_by g st (nat_lt g.ax g.cx) refl)
+  core_gives binary.DivideSigned width g st a c = signed_quotient_gives g st width a c
+  core_gives binary.ModuloSigned width g st a c = signed_remainder_gives g st width a c
+  core_gives binary.LessSigned width g st a c =
+      turned_then (alu Cmp Ax Cx ∷ from_carry) (truth (signed_less g.ax g.cx)) g st (λ h l r. less_by h st (signed_less g.ax g.cx) (turned_less h.ax h.cx g.ax g.cx a c l r))
+  core_gives binary.LessEqualSigned width g st a c =
+      turned_then (alu Cmp Cx Ax ∷ from_no_carry) (truth (not (signed_less g.cx g.ax))) g st (λ h l r. not_greater_by h st (signed_less g.cx g.ax) (turned_less h.cx h.ax g.cx g.ax c a r l))
+  core_gives binary.GreaterSigned width g st a c =
+      turned_then (alu Cmp Cx Ax ∷ from_carry) (truth (signed_less g.cx g.ax)) g st (λ h l r. greater_by h st (signed_less g.cx g.ax) (turned_less h.cx h.ax g.cx g.ax c a r l))
+  core_gives binary.GreaterEqualSigned width g st a c =
+      turned_then (alu Cmp Ax Cx ∷ from_no_carry) (truth (not (signed_less g.ax g.cx))) g st (λ h l r. not_less_by h st (signed_less g.ax g.cx) (turned_less h.ax h.cx g.ax g.cx a c l r))
   core_gives binary.And width g st a c = only just_accumulator (alu And Ax Cx) g (alu_word And Ax g.cx g) st (bit_and g.ax g.cx) (λ q. refl) (tt, refl, refl, refl, refl, refl, refl) (and_is g.ax g.cx g.flags) (omega (arith, a, and_le_l g.ax g.cx))
   core_gives binary.Or width g st a c = only just_accumulator (alu Or Ax Cx) g (alu_word Or Ax g.cx g) st (bit_or g.ax g.cx) (λ q. refl) (tt, refl, refl, refl, refl, refl, refl) (or_is g.ax g.cx g.flags) (or_of_16 g.ax g.cx a c)
   core_gives binary.ExclusiveOr width g st a c = only just_accumulator (alu Xor Ax Cx) g (alu_word Xor Ax g.cx g) st (bit_xor g.ax g.cx) (λ q. refl) (tt, refl, refl, refl, refl, refl, refl) (xor_is g.ax g.cx g.flags) (xor_of_16 g.ax g.cx a c)
@@ -576,6 +691,12 @@ module _ (laws : Laws) (find : ℕ → ℕ → Option (ℕ × ℕ)) (words : ℕ
   after_direct binary.ShiftRight width g st v d a c = absurd (cc)
   after_direct binary.RotateLeft width g st v d a c = absurd (cc)
   after_direct binary.RotateRight width g st v d a c = absurd (cc)
+  after_direct binary.DivideSigned width g st v d a c = absurd (cc)
+  after_direct binary.ModuloSigned width g st v d a c = absurd (cc)
+  after_direct binary.LessSigned width g st v d a c = absurd (cc)
+  after_direct binary.LessEqualSigned width g st v d a c = absurd (cc)
+  after_direct binary.GreaterSigned width g st v d a c = absurd (cc)
+  after_direct binary.GreaterEqualSigned width g st v d a c = absurd (cc)
 
   -- ---- operators on AX and a constant
 
@@ -589,10 +710,6 @@ module _ (laws : Laws) (find : ℕ → ℕ → Option (ℕ × ℕ)) (words : ℕ
           let none : (g.ax + 65536 - (g.ax + 0)) % 65536 ≡ k = omega (arith, eqb-true k 0 is) in
           (h, (h, st, λ q. refl, (refl, refl)), difference_is g.ax g.ax g.flags ∙ none, (tt, refl, refl, refl, refl, refl, refl))
       by false is = let h = set_word g Ax k in (h, (h, st, λ q. refl, (refl, refl)), refl, (tt, refl, refl, refl, refl, refl, refl))
-
-  -- with other registers that may change
-  wider : (s t : Registers) (ns : List Instr) (g : Working) (st : List ℕ) (v : ℕ) → joined s t ≡ s → Computes t ns g st v → Computes s ns g st v
-  wider s t ns g st v e c = (c.0, c.1, c.2, c.3, changes_wider s t g c.0 e c.4)
 
   byte_sum : (a b : ℕ) (f : Flags) → (operated Add widths.Byte a b f).value ≡ (a + b + 0) % 256
   unfolding operated added
@@ -640,30 +757,26 @@ module _ (laws : Laws) (find : ℕ → ℕ → Option (ℕ × ℕ)) (words : ℕ
           let e : g.ax + 65536 - (k + 0) ≡ g.ax + 65536 - k = omega arith in
           wrapped just_accumulator refl widths.Word (alu_number Sub Ax k) g (alu_word Sub Ax k g) st (g.ax + 65536 - (k + 0)) (low widths.Word (g.ax + 65536 - k)) (λ q. refl) (tt, refl, refl, refl, refl, refl, refl) (difference_is g.ax k g.flags) (ap (low widths.Word) e)
 
-  -- a count may be in CL
-  abbrev with_count : Registers
-  with_count = record none { accumulator = true; right = true }
-
   count_loaded : (g : Working) (n : ℕ) → n < 256 → count_in (set_byte g Cl n) counts.Cl ≡ n
   count_loaded g n l = omega (arith, l)
 
   counted_gives : (shift : Count → List Instr) (value : ℕ → ℕ) (n : ℕ) (g : Working) (st : List ℕ) → n < 256
-      → ((c : Count) (h : Working) → h.ax ≡ g.ax → Computes just_accumulator (shift c) h st (value (count_in h c))) → Computes with_count (counted n shift) g st (value n)
+      → ((c : Count) (h : Working) → h.ax ≡ g.ax → Computes just_accumulator (shift c) h st (value (count_in h c))) → Computes with_right (counted n shift) g st (value n)
   counted_gives shift value n g st l gives = by (nat_eq n 1) refl
     where
-      by : (b : Bool) → nat_eq n 1 ≡ b → Computes with_count (if b then shift counts.One else load_count n ∷ shift counts.Cl) g st (value n)
-      by true is = subst (λ z. Computes with_count (shift counts.One) g st (value z)) (sym (eqb-true n 1 is)) (wider with_count just_accumulator (shift counts.One) g st (value 1) refl (gives counts.One g refl))
+      by : (b : Bool) → nat_eq n 1 ≡ b → Computes with_right (if b then shift counts.One else load_count n ∷ shift counts.Cl) g st (value n)
+      by true is = subst (λ z. Computes with_right (shift counts.One) g st (value z)) (sym (eqb-true n 1 is)) (wider with_right just_accumulator (shift counts.One) g st (value 1) refl (gives counts.One g refl))
       by false is =
           let h = set_byte g Cl n in
-          first with_count (load_count n) (shift counts.Cl) g h st (value n) (λ q. refl) (tt, tt, refl, refl, refl, refl, refl)
-          (subst (λ z. Computes with_count (shift counts.Cl) h st (value z)) (count_loaded g n l) (wider with_count just_accumulator (shift counts.Cl) h st (value (count_in h counts.Cl)) refl (gives counts.Cl h refl)))
+          first with_right (load_count n) (shift counts.Cl) g h st (value n) (λ q. refl) (tt, tt, refl, refl, refl, refl, refl)
+          (subst (λ z. Computes with_right (shift counts.Cl) h st (value z)) (count_loaded g n l) (wider with_right just_accumulator (shift counts.Cl) h st (value (count_in h counts.Cl)) refl (gives counts.Cl h refl)))
 
-  left_counted : (width : Width) (n : ℕ) (g : Working) (st : List ℕ) → g.ax < 65536 → n < 256 → Computes with_count (counted n (left_by width)) g st (low width (g.ax * 2 ^ n))
+  left_counted : (width : Width) (n : ℕ) (g : Working) (st : List ℕ) → g.ax < 65536 → n < 256 → Computes with_right (counted n (left_by width)) g st (low width (g.ax * 2 ^ n))
   left_counted width n g st a l =
       counted_gives (left_by width) (λ m. low width (g.ax * 2 ^ m)) n g st l
       (λ c h e. subst (λ z. Computes just_accumulator (left_by width c) h st (low width (z * 2 ^ count_in h c))) e (left_gives width c h st (omega (arith, a, e))))
 
-  right_counted : (width : Width) (n : ℕ) (g : Working) (st : List ℕ) → g.ax < 65536 → n < 256 → Computes with_count (counted n (right_by width)) g st (low width g.ax / 2 ^ n)
+  right_counted : (width : Width) (n : ℕ) (g : Working) (st : List ℕ) → g.ax < 65536 → n < 256 → Computes with_right (counted n (right_by width)) g st (low width g.ax / 2 ^ n)
   right_counted width n g st a l =
       counted_gives (right_by width) (λ m. low width g.ax / 2 ^ m) n g st l
       (λ c h e. subst (λ z. Computes just_accumulator (right_by width c) h st (low width z / 2 ^ count_in h c)) e (right_gives width c h st (omega (arith, a, e))))
@@ -679,11 +792,11 @@ module _ (laws : Laws) (find : ℕ → ℕ → Option (ℕ × ℕ)) (words : ℕ
       by None gives = tt
       by (Some v) gives = first (of_operator o) (load_number Cx k) (core o width) g h st v (λ q. refl) (operands_put o g h refl refl refl refl refl) (wider (of_operator o) (core_changes o) (core o width) h st v (core_within o) gives)
 
-  product_gives : (width : Width) (k : ℕ) (g : Working) (st : List ℕ) → g.ax < 65536 → k < 65536 → (e : Option ℕ) → exponent k ≡ e → Gives (of_operator binary.Multiply) (powered binary.Multiply width k e) g st (binary_value binary.Multiply width g.ax k)
+  product_gives : (width : Width) (k : ℕ) (g : Working) (st : List ℕ) → g.ax < 65536 → k < 65536 → (e : Option ℕ) → exponent k ≡ e → Gives (of_operator binary.Multiply) (by_product width k e) g st (binary_value binary.Multiply width g.ax k)
   product_gives width k g st a c None is = number_gives binary.Multiply width k g st a c
   product_gives width k g st a c (Some n) is =
       let p = exponent_is k n is in
-      subst (λ z. Computes (of_operator binary.Multiply) (counted n (left_by width)) g st (low width (g.ax * z))) p.2 (wider (of_operator binary.Multiply) with_count (counted n (left_by width)) g st (low width (g.ax * 2 ^ n)) refl (left_counted width n g st a p.3))
+      subst (λ z. Computes (of_operator binary.Multiply) (counted n (left_by width)) g st (low width (g.ax * z))) p.2 (wider (of_operator binary.Multiply) with_right (counted n (left_by width)) g st (low width (g.ax * 2 ^ n)) refl (left_counted width n g st a p.3))
 
   quotient_at : (x k m : ℕ) → k ≡ suc m → Some (x / k) ≡ quotient x k
   quotient_at x k m e = subst (λ z. Some (x / z) ≡ quotient x z) (sym e) refl
@@ -691,7 +804,7 @@ module _ (laws : Laws) (find : ℕ → ℕ → Option (ℕ × ℕ)) (words : ℕ
   remainder_at : (x k m : ℕ) → k ≡ suc m → Some (x % k) ≡ remainder x k
   remainder_at x k m e = subst (λ z. Some (x % z) ≡ remainder x z) (sym e) refl
 
-  divided_gives : (width : Width) (k : ℕ) (g : Working) (st : List ℕ) → g.ax < 65536 → k < 65536 → (e : Option ℕ) → exponent k ≡ e → Gives (of_operator binary.Divide) (powered binary.Divide width k e) g st (binary_value binary.Divide width g.ax k)
+  divided_gives : (width : Width) (k : ℕ) (g : Working) (st : List ℕ) → g.ax < 65536 → k < 65536 → (e : Option ℕ) → exponent k ≡ e → Gives (of_operator binary.Divide) (by_quotient width k e) g st (binary_value binary.Divide width g.ax k)
   divided_gives width k g st a c None is = number_gives binary.Divide width k g st a c
   divided_gives width k g st a c (Some n) is =
       let p = exponent_is k n is in
@@ -699,15 +812,27 @@ module _ (laws : Laws) (find : ℕ → ℕ → Option (ℕ × ℕ)) (words : ℕ
       let whole : g.ax % 65536 ≡ g.ax = omega (arith, a) in
       let value : g.ax % 65536 / 2 ^ n ≡ g.ax / k = ap (λ z. z / 2 ^ n) whole ∙ ap (λ z. g.ax / z) p.2 in
       subst (λ v. Gives (of_operator binary.Divide) ns g st v) (quotient_at g.ax k p.0 p.1)
-      (subst (λ v. Computes (of_operator binary.Divide) ns g st v) value (wider (of_operator binary.Divide) with_count ns g st (g.ax % 65536 / 2 ^ n) refl (right_counted widths.Word n g st a p.3)))
+      (subst (λ v. Computes (of_operator binary.Divide) ns g st v) value (wider (of_operator binary.Divide) with_right ns g st (g.ax % 65536 / 2 ^ n) refl (right_counted widths.Word n g st a p.3)))
 
-  masked_gives : (width : Width) (k : ℕ) (g : Working) (st : List ℕ) → g.ax < 65536 → k < 65536 → (e : Option ℕ) → exponent k ≡ e → Gives (of_operator binary.Modulo) (powered binary.Modulo width k e) g st (binary_value binary.Modulo width g.ax k)
+  masked_gives : (width : Width) (k : ℕ) (g : Working) (st : List ℕ) → g.ax < 65536 → k < 65536 → (e : Option ℕ) → exponent k ≡ e → Gives (of_operator binary.Modulo) (by_remainder width k e) g st (binary_value binary.Modulo width g.ax k)
   masked_gives width k g st a c None is = number_gives binary.Modulo width k g st a c
   masked_gives width k g st a c (Some n) is =
       let p = exponent_is k n is in
       let value : bit_and g.ax (k - 1) ≡ g.ax % k = subst (λ z. bit_and g.ax (z - 1) ≡ g.ax % z) p.2 (and_mask g.ax n) in
       subst (λ v. Gives (of_operator binary.Modulo) (alu_number And Ax (k - 1) ∷ []) g st v) (remainder_at g.ax k p.0 p.1)
       (only (of_operator binary.Modulo) (alu_number And Ax (k - 1)) g (alu_word And Ax (k - 1) g) st (g.ax % k) (λ q. refl) (tt, tt, tt, refl, refl, refl, refl) (and_is g.ax (k - 1) g.flags ∙ value) (omega (arith, a, value, and_le_l g.ax (k - 1))))
+
+  -- the constant with its sign bit turned goes to CX
+  turned_constant : (o : BinaryOperation) (width : Width) (k : ℕ) (g : Working) (st : List ℕ) (v : ℕ) → g.ax < 65536 → of_operator o ≡ with_right
+      → binary_value o width ((g.ax + 32768) % 65536) ((k + 32768) % 65536) ≡ Some v → Computes with_right (by_turned o width k) g st v
+  turned_constant o width k g st v a same is =
+      let t = (k + 32768) % 65536 in
+      let g1 = alu_word Add Ax 32768 g in
+      let left : g1.ax ≡ (g.ax + 32768) % 65536 = turn_is g.ax g.flags in
+      let value : binary_value o width g1.ax t ≡ Some v = ap (λ z. binary_value o width z t) left ∙ is in
+      first with_right (sign_turned Ax) (by_number o width t) g g1 st v (λ q. refl) (tt, tt, refl, refl, refl, refl, refl)
+      (subst (λ (s : Registers). Gives s (by_number o width t) g1 st (Some v)) same
+      (subst (λ y. Gives (of_operator o) (by_number o width t) g1 st y) value (number_gives o width t g1 st (omega (arith, left)) (omega arith))))
 
   pub constant_gives : (o : BinaryOperation) (width : Width) (k : ℕ) (g : Working) (st : List ℕ) → g.ax < 65536 → k < 65536 → Gives (of_direct o) (by_constant o width k) g st (binary_value o width g.ax k)
   constant_gives binary.Add width k g st a c = sum_gives width k g st a
@@ -728,6 +853,18 @@ module _ (laws : Laws) (find : ℕ → ℕ → Option (ℕ × ℕ)) (words : ℕ
   constant_gives binary.LessEqual width k g st a c = number_gives binary.LessEqual width k g st a c
   constant_gives binary.Greater width k g st a c = number_gives binary.Greater width k g st a c
   constant_gives binary.GreaterEqual width k g st a c = number_gives binary.GreaterEqual width k g st a c
+  constant_gives binary.DivideSigned width k g st a c = number_gives binary.DivideSigned width k g st a c
+  constant_gives binary.ModuloSigned width k g st a c = number_gives binary.ModuloSigned width k g st a c
+  constant_gives binary.LessSigned width k g st a c =
+      turned_constant binary.Less width k g st (truth (signed_less g.ax k)) a refl (ap (λ (b : Bool). Some (truth b)) (laws.signed.turned g.ax k a c))
+  constant_gives binary.LessEqualSigned width k g st a c =
+      turned_constant binary.LessEqual width k g st (truth (not (signed_less k g.ax))) a refl
+      (ap (λ (b : Bool). Some (truth b)) (sym (flipped_le ((g.ax + 32768) % 65536) ((k + 32768) % 65536)) ∙ ap not (laws.signed.turned k g.ax c a)))
+  constant_gives binary.GreaterSigned width k g st a c =
+      turned_constant binary.Greater width k g st (truth (signed_less k g.ax)) a refl (ap (λ (b : Bool). Some (truth b)) (laws.signed.turned k g.ax c a))
+  constant_gives binary.GreaterEqualSigned width k g st a c =
+      turned_constant binary.GreaterEqual width k g st (truth (not (signed_less g.ax k))) a refl
+      (ap (λ (b : Bool). Some (truth b)) (sym (flipped_le ((k + 32768) % 65536) ((g.ax + 32768) % 65536)) ∙ ap not (laws.signed.turned g.ax k a c)))
 
   -- ---- operators on AX alone
 

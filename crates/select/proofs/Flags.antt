@@ -6,8 +6,10 @@ use Rattle.std.specs.Int.Bits.{and_self}
 use Rattle.std.proofs.lemmas.Bool.{cases_lt, lt-ltb, le-ltb, lt-leb, le-leb, eq-eqb, ne_eqb}
 use Rattle.word86.specs.declared.width.Width.{Width}
 use Rattle.word86.specs.declared.width.Width.TheVariants as widths
+use Rattle.word86.specs.Signed.{signed_less}
 use Rattle.i86_table.specs.declared.flags.Flags.{Flags}
 use Rattle.i86_table.specs.declared.instruction.AluOperation.TheVariants.{Cmp}
+use Rattle.i86_table.specs.declared.instruction.Condition.TheVariants.{Less, LessOrEqual}
 use Rattle.i86_table.specs.Arithmetic.{has, with_result, subtracted, combined, tested, number_of, operated}
 use Rattle.i86_table.specs.Condition.{holds}
 use Rattle.icode.specs.declared.instruction.Relation.{Relation}
@@ -86,17 +88,30 @@ module _ (laws : Laws) where
   either : (a b : ℕ) (f : Flags) → has f 1 ≡ nat_lt a b → has f 64 ≡ nat_eq a b → (has f 1 || has f 64) ≡ nat_le a b
   either a b f c z = ap (λ (x : Bool). x || has f 64) c ∙ ap (λ (x : Bool). nat_lt a b || x) z ∙ lower_or_same a b
 
-  -- the condition says that the relation does not hold, where carry and zero tell less and equal
-  fails_by : (o : Relation) (a b : ℕ) (f : Flags) → has f 1 ≡ nat_lt a b → has f 64 ≡ nat_eq a b → holds (fails o) f ≡ not (stands o a b)
-  fails_by relation.Equal a b f c z = ap not z
-  fails_by relation.NotEqual a b f c z = z ∙ sym (not_not _)
-  fails_by relation.Less a b f c z = ap not c
-  fails_by relation.LessEqual a b f c z = ap not (either a b f c z)
-  fails_by relation.Greater a b f c z = either a b f c z ∙ sym (flipped_le a b)
-  fails_by relation.GreaterEqual a b f c z = c ∙ sym (ap not (sym (flipped_le b a)) ∙ not_not _)
+  -- what flags tell of two words: carry and zero whether the first is less and whether both are equal, JL and JLE whether it is less with
+  -- sign and whether the other is not
+  record Tells (a b : ℕ) (f : Flags) : Type 0 where
+    carry : has f 1 ≡ nat_lt a b
+    zero_flag : has f 64 ≡ nat_eq a b
+    less : holds Less f ≡ signed_less a b
+    less_or_equal : holds LessOrEqual f ≡ not (signed_less b a)
+
+  -- the condition says that the relation does not hold
+  fails_by : (o : Relation) (a b : ℕ) (f : Flags) → Tells a b f → holds (fails o) f ≡ not (stands o a b)
+  fails_by relation.Equal a b f t = ap not t.zero_flag
+  fails_by relation.NotEqual a b f t = t.zero_flag ∙ sym (not_not _)
+  fails_by relation.Less a b f t = ap not t.carry
+  fails_by relation.LessEqual a b f t = ap not (either a b f t.carry t.zero_flag)
+  fails_by relation.Greater a b f t = either a b f t.carry t.zero_flag ∙ sym (flipped_le a b)
+  fails_by relation.GreaterEqual a b f t = t.carry ∙ sym (ap not (sym (flipped_le b a)) ∙ not_not _)
+  fails_by relation.LessSigned a b f t = laws.inverse Less f ∙ ap not t.less
+  fails_by relation.LessEqualSigned a b f t = laws.inverse LessOrEqual f ∙ ap not t.less_or_equal
+  fails_by relation.GreaterSigned a b f t = t.less_or_equal
+  fails_by relation.GreaterEqualSigned a b f t = t.less ∙ sym (not_not _)
 
   pub fails_where : (o : Relation) (a b : ℕ) (f : Flags) → a < 65536 → b < 65536 → holds (fails o) (operated Cmp widths.Word a b f).flags ≡ not (stands o a b)
-  fails_where o a b f l m = fails_by o a b (operated Cmp widths.Word a b f).flags (cmp_carry a b f) (cmp_zero a b f l m)
+  fails_where o a b f l m =
+      fails_by o a b (operated Cmp widths.Word a b f).flags (record { carry = cmp_carry a b f; zero_flag = cmp_zero a b f l m; less = laws.signed.less a b f l m; less_or_equal = laws.signed.less_or_equal a b f l m })
 
   no_carry : (a : ℕ) (f : Flags) → has (tested widths.Word a a f) 1 ≡ false
   unfolding combined
@@ -106,5 +121,11 @@ module _ (laws : Laws) where
       by_count = omega arith
 
   -- a test of a number with itself is a comparison with 0
-  pub fails_at_zero : (o : Relation) (a : ℕ) (f : Flags) → holds (fails o) (tested widths.Word a a f) ≡ not (stands o a 0)
-  fails_at_zero o a f = fails_by o a 0 (tested widths.Word a a f) (no_carry a f ∙ sym (le-ltb a 0 (omega arith))) (no_bit widths.Word a a f ∙ ap (λ z. nat_eq z 0) (and_self a))
+  pub fails_at_zero : (o : Relation) (a : ℕ) (f : Flags) → a < 65536 → holds (fails o) (tested widths.Word a a f) ≡ not (stands o a 0)
+  fails_at_zero o a f l =
+      fails_by o a 0 (tested widths.Word a a f) (record {
+        carry = no_carry a f ∙ sym (le-ltb a 0 (omega arith));
+        zero_flag = no_bit widths.Word a a f ∙ ap (λ z. nat_eq z 0) (and_self a);
+        less = laws.signed.negative a f l;
+        less_or_equal = laws.signed.not_positive a f l;
+      })

@@ -815,7 +815,7 @@ module _ (laws : Laws) (x : Image) (all : IsSelected x)
         by : (b : Bool) → nat_eq v 0 ≡ b → Fl n 8 (At r k g.ax ws) (Own (place r k) g (stack_of ws) false given)
         by true is =
             by_flags (i.TestWord (rm.Register Ax) (masks.Register Ax)) (tested widths.Word g.ax g.ax g.flags) (chain_of true is) (λ q. refl)
-            (Flags.fails_at_zero laws o g.ax g.flags ∙ ap (λ z. not (stands o g.ax z)) (sym (eqb-true v 0 is)))
+            (Flags.fails_at_zero laws o g.ax g.flags a ∙ ap (λ z. not (stands o g.ax z)) (sym (eqb-true v 0 is)))
         by false is = by_flags (alu_number Cmp Ax v) (operated Cmp widths.Word g.ax v g.flags).flags (chain_of false is) (λ q. refl) (Flags.fails_where laws o g.ax v g.flags a lv)
 
     word_jumps : (o : Relation) (y : Place) (t : ℕ) → does_so r k ins e g n go a inv ws p sm ≡ jumped x.offsets x.sizes (test.Plain o widths.Word y) r (k + 1) t g.ax ws → Chain r (place r k) (Rows.unless (test.Plain o widths.Word y) (first r t)) (place r (k + 1)) → Fl n 8 (At r k g.ax ws) (Own (place r k) g (stack_of ws) false given)

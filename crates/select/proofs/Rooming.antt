@@ -60,7 +60,7 @@ use Rattle.select.specs.declared.part.Part.{Part}
 use Rattle.select.specs.declared.part.Step.{Step}
 use Rattle.select.specs.Parts.{extent_of}
 use Rattle.select.specs.Inner.Settling.{longest}
-use Rattle.select.specs.Rows.{exchange, load_number, accumulator_gets, compares, alu, alu_number, sum_number, sum_with, load_count, shift_word, left_by, right_by, counted, exponent, by_number, powered, pop, narrow, then_narrow, narrow_right, core, direct, narrow_sum, by_constant, changed, left_from_stack, dropped, loads, loads_right, stores, on_place, operates, own_word, sent, received, plain, by_read, unless, registers_of, saved, given_back, finished, row, rows, first_of, routine, picked, push, copy}
+use Rattle.select.specs.Rows.{exchange, load_number, accumulator_gets, compares, alu, alu_number, sum_number, sum_with, load_count, shift_word, left_by, right_by, counted, exponent, by_number, by_turned, by_product, by_quotient, by_remainder, pop, narrow, then_narrow, narrow_right, core, direct, narrow_sum, by_constant, changed, left_from_stack, dropped, loads, loads_right, stores, on_place, operates, own_word, sent, received, plain, by_read, unless, registers_of, saved, given_back, finished, row, rows, first_of, routine, picked, push, copy}
 use Rattle.select.specs.Selection.{IsPartOf, ArePartsOf, part_of}
 use Rattle.select.specs.Room.{room_of, room_for, PartsHaveRoom}
 use Rattle.select.proofs.Bounding.{part_bounded}
@@ -172,7 +172,7 @@ exchange_room r = cases (word_pair Ax r) (is_ax (word_pair Ax r).first) (is_ax (
     cases p true false = omega arith
     cases p false y = omega arith
 
-core_room : (o : BinaryOperation) (w : Width) → size (core o w) ≤ 11
+core_room : (o : BinaryOperation) (w : Width) → size (core o w) ≤ 11 + room.room_of_signs o
 unfolding form_of alu_byte_of alu_word_of move_byte_of move_word_of
 core_room binary.Multiply w = omega (arith, narrow_room w)
 core_room binary.Divide w = omega arith
@@ -195,6 +195,12 @@ core_room binary.RotateLeft widths.Byte = omega arith
 core_room binary.RotateLeft widths.Word = omega arith
 core_room binary.RotateRight widths.Byte = omega arith
 core_room binary.RotateRight widths.Word = omega arith
+core_room binary.DivideSigned w = omega arith
+core_room binary.ModuloSigned w = omega (arith, exchange_room Dx)
+core_room binary.LessSigned w = omega arith
+core_room binary.LessEqualSigned w = omega arith
+core_room binary.GreaterSigned w = omega arith
+core_room binary.GreaterEqualSigned w = omega arith
 
 sum_room : (o : BinaryOperation) (w : Width) → size (narrow_sum o w) ≤ 2
 sum_room binary.Add w = narrow_room w
@@ -253,15 +259,29 @@ counted_room n shift few = cases (nat_eq n 1)
     cases true = omega (arith, few counts.One)
     cases false = omega (arith, count_room n, few counts.Cl)
 
-number_room_of : (o : BinaryOperation) (w : Width) (k : ℕ) → size (by_number o w k) ≤ 14
+number_room_of : (o : BinaryOperation) (w : Width) (k : ℕ) → size (by_number o w k) ≤ 14 + room.room_of_signs o
 number_room_of o w k = omega (arith, load_room k, core_room o w)
 
-powered_room : (o : BinaryOperation) (w : Width) (k : ℕ) (e : Option ℕ) → size (powered o w k e) ≤ 14
+relation_room : (w : Width) → (size (core binary.Less w) ≤ 8) × (size (core binary.LessEqual w) ≤ 8) × (size (core binary.Greater w) ≤ 8) × (size (core binary.GreaterEqual w) ≤ 8)
+unfolding form_of alu_byte_of alu_word_of move_byte_of
+relation_room w = (omega arith, omega arith, omega arith, omega arith)
+
+turned_room : (o : BinaryOperation) (w : Width) (k : ℕ) → size (core o w) ≤ 8 → size (by_turned o w k) ≤ 14
 unfolding form_of alu_word_of
-powered_room o w k None = number_room_of o w k
-powered_room binary.Multiply w k (Some n) = omega (arith, counted_room n (left_by w) (left_room w))
-powered_room binary.Divide w k (Some n) = omega (arith, counted_room n (right_by widths.Word) (right_by_room widths.Word))
-powered_room _ w k (Some n) = omega arith
+turned_room o w k few = omega (arith, load_room ((k + 32768) % 65536), few)
+
+product_room : (w : Width) (k : ℕ) (e : Option ℕ) → size (by_product w k e) ≤ 14
+product_room w k None = number_room_of binary.Multiply w k
+product_room w k (Some n) = omega (arith, counted_room n (left_by w) (left_room w))
+
+quotient_room : (w : Width) (k : ℕ) (e : Option ℕ) → size (by_quotient w k e) ≤ 14
+quotient_room w k None = number_room_of binary.Divide w k
+quotient_room w k (Some n) = omega (arith, counted_room n (right_by widths.Word) (right_by_room widths.Word))
+
+remainder_room : (w : Width) (k : ℕ) (e : Option ℕ) → size (by_remainder w k e) ≤ 14
+unfolding form_of alu_word_of
+remainder_room w k None = number_room_of binary.Modulo w k
+remainder_room w k (Some n) = omega arith
 
 by_constant_room : (o : BinaryOperation) (w : Width) (k : ℕ) → size (by_constant o w k) ≤ room.room_of_constant o
 unfolding form_of alu_word_of
@@ -270,9 +290,9 @@ by_constant_room binary.Subtract w k = omega (arith, sum_with_room changes.Dec S
 by_constant_room binary.And w k = omega arith
 by_constant_room binary.Or w k = omega arith
 by_constant_room binary.ExclusiveOr w k = omega arith
-by_constant_room binary.Multiply w k = powered_room binary.Multiply w k (exponent k)
-by_constant_room binary.Divide w k = powered_room binary.Divide w k (exponent k)
-by_constant_room binary.Modulo w k = powered_room binary.Modulo w k (exponent k)
+by_constant_room binary.Multiply w k = product_room w k (exponent k)
+by_constant_room binary.Divide w k = quotient_room w k (exponent k)
+by_constant_room binary.Modulo w k = remainder_room w k (exponent k)
 by_constant_room binary.ShiftLeft w k = omega (arith, counted_room (k % 256) (left_by w) (left_room w))
 by_constant_room binary.ShiftRight w k = omega (arith, counted_room (k % 256) (right_by w) (right_by_room w))
 by_constant_room binary.RotateLeft w k = number_room_of binary.RotateLeft w k
@@ -283,6 +303,12 @@ by_constant_room binary.Less w k = number_room_of binary.Less w k
 by_constant_room binary.LessEqual w k = number_room_of binary.LessEqual w k
 by_constant_room binary.Greater w k = number_room_of binary.Greater w k
 by_constant_room binary.GreaterEqual w k = number_room_of binary.GreaterEqual w k
+by_constant_room binary.DivideSigned w k = number_room_of binary.DivideSigned w k
+by_constant_room binary.ModuloSigned w k = number_room_of binary.ModuloSigned w k
+by_constant_room binary.LessSigned w k = turned_room binary.Less w k (relation_room w).0
+by_constant_room binary.LessEqualSigned w k = turned_room binary.LessEqual w k (relation_room w).1
+by_constant_room binary.GreaterSigned w k = turned_room binary.Greater w k (relation_room w).2
+by_constant_room binary.GreaterEqualSigned w k = turned_room binary.GreaterEqual w k (relation_room w).3
 
 from_stack_room : size left_from_stack ≤ 3
 unfolding form_of
@@ -341,7 +367,7 @@ by_read_room o w widths.Byte x =
     omega (arith, on_place_room (loads_right widths.Byte) 5 x (loads_right_within widths.Byte), plain_room (narrow_right widths.Byte ++ core o w), size-append (narrow_right widths.Byte) (core o w), right_room widths.Byte, core_room o w)
 by_read_room o w widths.Word x = cases (is_direct o)
   where
-    cases : (b : Bool) → most (if b then on_place (operates (direct o)) x ∷ plain (narrow_sum o w) else on_place (loads_right widths.Word) x ∷ plain (core o w)) ≤ (if b then 7 else 16)
+    cases : (b : Bool) → most (if b then on_place (operates (direct o)) x ∷ plain (narrow_sum o w) else on_place (loads_right widths.Word) x ∷ plain (core o w)) ≤ (if b then 7 else 16 + room.room_of_signs o)
     cases true = omega (arith, on_place_room (operates (direct o)) 5 x (operates_within (direct o)), plain_room (narrow_sum o w), sum_room o w)
     cases false = omega (arith, on_place_room (loads_right widths.Word) 5 x (loads_right_within widths.Word), plain_room (core o w), core_room o w)
 

@@ -28,9 +28,9 @@ use Rattle.i86_table.specs.declared.instruction.Count.{Count}
 use Rattle.i86_table.specs.declared.instruction.Count.TheVariants as counts
 use Rattle.i86_table.specs.declared.instruction.Condition.{Condition}
 use Rattle.i86_table.specs.declared.instruction.Condition.TheVariants as conditions
-use Rattle.i86_table.specs.declared.instruction.Signedness.TheVariants.{Unsigned}
+use Rattle.i86_table.specs.declared.instruction.Signedness.TheVariants.{Unsigned, Signed}
 use Rattle.i86_table.specs.declared.instruction.AluOperation.{AluOperation}
-use Rattle.i86_table.specs.declared.instruction.AluOperation.TheVariants.{Add, Sub, Sbb, And, Or, Xor, Cmp}
+use Rattle.i86_table.specs.declared.instruction.AluOperation.TheVariants.{Add, Sub, Adc, Sbb, And, Or, Xor, Cmp}
 use Rattle.i86_table.specs.declared.instruction.UnaryOperation as change
 use Rattle.i86_table.specs.declared.instruction.UnaryOperation.TheVariants as changes
 use Rattle.i86_table.specs.declared.instruction.ShiftOperation.{ShiftOperation}
@@ -79,6 +79,10 @@ alu f to from = i.AluWord f (FromRegister (rm.Register to) from)
 
 abbrev pub alu_number : AluOperation → Register16 → ℕ → Instr
 alu_number f r k = i.AluWord f (Immediate (rm.Register r) k)
+
+-- the sign bit turned: words with sign then stand in the order of words
+abbrev pub sign_turned : Register16 → Instr
+sign_turned r = alu_number Add r 0x8000
 
 -- SUB AX,AX is shorter than a move of 0
 abbrev pub accumulator_gets : ℕ → Instr
@@ -135,6 +139,11 @@ left_by width c = then_narrow width (shift_word shifts.Shl c)
 abbrev pub right_by : Width → Count → List Instr
 right_by width c = narrow width ++ shift_word shifts.Shr c ∷ []
 
+-- AX, or AL alone, turned round by CL
+abbrev pub turned_round : ShiftOperation → Width → List Instr
+turned_round f widths.Byte = shift_byte f ∷ clear_high ∷ []
+turned_round f widths.Word = shift_word f counts.Cl ∷ []
+
 -- an operator on AX and CX
 abbrev pub core : BinaryOperation → Width → List Instr
 core binary.Multiply width = then_narrow width (i.MultiplyWord Unsigned (rm.Register Cx))
@@ -153,10 +162,14 @@ core binary.Or width = alu Or Ax Cx ∷ []
 core binary.ExclusiveOr width = alu Xor Ax Cx ∷ []
 core binary.ShiftLeft width = left_by width counts.Cl
 core binary.ShiftRight width = right_by width counts.Cl
-core binary.RotateLeft widths.Byte = shift_byte shifts.Rol ∷ clear_high ∷ []
-core binary.RotateLeft widths.Word = shift_word shifts.Rol counts.Cl ∷ []
-core binary.RotateRight widths.Byte = shift_byte shifts.Ror ∷ clear_high ∷ []
-core binary.RotateRight widths.Word = shift_word shifts.Ror counts.Cl ∷ []
+core binary.RotateLeft width = turned_round shifts.Rol width
+core binary.RotateRight width = turned_round shifts.Ror width
+core binary.DivideSigned width = i.ConvertWord ∷ i.DivideWord Signed (rm.Register Cx) ∷ []
+core binary.ModuloSigned width = i.ConvertWord ∷ i.DivideWord Signed (rm.Register Cx) ∷ exchange Dx ∷ []
+core binary.LessSigned width = sign_turned Ax ∷ sign_turned Cx ∷ alu Cmp Ax Cx ∷ from_carry
+core binary.LessEqualSigned width = sign_turned Ax ∷ sign_turned Cx ∷ alu Cmp Cx Ax ∷ from_no_carry
+core binary.GreaterSigned width = sign_turned Ax ∷ sign_turned Cx ∷ alu Cmp Cx Ax ∷ from_carry
+core binary.GreaterEqualSigned width = sign_turned Ax ∷ sign_turned Cx ∷ alu Cmp Ax Cx ∷ from_no_carry
 
 -- the arithmetic of an operator that takes its right operand where it lies
 abbrev pub direct : BinaryOperation → AluOperation
@@ -178,27 +191,26 @@ direct binary.ShiftLeft = Xor
 direct binary.ShiftRight = Xor
 direct binary.RotateLeft = Xor
 direct binary.RotateRight = Xor
+direct binary.DivideSigned = Xor
+direct binary.ModuloSigned = Xor
+direct binary.LessSigned = Xor
+direct binary.LessEqualSigned = Xor
+direct binary.GreaterSigned = Xor
+direct binary.GreaterEqualSigned = Xor
 
 -- a sum or a difference of bytes may leave a carry in the high byte
+abbrev pub narrow_after : AluOperation → Width → List Instr
+narrow_after Add width = narrow width
+narrow_after Sub width = narrow width
+narrow_after Or width = []
+narrow_after Adc width = []
+narrow_after Sbb width = []
+narrow_after And width = []
+narrow_after Xor width = []
+narrow_after Cmp width = []
+
 abbrev pub narrow_sum : BinaryOperation → Width → List Instr
-narrow_sum binary.Multiply width = []
-narrow_sum binary.Divide width = []
-narrow_sum binary.Modulo width = []
-narrow_sum binary.Add width = narrow width
-narrow_sum binary.Subtract width = narrow width
-narrow_sum binary.Equal width = []
-narrow_sum binary.NotEqual width = []
-narrow_sum binary.Less width = []
-narrow_sum binary.LessEqual width = []
-narrow_sum binary.Greater width = []
-narrow_sum binary.GreaterEqual width = []
-narrow_sum binary.And width = []
-narrow_sum binary.Or width = []
-narrow_sum binary.ExclusiveOr width = []
-narrow_sum binary.ShiftLeft width = []
-narrow_sum binary.ShiftRight width = []
-narrow_sum binary.RotateLeft width = []
-narrow_sum binary.RotateRight width = []
+narrow_sum o width = narrow_after (direct o) width
 
 -- ---- an operator on AX and a constant
 
@@ -226,29 +238,21 @@ abbrev pub by_number : BinaryOperation → Width → ℕ → List Instr
 by_number o width k = load_number Cx k ∷ core o width
 
 -- a product, a quotient, a remainder: by shifts and a mask where there is an exponent
-abbrev pub powered : BinaryOperation → Width → ℕ → Option ℕ → List Instr
-powered o width k None = by_number o width k
-powered binary.Multiply width k (Some n) = counted n (left_by width)
-powered binary.Divide width k (Some n) = counted n (right_by widths.Word)
-powered binary.Modulo width k (Some n) = alu_number And Ax (k - 1) ∷ []
-powered binary.Add width k (Some n) = alu_number And Ax (k - 1) ∷ []
-powered binary.Subtract width k (Some n) = alu_number And Ax (k - 1) ∷ []
-powered binary.Equal width k (Some n) = alu_number And Ax (k - 1) ∷ []
-powered binary.NotEqual width k (Some n) = alu_number And Ax (k - 1) ∷ []
-powered binary.Less width k (Some n) = alu_number And Ax (k - 1) ∷ []
-powered binary.LessEqual width k (Some n) = alu_number And Ax (k - 1) ∷ []
-powered binary.Greater width k (Some n) = alu_number And Ax (k - 1) ∷ []
-powered binary.GreaterEqual width k (Some n) = alu_number And Ax (k - 1) ∷ []
-powered binary.And width k (Some n) = alu_number And Ax (k - 1) ∷ []
-powered binary.Or width k (Some n) = alu_number And Ax (k - 1) ∷ []
-powered binary.ExclusiveOr width k (Some n) = alu_number And Ax (k - 1) ∷ []
-powered binary.ShiftLeft width k (Some n) = alu_number And Ax (k - 1) ∷ []
-powered binary.ShiftRight width k (Some n) = alu_number And Ax (k - 1) ∷ []
-powered binary.RotateLeft width k (Some n) = alu_number And Ax (k - 1) ∷ []
-powered binary.RotateRight width k (Some n) = alu_number And Ax (k - 1) ∷ []
+abbrev pub by_product : Width → ℕ → Option ℕ → List Instr
+by_product width k None = by_number binary.Multiply width k
+by_product width k (Some n) = counted n (left_by width)
 
-abbrev pub by_factor : BinaryOperation → Width → ℕ → List Instr
-by_factor o width k = powered o width k (exponent k)
+abbrev pub by_quotient : Width → ℕ → Option ℕ → List Instr
+by_quotient width k None = by_number binary.Divide width k
+by_quotient width k (Some n) = counted n (right_by widths.Word)
+
+abbrev pub by_remainder : Width → ℕ → Option ℕ → List Instr
+by_remainder width k None = by_number binary.Modulo width k
+by_remainder width k (Some n) = alu_number And Ax (k - 1) ∷ []
+
+-- a relation of words with sign, as one of words with their sign bits turned
+abbrev pub by_turned : (unsigned : BinaryOperation) → Width → ℕ → List Instr
+by_turned o width k = sign_turned Ax ∷ by_number o width ((k + 0x8000) % 65536)
 
 abbrev pub by_constant : BinaryOperation → Width → ℕ → List Instr
 by_constant binary.Add width k = sum_with changes.Inc Add width k ∷ narrow width
@@ -256,9 +260,9 @@ by_constant binary.Subtract width k = sum_with changes.Dec Sub width k ∷ narro
 by_constant binary.And width k = alu_number And Ax k ∷ []
 by_constant binary.Or width k = alu_number Or Ax k ∷ []
 by_constant binary.ExclusiveOr width k = alu_number Xor Ax k ∷ []
-by_constant binary.Multiply width k = by_factor binary.Multiply width k
-by_constant binary.Divide width k = by_factor binary.Divide width k
-by_constant binary.Modulo width k = by_factor binary.Modulo width k
+by_constant binary.Multiply width k = by_product width k (exponent k)
+by_constant binary.Divide width k = by_quotient width k (exponent k)
+by_constant binary.Modulo width k = by_remainder width k (exponent k)
 by_constant binary.ShiftLeft width k = counted (k % 256) (left_by width)
 by_constant binary.ShiftRight width k = counted (k % 256) (right_by width)
 by_constant binary.Equal width k = by_number binary.Equal width k
@@ -269,6 +273,12 @@ by_constant binary.Greater width k = by_number binary.Greater width k
 by_constant binary.GreaterEqual width k = by_number binary.GreaterEqual width k
 by_constant binary.RotateLeft width k = by_number binary.RotateLeft width k
 by_constant binary.RotateRight width k = by_number binary.RotateRight width k
+by_constant binary.DivideSigned width k = by_number binary.DivideSigned width k
+by_constant binary.ModuloSigned width k = by_number binary.ModuloSigned width k
+by_constant binary.LessSigned width k = by_turned binary.Less width k
+by_constant binary.LessEqualSigned width k = by_turned binary.LessEqual width k
+by_constant binary.GreaterSigned width k = by_turned binary.Greater width k
+by_constant binary.GreaterEqualSigned width k = by_turned binary.GreaterEqual width k
 
 -- an operator on AX
 abbrev pub changed : UnaryOperation → Width → List Instr
@@ -351,6 +361,10 @@ fails relation.Less = conditions.NotBelow
 fails relation.LessEqual = conditions.Above
 fails relation.Greater = conditions.BelowOrEqual
 fails relation.GreaterEqual = conditions.Below
+fails relation.LessSigned = conditions.NotLess
+fails relation.LessEqualSigned = conditions.Greater
+fails relation.GreaterSigned = conditions.LessOrEqual
+fails relation.GreaterEqualSigned = conditions.Less
 
 -- a jump to a step unless a test holds
 abbrev pub unless : Test → (target : ℕ) → List Step

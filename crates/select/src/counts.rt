@@ -2,7 +2,7 @@
 
 ghost use Rattle.std.specs.Prelude.{◌≡◌, ◌≤◌, [], length};
 ghost use Rattle.i86_table.specs.declared.registers.Register16.TheVariants.{Ax};
-ghost use Rattle.select.specs.Rows.{plain, core, changed, narrow, narrow_sum, counted, by_factor, by_constant, left_by, right_by, by_read, unless, received, sent, picked, with_register, registers_of, steps_in};
+ghost use Rattle.select.specs.Rows.{plain, core, changed, narrow, narrow_sum, counted, exponent, by_product, by_quotient, by_remainder, by_constant, left_by, right_by, by_read, unless, received, sent, picked, with_register, registers_of, steps_in};
 
 use crate::operators::exponent;
 use icode::{Instruction, Registers, Test, is_direct};
@@ -22,7 +22,7 @@ fn narrow_count(width: Width) -> usize
 /// Of an operator on AX and CX.
 fn core_count(operation: BinaryOperation, width: Width) -> usize
     ensures value { result ≡ length (plain (core operation width)) }
-    ensures few { result ≤ 5 }
+    ensures few { result ≤ 6 }
 {
     match operation {
         BinaryOperation::Multiply
@@ -37,10 +37,15 @@ fn core_count(operation: BinaryOperation, width: Width) -> usize
                 }
             }
         BinaryOperation::And | BinaryOperation::Or | BinaryOperation::ExclusiveOr => 1,
-        BinaryOperation::Divide => 2,
-        BinaryOperation::Modulo | BinaryOperation::Less | BinaryOperation::Greater => 3,
+        BinaryOperation::Divide | BinaryOperation::DivideSigned => 2,
+        BinaryOperation::Modulo
+        | BinaryOperation::Less
+        | BinaryOperation::Greater
+        | BinaryOperation::ModuloSigned => 3,
         BinaryOperation::Equal | BinaryOperation::LessEqual | BinaryOperation::GreaterEqual => 4,
-        BinaryOperation::NotEqual => 5,
+        BinaryOperation::NotEqual | BinaryOperation::LessSigned | BinaryOperation::GreaterSigned =>
+            5,
+        BinaryOperation::LessEqualSigned | BinaryOperation::GreaterEqualSigned => 6,
     }
 }
 
@@ -78,7 +83,13 @@ fn narrow_sum_count(operation: BinaryOperation, width: Width) -> usize
         | BinaryOperation::ShiftLeft
         | BinaryOperation::ShiftRight
         | BinaryOperation::RotateLeft
-        | BinaryOperation::RotateRight => 0,
+        | BinaryOperation::RotateRight
+        | BinaryOperation::DivideSigned
+        | BinaryOperation::ModuloSigned
+        | BinaryOperation::LessSigned
+        | BinaryOperation::LessEqualSigned
+        | BinaryOperation::GreaterSigned
+        | BinaryOperation::GreaterEqualSigned => 0,
     }
 }
 
@@ -105,48 +116,51 @@ fn right_count(width: Width, count: u8) -> usize
     }
 }
 
-/// Of a product, a quotient or a remainder with a constant.
-fn factor_count(operation: BinaryOperation, width: Width, number: u16) -> usize
-    ensures value { result ≡ length (plain (by_factor operation width number)) }
-    ensures few { result ≤ 6 }
+/// Of a product with a constant.
+fn product_count(width: Width, number: u16) -> usize
+    ensures value { result ≡ length (plain (by_product width number (exponent number))) }
+    ensures few { result ≤ 7 }
 {
     let Some(count) = exponent(number) else {
-        return 1 + core_count(operation, width);
+        return 1 + core_count(BinaryOperation::Multiply, width);
     };
-    match operation {
-        BinaryOperation::Multiply => left_count(width, count),
-        BinaryOperation::Divide => right_count(Width::Word, count),
-        BinaryOperation::Modulo
-        | BinaryOperation::Add
-        | BinaryOperation::Subtract
-        | BinaryOperation::Equal
-        | BinaryOperation::NotEqual
-        | BinaryOperation::Less
-        | BinaryOperation::LessEqual
-        | BinaryOperation::Greater
-        | BinaryOperation::GreaterEqual
-        | BinaryOperation::And
-        | BinaryOperation::Or
-        | BinaryOperation::ExclusiveOr
-        | BinaryOperation::ShiftLeft
-        | BinaryOperation::ShiftRight
-        | BinaryOperation::RotateLeft
-        | BinaryOperation::RotateRight => 1,
-    }
+    left_count(width, count)
+}
+
+/// Of a quotient by a constant.
+fn quotient_count(width: Width, number: u16) -> usize
+    ensures value { result ≡ length (plain (by_quotient width number (exponent number))) }
+    ensures few { result ≤ 7 }
+{
+    let Some(count) = exponent(number) else {
+        return 1 + core_count(BinaryOperation::Divide, width);
+    };
+    right_count(Width::Word, count)
+}
+
+/// Of a remainder by a constant.
+fn remainder_count(width: Width, number: u16) -> usize
+    ensures value { result ≡ length (plain (by_remainder width number (exponent number))) }
+    ensures few { result ≤ 7 }
+{
+    let Some(_) = exponent(number) else {
+        return 1 + core_count(BinaryOperation::Modulo, width);
+    };
+    1
 }
 
 /// Of an operator on AX and a constant.
 fn constant_count(operation: BinaryOperation, width: Width, number: u16) -> usize
     ensures value { result ≡ length (plain (by_constant operation width number)) }
-    ensures few { result ≤ 6 }
+    ensures few { result ≤ 8 }
 {
     let count = (number % 256) as u8;
     match operation {
         BinaryOperation::Add | BinaryOperation::Subtract => 1 + narrow_count(width),
         BinaryOperation::And | BinaryOperation::Or | BinaryOperation::ExclusiveOr => 1,
-        BinaryOperation::Multiply | BinaryOperation::Divide | BinaryOperation::Modulo => {
-            factor_count(operation, width, number)
-        }
+        BinaryOperation::Multiply => product_count(width, number),
+        BinaryOperation::Divide => quotient_count(width, number),
+        BinaryOperation::Modulo => remainder_count(width, number),
         BinaryOperation::ShiftLeft => left_count(width, count),
         BinaryOperation::ShiftRight => right_count(width, count),
         BinaryOperation::Equal
@@ -156,14 +170,20 @@ fn constant_count(operation: BinaryOperation, width: Width, number: u16) -> usiz
         | BinaryOperation::Greater
         | BinaryOperation::GreaterEqual
         | BinaryOperation::RotateLeft
-        | BinaryOperation::RotateRight => 1 + core_count(operation, width),
+        | BinaryOperation::RotateRight
+        | BinaryOperation::DivideSigned
+        | BinaryOperation::ModuloSigned => 1 + core_count(operation, width),
+        BinaryOperation::LessSigned => 2 + core_count(BinaryOperation::Less, width),
+        BinaryOperation::LessEqualSigned => 2 + core_count(BinaryOperation::LessEqual, width),
+        BinaryOperation::GreaterSigned => 2 + core_count(BinaryOperation::Greater, width),
+        BinaryOperation::GreaterEqualSigned => 2 + core_count(BinaryOperation::GreaterEqual, width),
     }
 }
 
 /// Of an operator on AX and what is read with a width at a place.
 fn read_count(operation: BinaryOperation, width: Width, read: Width, place: Place) -> usize
     ensures value { result ≡ length (by_read operation width read place) }
-    ensures few { result ≤ 7 }
+    ensures few { result ≤ 8 }
 {
     match read {
         Width::Byte => 2 + core_count(operation, width),

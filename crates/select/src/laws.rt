@@ -5,7 +5,7 @@ ghost use Rattle.select.specs.Promise.{InstructionsFollow};
 ghost use Rattle.select.specs.Room.{PartsHaveRoom, ProgramsHaveRoom};
 ghost use Rattle.select.specs.Saved.{UnservedChangesNone, RegistersAreCounted};
 
-use i86_table::{flag_laws, inverse_law, pair_laws, rotation_laws, shift_laws};
+use i86_table::{flag_laws, inverse_law, pair_laws, rotation_laws, shift_laws, signed_laws};
 
 /// Where the steps of each routine of the intermediate code stand at their places, main's instructions follow main's code, and
 /// each interrupt procedure's its procedure: at most 20 instructions without a step, no more words on the stack than are counted,
@@ -13,10 +13,12 @@ use i86_table::{flag_laws, inverse_law, pair_laws, rotation_laws, shift_laws};
 pub fn instructions_follow_code()
     ensures { InstructionsFollow }
 {
+    inverse_law();
     flag_laws();
     pair_laws();
     rotation_laws();
     shift_laws();
+    signed_laws();
 }
 
 /// With a DO CASE's value in AX, whatever the number of cases: five instructions lead to the first one of the case that it chooses,
@@ -29,6 +31,7 @@ pub fn cases_come_soon()
     pair_laws();
     rotation_laws();
     shift_laws();
+    signed_laws();
 }
 
 /// A part has at most the bytes that its routine's instructions take, and 5.

@@ -1,7 +1,7 @@
 //! The instructions of operators.
 
 ghost use Rattle.std.specs.Prelude.{◌≡◌, ◌++◌, IsOkUnless, OnOk};
-ghost use Rattle.select.specs.Rows.{plain, core, changed, narrow, narrow_right, then_narrow, spread, inverted, shift_word, shift_byte, left_by, right_by, direct, narrow_sum, sum_number, sum_with, load_count, counted, exponent, by_number, by_factor, by_constant};
+ghost use Rattle.select.specs.Rows.{plain, sign_turned, core, changed, narrow, narrow_right, then_narrow, spread, inverted, shift_word, shift_byte, left_by, right_by, turned_round, direct, narrow_sum, sum_number, sum_with, load_count, counted, exponent, by_number, by_product, by_quotient, by_remainder, by_turned, by_constant};
 
 use crate::part::Step;
 use crate::put::{add, all, alu, alu_number, clear_byte, exchange, load_number};
@@ -9,7 +9,7 @@ use i86_table::{
     AluOperation, Count, Instr, Operands, Register8, Register16, RmOperand, ShiftOperation,
     Signedness, UnaryOperation,
 };
-use word86::{BinaryOperation, Fault, Width};
+use word86::{BinaryOperation, Fault, Width, add16};
 
 const AX: Register16 = Register16::Ax;
 
@@ -69,6 +69,13 @@ fn inverted() -> Instr
     Instr::UnaryByte(UnaryOperation::Not, RmOperand::Register(Register8::Al))
 }
 
+// ADD of the sign bit, which turns it.
+fn sign_turned(register: Register16) -> Instr
+    ensures { result ≡ sign_turned register }
+{
+    alu_number(AluOperation::Add, register, 0x8000)
+}
+
 fn shift_word(operation: ShiftOperation, count: Count) -> Instr
     ensures { result ≡ shift_word operation count }
 {
@@ -99,6 +106,17 @@ fn right_by(steps: &mut Vec<Step>, width: Width, count: Count) -> Result<(), Fau
     }
 }
 
+/// AX, or AL alone, turned round by CL.
+fn rotate(steps: &mut Vec<Step>, width: Width, operation: ShiftOperation) -> Result<(), Fault>
+    ensures steps { OnOk result (steps.new.items ≡ steps.old.items ++ plain (turned_round operation width)) }
+    ensures memory { IsOkUnless result Fault.Memory }
+{
+    match width {
+        Width::Byte => all(steps, &[shift_byte(operation), clear_byte(Register8::Ah)]),
+        Width::Word => all(steps, &[shift_word(operation, Count::Cl)]),
+    }
+}
+
 /// An operator on AX and CX.
 pub(crate) fn core(
     steps: &mut Vec<Step>,
@@ -109,43 +127,44 @@ pub(crate) fn core(
     ensures memory { IsOkUnless result Fault.Memory }
 {
     let clear = clear_byte(Register8::Ah);
-    let zero_dx = load_number(Register16::Dx, 0);
+    let (zero_dx, swap) = (load_number(Register16::Dx, 0), exchange(Register16::Dx));
     let divide = Instr::DivideWord(Signedness::Unsigned, RmOperand::Register(CX));
     let subtract = alu(AluOperation::Sub, AX, CX);
-    let one = Instr::AluWord(
-        AluOperation::Cmp,
-        Operands::Immediate(RmOperand::Register(AX), 1),
-    );
-    let compare = alu(AluOperation::Cmp, AX, CX);
-    let compare_back = alu(AluOperation::Cmp, CX, AX);
+    let one = alu_number(AluOperation::Cmp, AX, 1);
+    let forth = alu(AluOperation::Cmp, AX, CX);
+    let back = alu(AluOperation::Cmp, CX, AX);
+    let (fill, flip) = (spread(), inverted());
+    let widen = Instr::ConvertWord;
+    let divide_signed = Instr::DivideWord(Signedness::Signed, RmOperand::Register(CX));
+    let (left, right) = (sign_turned(AX), sign_turned(CX));
     match operation {
         BinaryOperation::Multiply => {
             let multiply = Instr::MultiplyWord(Signedness::Unsigned, RmOperand::Register(CX));
             then_narrow(steps, width, multiply)
         }
         BinaryOperation::Divide => all(steps, &[zero_dx, divide]),
-        BinaryOperation::Modulo => all(steps, &[zero_dx, divide, exchange(Register16::Dx)]),
+        BinaryOperation::Modulo => all(steps, &[zero_dx, divide, swap]),
         BinaryOperation::Add => then_narrow(steps, width, alu(AluOperation::Add, AX, CX)),
         BinaryOperation::Subtract => then_narrow(steps, width, subtract),
-        BinaryOperation::Equal => all(steps, &[subtract, one, spread(), clear]),
-        BinaryOperation::NotEqual => all(steps, &[subtract, one, spread(), inverted(), clear]),
-        BinaryOperation::Less => all(steps, &[compare, spread(), clear]),
-        BinaryOperation::LessEqual => all(steps, &[compare_back, spread(), inverted(), clear]),
-        BinaryOperation::Greater => all(steps, &[compare_back, spread(), clear]),
-        BinaryOperation::GreaterEqual => all(steps, &[compare, spread(), inverted(), clear]),
+        BinaryOperation::Equal => all(steps, &[subtract, one, fill, clear]),
+        BinaryOperation::NotEqual => all(steps, &[subtract, one, fill, flip, clear]),
+        BinaryOperation::Less => all(steps, &[forth, fill, clear]),
+        BinaryOperation::LessEqual => all(steps, &[back, fill, flip, clear]),
+        BinaryOperation::Greater => all(steps, &[back, fill, clear]),
+        BinaryOperation::GreaterEqual => all(steps, &[forth, fill, flip, clear]),
         BinaryOperation::And => all(steps, &[alu(AluOperation::And, AX, CX)]),
         BinaryOperation::Or => all(steps, &[alu(AluOperation::Or, AX, CX)]),
         BinaryOperation::ExclusiveOr => all(steps, &[alu(AluOperation::Xor, AX, CX)]),
         BinaryOperation::ShiftLeft => left_by(steps, width, Count::Cl),
         BinaryOperation::ShiftRight => right_by(steps, width, Count::Cl),
-        BinaryOperation::RotateLeft => match width {
-            Width::Byte => all(steps, &[shift_byte(ShiftOperation::Rol), clear]),
-            Width::Word => all(steps, &[shift_word(ShiftOperation::Rol, Count::Cl)]),
-        },
-        BinaryOperation::RotateRight => match width {
-            Width::Byte => all(steps, &[shift_byte(ShiftOperation::Ror), clear]),
-            Width::Word => all(steps, &[shift_word(ShiftOperation::Ror, Count::Cl)]),
-        },
+        BinaryOperation::RotateLeft => rotate(steps, width, ShiftOperation::Rol),
+        BinaryOperation::RotateRight => rotate(steps, width, ShiftOperation::Ror),
+        BinaryOperation::DivideSigned => all(steps, &[widen, divide_signed]),
+        BinaryOperation::ModuloSigned => all(steps, &[widen, divide_signed, swap]),
+        BinaryOperation::LessSigned => all(steps, &[left, right, forth, fill, clear]),
+        BinaryOperation::LessEqualSigned => all(steps, &[left, right, back, fill, flip, clear]),
+        BinaryOperation::GreaterSigned => all(steps, &[left, right, back, fill, clear]),
+        BinaryOperation::GreaterEqualSigned => all(steps, &[left, right, forth, fill, flip, clear]),
     }
 }
 
@@ -202,7 +221,13 @@ pub(crate) fn direct(operation: BinaryOperation) -> AluOperation
         | BinaryOperation::ShiftLeft
         | BinaryOperation::ShiftRight
         | BinaryOperation::RotateLeft
-        | BinaryOperation::RotateRight => AluOperation::Xor,
+        | BinaryOperation::RotateRight
+        | BinaryOperation::DivideSigned
+        | BinaryOperation::ModuloSigned
+        | BinaryOperation::LessSigned
+        | BinaryOperation::LessEqualSigned
+        | BinaryOperation::GreaterSigned
+        | BinaryOperation::GreaterEqualSigned => AluOperation::Xor,
     }
 }
 
@@ -232,7 +257,13 @@ pub(crate) fn narrow_sum(
         | BinaryOperation::ShiftLeft
         | BinaryOperation::ShiftRight
         | BinaryOperation::RotateLeft
-        | BinaryOperation::RotateRight => Ok(()),
+        | BinaryOperation::RotateRight
+        | BinaryOperation::DivideSigned
+        | BinaryOperation::ModuloSigned
+        | BinaryOperation::LessSigned
+        | BinaryOperation::LessEqualSigned
+        | BinaryOperation::GreaterSigned
+        | BinaryOperation::GreaterEqualSigned => Ok(()),
     }
 }
 
@@ -316,42 +347,54 @@ fn by_number(
     core(steps, operation, width)
 }
 
-/// A product, a quotient or a remainder.
-fn by_factor(
-    steps: &mut Vec<Step>,
-    operation: BinaryOperation,
-    width: Width,
-    number: u16,
-) -> Result<(), Fault>
-    ensures steps { OnOk result (steps.new.items ≡ steps.old.items ++ plain (by_factor operation width number)) }
+/// A product.
+fn by_product(steps: &mut Vec<Step>, width: Width, number: u16) -> Result<(), Fault>
+    ensures steps { OnOk result (steps.new.items ≡ steps.old.items ++ plain (by_product width number (exponent number))) }
     ensures memory { IsOkUnless result Fault.Memory }
 {
     let Some(count) = exponent(number) else {
-        return by_number(steps, operation, width, number);
+        return by_number(steps, BinaryOperation::Multiply, width, number);
     };
-    match operation {
-        BinaryOperation::Multiply => left_by_constant(steps, width, count),
-        BinaryOperation::Divide => right_by_constant(steps, Width::Word, count),
-        BinaryOperation::Modulo
-        | BinaryOperation::Add
-        | BinaryOperation::Subtract
-        | BinaryOperation::Equal
-        | BinaryOperation::NotEqual
-        | BinaryOperation::Less
-        | BinaryOperation::LessEqual
-        | BinaryOperation::Greater
-        | BinaryOperation::GreaterEqual
-        | BinaryOperation::And
-        | BinaryOperation::Or
-        | BinaryOperation::ExclusiveOr
-        | BinaryOperation::ShiftLeft
-        | BinaryOperation::ShiftRight
-        | BinaryOperation::RotateLeft
-        | BinaryOperation::RotateRight => add(
-            steps,
-            alu_number(AluOperation::And, AX, number.saturating_sub(1)),
-        ),
-    }
+    left_by_constant(steps, width, count)
+}
+
+/// A quotient.
+fn by_quotient(steps: &mut Vec<Step>, width: Width, number: u16) -> Result<(), Fault>
+    ensures steps { OnOk result (steps.new.items ≡ steps.old.items ++ plain (by_quotient width number (exponent number))) }
+    ensures memory { IsOkUnless result Fault.Memory }
+{
+    let Some(count) = exponent(number) else {
+        return by_number(steps, BinaryOperation::Divide, width, number);
+    };
+    right_by_constant(steps, Width::Word, count)
+}
+
+/// A remainder.
+fn by_remainder(steps: &mut Vec<Step>, width: Width, number: u16) -> Result<(), Fault>
+    ensures steps { OnOk result (steps.new.items ≡ steps.old.items ++ plain (by_remainder width number (exponent number))) }
+    ensures memory { IsOkUnless result Fault.Memory }
+{
+    let Some(_) = exponent(number) else {
+        return by_number(steps, BinaryOperation::Modulo, width, number);
+    };
+    add(
+        steps,
+        alu_number(AluOperation::And, AX, number.saturating_sub(1)),
+    )
+}
+
+/// A relation of words with sign, by the one of words, where both have their sign bits turned.
+fn by_turned(
+    steps: &mut Vec<Step>,
+    unsigned: BinaryOperation,
+    width: Width,
+    number: u16,
+) -> Result<(), Fault>
+    ensures steps { OnOk result (steps.new.items ≡ steps.old.items ++ plain (by_turned unsigned width number)) }
+    ensures memory { IsOkUnless result Fault.Memory }
+{
+    add(steps, sign_turned(AX))?;
+    by_number(steps, unsigned, width, add16(number, 0x8000))
 }
 
 /// An operator on AX and a constant.
@@ -377,9 +420,9 @@ pub(crate) fn by_constant(
         BinaryOperation::And | BinaryOperation::Or | BinaryOperation::ExclusiveOr => {
             add(steps, alu_number(direct(operation), AX, number))
         }
-        BinaryOperation::Multiply | BinaryOperation::Divide | BinaryOperation::Modulo => {
-            by_factor(steps, operation, width, number)
-        }
+        BinaryOperation::Multiply => by_product(steps, width, number),
+        BinaryOperation::Divide => by_quotient(steps, width, number),
+        BinaryOperation::Modulo => by_remainder(steps, width, number),
         BinaryOperation::ShiftLeft => left_by_constant(steps, width, count),
         BinaryOperation::ShiftRight => right_by_constant(steps, width, count),
         BinaryOperation::Equal
@@ -389,6 +432,16 @@ pub(crate) fn by_constant(
         | BinaryOperation::Greater
         | BinaryOperation::GreaterEqual
         | BinaryOperation::RotateLeft
-        | BinaryOperation::RotateRight => by_number(steps, operation, width, number),
+        | BinaryOperation::RotateRight
+        | BinaryOperation::DivideSigned
+        | BinaryOperation::ModuloSigned => by_number(steps, operation, width, number),
+        BinaryOperation::LessSigned => by_turned(steps, BinaryOperation::Less, width, number),
+        BinaryOperation::LessEqualSigned => {
+            by_turned(steps, BinaryOperation::LessEqual, width, number)
+        }
+        BinaryOperation::GreaterSigned => by_turned(steps, BinaryOperation::Greater, width, number),
+        BinaryOperation::GreaterEqualSigned => {
+            by_turned(steps, BinaryOperation::GreaterEqual, width, number)
+        }
     }
 }

@@ -160,6 +160,10 @@ fn fails(relation: Relation) -> Condition
         Relation::LessEqual => Condition::Above,
         Relation::Greater => Condition::BelowOrEqual,
         Relation::GreaterEqual => Condition::Below,
+        Relation::LessSigned => Condition::NotLess,
+        Relation::LessEqualSigned => Condition::Greater,
+        Relation::GreaterSigned => Condition::LessOrEqual,
+        Relation::GreaterEqualSigned => Condition::Less,
     }
 }
 

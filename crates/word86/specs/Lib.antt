@@ -7,6 +7,8 @@ pub mod Arithmetic
 pub mod Bytes
 pub mod Sink
 pub mod Event
+pub mod Signed
+pub mod DivisionLaw
 pub mod Operation
 pub mod MemoryMap
 pub mod Page

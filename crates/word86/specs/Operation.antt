@@ -5,8 +5,9 @@ use Rattle.word86.specs.declared.width.Width.{Width}
 use Rattle.word86.specs.declared.operation.UnaryOperation.{UnaryOperation}
 use Rattle.word86.specs.declared.operation.UnaryOperation.TheVariants.{Plus, Minus, Not, Low, High, Double}
 use Rattle.word86.specs.declared.operation.BinaryOperation.{BinaryOperation}
-use Rattle.word86.specs.declared.operation.BinaryOperation.TheVariants.{Multiply, Divide, Modulo, Add, Subtract, Equal, NotEqual, Less, LessEqual, Greater, GreaterEqual, And, Or, ExclusiveOr, ShiftLeft, ShiftRight, RotateLeft, RotateRight}
+use Rattle.word86.specs.declared.operation.BinaryOperation.TheVariants.{Multiply, Divide, Modulo, Add, Subtract, Equal, NotEqual, Less, LessEqual, Greater, GreaterEqual, And, Or, ExclusiveOr, ShiftLeft, ShiftRight, RotateLeft, RotateRight, DivideSigned, ModuloSigned, LessSigned, LessEqualSigned, GreaterSigned, GreaterEqualSigned}
 use Rattle.word86.specs.Arithmetic.{low, rotated_left, rotated_right}
+use Rattle.word86.specs.Signed.{signed_quotient, signed_remainder, signed_less}
 
 -- what a relation answers
 abbrev pub truth : Bool → ℕ
@@ -51,3 +52,10 @@ binary_value ShiftLeft width x y = Some (low width (x * 2 ^ (y % 256)))
 binary_value ShiftRight width x y = Some (low width x / 2 ^ (y % 256))
 binary_value RotateLeft width x y = Some (rotated_left width x (y % 256))
 binary_value RotateRight width x y = Some (rotated_right width x (y % 256))
+-- Of words with sign, whatever the width. Their sums, differences, products, = and <> are those of other words.
+binary_value DivideSigned width x y = signed_quotient x y
+binary_value ModuloSigned width x y = signed_remainder x y
+binary_value LessSigned width x y = Some (truth (signed_less x y))
+binary_value LessEqualSigned width x y = Some (truth (not (signed_less y x)))
+binary_value GreaterSigned width x y = Some (truth (signed_less y x))
+binary_value GreaterEqualSigned width x y = Some (truth (not (signed_less x y)))

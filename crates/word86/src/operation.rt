@@ -5,6 +5,7 @@ ghost use Rattle.std.specs.Prelude.{◌≡◌};
 ghost use Rattle.word86.specs.Operation.{truth, unary_value, binary_value, quotient, remainder};
 
 use crate::arithmetic::{rol, ror, shl, shr};
+use crate::signed::{signed_less, signed_quotient, signed_remainder};
 use crate::width::Width;
 
 /// An operator, or built-in, of one operand.
@@ -43,6 +44,14 @@ pub enum BinaryOperation {
     ShiftRight,
     RotateLeft,
     RotateRight,
+    /// Of numbers with sign, towards zero.
+    DivideSigned,
+    /// Of numbers with sign, with the sign of the dividend.
+    ModuloSigned,
+    LessSigned,
+    LessEqualSigned,
+    GreaterSigned,
+    GreaterEqualSigned,
 }
 
 impl UnaryOperation {
@@ -80,8 +89,9 @@ fn remainder(dividend: u16, divisor: u16) -> Option<u16>
 }
 
 impl BinaryOperation {
-    /// The value at two operands, of which it is this width; nothing is divided by zero. Relations compare whole numbers
-    /// and answer 0FFH or 0; a shift's count is the low byte of its second operand.
+    /// The value at two operands, of which it is this width; nothing is divided by zero, nor with sign -32,768 by -1. Relations
+    /// compare whole numbers and answer 0FFH or 0; a shift's count is the low byte of its second operand. What has a sign takes
+    /// its operands for words in two's complement, whatever the width.
     pub fn value(self, width: Width, left: u16, right: u16) -> Option<u16>
         ensures { result ≡ binary_value self width left right }
     {
@@ -106,6 +116,12 @@ impl BinaryOperation {
             BinaryOperation::ShiftRight => Some(shr(width, left, count)),
             BinaryOperation::RotateLeft => Some(rol(width, left, count)),
             BinaryOperation::RotateRight => Some(ror(width, left, count)),
+            BinaryOperation::DivideSigned => signed_quotient(left, right),
+            BinaryOperation::ModuloSigned => signed_remainder(left, right),
+            BinaryOperation::LessSigned => Some(truth(signed_less(left, right))),
+            BinaryOperation::LessEqualSigned => Some(truth(!signed_less(right, left))),
+            BinaryOperation::GreaterSigned => Some(truth(signed_less(right, left))),
+            BinaryOperation::GreaterEqualSigned => Some(truth(!signed_less(left, right))),
         }
     }
 }

@@ -364,6 +364,7 @@ scalar_of (Key key.Byte) = Some scalar.Byte
 scalar_of (Key key.Word) = Some scalar.Word
 scalar_of (Key key.Address) = Some scalar.Address
 scalar_of (Key key.Pointer) = Some scalar.Pointer
+scalar_of (Key key.Integer) = Some scalar.Integer
 scalar_of t = None
 
 abbrev pub parameters_rule : Terminal → Rule

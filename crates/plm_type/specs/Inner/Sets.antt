@@ -1,6 +1,6 @@
 -- The trees of a program are equal in one way at most.
-use Rattle.std.specs.Prelude.{◌≡◌, ℕ, List, ◌⊎◌}
-use Rattle.std.specs.Coded.{Coded-set, coded_ℕ, coded×, coded⊎, code_by}
+use Rattle.std.specs.Prelude.{◌≡◌, ℕ, Bool, List, ◌⊎◌}
+use Rattle.std.specs.Coded.{Coded-set, coded_ℕ, coded_bool, coded×, coded⊎, code_by}
 use mathlib.Core.List.{is_set as List-set}
 use Rattle.std.proofs.Common.{inl, inr, refl}
 use Rattle.word86.specs.declared.width.Width.{Width}
@@ -12,6 +12,8 @@ use Rattle.word86.specs.contracts.operation.UnaryOperation as coded_unary
 use Rattle.word86.specs.contracts.operation.BinaryOperation as coded_binary
 use Rattle.word86.specs.contracts.page.Page as coded_page
 use Rattle.word86.specs.Access.{Where, In, Screen}
+use Rattle.plm_type.specs.declared.program.Counting.{Counting}
+use Rattle.plm_type.specs.contracts.program.Counting as coded_counting
 use Rattle.plm_type.specs.Rest as rest
 use Rattle.plm_type.specs.Rest.{Scalar, Anchor, Statements, Procedure}
 
@@ -46,6 +48,12 @@ join_split (Screen page i) = refl
 Where-set : IsSet Where
 Where-set = Coded-set (code_by ((ℕ × ℕ) ⊎ (Page × ℕ)) (coded⊎ (coded× coded_ℕ coded_ℕ) (coded× coded_page.the_row.coded coded_ℕ)) split join join_split)
 
+Counting-set : IsSet Counting
+Counting-set = Coded-set coded_counting.the_row.coded
+
+Bool-set : IsSet Bool
+Bool-set = Coded-set coded_bool
+
 Scalar-set : IsSet Scalar
 Scalar-set = rest.Scalar-set Width-set Where-set
 
@@ -53,7 +61,7 @@ Anchor-set : IsSet Anchor
 Anchor-set = rest.Anchor-set ℕ-set Page-set Where-set
 
 pub Statements-set : IsSet Statements
-Statements-set = rest.Statements-set ℕ-set Width-set Where-set UnaryOperation-set BinaryOperation-set (List-set Scalar-set) (List-set ℕ-set) Anchor-set Scalar-set
+Statements-set = rest.Statements-set ℕ-set Width-set Where-set UnaryOperation-set BinaryOperation-set (List-set Scalar-set) (List-set ℕ-set) Anchor-set Counting-set Scalar-set Bool-set
 
 pub Procedures-set : IsSet (List Procedure)
 Procedures-set = List-set (rest.Procedure-set (List-set Scalar-set) Statements-set)

@@ -3,6 +3,7 @@ use Rattle.std.specs.Prelude.{ℕ, List, [], ◌++◌, map, Option}
 use Rattle.plm_syntax.specs.declared.tree.Position.{Position}
 use Rattle.plm_decl.specs.declared.builtin.Builtin.{Builtin}
 use Rattle.plm_decl.specs.declared.resolved.Binding.{Binding}
+use Rattle.plm_decl.specs.declared.layout.ScalarType.{ScalarType}
 use Rattle.plm_decl.specs.declared.resolved.Bounds.{Bounds}
 use Rattle.plm_decl.specs.declared.names.Variable.{Variable}
 use Rattle.plm_decl.specs.declared.found.Found.{Found}
@@ -20,10 +21,12 @@ use Rattle.plm_type.specs.declared.program.Subscript.{Subscript}
 use Rattle.plm_type.specs.declared.statements.TypedTargets as declared_targets
 use Rattle.plm_type.specs.declared.statements.Condition as declared_condition
 use Rattle.plm_type.specs.declared.statements.Range as declared_range
+use Rattle.plm_type.specs.declared.statements.Step as declared_step
 use Rattle.plm_type.specs.declared.statements.Around.{Around}
 use Rattle.plm_type.specs.Rest as rest
-use Rattle.plm_type.specs.Typer.{Typed, TypedTarget, TypedTargets, TypedList, Parts, Noted}
+use Rattle.plm_type.specs.Typer.{Typed, TypedTarget, TypedTargets, TypedList, TypedStep, Parts, Noted}
 use Rattle.plm_type.specs.Expressions as spec
+use Rattle.plm_type.specs.Typing.{variable_type}
 use Rattle.plm_type.specs.Statements as statements
 use Rattle.plm_type.specs.View.{expression_of, expressions_of, target_of, scalar_of, statements_of}
 use Rattle.plm_type.specs.Rest.{Statement, Statements, End, Then}
@@ -44,7 +47,7 @@ with_stride stride e = record { stride = stride; index = e }
 -- ---- what the definition says, after faults that are noted already
 
 abbrev pub after : List Found → Typed → Typed
-after noted e = record { tree = e.tree; scalar = e.scalar; faults = noted ++ e.faults }
+after noted e = record { tree = e.tree; scalar = e.scalar; numbers = e.numbers; faults = noted ++ e.faults }
 
 abbrev pub target_after : List Found → TypedTarget → TypedTarget
 target_after noted x = record { tree = x.tree; scalar = x.scalar; faults = noted ++ x.faults }
@@ -70,7 +73,7 @@ noted_after noted x = record { tree = x.tree; faults = noted ++ x.faults }
 -- ---- what the code answers, with all faults that are noted then
 
 abbrev pub said : declared.Typed → List Found → Typed
-said e noted = record { tree = expression_of e.tree; scalar = e.scalar; faults = noted }
+said e noted = record { tree = expression_of e.tree; scalar = e.scalar; numbers = e.numbers; faults = noted }
 
 abbrev pub target_said : declared_target.TypedTarget → List Found → TypedTarget
 target_said x noted = record { tree = target_of x.tree; scalar = x.scalar; faults = noted }
@@ -99,7 +102,13 @@ condition_of c = rest.If (expression_of c.test) (statements_of c.then.items) res
 
 -- an iterative DO without a statement
 abbrev pub range_of : declared_range.Range → rest.Statement
-range_of r = rest.Iterate (expression_of r.from) (rest.Count (scalar_of r.index) (expression_of r.bound) (expression_of r.step) rest.End)
+range_of r = rest.Iterate (expression_of r.from) (rest.Count r.step.counting (scalar_of r.index) (expression_of r.bound) (expression_of r.step.tree) rest.End)
+
+abbrev pub step_said : declared_step.Step → List Found → TypedStep
+step_said s noted = record { tree = expression_of s.tree; counting = s.counting; faults = noted }
+
+abbrev pub step_after : List Found → TypedStep → TypedStep
+step_after noted s = record { tree = s.tree; counting = s.counting; faults = noted ++ s.faults }
 
 -- ---- the definition, with what is known
 
@@ -108,6 +117,9 @@ typed_by t e = spec.typed (variables t) (procedures t) (sizes t) t.module e
 
 abbrev pub list_by : Typer → ExpressionsR → TypedList
 list_by t es = spec.list (variables t) (procedures t) (sizes t) t.module es
+
+abbrev pub given_by : Typer → List (Option ScalarType) → ExpressionsR → TypedList
+given_by t ts es = spec.given (variables t) (procedures t) (sizes t) t.module ts es
 
 abbrev pub selector_by : Typer → SelectorR → TypedList
 selector_by t s = spec.selector (variables t) (procedures t) (sizes t) t.module s
@@ -144,8 +156,14 @@ call_by t p x = statements.typed_call (variables t) (procedures t) (sizes t) t.m
 abbrev pub index_by : Typer → Position → Position → Binding → Noted rest.Scalar
 index_by t p q m = statements.typed_index (variables t) (procedures t) (sizes t) t.module p q m
 
-abbrev pub step_by : Typer → Position → Option ExpressionR → Noted rest.Expression
-step_by t p e = statements.typed_step (variables t) (procedures t) (sizes t) t.module p e
+abbrev pub bound_by : Typer → Option ScalarType → Position → ExpressionR → Noted rest.Expression
+bound_by t scalar p e = statements.bound_in (variables t) (procedures t) (sizes t) t.module scalar p e
+
+abbrev pub count_by : Typer → Position → ExpressionR → Noted rest.Expression
+count_by t p e = statements.count_in (variables t) (procedures t) (sizes t) t.module p e
+
+abbrev pub step_by : Typer → Option ScalarType → Position → Option ExpressionR → TypedStep
+step_by t scalar p e = statements.typed_step (variables t) (procedures t) (sizes t) t.module scalar p e
 
 abbrev pub assignment_by : Typer → ReferencesR → ExpressionR → Noted rest.Statement
 assignment_by t xs e = statements.typed_assignment (variables t) (procedures t) (sizes t) t.module xs e
@@ -163,7 +181,9 @@ abbrev pub condition_by : Typer → Around → Position → ExpressionR → Stat
 condition_by t around p e s = statements.conditional (number_by t p e) (statement_by t around s)
 
 abbrev pub range_by : Typer → Position → Position → Bounds → Noted rest.Statement
-range_by t p q b = statements.iteration (index_by t p q b.binding) (number_by t p (resolved.expression_of b.from)) (number_by t p (resolved.expression_of b.to)) (step_by t p (resolved.step_of b.step)) (noted rest.End [])
+range_by t p q b =
+    let scalar = variable_type (statements.variable_meant (variables t) b.binding) in
+    statements.iteration (index_by t p q b.binding) (bound_by t scalar p (resolved.expression_of b.from)) (bound_by t scalar p (resolved.expression_of b.to)) (step_by t scalar p (resolved.step_of b.step)) (noted rest.End [])
 
 abbrev pub one : Noted Statement → Noted Statements
 one s = record { tree = Then s.tree End; faults = s.faults }

@@ -40,7 +40,7 @@ add_statement-returns-in_ok-add_calls-in-Iterate t c =
     let e = view.expression_of c.in-Iterate.first in
     let r = c.in-Iterate.rounds.value in
     let is = ap view.statement_of c.in-Iterate.is
-    ∙ ap (λ (ss : rest.Statements). rest.Iterate e (rest.Count (view.scalar_of r.index) (view.expression_of r.bound) (view.expression_of r.step) ss)) (statement_row r.body) in
+    ∙ ap (λ (ss : rest.Statements). rest.Iterate e (rest.Count r.counting (view.scalar_of r.index) (view.expression_of r.bound) (view.expression_of r.step) ss)) (statement_row r.body) in
     let path =
     (λ j. c.in_ok-add_calls-in-Iterate.ensures j ++ spec.loop_calls (view.loop_of (c.deref-in-Iterate.ensures j)))
     ∙ append_assoc old (spec.calls_in e) (spec.loop_calls (view.loop_of r))

@@ -9,4 +9,6 @@ returns c =
       shift = c.shift_laws.ensures;
       rotate = c.rotation_laws.ensures;
       pairs = c.pair_laws.ensures.words;
+      inverse = c.inverse_law.ensures;
+      signed = c.signed_laws.ensures;
     })

@@ -1,4 +1,4 @@
-use Rattle.std.proofs.Common.{◌≡◌, inl, inr, ◌+◌, ◌∷◌, [], ◌++◌, not, List, Option, Result, IfOk, drop, append_assoc, refl, sym, ap, ◌∙◌}
+use Rattle.std.proofs.Common.{◌≡◌, inl, inr, ◌+◌, ◌∷◌, [], ◌++◌, not, List, Option, option_map, Result, IfOk, drop, append_assoc, refl, subst, sym, ap, ◌∙◌}
 use Rattle.std.proofs.lemmas.List.{append-nil, drop_all}
 use Rattle.word86.specs.declared.number.Number.TheVariants.{E401, E402}
 use Rattle.plm_decl.specs.declared.layout.ScalarType.{ScalarType}
@@ -6,6 +6,7 @@ use Rattle.plm_decl.specs.declared.found.Found.{Found}
 use Rattle.plm_decl.specs.declared.resolved.Binding.{Binding}
 use Rattle.plm_decl.specs.declared.resolved.Expression as declared_resolved
 use Rattle.plm_decl.specs.declared.resolved.Reference.{Reference}
+use Rattle.plm_decl.specs.Names.{procedure_of}
 use Rattle.plm_decl.specs.Resolved.{ExpressionR, TextR, ReferenceR, ParenthesisedR, ReferenceR', Use, ExpressionsR, LocationR', LocationOf}
 use Rattle.plm_decl.specs.ResolvedView as resolved
 use Rattle.plm_type.specs.declared.program.Expression.{Expression}
@@ -13,16 +14,16 @@ use Rattle.plm_type.specs.declared.typer.Typed as declared
 use Rattle.plm_type.specs.declared.typer.Typer.{Typer}
 use Rattle.plm_type.specs.Rest as rest
 use Rattle.plm_type.specs.View as view
-use Rattle.plm_type.specs.Typing.{given_if, is_target, is_plain}
+use Rattle.plm_type.specs.Typing.{given_if, is_target, is_plain, first_type, other_types, wanted_arguments, parameters_wanted}
 use Rattle.plm_type.specs.Faults as found
-use Rattle.plm_type.specs.Typer.{Typed}
+use Rattle.plm_type.specs.Typer.{Typed, TypedList}
 use Rattle.plm_type.specs.Expressions as spec
-use Rattle.plm_type.specs.Inner.Typer.{variables, procedures, sizes, said, after, target_after, list_after, typed_by, list_by, selector_by, parts_by, value_by, arguments_by, argument_by, location_by, target_by}
+use Rattle.plm_type.specs.Inner.Typer.{variables, procedures, sizes, said, list_said, after, target_after, list_after, typed_by, list_by, given_by, selector_by, parts_by, value_by, arguments_by, argument_by, location_by, target_by}
 use Rattle.plm_type.specs.Inner.Chains.{chain}
-use Rattle.plm_type.proofs.Lists.{drop_at, one_is, many_are, expressions_at, trees_before, trees_pushed, trees_all, list_before}
+use Rattle.plm_type.proofs.Lists.{drop_at, one_is, many_are, expressions_at, given_taken, trees_before, trees_pushed, trees_all, list_before}
 use Rattle.plm_type.proofs.Leaning.{leaned_after, leaned_alone, leaned_joined}
 use Rattle.plm_type.proofs.Parts.{is_zero, not_zero}
-use Rattle.plm_type.proofs.Said.{typed_moved, target_moved, typed_with, own_after, target_own_after, embedded_said, joined_said, parts_made}
+use Rattle.plm_type.proofs.Said.{typed_moved, target_moved, typed_with, own_after, target_own_after, embedded_said, joined_said, parts_made, wanted_after}
 use Rattle.plm_type.proofs.typer.Typer.+expression.Goals as goal
 
 -- what is said of an expression, said of what it is
@@ -50,10 +51,17 @@ pub expression-returns-in-Location : goal.expression-returns-in-Location
 expression-returns-in-Location t c =
     spoken c.args.self.now c.args.faults.now.items c.location.result c.location.new.faults.items (sym (ap resolved.expression_of c.in-Location.is)) c.location.ensures
 
-pub expression-returns-in-Parenthesised : goal.expression-returns-in-Parenthesised
-expression-returns-in-Parenthesised t c =
-    let is = (λ j. ParenthesisedR c.in-Parenthesised.field-0 (resolved.expression_of (c.deref-in-Parenthesised.ensures j))) ∙ sym (ap resolved.expression_of c.in-Parenthesised.is) in
-    spoken c.args.self.now c.args.faults.now.items c.expression.result c.expression.new.faults.items is c.expression.ensures
+pub expression-returns-in_ok-typed-in-Parenthesised : goal.expression-returns-in_ok-typed-in-Parenthesised
+expression-returns-in_ok-typed-in-Parenthesised t c =
+    let at = c.in-Parenthesised in
+    let self = c.args.self.now in
+    let old = c.args.faults.now.items in
+    let is = (λ j. ParenthesisedR at.field-0 (resolved.expression_of (c.deref-in-Parenthesised.ensures j))) ∙ sym (ap resolved.expression_of at.is) in
+    let did = c.in_ok-typed-in-Parenthesised.ensures in
+    let made = c.parenthesised.ensures in
+    (λ j. record { tree = view.expression_of (made.tree j); scalar = made.scalar j; numbers = made.numbers j; faults = c.expression.new.faults.items })
+    ∙ ap spec.parenthesised did
+    ∙ ap (λ (x : ExpressionR). after old (typed_by self x)) is
 
 pub expression-returns-in_ok-value-in-Embedded : goal.expression-returns-in_ok-value-in-Embedded
 expression-returns-in_ok-value-in-Embedded t c =
@@ -144,6 +152,51 @@ list-returns t c =
     ∙ ap (λ (l : List declared_resolved.Expression). list_before here.all here.faults.items (list_by self (resolved.expressions_of l))) none
     ∙ here.invariant
 
+-- ---- arguments, where values of some types are wanted
+
+pub given-loop-e-preserved : goal.given-loop-e-preserved
+given-loop-e-preserved t c =
+    let here = c.loop-e in
+    let self = c.args.self.now in
+    let all = here.all in
+    let es = c.args.es.now in
+    let x = c.e-item.result in
+    let scalar = first_type here.others.now in
+    let e = spec.wanted self.module scalar (typed_by self (resolved.expression_of x)) in
+    let value = c.in_ok-value.ensures ∙ ap (λ (s : Option ScalarType). spec.wanted self.module s (said c.in_ok-typed.typed c.expression.new.faults.items)) c.first_type.ensures in
+    let did = wanted_after self.module scalar here.faults.items (typed_by self (resolved.expression_of x)) _ _ c.in_ok-typed.ensures value in
+    let left = given_by self (other_types here.others.now) (resolved.expressions_of (drop (here.e-index + 1) es)) in
+    let at = sym (expressions_at es here.e-index x c.loop-e-test.true c.e-item.is) in
+    let trees = ap (λ (l : List Expression). trees_before l left.trees) c.in_ok-push.ensures.trees
+    ∙ trees_pushed all.trees.items c.in_ok-value.value.tree left.trees ∙ (λ j. trees_before all.trees.items (rest.More (did j).tree left.trees)) in
+    let types = ap (λ (l : List (Option ScalarType)). l ++ left.types) c.in_ok-push.ensures.types
+    ∙ append_assoc all.types.items (c.in_ok-value.value.scalar ∷ []) left.types ∙ (λ j. all.types.items ++ (did j).scalar ∷ left.types) in
+    let faults = (λ j. (did j).faults ++ left.faults) ∙ append_assoc here.faults.items e.faults left.faults in
+    ap (λ (l : List (Option ScalarType)). list_before c.push.new.self c.wanted.new.faults.items (given_by self l (resolved.expressions_of (drop (here.e-index + 1) es)))) c.other_types-others.ensures
+    ∙ (λ j. record { trees = trees j; types = types j; faults = faults j })
+    ∙ ap (λ (l : ExpressionsR). list_before all here.faults.items (given_by self here.others.now l)) at
+    ∙ here.invariant
+
+pub given-returns : goal.given-returns
+given-returns t c =
+    let here = c.loop-e in
+    let self = c.args.self.now in
+    let none = sym (drop_all here.e-index c.args.es.now c.loop-e-test.false) in
+    (λ j. record { trees = sym (trees_all here.all.trees.items) j; types = sym (append-nil here.all.types.items) j; faults = sym (append-nil here.faults.items) j })
+    ∙ ap (λ (l : List declared_resolved.Expression). list_before here.all here.faults.items (given_by self here.others.now (resolved.expressions_of l))) none
+    ∙ here.invariant
+
+pub passed-returns : goal.passed-returns
+passed-returns t c =
+    let self = c.args.self.now in
+    let old = c.args.faults.now.items in
+    let es = c.args.es.now in
+    let wanted = parameters_wanted (variables self) (option_map (λ p. procedure_of p.now) c.args.procedure) in
+    let types = c.deref.ensures.value ∙ c.in_ok-types.ensures in
+    let path = ap (λ (ts : List (Option ScalarType)). list_after old (given_by self ts (resolved.expressions_of es))) types
+    ∙ ap (list_after old) (given_taken (variables self) (procedures self) (sizes self) self.module wanted es) in
+    subst (λ (l : TypedList). IfOk c.given.result (λ r. list_said r c.given.new.faults.items ≡ l)) path c.given.ensures
+
 -- ---- the parts of a reference
 
 pub parts-returns : goal.parts-returns
@@ -197,11 +250,13 @@ value-returns-in_ok-arguments-in-Procedure t c =
     let s = resolved.selector_of r.selector in
     let self = c.args.self.now in
     let old = c.args.faults.now.items in
-    let es = list_by self (resolved.expressions_of r.subscripts.items) in
+    let q = c.procedure-procedure.ensures in
+    let wanted = parameters_wanted (variables self) in
+    let es = given_by self (wanted (q 1)) (resolved.expressions_of r.subscripts.items) in
     let called = spec.called (variables self) self.module r.place in
-    let did = c.in_ok-arguments-in-Procedure.ensures ∙ ap (λ (l : List declared_resolved.Expression). list_after old (list_by self (resolved.expressions_of l))) c.deref.ensures.value in
-    let path = (λ j. called (c.procedure.ensures j) s (did j))
-    ∙ own_after (called (c.procedure.ensures 1) s es) old es.faults _
+    let did = c.in_ok-arguments-in-Procedure.ensures ∙ (λ j. list_after old (given_by self (wanted (q j)) (resolved.expressions_of (c.deref.ensures.value j)))) in
+    let path = (λ j. called (q j) s (did j))
+    ∙ own_after (called (q 1) s es) old es.faults _
     ∙ ap (λ (m : Binding). after old (value_by self (meaning r m))) (sym c.in-Procedure.is) in
     typed_moved c.called.result c.called.new.faults.items path c.called.ensures
 
@@ -214,7 +269,7 @@ value-returns-then-is_measure t c =
     let b = c.in-Builtin.builtin in
     let noted = c.in_ok-note_unless-in-Builtin.ensures ∙ (λ j. old ++ found.fault_unless self.module (not (c.is_target.ensures j)) E401 r.place) in
     let measured = spec.plainly self.module r.place s (arguments_by self r.place b (resolved.expressions_of r.subscripts.items)) in
-    let applied = spec.operated self.module r.place b s (list_by self (resolved.expressions_of r.subscripts.items)) in
+    let applied = spec.operated self.module r.place b s (given_by self (wanted_arguments b) (resolved.expressions_of r.subscripts.items)) in
     let yes = sym (sym c.is_measure.ensures ∙ c.if-is_measure.true) in
     let path = (λ j. after (noted j) measured)
     ∙ own_after measured old (found.fault_unless self.module (not (is_target b)) E401 r.place) measured.faults
@@ -231,11 +286,11 @@ value-returns-in_ok-arguments-in-Builtin t c =
     let b = c.in-Builtin.builtin in
     let no_target = found.fault_unless self.module (not (is_target b)) E401 r.place in
     let noted = c.in_ok-note_unless-in-Builtin.ensures ∙ (λ j. old ++ found.fault_unless self.module (not (c.is_target.ensures j)) E401 r.place) in
-    let es = list_by self (resolved.expressions_of r.subscripts.items) in
+    let es = given_by self (wanted_arguments b) (resolved.expressions_of r.subscripts.items) in
     let operated = spec.operated self.module r.place b s in
     let measured = spec.plainly self.module r.place s (arguments_by self r.place b (resolved.expressions_of r.subscripts.items)) in
     let no = sym (sym c.is_measure.ensures ∙ c.if-is_measure.false) in
-    let did = c.in_ok-arguments-in-Builtin.ensures ∙ (λ j. list_after (noted j) (list_by self (resolved.expressions_of (c.deref-in-Builtin.ensures.value j)))) in
+    let did = c.in_ok-arguments-in-Builtin.ensures ∙ (λ j. list_after (noted j) (given_by self (c.wanted_arguments-types.ensures j) (resolved.expressions_of (c.deref-in-Builtin.ensures.value j)))) in
     let path = ap operated did
     ∙ own_after (operated es) (old ++ no_target) es.faults _
     ∙ own_after (operated es) old no_target (operated es).faults
@@ -260,7 +315,7 @@ measure_call-returns t c =
     let es = arguments_by self r.place c.args.builtin (resolved.expressions_of r.subscripts.items) in
     let did = c.in_ok-typed.ensures ∙ (λ j. after (noted j) (arguments_by self r.place c.args.builtin (resolved.expressions_of (c.deref.ensures.value j)))) in
     let given = c.given_if.ensures in
-    (λ j. record { tree = (ap view.expression_of given.tree ∙ (λ i. (did i).tree)) j; scalar = (given.scalar ∙ (λ i. given_if (plain i) (did i).scalar)) j; faults = (did j).faults })
+    (λ j. record { tree = (ap view.expression_of given.tree ∙ (λ i. (did i).tree)) j; scalar = (given.scalar ∙ (λ i. given_if (plain i) (did i).scalar)) j; numbers = (given.numbers ∙ (λ i. (did i).numbers)) j; faults = (did j).faults })
     ∙ own_after (spec.plainly self.module r.place (resolved.selector_of r.selector) es) old (found.fault_unless self.module (is_plain (resolved.selector_of r.selector)) E401 r.place) es.faults
 
 pub arguments-returns-in-len1 : goal.arguments-returns-in-len1

@@ -9,8 +9,9 @@ use Rattle.plm_decl.specs.ResolvedView as resolved
 use Rattle.plm_type.specs.declared.program.Loop.{Loop}
 use Rattle.plm_type.specs.declared.program.Statement.{Statement}
 use Rattle.plm_type.specs.Rest as rest
-use Rattle.plm_type.specs.Inner.Typer.{one, noted, noted_after, number_by, index_by, step_by, range_by, statement_by, statements_by}
+use Rattle.plm_type.specs.Inner.Typer.{one, variables, noted, noted_after, number_by, bound_by, index_by, step_by, range_by, statement_by, statements_by}
 use Rattle.plm_type.specs.Typer.{Noted}
+use Rattle.plm_type.specs.Typing.{variable_type}
 use Rattle.plm_type.specs.Statements as spec
 use Rattle.plm_type.specs.View as view
 use Rattle.plm_type.proofs.Rows.{statement_row, iterate_tree}
@@ -25,7 +26,7 @@ with_other s others = s
 
 -- with its statements
 abbrev with_body : rest.Statement → rest.Statements → rest.Statement
-with_body (rest.Iterate a (rest.Count x b s ss)) body = rest.Iterate a (rest.Count x b s body)
+with_body (rest.Iterate a (rest.Count o x b s ss)) body = rest.Iterate a (rest.Count o x b s body)
 with_body s body = s
 
 -- ---- what each kind of statement is handed to
@@ -92,16 +93,17 @@ statement-returns-in_ok-range-in-Iterate t c =
     let is = ap (λ (l : List declared_resolved.Statement). of (resolved.statements_of l)) c.deref-in-Iterate-2.ensures.value ∙ sym (ap resolved.statement_of at.is ∙ c.resolved_trees_have_their_lists.ensures.iterate at.place at.name at.bounds at.body) in
     let range = c.in_ok-range-in-Iterate.ensures ∙ ap (λ (x : Bounds). noted_after old (range_by self at.place at.name x)) c.deref-in-Iterate.ensures in
     let i = index_by self at.place at.name bounds.binding in
-    let a = number_by self at.place (resolved.expression_of bounds.from) in
-    let b = number_by self at.place (resolved.expression_of bounds.to) in
-    let s = step_by self at.place (resolved.step_of bounds.step) in
+    let scalar = variable_type (spec.variable_meant (variables self) bounds.binding) in
+    let a = bound_by self scalar at.place (resolved.expression_of bounds.from) in
+    let b = bound_by self scalar at.place (resolved.expression_of bounds.to) in
+    let s = step_by self scalar at.place (resolved.step_of bounds.step) in
     let all = statements_by self around (resolved.statements_of c.deref-in-Iterate-2.result.now) in
     let faults = ap (λ (l : List Found). (old ++ (i.faults ++ (a.faults ++ (b.faults ++ l)))) ++ all.faults) (append-nil s.faults)
     ∙ append_assoc old (i.faults ++ (a.faults ++ (b.faults ++ s.faults))) all.faults
     ∙ ap (λ (l : List Found). old ++ l) (append_assoc i.faults (a.faults ++ (b.faults ++ s.faults)) all.faults)
     ∙ ap (λ (l : List Found). old ++ (i.faults ++ l)) (append_assoc a.faults (b.faults ++ s.faults) all.faults ∙ ap (λ (l : List Found). a.faults ++ l) (append_assoc b.faults s.faults all.faults)) in
     let path = ap (λ (x : Noted rest.Statement). noted (with_body x.tree all.tree) (x.faults ++ all.faults)) range
-    ∙ ap (noted (rest.Iterate a.tree (rest.Count i.tree b.tree s.tree all.tree))) faults
+    ∙ ap (noted (rest.Iterate a.tree (rest.Count s.counting i.tree b.tree s.tree all.tree))) faults
     ∙ ap (λ (x : StatementR). noted_after old (statement_by self around x)) is in
     noted_moved view.statement_of c.rounds.result c.rounds.new.faults.items path c.rounds.ensures
 
@@ -145,7 +147,7 @@ rounds-returns t c =
     let did = c.in_ok-body.ensures in
     let made = c.in_ok-new in
     let first = rest.Iterate (view.expression_of r.from) in
-    let count = rest.Count (view.scalar_of r.index) (view.expression_of r.bound) (view.expression_of r.step) in
+    let count = rest.Count r.step.counting (view.scalar_of r.index) (view.expression_of r.bound) (view.expression_of r.step.tree) in
     let tree = iterate_tree r.from made.field-0 ∙ ap (λ (l : Loop). first (view.loop_of l)) made.ensures.ok ∙ (λ j. first (count (did j).tree)) in
     λ j. noted (tree j) (did j).faults
 

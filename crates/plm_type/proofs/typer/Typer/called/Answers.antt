@@ -3,6 +3,7 @@ use Rattle.word86.specs.declared.number.Number.TheVariants.{E401}
 use Rattle.plm_decl.specs.declared.layout.ScalarType.{ScalarType}
 use Rattle.plm_decl.specs.Names.{procedure_of}
 use Rattle.plm_decl.specs.ResolvedView as resolved
+use Rattle.plm_type.specs.declared.numbers.Numbers.TheVariants.{Other}
 use Rattle.plm_type.specs.Rest.{Call}
 use Rattle.plm_type.specs.Typing.{called_type}
 use Rattle.plm_type.specs.Faults.{fault_unless, call_faults}
@@ -23,4 +24,4 @@ returns c =
     let is_typed = c.is_some-is_typed.ensures ∙ ap is_some c.returned_type.ensures in
     let noted = c.in_ok-note_call.ensures ∙ ap (λ (l : List (Option ScalarType)). old ++ call_faults vs m r.place q s l) c.deref.ensures.value in
     let faults = c.in_ok-note_unless.ensures ∙ (λ j. noted j ++ fault_unless m (is_typed j) E401 r.place) ∙ append_assoc old (call_faults vs m r.place q s types) _ in
-    λ j. record { tree = Call (c.entry_of.ensures j) (expression_row c.args.arguments.trees j); scalar = scalar j; faults = faults j }
+    λ j. record { tree = Call (c.entry_of.ensures j) (expression_row c.args.arguments.trees j); scalar = scalar j; numbers = Other; faults = faults j }

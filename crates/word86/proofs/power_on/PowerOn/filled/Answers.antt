@@ -1,4 +1,3 @@
-use Rattle.std.proofs.Common.{◌≡◌, replicate}
 use Rattle.word86.proofs.power_on.PowerOn.filled.Goals as goal
 
 pub returns-clause-ram : goal.returns-clause-ram
