@@ -1,8 +1,9 @@
 """The record of refused edits, tools/refused: it spares a gate the edits that a gate before it saw refused over the same text.
 
-What an edit comes to rests on what its digest is of: the kit, the tool that judges, the text of the edit's crate and of those below it, and the edit.
-Where the digest stands in the record, the edit need not be tried. A sample of these is tried all the same, which the hash of the commit with the
-record chooses: whole crates, since a crate's first edit costs as much as ten more.
+What an edit comes to rests on the kit, and on what its digest is of: the tool that judges, the text of the edit's crate and of those below it, and the edit.
+Where the digest stands in the record under this kit, the edit need not be tried. A sample of these is tried all the same, which the hash of the commit with
+the record chooses: whole crates, since a crate's first edit costs as much as ten more. The record has a part for each kit that tried edits: a row `kit`
+with its line about itself, and then its edits.
 """
 
 import hashlib
@@ -32,7 +33,7 @@ class Digests:
 
     def __init__(self, repository):
         self.repository, self.crates = repository, {}
-        self.judge = digest(kit.identity(), text_of(f"{TOOLS}/must_fail.py"))
+        self.judge = digest(text_of(f"{TOOLS}/must_fail.py"))
 
     def crate(self, name):
         if name not in self.crates:
@@ -50,9 +51,16 @@ class Digests:
 
 
 def recorded(path):
-    """Returns the digests of a record, by the edits' names."""
+    """Returns a record: by the kits that tried edits the digests of those that each saw refused, by their names."""
     rows = text_of(path).split("\n") if os.path.isfile(path) else []
-    return dict(it.split() for it in rows if it and not it.startswith("#"))
+    by_kit, its = {}, {}
+    for it in rows:
+        first, _, rest = it.partition(" ")
+        if first == "kit":
+            its = by_kit.setdefault(rest, {})
+        elif first and first != "#":
+            its[first] = rest
+    return by_kit
 
 
 def commit(top):
@@ -72,16 +80,27 @@ def sample(names, of_commit):
 
 def spared(repository):
     """Returns the edits that need not be tried, and how many of the record are tried as its sample. Without a commit all are tried."""
-    of_commit, known = commit(repository.top), recorded(f"{repository.top}/tools/refused")
+    of_commit, known = commit(repository.top), recorded(f"{repository.top}/tools/refused").get(kit.identity(), {})
     held = {it for it, made in Digests(repository).edits().items() if known.get(it) == made} if of_commit else set()
     tried = sample(held, of_commit)
     return held - tried, len(tried)
 
 
+def held(repository, tried, refused):
+    """Returns the record as it holds now: of the edits tried now those that were seen refused, and of the others, and of other kits, those of which a record still holds."""
+    made, by_kit = Digests(repository).edits(), {kit.identity(): {}}
+    for path in ("tools/refused", ".git/refused"):
+        for of_kit, known in recorded(f"{repository.top}/{path}").items():
+            by_kit[of_kit] = by_kit.get(of_kit, {}) | {it: its for it, its in known.items() if made.get(it) == its}
+    untried = {it: its for it, its in by_kit[kit.identity()].items() if it not in tried}
+    by_kit[kit.identity()] = untried | {it: its for it, its in made.items() if it in tried and it in refused}
+    return by_kit
+
+
 def leave(repository, tried, refused):
-    """Writes .git/refused: of the edits tried now those that were seen refused, and of the others those that the record still holds for. It is to be copied to tools/refused."""
+    """Writes .git/refused, the record as it holds now. It is to be copied to tools/refused."""
     if os.path.isdir(f"{repository.top}/.git"):
-        known, made = recorded(f"{repository.top}/tools/refused") | recorded(f"{repository.top}/.git/refused"), Digests(repository).edits()
-        rows = [f"{it} {its}\n" for it, its in sorted(made.items()) if (it in refused if it in tried else known.get(it) == its)]
+        by_kit = held(repository, tried, refused)
+        parts = [[f"kit {of_kit}\n", *(f"{it} {its}\n" for it, its in sorted(rows.items()))] for of_kit, rows in sorted(by_kit.items()) if rows]
         with open(f"{repository.top}/.git/refused", "w", encoding="utf-8") as it:
-            it.writelines(["# Edits that the prover was seen to refuse, each with a digest of what that rests on: tools/record.py.\n", *rows])
+            it.writelines(["# Edits that the prover was seen to refuse, each with a digest of what that rests on: tools/record.py.\n", *(row for part in parts for row in part)])
