@@ -10,7 +10,7 @@ that `rt check` takes it. A program is compiled over what its check kept, which 
 And its plan, which goes by tools/costs. How much memory a check takes is what was measured, and a tenth more: `rt ci` reckons it by
 lines, which is twice as much for the crates on top, so that these waited for one another. And the check with the longest chain of
 others behind it gets three quarters of the processors, where `rt ci` shares them alike among all that may begin: plm_syntax, on
-which most others wait, got one. It leaves memory for the next one: acceptance's tests with two jobs had plm86 wait for their end.
+which most others wait, got one. It leaves memory for the next one: where acceptance's tests took all, plm86 waited for their end.
 
 usage: tools/one_check.py      at the top of a repository; status and output are those of rt ci
 """
@@ -31,7 +31,9 @@ import costs
 # The end of the last line that rt ci lets through.
 ENDING = r" libraries-built=trusted statements=trusted\n\Z"
 KEPT = "out/incremental"
-# Processor seconds a line, for a task that was not measured; and what one job more takes of memory: jobs share what was read, and divide what is made.
+# Processor seconds a line, for a task that was not measured; and what each job past the second takes of memory. A check with one job is a process
+# that keeps all that it made. With several it is one that has read the libraries, and one for each job, which begins anew now and then: acceptance's
+# tests held 9.6 GB with one job, and no more with two over the two thirds of them that were seen.
 A_LINE, A_JOB = 0.1, 0.15
 # Seconds of a task for which no memory is kept.
 SHORT = 60
@@ -92,6 +94,16 @@ def chains(tasks, seconds):
     return behind
 
 
+def held_by(needs, jobs):
+    """Returns what a check holds of memory with so many jobs, which holds this with one."""
+    return needs * (1 + A_JOB * max(0, jobs - 2))
+
+
+def jobs_within(memory, needs):
+    """Returns how many jobs a check can have that holds no more than this memory, and needs so much with one."""
+    return 1 if memory < needs else 2 + int((memory / needs - 1) / A_JOB)
+
+
 def in_lanes(rt, tasks):
     """Runs the tasks of rt ci side by side, as its own in_lanes does, and returns what each gave. A task is what it waits for, its lines, its memory, and a
     call with what was given and how many jobs it may use. Longest chain first; what leads gets three of four processors, and all share the rest by their work."""
@@ -113,9 +125,9 @@ def in_lanes(rt, tasks):
                     share = round(idle * seconds[key] / max(1, sum(seconds[it] for it in ready[at:])))
                     wanted = max(share, lanes * 3 // 4) if key == leader else share
                     spare = room - max((tasks[it][2] for it in ready[at + 1 :] if seconds[it] > SHORT), default=0)
-                    jobs = max(1, min(4, idle, wanted, 1 + int((spare / needs - 1) / A_JOB)))
+                    jobs = max(1, min(4, idle, wanted, jobs_within(spare, needs)))
                     left.remove(key)
-                    running[pool.submit(call, given, jobs)] = key, needs * (1 + A_JOB * (jobs - 1)), jobs
+                    running[pool.submit(call, given, jobs)] = key, held_by(needs, jobs), jobs
             for it in wait(running, return_when=FIRST_COMPLETED).done:
                 given[running.pop(it)[0]] = it.result()
     return given

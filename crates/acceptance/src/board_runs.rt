@@ -482,3 +482,69 @@ fn keys_at_every_turn(rt: HostRuntime) -> Result<(), Fail> {
     expect.same(taken, 0);
     Ok(())
 }
+
+/// The end of a run whose lines have their turns in front, and its text.
+fn numbered(
+    rt: &impl Abort,
+    alloc: Global,
+    reset: &[u8],
+    schedule: &[u8],
+    end: End,
+    text: &[u8],
+) -> Result<(), Fail> {
+    let mut expect = Expect::new(rt);
+    let schedule = read_schedule(alloc, schedule)?;
+    let memory = PowerOn::filled(alloc, schedule.fill())?;
+    let mut board = Board::new(alloc, &rom(alloc, b"", reset)?, memory)?;
+    let mut sink = CutSink::new(alloc, 300, 7)?;
+    expect.same(board.run_numbered(&schedule, &mut sink), Ok(end));
+    expect.same(sink.bytes(), text);
+    Ok(())
+}
+
+// JMP to itself takes a turn each; no instruction begins with 0F.
+#[test]
+fn numbers_each_line(rt: HostRuntime) -> Result<(), Fail> {
+    let alloc = rt.alloc();
+    let keys = b"AT 3 KEY 11\nAT 10 KEY 91\nSTOP 12";
+    let shown = b"3 KEY 11\n10 KEY 91\n12 END 12\n";
+    numbered(&rt, alloc, b"\xEB\xFE", keys, End::Stopped, shown)?;
+    let ticks = b"AT 0 TICK 5\nSTOP 9";
+    let ended = b"0 TICK 5\n0 OPCODE FFFF0\n";
+    numbered(&rt, alloc, b"\x0F\x0F", ticks, End::Opcode(0xFFFF0), ended)
+}
+
+// Two parts write the lines of all their turns, and then comes the last line.
+#[test]
+fn runs_in_parts(rt: HostRuntime) -> Result<(), Fail> {
+    let mut expect = Expect::new(&rt);
+    let alloc = rt.alloc();
+    let schedule = read_schedule(alloc, b"AT 3 KEY 11\nAT 10 KEY 91\nSTOP 12")?;
+    let memory = PowerOn::filled(alloc, schedule.fill())?;
+    let mut board = Board::new(alloc, &rom(alloc, b"", b"\xEB\xFE")?, memory)?;
+    let mut sink = CutSink::new(alloc, 300, 7)?;
+    let (middle, end) = (schedule.stop() / 2, schedule.stop());
+    expect.same(board.run_part(&schedule, 0, middle, &mut sink), Ok(None));
+    expect.same(sink.bytes(), b"KEY 11\n".as_slice());
+    expect.same(board.run_part(&schedule, middle, end, &mut sink), Ok(None));
+    expect.same(sink.bytes(), b"KEY 11\nKEY 91\n".as_slice());
+    expect.same(board.finish(&schedule, &mut sink), Ok(End::Stopped));
+    expect.same(sink.bytes(), b"KEY 11\nKEY 91\nEND 12\n".as_slice());
+    Ok(())
+}
+
+// CLI in turn 0 and HLT in turn 1: from turn 2 on nothing is done. A processor that jumps to itself goes on.
+#[test]
+fn dies_where_nothing_wakes_it(rt: HostRuntime) -> Result<(), Fail> {
+    const ROWS: &[(&[u8], u32, bool)] = &[(b"\xFA\xF4", 2, true), (b"\xEB\xFE", 20, false)];
+    let mut expect = Expect::new(&rt);
+    let alloc = rt.alloc();
+    let schedule = read_schedule(alloc, b"STOP 20")?;
+    for (reset, turns, is_dead) in ROWS {
+        let memory = PowerOn::filled(alloc, schedule.fill())?;
+        let mut board = Board::new(alloc, &rom(alloc, b"", reset)?, memory)?;
+        expect.same(board.turn_of_death(&schedule, 0), *turns);
+        expect.same(board.is_dead(), *is_dead);
+    }
+    Ok(())
+}

@@ -5,7 +5,7 @@ use crate::expect::Expect;
 use crate::sources::{names_of, outcome, seen, then};
 use board::End;
 use frames::Stack;
-use layout_link::{Image, RomSize, link};
+use layout_link::{Image, RomSize, link, start_up_room};
 use plm_decl::Names;
 use select::{Entry, Fixup, Kind, Part};
 use std::alloc::Global;
@@ -100,18 +100,41 @@ fn is_linked(rt: &impl Abort, alloc: Global, image: &Image) -> Result<(), Fail> 
     )
 }
 
-/// A byte, six bytes of which the last is read, and a word, which are one stretch; then a call and HLT.
+/// A byte, six bytes of which the last is read, and a word, which are one stretch.
+const STRETCH: &[u8] =
+    b"M: DO; DECLARE B BYTE INITIAL (5), W(6) BYTE INITIAL (1,2,3,4,5,6), C WORD INITIAL (0AABBH); ; END M;";
+
+/// The stretch, then a call and HLT.
 #[test]
 fn parts_run(rt: HostRuntime) -> Result<(), Fail> {
     let alloc = rt.alloc();
-    let text =
-        b"M: DO; DECLARE B BYTE INITIAL (5), W(6) BYTE INITIAL (1,2,3,4,5,6), C WORD INITIAL (0AABBH); ; END M;";
     let parts = four_parts(alloc)?;
     let image = then(
-        names_of(alloc, &[text]),
+        names_of(alloc, &[STRETCH]),
         |names| linked(alloc, parts, names, 2),
     );
     seen(image, |image| is_linked(&rt, alloc, image))?
+}
+
+/// What start-up takes of a ROM with these parts for this text.
+fn start_up_of(alloc: Global, text: &[u8], parts: Vec<Part>) -> Result<(usize, usize), Fail> {
+    let room = then(
+        names_of(alloc, &[text]),
+        |names| start_up_room(alloc, &parts, names),
+    )?;
+    Ok((room.code, room.copied))
+}
+
+// Without tasks start-up has 42 bytes. A vector's MOV has 6, and a copy 12: MOV SI, MOV DI, MOV CX, CS: and REP MOVSB.
+#[test]
+fn start_up_takes_its_bytes(rt: HostRuntime) -> Result<(), Fail> {
+    let mut expect = Expect::new(&rt);
+    let alloc = rt.alloc();
+    let alone = start_up_of(alloc, NO_NAMES, main_alone(alloc, &[0xF4])?)?;
+    expect.same(alone, (42, 0));
+    let with_tasks = start_up_of(alloc, STRETCH, four_parts(alloc)?)?;
+    expect.same(with_tasks, (60, 9));
+    Ok(())
 }
 
 /// Texts, and how many turns start-up takes for their initial bytes: a word or a byte that is put is one, and a copy three and one a byte.

@@ -4,7 +4,7 @@ use crate::expect::{Expect, is_cut};
 use crate::sources::{names_of, seen};
 use frames::Stack;
 use layout_link::Image;
-use listing_map::{listing, map};
+use listing_map::{listing, map, padded_rom, rom_halves, rom_hex};
 use plm_decl::{Names, Placement};
 use plm_type::Warning;
 use std::alloc::Global;
@@ -246,4 +246,38 @@ fn maps_two_modules(rt: HostRuntime) -> Result<(), Fail> {
     seen(names_of(alloc, &[first, second]), |names| {
         maps_both(&rt, alloc, names)
     })?
+}
+
+// `:` count, offset, kind, bytes, and what makes the sum a multiple of 256: 03 + FF + FD + 02 + 33 + 7A = 2AE, and 52 is missing to 300.
+#[test]
+fn writes_records(rt: HostRuntime) -> Result<(), Fail> {
+    let mut expect = Expect::new(&rt);
+    let mut sink = CutSink::new(rt.alloc(), 100, 7)?;
+    expect.same(rom_hex(&[0x02, 0x33, 0x7A], &mut sink), Ok(()));
+    expect.same(
+        sink.bytes(),
+        b":02000002F0000C\n:03FFFD0002337A52\n:00000001FF\n".as_slice(),
+    );
+    Ok(())
+}
+
+// Three bytes are taken, and the last 16 are the reset's.
+#[test]
+fn pads_a_rom(rt: HostRuntime) -> Result<(), Fail> {
+    let mut expect = Expect::new(&rt);
+    let padded = padded_rom(rt.alloc(), b"ABC...ABCDEFGHIJKLMNOP", 3, 0xFF)?;
+    expect.same(
+        padded.as_slice(),
+        b"ABC\xFF\xFF\xFFABCDEFGHIJKLMNOP".as_slice(),
+    );
+    Ok(())
+}
+
+#[test]
+fn parts_a_rom(rt: HostRuntime) -> Result<(), Fail> {
+    let mut expect = Expect::new(&rt);
+    let halves = rom_halves(rt.alloc(), b"ABCDE")?;
+    expect.same(halves.even.as_slice(), b"ACE".as_slice());
+    expect.same(halves.odd.as_slice(), b"BD".as_slice());
+    Ok(())
 }

@@ -1,7 +1,9 @@
 //! The printed texts, whose forms users rely on.
 
 use crate::expect::{Expect, is_cut};
-use listing_map::{fault_line, put_bad_line, put_end_line, put_opcode_line, trace_line};
+use listing_map::{
+    fault_line, put_bad_line, put_end_line, put_opcode_line, put_turn_number, trace_line,
+};
 use std::test::Fail;
 use word86::{CutSink, Fault, Label, Number};
 
@@ -40,9 +42,10 @@ fn writes_the_last_line(rt: HostRuntime) -> Result<(), Fail> {
     expect.holds(put_opcode_line(0xFE00A, &mut sink).is_ok());
     expect.holds(put_opcode_line(0x400, &mut sink).is_ok());
     expect.holds(put_bad_line("m.plm", 3, &mut sink).is_ok());
+    expect.holds(put_turn_number(4294967295, &mut sink).is_ok());
     expect.same(
         sink.bytes(),
-        b"END 0\nEND 4294967295\nOPCODE FE00A\nOPCODE 00400\nBAD m.plm(3)\n".as_slice(),
+        b"END 0\nEND 4294967295\nOPCODE FE00A\nOPCODE 00400\nBAD m.plm(3)\n4294967295 ".as_slice(),
     );
     Ok(())
 }

@@ -9,4 +9,7 @@ pub mod Rom
 pub mod Board
 pub mod Trace
 pub mod Run
+pub mod Parts
+pub mod Numbered
+pub mod Watched
 pub mod Inner

@@ -96,6 +96,16 @@ impl Attached {
         0xFF
     }
 
+    /// The byte at an address, as a load has it.
+    pub(crate) fn byte(&self, address: u32) -> u8
+        ensures { result ≡ (board_model settled_chips).load (world_of self.now) address }
+    {
+        match byte_in(self.ram.as_slice(), 0, address) {
+            Some(byte) => byte,
+            None => self.load_beside_ram(address),
+        }
+    }
+
     /// The word at an offset of a segment, byte by byte.
     #[tactic(auto, unfolding(cpu8086::specs::Machine::loaded_word, cpu8086::specs::Machine::loaded_byte))]
     #[cold]

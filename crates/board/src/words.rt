@@ -42,7 +42,7 @@ fn number(digits: &[u8]) -> Option<u32>
     so_far
 }
 
-fn hex_value(d: u8) -> Option<u8>
+pub(crate) fn hex_value(d: u8) -> Option<u8>
     ensures { result ≡ hex_value d }
 {
     if b'0' <= d && d <= b'9' {

@@ -7,3 +7,4 @@ mod need;
 
 pub use counting::{Stack, count, saved};
 pub use laws::{small_programs_fit, stack_is_bounded};
+pub use need::height_after;

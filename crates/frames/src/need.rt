@@ -170,8 +170,8 @@ fn popped(test: Test) -> usize
     }
 }
 
-// How many values a routine has pushed after an instruction, of `height` before it.
-fn height_after(instruction: Instruction, height: usize) -> usize
+/// How many values a routine has pushed after an instruction, of `height` before it.
+pub fn height_after(instruction: Instruction, height: usize) -> usize
     requires { height + 1 < 2 ^ 64 }
     ensures { result ≡ after instruction height }
 {

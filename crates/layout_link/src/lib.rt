@@ -7,10 +7,13 @@ mod linker;
 mod objects;
 mod places;
 mod rom;
+mod room;
 mod startup;
 mod tasks;
 mod words;
 
 pub use image::{Image, RomSize};
 pub use linker::link;
+pub use rom::RESET;
+pub use room::{StartUpRoom, start_up_room};
 pub use tasks::Task;

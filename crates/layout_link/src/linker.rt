@@ -31,7 +31,7 @@ use word86::{Fault, Number};
 const TURNS: u32 = 1292;
 
 /// The room that the tasks leave.
-fn room_behind(tasks: &[Task], room: usize) -> Option<usize>
+pub(crate) fn room_behind(tasks: &[Task], room: usize) -> Option<usize>
     ensures { MatchOption result (room < bytes_of_tasks tasks.now) (λ left. left + bytes_of_tasks tasks.now ≡ room) }
 {
     let mut left = room;

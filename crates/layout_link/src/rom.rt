@@ -20,8 +20,8 @@ use select::Part;
 use std::alloc::Global;
 use word86::{CODE_SEGMENT, Fault, RESET_OFFSET};
 
-/// The bytes from the far jump of the reset on.
-pub(crate) const RESET: usize = 0x1_0000 - RESET_OFFSET as usize;
+/// How many bytes a ROM has from the far jump of the reset on.
+pub const RESET: usize = 0x1_0000 - RESET_OFFSET as usize;
 
 /// One more part, which begins at this place of the segment.
 fn write_part(

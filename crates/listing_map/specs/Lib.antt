@@ -1,3 +1,9 @@
+pub mod Explaining
+pub mod Halves
+pub mod Inner
 pub mod Lines
+pub mod Messages
+pub mod Padding
 pub mod ProgramMap
+pub mod Records
 pub mod SourceListing

@@ -47,6 +47,10 @@ label_line (Ack n) = short_line (codes "ACK ") n
 label_line (Tick k) = decimal_line (codes "TICK ") k
 label_line (Key h) = short_line (codes "KEY ") h
 
+-- what stands before a line that has its turn in front
+abbrev pub turn_number : ℕ → List ℕ
+turn_number turn = decimal turn ++ codes " "
+
 -- the last line of a trace: how many turns were run, or the address of bytes that are no instruction
 abbrev pub end_line : ℕ → List ℕ
 end_line turns = decimal_line (codes "END ") turns

@@ -4,7 +4,7 @@ ghost use Rattle.std.specs.Prelude.{◌≡◌, ◌∷◌, [], IfErr};
 ghost use Rattle.word86.specs.Sink.{Writes};
 ghost use Rattle.word86.specs.declared.fault.Fault.TheVariants.{At};
 ghost use Rattle.word86.specs.declared.number.Number.TheVariants.{E704};
-ghost use Rattle.listing_map.specs.Lines.{byte_line, word_line, short_line, decimal_line, label_line, end_line, opcode_line, bad_line, located_line};
+ghost use Rattle.listing_map.specs.Lines.{byte_line, word_line, short_line, decimal_line, label_line, turn_number, end_line, opcode_line, bad_line, located_line};
 
 use crate::numerals::{hex_address, hex_byte, hex_word};
 use crate::pieces::{put_at_once, put_five, put_six, put_three, put_two};
@@ -55,6 +55,14 @@ pub fn put_label<S: Sink>(label: &Label, sink: &mut S) -> Result<(), SinkFault>
         Label::Tick(k) => put_decimal_line(sink, b"TICK ", u32::from(k)),
         Label::Key(h) => put_short_line(sink, b"KEY ", h),
     }
+}
+
+/// Writes the turn that stands in front of a line, as `100 `. The one refusal is that the sink failed, in the sink's own words.
+pub fn put_turn_number<S: Sink>(turn: u32, sink: &mut S) -> Result<(), SinkFault>
+    ensures { Writes (S.taken sink.old) (S.taken sink.new) (S.failures sink.old) (S.failures sink.new) (turn_number turn) result }
+{
+    let mut buffer = Buffer::new();
+    put_two(sink, buffer.format(turn).as_bytes(), b" ")
 }
 
 /// Writes the last line of a run that came to its stop, as `END 100`: how many turns it ran, in decimal. The one refusal is

@@ -45,7 +45,7 @@ fn put_lines<S: Sink>(sink: &mut S, source: &[u8], warnings: &[Warning]) -> Resu
 }
 
 /// The first line of a text, without its end, and what follows.
-fn first_line(text: &[u8]) -> (&[u8], &[u8])
+pub(crate) fn first_line(text: &[u8]) -> (&[u8], &[u8])
     requires { 0 < length text.now }
     ensures lines { lines_of text.now ≡ result.0.now ∷ lines_of result.1.now }
     ensures less { length result.1.now < length text.now }

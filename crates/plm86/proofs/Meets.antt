@@ -16,7 +16,7 @@ use Rattle.clap.specs.Walk.{stop_after}
 use Rattle.std.specs.Box.{box_value}
 use Rattle.plm86.specs.CommandLine.{plm86_app}
 use Rattle.plm86.specs.Order.{IsFaultOf}
-use Rattle.plm86.specs.Inner.Orders.{IsFaultFor, IsKibFault}
+use Rattle.plm86.specs.Inner.Orders.{IsFaultFor, IsValueFault}
 use Rattle.plm86.specs.declared.order.OrderFault.{OrderFault}
 use Rattle.plm86.specs.declared.order.OrderFault.TheVariants.{Words, Help, Memory}
 
@@ -83,7 +83,7 @@ fault_of_error words e (Help text) (inl memory) (inr is) = cc
 fault_of_error words e (Help text) (inr among) is = (kind_of e, among, is)
 fault_of_error words e Memory has is = is
 
-pub fault_of_kib : (words : List Text) (rows : List Row) → subcommand_of plm86_app words ≡ Some (codes "build", rows) → (f : OrderFault) → IsKibFault rows f → IsFaultOf words f
-fault_of_kib words rows at (Words text) is = inr (rows, at, is)
-fault_of_kib words rows at (Help text) is = absurd is
-fault_of_kib words rows at Memory is = is
+pub fault_of_value : (words : List Text) (name : Text) (rows : List Row) → subcommand_of plm86_app words ≡ Some (name, rows) → (f : OrderFault) → IsValueFault name rows f → IsFaultOf words f
+fault_of_value words name rows at (Words text) is = inr (name, rows, at, is)
+fault_of_value words name rows at (Help text) is = absurd is
+fault_of_value words name rows at Memory is = is

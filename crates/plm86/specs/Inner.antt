@@ -9,3 +9,4 @@ pub mod Meaning
 pub mod Stacks
 pub mod Layers
 pub mod Orders
+pub mod Options

@@ -2,64 +2,157 @@
 //!
 //! The image has the contract of `build_program`; the rest has none. That outputs are compared before a source is read, that all sources are
 //! read before one is refused, that warnings come before the files, and the ROM's file before the listing's and this before the map's, is
-//! shown by `tests/run`.
+//! shown by `tests/run`, that the ROM's other forms are of its bytes, by `tests/forms`, and that the code is the ROM's, by `tests/code`.
 
 use crate::build::Source;
 use crate::built::Built;
+use crate::explained::named_texts;
+use crate::order::{RomForms, Telling};
 use crate::outputs::{Outputs, refuse_losses};
-use crate::sources::{build_sources, read_texts, show_warnings, sources_of};
+use crate::padded::{pad_given, written_rom};
+use crate::sources::{build_sources, read_texts, remarks, sources_of};
 use crate::stop::Stop;
+use crate::telling::{ReadFor, Teller};
 use crate::writing::Output;
 use layout_link::RomSize;
-use listing_map::{listing, map};
+use listing_map::{RomHalves, code_listing, listing, map, rom_halves, rom_hex};
+use lower::lower;
 use plm_type::{Warning, warnings};
 use std::alloc::Global;
 use std::mem::forget;
 use std::rt::Files;
-use word86::{Sink, WriterSink};
+use word86::{Sink, WriterSink, put_all};
 
-/// `build -r KIB -o ROM [-l LISTING] [-m MAP] SOURCE...`: no output may be a source or another output. All sources are read first.
-/// Warnings are shown once nothing more can be refused, and then the files are written.
+/// A file that is wanted, and its bytes.
+#[derive(Drop)]
+struct Prepared<'a> {
+    file: Output<'a>,
+    bytes: Vec<u8>,
+}
+
+/// `build -r KIB -o ROM [-l LISTING] [-m MAP] [--hex HEX] [--even EVEN] [--odd ODD] [--code CODE] [--pad BYTE] SOURCE...`: no output may be a source or
+/// another output. All sources are read first. Warnings and notes are shown once nothing more can be refused, and then the files are written.
 pub(crate) fn build_rom<R: Files, S: Sink>(
     rt: &R,
     alloc: Global,
     size: RomSize,
     outputs: Outputs<'_>,
+    telling: Telling,
     names: &[&str],
     errors: &mut S,
 ) -> Result<u8, Stop> {
+    let pad = pad_given(alloc, outputs.forms.pad)?;
     refuse_losses(rt, alloc, outputs, names)?;
     let texts = read_texts(rt, alloc, names)?;
     let sources = sources_of(alloc, names, &texts)?;
-    let built = build_sources(alloc, names, &sources, size)?;
-    let written = write_built(rt, alloc, outputs, &sources, &built, errors);
+    let teller = Teller {
+        alloc,
+        telling,
+        sources: &sources,
+        read_for: ReadFor::Build(size),
+    };
+    let built = build_sources(&teller, size)?;
+    let written = write_built(rt, &teller, outputs, &built, pad, errors);
     // The process ends next, which gives this memory back faster than it can be taken apart.
     forget(built);
     written
 }
 
-// Shows the warnings and writes the files. All memory is taken before, so that want of it leaves no file.
+// Shows the warnings and notes, and writes the files. Where they cannot be shown, the outputs still tell. All memory is taken before, so
+// that want of it leaves no file.
 fn write_built<R: Files, S: Sink>(
     rt: &R,
-    alloc: Global,
+    teller: &Teller<'_, '_>,
     outputs: Outputs<'_>,
-    sources: &[Source<'_>],
     built: &Built,
+    pad: Option<u8>,
     errors: &mut S,
 ) -> Result<u8, Stop> {
+    let alloc = teller.alloc;
+    let rom = written_rom(alloc, built, pad)?;
     let Ok(given) = warnings(alloc, &built.program) else {
         return Err(Stop::Memory);
     };
-    let listing_text = text_of_listing(alloc, outputs.listing, sources, &given)?;
-    let map_text = text_of_map(alloc, outputs.map, built)?;
+    let mut others: Vec<Prepared<'_>> = Vec::new(alloc);
     let mut rom_file = Output::new(rt, alloc, outputs.rom)?;
-    let mut listing_file = wanted(rt, alloc, outputs.listing)?;
-    let mut map_file = wanted(rt, alloc, outputs.map)?;
-    show_warnings(sources, &given, errors);
-    rom_file.write(rt, alloc, &built.image.rom)?;
-    write_wanted(rt, alloc, &mut listing_file, &listing_text)?;
-    write_wanted(rt, alloc, &mut map_file, &map_text)?;
+    let listing_text = text_of_listing(alloc, outputs.listing, teller.sources, &given)?;
+    prepare(rt, alloc, outputs.listing, listing_text, &mut others)?;
+    let map_text = text_of_map(alloc, outputs.map, built)?;
+    prepare(rt, alloc, outputs.map, map_text, &mut others)?;
+    prepare_forms(rt, alloc, outputs.forms, &rom, &mut others)?;
+    let code_text = text_of_code(alloc, outputs.forms.code, teller.sources, built)?;
+    prepare(rt, alloc, outputs.forms.code, code_text, &mut others)?;
+    let remarks = remarks(teller, &given)?;
+    let _ = put_all(errors, &remarks);
+    rom_file.write(rt, alloc, &rom)?;
+    for other in others {
+        let Prepared { mut file, bytes } = other;
+        file.write(rt, alloc, &bytes)?;
+    }
     Ok(0)
+}
+
+// Puts a file behind the others, where it is wanted.
+fn prepare<'a, R: Files>(
+    rt: &R,
+    alloc: Global,
+    name: Option<&'a str>,
+    bytes: Vec<u8>,
+    others: &mut Vec<Prepared<'a>>,
+) -> Result<(), Stop> {
+    let Some(name) = name else {
+        return Ok(());
+    };
+    let file = Output::new(rt, alloc, name)?;
+    others.push(Prepared { file, bytes })?;
+    Ok(())
+}
+
+// Puts the ROM's other forms behind the others, those that are wanted.
+fn prepare_forms<'a, R: Files>(
+    rt: &R,
+    alloc: Global,
+    forms: RomForms<'a>,
+    rom: &[u8],
+    others: &mut Vec<Prepared<'a>>,
+) -> Result<(), Stop> {
+    let hex_text = text_of_hex(alloc, forms.hex, rom)?;
+    prepare(rt, alloc, forms.hex, hex_text, others)?;
+    if forms.even.is_none() && forms.odd.is_none() {
+        return Ok(());
+    }
+    let RomHalves { even, odd } = rom_halves(alloc, rom)?;
+    prepare(rt, alloc, forms.even, even, others)?;
+    prepare(rt, alloc, forms.odd, odd, others)
+}
+
+// The code as a listing; nothing where no file is wanted.
+fn text_of_code(
+    alloc: Global,
+    file: Option<&str>,
+    sources: &[Source<'_>],
+    built: &Built,
+) -> Result<Vec<u8>, Stop> {
+    if file.is_none() {
+        return Ok(Vec::new(alloc));
+    }
+    let Ok(code) = lower(alloc, &built.program) else {
+        return Err(Stop::Memory);
+    };
+    let texts = named_texts(alloc, sources)?;
+    match code_listing(alloc, &texts, built.program.names(), &code, &built.image) {
+        Ok(text) => Ok(text),
+        Err(_) => Err(Stop::Memory),
+    }
+}
+
+// The ROM as Intel HEX; nothing where no file is wanted.
+fn text_of_hex(alloc: Global, file: Option<&str>, rom: &[u8]) -> Result<Vec<u8>, Stop> {
+    let mut text = Vec::new(alloc);
+    if file.is_some() && rom_hex(rom, &mut WriterSink::new(&mut text)).is_err() {
+        return Err(Stop::Memory);
+    }
+    Ok(text)
 }
 
 // The listing of each source, one after the other; nothing where no file is wanted.
@@ -103,29 +196,4 @@ fn text_of_map(alloc: Global, file: Option<&str>, built: &Built) -> Result<Vec<u
         }
     }
     Ok(text)
-}
-
-// The file of this name, where one is wanted.
-fn wanted<'a, R: Files>(
-    rt: &R,
-    alloc: Global,
-    name: Option<&'a str>,
-) -> Result<Option<Output<'a>>, Stop> {
-    match name {
-        Some(name) => Ok(Some(Output::new(rt, alloc, name)?)),
-        None => Ok(None),
-    }
-}
-
-// Writes the file, where one is wanted.
-fn write_wanted<R: Files>(
-    rt: &R,
-    alloc: Global,
-    file: &mut Option<Output<'_>>,
-    text: &[u8],
-) -> Result<(), Stop> {
-    match file {
-        Some(file) => file.write(rt, alloc, text),
-        None => Ok(()),
-    }
 }

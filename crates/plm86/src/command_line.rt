@@ -1,14 +1,14 @@
 //! The command line.
 
-ghost use Rattle.std.specs.Prelude.{◌≡◌, IfOk, IfErr, false, codes, map, option_map};
+ghost use Rattle.std.specs.Prelude.{◌≡◌, IfOk, IfErr, Some, false, codes, map, option_map};
 ghost use Rattle.clap.specs.Words.{app_of, rule_of, found_of, first_of, kind_of, rows_of};
 ghost use Rattle.clap.specs.declared.builder.command.Command.TheViews.{out-Command};
-ghost use Rattle.plm86.specs.Order.{IsFaultOf, OrderOf, Spells, size_named, value_of, values_of};
-ghost use Rattle.plm86.specs.CommandLine.{plm86_app, build_app, run_app, mean_app, needed, several, lettered};
-ghost use Rattle.plm86.specs.Inner.Orders.{IsFaultFor, IsKibFault};
-ghost use Rattle.plm86.specs.declared.order.OrderFault.TheVariants.{Memory};
+ghost use Rattle.plm86.specs.Order.{FollowingOf, FormsOf, IsFaultOf, OrderOf, ShowingOf, Spells, TellingOf, format_named, is_set, size_named, value_of, values_of};
+ghost use Rattle.plm86.specs.CommandLine.{plm86_app, build_app, run_app, mean_app, needed, several};
+ghost use Rattle.plm86.specs.Inner.Orders.{IsFaultFor, IsFormatFault, IsValueFault};
 
-use crate::order::{Order, OrderFault};
+use crate::options::{BUILD_OPTIONS, MEAN_OPTIONS, RUN_OPTIONS, TELLING_OPTIONS, with_options};
+use crate::order::{Following, MessageFormat, Order, OrderFault, RomForms, Showing, Telling};
 use clap::error::ErrorKind;
 use clap::{Arg, ArgAction, ArgMatches, Command, Error};
 use layout_link::RomSize;
@@ -43,43 +43,14 @@ fn schedule_argument<'a>(alloc: Global) -> Arg<'a>
     positional(alloc, "schedule", "SCHEDULE", help)
 }
 
-fn option<'a>(
-    alloc: Global,
-    id: &'a str,
-    name: &'a str,
-    letter: char,
-    is_required: bool,
-    help: &'a str,
-) -> Arg<'a>
-    ensures rule { rule_of result ≡ lettered id.entry.now letter is_required }
-    ensures local { result.global ≡ false }
-{
-    Arg::new(alloc, id)
-        .help(help)
-        .value_name(name)
-        .short(letter)
-        .required(is_required)
-}
-
 fn build_command<'a>(alloc: Global) -> Result<Command<'a>, AllocError>
     ensures { IfOk result (λ c. (app_of c ≡ build_app) × ((out-Command c).has_globals ≡ false)) }
 {
-    let kib_help = "The size of the ROM in KiB: 8, 16, 32 or 64";
-    let kib = option(alloc, "kib", "KIB", 'r', true, kib_help);
-    let rom_help = "The file that the ROM is written to, once nothing is refused";
-    let rom = option(alloc, "rom", "ROM", 'o', true, rom_help);
-    let listing_help = "The file that the listing is written to: the sources with their warnings";
-    let listing = option(alloc, "listing", "LISTING", 'l', false, listing_help);
-    let map_help = "The file that the map is written to: where names, handlers and stack lie";
-    let map = option(alloc, "map", "MAP", 'm', false, map_help);
+    let command = Command::new(alloc, "build").about("Compiles PL/M-86 modules to an 8086 ROM");
+    let own = with_options(alloc, command, BUILD_OPTIONS)?;
+    let told = with_options(alloc, own, TELLING_OPTIONS)?;
     let source = sources(alloc);
-    Command::new(alloc, "build")
-        .about("Compiles PL/M-86 modules to an 8086 ROM")
-        .arg(kib)?
-        .arg(rom)?
-        .arg(listing)?
-        .arg(map)?
-        .arg(source)
+    told.arg(source)
 }
 
 fn run_command<'a>(alloc: Global) -> Result<Command<'a>, AllocError>
@@ -88,10 +59,12 @@ fn run_command<'a>(alloc: Global) -> Result<Command<'a>, AllocError>
     let rom_help = "The file of the ROM: 8, 16, 32 or 64 KiB that end at address 0FFFFFH";
     let rom = positional(alloc, "rom", "ROM", rom_help);
     let schedule = schedule_argument(alloc);
-    Command::new(alloc, "run")
-        .about("Runs a ROM on the board and writes its trace to standard output")
-        .arg(rom)?
-        .arg(schedule)
+    let command = Command::new(alloc, "run").about(
+        "Runs a ROM on the board and writes its trace to standard output",
+    );
+    let own = with_options(alloc, command, RUN_OPTIONS)?;
+    let told = with_options(alloc, own, TELLING_OPTIONS)?;
+    told.arg(rom)?.arg(schedule)
 }
 
 fn mean_command<'a>(alloc: Global) -> Result<Command<'a>, AllocError>
@@ -99,10 +72,12 @@ fn mean_command<'a>(alloc: Global) -> Result<Command<'a>, AllocError>
 {
     let schedule = schedule_argument(alloc);
     let source = sources(alloc);
-    Command::new(alloc, "mean")
-        .about("Runs what PL/M-86 modules mean and writes the trace to standard output")
-        .arg(schedule)?
-        .arg(source)
+    let command = Command::new(alloc, "mean").about(
+        "Runs what PL/M-86 modules mean and writes the trace to standard output",
+    );
+    let own = with_options(alloc, command, MEAN_OPTIONS)?;
+    let told = with_options(alloc, own, TELLING_OPTIONS)?;
+    told.arg(schedule)?.arg(source)
 }
 
 fn whole_command<'a>(alloc: Global) -> Result<Command<'a>, AllocError>
@@ -161,19 +136,88 @@ fn texts_given<'a>(
     }
 }
 
+fn flag_given(matches: &ArgMatches<'_>, id: &str) -> bool
+    ensures { result ≡ is_set id.now (rows_of (found_of matches.now)) }
+{
+    text_given(matches, id) == "true"
+}
+
+// The format that a text names.
+fn format_of_text(text: Option<&str>) -> Option<MessageFormat>
+    ensures { result ≡ format_named (option_map (λ s. s.now) text.entry) }
+{
+    match text {
+        None => Some(MessageFormat::Text),
+        Some("text") => Some(MessageFormat::Text),
+        Some("json") => Some(MessageFormat::Json),
+        Some(_) => None,
+    }
+}
+
+// How faults are told.
+fn telling_given(alloc: Global, matches: &ArgMatches<'_>) -> Result<Telling, OrderFault>
+    ensures ok { IfOk result (TellingOf (rows_of (found_of matches.now))) }
+    ensures err { IfErr result (IsFormatFault (rows_of (found_of matches.now))) }
+{
+    let name = option_given(matches, "message-format");
+    match format_of_text(name) {
+        Some(format) => Ok(Telling {
+            explains: flag_given(matches, "explain"),
+            lints: flag_given(matches, "lint"),
+            tells_all: flag_given(matches, "all"),
+            format,
+        }),
+        None => {
+            let name = name.unwrap_or("");
+            let words = format!(in alloc; "error: FORMAT is text or json, and not '{name}'\n")?;
+            Err(OrderFault::Words(words))
+        }
+    }
+}
+
+// The files of the ROM's other forms.
+fn forms_given<'a>(matches: &ArgMatches<'a>) -> RomForms<'a>
+    ensures { FormsOf (rows_of (found_of matches.now)) result }
+{
+    RomForms {
+        hex: option_given(matches, "hex"),
+        even: option_given(matches, "even"),
+        odd: option_given(matches, "odd"),
+        code: option_given(matches, "code"),
+        pad: option_given(matches, "pad"),
+    }
+}
+
+// The order of `build`, for a ROM of this size.
+fn sized_order<'a>(
+    alloc: Global,
+    size: RomSize,
+    matches: &ArgMatches<'a>,
+) -> Result<Order<'a>, OrderFault>
+    requires { size_named (value_of (codes "kib") (rows_of (found_of matches.now))) ≡ Some size }
+    ensures ok { IfOk result (OrderOf (codes "build") (rows_of (found_of matches.now))) }
+    ensures err { IfErr result (IsValueFault (codes "build") (rows_of (found_of matches.now))) }
+{
+    let telling = telling_given(alloc, matches)?;
+    let sources = texts_given(alloc, matches, "source")?;
+    Ok(Order::Build {
+        size,
+        rom: text_given(matches, "rom"),
+        listing: option_given(matches, "listing"),
+        map: option_given(matches, "map"),
+        forms: forms_given(matches),
+        telling,
+        sources,
+    })
+}
+
 fn build_order<'a>(alloc: Global, matches: &ArgMatches<'a>) -> Result<Order<'a>, OrderFault>
     ensures ok { IfOk result (OrderOf (codes "build") (rows_of (found_of matches.now))) }
-    ensures err { IfErr result (IsKibFault (rows_of (found_of matches.now))) }
+    ensures err { IfErr result (IsValueFault (codes "build") (rows_of (found_of matches.now))) }
 {
     let kib = text_given(matches, "kib");
     match size_of_text(kib) {
-        Some(size) => Ok(Order::Build {
-            size,
-            rom: text_given(matches, "rom"),
-            listing: option_given(matches, "listing"),
-            map: option_given(matches, "map"),
-            sources: texts_given(alloc, matches, "source")?,
-        }),
+        Some(size) => sized_order(alloc, size, matches),
         None => {
             let text = format!(in alloc; "error: KIB is 8, 16, 32 or 64, and not '{kib}'\n")?;
             Err(OrderFault::Words(text))
@@ -181,23 +225,59 @@ fn build_order<'a>(alloc: Global, matches: &ArgMatches<'a>) -> Result<Order<'a>,
     }
 }
 
-fn run_order<'a>(matches: &ArgMatches<'a>) -> Order<'a>
-    ensures { OrderOf (codes "run") (rows_of (found_of matches.now)) result }
+// What a run shows beside its trace.
+fn showing_given<'a>(matches: &ArgMatches<'a>) -> Showing<'a>
+    ensures { ShowingOf (rows_of (found_of matches.now)) result }
 {
-    Order::Run {
+    Showing {
+        turns: flag_given(matches, "turns"),
+        screen: flag_given(matches, "screen"),
+        ansi: flag_given(matches, "ansi"),
+        registers: flag_given(matches, "registers"),
+        dump: option_given(matches, "dump"),
+        stop_at: option_given(matches, "stop-at"),
+        names: option_given(matches, "names"),
+        waveform: option_given(matches, "vcd"),
+        picture: option_given(matches, "picture"),
+    }
+}
+
+fn run_order<'a>(alloc: Global, matches: &ArgMatches<'a>) -> Result<Order<'a>, OrderFault>
+    ensures ok { IfOk result (OrderOf (codes "run") (rows_of (found_of matches.now))) }
+    ensures err { IfErr result (IsValueFault (codes "run") (rows_of (found_of matches.now))) }
+{
+    let telling = telling_given(alloc, matches)?;
+    Ok(Order::Run {
         rom: text_given(matches, "rom"),
         schedule: text_given(matches, "schedule"),
+        showing: showing_given(matches),
+        telling,
+    })
+}
+
+// What a run of the meaning shows beside its trace.
+fn following_given<'a>(matches: &ArgMatches<'a>) -> Following<'a>
+    ensures { FollowingOf (rows_of (found_of matches.now)) result }
+{
+    let turns = flag_given(matches, "turns");
+    Following {
+        turns,
+        watched: option_given(matches, "watch"),
     }
 }
 
 fn mean_order<'a>(alloc: Global, matches: &ArgMatches<'a>) -> Result<Order<'a>, OrderFault>
     ensures ok { IfOk result (OrderOf (codes "mean") (rows_of (found_of matches.now))) }
-    ensures err { IfErr result (λ e. e ≡ Memory) }
+    ensures err { IfErr result (IsValueFault (codes "mean") (rows_of (found_of matches.now))) }
 {
     let schedule = text_given(matches, "schedule");
+    let telling = telling_given(alloc, matches)?;
+    let sources = texts_given(alloc, matches, "source")?;
     Ok(Order::Mean {
         schedule,
-        sources: texts_given(alloc, matches, "source")?,
+        following: following_given(matches),
+        telling,
+        sources,
     })
 }
 
@@ -225,7 +305,7 @@ fn refusal(alloc: Global, error: &Error) -> OrderFault
 ///
 /// # Errors
 ///
-/// `Words` where `clap` finds a mistake in the line, or KIB is none of 8, 16, 32 and 64; `Help` where `clap` finds that help or the
+/// `Words` where `clap` finds a mistake in the line, KIB is none of 8, 16, 32 and 64, or FORMAT is neither text nor json; `Help` where `clap` finds that help or the
 /// version is asked for; `Memory` for want of memory.
 pub fn order<'a>(alloc: Global, words: &'a [&str]) -> Result<Order<'a>, OrderFault>
     ensures ok { IfOk result (Spells (map (λ w. w.now) words.entry.now)) }
@@ -242,7 +322,7 @@ pub fn order<'a>(alloc: Global, words: &'a [&str]) -> Result<Order<'a>, OrderFau
     if name == "build" {
         build_order(alloc, inner)
     } else if name == "run" {
-        Ok(run_order(inner))
+        run_order(alloc, inner)
     } else {
         mean_order(alloc, inner)
     }

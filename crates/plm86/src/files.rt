@@ -3,9 +3,11 @@
 //! What is read has the contract of `read_all`; the rest has none. That each stop names the file that it is of is shown by `tests/run`.
 
 use crate::input::{ReadFault, read_all};
-use crate::stop::Stop;
+use crate::stop::{Stop, Unwritten};
 use std::alloc::Global;
 use std::fs;
+use std::io::Error;
+use std::path::Path;
 use std::rt::Files;
 use word86::Fault;
 
@@ -16,34 +18,38 @@ pub(crate) fn read_file<R: Files>(
     name: &str,
     most: Option<usize>,
 ) -> Result<Vec<u8>, Stop> {
-    let Ok(mut file) = fs::open(rt, name) else {
-        return Err(Stop::CannotRead(String::from_str(alloc, name)?));
+    let mut file = match fs::open(rt, name) {
+        Ok(file) => file,
+        Err(error) => return Err(unread(alloc, name, &error)?),
     };
     match read_all(alloc, &mut file, most) {
         Ok(bytes) => Ok(bytes),
         Err(ReadFault::Memory) => Err(Stop::Memory),
-        Err(ReadFault::Read) => Err(Stop::CannotRead(String::from_str(alloc, name)?)),
+        Err(ReadFault::Read) => Err(Stop::CannotRead(
+            String::from_str(alloc, name)?,
+            String::from_str(alloc, why_unread(rt, name))?,
+        )),
     }
 }
 
-/// The stop for a fault that stands in one of these files.
-pub(crate) fn refusal(alloc: Global, names: &[&str], fault: Fault) -> Result<Stop, Stop> {
-    match fault {
-        Fault::Memory => Ok(Stop::Memory),
-        Fault::At(ordinal, line, number) => {
-            let name = match names.get(ordinal as usize) {
-                Some(name) => *name,
-                None => "",
-            };
-            Ok(Stop::Refused(String::from_str(alloc, name)?, line, number))
-        }
+/// The stop for a file that cannot be opened.
+fn unread(alloc: Global, name: &str, error: &Error) -> Result<Stop, Stop> {
+    let reason = format!(in alloc; "{error}")?;
+    Ok(Stop::CannotRead(String::from_str(alloc, name)?, reason))
+}
+
+/// Why a file that was opened is not read.
+fn why_unread<R: Files>(rt: &R, name: &str) -> &'static str {
+    match Path::new(name).metadata(rt) {
+        Ok(found) if found.is_dir() => "Is a directory",
+        Ok(_) | Err(_) => "",
     }
 }
 
 /// The stop for a run that was cut short: by want of memory, or since standard output cannot be written.
-pub(crate) fn cut_short(alloc: Global, fault: Fault) -> Result<Stop, Stop> {
+pub(crate) fn cut_short(fault: Fault) -> Stop {
     match fault {
-        Fault::Memory => Ok(Stop::Memory),
-        Fault::At(_, _, _) => Ok(Stop::CannotWrite(String::from_str(alloc, "stdout")?)),
+        Fault::Memory => Stop::Memory,
+        Fault::At(_, _, _) => Stop::CannotWrite(Unwritten::StandardOutput),
     }
 }

@@ -11,30 +11,36 @@ mod built;
 mod command_line;
 mod compile;
 mod destination;
+mod explained;
 mod files;
 mod input;
 mod laws;
 mod mean;
+mod mean_watched;
 mod meaning;
+mod options;
 mod order;
 mod outputs;
+mod padded;
 mod paths;
+mod progress;
 mod running;
 mod sources;
 mod status;
 mod stop;
+mod telling;
 mod writing;
 
 use building::build_rom;
 use command_line::order;
 use meaning::run_meaning;
-use order::{Order, OrderFault};
+use order::{Order, OrderFault, PLAIN, Telling};
 use outputs::Outputs;
 use running::run_rom;
 use std::alloc::Global;
-use std::io::ErrorKind;
+use std::io::{ErrorKind, IsTerminal};
 use std::process::ExitCode;
-use stop::Stop;
+use stop::{Stop, Unwritten};
 use word86::{WriterSink, put_all};
 
 /// The words of the command line, the program's name before them.
@@ -53,6 +59,61 @@ fn given_words(rt: &HostRuntime, alloc: Global) -> Result<Vec<String>, Stop> {
     }
 }
 
+/// Does what an order asks for, and answers the status.
+fn carry_out(
+    rt: &HostRuntime,
+    alloc: Global,
+    order: Order<'_>,
+    telling: Telling,
+) -> Result<u8, Stop> {
+    let errors = &mut WriterSink::new(rt.stderr());
+    match order {
+        Order::Build {
+            size,
+            rom,
+            listing,
+            map,
+            forms,
+            telling: _,
+            sources,
+        } => {
+            let outputs = Outputs {
+                rom,
+                listing,
+                map,
+                forms,
+            };
+            build_rom(rt, alloc, size, outputs, telling, &sources, errors)
+        }
+        Order::Run {
+            rom,
+            schedule,
+            showing,
+            telling: _,
+        } => run_rom(rt, alloc, rom, schedule, showing, telling, errors),
+        Order::Mean {
+            schedule,
+            following,
+            telling: _,
+            sources,
+        } => run_meaning(rt, alloc, schedule, following, telling, &sources, errors),
+    }
+}
+
+/// What an order says of faults; on a terminal each is explained.
+fn telling_of(rt: &HostRuntime, order: &Order<'_>) -> Telling {
+    let given = match order {
+        Order::Build { telling, .. } | Order::Run { telling, .. } | Order::Mean { telling, .. } =>
+            *telling,
+    };
+    Telling {
+        explains: given.explains || rt.stderr().is_terminal(),
+        lints: given.lints,
+        tells_all: given.tells_all,
+        format: given.format,
+    }
+}
+
 /// Does what the words of the command line ask for, and answers the status.
 fn work(rt: &HostRuntime, alloc: Global) -> Result<u8, Stop> {
     let owned = given_words(rt, alloc)?;
@@ -63,35 +124,24 @@ fn work(rt: &HostRuntime, alloc: Global) -> Result<u8, Stop> {
         }
     }
     match order(alloc, words.as_slice()) {
-        Ok(
-            Order::Build {
-                size,
-                rom,
-                listing,
-                map,
-                sources,
-            },
-        ) => {
-            let outputs = Outputs { rom, listing, map };
-            let errors = &mut WriterSink::new(rt.stderr());
-            build_rom(rt, alloc, size, outputs, &sources, errors)
+        Ok(order) => {
+            let telling = telling_of(rt, &order);
+            match carry_out(rt, alloc, order, telling) {
+                Ok(status) => Ok(status),
+                Err(stop) => Ok(stop.report(alloc, telling, &mut WriterSink::new(rt.stderr()))),
+            }
         }
-        Ok(Order::Run { rom, schedule }) => run_rom(rt, alloc, rom, schedule),
-        Ok(Order::Mean { schedule, sources }) => {
-            let errors = &mut WriterSink::new(rt.stderr());
-            run_meaning(rt, alloc, schedule, &sources, errors)
-        }
-        Err(OrderFault::Help(text)) => show(rt, alloc, text.as_str()),
+        Err(OrderFault::Help(text)) => show(rt, text.as_str()),
         Err(OrderFault::Words(text)) => Err(Stop::Words(text)),
         Err(OrderFault::Memory) => Err(Stop::Memory),
     }
 }
 
 // Writes a text to standard output.
-fn show(rt: &HostRuntime, alloc: Global, text: &str) -> Result<u8, Stop> {
+fn show(rt: &HostRuntime, text: &str) -> Result<u8, Stop> {
     match put_all(&mut WriterSink::new(rt.stdout()), text.as_bytes()) {
         Ok(()) => Ok(0),
-        Err(_) => Err(Stop::CannotWrite(String::from_str(alloc, "stdout")?)),
+        Err(_) => Err(Stop::CannotWrite(Unwritten::StandardOutput)),
     }
 }
 
@@ -100,7 +150,7 @@ fn main(rt: HostRuntime) -> ExitCode {
     let alloc = rt.alloc();
     let status = match work(&rt, alloc) {
         Ok(status) => status,
-        Err(stop) => stop.report(&mut WriterSink::new(rt.stderr())),
+        Err(stop) => stop.report(alloc, PLAIN, &mut WriterSink::new(rt.stderr())),
     };
     ExitCode::from(status)
 }

@@ -37,7 +37,7 @@ pub enum MeanEnd {
 
 // What ends a run before its stop.
 #[derive(Clone, Copy)]
-enum Ending {
+pub(crate) enum Ending {
     Bad(Line),
     Memory,
     Broken,
@@ -46,7 +46,7 @@ enum Ending {
 pub(crate) const CANNOT_WRITE: Fault = Fault::At(0, 1, Number::E704);
 
 // Makes the step of a choice. Where it is not allowed, nothing comes.
-fn take(meaning: &mut Meaning<'_>, choice: Choice) -> Result<Option<Step>, Ending>
+pub(crate) fn take(meaning: &mut Meaning<'_>, choice: Choice) -> Result<Option<Step>, Ending>
     ensures came { Came meaning.old meaning.new (choice_of choice ∷ []) result }
     ensures none { result ≡ Ok None → IsIdle meaning.old (choice_of choice ∷ []) }
 {
@@ -60,7 +60,7 @@ fn take(meaning: &mut Meaning<'_>, choice: Choice) -> Result<Option<Step>, Endin
 
 // Makes the step of a turn: an interrupt is entered where it can be; else the program makes a step, or leaves its interrupt procedure.
 // Where neither is allowed, main waits or is used up, and nothing comes.
-fn take_step(meaning: &mut Meaning<'_>) -> Result<Option<Step>, Ending>
+pub(crate) fn take_step(meaning: &mut Meaning<'_>) -> Result<Option<Step>, Ending>
     ensures came { Came meaning.old meaning.new a_step result }
     ensures none { result ≡ Ok None → IsIdle meaning.old a_step }
 {

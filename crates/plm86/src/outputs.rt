@@ -3,27 +3,38 @@
 ghost use Rattle.std.specs.Prelude.{◌≡◌, IfOk, length, vec_len};
 
 use crate::destination::{Destination, first_clash};
+use crate::order::RomForms;
 use crate::paths::{destination_of, path_of};
 use crate::stop::Stop;
 use std::alloc::{AllocError, Global};
 use std::path::PathBuf;
 use std::rt::Files;
 
-/// The files that a build writes, in this order: the ROM's, and those of the listing and the map where they are wanted.
+/// The files that a build writes, in this order: the ROM's, and those of the listing, the map, the ROM's other forms and its code where they
+/// are wanted.
 #[derive(Debug, Clone, Copy)]
 pub(crate) struct Outputs<'a> {
     pub rom: &'a str,
     pub listing: Option<&'a str>,
     pub map: Option<&'a str>,
+    pub forms: RomForms<'a>,
 }
 
-/// What a build wants of a file.
+/// What a build or a run wants of a file.
 #[derive(Debug, Clone, Copy, PartialEq, Eq)]
 pub(crate) enum Purpose {
     Rom,
     Listing,
     Map,
+    Hex,
+    Even,
+    Odd,
+    Code,
+    Waveform,
+    Picture,
     Source,
+    /// A file that a run reads: a ROM, a schedule or a map.
+    Input,
 }
 
 impl Purpose {
@@ -33,12 +44,52 @@ impl Purpose {
             Purpose::Rom => "ROM",
             Purpose::Listing => "listing",
             Purpose::Map => "map",
+            Purpose::Hex => "HEX",
+            Purpose::Even => "even half",
+            Purpose::Odd => "odd half",
+            Purpose::Code => "code",
+            Purpose::Waveform => "waveform",
+            Purpose::Picture => "picture",
             Purpose::Source => "source",
+            Purpose::Input => "input",
         }
     }
 }
 
-/// A file of a build, by the name that it was given.
+impl Purpose {
+    /// The article of its word.
+    pub fn article(self) -> &'static str {
+        match self {
+            Purpose::Even | Purpose::Odd | Purpose::Input => "an",
+            Purpose::Rom
+            | Purpose::Listing
+            | Purpose::Map
+            | Purpose::Hex
+            | Purpose::Code
+            | Purpose::Waveform
+            | Purpose::Picture
+            | Purpose::Source => "a",
+        }
+    }
+
+    /// Whether such a file is read, and not written.
+    pub fn is_read(self) -> bool {
+        match self {
+            Purpose::Source | Purpose::Input => true,
+            Purpose::Rom
+            | Purpose::Listing
+            | Purpose::Map
+            | Purpose::Hex
+            | Purpose::Even
+            | Purpose::Odd
+            | Purpose::Code
+            | Purpose::Waveform
+            | Purpose::Picture => false,
+        }
+    }
+}
+
+/// A file of a build or a run, by the name that it was given.
 #[derive(Debug, Clone, Copy)]
 pub(crate) struct Named<'a> {
     pub purpose: Purpose,
@@ -53,12 +104,12 @@ impl<'a> Outputs<'a> {
             (Purpose::Rom, Some(self.rom)),
             (Purpose::Listing, self.listing),
             (Purpose::Map, self.map),
+            (Purpose::Hex, self.forms.hex),
+            (Purpose::Even, self.forms.even),
+            (Purpose::Odd, self.forms.odd),
+            (Purpose::Code, self.forms.code),
         ];
-        for (purpose, name) in named {
-            if let Some(name) = name {
-                files.push(Named { purpose, name })?;
-            }
-        }
+        push_wanted(&mut files, &named)?;
         Ok(files)
     }
 }
@@ -110,10 +161,50 @@ pub(crate) fn refuse_losses<R: Files>(
     let mut files = outputs.files(alloc)?;
     let written = files.len();
     push_sources(&mut files, sources)?;
-    let paths = paths_of(rt, alloc, &files)?;
+    refuse_clash(rt, alloc, &files, written)
+}
+
+// Refuses files one of which would be lost by one of the first `written` of them.
+fn refuse_clash<R: Files>(
+    rt: &R,
+    alloc: Global,
+    files: &[Named<'_>],
+    written: usize,
+) -> Result<(), Stop> {
+    let paths = paths_of(rt, alloc, files)?;
     let destinations = destinations_of(rt, alloc, &paths)?;
     match first_clash(&destinations, written) {
         Some((k, m)) => Err(Stop::one_file(alloc, files[k], files[m])?),
         None => Ok(()),
     }
+}
+
+// Puts those files behind the others that are wanted.
+fn push_wanted<'a>(
+    files: &mut Vec<Named<'a>>,
+    wanted: &[(Purpose, Option<&'a str>)],
+) -> Result<(), AllocError> {
+    for (purpose, name) in wanted {
+        if let Some(name) = *name {
+            files.push(Named {
+                purpose: *purpose,
+                name,
+            })?;
+        }
+    }
+    Ok(())
+}
+
+/// Refuses a run one of whose files would be lost by one that it writes: one that it reads, or another that it writes. It opens none of them.
+pub(crate) fn refuse_run_losses<'a, R: Files>(
+    rt: &R,
+    alloc: Global,
+    outputs: &[(Purpose, Option<&'a str>)],
+    inputs: &[(Purpose, Option<&'a str>)],
+) -> Result<(), Stop> {
+    let mut files: Vec<Named<'a>> = Vec::new(alloc);
+    push_wanted(&mut files, outputs)?;
+    let written = files.len();
+    push_wanted(&mut files, inputs)?;
+    refuse_clash(rt, alloc, &files, written)
 }

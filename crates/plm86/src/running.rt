@@ -1,44 +1,211 @@
 //! The command `run`, and what `mean` shares with it.
 //!
-//! The run has the contract of `Board::run`, and its status that of `status`; the rest has none. That the ROM is read before the schedule and
-//! both before a fault is answered, the schedule's before the ROM's, is shown by `tests/run`.
+//! The run has the contract of `Board::run`, `Board::run_numbered` or `Board::run_watched`, and its status that of `status`; the rest has none. That
+//! the ROM is read before the schedule and both before a fault is answered, the schedule's before the ROM's, is shown by `tests/run`, and what
+//! is watched by `tests/watched`.
 
-use crate::files::{cut_short, read_file, refusal};
+ghost use Rattle.std.specs.Prelude.{◌≡◌, ◌≤◌, ◌<◌, IfOk, IfErr, MatchResult};
+ghost use Rattle.word86.specs.declared.fault.Fault.TheVariants.{At};
+ghost use Rattle.word86.specs.declared.number.Number.TheVariants.{E704};
+ghost use Rattle.ppi_kbd.specs.Chips.{ChipState};
+ghost use Rattle.board.specs.World.{World};
+ghost use Rattle.board.specs.Machine.{Board as State};
+ghost use Rattle.board.specs.Board.{Shows};
+ghost use Rattle.board.specs.Run.{Ran, Broke, due_of};
+
+use crate::build::Source;
+use crate::files::{cut_short, read_file};
 use crate::mean::CANNOT_WRITE;
+use crate::order::{MessageFormat, Showing, Telling};
+use crate::outputs::{Purpose, refuse_run_losses};
+use crate::progress::{Progress, run_in_parts};
 use crate::status::status;
 use crate::stop::Stop;
-use board::{Board, End, Schedule, read_schedule};
-use std::alloc::Global;
-use std::io::{BufWriter, Write};
-use word86::{Fault, PowerOn, WriterSink};
+use crate::telling::{ReadFor, Teller};
+use crate::writing::Output;
+use board::{
+    Addresses, Board, End, PlaceName, Schedule, SignalChanges, Watch, WatchedEnd, address_of,
+    addresses_of, picture_of, put_coloured_screen, put_dump, put_registers, put_screen, read_names,
+    read_schedule,
+};
+use listing_map::{NOWHERE, object_line};
+use std::alloc::{AllocError, Global};
+use std::io::{BufWriter, Write, sink};
+use std::rt::Files;
+use word86::{Fault, PowerOn, Sink, WriterSink, put_all};
 
 /// A ROM's bytes, and one more, which tells that a file is longer than any ROM.
 const ROM_LIMIT: usize = 65_537;
 
-/// Runs the board and writes the trace to standard output.
+/// What is wanted of a run.
+#[derive(Clone, Copy)]
+struct Wanted<'s, 'w> {
+    showing: Showing<'s>,
+    dump: Option<Addresses>,
+    watch: Watch<'w>,
+}
+
+/// Runs the board under the schedule, and tells on the way how far it has come, where that is shown.
+fn run_plainly<S: Sink>(
+    rt: &HostRuntime,
+    alloc: Global,
+    board: &mut Board,
+    schedule: &Schedule,
+    sink: &mut S,
+) -> Result<End, Fault>
+    ensures run { (b : State (World ChipState)) → Shows board.old b → MatchResult result
+        (Ran (due_of schedule.now) schedule.now.stop b board.new (S.taken sink.old) (S.taken sink.new) (S.failures sink.old) (S.failures sink.new))
+        (λ e. Broke (due_of schedule.now) schedule.now.stop b board.new (S.taken sink.old) (S.taken sink.new) (S.failures sink.old) (S.failures sink.new)) }
+    ensures fault { IfErr result (λ e. e ≡ At 0 1 E704) }
+{
+    match Progress::new(rt) {
+        Some(progress) => run_in_parts(rt, alloc, board, schedule, progress, sink),
+        None => board.run(schedule, sink),
+    }
+}
+
+/// Runs the board turn by turn where something is watched that `run` does not write.
+fn run_as_wanted<S: Sink>(
+    rt: &HostRuntime,
+    alloc: Global,
+    board: &mut Board,
+    schedule: &Schedule,
+    wanted: Wanted<'_, '_>,
+    changes: &mut SignalChanges,
+    sink: &mut S,
+) -> Result<End, Fault> {
+    let watch = wanted.watch;
+    if watch.stop_at.is_some() || watch.names.is_some() || wanted.showing.waveform.is_some() {
+        let WatchedEnd { end, turns } = board.run_watched(alloc, schedule, watch, changes, sink)?;
+        changes.end(turns);
+        return Ok(end);
+    }
+    if watch.turns {
+        board.run_numbered(schedule, sink)
+    } else {
+        run_plainly(rt, alloc, board, schedule, sink)
+    }
+}
+
+/// Runs the board and writes the trace to standard output, each line as it is wanted, and then what else is shown.
 fn trace(
     rt: &HostRuntime,
     alloc: Global,
     board: &mut Board,
     schedule: &Schedule,
+    wanted: Wanted<'_, '_>,
+    changes: &mut SignalChanges,
 ) -> Result<End, Fault> {
     let Ok(mut output) = BufWriter::new(alloc, rt.stdout()) else {
         return Err(Fault::Memory);
     };
     let mut sink = WriterSink::new(&mut output);
-    let end = board.run(schedule, &mut sink)?;
+    let end = run_as_wanted(rt, alloc, board, schedule, wanted, changes, &mut sink)?;
+    let text = shown_at_end(alloc, board, wanted)?;
+    if put_all(&mut sink, &text).is_err() {
+        return Err(CANNOT_WRITE);
+    }
     match output.flush() {
         Ok(()) => Ok(end),
         Err(_) => Err(CANNOT_WRITE),
     }
 }
 
+/// What is shown of the board behind the trace.
+fn shown_at_end(
+    alloc: Global,
+    board: &Board,
+    wanted: Wanted<'_, '_>,
+) -> Result<Vec<u8>, AllocError> {
+    let Wanted {
+        showing,
+        dump,
+        watch: _,
+    } = wanted;
+    let mut text = Vec::new(alloc);
+    if showing.screen {
+        put_screen(alloc, &mut text, board)?;
+    }
+    if showing.ansi {
+        put_coloured_screen(alloc, &mut text, board)?;
+    }
+    if showing.registers {
+        put_registers(alloc, &mut text, board)?;
+    }
+    if let Some(addresses) = dump {
+        put_dump(alloc, &mut text, board, addresses)?;
+    }
+    Ok(text)
+}
+
+/// The addresses between which memory is shown, where that is wanted.
+fn addresses_given(alloc: Global, text: Option<&str>) -> Result<Option<Addresses>, Stop> {
+    let Some(text) = text else {
+        return Ok(None);
+    };
+    match addresses_of(text.as_bytes()) {
+        Some(addresses) => Ok(Some(addresses)),
+        None => {
+            let words = format!(in alloc;
+                "error: FROM,TO is two addresses up to FFFFF in hexadecimal, the lower one first, and not '{text}'\n"
+            )?;
+            Err(Stop::Words(words))
+        }
+    }
+}
+
+/// The address at which a run stops, where that is wanted.
+fn address_given(alloc: Global, text: Option<&str>) -> Result<Option<u32>, Stop> {
+    let Some(text) = text else {
+        return Ok(None);
+    };
+    match address_of(text.as_bytes()) {
+        Some(address) => Ok(Some(address)),
+        None => {
+            let words = format!(in alloc;
+                "error: ADDRESS is up to FFFFF in hexadecimal, and not '{text}'\n"
+            )?;
+            Err(Stop::Words(words))
+        }
+    }
+}
+
+/// The text of the map whose names are shown, where they are wanted.
+fn read_map<R: Files>(rt: &R, alloc: Global, name: Option<&str>) -> Result<Vec<u8>, Stop> {
+    match name {
+        Some(name) => read_file(rt, alloc, name, None),
+        None => Ok(Vec::new(alloc)),
+    }
+}
+
 /// The schedule that a file's text spells.
-pub(crate) fn schedule_of(alloc: Global, name: &str, text: &[u8]) -> Result<Schedule, Stop> {
+pub(crate) fn schedule_of(
+    alloc: Global,
+    telling: Telling,
+    name: &str,
+    text: &[u8],
+) -> Result<Schedule, Stop> {
     match read_schedule(alloc, text) {
         Ok(schedule) => Ok(schedule),
-        Err(fault) => Err(refusal(alloc, &[name], fault)?),
+        Err(fault) => Err(refusal_in(alloc, telling, name, text, fault)?),
     }
+}
+
+/// The stop for a fault in a file that is no source.
+fn refusal_in(
+    alloc: Global,
+    telling: Telling,
+    name: &str,
+    text: &[u8],
+    fault: Fault,
+) -> Result<Stop, Stop> {
+    let teller = Teller {
+        alloc,
+        telling,
+        sources: &[Source { name, text }],
+        read_for: ReadFor::Run,
+    };
+    teller.refusal(fault)
 }
 
 /// The memory that a schedule fills when the power comes on.
@@ -49,24 +216,229 @@ pub(crate) fn power_on_of(alloc: Global, schedule: &Schedule) -> Result<PowerOn,
     }
 }
 
-/// `run ROM SCHEDULE`: both files are read before anything is run.
-pub(crate) fn run_rom(
+/// How many turns are made at once where that is looked for in which a processor halted: the parts of a run are few, and the turns of a part.
+fn part_length(stop: u32) -> u32
+    ensures { 0 < result }
+{
+    (stop / 1024).max(65_536)
+}
+
+/// The turn with which the part of a run begins in which the processor halted with interrupts off, or the stop.
+fn part_of_death(alloc: Global, run: Run<'_>, schedule: &Schedule) -> Result<u32, Stop>
+    ensures { IfOk result (λ n. n ≤ schedule.now.stop) }
+{
+    let mut board = board_of(alloc, run, schedule)?;
+    let length = part_length(schedule.stop());
+    let mut turn = 0;
+    while turn < schedule.stop() {
+        let next = turn + length.min(schedule.stop() - turn);
+        let _end = board.run_part(schedule, turn, next, &mut WriterSink::new(sink()));
+        if board.is_dead() {
+            return Ok(turn);
+        }
+        turn = next;
+    }
+    Ok(turn)
+}
+
+/// The turn from which on the processor halts with interrupts off. The run is made once more, and then again up to the part in which that is.
+fn turn_of_death(alloc: Global, run: Run<'_>, schedule: &Schedule) -> Result<u32, Stop> {
+    let from = part_of_death(alloc, run, schedule)?;
+    let mut board = board_of(alloc, run, schedule)?;
+    let _end = board.run_part(schedule, 0, from, &mut WriterSink::new(sink()));
+    Ok(board.turn_of_death(schedule, from))
+}
+
+/// Says on standard error at which turn the processor halted with interrupts off, where it did and faults are explained.
+fn say_dead<S: Sink>(
+    alloc: Global,
+    run: Run<'_>,
+    board: &Board,
+    schedule: &Schedule,
+    errors: &mut S,
+) -> Result<(), Stop> {
+    if !run.telling.explains || !board.is_dead() {
+        return Ok(());
+    }
+    let turn = turn_of_death(alloc, run, schedule)?;
+    let words = format!(in alloc;
+        "note: the processor halts with interrupts off from turn {turn} on, and nothing wakes it"
+    )?;
+    let line = note_line(alloc, run, words.as_str())?;
+    // Where it cannot be shown, the trace still tells.
+    let _ = put_all(errors, &line);
+    Ok(())
+}
+
+/// A ROM that is run, by its file's name, and how faults are told.
+#[derive(Clone, Copy)]
+struct Run<'r> {
+    name: &'r str,
+    rom: &'r [u8],
+    telling: Telling,
+}
+
+/// The line of a note on a ROM.
+fn note_line(alloc: Global, run: Run<'_>, words: &str) -> Result<Vec<u8>, AllocError> {
+    match run.telling.format {
+        MessageFormat::Json => object_line(alloc, run.name, NOWHERE, None, words, None),
+        MessageFormat::Text => {
+            let name = run.name;
+            let line = format!(in alloc; "{name}: {words}\n")?;
+            Vec::from_slice(alloc, line.as_str().as_bytes())
+        }
+    }
+}
+
+/// A file that is wanted.
+fn wanted_file<'a, R: Files>(
+    rt: &R,
+    alloc: Global,
+    name: Option<&'a str>,
+) -> Result<Option<Output<'a>>, Stop> {
+    match name {
+        Some(name) => Ok(Some(Output::new(rt, alloc, name)?)),
+        None => Ok(None),
+    }
+}
+
+/// The board with this ROM.
+fn board_of(alloc: Global, run: Run<'_>, schedule: &Schedule) -> Result<Board, Stop> {
+    match Board::new(alloc, run.rom, power_on_of(alloc, schedule)?) {
+        Ok(board) => Ok(board),
+        Err(fault) => Err(refusal_in(alloc, run.telling, run.name, run.rom, fault)?),
+    }
+}
+
+/// Writes a file that is wanted.
+fn write_wanted<R: Files>(
+    rt: &R,
+    alloc: Global,
+    file: Option<Output<'_>>,
+    bytes: &[u8],
+) -> Result<(), Stop> {
+    match file {
+        Some(mut file) => file.write(rt, alloc, bytes),
+        None => Ok(()),
+    }
+}
+
+/// The text of what changed, where its file is wanted.
+fn text_of_changes(
+    alloc: Global,
+    showing: Showing<'_>,
+    changes: &SignalChanges,
+) -> Result<Vec<u8>, AllocError> {
+    if showing.waveform.is_some() {
+        changes.text()
+    } else {
+        Ok(Vec::new(alloc))
+    }
+}
+
+/// The picture of both pages, where its file is wanted.
+fn wanted_picture(
+    alloc: Global,
+    showing: Showing<'_>,
+    board: &Board,
+) -> Result<Vec<u8>, AllocError> {
+    if showing.picture.is_some() {
+        picture_of(alloc, board)
+    } else {
+        Ok(Vec::new(alloc))
+    }
+}
+
+/// Runs a ROM, and writes the waveform and the picture, where they are wanted, once both are made.
+fn run_schedule<S: Sink>(
+    rt: &HostRuntime,
+    alloc: Global,
+    run: Run<'_>,
+    schedule: &Schedule,
+    wanted: Wanted<'_, '_>,
+    errors: &mut S,
+) -> Result<u8, Stop> {
+    let file = wanted_file(rt, alloc, wanted.showing.waveform)?;
+    let picture_file = wanted_file(rt, alloc, wanted.showing.picture)?;
+    let mut board = board_of(alloc, run, schedule)?;
+    let mut changes = SignalChanges::new(alloc, file.is_some());
+    let end = trace(rt, alloc, &mut board, schedule, wanted, &mut changes);
+    if let Err(fault) = end {
+        return Err(cut_short(fault));
+    }
+    let waveform = text_of_changes(alloc, wanted.showing, &changes)?;
+    let picture = wanted_picture(alloc, wanted.showing, &board)?;
+    write_wanted(rt, alloc, file, &waveform)?;
+    write_wanted(rt, alloc, picture_file, &picture)?;
+    // The run is made: where memory is wanting for the note, nothing else is lost.
+    let _ = say_dead(alloc, run, &board, schedule, errors);
+    Ok(status(&end))
+}
+
+/// Refuses a run by which a file would be lost.
+fn refuse_losses<R: Files>(
+    rt: &R,
+    alloc: Global,
+    rom_name: &str,
+    schedule_name: &str,
+    showing: Showing<'_>,
+) -> Result<(), Stop> {
+    let outputs = [
+        (Purpose::Waveform, showing.waveform),
+        (Purpose::Picture, showing.picture),
+    ];
+    let inputs = [
+        (Purpose::Input, Some(rom_name)),
+        (Purpose::Input, Some(schedule_name)),
+        (Purpose::Input, showing.names),
+    ];
+    refuse_run_losses(rt, alloc, &outputs, &inputs)
+}
+
+// What is shown beside the trace. (The names live longer than the slice of them. A call shortens their lifetime to the slice's; a struct that
+// is written out would not.)
+fn watch_of<'w>(
+    turns: bool,
+    stop_at: Option<u32>,
+    names: Option<&'w [PlaceName<'w>]>,
+) -> Watch<'w> {
+    Watch {
+        turns,
+        stop_at,
+        names,
+    }
+}
+
+/// `run [--turns] [--screen] [--ansi] [--registers] [--dump FROM,TO] [--stop-at ADDRESS] [--names MAP] [--vcd VCD] [--picture PICTURE] ROM
+/// SCHEDULE`: all files are read before anything is run.
+pub(crate) fn run_rom<S: Sink>(
     rt: &HostRuntime,
     alloc: Global,
     rom_name: &str,
     schedule_name: &str,
+    showing: Showing<'_>,
+    telling: Telling,
+    errors: &mut S,
 ) -> Result<u8, Stop> {
+    let dump = addresses_given(alloc, showing.dump)?;
+    let stop_at = address_given(alloc, showing.stop_at)?;
+    refuse_losses(rt, alloc, rom_name, schedule_name, showing)?;
     let rom = read_file(rt, alloc, rom_name, Some(ROM_LIMIT))?;
     let text = read_file(rt, alloc, schedule_name, None)?;
-    let schedule = schedule_of(alloc, schedule_name, &text)?;
-    let power_on = power_on_of(alloc, &schedule)?;
-    let mut board = match Board::new(alloc, &rom, power_on) {
-        Ok(board) => board,
-        Err(fault) => return Err(refusal(alloc, &[rom_name], fault)?),
+    let map = read_map(rt, alloc, showing.names)?;
+    let schedule = schedule_of(alloc, telling, schedule_name, &text)?;
+    let names = read_names(alloc, &map)?;
+    let named = showing.names.is_some().then_some(names.as_slice());
+    let watch = watch_of(showing.turns, stop_at, named);
+    let run = Run {
+        name: rom_name,
+        rom: &rom,
+        telling,
     };
-    let end = trace(rt, alloc, &mut board, &schedule);
-    match end {
-        Err(fault) => Err(cut_short(alloc, fault)?),
-        Ok(_) => Ok(status(&end)),
-    }
+    let wanted = Wanted {
+        showing,
+        dump,
+        watch,
+    };
+    run_schedule(rt, alloc, run, &schedule, wanted, errors)
 }

@@ -2,15 +2,14 @@
 
 use crate::build::{Source, build_program};
 use crate::built::Built;
-use crate::files::{read_file, refusal};
+use crate::files::read_file;
 use crate::stop::Stop;
+use crate::telling::Teller;
 use layout_link::RomSize;
-use listing_map::fault_line;
 use plm_token::SOURCE_LIMIT;
 use plm_type::Warning;
 use std::alloc::Global;
 use std::rt::Files;
-use word86::{Number, Sink};
 
 /// The texts of the sources.
 pub(crate) fn read_texts<R: Files>(
@@ -44,26 +43,20 @@ pub(crate) fn sources_of<'n: 's, 's>(
     Ok(sources)
 }
 
-/// What the sources are built to.
-pub(crate) fn build_sources(
-    alloc: Global,
-    names: &[&str],
-    sources: &[Source<'_>],
-    size: RomSize,
-) -> Result<Built, Stop> {
-    match build_program(alloc, sources, size) {
+/// What the sources are built to, for a ROM of this size.
+pub(crate) fn build_sources(teller: &Teller<'_, '_>, size: RomSize) -> Result<Built, Stop> {
+    match build_program(teller.alloc, teller.sources, size) {
         Ok(built) => Ok(built),
-        Err(fault) => Err(refusal(alloc, names, fault)?),
+        Err(fault) => Err(teller.refusal(fault)?),
     }
 }
 
-/// Shows a line for each warning. Where it cannot be written, the outputs still tell.
-pub(crate) fn show_warnings<S: Sink>(sources: &[Source<'_>], given: &[Warning], errors: &mut S) {
-    for warning in given {
-        let name = match sources.get(warning.module) {
-            Some(source) => source.name,
-            None => "",
-        };
-        let _ = fault_line(name, warning.line, Number::W1, errors);
-    }
+/// The warnings and notes of a program, as they are shown.
+pub(crate) fn remarks(teller: &Teller<'_, '_>, given: &[Warning]) -> Result<Vec<u8>, Stop> {
+    let mut text = teller.warnings(given)?;
+    let notes = teller.notes()?;
+    text.extend_from_slice(&notes)?;
+    let lints = teller.lints()?;
+    text.extend_from_slice(&lints)?;
+    Ok(text)
 }

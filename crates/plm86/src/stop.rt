@@ -2,10 +2,11 @@
 //!
 //! Texts and statuses have no contract: `tests/run` shows one of each kind, and `tests/pages` each message of `docs/ERRORS.md`.
 
-use crate::outputs::{Named, Purpose};
-use listing_map::fault_line;
+use crate::order::{MessageFormat, Telling};
+use crate::outputs::Named;
+use listing_map::{NOWHERE, UNWRITTEN, object_line};
 use std::alloc::{AllocError, AllocFailed, Global};
-use word86::{Number, Sink, put_all};
+use word86::{Sink, put_all};
 
 /// Why the program stops early.
 #[derive(Debug, Drop)]
@@ -14,12 +15,19 @@ pub enum Stop {
     Memory,
     /// The words of the command line were refused: what to print.
     Words(String),
-    /// A file that cannot be read.
-    CannotRead(String),
-    /// A file, or standard output, that cannot be written.
-    CannotWrite(String),
-    /// A fault in a file, at a line.
-    Refused(String, u32, Number),
+    /// A file that cannot be read, and why.
+    CannotRead(String, String),
+    /// What cannot be written.
+    CannotWrite(Unwritten),
+    /// A fault in a file: what to print.
+    Refused(Vec<u8>),
+}
+
+/// What cannot be written.
+#[derive(Debug, Drop)]
+pub enum Unwritten {
+    StandardOutput,
+    File(String),
 }
 
 impl From<AllocError> for Stop {
@@ -43,21 +51,24 @@ impl Stop {
     ) -> Result<Stop, AllocError> {
         let (name, other) = (written.name, lost.name);
         let (purpose, other_purpose) = (written.purpose.word(), lost.purpose.word());
-        let text = match lost.purpose {
-            Purpose::Source if name == other => {
-                format!(in alloc; "error: {name} is a source and would be written over\n")?
-            }
-            Purpose::Source => {
+        let article = lost.purpose.article();
+        let text = match (lost.purpose.is_read(), name == other) {
+            (true, true) => {
                 format!(in alloc;
-                    "error: {name} is the source {other} and would be written over\n"
+                    "error: {name} is {article} {other_purpose} and would be written over\n"
                 )?
             }
-            Purpose::Rom | Purpose::Listing | Purpose::Map if name == other => {
+            (true, false) => {
+                format!(in alloc;
+                    "error: {name} is the {other_purpose} {other} and would be written over\n"
+                )?
+            }
+            (false, true) => {
                 format!(in alloc;
                     "error: {name} is named twice, as {purpose} and as {other_purpose}\n"
                 )?
             }
-            Purpose::Rom | Purpose::Listing | Purpose::Map => {
+            (false, false) => {
                 format!(in alloc;
                     "error: {name} and {other} are one file, named as {purpose} and as {other_purpose}\n"
                 )?
@@ -67,7 +78,7 @@ impl Stop {
     }
 
     /// Says on standard error why the program stops, and answers its status.
-    pub fn report<S: Sink>(&self, errors: &mut S) -> u8 {
+    pub fn report<S: Sink>(&self, alloc: Global, telling: Telling, errors: &mut S) -> u8 {
         // Where standard error cannot be written, the status still tells.
         match self {
             Stop::Memory => {
@@ -78,20 +89,92 @@ impl Stop {
                 let _ = put_all(errors, text.as_str().as_bytes());
                 2
             }
-            Stop::CannotRead(name) => {
-                let _ = put_all(errors, name.as_str().as_bytes());
-                let _ = put_all(errors, b": cannot read\n");
+            Stop::CannotRead(name, reason) => {
+                let message = FileMessage {
+                    name: name.as_str(),
+                    number: None,
+                    words: "cannot read",
+                    reason: reason.as_str(),
+                };
+                message.put(alloc, telling, errors);
                 3
             }
-            Stop::CannotWrite(name) => {
-                let _ = put_all(errors, name.as_str().as_bytes());
-                let _ = put_all(errors, b": cannot write\n");
+            Stop::CannotWrite(unwritten) => {
+                unwritten.message().put(alloc, telling, errors);
                 3
             }
-            Stop::Refused(name, line, number) => {
-                let _ = fault_line(name.as_str(), *line, *number, errors);
+            Stop::Refused(text) => {
+                let _ = put_all(errors, text);
                 1
             }
+        }
+    }
+}
+
+// What is said of a file: its name, the number of the fault and why it cannot be used, where they are known.
+#[derive(Clone, Copy)]
+struct FileMessage<'m> {
+    name: &'m str,
+    number: Option<&'static str>,
+    words: &'static str,
+    reason: &'m str,
+}
+
+impl Unwritten {
+    // What is said of it. Standard output is that of a trace, which is written to the end or E704.
+    fn message(&self) -> FileMessage<'_> {
+        match self {
+            Unwritten::StandardOutput => FileMessage {
+                name: "stdout",
+                number: Some("E704"),
+                words: "cannot write",
+                reason: UNWRITTEN,
+            },
+            Unwritten::File(name) => FileMessage {
+                name: name.as_str(),
+                number: None,
+                words: "cannot write",
+                reason: "",
+            },
+        }
+    }
+}
+
+impl<'m> FileMessage<'m> {
+    // Says it on standard error.
+    fn put<S: Sink>(self, alloc: Global, telling: Telling, errors: &mut S) {
+        match telling.format {
+            MessageFormat::Text => self.put_lines(telling, errors),
+            MessageFormat::Json => match self.object(alloc) {
+                Ok(line) => {
+                    let _ = put_all(errors, &line);
+                }
+                Err(_) => {
+                    let _ = put_all(errors, b"plm86: out of memory\n");
+                }
+            },
+        }
+    }
+
+    fn object(self, alloc: Global) -> Result<Vec<u8>, AllocError> {
+        let number = self.number.map(|number| number.as_bytes());
+        let help = if self.reason.is_empty() {
+            None
+        } else {
+            Some(self.reason.as_bytes())
+        };
+        object_line(alloc, self.name, NOWHERE, number, self.words, help)
+    }
+
+    fn put_lines<S: Sink>(self, telling: Telling, errors: &mut S) {
+        let _ = put_all(errors, self.name.as_bytes());
+        let _ = put_all(errors, b": ");
+        let _ = put_all(errors, self.words.as_bytes());
+        let _ = put_all(errors, b"\n");
+        if telling.explains && !self.reason.is_empty() {
+            let _ = put_all(errors, b"      = ");
+            let _ = put_all(errors, self.reason.as_bytes());
+            let _ = put_all(errors, b"\n");
         }
     }
 }

@@ -1,7 +1,7 @@
 //! How an output is written: a file is not changed before all its bytes stand beside it.
 
 use crate::paths::{folder_of, is_open_file, path_of};
-use crate::stop::Stop;
+use crate::stop::{Stop, Unwritten};
 use std::alloc::Global;
 use std::fs;
 use std::fs::{File, Metadata, OpenFile, OpenOptions};
@@ -61,7 +61,7 @@ impl<'a> Output<'a> {
         if is_written {
             Ok(())
         } else {
-            Err(Stop::CannotWrite(String::from_str(alloc, self.name)?))
+            Err(Stop::CannotWrite(Unwritten::File(String::from_str(alloc, self.name)?)))
         }
     }
 

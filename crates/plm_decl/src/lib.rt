@@ -37,7 +37,7 @@ pub use laws::{
     resolved_trees_have_their_lists,
 };
 pub use layout::{Field, Form, Member, ScalarType};
-pub use modules::resolve;
+pub use modules::{name_faults, resolve};
 pub use names::{
     Datum, DeclaredLocation, Item, Main, Names, Object, Procedure, Region, ScreenName, Variable,
 };

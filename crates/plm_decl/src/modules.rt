@@ -1,6 +1,6 @@
 //! From trees to names.
 
-ghost use Rattle.std.specs.Prelude.{◌≡◌, IfOk, IfErr, OnOk, [], map, length, true};
+ghost use Rattle.std.specs.Prelude.{◌≡◌, ◌≢◌, IfOk, IfErr, OnOk, [], map, length, true};
 ghost use Rattle.std.specs.List.{list_all};
 ghost use Rattle.plm_syntax.specs.View.{module_of};
 ghost use Rattle.plm_decl.specs.Inner.Resolver.{known_of};
@@ -13,7 +13,7 @@ ghost use Rattle.plm_decl.specs.Inner.Ranges.{Within, counts_of};
 ghost use Rattle.plm_decl.specs.Modules.{AreNames, AreAnswered, faults_of, whole_faults_of};
 ghost use Rattle.plm_decl.specs.Inner.Modules.{AreTables, IsRefused};
 
-use crate::found::least;
+use crate::found::{Found, least};
 use crate::names::{Main, Names};
 use crate::resolved::Statement;
 use crate::resolver::Resolver;
@@ -122,6 +122,15 @@ impl Resolver {
         }
     }
 
+    /// The faults of the whole program, once the modules are joined.
+    fn whole_faults(mut self) -> Result<Vec<Found>, AllocError>
+        ensures { IfOk result (λ found. found.items ≡ (spec.modules_joined (known_of self)).whole) }
+    {
+        self.join_modules()?;
+        let Resolver { whole, .. } = self;
+        Ok(whole)
+    }
+
     /// The names, where no fault was met.
     fn answer(self) -> Result<Names, Fault>
         requires within { (known_of self).faults ≡ [] → Within (counts_of (known_of self)) (known_of self) }
@@ -136,6 +145,17 @@ impl Resolver {
     }
 }
 
+/// What is known of modules that are walked in their order.
+fn walked(alloc: Global, modules: &[Module<'_>]) -> Result<Resolver, AllocError>
+    ensures { IfOk result (λ r. known_of r ≡ spec.known_from (map module_of modules.now)) }
+{
+    let mut resolver = Resolver::new(alloc);
+    for (number, tree) in modules.iter().enumerate() {
+        Resolver::module(tree, number, &mut resolver)?;
+    }
+    Ok(resolver)
+}
+
 /// What the modules declare, in order, with all names resolved; or the least fault by module, token and number, those of
 /// the whole program (E306 to E310) after the others.
 pub fn resolve(alloc: Global, modules: &[Module<'_>]) -> Result<Names, Fault>
@@ -144,9 +164,20 @@ pub fn resolve(alloc: Global, modules: &[Module<'_>]) -> Result<Names, Fault>
     // The least fault is answered.
     ensures refused { IfErr result (λ fault. IsRefusal fault (faults_of (map module_of modules.now)) (whole_faults_of (map module_of modules.now))) }
 {
-    let mut resolver = Resolver::new(alloc);
-    for (number, tree) in modules.iter().enumerate() {
-        Resolver::module(tree, number, &mut resolver)?;
-    }
+    let resolver = walked(alloc, modules)?;
     resolver.answer()
+}
+
+/// All faults of modules, of which `resolve` answers the least: those of declarations and names as they are met, or those of the whole
+/// program (E306 to E310) where there are no others. Want of memory is its one error.
+pub fn name_faults(alloc: Global, modules: &[Module<'_>]) -> Result<Vec<Found>, AllocError>
+    ensures met { IfOk result (λ found. faults_of (map module_of modules.now) ≢ [] → found.items ≡ faults_of (map module_of modules.now)) }
+    ensures whole { IfOk result (λ found. faults_of (map module_of modules.now) ≡ [] → found.items ≡ whole_faults_of (map module_of modules.now)) }
+{
+    let resolver = walked(alloc, modules)?;
+    if resolver.faults.is_empty() {
+        return resolver.whole_faults();
+    }
+    let Resolver { faults, .. } = resolver;
+    Ok(faults)
 }

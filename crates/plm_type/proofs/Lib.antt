@@ -12,3 +12,4 @@ pub mod Ordering
 pub mod Faultless
 pub mod MarkedLists
 pub mod Entering
+pub mod Typing

@@ -22,5 +22,6 @@ pub mod Interrupts
 pub mod Checked
 pub mod Sharing
 pub mod Checking
+pub mod AllFaults
 pub mod Inner
 pub mod Laws

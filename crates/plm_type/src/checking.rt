@@ -1,18 +1,22 @@
 //! `check`: from names to a typed program, or to the least of their faults.
 
-ghost use Rattle.std.specs.Prelude.{◌≡◌, ℕ, IfOk, IfErr, length};
+ghost use Rattle.std.specs.Prelude.{◌≡◌, ℕ, ◌++◌, List, IfOk, IfErr, length};
+ghost use Rattle.plm_decl.specs.declared.found.Found.{Found as FoundR};
 ghost use Rattle.plm_type.specs.Calls.{graph_of, IsRecursive};
 ghost use Rattle.plm_type.specs.Order.{IsOrder};
 ghost use Rattle.plm_type.specs.Checked.{AreTyped};
+ghost use Rattle.plm_type.specs.AllFaults as all;
 ghost use Rattle.plm_type.specs.Checking as spec;
-ghost use Rattle.plm_type.specs.View.{procedures_of};
+ghost use Rattle.plm_type.specs.Interrupts.{AreInterruptFaults};
+ghost use Rattle.plm_type.specs.Programs as programs;
+ghost use Rattle.plm_type.specs.View.{procedures_of, statements_of};
 
 use crate::calls::call_graph;
 use crate::checked::Program;
 use crate::handlers::handler_numbers;
 use crate::interrupts::interrupt_faults;
 use crate::order::by_rank;
-use crate::program::Procedure;
+use crate::program::{Procedure, Statement};
 use crate::reach::ranks_or_cycle;
 use crate::typer::Typer;
 use plm_decl::Names;
@@ -46,6 +50,37 @@ fn order_of(
     }
 }
 
+/// The typed trees of names, and the faults that were met on the way.
+#[derive(Drop)]
+struct Typed {
+    faults: Vec<Found>,
+    procedures: Vec<Procedure>,
+    main: Vec<Box<Statement>>,
+}
+
+/// Types all that names declare.
+fn typed_names(alloc: Global, names: &Names) -> Result<Typed, AllocError>
+    ensures faults { IfOk result (λ typed. (more : List FoundR) × AreInterruptFaults names.now more × (typed.faults.items ≡ programs.faults names.now ++ more)) }
+    ensures procedures { IfOk result (λ typed. procedures_of typed.procedures.items ≡ programs.procedures_of names.now) }
+    ensures main { IfOk result (λ typed. statements_of typed.main.items ≡ programs.main_tree names.now) }
+{
+    let mut faults = Vec::new(alloc);
+    let typer = Typer {
+        alloc,
+        names,
+        module: 0,
+    };
+    typer.locations(&mut faults)?;
+    let procedures = typer.procedures(&mut faults)?;
+    let main = typer.main(&mut faults)?;
+    interrupt_faults(alloc, names, &mut faults)?;
+    Ok(Typed {
+        faults,
+        procedures,
+        main,
+    })
+}
+
 /// The program that these names declare, with the types of all expressions; or the least fault by module, token and
 /// number: E401 to E403, E405 and E406, and E404, of the whole program, after the others. Want of memory is answered only where a
 /// growth was refused.
@@ -53,28 +88,46 @@ pub fn check(alloc: Global, names: Names) -> Result<Program, Fault>
     ensures typed { IfOk result (λ program. AreTyped program names) }
     ensures refused { IfErr result (λ fault. spec.IsRefusal fault names) }
 {
-    let mut faults = Vec::new(alloc);
-    let typer = Typer {
-        alloc,
-        names: &names,
-        module: 0,
-    };
-    typer.locations(&mut faults)?;
-    let procedures = typer.procedures(&mut faults)?;
-    let main = typer.main(&mut faults)?;
-    interrupt_faults(alloc, &names, &mut faults)?;
-    if let Some(found) = least(&faults) {
+    let typed = typed_names(alloc, &names)?;
+    if let Some(found) = least(&typed.faults) {
         return Err(found.fault());
     }
     let handler_numbers = handler_numbers(alloc, &names)?;
-    match order_of(alloc, &names, &procedures)? {
+    match order_of(alloc, &names, &typed.procedures)? {
         Ok(order) => Ok(Program {
             names,
-            main,
-            procedures,
+            main: typed.main,
+            procedures: typed.procedures,
             order,
             handler_numbers,
         }),
         Err(found) => Err(found.fault()),
     }
+}
+
+/// The first procedure that reaches itself, as the one fault of the whole program.
+fn whole_faults(
+    alloc: Global,
+    names: &Names,
+    procedures: &[Procedure],
+) -> Result<Vec<Found>, AllocError>
+    requires { length procedures.now ≡ length names.now.procedures.items }
+    ensures { IfOk result (λ found. all.AreWhole (procedures_of procedures.now) names.now found.items) }
+{
+    match order_of(alloc, names, procedures)? {
+        Ok(_order) => Ok(Vec::new(alloc)),
+        Err(recursion) => Vec::from_slice(alloc, &[recursion]),
+    }
+}
+
+/// All faults of types that these names have, of which `check` answers the least, as they are met; or that a procedure reaches itself where
+/// there are no others. Want of memory is its one error.
+pub fn type_faults(alloc: Global, names: &Names) -> Result<Vec<Found>, AllocError>
+    ensures { IfOk result (λ found. all.AreAll names.now found.items) }
+{
+    let typed = typed_names(alloc, names)?;
+    if typed.faults.is_empty() {
+        return whole_faults(alloc, names, &typed.procedures);
+    }
+    Ok(typed.faults)
 }

@@ -24,7 +24,7 @@ mod typer;
 mod types;
 
 pub use checked::Program;
-pub use checking::check;
+pub use checking::{check, type_faults};
 pub use laws::trees_have_their_lists;
 pub use program::{
     Anchor, Counting, Expression, Line, Loop, Operation, Procedure, Reference, Scalar, Statement,

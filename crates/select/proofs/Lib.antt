@@ -21,6 +21,7 @@ pub mod Choosing
 pub mod Backs
 pub mod Cases
 pub mod Steps
+pub mod RowPlaced
 pub mod Selecting
 pub mod Bounding
 pub mod Saving

@@ -272,15 +272,25 @@ routine_inside part saves all made = at_inside many (routine part saves all) (bo
 
 -- ---- where rows begin, as a list has it
 
+taken_all : (xs : List Instruction) (k : ℕ) → length xs ≤ k → take k xs ≡ xs
+taken_all [] zero l = refl
+taken_all [] (suc k) l = refl
+taken_all (x ∷ xs) zero l = absurd (omega (arith, l))
+taken_all (x ∷ xs) (suc k) l = ap (λ z. x ∷ z) (taken_all xs k (omega (arith, l)))
+
 -- past the last row
 first_past : (saves : Registers) (all : List Instruction) (k : ℕ) → length all ≤ k → first_of saves all k ≡ first_of saves all (length all)
 first_past saves all k l = ap (λ z. length (registers_of saves) + total saves z) (taken_all all k l ∙ sym (taken_all all (length all) (omega arith)))
+
+-- no row begins past the last step
+pub first_within : (part : ℕ → ℕ) (saves : Registers) (all : List Instruction) (k : ℕ) → k ≤ length all → first_of saves all k ≤ length (routine part saves all)
+first_within part saves all k le = by (cases_lt k (length all))
   where
-    taken_all : (xs : List Instruction) (k : ℕ) → length xs ≤ k → take k xs ≡ xs
-    taken_all [] zero l = refl
-    taken_all [] (suc k) l = refl
-    taken_all (x ∷ xs) zero l = absurd (omega (arith, l))
-    taken_all (x ∷ xs) (suc k) l = ap (λ z. x ∷ z) (taken_all xs k (omega (arith, l)))
+    by : (k < length all) ⊎ (length all ≤ k) → first_of saves all k ≤ length (routine part saves all)
+    by (inl lt) = omega (arith, first_inside part saves all k lt)
+    by (inr past) =
+        let last : total saves (take k all) ≡ total saves all = ap (total saves) (taken_all all k past) in
+        omega (arith, steps_of part saves all, last)
 
 pub firsts_are : (saves : Registers) (all : List Instruction) (firsts : List ℕ) → length firsts ≡ suc (length all) → ((k : ℕ) → k ≤ length all → slice_index firsts k ≡ first_of saves all k)
     → (k : ℕ) → step_at firsts k ≡ first_of saves all k

@@ -1,4 +1,5 @@
 pub mod Selection
+pub mod RowPlaces
 pub mod Sizes
 pub mod Parts
 pub mod Linked

@@ -4,7 +4,7 @@ ghost use Rattle.std.specs.Prelude.{◌≡◌, ◌<◌, ◌≤◌, ◌+◌, ◌-
 ghost use Rattle.i86_code.specs.Forms.{word_bytes, Spells};
 ghost use Rattle.i86_code.specs.Writing.{bytes_of};
 ghost use Rattle.i86_code.specs.Open.{front_of, IsOpen};
-ghost use Rattle.select.specs.Sizes.{start, AreSettled};
+ghost use Rattle.select.specs.Sizes.{start, AreSettled, AreLeast};
 ghost use Rattle.select.specs.Parts.{target_of, extent_of, AreSpelt, IsPart, fixup};
 ghost use Rattle.select.specs.Inner.Assembly.{AreSteps, nothing, drafted_bytes, jump_bytes, branch_bytes, step_bytes, step_fixups, IsCoded};
 
@@ -44,7 +44,7 @@ fn places_of(alloc: Global, sizes: &[u8]) -> Result<Vec<u16>, Fault>
 }
 
 // The number at an index of a list, or 0 past its end.
-fn number_at(numbers: &[u16], index: usize) -> u16
+pub(crate) fn number_at(numbers: &[u16], index: usize) -> u16
     ensures { result ≡ slice_index numbers.now index }
 {
     match numbers.get(index) {
@@ -230,8 +230,38 @@ fn extents_of(alloc: Global, steps: &[Step], drafts: &[Draft]) -> Result<Vec<Ext
     Ok(extents)
 }
 
-/// The part of this number: its bytes spell the steps, and each jump is short exactly where its target would be within -128 to 127
-/// if that jump alone were short. All are short at first, and made long until nothing changes. `Memory` is its one refusal.
+/// Steps whose jumps are settled: what is written of each before its target is known, how long it is, and where it begins, modulo 65,536. Last
+/// comes the place where the part ends.
+#[derive(Drop)]
+pub(crate) struct LaidSteps {
+    drafts: Vec<Draft>,
+    sizes: Vec<u8>,
+    pub places: Vec<u16>,
+}
+
+/// Lays out steps: each jump is short exactly where its target would be within -128 to 127 if that jump alone were short. All are short at
+/// first, and made long until nothing changes.
+pub(crate) fn lay_out(alloc: Global, steps: &[Step]) -> Result<LaidSteps, Fault>
+    requires { AreSteps steps.now }
+    ensures drafts { IfOk result (λ l. map (λ d. d.items) l.drafts.items ≡ map drafted_bytes steps.now) }
+    ensures coded { IfOk result (λ _. (k : ℕ) → k < length steps.now → IsCoded (slice_index_or steps.now k nothing)) }
+    ensures settled { IfOk result (λ l. AreSettled (map extent_of steps.now) l.sizes.items) }
+    ensures least { IfOk result (λ l. AreLeast (map extent_of steps.now) l.sizes.items) }
+    ensures places { IfOk result (λ l. (k : ℕ) → k ≤ length l.sizes.items → slice_index l.places.items k ≡ start l.sizes.items k % 65536) }
+    ensures memory { IsOkUnless result Fault.Memory }
+{
+    let drafts = drafts_of(alloc, steps)?;
+    let extents = extents_of(alloc, steps, drafts.as_slice())?;
+    let sizes = settled(alloc, &extents)?;
+    let places = places_of(alloc, &sizes)?;
+    Ok(LaidSteps {
+        drafts,
+        sizes,
+        places,
+    })
+}
+
+/// The part of this number: its bytes spell the steps as they are laid out. `Memory` is its one refusal.
 pub(crate) fn assemble(
     alloc: Global,
     own: usize,
@@ -243,9 +273,10 @@ pub(crate) fn assemble(
     ensures entry { IfOk result (λ p. p.entry ≡ entry) }
     ensures memory { IsOkUnless result Fault.Memory }
 {
-    let drafts = drafts_of(alloc, steps)?;
-    let extents = extents_of(alloc, steps, drafts.as_slice())?;
-    let sizes = settled(alloc, &extents)?;
-    let places = places_of(alloc, &sizes)?;
+    let LaidSteps {
+        drafts,
+        sizes,
+        places,
+    } = lay_out(alloc, steps)?;
     write_steps(alloc, own, entry, steps, drafts.as_slice(), &sizes, &places)
 }

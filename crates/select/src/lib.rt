@@ -9,6 +9,7 @@ mod operators;
 mod part;
 mod put;
 mod routine;
+mod row_places;
 mod rows;
 mod selection;
 mod sizes;
@@ -18,4 +19,5 @@ pub use laws::{
     registers_are_counted, unserved_changes_none,
 };
 pub use part::{Entry, Fixup, Kind, Part, Step};
+pub use row_places::RowPlaces;
 pub use selection::{select, select_section};

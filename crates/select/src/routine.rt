@@ -40,7 +40,7 @@ fn save(steps: &mut Vec<Step>, saves: Registers) -> Result<(), Fault>
 }
 
 /// The number of the step at which each row begins, and at last how many steps there are.
-fn firsts_of(
+pub(crate) fn firsts_of(
     alloc: Global,
     saves: Registers,
     instructions: &[Instruction],

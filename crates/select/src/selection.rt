@@ -74,7 +74,7 @@ fn registers_at(changed: &[Registers], number: usize) -> Registers
 }
 
 /// The registers that a routine saves, where procedures and what they call can change these.
-fn saves_of(code: &Code, changed: &[Registers], routine: Routine) -> Registers
+pub(crate) fn saves_of(code: &Code, changed: &[Registers], routine: Routine) -> Registers
     ensures { result ≡ saves_in code.now changed.now routine }
 {
     match routine {
@@ -133,7 +133,7 @@ fn sections_before(alloc: Global, code: &Code, number: usize) -> Result<Vec<Rout
 }
 
 /// The routines of a program, in the order of their parts.
-fn routines_of(alloc: Global, code: &Code) -> Result<Vec<Routine>, Fault>
+pub(crate) fn routines_of(alloc: Global, code: &Code) -> Result<Vec<Routine>, Fault>
     ensures routines { IfOk result (λ routines. routines.items ≡ spec.routines code.now) }
     ensures memory { IsOkUnless result Fault.Memory }
 {
@@ -155,7 +155,11 @@ fn note(numbers: &mut Vec<usize>, routine: Routine, part: usize)
 }
 
 /// The number of each procedure's part.
-fn numbers_of(alloc: Global, code: &Code, routines: &[Routine]) -> Result<Vec<usize>, Fault>
+pub(crate) fn numbers_of(
+    alloc: Global,
+    code: &Code,
+    routines: &[Routine],
+) -> Result<Vec<usize>, Fault>
     requires { AllBelow (length code.now.procedures.items) routines.now }
     ensures each { IfOk result (λ numbers. (q : ℕ) → slice_index numbers.items q ≡ spec.part_in 0 0 routines.now q) }
     ensures memory { IsOkUnless result Fault.Memory }

@@ -1,15 +1,15 @@
 use Rattle.std.proofs.Common.{◌||◌, ap, ap₂, ◌∙◌}
 use Rattle.std.proofs.lemmas.Result.{IfOk-weaker}
-use Rattle.clap.specs.Words.{with_rule}
+use Rattle.clap.specs.Words.{App, with_rule}
 use Rattle.clap.specs.Simple.{app_of_fields}
-use Rattle.clap.specs.declared.builder.command.Command.{Command}
-use Rattle.clap.specs.declared.builder.command.Command.TheOpen.{Command-F}
+use Rattle.plm86.specs.CommandLine.{with_rules, run_options, telling_options}
 use Rattle.plm86.proofs.command_line.run_command.Goals as goal
 
 pub returns : goal.returns
 returns c =
-    let app = ap app_of_fields c.about.ensures ∙ c.new.ensures.app in
-    let local = ap (λ (f : Command-F Command). f.has_globals) c.about.ensures ∙ c.new.ensures.local in
-    let a0 = c.in_ok-arg.ensures.shape c.positional-rom.ensures.local ∙ ap₂ with_rule app c.positional-rom.ensures.rule in
-    let g0 = c.in_ok-arg.ensures.globals ∙ ap₂ ◌||◌ local c.positional-rom.ensures.local in
+    let app = ap app_of_fields c.about-command.ensures ∙ c.new.ensures.app in
+    let own = c.in_ok-own.ensures.0 ∙ ap (λ (a : App). with_rules a run_options) app in
+    let told = c.in_ok-told.ensures.0 ∙ ap (λ (a : App). with_rules a telling_options) own in
+    let a0 = c.in_ok-arg.ensures.shape c.positional-rom.ensures.local ∙ ap₂ with_rule told c.positional-rom.ensures.rule in
+    let g0 = c.in_ok-arg.ensures.globals ∙ ap₂ ◌||◌ c.in_ok-told.ensures.1 c.positional-rom.ensures.local in
     IfOk-weaker c.arg-2.result _ _ (λ r h. (h.shape c.schedule_argument-schedule.ensures.local ∙ ap₂ with_rule a0 c.schedule_argument-schedule.ensures.rule, h.globals ∙ ap₂ ◌||◌ g0 c.schedule_argument-schedule.ensures.local)) c.arg-2.ensures

@@ -1,13 +1,11 @@
-use Rattle.std.proofs.Common.{◌≡◌, ◌<◌, List, [], map, length, true, sym, ap, subst, ◌∙◌, arith}
+use Rattle.std.proofs.Common.{◌≡◌, ◌<◌, [], map, length, true, sym, ap, subst, arith}
 use Rattle.std.specs.List.{list_all}
-use Rattle.std.proofs.lemmas.List.{at_drop_all}
 use Rattle.std.proofs.lemmas.Result.{IfOk-weaker, IfErr-weaker}
-use Rattle.plm_syntax.specs.declared.tree.Module.{Module}
 use Rattle.plm_syntax.specs.View.{module_of}
 use Rattle.plm_decl.specs.Resolver.{Known}
 use Rattle.plm_decl.specs.Inner.Resolver.{known_of}
 use Rattle.plm_decl.specs.Values.{values_fit}
-use Rattle.plm_decl.specs.Joins.{have_room, known_from, modules_from}
+use Rattle.plm_decl.specs.Joins.{have_room, known_from}
 use Rattle.plm_decl.specs.Modules.{AreAnswered}
 use Rattle.plm_decl.specs.Inner.Modules.{IsRefused}
 use Rattle.plm_decl.specs.Inner.Ranges.{Within, counts_of}
@@ -17,12 +15,9 @@ use Rattle.plm_decl.proofs.modules.resolve.Goals as goal
 
 pub answer-requires : goal.answer-requires
 answer-requires c =
-    let here = c.loop-number in
     let ms = c.args.modules.now in
-    let all : known_of here.resolver ≡ known_from (map module_of ms) =
-    sym (at_drop_all (λ (l : List Module). modules_from here.number (map module_of l) (known_of here.resolver)) ms here.number c.loop-number-test.false)
-    ∙ here.invariant in
-    let table = here.resolver.variables in
+    let all : known_of c.in_ok-resolver.resolver ≡ known_from (map module_of ms) = c.in_ok-resolver.ensures in
+    let table = c.in_ok-resolver.resolver.variables in
     let short : length table.items < 18446744073709551616 = omega (arith, table.ok.0, table.ok.1, table.small) in
     let few : length (known_from (map module_of ms)).variables < 18446744073709551616 = omega (arith, short, ap (λ (k : Known). length k.variables) all) in
     record {
@@ -32,11 +27,7 @@ answer-requires c =
 
 pub returns : goal.returns
 returns c =
-    let here = c.loop-number in
-    let ms = c.args.modules.now in
-    let all : known_of here.resolver ≡ known_from (map module_of ms) =
-    sym (at_drop_all (λ (l : List Module). modules_from here.number (map module_of l) (known_of here.resolver)) ms here.number c.loop-number-test.false)
-    ∙ here.invariant in
+    let all : known_of c.in_ok-resolver.resolver ≡ known_from (map module_of c.args.modules.now) = c.in_ok-resolver.ensures in
     record {
       names = IfOk-weaker c.answer.result _ _ (λ names are. subst (λ (k : Known). AreAnswered names k) all are) c.answer.ensures.names;
       refused = IfErr-weaker c.answer.result _ _ (λ fault is. subst (λ (k : Known). IsRefused fault k) all is) c.answer.ensures.refused;

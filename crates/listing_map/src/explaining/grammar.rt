@@ -1,0 +1,520 @@
+//! What is told of the faults of grammar: E201 to E205, and the faults of a literal's text.
+
+use crate::explaining::blocks::{Opening, innermost};
+use crate::explaining::expecting::{Candidate, expected, has_kind, listed};
+use crate::explaining::left_out::{foreign_way, way_round};
+use crate::explaining::scope::{Declared, all_names};
+use crate::explaining::sentence::{Part, put_all_parts, quotation, sentence};
+use crate::explaining::studied::{Studied, copied, unparsed_token};
+use crate::explaining::told::{Told, tell};
+use plm_syntax::parse;
+use plm_token::{Keyword, Kind, Mark, Token, same_name};
+use std::alloc::{AllocError, Global};
+use word86::Fault;
+
+/// The token that a module cannot go on with, and what stands around it.
+#[derive(Clone, Copy)]
+struct Refusal<'s, 'c, 'a> {
+    source: &'s Studied<'a>,
+    /// How many tokens stand before it.
+    before: usize,
+    accepted: &'c [Candidate],
+    /// The names that the source declares.
+    names: &'c [Declared<'a>],
+}
+
+/// What is said after what was found and what can stand.
+#[derive(Clone, Copy)]
+enum Hint<'a> {
+    None,
+    Words(&'static str),
+    /// A word, and what takes its place.
+    Way(&'a [u8], &'static str),
+    /// A reserved word that stands for a name.
+    Reserved(&'a [u8]),
+    /// A procedure that is called without CALL.
+    Call(&'a [u8]),
+    /// A semicolon may be missing at the end of this line.
+    Semicolon(u32),
+    /// What is still open.
+    Open(Opening<'a>),
+    /// What the END before it closes.
+    Closed(Opening<'a>),
+}
+
+/// Whether beginners take this word for a name.
+fn is_like_a_name(keyword: Keyword) -> bool {
+    match keyword {
+        Keyword::Address
+        | Keyword::At
+        | Keyword::Based
+        | Keyword::By
+        | Keyword::Byte
+        | Keyword::Case
+        | Keyword::Data
+        | Keyword::External
+        | Keyword::Initial
+        | Keyword::Integer
+        | Keyword::Interrupt
+        | Keyword::Minus
+        | Keyword::Plus
+        | Keyword::Pointer
+        | Keyword::Public
+        | Keyword::Structure
+        | Keyword::To
+        | Keyword::Word => true,
+        Keyword::And
+        | Keyword::Call
+        | Keyword::Declare
+        | Keyword::Disable
+        | Keyword::Do
+        | Keyword::Dword
+        | Keyword::Else
+        | Keyword::Enable
+        | Keyword::End
+        | Keyword::Go
+        | Keyword::Goto
+        | Keyword::Halt
+        | Keyword::If
+        | Keyword::Label
+        | Keyword::Literally
+        | Keyword::Mod
+        | Keyword::Not
+        | Keyword::Or
+        | Keyword::Procedure
+        | Keyword::Real
+        | Keyword::Reentrant
+        | Keyword::Return
+        | Keyword::Selector
+        | Keyword::Then
+        | Keyword::While
+        | Keyword::Xor => false,
+    }
+}
+
+/// The rule that ELSE breaks.
+const ARMS: &str = "an arm of IF is one statement, and several stand between DO; and END;";
+
+impl<'s, 'c, 'a> Refusal<'s, 'c, 'a> {
+    fn token(&self) -> Option<Token<'a>> {
+        self.source.tokens.get(self.before).copied()
+    }
+
+    /// The token so many places before it.
+    fn earlier(&self, count: usize) -> Option<Token<'a>> {
+        if self.before < count {
+            return None;
+        }
+        self.source.tokens.get(self.before - count).copied()
+    }
+
+    fn takes(&self, kind: Kind) -> bool {
+        has_kind(self.accepted, kind)
+    }
+
+    /// The line on which a token stands.
+    fn line_of(&self, token: &Token<'a>) -> u32 {
+        self.source.line(token.line)
+    }
+
+    fn is_after(&self, kind: Kind) -> bool {
+        match self.earlier(1) {
+            Some(token) => token.kind == kind,
+            None => false,
+        }
+    }
+
+    fn is_before(&self, kind: Kind) -> bool {
+        match self.source.tokens.get(self.before.saturating_add(1)) {
+            Some(token) => token.kind == kind,
+            None => false,
+        }
+    }
+
+    /// The block that is open before this token.
+    fn open_before(&self, number: usize) -> Option<Opening<'a>> {
+        innermost(self.source, number)
+    }
+
+    fn hint(&self) -> Hint<'a> {
+        let Some(token) = self.token() else {
+            return self.hint_at_end();
+        };
+        if self.is_after(Kind::Reserved(Keyword::End)) {
+            return match self.open_before(self.before.saturating_sub(1)) {
+                Some(opening) => Hint::Closed(opening),
+                None => Hint::None,
+            };
+        }
+        match token.kind {
+            Kind::Reserved(keyword) => self.hint_at_word(&token, keyword),
+            Kind::Identifier | Kind::Numeral(_) | Kind::String => self.hint_at_operand(&token),
+            Kind::Special(mark) => self.hint_at_mark(&token, mark),
+        }
+    }
+
+    fn hint_at_end(&self) -> Hint<'a> {
+        match self.open_before(self.before) {
+            Some(opening) => Hint::Open(opening),
+            None => Hint::None,
+        }
+    }
+
+    /// Whether the token at a place is a name of the source: one that is declared elsewhere there, or a label.
+    fn is_name(&self, place: usize, token: &Token<'a>) -> bool {
+        match self.source.tokens.get(place.saturating_add(1)) {
+            Some(next) if next.kind == Kind::Special(Mark::Colon) => true,
+            Some(_) | None => is_declared(self.names, place, token.text),
+        }
+    }
+
+    /// What is said of the token before it, where that is a word of another language.
+    fn hint_behind(&self) -> Hint<'a> {
+        let Some(before) = self.earlier(1) else {
+            return Hint::None;
+        };
+        if self.is_name(self.before.saturating_sub(1), &before) {
+            return Hint::None;
+        }
+        match foreign_way(before.text) {
+            Some(way) => Hint::Way(before.text, way),
+            None => Hint::None,
+        }
+    }
+
+    /// Whether what stands before it may end there: a semicolon can stand, and no statement can begin, of which one is empty.
+    fn may_end(&self) -> bool {
+        let takes_semicolon = self.takes(Kind::Special(Mark::Semicolon));
+        takes_semicolon && !self.takes(Kind::Reserved(Keyword::Call))
+    }
+
+    /// The line before its own at whose end a semicolon may be missing: before END also that of an empty statement.
+    fn open_line(&self, token: &Token<'a>) -> Option<u32> {
+        let is_end = token.kind == Kind::Reserved(Keyword::End);
+        let is_open = self.may_end() || is_end && self.takes(Kind::Special(Mark::Semicolon));
+        let line = self.line_of(&self.earlier(1)?);
+        (is_open && line < self.line_of(token)).then_some(line)
+    }
+
+    /// What is said where a line begins with it.
+    fn hint_at_line(&self, token: &Token<'a>) -> Hint<'a> {
+        match self.open_line(token) {
+            Some(line) => Hint::Semicolon(line),
+            None => self.hint_behind(),
+        }
+    }
+
+    fn hint_at_else(&self) -> Hint<'a> {
+        Hint::Words(if self.may_end() {
+            "a semicolon stands before ELSE too"
+        } else {
+            ARMS
+        })
+    }
+
+    fn hint_at_word(&self, token: &Token<'a>, keyword: Keyword) -> Hint<'a> {
+        if let Some(way) = way_round(token.text) {
+            return Hint::Way(token.text, way);
+        }
+        if is_like_a_name(keyword) && self.takes(Kind::Identifier) {
+            return Hint::Reserved(token.text);
+        }
+        if keyword == Keyword::Else {
+            return self.hint_at_else();
+        }
+        if keyword == Keyword::Procedure {
+            return Hint::Words("a procedure begins with its name and a colon, as P: PROCEDURE;");
+        }
+        match self.hint_at_line(token) {
+            Hint::None if keyword == Keyword::End => self.hint_at_end(),
+            hint => hint,
+        }
+    }
+
+    fn hint_at_operand(&self, token: &Token<'a>) -> Hint<'a> {
+        if let Some(line) = self.open_line(token) {
+            return Hint::Semicolon(line);
+        }
+        if self.is_name(self.before, token) {
+            return self.hint_behind();
+        }
+        if let Some(way) = way_round(token.text) {
+            return Hint::Way(token.text, way);
+        }
+        if let Some(way) = foreign_way(token.text) {
+            return Hint::Way(token.text, way);
+        }
+        self.hint_behind()
+    }
+
+    fn hint_at_mark(&self, token: &Token<'a>, mark: Mark) -> Hint<'a> {
+        if mark == Mark::Assign {
+            return Hint::Words(
+                "a statement stores by \"=\", and \":=\" stands inside an expression, in parentheses",
+            );
+        }
+        if mark == Mark::Equal && self.is_after(Kind::Special(Mark::Equal)) {
+            return Hint::Words("equal is one \"=\"");
+        }
+        if mark == Mark::Slash && self.is_before(Kind::Special(Mark::Slash)) {
+            return Hint::Words("a comment stands between /* and */");
+        }
+        if mark != Mark::Semicolon {
+            return self.hint_at_line(token);
+        }
+        match self.called() {
+            Some(name) => Hint::Call(name),
+            None => self.hint_behind(),
+        }
+    }
+
+    /// The name before it, or before the arguments before it, where it is a procedure's and a statement begins with it.
+    fn called(&self) -> Option<&'a [u8]> {
+        if !self.takes(Kind::Special(Mark::Equal)) {
+            return None;
+        }
+        let name = self.name_before()?;
+        if is_procedure(&self.source.tokens, name) {
+            Some(name)
+        } else {
+            None
+        }
+    }
+
+    /// The nearest name before it after which a parenthesis opens, or right before it.
+    fn name_before(&self) -> Option<&'a [u8]> {
+        let before = self.earlier(1)?;
+        if before.kind == Kind::Identifier {
+            return Some(before.text);
+        }
+        let mut name = None;
+        for count in 2..self.before {
+            let token = self.earlier(count)?;
+            if token.kind == Kind::Special(Mark::Semicolon) {
+                return name;
+            }
+            if token.kind == Kind::Identifier {
+                name = Some(token.text);
+            }
+        }
+        name
+    }
+}
+
+/// Whether a name is declared at another place than this one.
+fn is_declared(names: &[Declared<'_>], place: usize, name: &[u8]) -> bool {
+    for declared in names {
+        if declared.at != place && same_name(declared.token.text, name) {
+            return true;
+        }
+    }
+    false
+}
+
+/// Whether a procedure of this name begins among these tokens.
+fn is_procedure(tokens: &[Token<'_>], name: &[u8]) -> bool {
+    let mut before: Option<&[u8]> = None;
+    let mut named: Option<&[u8]> = None;
+    for token in tokens {
+        if token.kind == Kind::Reserved(Keyword::Procedure) {
+            if let Some(found) = named {
+                if same_name(found, name) {
+                    return true;
+                }
+            }
+        }
+        named = before;
+        before = Some(token.text);
+    }
+    false
+}
+
+fn put_opening(alloc: Global, text: &mut Vec<u8>, opening: Opening<'_>) -> Result<(), Fault> {
+    let parts = [
+        Part::Words(" the "),
+        Part::Spelled(opening.word),
+        Part::Words(if opening.name.is_empty() { "" } else { " " }),
+        Part::Spelled(opening.name),
+        Part::Words(" of line "),
+        Part::Number(u64::from(opening.line)),
+    ];
+    Ok(put_all_parts(alloc, text, &parts)?)
+}
+
+/// Adds a word and what is said of it.
+fn put_word_hint(
+    alloc: Global,
+    text: &mut Vec<u8>,
+    word: &[u8],
+    parts: &[Part<'_>],
+) -> Result<(), Fault> {
+    put_all_parts(alloc, text, &[Part::Words(": "), Part::Spelled(word)])?;
+    Ok(put_all_parts(alloc, text, parts)?)
+}
+
+/// Adds that a block is still open.
+fn put_still_open(alloc: Global, text: &mut Vec<u8>, opening: Opening<'_>) -> Result<(), Fault> {
+    put_all_parts(alloc, text, &[Part::Words(":")])?;
+    put_opening(alloc, text, opening)?;
+    Ok(put_all_parts(alloc, text, &[Part::Words(" is still open")])?)
+}
+
+fn put_hint(alloc: Global, text: &mut Vec<u8>, hint: Hint<'_>) -> Result<(), Fault> {
+    match hint {
+        Hint::None => Ok(()),
+        Hint::Words(words) => {
+            let parts = [Part::Words(": "), Part::Words(words)];
+            Ok(put_all_parts(alloc, text, &parts)?)
+        }
+        Hint::Way(word, way) => {
+            let parts = [Part::Words(" "), Part::Words(way)];
+            put_word_hint(alloc, text, word, &parts)
+        }
+        Hint::Reserved(word) => {
+            let parts = [Part::Words(" is a reserved word and no name")];
+            put_word_hint(alloc, text, word, &parts)
+        }
+        Hint::Call(name) => {
+            let rule = Part::Words(" is a procedure, which CALL ");
+            let parts = [rule, Part::Spelled(name), Part::Words(" calls")];
+            put_word_hint(alloc, text, name, &parts)
+        }
+        Hint::Semicolon(line) => {
+            let rule = Part::Words(": a semicolon may be missing at the end of line ");
+            Ok(put_all_parts(alloc, text, &[rule, Part::Number(u64::from(line))])?)
+        }
+        Hint::Open(opening) => put_still_open(alloc, text, opening),
+        Hint::Closed(opening) => {
+            put_all_parts(alloc, text, &[Part::Words(": this END closes")])?;
+            put_opening(alloc, text, opening)
+        }
+    }
+}
+
+/// How many tokens stand before the one that a source cannot go on with.
+fn refused_after(alloc: Global, source: &Studied<'_>) -> Result<usize, Fault> {
+    let count = source.tokens.len();
+    let mut tokens = copied(alloc, &source.tokens)?;
+    // With one more token at its end, a refusal of the text's end has another line than one of its last token.
+    tokens.push(Token {
+        kind: Kind::Special(Mark::Semicolon),
+        text: b";",
+        line: u32::try_from(count).unwrap_or(u32::MAX).saturating_add(1),
+    })?;
+    match parse(alloc, tokens) {
+        Err(Fault::At(_, number, _)) => Ok((number as usize).saturating_sub(1).min(count)),
+        Ok(_) => Ok(count),
+        Err(Fault::Memory) => Err(Fault::Memory),
+    }
+}
+
+/// Adds what can stand.
+fn put_expected(
+    alloc: Global,
+    text: &mut Vec<u8>,
+    accepted: &[Candidate],
+) -> Result<(), AllocError> {
+    let list = listed(alloc, accepted)?;
+    if list.is_empty() {
+        put_all_parts(alloc, text, &[Part::Words("nothing")])?;
+    }
+    put_all_parts(
+        alloc,
+        text,
+        &[Part::Spelled(&list), Part::Words(" can stand")],
+    )
+}
+
+/// What is said after what was found and what can stand.
+fn hint_for<'a>(
+    alloc: Global,
+    source: &Studied<'a>,
+    before: usize,
+    accepted: &[Candidate],
+) -> Result<Hint<'a>, AllocError> {
+    let names = all_names(alloc, &source.tokens)?;
+    let refusal = Refusal {
+        source,
+        before,
+        accepted,
+        names: &names,
+    };
+    Ok(refusal.hint())
+}
+
+/// What is told of E201.
+pub(crate) fn syntax_fault(alloc: Global, source: &Studied<'_>) -> Result<Told, Fault> {
+    let before = refused_after(alloc, source)?;
+    let tokens = source.tokens.as_slice();
+    let accepted = expected(alloc, &tokens[..before.min(tokens.len())])?;
+    let spot = source.spots.get(before).copied();
+    let (found, around) = match &spot {
+        Some(piece) => (Part::Spelled(piece.text), quotation(piece.text)),
+        None => (Part::Words("the end of the text"), ""),
+    };
+    let parts = [
+        Part::Words("found "),
+        Part::Words(around),
+        found,
+        Part::Words(around),
+        Part::Words(", where "),
+    ];
+    let mut help = sentence(alloc, &parts)?;
+    put_expected(alloc, &mut help, &accepted)?;
+    let marked = match spot {
+        Some(piece) => Some(piece),
+        None => source.spots.last().copied(),
+    };
+    let hint = hint_for(alloc, source, before, &accepted)?;
+    put_hint(alloc, &mut help, hint)?;
+    Ok(tell(alloc, marked, &[Part::Spelled(&help)])?)
+}
+
+/// A fault of the token that the parser names.
+#[derive(Debug, Clone, Copy, PartialEq, Eq)]
+pub(crate) enum TokenFault {
+    /// E202
+    NestedLiterals,
+    /// E203
+    Depth,
+    /// E204
+    Apostrophe,
+    /// E205
+    Count,
+    /// E101, E103, E104 or E105 in a literal's text.
+    LiteralText,
+}
+
+/// What is told of E202 to E205, and of a fault in a literal's text.
+pub(crate) fn token_fault(
+    alloc: Global,
+    source: &Studied<'_>,
+    fault: TokenFault,
+) -> Result<Told, Fault> {
+    let spot = match unparsed_token(alloc, source)? {
+        Some(number) => source.spot(number),
+        None => None,
+    };
+    let words = match fault {
+        TokenFault::NestedLiterals => {
+            " is a literal whose text names a literal, and so on more than 8 deep: does it stand in its own text?"
+        }
+        TokenFault::Depth => {
+            " opens level 65: at most 64 of blocks, procedures, arms of IF, parentheses, signs and NOT are open at once"
+        }
+        TokenFault::Apostrophe => {
+            " has an apostrophe in it, and a literal cannot stand for a string: DECLARE TEXT (*) BYTE DATA ('text') gives one a name"
+        }
+        TokenFault::Count => {
+            " is one token too many: a module has at most 65535, once its literals are replaced; part it into modules"
+        }
+        TokenFault::LiteralText => {
+            " is a literal's text, and what stands in it is no token, or a comment that is not closed"
+        }
+    };
+    let name = match &spot {
+        Some(piece) => Part::Spelled(piece.text),
+        None => Part::Words("what stands here"),
+    };
+    Ok(tell(alloc, spot, &[name, Part::Words(words)])?)
+}

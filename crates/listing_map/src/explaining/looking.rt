@@ -1,0 +1,614 @@
+//! Why there are faults of types, and where: the statements and expressions are gone through once, in the order in which types are checked.
+
+use crate::explaining::reason::{Reason, Reasoned, Rule, Type, TypeFault, first};
+use crate::explaining::value_types::{
+    Typed, Types, beside, clash, is_measure, is_no_number, is_pointer, paired, refuses,
+    refuses_operand,
+};
+use plm_decl::{
+    Binding, Builtin, Expression, Form, Location, Operation, Reference, Region, ScalarType,
+    Selector, Variable,
+};
+use plm_syntax::Position;
+use std::alloc::AllocError;
+
+/// What faults of types are looked for in: a module, with the names by which its expressions are typed.
+#[derive(Clone, Copy)]
+pub(crate) struct Looking<'n> {
+    pub types: Types<'n>,
+    pub module: usize,
+}
+
+/// Whether a built-in is a target alone.
+fn is_target(builtin: Builtin) -> bool {
+    match builtin {
+        Builtin::Output | Builtin::OutputWord => true,
+        Builtin::Length
+        | Builtin::Last
+        | Builtin::Size
+        | Builtin::Low
+        | Builtin::High
+        | Builtin::Double
+        | Builtin::ShiftLeft
+        | Builtin::ShiftRight
+        | Builtin::RotateLeft
+        | Builtin::RotateRight
+        | Builtin::Input
+        | Builtin::InputWord
+        | Builtin::Signed
+        | Builtin::Unsigned => false,
+    }
+}
+
+/// How many arguments a built-in takes.
+fn arity(builtin: Builtin) -> usize {
+    match builtin {
+        Builtin::ShiftLeft | Builtin::ShiftRight | Builtin::RotateLeft | Builtin::RotateRight => 2,
+        Builtin::Low
+        | Builtin::High
+        | Builtin::Double
+        | Builtin::Length
+        | Builtin::Last
+        | Builtin::Size
+        | Builtin::Input
+        | Builtin::InputWord
+        | Builtin::Output
+        | Builtin::OutputWord
+        | Builtin::Signed
+        | Builtin::Unsigned => 1,
+    }
+}
+
+/// What a built-in takes: UNSIGN an INTEGER, the others BYTEs and WORDs.
+fn taken_by(builtin: Builtin) -> Type {
+    match builtin {
+        Builtin::Unsigned => Some(ScalarType::Integer),
+        Builtin::ShiftLeft
+        | Builtin::ShiftRight
+        | Builtin::RotateLeft
+        | Builtin::RotateRight
+        | Builtin::Low
+        | Builtin::High
+        | Builtin::Double
+        | Builtin::Length
+        | Builtin::Last
+        | Builtin::Size
+        | Builtin::Input
+        | Builtin::InputWord
+        | Builtin::Output
+        | Builtin::OutputWord
+        | Builtin::Signed => None,
+    }
+}
+
+/// Whether a built-in that takes this does not take such an argument.
+fn is_refused(taken: Type, argument: Type) -> bool {
+    match taken {
+        Some(_) => clash(taken, argument),
+        None => is_no_number(argument),
+    }
+}
+
+/// Whether LENGTH, LAST or SIZE is of a variable.
+fn measures_variable(arguments: &[Expression]) -> bool {
+    let [Expression::Reference(reference)] = arguments else {
+        return false;
+    };
+    matches!(reference.binding, Binding::Variable(_))
+}
+
+/// Where an expression begins.
+#[cycle(beginning)]
+pub(crate) fn first_place(e: &Expression) -> Position {
+    match e {
+        Expression::Number(number) => number.place,
+        Expression::Reference(reference) => reference.place,
+        Expression::Location(location) => match location {
+            Location::Reference(place, _, _) | Location::Constants(place, _, _) => *place,
+        },
+        Expression::Text(place, _)
+        | Expression::Parenthesised(place, _)
+        | Expression::Embedded(place, _, _)
+        | Expression::Unary(place, _, _) => *place,
+        Expression::Chain { first, .. } => first_place(first),
+    }
+}
+
+/// Whether what is named may be a part of a variable, as in a location, or has to be a whole scalar.
+#[derive(Debug, Clone, Copy, PartialEq, Eq)]
+enum Extent {
+    Whole,
+    Part,
+}
+
+/// Why `count` subscripts do not fit a dimension.
+fn subscripts(extent: Extent, dimension: Option<u32>, count: usize) -> Option<Reason> {
+    match (dimension, count) {
+        (None, 0) | (Some(_), 1) => None,
+        (None, _) => Some(Reason::Broken(Rule::SurplusSubscript)),
+        (Some(_), 0) => (extent == Extent::Whole).then_some(Reason::Broken(Rule::MissingSubscript)),
+        (Some(_), _) => Some(Reason::SeveralSubscripts(count)),
+    }
+}
+
+/// Why a selector does not fit a form.
+fn selected(extent: Extent, form: Form, selector: &Selector) -> Option<Reason> {
+    match (form, selector) {
+        (Form::Scalar(_), Selector::None) => None,
+        (Form::Scalar(_), Selector::Member(_, _) | Selector::Element(_, _, _)) => {
+            Some(Reason::Broken(Rule::SurplusMember))
+        }
+        (Form::Structure(_), Selector::None) => {
+            (extent == Extent::Whole).then_some(Reason::Broken(Rule::MissingMember))
+        }
+        (Form::Structure(_), Selector::Member(_, Some(member))) => {
+            let is_missing = extent == Extent::Whole && member.dimension.is_some();
+            is_missing.then_some(Reason::Broken(Rule::MissingMemberSubscript))
+        }
+        (Form::Structure(_), Selector::Element(_, Some(member), _)) => member
+            .dimension
+            .is_none()
+            .then_some(Reason::Broken(Rule::SurplusMemberSubscript)),
+        (Form::Structure(_), Selector::Member(_, None) | Selector::Element(_, None, _)) => None,
+    }
+}
+
+/// Whether it is on a page of the screen.
+fn is_on_screen(variable: &Variable) -> bool {
+    match variable.region {
+        Region::Screen(_, _) => true,
+        Region::Ram(_, _) | Region::Based(_) | Region::Nowhere => false,
+    }
+}
+
+impl Looking<'_> {
+    /// Notes why there is a fault at a token.
+    fn note(
+        &self,
+        place: Position,
+        fault: TypeFault,
+        reason: Reason,
+        found: &mut Vec<Reasoned>,
+    ) -> Result<(), AllocError> {
+        found.push(Reasoned {
+            module: self.module,
+            place: place.token as usize,
+            fault,
+            reason,
+        })?;
+        Ok(())
+    }
+
+    /// Notes a reason for a fault of types at a token, where something holds.
+    pub fn types_if(
+        &self,
+        place: Position,
+        holds: bool,
+        reason: Reason,
+        found: &mut Vec<Reasoned>,
+    ) -> Result<(), AllocError> {
+        if !holds {
+            return Ok(());
+        }
+        self.note(place, TypeFault::Types, reason, found)
+    }
+
+    /// Notes the reason for a fault of types at a token, if there is one.
+    pub fn types_for(
+        &self,
+        place: Position,
+        reason: Option<Reason>,
+        found: &mut Vec<Reasoned>,
+    ) -> Result<(), AllocError> {
+        match reason {
+            Some(reason) => self.note(place, TypeFault::Types, reason, found),
+            None => Ok(()),
+        }
+    }
+
+    /// A number that no INTEGER can have, where a value of this type is wanted.
+    pub fn range(
+        &self,
+        into: Type,
+        value: Typed,
+        found: &mut Vec<Reasoned>,
+    ) -> Result<(), AllocError> {
+        match value.misfit(into) {
+            Some(place) => self.types_if(place, true, Reason::LargeInteger, found),
+            None => Ok(()),
+        }
+    }
+
+    fn variable(&self, number: usize) -> Option<Variable> {
+        self.types.names.variables.get(number).copied()
+    }
+
+    /// Why a reference does not have its variable's shape.
+    fn misshape(&self, extent: Extent, number: usize, reference: &Reference) -> Option<Reason> {
+        let variable = self.variable(number)?;
+        let count = reference.subscripts.len();
+        let shape = first(
+            subscripts(extent, variable.dimension, count),
+            selected(extent, variable.form, &reference.selector),
+        );
+        let has_pointer = self.has_pointer(reference);
+        let pointer = has_pointer.then_some(Reason::Broken(Rule::PointerSubscript));
+        first(shape, pointer)
+    }
+
+    /// Notes that a reference does not have its variable's shape.
+    fn shape(
+        &self,
+        extent: Extent,
+        number: usize,
+        reference: &Reference,
+        found: &mut Vec<Reasoned>,
+    ) -> Result<(), AllocError> {
+        let reason = self.misshape(extent, number, reference);
+        self.types_for(reference.place, reason, found)
+    }
+
+    /// Whether a subscript is a POINTER.
+    fn has_pointer(&self, reference: &Reference) -> bool {
+        for e in &reference.subscripts {
+            if is_pointer(self.types.expression(e)) {
+                return true;
+            }
+        }
+        match &reference.selector {
+            Selector::None | Selector::Member(_, _) => false,
+            Selector::Element(_, _, subscript) => is_pointer(self.types.expression(subscript)),
+        }
+    }
+
+    /// A store to a name of DATA.
+    pub fn data_if(
+        &self,
+        place: Position,
+        number: usize,
+        found: &mut Vec<Reasoned>,
+    ) -> Result<(), AllocError> {
+        match self.variable(number) {
+            Some(variable) if variable.is_data => {
+                self.note(place, TypeFault::Data, Reason::Broken(Rule::Data), found)
+            }
+            Some(_) | None => Ok(()),
+        }
+    }
+
+    /// The wrong number of arguments.
+    fn count_unless(
+        &self,
+        place: Position,
+        wanted: usize,
+        given: usize,
+        found: &mut Vec<Reasoned>,
+    ) -> Result<(), AllocError> {
+        if wanted == given {
+            return Ok(());
+        }
+        let reason = Reason::Count(wanted, given);
+        self.note(place, TypeFault::Arguments, reason, found)
+    }
+
+    /// The first argument that its parameter does not take.
+    fn argument(&self, parameters: &[usize], arguments: &[Expression]) -> Option<Reason> {
+        for (parameter, argument) in parameters.iter().zip(arguments) {
+            let into = self.types.variable_type(*parameter);
+            let value = self.types.typed(argument).wanted(into).scalar;
+            if clash(into, value) {
+                return Some(Reason::Argument(*parameter, into, value));
+            }
+        }
+        None
+    }
+
+    /// The numbers among the arguments that no INTEGER can have, where their parameters are ones.
+    fn large_arguments(
+        &self,
+        parameters: &[usize],
+        arguments: &[Expression],
+        found: &mut Vec<Reasoned>,
+    ) -> Result<(), AllocError> {
+        for (parameter, argument) in parameters.iter().zip(arguments) {
+            let into = self.types.variable_type(*parameter);
+            self.range(into, self.types.typed(argument), found)?;
+        }
+        Ok(())
+    }
+
+    /// The first argument that a built-in which takes this does not take.
+    fn builtin_argument(&self, taken: Type, arguments: &[Expression]) -> Option<Reason> {
+        for argument in arguments {
+            let value = self.types.typed(argument).wanted(taken).scalar;
+            if is_refused(taken, value) {
+                return Some(Reason::BuiltinArgument(taken, value));
+            }
+        }
+        None
+    }
+
+    /// A number among the arguments that no INTEGER can have, where the built-in takes one.
+    fn large_operand(
+        &self,
+        taken: Type,
+        arguments: &[Expression],
+        found: &mut Vec<Reasoned>,
+    ) -> Result<(), AllocError> {
+        match arguments {
+            [argument, ..] => self.range(taken, self.types.typed(argument), found),
+            [] => Ok(()),
+        }
+    }
+
+    /// Why a call of a procedure is faulty, by itself.
+    pub fn call(
+        &self,
+        number: usize,
+        reference: &Reference,
+        found: &mut Vec<Reasoned>,
+    ) -> Result<(), AllocError> {
+        let Some(procedure) = self.types.names.procedures.get(number) else {
+            return Ok(());
+        };
+        let parameters = procedure.parameters.as_slice();
+        let arguments = reference.subscripts.as_slice();
+        let place = reference.place;
+        self.large_arguments(parameters, arguments, found)?;
+        self.count_unless(place, parameters.len(), arguments.len(), found)?;
+        self.types_for(place, self.argument(parameters, arguments), found)
+    }
+
+    /// Why a procedure is no value.
+    fn called_value(
+        &self,
+        number: usize,
+        reference: &Reference,
+        found: &mut Vec<Reasoned>,
+    ) -> Result<(), AllocError> {
+        let has_value = match self.types.names.procedures.get(number) {
+            Some(procedure) => procedure.returned.is_some(),
+            None => true,
+        };
+        self.call(number, reference, found)?;
+        let reason = Reason::Broken(Rule::NoValue);
+        self.types_if(reference.place, !has_value, reason, found)
+    }
+
+    /// Why a call of a built-in is faulty, by itself.
+    fn builtin_call(
+        &self,
+        builtin: Builtin,
+        reference: &Reference,
+        found: &mut Vec<Reasoned>,
+    ) -> Result<(), AllocError> {
+        let place = reference.place;
+        let arguments = reference.subscripts.as_slice();
+        let taken = taken_by(builtin);
+        self.large_operand(taken, arguments, found)?;
+        self.count_unless(place, arity(builtin), arguments.len(), found)?;
+        let counted = &arguments[..arity(builtin).min(arguments.len())];
+        self.types_for(place, self.builtin_argument(taken, counted), found)
+    }
+
+    /// Looks in an expression.
+    #[cycle(looking)]
+    pub fn expression(&self, e: &Expression, found: &mut Vec<Reasoned>) -> Result<(), AllocError> {
+        match e {
+            Expression::Number(number) => {
+                let reason = Reason::Broken(Rule::LargeNumber);
+                self.types_if(number.place, number.value > 0xFFFF, reason, found)
+            }
+            Expression::Text(place, text) => {
+                let holds = text.is_empty() || 2 < text.len();
+                self.types_if(*place, holds, Reason::LongText(text.len()), found)
+            }
+            Expression::Reference(reference) => self.value(reference, found),
+            Expression::Location(location) => self.location(location, found),
+            Expression::Parenthesised(_, inner) => self.expression(inner, found),
+            Expression::Embedded(place, target, value) => {
+                self.target(target, found)?;
+                self.expression(value, found)?;
+                self.embedded(*place, target, value, found)
+            }
+            Expression::Unary(place, operator, operand) => {
+                self.expression(operand, found)?;
+                let scalar = self.types.expression(operand);
+                let holds = refuses_operand(*operator, scalar);
+                self.types_if(*place, holds, Reason::Operand(*operator, scalar), found)
+            }
+            Expression::Chain {
+                first: left,
+                others,
+            } => {
+                self.expression(left, found)?;
+                self.operations(others, first_place(left), self.types.typed(left), found)
+            }
+        }
+    }
+
+    /// `( t := e )`, by itself.
+    fn embedded(
+        &self,
+        place: Position,
+        target: &Reference,
+        value: &Expression,
+        found: &mut Vec<Reasoned>,
+    ) -> Result<(), AllocError> {
+        let into = self.types.value(target);
+        let value = self.types.typed(value);
+        let kept = value.wanted(into).scalar;
+        self.range(into, value, found)?;
+        let reason = Reason::Store(target.place.line, into, kept);
+        self.types_if(place, clash(into, kept), reason, found)
+    }
+
+    /// Why an operator does not take its operands, by itself, of which the left one begins at a place.
+    fn operator(
+        &self,
+        operation: &Operation,
+        begin: Position,
+        left: Typed,
+        found: &mut Vec<Reasoned>,
+    ) -> Result<(), AllocError> {
+        let operator = operation.operator;
+        let right = self.types.typed(&operation.operand);
+        self.range(beside(operator, right.scalar), left, found)?;
+        self.range(beside(operator, left.scalar), right, found)?;
+        let (one, other) = paired(operator, left, right);
+        let holds = refuses(operator, one.scalar, other.scalar);
+        let reason = Reason::Operands(operator, one.scalar, other.scalar);
+        self.types_if(begin, holds, reason, found)
+    }
+
+    /// Looks in operators with their right operands, after such a left one that begins at a place.
+    #[cycle(looking)]
+    fn operations(
+        &self,
+        operations: &[Operation],
+        begin: Position,
+        left: Typed,
+        found: &mut Vec<Reasoned>,
+    ) -> Result<(), AllocError> {
+        let mut value = left;
+        for operation in operations {
+            self.expression(&operation.operand, found)?;
+            self.operator(operation, begin, value, found)?;
+            value = self.types.operation(operation, value);
+        }
+        Ok(())
+    }
+
+    /// Looks in expressions, one after another.
+    #[cycle(looking)]
+    pub fn list(&self, es: &[Expression], found: &mut Vec<Reasoned>) -> Result<(), AllocError> {
+        for e in es {
+            self.expression(e, found)?;
+        }
+        Ok(())
+    }
+
+    /// Looks in subscripts or arguments, and in a member's subscript.
+    #[cycle(looking)]
+    fn parts(&self, reference: &Reference, found: &mut Vec<Reasoned>) -> Result<(), AllocError> {
+        self.list(&reference.subscripts, found)?;
+        match &reference.selector {
+            Selector::None | Selector::Member(_, _) => Ok(()),
+            Selector::Element(_, _, subscript) => self.expression(subscript, found),
+        }
+    }
+
+    /// Looks in a reference as a value.
+    #[cycle(looking)]
+    fn value(&self, reference: &Reference, found: &mut Vec<Reasoned>) -> Result<(), AllocError> {
+        match reference.binding {
+            Binding::Variable(number) => {
+                self.parts(reference, found)?;
+                self.shape(Extent::Whole, number, reference, found)
+            }
+            Binding::Procedure(number) => {
+                self.parts(reference, found)?;
+                self.called_value(number, reference, found)
+            }
+            Binding::Builtin(builtin) => {
+                let reason = Reason::Broken(Rule::TargetAsValue);
+                self.types_if(reference.place, is_target(builtin), reason, found)?;
+                self.applied(builtin, reference, found)
+            }
+            Binding::Nothing => Ok(()),
+        }
+    }
+
+    /// Looks in a call of a built-in.
+    #[cycle(looking)]
+    fn applied(
+        &self,
+        builtin: Builtin,
+        reference: &Reference,
+        found: &mut Vec<Reasoned>,
+    ) -> Result<(), AllocError> {
+        if is_measure(builtin) {
+            let place = reference.place;
+            self.count_unless(place, 1, reference.subscripts.len(), found)?;
+            self.measured(&reference.subscripts, found)?;
+            let holds = !measures_variable(&reference.subscripts);
+            return self.types_if(place, holds, Reason::Broken(Rule::Measured), found);
+        }
+        self.list(&reference.subscripts, found)?;
+        self.builtin_call(builtin, reference, found)
+    }
+
+    /// Looks in the argument of LENGTH, LAST or SIZE.
+    #[cycle(looking)]
+    fn measured(
+        &self,
+        arguments: &[Expression],
+        found: &mut Vec<Reasoned>,
+    ) -> Result<(), AllocError> {
+        let [Expression::Reference(reference)] = arguments else {
+            return Ok(());
+        };
+        match reference.binding {
+            Binding::Variable(number) => {
+                self.parts(reference, found)?;
+                self.shape(Extent::Part, number, reference, found)
+            }
+            Binding::Procedure(_) | Binding::Builtin(_) | Binding::Nothing => Ok(()),
+        }
+    }
+
+    /// Looks in a location.
+    #[cycle(looking)]
+    pub fn location(
+        &self,
+        location: &Location,
+        found: &mut Vec<Reasoned>,
+    ) -> Result<(), AllocError> {
+        let Location::Reference(place, _, reference) = location else {
+            return Ok(());
+        };
+        let Binding::Variable(number) = reference.binding else {
+            return self.types_if(*place, true, Reason::Broken(Rule::NoLocation), found);
+        };
+        let is_shown = match self.variable(number) {
+            Some(variable) => is_on_screen(&variable),
+            None => false,
+        };
+        self.parts(reference, found)?;
+        self.types_if(
+            *place,
+            is_shown,
+            Reason::Broken(Rule::ScreenLocation),
+            found,
+        )?;
+        self.shape(Extent::Part, number, reference, found)
+    }
+
+    /// Looks in a target.
+    #[cycle(looking)]
+    pub fn target(
+        &self,
+        reference: &Reference,
+        found: &mut Vec<Reasoned>,
+    ) -> Result<(), AllocError> {
+        let place = reference.place;
+        match reference.binding {
+            Binding::Variable(number) => {
+                self.parts(reference, found)?;
+                self.data_if(place, number, found)?;
+                self.shape(Extent::Whole, number, reference, found)
+            }
+            Binding::Builtin(builtin) => {
+                self.list(&reference.subscripts, found)?;
+                let reason = Reason::Broken(Rule::NoTarget);
+                self.types_if(place, !is_target(builtin), reason, found)?;
+                self.builtin_call(builtin, reference, found)
+            }
+            Binding::Procedure(_) => {
+                let reason = Reason::Broken(Rule::ProcedureAsTarget);
+                self.types_if(place, true, reason, found)
+            }
+            Binding::Nothing => Ok(()),
+        }
+    }
+}

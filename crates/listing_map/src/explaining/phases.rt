@@ -1,0 +1,108 @@
+//! Sources, gone through once as far as the faults of a phase want it.
+
+use crate::explaining::calls::{Calls, calls_of};
+use crate::explaining::kinds::Phase;
+use crate::explaining::looking_statements::all_reasons;
+use crate::explaining::program_names::{ProgramNames, program_names};
+use crate::explaining::reason::Reasoned;
+use crate::explaining::studied::{Studied, names_of, study, trees};
+use crate::phase_faults::{FaultAt, in_order};
+use crate::texts::NamedText;
+use plm_decl::{Names, name_faults};
+use plm_type::type_faults;
+use std::alloc::{AllocError, Global};
+use word86::Fault;
+
+/// Sources with their names resolved, why they have their faults of types, and what their procedures do.
+#[derive(Drop)]
+pub(crate) struct TypedSources<'a> {
+    pub sources: Vec<Studied<'a>>,
+    pub names: Names,
+    pub reasons: Vec<Reasoned>,
+    pub calls: Calls,
+}
+
+/// What is known of sources.
+#[derive(Drop)]
+pub(crate) enum Work<'a> {
+    Nothing,
+    Tokens(Vec<Studied<'a>>),
+    Names(ProgramNames<'a>),
+    Types(TypedSources<'a>),
+}
+
+/// What is known of sources, and all faults of the phase in the order in which they are answered: none but of names and of types.
+#[derive(Drop)]
+pub(crate) struct GoneThrough<'a> {
+    pub work: Work<'a>,
+    pub faults: Vec<FaultAt>,
+}
+
+/// Sources gone through to their names (E301 to E310).
+fn through_names<'a>(alloc: Global, texts: &[NamedText<'a>]) -> Result<GoneThrough<'a>, Fault> {
+    let sources = study(alloc, texts)?;
+    let trees = trees(alloc, &sources)?;
+    let mut found = name_faults(alloc, &trees)?;
+    let faults = in_order(alloc, &sources, &mut found)?;
+    let names = program_names(alloc, sources, &trees)?;
+    Ok(GoneThrough {
+        work: Work::Names(names),
+        faults,
+    })
+}
+
+/// Sources gone through to their types (E401 to E406).
+fn through_types<'a>(alloc: Global, texts: &[NamedText<'a>]) -> Result<GoneThrough<'a>, Fault> {
+    let sources = study(alloc, texts)?;
+    let names = names_of(alloc, &sources)?;
+    let mut found = type_faults(alloc, &names)?;
+    let faults = in_order(alloc, &sources, &mut found)?;
+    let reasons = all_reasons(alloc, &names)?;
+    let calls = calls_of(alloc, &names)?;
+    Ok(GoneThrough {
+        work: Work::Types(TypedSources {
+            sources,
+            names,
+            reasons,
+            calls,
+        }),
+        faults,
+    })
+}
+
+/// Sources gone through as far as a phase wants it, without its faults.
+fn without_faults<'a>(alloc: Global, work: Work<'a>) -> GoneThrough<'a> {
+    GoneThrough {
+        work,
+        faults: Vec::new(alloc),
+    }
+}
+
+fn through<'a>(
+    alloc: Global,
+    texts: &[NamedText<'a>],
+    phase: Phase,
+) -> Result<GoneThrough<'a>, Fault> {
+    match phase {
+        Phase::Apart => Ok(without_faults(alloc, Work::Nothing)),
+        Phase::Tokens => {
+            let sources = study(alloc, texts)?;
+            Ok(without_faults(alloc, Work::Tokens(sources)))
+        }
+        Phase::Names => through_names(alloc, texts),
+        Phase::Types => through_types(alloc, texts),
+    }
+}
+
+/// Sources gone through as far as a phase wants it; nothing is known of them where an earlier phase has a fault.
+pub(crate) fn gone_through<'a>(
+    alloc: Global,
+    texts: &[NamedText<'a>],
+    phase: Phase,
+) -> Result<GoneThrough<'a>, AllocError> {
+    match through(alloc, texts, phase) {
+        Ok(gone) => Ok(gone),
+        Err(Fault::At(_, _, _)) => Ok(without_faults(alloc, Work::Nothing)),
+        Err(Fault::Memory) => Err(AllocError),
+    }
+}

@@ -1,0 +1,137 @@
+//! Sources whose tokens have their numbers for lines: the phases then say at which token they find a fault, and not only on which line.
+
+use crate::explaining::pieces::{Piece, seen_pieces};
+use crate::texts::NamedText;
+use plm_decl::{Names, resolve};
+use plm_syntax::{Module, expand, parse};
+use plm_token::{Token, scan};
+use std::alloc::{AllocError, Global};
+use word86::Fault;
+
+/// A source: its file's name, its tokens where they stand, the same with their numbers from 1 on for lines, and these once literals are
+/// replaced.
+///
+/// So the `line` of these tokens is a token's number, and that of each place in the trees that are made of them: `line` here gives the line
+/// of the text on which the token of a number stands.
+#[derive(Drop)]
+pub(crate) struct Studied<'a> {
+    pub name: &'a str,
+    pub spots: Vec<Piece<'a>>,
+    pub tokens: Vec<Token<'a>>,
+    pub expanded: Vec<Token<'a>>,
+}
+
+impl<'a> Studied<'a> {
+    /// The token of this number, where it stands.
+    pub fn spot(&self, number: u32) -> Option<Piece<'a>> {
+        self.spots.get((number as usize).saturating_sub(1)).copied()
+    }
+
+    /// How the token of this number is spelled; nothing where there is none.
+    pub fn spelled(&self, number: u32) -> &'a [u8] {
+        match self.spot(number) {
+            Some(spot) => spot.text,
+            None => b"",
+        }
+    }
+
+    /// The line of the token of this number; that of the last token where there is none.
+    pub fn line(&self, number: u32) -> u32 {
+        match self.spot(number) {
+            Some(spot) => spot.line,
+            None => match self.spots.last() {
+                Some(spot) => spot.line,
+                None => 1,
+            },
+        }
+    }
+
+    /// Its tree.
+    pub fn tree(&self, alloc: Global) -> Result<Module<'a>, Fault> {
+        parse(alloc, copied(alloc, &self.tokens)?)
+    }
+}
+
+/// The tokens once more.
+pub(crate) fn copied<'a>(
+    alloc: Global,
+    tokens: &[Token<'a>],
+) -> Result<Vec<Token<'a>>, AllocError> {
+    let mut all = Vec::new(alloc);
+    for token in tokens {
+        all.push(*token)?;
+    }
+    Ok(all)
+}
+
+/// The tokens with their numbers for lines.
+fn numbered<'a>(alloc: Global, tokens: &[Token<'a>]) -> Result<Vec<Token<'a>>, AllocError> {
+    let mut all = Vec::new(alloc);
+    let mut line: u32 = 0;
+    for token in tokens {
+        line = line.saturating_add(1);
+        all.push(Token {
+            kind: token.kind,
+            text: token.text,
+            line,
+        })?;
+    }
+    Ok(all)
+}
+
+/// The tokens of a text; none where it has a fault.
+fn tokens_of<'a>(alloc: Global, text: &'a [u8]) -> Result<Vec<Token<'a>>, Fault> {
+    match scan(alloc, text) {
+        Ok(tokens) => Ok(tokens),
+        Err(Fault::At(_, _, _)) => Ok(Vec::new(alloc)),
+        Err(Fault::Memory) => Err(Fault::Memory),
+    }
+}
+
+fn studied_source<'a>(alloc: Global, source: &NamedText<'a>) -> Result<Studied<'a>, Fault> {
+    let found = tokens_of(alloc, source.text)?;
+    let tokens = numbered(alloc, &found)?;
+    let expansion = expand(alloc, copied(alloc, &tokens)?)?;
+    Ok(Studied {
+        name: source.name,
+        spots: seen_pieces(alloc, source.text)?,
+        tokens,
+        expanded: expansion.tokens,
+    })
+}
+
+/// The sources, each studied.
+pub(crate) fn study<'a>(
+    alloc: Global,
+    sources: &[NamedText<'a>],
+) -> Result<Vec<Studied<'a>>, Fault> {
+    let mut all = Vec::new(alloc);
+    for source in sources {
+        all.push(studied_source(alloc, source)?)?;
+    }
+    Ok(all)
+}
+
+/// The trees of the sources, which have no fault of text and grammar.
+pub(crate) fn trees<'a>(alloc: Global, sources: &[Studied<'a>]) -> Result<Vec<Module<'a>>, Fault> {
+    let mut all = Vec::new(alloc);
+    for source in sources {
+        all.push(source.tree(alloc)?)?;
+    }
+    Ok(all)
+}
+
+/// The names of the sources.
+pub(crate) fn names_of(alloc: Global, sources: &[Studied<'_>]) -> Result<Names, Fault> {
+    let trees = trees(alloc, sources)?;
+    resolve(alloc, &trees)
+}
+
+/// The number of the token at which a source has a fault of grammar, if it has one.
+pub(crate) fn unparsed_token(alloc: Global, source: &Studied<'_>) -> Result<Option<u32>, Fault> {
+    match source.tree(alloc) {
+        Ok(_) => Ok(None),
+        Err(Fault::At(_, token, _)) => Ok(Some(token)),
+        Err(Fault::Memory) => Err(Fault::Memory),
+    }
+}
