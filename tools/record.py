@@ -86,7 +86,7 @@ def spared(repository):
     return held - tried, len(tried)
 
 
-def held(repository, tried, refused):
+def as_it_holds(repository, tried, refused):
     """Returns the record as it holds now: of the edits tried now those that were seen refused, and of the others, and of other kits, those of which a record still holds."""
     made, by_kit = Digests(repository).edits(), {kit.identity(): {}}
     for path in ("tools/refused", ".git/refused"):
@@ -100,7 +100,7 @@ def held(repository, tried, refused):
 def leave(repository, tried, refused):
     """Writes .git/refused, the record as it holds now. It is to be copied to tools/refused."""
     if os.path.isdir(f"{repository.top}/.git"):
-        by_kit = held(repository, tried, refused)
+        by_kit = as_it_holds(repository, tried, refused)
         parts = [[f"kit {of_kit}\n", *(f"{it} {its}\n" for it, its in sorted(rows.items()))] for of_kit, rows in sorted(by_kit.items()) if rows]
         with open(f"{repository.top}/.git/refused", "w", encoding="utf-8") as it:
             it.writelines(["# Edits that the prover was seen to refuse, each with a digest of what that rests on: tools/record.py.\n", *(row for part in parts for row in part)])
