@@ -4,7 +4,7 @@
 
 use crate::board::Board;
 use crate::colours::{Colours, place_at};
-use crate::showing::shown;
+use crate::showing::{COLUMNS, ROWS, shown};
 use std::alloc::{AllocError, Global};
 use word86::Page;
 
@@ -36,7 +36,7 @@ fn put_row(
     row: usize,
 ) -> Result<(), AllocError> {
     let mut before: Option<Colours> = None;
-    for column in 0..80 {
+    for column in 0..COLUMNS {
         let (character, attribute) = place_at(bytes, row, column);
         let colours = Colours::of(page, attribute);
         if before != Some(colours) {
@@ -48,7 +48,7 @@ fn put_row(
     text.extend_from_slice(PLAIN)
 }
 
-/// Adds the 25 rows of a page behind its name.
+/// Adds the rows of a page behind its name.
 fn put_page(
     alloc: Global,
     text: &mut Vec<u8>,
@@ -57,7 +57,7 @@ fn put_page(
     bytes: &[u8],
 ) -> Result<(), AllocError> {
     text.extend_from_slice(name)?;
-    for row in 0..25 {
+    for row in 0..ROWS {
         put_row(alloc, text, page, bytes, row)?;
     }
     Ok(())

@@ -5,6 +5,7 @@ ghost use Rattle.std.specs.Prelude.{◌≡◌, ◌+◌, ◌*◌, IfOk, OnOk, len
 use crate::board::Board;
 use crate::character_set::dots;
 use crate::colours::{Colours, place_at};
+use crate::showing::{COLUMNS, ROWS};
 use std::alloc::{AllocError, Global};
 use word86::Page;
 
@@ -72,7 +73,7 @@ fn put_line(
 ) -> Result<(), AllocError>
     ensures { OnOk result (vec_len picture.new ≡ vec_len picture.old + 1920) }
 {
-    for column in 0..80 {
+    for column in 0..COLUMNS {
         let (character, attribute) = place_at(screen.bytes, row, column);
         put_dots(
             picture,
@@ -97,7 +98,7 @@ fn put_row(picture: &mut Vec<u8>, screen: ScreenPage<'_>, row: usize) -> Result<
 fn put_page(picture: &mut Vec<u8>, screen: ScreenPage<'_>) -> Result<(), AllocError>
     ensures { OnOk result (vec_len picture.new ≡ vec_len picture.old + 768000) }
 {
-    for row in 0..25 {
+    for row in 0..ROWS {
         put_row(picture, screen, row)?;
     }
     Ok(())

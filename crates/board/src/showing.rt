@@ -7,7 +7,13 @@ use crate::words::hex_value;
 use bitflags::Flags as _;
 use i86_table::{Register16, Segment};
 use std::alloc::{AllocError, Global};
-use word86::Page;
+use word86::{PAGE_SIZE, Page};
+
+/// The rows of a page.
+pub(crate) const ROWS: usize = 25;
+
+/// The places of a row, each a character and the attribute behind it.
+pub(crate) const COLUMNS: usize = PAGE_SIZE / (2 * ROWS);
 
 /// A character of the screen as it is shown: those of ASCII, and none that is not printed.
 pub(crate) fn shown(byte: u8) -> u8 {
@@ -40,12 +46,12 @@ fn characters(alloc: Global, places: &[u8]) -> Result<Vec<u8>, AllocError> {
     Ok(row)
 }
 
-/// Adds the 25 rows of a page behind its name.
+/// Adds the rows of a page behind its name.
 fn put_page(alloc: Global, text: &mut Vec<u8>, name: &[u8], page: &[u8]) -> Result<(), AllocError> {
     text.extend_from_slice(name)?;
     let mut rest = page;
-    for _row in 0..25 {
-        let (places, after) = rest.split_at(rest.len().min(160));
+    for _row in 0..ROWS {
+        let (places, after) = rest.split_at(rest.len().min(2 * COLUMNS));
         let row = characters(alloc, places)?;
         text.extend_from_slice(without_blanks(&row))?;
         text.push(b'\n')?;

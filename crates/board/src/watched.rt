@@ -17,9 +17,9 @@ use crate::schedule::Schedule;
 use crate::signal_changes::SignalChanges;
 use cpu8086::{Cpu, Kind, Phase, Turn, physical};
 use i86_table::Segment;
-use listing_map::{put_end_line, put_opcode_line, put_turn_number, trace_line};
+use listing_map::{put_behind_turn, put_end_line, put_opcode_line, trace_line};
 use std::alloc::{AllocError, Global};
-use word86::{Event, Fault, Label, Sink, WriterSink, put_all};
+use word86::{Event, Fault, Label, Sink, WriterSink};
 
 /// What is wanted of a run beside its trace.
 #[derive(Debug, Clone, Copy)]
@@ -45,10 +45,7 @@ pub struct WatchedEnd {
 fn put_line<S: Sink>(watch: Watch<'_>, turn: u32, line: &[u8], sink: &mut S) -> Result<(), Fault>
     ensures { IfErr result IsRunFault }
 {
-    if watch.turns && put_turn_number(turn, sink).is_err() {
-        return Err(CANNOT_WRITE);
-    }
-    match put_all(sink, line) {
+    match put_behind_turn(watch.turns.then_some(turn), line, sink) {
         Ok(()) => Ok(()),
         Err(_) => Err(CANNOT_WRITE),
     }

@@ -7,6 +7,7 @@
 mod blocks;
 mod call_sites;
 mod calls;
+mod candidates;
 mod control_lines;
 mod expecting;
 pub(crate) mod facts;
@@ -26,6 +27,7 @@ mod phases;
 mod pieces;
 mod program_faults;
 mod program_names;
+mod reached;
 pub(crate) mod reason;
 mod room;
 mod runs;
@@ -35,6 +37,7 @@ pub(crate) mod studied;
 mod text_faults;
 mod told;
 mod type_faults;
+mod uses;
 pub(crate) mod value_types;
 
 ghost use Rattle.std.specs.Prelude.{◌≡◌, ◌<◌, ◌≤◌, ◌+◌, true, IfOk, map, length};
@@ -82,8 +85,8 @@ pub struct Explanation<'a> {
     ghost inside: { column + width ≤ length quoted.now },
 }
 
-/// Sources whose faults are explained. They are gone through once, and then each fault is told in a time that does not grow with them, but
-/// for the procedures that an interrupt procedure reaches.
+/// Sources whose faults are explained. They are gone through once, and then each fault is told in a time that does not grow with them, but for
+/// faults of calls with the number of procedures.
 #[derive(Drop)]
 pub struct Explainer<'s, 'a> {
     alloc: Global,

@@ -26,7 +26,8 @@ pub use explaining::{
 };
 pub use halves::{RomHalves, rom_halves};
 pub use lines::{
-    fault_line, put_bad_line, put_end_line, put_label, put_opcode_line, put_turn_number, trace_line,
+    fault_line, put_bad_line, put_behind_turn, put_end_line, put_label, put_opcode_line,
+    put_turn_number, trace_line,
 };
 pub use linting::{Lint, lints};
 pub use messages::{NOWHERE, Place, explained_lines, number_and_words, object_line};

@@ -1,6 +1,6 @@
 //! The lines of a trace, and of a fault or a warning.
 
-ghost use Rattle.std.specs.Prelude.{◌≡◌, ◌∷◌, [], IfErr};
+ghost use Rattle.std.specs.Prelude.{◌≡◌, ◌∷◌, ◌++◌, [], IfErr, MatchOption, codes, decimal};
 ghost use Rattle.word86.specs.Sink.{Writes};
 ghost use Rattle.word86.specs.declared.fault.Fault.TheVariants.{At};
 ghost use Rattle.word86.specs.declared.number.Number.TheVariants.{E704};
@@ -9,7 +9,7 @@ ghost use Rattle.listing_map.specs.Lines.{byte_line, word_line, short_line, deci
 use crate::numerals::{hex_address, hex_byte, hex_word};
 use crate::pieces::{put_at_once, put_five, put_six, put_three, put_two};
 use itoa::Buffer;
-use word86::{Fault, Label, Number, Sink, SinkFault};
+use word86::{Fault, Label, Number, Sink, SinkFault, put_all};
 
 pub(crate) const CANNOT_WRITE: Fault = Fault::At(0, 1, Number::E704);
 
@@ -63,6 +63,25 @@ pub fn put_turn_number<S: Sink>(turn: u32, sink: &mut S) -> Result<(), SinkFault
 {
     let mut buffer = Buffer::new();
     put_two(sink, buffer.format(turn).as_bytes(), b" ")
+}
+
+/// Writes bytes behind their turn, where one is given, as `100 OUT 0300 FF`. The one refusal is that the sink failed, in the sink's own words.
+pub fn put_behind_turn<S: Sink>(
+    turn: Option<u32>,
+    bytes: &[u8],
+    sink: &mut S,
+) -> Result<(), SinkFault>
+    ensures { MatchOption turn
+        (Writes (S.taken sink.old) (S.taken sink.new) (S.failures sink.old) (S.failures sink.new) bytes.now result)
+        (λ n. Writes (S.taken sink.old) (S.taken sink.new) (S.failures sink.old) (S.failures sink.new) (decimal n ++ codes " " ++ bytes.now) result) }
+{
+    match turn {
+        Some(turn) => {
+            let mut buffer = Buffer::new();
+            put_three(sink, buffer.format(turn).as_bytes(), b" ", bytes)
+        }
+        None => put_all(sink, bytes),
+    }
 }
 
 /// Writes the last line of a run that came to its stop, as `END 100`: how many turns it ran, in decimal. The one refusal is

@@ -1,10 +1,10 @@
 //! How faults, warnings and notes are written on standard error: as lines for people, or as objects in JSON.
 //!
-//! That the quoted line and the mark are of the source is the contract of `explain`, and that they are shown with the sentence that of
-//! `explained_lines`; other texts have none: `tests/mistakes` and `tests/pages` show them.
+//! That the quoted line and what is marked are of the source is the contract of `explain`, and that they are shown with the sentence that of
+//! `explained_lines`, which counts columns where a line is ASCII; other texts have none: `tests/mistakes` and `tests/pages` show them.
 
-ghost use Rattle.std.specs.Prelude.{◌≡◌, IfOk};
-ghost use Rattle.listing_map.specs.Messages.{IsQuoted, IsTold, margin, shown, shown_line};
+ghost use Rattle.std.specs.Prelude.{◌≡◌, ◌<◌, ◌≤◌, ◌+◌, true, IfOk, length, map, replicate};
+ghost use Rattle.listing_map.specs.Messages.{IsMarkLine, IsQuoted, IsTold, blank, is_ascii, margin, shown, shown_line};
 
 use crate::explaining::Explanation;
 use itoa::Buffer;
@@ -86,31 +86,85 @@ pub fn object_line(
     Ok(bytes)
 }
 
-/// Adds so many of one byte.
-fn put_times(text: &mut Vec<u8>, byte: u8, times: usize) -> Result<(), AllocError> {
-    for _time in 0..times {
-        text.push(byte)?;
+/// So many of one byte.
+fn times(alloc: Global, byte: u8, count: usize) -> Result<Vec<u8>, AllocError>
+    ensures { IfOk result (λ v. v.items ≡ replicate count byte) }
+{
+    Ok(vec![in alloc; byte; count]?)
+}
+
+/// Whether a text is ASCII throughout.
+fn is_ascii(text: &[u8]) -> bool
+    ensures { result ≡ is_ascii text.now }
+{
+    for byte in text {
+        if *byte >= 128 {
+            return false;
+        }
+    }
+    true
+}
+
+/// What is as wide as a byte of ASCII and shows nothing: a tab stays.
+fn blank(byte: u8) -> u8
+    ensures { result ≡ blank byte }
+{
+    if byte == b'\t' { b'\t' } else { b' ' }
+}
+
+/// Blanks that are as wide as a text of ASCII.
+fn blanks_of_bytes(alloc: Global, text: &[u8]) -> Result<Vec<u8>, AllocError>
+    ensures { IfOk result (λ v. v.items ≡ map blank text.now) }
+{
+    let mut blanks = Vec::new(alloc);
+    for byte in text {
+        blanks.push(blank(*byte))?;
+    }
+    Ok(blanks)
+}
+
+/// Adds blanks that are as wide as a character.
+fn put_blanks(blanks: &mut Vec<u8>, character: char) -> Result<(), AllocError> {
+    if character == '\t' {
+        return Ok(blanks.push(b'\t')?);
+    }
+    for _column in 0..character.width().unwrap_or(1) {
+        blanks.push(b' ')?;
     }
     Ok(())
 }
 
-/// Adds blanks that are as wide as a text; its tabs stay.
-fn put_blank(text: &mut Vec<u8>, before: &[u8]) -> Result<(), AllocError> {
-    let Ok(characters) = from_utf8(before) else {
-        return put_times(text, b' ', before.len());
+/// Blanks that are as wide as a text of whatever characters.
+fn blanks_of_characters(alloc: Global, text: &[u8]) -> Result<Vec<u8>, AllocError> {
+    let Ok(characters) = from_utf8(text) else {
+        return blanks_of_bytes(alloc, text);
     };
+    let mut blanks = Vec::new(alloc);
     for character in characters.chars() {
-        if character == '\t' {
-            text.push(b'\t')?;
-        } else {
-            put_times(text, b' ', character.width().unwrap_or(1))?;
-        }
+        put_blanks(&mut blanks, character)?;
     }
-    Ok(())
+    Ok(blanks)
+}
+
+/// Blanks that are as wide as a text; its tabs stay.
+fn blanks(alloc: Global, text: &[u8]) -> Result<Vec<u8>, AllocError>
+    ensures { is_ascii text.now ≡ true → IfOk result (λ v. v.items ≡ map blank text.now) }
+{
+    if is_ascii(text) {
+        blanks_of_bytes(alloc, text)
+    } else {
+        blanks_of_characters(alloc, text)
+    }
 }
 
 /// How many columns a text takes, one at least.
-fn columns(text: &[u8]) -> usize {
+fn columns(text: &[u8]) -> usize
+    ensures least { 0 < result }
+    ensures bytes { is_ascii text.now ≡ true → 0 < length text.now → result ≡ length text.now }
+{
+    if is_ascii(text) {
+        return text.len().max(1);
+    }
     match from_utf8(text) {
         Ok(characters) => characters.width().max(1),
         Err(_) => text.len().max(1),
@@ -156,17 +210,23 @@ fn margin(alloc: Global, line: u32) -> Result<Vec<u8>, AllocError>
 /// The line of the mark, behind a margin of so many columns.
 fn mark_line(
     alloc: Global,
-    columns_before: usize,
-    explanation: &Explanation<'_>,
-) -> Result<Vec<u8>, AllocError> {
-    let quoted = explanation.quoted;
-    let (before, rest) = quoted.split_at(explanation.column.min(quoted.len()));
-    let marked = &rest[..explanation.width.min(rest.len())];
-    let mut text = Vec::new(alloc);
-    put_times(&mut text, b' ', columns_before.saturating_sub(2))?;
+    margin: usize,
+    quoted: &[u8],
+    column: usize,
+    width: usize,
+) -> Result<Vec<u8>, AllocError>
+    requires inside { column + width ≤ length quoted.now }
+    requires marks { 0 < width }
+    ensures { IfOk result (λ v. IsMarkLine margin quoted.now column width v.items) }
+{
+    let (before, rest) = quoted.split_at(column);
+    let (marked, _behind) = rest.split_at(width);
+    let blanks = blanks(alloc, before)?;
+    let marks = times(alloc, b'^', columns(marked))?;
+    let mut text = times(alloc, b' ', margin.saturating_sub(2))?;
     text.extend_from_slice(b"| ")?;
-    put_blank(&mut text, before)?;
-    put_times(&mut text, b'^', columns(marked))?;
+    text.extend_from_slice(&blanks)?;
+    text.extend_from_slice(&marks)?;
     text.push(b'\n')?;
     Ok(text)
 }
@@ -177,15 +237,17 @@ fn quoted_lines(
     line: u32,
     explanation: &Explanation<'_>,
 ) -> Result<Vec<u8>, AllocError>
-    ensures { IfOk result (λ v. IsQuoted line explanation.now.quoted.now explanation.now.width v.items) }
+    ensures { IfOk result (λ v. IsQuoted line explanation.now.quoted.now explanation.now.column explanation.now.width v.items) }
 {
-    if explanation.width == 0 {
+    let quoted = explanation.quoted;
+    let (column, width) = (explanation.column, explanation.width);
+    if width == 0 {
         return Ok(Vec::new(alloc));
     }
     let mut text = margin(alloc, line)?;
-    let mark = mark_line(alloc, text.len(), explanation)?;
-    let quoted = shown_line(alloc, explanation.quoted)?;
-    text.extend_from_slice(&quoted)?;
+    let mark = mark_line(alloc, text.len(), quoted, column, width)?;
+    let shown = shown_line(alloc, quoted)?;
+    text.extend_from_slice(&shown)?;
     text.extend_from_slice(&mark)?;
     Ok(text)
 }
@@ -197,7 +259,7 @@ pub fn explained_lines(
     line: u32,
     explanation: &Explanation<'_>,
 ) -> Result<Vec<u8>, AllocError>
-    ensures { IfOk result (λ v. IsTold line explanation.now.quoted.now explanation.now.width explanation.now.help.items v.items) }
+    ensures { IfOk result (λ v. IsTold line explanation.now.quoted.now explanation.now.column explanation.now.width explanation.now.help.items v.items) }
 {
     let mut text = quoted_lines(alloc, line, explanation)?;
     let help = shown_line(alloc, &explanation.help)?;

@@ -1,7 +1,7 @@
 //! The faults that a phase finds in sources, in the order in which they are answered.
 
 use crate::explaining::kinds::kind_of;
-use crate::explaining::studied::Studied;
+use crate::explaining::studied::{Studied, number_at};
 use plm_decl::found::Found;
 use std::alloc::{AllocError, Global};
 use word86::Number;
@@ -29,7 +29,7 @@ pub struct FaultAt {
 /// What was found, with the line of its token; the tokens of the sources have their numbers for lines, and a fault of the whole program has
 /// its line itself.
 fn placed(sources: &[Studied<'_>], found: &Found) -> FaultAt {
-    let number = found.place.line;
+    let number = number_at(found.place);
     let is_of_program = kind_of(found.number).is_of_program();
     let line = match sources.get(found.module) {
         Some(source) if !is_of_program => source.line(number),

@@ -69,10 +69,8 @@ fn write_built<R: Files, S: Sink>(
     errors: &mut S,
 ) -> Result<u8, Stop> {
     let alloc = teller.alloc;
-    let rom = written_rom(alloc, built, pad)?;
-    let Ok(given) = warnings(alloc, &built.program) else {
-        return Err(Stop::Memory);
-    };
+    let rom = written_rom(teller, built, pad)?;
+    let given = teller.or_refusal(warnings(alloc, &built.program))?;
     let mut others: Vec<Prepared<'_>> = Vec::new(alloc);
     let mut rom_file = Output::new(rt, alloc, outputs.rom)?;
     let listing_text = text_of_listing(alloc, outputs.listing, teller.sources, &given)?;
@@ -80,7 +78,7 @@ fn write_built<R: Files, S: Sink>(
     let map_text = text_of_map(alloc, outputs.map, built)?;
     prepare(rt, alloc, outputs.map, map_text, &mut others)?;
     prepare_forms(rt, alloc, outputs.forms, &rom, &mut others)?;
-    let code_text = text_of_code(alloc, outputs.forms.code, teller.sources, built)?;
+    let code_text = text_of_code(teller, outputs.forms.code, built)?;
     prepare(rt, alloc, outputs.forms.code, code_text, &mut others)?;
     let remarks = remarks(teller, &given)?;
     let _ = put_all(errors, &remarks);
@@ -126,24 +124,21 @@ fn prepare_forms<'a, R: Files>(
     prepare(rt, alloc, forms.odd, odd, others)
 }
 
-// The code as a listing; nothing where no file is wanted.
+// The code as a listing; nothing where no file is wanted. Since the program was built, nothing but memory can be wanting; another fault
+// would be told as what it is.
 fn text_of_code(
-    alloc: Global,
+    teller: &Teller<'_, '_>,
     file: Option<&str>,
-    sources: &[Source<'_>],
     built: &Built,
 ) -> Result<Vec<u8>, Stop> {
+    let alloc = teller.alloc;
     if file.is_none() {
         return Ok(Vec::new(alloc));
     }
-    let Ok(code) = lower(alloc, &built.program) else {
-        return Err(Stop::Memory);
-    };
-    let texts = named_texts(alloc, sources)?;
-    match code_listing(alloc, &texts, built.program.names(), &code, &built.image) {
-        Ok(text) => Ok(text),
-        Err(_) => Err(Stop::Memory),
-    }
+    let code = teller.or_refusal(lower(alloc, &built.program))?;
+    let texts = named_texts(alloc, teller.sources)?;
+    let names = built.program.names();
+    teller.or_refusal(code_listing(alloc, &texts, names, &code, &built.image))
 }
 
 // The ROM as Intel HEX; nothing where no file is wanted.

@@ -7,7 +7,6 @@ use crate::stop::{Stop, Unwritten};
 use std::alloc::Global;
 use std::fs;
 use std::io::Error;
-use std::path::Path;
 use std::rt::Files;
 use word86::Fault;
 
@@ -25,25 +24,14 @@ pub(crate) fn read_file<R: Files>(
     match read_all(alloc, &mut file, most) {
         Ok(bytes) => Ok(bytes),
         Err(ReadFault::Memory) => Err(Stop::Memory),
-        Err(ReadFault::Read) => Err(Stop::CannotRead(
-            String::from_str(alloc, name)?,
-            String::from_str(alloc, why_unread(rt, name))?,
-        )),
+        Err(ReadFault::Read(error)) => Err(unread(alloc, name, &error)?),
     }
 }
 
-/// The stop for a file that cannot be opened.
+/// The stop for a file that cannot be opened or read: the reason is the system's.
 fn unread(alloc: Global, name: &str, error: &Error) -> Result<Stop, Stop> {
     let reason = format!(in alloc; "{error}")?;
     Ok(Stop::CannotRead(String::from_str(alloc, name)?, reason))
-}
-
-/// Why a file that was opened is not read.
-fn why_unread<R: Files>(rt: &R, name: &str) -> &'static str {
-    match Path::new(name).metadata(rt) {
-        Ok(found) if found.is_dir() => "Is a directory",
-        Ok(_) | Err(_) => "",
-    }
 }
 
 /// The stop for a run that was cut short: by want of memory, or since standard output cannot be written.

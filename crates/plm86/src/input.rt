@@ -13,22 +13,22 @@ use std::io::{Error, ErrorKind, Read};
 const CHUNK: usize = 16_384;
 
 /// Why an input was not read.
-#[derive(Debug, Clone, Copy, PartialEq, Eq)]
+#[derive(Debug, Clone, Copy)]
 pub enum ReadFault {
-    /// The reader failed.
-    Read,
+    /// The reader failed, and why.
+    Read(Error),
     /// A growth of memory was refused.
     Memory,
 }
 
 impl From<Error> for ReadFault {
-    ghost from_gives = { λ e f. (error_kind e ≡ OutOfMemory → f ≡ fault.Memory) × (error_kind e ≢ OutOfMemory → f ≡ fault.Read) };
+    ghost from_gives = { λ e f. (error_kind e ≡ OutOfMemory → f ≡ fault.Memory) × (error_kind e ≢ OutOfMemory → f ≡ fault.Read e) };
 
     fn from(error: Error) -> ReadFault {
         if error.kind() == ErrorKind::OutOfMemory {
             ReadFault::Memory
         } else {
-            ReadFault::Read
+            ReadFault::Read(error)
         }
     }
 }
@@ -58,7 +58,7 @@ fn room(most: Option<usize>, read: usize) -> usize
 ///
 /// # Errors
 ///
-/// `Read` where the reader failed, and `Memory` where a growth of memory was refused: the reader has then given no more than its
+/// `Read` where the reader failed or has no end, and `Memory` where a growth of memory was refused: the reader has then given no more than its
 /// first `most` bytes.
 pub fn read_all<R: Read>(
     alloc: Global,
@@ -82,5 +82,5 @@ pub fn read_all<R: Read>(
             Err(error) => return Err(ReadFault::from(error)),
         }
     }
-    Err(ReadFault::Read)
+    Err(ReadFault::Read(Error::other("it has no end")))
 }

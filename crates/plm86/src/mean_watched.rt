@@ -1,4 +1,4 @@
-//! Runs of the meaning whose lines have their turns in front, or that tell what becomes of a variable.
+//! Runs of the meaning whose lines have their turns in front, or that tell each store into a variable.
 //!
 //! What is written has no contract: `tests/watched` compares it with the trace of `mean`.
 
@@ -7,13 +7,13 @@ ghost use Rattle.plm_decl.specs.Placement as placed;
 
 use crate::mean::{CANNOT_WRITE, Ending, MeanEnd, take, take_step};
 use board::Schedule;
-use listing_map::{put_end_line, put_turn_number, trace_line};
+use listing_map::{put_behind_turn, put_end_line, trace_line};
 use plm_decl::{Names, Placement};
-use plm_meaning::{Choice, Meaning, Step};
+use plm_meaning::{Choice, Meaning, ObjectStore, Step};
 use plm_token::same_name;
 use plm_type::Program;
 use std::alloc::{AllocError, Global};
-use word86::{Event, Fault, PowerOn, Sink, WriterSink, put_all};
+use word86::{Event, Fault, PowerOn, Sink, SinkFault, Width, WriterSink};
 
 /// What is watched: whether lines have their turns in front, and a RAM object, by its number and its name.
 #[derive(Clone, Copy)]
@@ -43,6 +43,19 @@ pub(crate) enum Meant<'n> {
     Several(&'n [u8], &'n [u8]),
 }
 
+impl Watching<'_> {
+    /// The turn as it stands in front of a line, where it does.
+    fn front(self, turn: u32) -> Option<u32> {
+        self.turns.then_some(turn)
+    }
+}
+
+impl From<SinkFault> for Ending {
+    fn from(_broken: SinkFault) -> Ending {
+        Ending::Broken
+    }
+}
+
 impl<'n> Meant<'n> {
     /// What it means where its last part is that of this object too.
     fn or(self, number: usize, path: &'n [u8]) -> Meant<'n> {
@@ -69,22 +82,6 @@ pub(crate) fn object_meant<'n>(names: &'n Names, name: &[u8]) -> Meant<'n> {
     meant
 }
 
-/// Writes a line, after its turn where that is wanted.
-fn put_line<S: Sink>(
-    watching: Watching<'_>,
-    turn: u32,
-    line: &[u8],
-    sink: &mut S,
-) -> Result<(), Ending> {
-    if watching.turns && put_turn_number(turn, sink).is_err() {
-        return Err(Ending::Broken);
-    }
-    match put_all(sink, line) {
-        Ok(()) => Ok(()),
-        Err(_) => Err(Ending::Broken),
-    }
-}
-
 /// Writes the line of what came, if it shows something.
 fn put_step<S: Sink>(
     alloc: Global,
@@ -100,86 +97,55 @@ fn put_step<S: Sink>(
     if trace_line(&label, &mut WriterSink::new(&mut line)).is_err() {
         return Err(Ending::Memory);
     }
-    put_line(watching, turn, &line, sink)
+    Ok(put_behind_turn(watching.front(turn), &line, sink)?)
 }
 
-/// The first byte that is another than before.
-fn first_change(before: &[u8], now: &[u8]) -> Option<usize> {
-    for (place, (old, new)) in before.iter().zip(now).enumerate() {
-        if old != new {
-            return Some(place);
-        }
-    }
-    None
-}
-
-/// Whether the bytes at a place differ.
-fn differ_at(before: &[u8], now: &[u8], place: usize) -> bool {
-    before.get(place) != now.get(place)
-}
-
-fn byte_at(bytes: &[u8], place: usize) -> u8 {
-    match bytes.get(place) {
-        Some(byte) => *byte,
-        None => 0,
-    }
-}
-
-/// The line of a change: its place in the object, the byte or the word that came there, and the object's name.
-fn change_line(
-    alloc: Global,
-    name: &[u8],
-    before: &[u8],
-    now: &[u8],
-) -> Result<Option<Vec<u8>>, AllocError> {
-    let Some(place) = first_change(before, now) else {
-        return Ok(None);
-    };
-    let next = place.saturating_add(1);
-    let (low, high) = (byte_at(now, place), byte_at(now, next));
-    let words = if differ_at(before, now, next) {
-        format!(in alloc; "SETW {place:04X} {high:02X}{low:02X} ")?
-    } else {
-        format!(in alloc; "SET {place:04X} {low:02X} ")?
+/// The line of a store: its place in the object, the byte or the word that is stored, and the object's name.
+fn store_line(alloc: Global, name: &[u8], store: ObjectStore) -> Result<Vec<u8>, AllocError> {
+    let ObjectStore { place, value, .. } = store;
+    let words = match store.width {
+        Width::Byte => format!(in alloc; "SET {place:04X} {value:02X} ")?,
+        Width::Word => format!(in alloc; "SETW {place:04X} {value:04X} ")?,
     };
     let mut line = Vec::from_slice(alloc, words.as_str().as_bytes())?;
     line.extend_from_slice(name)?;
     line.push(b'\n')?;
-    Ok(Some(line))
+    Ok(line)
 }
 
-/// The bytes of what is watched.
-fn watched_bytes<'m>(meaning: &'m Meaning<'_>, watching: Watching<'_>) -> &'m [u8] {
-    match watching.object {
-        Some((number, _)) => meaning.object(number),
-        None => &[],
+/// The store into the variable that the turn's step makes, if it makes one.
+fn watched_store(
+    meaning: &mut Meaning<'_>,
+    watching: Watching<'_>,
+) -> Result<Option<ObjectStore>, Ending> {
+    let Some((number, _)) = watching.object else {
+        return Ok(None);
+    };
+    // (an interrupt is entered first)
+    if meaning.is_interrupted() {
+        return Ok(None);
+    }
+    match meaning.next_store() {
+        Ok(found) => Ok(found.filter(|store| store.object == number)),
+        Err(_refused) => Err(Ending::Memory),
     }
 }
 
-/// Writes what a step made of the variable, and keeps it.
-fn put_change<S: Sink>(
+/// Writes a store into the variable.
+fn put_store<S: Sink>(
     alloc: Global,
     watching: Watching<'_>,
     turn: u32,
-    meaning: &Meaning<'_>,
-    before: &mut Vec<u8>,
+    store: Option<ObjectStore>,
     sink: &mut S,
 ) -> Result<(), Ending> {
-    let Some((_, name)) = watching.object else {
+    let (Some((_, name)), Some(store)) = (watching.object, store) else {
         return Ok(());
     };
-    let now = watched_bytes(meaning, watching);
-    let Ok(line) = change_line(alloc, name, before, now) else {
+    let Ok(line) = store_line(alloc, name, store) else {
         return Err(Ending::Memory);
     };
-    let Some(line) = line else {
-        return Ok(());
-    };
-    let Ok(kept) = Vec::from_slice(alloc, now) else {
-        return Err(Ending::Memory);
-    };
-    *before = kept;
-    put_line(watching, turn, &line, sink)
+    Ok(put_behind_turn(watching.front(turn), &line, sink)?)
 }
 
 /// The events of a turn.
@@ -198,26 +164,29 @@ fn take_events<S: Sink>(
     Ok(())
 }
 
-/// The step of a turn, and what it changes.
+/// The step of a turn, and the store that it makes.
 fn take_turn<S: Sink>(
     alloc: Global,
     watching: Watching<'_>,
     turn: u32,
     meaning: &mut Meaning<'_>,
-    before: &mut Vec<u8>,
     sink: &mut S,
 ) -> Result<(), Ending> {
-    let came = match take_step(meaning) {
-        Ok(came) => came,
-        Err(Ending::Bad(at)) => {
-            put_line(watching, turn, b"", sink)?;
-            return Err(Ending::Bad(at));
+    let store = watched_store(meaning, watching)?;
+    match take_step(meaning) {
+        // (where main is halted its next store does not come)
+        Ok(None) => Ok(()),
+        Ok(Some(step)) => {
+            put_step(alloc, watching, turn, Some(step), sink)?;
+            put_store(alloc, watching, turn, store, sink)
         }
-        Err(Ending::Memory) => return Err(Ending::Memory),
-        Err(Ending::Broken) => return Err(Ending::Broken),
-    };
-    put_step(alloc, watching, turn, came, sink)?;
-    put_change(alloc, watching, turn, meaning, before, sink)
+        Err(Ending::Bad(at)) => {
+            put_behind_turn(watching.front(turn), b"", sink)?;
+            Err(Ending::Bad(at))
+        }
+        Err(Ending::Memory) => Err(Ending::Memory),
+        Err(Ending::Broken) => Err(Ending::Broken),
+    }
 }
 
 /// The turns up to the schedule's stop, and the last line.
@@ -225,24 +194,19 @@ fn take_turns<S: Sink>(
     alloc: Global,
     watching: Watching<'_>,
     meaning: &mut Meaning<'_>,
-    before: &mut Vec<u8>,
     schedule: &Schedule,
     sink: &mut S,
 ) -> Result<(), Ending> {
     let stop = schedule.stop();
     for turn in 0..stop {
         take_events(alloc, watching, turn, meaning, schedule.due(turn), sink)?;
-        take_turn(alloc, watching, turn, meaning, before, sink)?;
+        take_turn(alloc, watching, turn, meaning, sink)?;
     }
-    put_line(watching, stop, b"", sink)?;
-    match put_end_line(stop, sink) {
-        Ok(()) => Ok(()),
-        Err(_) => Err(Ending::Broken),
-    }
+    put_behind_turn(watching.front(stop), b"", sink)?;
+    Ok(put_end_line(stop, sink)?)
 }
 
-/// Runs the meaning of a program as `mean_run` does, and writes its lines as they are wanted, and one for each step that changes the
-/// variable.
+/// Runs the meaning of a program as `mean_run` does, and writes its lines as they are wanted, and one for each store into the variable.
 ///
 /// # Errors
 ///
@@ -259,8 +223,7 @@ pub(crate) fn mean_watched<S: Sink>(
     requires { IsPlacement placement.now.offsets.items (placed.sizes_of program.now.names) }
 {
     let mut meaning = Meaning::new(alloc, program, placement, power_on)?;
-    let mut before = Vec::from_slice(alloc, watched_bytes(&meaning, watching))?;
-    match take_turns(alloc, watching, &mut meaning, &mut before, schedule, sink) {
+    match take_turns(alloc, watching, &mut meaning, schedule, sink) {
         Ok(()) => Ok(MeanEnd::Stopped),
         Err(Ending::Bad(at)) => Ok(MeanEnd::Bad(at.module, at.line)),
         Err(Ending::Memory) => Err(Fault::Memory),

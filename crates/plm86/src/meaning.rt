@@ -47,9 +47,7 @@ pub(crate) fn run_meaning<S: Sink>(
     let built = build_sources(&teller, RomSize::Kib64)?;
     let watching = watching_of(alloc, following, built.program.names())?;
     let power_on = power_on_of(alloc, &schedule)?;
-    let Ok(given) = warnings(alloc, &built.program) else {
-        return Err(Stop::Memory);
-    };
+    let given = teller.or_refusal(warnings(alloc, &built.program))?;
     // Where they cannot be shown, the trace still tells.
     let _ = put_all(errors, &remarks(&teller, &given)?);
     let end = trace(rt, alloc, &built, &sources, power_on, &schedule, watching);

@@ -5,6 +5,7 @@
 
 use crate::built::Built;
 use crate::stop::Stop;
+use crate::telling::Teller;
 use board::address_of;
 use layout_link::{StartUpRoom, start_up_room};
 use listing_map::padded_rom;
@@ -46,6 +47,7 @@ fn taken(parts: &[Part], start_up: StartUpRoom) -> usize {
     taken
 }
 
+/// The ROM with this byte where it is free.
 fn padded(alloc: Global, built: &Built, byte: u8) -> Result<Vec<u8>, Fault> {
     let code = lower(alloc, &built.program)?;
     let parts = select(alloc, &code)?;
@@ -53,14 +55,14 @@ fn padded(alloc: Global, built: &Built, byte: u8) -> Result<Vec<u8>, Fault> {
     Ok(padded_rom(alloc, &built.image.rom, taken(&parts, start_up), byte)?)
 }
 
-/// The ROM as it is written.
-pub(crate) fn written_rom(alloc: Global, built: &Built, pad: Option<u8>) -> Result<Vec<u8>, Stop> {
-    let rom = match pad {
-        Some(byte) => padded(alloc, built, byte),
-        None => Ok(Vec::from_slice(alloc, &built.image.rom)?),
-    };
-    match rom {
-        Ok(rom) => Ok(rom),
-        Err(_) => Err(Stop::Memory),
+/// The ROM as it is written. Since the program was built, nothing but memory can be wanting; another fault would be told as what it is.
+pub(crate) fn written_rom(
+    teller: &Teller<'_, '_>,
+    built: &Built,
+    pad: Option<u8>,
+) -> Result<Vec<u8>, Stop> {
+    match pad {
+        Some(byte) => teller.or_refusal(padded(teller.alloc, built, byte)),
+        None => Ok(Vec::from_slice(teller.alloc, &built.image.rom)?),
     }
 }

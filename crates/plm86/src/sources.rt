@@ -45,10 +45,7 @@ pub(crate) fn sources_of<'n: 's, 's>(
 
 /// What the sources are built to, for a ROM of this size.
 pub(crate) fn build_sources(teller: &Teller<'_, '_>, size: RomSize) -> Result<Built, Stop> {
-    match build_program(teller.alloc, teller.sources, size) {
-        Ok(built) => Ok(built),
-        Err(fault) => Err(teller.refusal(fault)?),
-    }
+    teller.or_refusal(build_program(teller.alloc, teller.sources, size))
 }
 
 /// The warnings and notes of a program, as they are shown.

@@ -188,6 +188,14 @@ impl<'s, 'a> Teller<'s, 'a> {
         }
     }
 
+    /// What a phase answers, or the stop for its fault.
+    pub fn or_refusal<T: Drop>(&self, answer: Result<T, Fault>) -> Result<T, Stop> {
+        match answer {
+            Ok(value) => Ok(value),
+            Err(fault) => Err(self.refusal(fault)?),
+        }
+    }
+
     /// The warnings, one after another.
     pub fn warnings(&self, given: &[Warning]) -> Result<Vec<u8>, AllocError> {
         let mut faults = Vec::new(self.alloc);

@@ -6,4 +6,5 @@ pub mod Context
 pub mod Around
 pub mod Shown
 pub mod Meaning
+pub mod NextStore
 pub mod Inner

@@ -13,4 +13,4 @@ mod settle;
 mod start;
 mod store;
 
-pub use meaning::{Choice, Meaning, Step, Stop};
+pub use meaning::{Choice, Meaning, ObjectStore, Step, Stop};

@@ -11,13 +11,17 @@ ghost use Rattle.plm_decl.specs.Placement as placed;
 ghost use Rattle.plm_decl.specs.Placement.{IsPlacement};
 ghost use Rattle.plm_type.specs.Rest.{Handler};
 ghost use Rattle.plm_meaning.specs.declared.meaning.Stop.TheVariants as stop;
-ghost use Rattle.plm_meaning.specs.Store.{shared, object as object_in};
+ghost use Rattle.plm_meaning.specs.Store.{shared};
 ghost use Rattle.plm_meaning.specs.System.{is_interrupted, settled, counted, Program as Moves, Occurs, Enter, Leave, Idle};
 ghost use Rattle.plm_meaning.specs.Context.{Part, to_run_of};
 ghost use Rattle.plm_meaning.specs.Shown.{store_of};
 ghost use Rattle.plm_meaning.specs.Inner.Redex.{acting, FitsIn};
 ghost use Rattle.plm_meaning.specs.Meaning.{choice_of, state_of, Opens, Made, Stopped};
 ghost use Rattle.plm_meaning.specs.Inner.Meaning.{Performed, StopsAt};
+
+mod next_store;
+
+pub use next_store::ObjectStore;
 
 use crate::around::Surroundings;
 use crate::context::{Context, Focus};
@@ -149,16 +153,6 @@ impl<'a> Meaning<'a> {
             Choice::Enter => self.enter(),
             Choice::Leave => self.leave(),
             Choice::Idle => self.idle(),
-        }
-    }
-
-    /// The bytes of a RAM object as they are now, by its number in order of declaration; none where there is no such object.
-    pub fn object(&self, number: usize) -> &[u8]
-        ensures { (p : ChipState) → result.now ≡ object_in (store_of self.now.store p) number }
-    {
-        match self.store.objects.get(number) {
-            Some(bytes) => bytes.as_slice(),
-            None => &[],
         }
     }
 

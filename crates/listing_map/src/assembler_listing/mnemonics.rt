@@ -2,9 +2,8 @@
 //! that its address goes with, numbers in hexadecimal with an H behind them.
 
 use i86_table::{
-    Address, AluOperation, Base, Condition, Count, Instr, LoadableSegment, Memory, Operands, Port,
-    Register8, Register16, Repeat, RmOperand, Segment, ShiftOperation, Signedness, TestMask,
-    UnaryOperation,
+    Address, AluOperation, Base, Condition, Count, Instr, Memory, Operands, Port, Register8,
+    Register16, Repeat, RmOperand, Segment, ShiftOperation, Signedness, TestMask, UnaryOperation,
 };
 use std::alloc::{AllocError, Global};
 use word86::Width;
@@ -162,12 +161,8 @@ fn segment_name(segment: Segment) -> &'static str {
     }
 }
 
-fn loadable_name(segment: LoadableSegment) -> &'static str {
-    match segment {
-        LoadableSegment::Es => "ES",
-        LoadableSegment::Ss => "SS",
-        LoadableSegment::Ds => "DS",
-    }
+fn segment_register(segment: Segment) -> Operand {
+    Operand::Register(segment_name(segment))
 }
 
 fn byte_place(place: RmOperand<Register8>) -> Operand {
@@ -307,98 +302,149 @@ fn far(next: u16, distance: u16) -> Operand {
     Operand::Word(next.wrapping_add(distance))
 }
 
-/// How an instruction is written, behind which the next one has this offset.
-fn spelling_of(instruction: Instr, next: u16) -> Spelled {
-    match instruction {
-        Instr::Nop => bare("NOP"),
+fn words(name: &'static str, first: Operand, second: Operand) -> Spelled {
+    two(name, Width::Word, first, second)
+}
+
+fn exchange_byte(register: Register8, other: Operand) -> Spelled {
+    two("XCHG", Width::Byte, byte_register(register), other)
+}
+
+fn exchange_word(register: Register16, other: Operand) -> Spelled {
+    words("XCHG", word_register(register), other)
+}
+
+fn going(name: &'static str, place: Operand) -> Spelled {
+    one(name, Width::Word, place)
+}
+
+fn of_byte(name: &'static str, place: RmOperand<Register8>) -> Spelled {
+    one(name, Width::Byte, byte_place(place))
+}
+
+fn of_word(name: &'static str, place: RmOperand<Register16>) -> Spelled {
+    one(name, Width::Word, word_place(place))
+}
+
+fn shift_of_byte(operation: ShiftOperation, place: RmOperand<Register8>, count: Count) -> Spelled {
+    shift(operation, Width::Byte, byte_place(place), count)
+}
+
+fn shift_of_word(operation: ShiftOperation, place: RmOperand<Register16>, count: Count) -> Spelled {
+    shift(operation, Width::Word, word_place(place), count)
+}
+
+/// Those that work something out.
+fn working(instruction: Instr) -> Option<Spelled> {
+    let spelled = match instruction {
         Instr::AluByte(operation, operands) => of_bytes(alu_name(operation), operands),
         Instr::AluWord(operation, operands) => of_words(alu_name(operation), operands),
-        Instr::UnaryByte(operation, place) => {
-            one(unary_name(operation), Width::Byte, byte_place(place))
-        }
-        Instr::UnaryWord(operation, place) => {
-            one(unary_name(operation), Width::Word, word_place(place))
-        }
+        Instr::UnaryByte(operation, place) => of_byte(unary_name(operation), place),
+        Instr::UnaryWord(operation, place) => of_word(unary_name(operation), place),
         Instr::TestByte(place, mask) => test_of_bytes(place, mask),
         Instr::TestWord(place, mask) => test_of_words(place, mask),
-        Instr::ShiftByte(operation, place, count) => {
-            shift(operation, Width::Byte, byte_place(place), count)
-        }
-        Instr::ShiftWord(operation, place, count) => {
-            shift(operation, Width::Word, word_place(place), count)
-        }
-        Instr::MultiplyByte(signedness, place) => {
-            one(product_name(signedness), Width::Byte, byte_place(place))
-        }
-        Instr::MultiplyWord(signedness, place) => {
-            one(product_name(signedness), Width::Word, word_place(place))
-        }
-        Instr::DivideByte(signedness, place) => {
-            one(quotient_name(signedness), Width::Byte, byte_place(place))
-        }
-        Instr::DivideWord(signedness, place) => {
-            one(quotient_name(signedness), Width::Word, word_place(place))
-        }
-        Instr::ConvertByte => bare("CBW"),
-        Instr::ConvertWord => bare("CWD"),
+        Instr::ShiftByte(operation, place, count) => shift_of_byte(operation, place, count),
+        Instr::ShiftWord(operation, place, count) => shift_of_word(operation, place, count),
+        Instr::MultiplyByte(signedness, place) => of_byte(product_name(signedness), place),
+        Instr::MultiplyWord(signedness, place) => of_word(product_name(signedness), place),
+        Instr::DivideByte(signedness, place) => of_byte(quotient_name(signedness), place),
+        Instr::DivideWord(signedness, place) => of_word(quotient_name(signedness), place),
+        Instr::MoveByte(_) | Instr::MoveWord(_) | Instr::MoveFromSegment(_, _) => return None,
+        Instr::MoveToSegment(_, _) | Instr::LoadAddress(_, _) => return None,
+        Instr::ExchangeBytes(_) | Instr::ExchangeWords(_) => return None,
+        Instr::ExchangeMemoryByte(_, _) | Instr::ExchangeMemoryWord(_, _) => return None,
+        Instr::Push(_) | Instr::Pop(_) | Instr::PushSegment(_) => return None,
+        Instr::PopSegment(_) | Instr::MoveString { .. } | Instr::StoreString { .. } => return None,
+        Instr::In(_, _) | Instr::Out(_, _) | Instr::JumpIf(_, _) | Instr::Loop(_) => return None,
+        Instr::JumpIfCxZero(_) | Instr::JumpShort(_) | Instr::Jump(_) => return None,
+        Instr::JumpTo(_) | Instr::JumpFar { .. } | Instr::Call(_) | Instr::CallTo(_) => return None,
+        Instr::ReturnDropping(_) | Instr::Nop | Instr::ConvertByte => return None,
+        Instr::ConvertWord | Instr::PushFlags | Instr::PopFlags | Instr::Return => return None,
+        Instr::InterruptReturn | Instr::ComplementCarry | Instr::ClearCarry => return None,
+        Instr::SetCarry | Instr::DisableInterrupts | Instr::EnableInterrupts => return None,
+        Instr::ClearDirection | Instr::SetDirection | Instr::Halt => return None,
+    };
+    Some(spelled)
+}
+
+/// Those that move something between registers and memory.
+fn moving(instruction: Instr) -> Option<Spelled> {
+    let spelled = match instruction {
         Instr::MoveByte(operands) => of_bytes("MOV", operands),
         Instr::MoveWord(operands) => of_words("MOV", operands),
-        Instr::MoveFromSegment(place, segment) => two(
-            "MOV",
-            Width::Word,
-            word_place(place),
-            Operand::Register(segment_name(segment)),
-        ),
-        Instr::MoveToSegment(segment, place) => two(
-            "MOV",
-            Width::Word,
-            Operand::Register(loadable_name(segment)),
-            word_place(place),
-        ),
-        Instr::LoadAddress(register, address) => two(
-            "LEA",
-            Width::Word,
-            word_register(register),
-            Operand::Offset(address),
-        ),
-        Instr::ExchangeBytes(pair) => two(
-            "XCHG",
-            Width::Byte,
-            byte_register(pair.first),
-            byte_register(pair.second),
-        ),
-        Instr::ExchangeWords(pair) => two(
-            "XCHG",
-            Width::Word,
-            word_register(pair.first),
-            word_register(pair.second),
-        ),
-        Instr::ExchangeMemoryByte(register, memory) => two(
-            "XCHG",
-            Width::Byte,
-            byte_register(register),
-            Operand::Memory(memory),
-        ),
-        Instr::ExchangeMemoryWord(register, memory) => two(
-            "XCHG",
-            Width::Word,
-            word_register(register),
-            Operand::Memory(memory),
-        ),
-        Instr::Push(place) => one("PUSH", Width::Word, word_place(place)),
-        Instr::Pop(place) => one("POP", Width::Word, word_place(place)),
-        Instr::PushSegment(segment) => one(
-            "PUSH",
-            Width::Word,
-            Operand::Register(segment_name(segment)),
-        ),
-        Instr::PopSegment(segment) => one(
-            "POP",
-            Width::Word,
-            Operand::Register(loadable_name(segment)),
-        ),
-        Instr::PushFlags => bare("PUSHF"),
-        Instr::PopFlags => bare("POPF"),
+        Instr::MoveFromSegment(place, segment) => {
+            words("MOV", word_place(place), segment_register(segment))
+        }
+        Instr::MoveToSegment(segment, place) => {
+            words(
+                "MOV",
+                segment_register(segment.segment()),
+                word_place(place),
+            )
+        }
+        Instr::LoadAddress(register, address) => {
+            words("LEA", word_register(register), Operand::Offset(address))
+        }
+        Instr::ExchangeBytes(_) | Instr::ExchangeWords(_) => return None,
+        Instr::ExchangeMemoryByte(_, _) | Instr::ExchangeMemoryWord(_, _) => return None,
+        Instr::AluByte(_, _) | Instr::AluWord(_, _) | Instr::UnaryByte(_, _) => return None,
+        Instr::UnaryWord(_, _) | Instr::TestByte(_, _) | Instr::TestWord(_, _) => return None,
+        Instr::ShiftByte(_, _, _) | Instr::ShiftWord(_, _, _) => return None,
+        Instr::MultiplyByte(_, _) | Instr::MultiplyWord(_, _) => return None,
+        Instr::DivideByte(_, _) | Instr::DivideWord(_, _) | Instr::Push(_) => return None,
+        Instr::Pop(_) | Instr::PushSegment(_) | Instr::PopSegment(_) => return None,
+        Instr::MoveString { .. } | Instr::StoreString { .. } | Instr::In(_, _) => return None,
+        Instr::Out(_, _) | Instr::JumpIf(_, _) | Instr::Loop(_) => return None,
+        Instr::JumpIfCxZero(_) | Instr::JumpShort(_) | Instr::Jump(_) => return None,
+        Instr::JumpTo(_) | Instr::JumpFar { .. } | Instr::Call(_) | Instr::CallTo(_) => return None,
+        Instr::ReturnDropping(_) | Instr::Nop | Instr::ConvertByte => return None,
+        Instr::ConvertWord | Instr::PushFlags | Instr::PopFlags | Instr::Return => return None,
+        Instr::InterruptReturn | Instr::ComplementCarry | Instr::ClearCarry => return None,
+        Instr::SetCarry | Instr::DisableInterrupts | Instr::EnableInterrupts => return None,
+        Instr::ClearDirection | Instr::SetDirection | Instr::Halt => return None,
+    };
+    Some(spelled)
+}
+
+/// Those that exchange two registers, or a register and memory.
+fn exchanging(instruction: Instr) -> Option<Spelled> {
+    let spelled = match instruction {
+        Instr::ExchangeBytes(pair) => exchange_byte(pair.first, byte_register(pair.second)),
+        Instr::ExchangeWords(pair) => exchange_word(pair.first, word_register(pair.second)),
+        Instr::ExchangeMemoryByte(register, memory) => {
+            exchange_byte(register, Operand::Memory(memory))
+        }
+        Instr::ExchangeMemoryWord(register, memory) => {
+            exchange_word(register, Operand::Memory(memory))
+        }
+        Instr::MoveByte(_) | Instr::MoveWord(_) | Instr::LoadAddress(_, _) => return None,
+        Instr::MoveFromSegment(_, _) | Instr::MoveToSegment(_, _) => return None,
+        Instr::AluByte(_, _) | Instr::AluWord(_, _) | Instr::UnaryByte(_, _) => return None,
+        Instr::UnaryWord(_, _) | Instr::TestByte(_, _) | Instr::TestWord(_, _) => return None,
+        Instr::ShiftByte(_, _, _) | Instr::ShiftWord(_, _, _) => return None,
+        Instr::MultiplyByte(_, _) | Instr::MultiplyWord(_, _) => return None,
+        Instr::DivideByte(_, _) | Instr::DivideWord(_, _) | Instr::Push(_) => return None,
+        Instr::Pop(_) | Instr::PushSegment(_) | Instr::PopSegment(_) => return None,
+        Instr::MoveString { .. } | Instr::StoreString { .. } | Instr::In(_, _) => return None,
+        Instr::Out(_, _) | Instr::JumpIf(_, _) | Instr::Loop(_) => return None,
+        Instr::JumpIfCxZero(_) | Instr::JumpShort(_) | Instr::Jump(_) => return None,
+        Instr::JumpTo(_) | Instr::JumpFar { .. } | Instr::Call(_) | Instr::CallTo(_) => return None,
+        Instr::ReturnDropping(_) | Instr::Nop | Instr::ConvertByte => return None,
+        Instr::ConvertWord | Instr::PushFlags | Instr::PopFlags | Instr::Return => return None,
+        Instr::InterruptReturn | Instr::ComplementCarry | Instr::ClearCarry => return None,
+        Instr::SetCarry | Instr::DisableInterrupts | Instr::EnableInterrupts => return None,
+        Instr::ClearDirection | Instr::SetDirection | Instr::Halt => return None,
+    };
+    Some(spelled)
+}
+
+/// Those of the stack, of strings and of ports.
+fn carrying(instruction: Instr) -> Option<Spelled> {
+    let spelled = match instruction {
+        Instr::Push(place) => of_word("PUSH", place),
+        Instr::Pop(place) => of_word("POP", place),
+        Instr::PushSegment(segment) => one("PUSH", Width::Word, segment_register(segment)),
+        Instr::PopSegment(segment) => one("POP", Width::Word, segment_register(segment.segment())),
         Instr::MoveString {
             width,
             source,
@@ -407,31 +453,116 @@ fn spelling_of(instruction: Instr, next: u16) -> Spelled {
         Instr::StoreString { width, repeat } => store_string(width, repeat),
         Instr::In(width, port) => two("IN", width, accumulator(width), port_operand(port)),
         Instr::Out(width, port) => two("OUT", width, port_operand(port), accumulator(width)),
-        Instr::JumpIf(condition, distance) => {
-            one(jump_name(condition), Width::Word, near(next, distance))
-        }
-        Instr::Loop(distance) => one("LOOP", Width::Word, near(next, distance)),
-        Instr::JumpIfCxZero(distance) => one("JCXZ", Width::Word, near(next, distance)),
-        Instr::JumpShort(distance) => one("JMP SHORT", Width::Word, near(next, distance)),
-        Instr::Jump(distance) => one("JMP", Width::Word, far(next, distance)),
-        Instr::JumpTo(place) => one("JMP", Width::Word, word_place(place)),
-        Instr::JumpFar { offset, segment } => {
-            one("JMP", Width::Word, Operand::Far(segment, offset))
-        }
-        Instr::Call(distance) => one("CALL", Width::Word, far(next, distance)),
-        Instr::CallTo(place) => one("CALL", Width::Word, word_place(place)),
-        Instr::Return => bare("RET"),
-        Instr::ReturnDropping(count) => one("RET", Width::Word, Operand::Word(count)),
-        Instr::InterruptReturn => bare("IRET"),
-        Instr::ComplementCarry => bare("CMC"),
-        Instr::ClearCarry => bare("CLC"),
-        Instr::SetCarry => bare("STC"),
-        Instr::DisableInterrupts => bare("CLI"),
-        Instr::EnableInterrupts => bare("STI"),
-        Instr::ClearDirection => bare("CLD"),
-        Instr::SetDirection => bare("STD"),
-        Instr::Halt => bare("HLT"),
+        Instr::AluByte(_, _) | Instr::AluWord(_, _) | Instr::UnaryByte(_, _) => return None,
+        Instr::UnaryWord(_, _) | Instr::TestByte(_, _) | Instr::TestWord(_, _) => return None,
+        Instr::ShiftByte(_, _, _) | Instr::ShiftWord(_, _, _) => return None,
+        Instr::MultiplyByte(_, _) | Instr::MultiplyWord(_, _) => return None,
+        Instr::DivideByte(_, _) | Instr::DivideWord(_, _) | Instr::MoveByte(_) => return None,
+        Instr::MoveWord(_) | Instr::MoveFromSegment(_, _) => return None,
+        Instr::MoveToSegment(_, _) | Instr::LoadAddress(_, _) => return None,
+        Instr::ExchangeBytes(_) | Instr::ExchangeWords(_) => return None,
+        Instr::ExchangeMemoryByte(_, _) | Instr::ExchangeMemoryWord(_, _) => return None,
+        Instr::JumpIf(_, _) | Instr::Loop(_) | Instr::JumpIfCxZero(_) => return None,
+        Instr::JumpShort(_) | Instr::Jump(_) | Instr::JumpTo(_) => return None,
+        Instr::JumpFar { .. } | Instr::Call(_) | Instr::CallTo(_) => return None,
+        Instr::ReturnDropping(_) | Instr::Nop | Instr::ConvertByte => return None,
+        Instr::ConvertWord | Instr::PushFlags | Instr::PopFlags | Instr::Return => return None,
+        Instr::InterruptReturn | Instr::ComplementCarry | Instr::ClearCarry => return None,
+        Instr::SetCarry | Instr::DisableInterrupts | Instr::EnableInterrupts => return None,
+        Instr::ClearDirection | Instr::SetDirection | Instr::Halt => return None,
+    };
+    Some(spelled)
+}
+
+/// Those that go elsewhere, behind which the next one has this offset.
+fn leading(instruction: Instr, next: u16) -> Option<Spelled> {
+    let spelled = match instruction {
+        Instr::JumpIf(condition, distance) => going(jump_name(condition), near(next, distance)),
+        Instr::Loop(distance) => going("LOOP", near(next, distance)),
+        Instr::JumpIfCxZero(distance) => going("JCXZ", near(next, distance)),
+        Instr::JumpShort(distance) => going("JMP SHORT", near(next, distance)),
+        Instr::Jump(distance) => going("JMP", far(next, distance)),
+        Instr::JumpTo(place) => of_word("JMP", place),
+        Instr::JumpFar { offset, segment } => going("JMP", Operand::Far(segment, offset)),
+        Instr::Call(distance) => going("CALL", far(next, distance)),
+        Instr::CallTo(place) => of_word("CALL", place),
+        Instr::ReturnDropping(count) => going("RET", Operand::Word(count)),
+        Instr::AluByte(_, _) | Instr::AluWord(_, _) | Instr::UnaryByte(_, _) => return None,
+        Instr::UnaryWord(_, _) | Instr::TestByte(_, _) | Instr::TestWord(_, _) => return None,
+        Instr::ShiftByte(_, _, _) | Instr::ShiftWord(_, _, _) => return None,
+        Instr::MultiplyByte(_, _) | Instr::MultiplyWord(_, _) => return None,
+        Instr::DivideByte(_, _) | Instr::DivideWord(_, _) | Instr::MoveByte(_) => return None,
+        Instr::MoveWord(_) | Instr::MoveFromSegment(_, _) => return None,
+        Instr::MoveToSegment(_, _) | Instr::LoadAddress(_, _) => return None,
+        Instr::ExchangeBytes(_) | Instr::ExchangeWords(_) => return None,
+        Instr::ExchangeMemoryByte(_, _) | Instr::ExchangeMemoryWord(_, _) => return None,
+        Instr::Push(_) | Instr::Pop(_) | Instr::PushSegment(_) => return None,
+        Instr::PopSegment(_) | Instr::MoveString { .. } | Instr::StoreString { .. } => return None,
+        Instr::In(_, _) | Instr::Out(_, _) | Instr::Nop | Instr::ConvertByte => return None,
+        Instr::ConvertWord | Instr::PushFlags | Instr::PopFlags | Instr::Return => return None,
+        Instr::InterruptReturn | Instr::ComplementCarry | Instr::ClearCarry => return None,
+        Instr::SetCarry | Instr::DisableInterrupts | Instr::EnableInterrupts => return None,
+        Instr::ClearDirection | Instr::SetDirection | Instr::Halt => return None,
+    };
+    Some(spelled)
+}
+
+/// Those without operands.
+fn alone(instruction: Instr) -> Option<Spelled> {
+    let name = match instruction {
+        Instr::Nop => "NOP",
+        Instr::ConvertByte => "CBW",
+        Instr::ConvertWord => "CWD",
+        Instr::PushFlags => "PUSHF",
+        Instr::PopFlags => "POPF",
+        Instr::Return => "RET",
+        Instr::InterruptReturn => "IRET",
+        Instr::ComplementCarry => "CMC",
+        Instr::ClearCarry => "CLC",
+        Instr::SetCarry => "STC",
+        Instr::DisableInterrupts => "CLI",
+        Instr::EnableInterrupts => "STI",
+        Instr::ClearDirection => "CLD",
+        Instr::SetDirection => "STD",
+        Instr::Halt => "HLT",
+        Instr::AluByte(_, _) | Instr::AluWord(_, _) | Instr::UnaryByte(_, _) => return None,
+        Instr::UnaryWord(_, _) | Instr::TestByte(_, _) | Instr::TestWord(_, _) => return None,
+        Instr::ShiftByte(_, _, _) | Instr::ShiftWord(_, _, _) => return None,
+        Instr::MultiplyByte(_, _) | Instr::MultiplyWord(_, _) => return None,
+        Instr::DivideByte(_, _) | Instr::DivideWord(_, _) | Instr::MoveByte(_) => return None,
+        Instr::MoveWord(_) | Instr::MoveFromSegment(_, _) => return None,
+        Instr::MoveToSegment(_, _) | Instr::LoadAddress(_, _) => return None,
+        Instr::ExchangeBytes(_) | Instr::ExchangeWords(_) => return None,
+        Instr::ExchangeMemoryByte(_, _) | Instr::ExchangeMemoryWord(_, _) => return None,
+        Instr::Push(_) | Instr::Pop(_) | Instr::PushSegment(_) => return None,
+        Instr::PopSegment(_) | Instr::MoveString { .. } | Instr::StoreString { .. } => return None,
+        Instr::In(_, _) | Instr::Out(_, _) | Instr::JumpIf(_, _) | Instr::Loop(_) => return None,
+        Instr::JumpIfCxZero(_) | Instr::JumpShort(_) | Instr::Jump(_) => return None,
+        Instr::JumpTo(_) | Instr::JumpFar { .. } | Instr::Call(_) | Instr::CallTo(_) => return None,
+        Instr::ReturnDropping(_) => return None,
+    };
+    Some(bare(name))
+}
+
+/// How an instruction is written, behind which the next one has this offset.
+fn spelling_of(instruction: Instr, next: u16) -> Spelled {
+    if let Some(spelled) = working(instruction) {
+        return spelled;
     }
+    if let Some(spelled) = moving(instruction) {
+        return spelled;
+    }
+    if let Some(spelled) = exchanging(instruction) {
+        return spelled;
+    }
+    if let Some(spelled) = carrying(instruction) {
+        return spelled;
+    }
+    if let Some(spelled) = leading(instruction, next) {
+        return spelled;
+    }
+    // Each stands in one of these.
+    alone(instruction).unwrap_or(bare(""))
 }
 
 /// Adds a number of so many digits, with a zero before a letter.

@@ -1,6 +1,6 @@
 //! The blocks that are open at a token.
 
-use crate::explaining::studied::Studied;
+use crate::explaining::studied::{Studied, number_of};
 use plm_token::{Keyword, Kind, Token};
 
 /// A block that is open: its DO, PROCEDURE or IF, its name if it has one, and its line.
@@ -50,7 +50,7 @@ pub(crate) fn opening_at<'a>(source: &Studied<'a>, at: usize) -> Option<Opening<
     Some(Opening {
         word: token.text,
         name: label_before(&source.tokens, at),
-        line: source.line(token.line),
+        line: source.line(number_of(token)),
     })
 }
 

@@ -1,8 +1,11 @@
 //! What is told of procedures that call: E404 to E406. Calls are those that stand in the procedures' own statements.
 
 use crate::explaining::call_sites::{Effect, Site, add_statements};
+use crate::explaining::reached::{
+    CallAt, distance_at, distances_of, entry_of, first_calls_of, letting_in_among,
+};
 use crate::explaining::sentence::{Part, put_all_parts, sentence};
-use crate::explaining::studied::Studied;
+use crate::explaining::studied::{Studied, number_at};
 use crate::explaining::told::{Told, tell};
 use crate::phase_faults::TokenAt;
 use plm_decl::{Names, Procedure};
@@ -13,11 +16,13 @@ use word86::Fault;
 /// So many calls of a path are told at most.
 const TOLD: usize = 16;
 
-/// What each procedure does, and main.
+/// What each procedure does, how many calls lead from it to an ENABLE or HALT at least, and where it is called first. All is found once for all
+/// faults.
 #[derive(Drop)]
 pub(crate) struct Calls {
     bodies: Vec<Vec<Site>>,
-    main: Vec<Site>,
+    distances: Vec<Option<usize>>,
+    first_calls: Vec<Option<CallAt>>,
 }
 
 /// What a procedure does: an EXTERNAL one has no statements of its own.
@@ -30,7 +35,7 @@ fn sites_of(alloc: Global, procedure: &Procedure) -> Result<Vec<Site>, AllocErro
     Ok(sites)
 }
 
-/// What the procedures of these names do, and main.
+/// What the procedures of these names do.
 pub(crate) fn calls_of(alloc: Global, names: &Names) -> Result<Calls, AllocError> {
     let mut bodies: Vec<Vec<Site>> = Vec::new(alloc);
     for procedure in &names.procedures {
@@ -38,24 +43,13 @@ pub(crate) fn calls_of(alloc: Global, names: &Names) -> Result<Calls, AllocError
     }
     let mut main: Vec<Site> = Vec::new(alloc);
     add_statements(&names.main.statements, &mut main)?;
-    Ok(Calls { bodies, main })
-}
-
-/// A call, with its module.
-#[derive(Clone, Copy)]
-struct CallAt {
-    module: usize,
-    place: Position,
-}
-
-impl CallAt {
-    /// Whether it is told before another one: those of this module come first.
-    fn precedes(&self, other: &CallAt, own: usize) -> bool {
-        if self.module == other.module {
-            return self.place.token < other.place.token;
-        }
-        self.module == own || other.module != own && self.module < other.module
-    }
+    let distances = distances_of(alloc, names, &bodies)?;
+    let first_calls = first_calls_of(alloc, names, &bodies, &main)?;
+    Ok(Calls {
+        bodies,
+        distances,
+        first_calls,
+    })
 }
 
 /// A program whose procedures call, and the token of one with a fault.
@@ -139,10 +133,7 @@ impl<'s, 'a> Calling<'s, 'a> {
 
     /// The procedure whose body a call runs.
     fn entry(&self, number: usize) -> usize {
-        match self.names.procedures.get(number) {
-            Some(procedure) => procedure.entry,
-            None => number,
-        }
+        entry_of(self.names, number)
     }
 
     /// What a procedure does.
@@ -224,7 +215,7 @@ impl<'s, 'a> Calling<'s, 'a> {
         };
         let parts = [
             Part::Words(" in line "),
-            Part::Number(u64::from(source.line(place.line))),
+            Part::Number(u64::from(source.line(number_at(place)))),
             Part::Words(" of "),
             Part::Words(source.name),
             Part::Words(";"),
@@ -309,16 +300,48 @@ impl<'s, 'a> Calling<'s, 'a> {
         self.told(&help)
     }
 
-    /// Adds the calls that lead from a procedure to an ENABLE or HALT, and its line.
-    fn put_letting_in(&self, text: &mut Vec<u8>, start: usize) -> Result<(), AllocError> {
-        let search = self.search(start)?;
-        for number in &search.queue {
-            if let Some(place) = letting_in_among(self.sites(*number)) {
-                self.put_path(text, &search.path(self.alloc, start, *number)?)?;
-                return self.put_has(text, *number, place);
+    /// The procedure that the first call of one runs which leads nearer to an ENABLE or HALT.
+    fn nearer(&self, number: usize) -> Option<usize> {
+        let left = distance_at(&self.calls.distances, number)?.checked_sub(1)?;
+        for site in self.sites(number) {
+            match site.effect {
+                Effect::Calls(called) => {
+                    let entry = self.entry(called);
+                    if distance_at(&self.calls.distances, entry) == Some(left) {
+                        return Some(entry);
+                    }
+                }
+                Effect::LetsIn => {}
             }
         }
-        Ok(())
+        None
+    }
+
+    /// The procedures on the way of fewest calls from one to an ENABLE or HALT, both among them; of several such ways the first.
+    fn way_to_letting_in(&self, start: usize) -> Result<Vec<usize>, AllocError> {
+        let mut way = Vec::new(self.alloc);
+        let mut next = Some(start);
+        for _step in 0..self.names.procedures.len() {
+            let Some(number) = next else {
+                return Ok(way);
+            };
+            way.push(number)?;
+            next = self.nearer(number);
+        }
+        Ok(way)
+    }
+
+    /// Adds the calls that lead from a procedure to an ENABLE or HALT, and its line.
+    fn put_letting_in(&self, text: &mut Vec<u8>, start: usize) -> Result<(), AllocError> {
+        let way = self.way_to_letting_in(start)?;
+        let Some(last) = way.last().copied() else {
+            return Ok(());
+        };
+        let Some(place) = letting_in_among(self.sites(last)) else {
+            return Ok(());
+        };
+        self.put_path(text, &way)?;
+        self.put_has(text, last, place)
     }
 
     /// Adds that a procedure has the ENABLE or HALT at this token.
@@ -367,32 +390,12 @@ impl<'s, 'a> Calling<'s, 'a> {
         self.put_caller(text, number)
     }
 
-    /// The nearer of a call and the first call of a procedure among these of a module.
-    fn nearer_call(
-        &self,
-        best: Option<CallAt>,
-        module: usize,
-        sites: &[Site],
-        number: usize,
-    ) -> Option<CallAt> {
-        let Some(place) = self.call_among(sites, number) else {
-            return best;
-        };
-        let call = CallAt { module, place };
-        match best {
-            Some(other) if other.precedes(&call, self.module) => best,
-            Some(_) | None => Some(call),
-        }
-    }
-
     /// The first call of a procedure: in its own module, else in another one.
     fn first_call(&self, number: usize) -> Option<CallAt> {
-        let main = self.names.main.module;
-        let mut best = self.nearer_call(None, main, &self.calls.main, number);
-        for (procedure, sites) in self.names.procedures.iter().zip(&self.calls.bodies) {
-            best = self.nearer_call(best, procedure.module, sites, number);
+        match self.calls.first_calls.get(number) {
+            Some(call) => *call,
+            None => None,
         }
-        best
     }
 
     /// Adds where an interrupt procedure is called.
@@ -406,22 +409,11 @@ impl<'s, 'a> Calling<'s, 'a> {
         };
         let parts = [
             Part::Words(", as line "),
-            Part::Number(u64::from(source.line(call.place.line))),
+            Part::Number(u64::from(source.line(number_at(call.place)))),
             Part::Words(" of "),
             Part::Words(source.name),
             Part::Words(" does: both can call a third procedure"),
         ];
         put_all_parts(self.alloc, text, &parts)
     }
-}
-
-/// The first ENABLE or HALT among these.
-fn letting_in_among(sites: &[Site]) -> Option<Position> {
-    for site in sites {
-        match site.effect {
-            Effect::LetsIn => return Some(site.place),
-            Effect::Calls(_) => {}
-        }
-    }
-    None
 }

@@ -1,12 +1,14 @@
 //! What is told of the faults of grammar: E201 to E205, and the faults of a literal's text.
 
 use crate::explaining::blocks::{Opening, innermost};
-use crate::explaining::expecting::{Candidate, expected, has_kind, listed};
+use crate::explaining::candidates::Candidate;
+use crate::explaining::expecting::{expected, has_kind, listed};
 use crate::explaining::left_out::{foreign_way, way_round};
 use crate::explaining::scope::{Declared, all_names};
 use crate::explaining::sentence::{Part, put_all_parts, quotation, sentence};
-use crate::explaining::studied::{Studied, copied, unparsed_token};
+use crate::explaining::studied::{Studied, copied, number_of, numbered_token, unparsed_token};
 use crate::explaining::told::{Told, tell};
+use crate::explaining::uses::use_of;
 use plm_syntax::parse;
 use plm_token::{Keyword, Kind, Mark, Token, same_name};
 use std::alloc::{AllocError, Global};
@@ -42,56 +44,6 @@ enum Hint<'a> {
     Closed(Opening<'a>),
 }
 
-/// Whether beginners take this word for a name.
-fn is_like_a_name(keyword: Keyword) -> bool {
-    match keyword {
-        Keyword::Address
-        | Keyword::At
-        | Keyword::Based
-        | Keyword::By
-        | Keyword::Byte
-        | Keyword::Case
-        | Keyword::Data
-        | Keyword::External
-        | Keyword::Initial
-        | Keyword::Integer
-        | Keyword::Interrupt
-        | Keyword::Minus
-        | Keyword::Plus
-        | Keyword::Pointer
-        | Keyword::Public
-        | Keyword::Structure
-        | Keyword::To
-        | Keyword::Word => true,
-        Keyword::And
-        | Keyword::Call
-        | Keyword::Declare
-        | Keyword::Disable
-        | Keyword::Do
-        | Keyword::Dword
-        | Keyword::Else
-        | Keyword::Enable
-        | Keyword::End
-        | Keyword::Go
-        | Keyword::Goto
-        | Keyword::Halt
-        | Keyword::If
-        | Keyword::Label
-        | Keyword::Literally
-        | Keyword::Mod
-        | Keyword::Not
-        | Keyword::Or
-        | Keyword::Procedure
-        | Keyword::Real
-        | Keyword::Reentrant
-        | Keyword::Return
-        | Keyword::Selector
-        | Keyword::Then
-        | Keyword::While
-        | Keyword::Xor => false,
-    }
-}
-
 /// The rule that ELSE breaks.
 const ARMS: &str = "an arm of IF is one statement, and several stand between DO; and END;";
 
@@ -114,7 +66,7 @@ impl<'s, 'c, 'a> Refusal<'s, 'c, 'a> {
 
     /// The line on which a token stands.
     fn line_of(&self, token: &Token<'a>) -> u32 {
-        self.source.line(token.line)
+        self.source.line(number_of(token))
     }
 
     fn is_after(&self, kind: Kind) -> bool {
@@ -216,7 +168,7 @@ impl<'s, 'c, 'a> Refusal<'s, 'c, 'a> {
         if let Some(way) = way_round(token.text) {
             return Hint::Way(token.text, way);
         }
-        if is_like_a_name(keyword) && self.takes(Kind::Identifier) {
+        if use_of(token.kind).is_like_a_name() && self.takes(Kind::Identifier) {
             return Hint::Reserved(token.text);
         }
         if keyword == Keyword::Else {
@@ -281,23 +233,27 @@ impl<'s, 'c, 'a> Refusal<'s, 'c, 'a> {
         }
     }
 
-    /// The nearest name before it after which a parenthesis opens, or right before it.
+    /// The name right before it, or before the parentheses that stand there.
     fn name_before(&self) -> Option<&'a [u8]> {
-        let before = self.earlier(1)?;
-        if before.kind == Kind::Identifier {
-            return Some(before.text);
-        }
-        let mut name = None;
-        for count in 2..self.before {
+        let mut depth: usize = 0;
+        for count in 1..self.before.saturating_add(1) {
             let token = self.earlier(count)?;
-            if token.kind == Kind::Special(Mark::Semicolon) {
-                return name;
-            }
-            if token.kind == Kind::Identifier {
-                name = Some(token.text);
+            match token.kind {
+                Kind::Special(Mark::RightParenthesis) => depth = depth.saturating_add(1),
+                Kind::Special(Mark::LeftParenthesis) => depth = depth.checked_sub(1)?,
+                Kind::Identifier if depth == 0 => return Some(token.text),
+                Kind::Identifier
+                | Kind::Numeral(_)
+                | Kind::String
+                | Kind::Reserved(_)
+                | Kind::Special(_) => {
+                    if depth == 0 {
+                        return None;
+                    }
+                }
             }
         }
-        name
+        None
     }
 }
 
@@ -396,11 +352,7 @@ fn refused_after(alloc: Global, source: &Studied<'_>) -> Result<usize, Fault> {
     let count = source.tokens.len();
     let mut tokens = copied(alloc, &source.tokens)?;
     // With one more token at its end, a refusal of the text's end has another line than one of its last token.
-    tokens.push(Token {
-        kind: Kind::Special(Mark::Semicolon),
-        text: b";",
-        line: u32::try_from(count).unwrap_or(u32::MAX).saturating_add(1),
-    })?;
+    tokens.push(numbered_token(Kind::Special(Mark::Semicolon), b";", count))?;
     match parse(alloc, tokens) {
         Err(Fault::At(_, number, _)) => Ok((number as usize).saturating_sub(1).min(count)),
         Ok(_) => Ok(count),

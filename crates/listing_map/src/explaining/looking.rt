@@ -1,6 +1,7 @@
 //! Why there are faults of types, and where: the statements and expressions are gone through once, in the order in which types are checked.
 
-use crate::explaining::reason::{Reason, Reasoned, Rule, Type, TypeFault, first};
+use crate::explaining::reason::{Reason, Reasoned, Rule, Target, Type, TypeFault, first};
+use crate::explaining::studied::number_at;
 use crate::explaining::value_types::{
     Typed, Types, beside, clash, is_measure, is_no_number, is_pointer, paired, refuses,
     refuses_operand,
@@ -111,6 +112,22 @@ pub(crate) fn first_place(e: &Expression) -> Position {
         | Expression::Embedded(place, _, _)
         | Expression::Unary(place, _, _) => *place,
         Expression::Chain { first, .. } => first_place(first),
+    }
+}
+
+/// The member that a selector names, by the number of its token.
+fn member_of(selector: &Selector) -> Option<u32> {
+    match selector {
+        Selector::None => None,
+        Selector::Member(place, _) | Selector::Element(place, _, _) => Some(number_at(*place)),
+    }
+}
+
+/// What a sentence names of a target.
+pub(crate) fn target_of(target: &Reference) -> Target {
+    Target {
+        name: number_at(target.place),
+        member: member_of(&target.selector),
     }
 }
 
@@ -439,7 +456,7 @@ impl Looking<'_> {
         let value = self.types.typed(value);
         let kept = value.wanted(into).scalar;
         self.range(into, value, found)?;
-        let reason = Reason::Store(target.place.line, into, kept);
+        let reason = Reason::Store(target_of(target), into, kept);
         self.types_if(place, clash(into, kept), reason, found)
     }
 

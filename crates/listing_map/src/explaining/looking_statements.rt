@@ -1,7 +1,8 @@
 //! Why there are faults of types among statements and declarations, and where.
 
-use crate::explaining::looking::{Looking, first_place};
-use crate::explaining::reason::{Reason, Reasoned, Rule, Type, first};
+use crate::explaining::looking::{Looking, first_place, target_of};
+use crate::explaining::reason::{Reason, Reasoned, Rule, Target, Type, first};
+use crate::explaining::studied::number_at;
 use crate::explaining::value_types::{Types, clash, is_integer, is_no_number, is_pointer};
 use plm_decl::{Binding, Bounds, Expression, Names, Procedure, Reference, Region, Statement};
 use plm_syntax::{Linkage, Numeral, Position, UnaryOperator};
@@ -83,7 +84,7 @@ fn signed_step(e: &Expression) -> Option<Step> {
 }
 
 impl Looking<'_> {
-    /// A condition, or the step of a DO with a BYTE or WORD index.
+    /// A condition.
     fn condition(
         &self,
         place: Position,
@@ -123,12 +124,12 @@ impl Looking<'_> {
         None
     }
 
-    /// The first of these targets whose type does not go with this one, of the target at a token.
-    fn unlike(&self, targets: &[Reference], number: u32, scalar: Type) -> Option<Reason> {
+    /// The first of these targets whose type does not go with this one, of another target.
+    fn unlike(&self, targets: &[Reference], one: Target, scalar: Type) -> Option<Reason> {
         for target in targets {
             let other = self.types.value(target);
             if clash(scalar, other) {
-                return Some(Reason::Targets(number, scalar, target.place.line, other));
+                return Some(Reason::Targets(one, scalar, target_of(target), other));
             }
         }
         None
@@ -139,7 +140,7 @@ impl Looking<'_> {
         for target in targets {
             let scalar = self.types.value(target);
             if scalar.is_some() {
-                return self.unlike(targets, target.place.line, scalar);
+                return self.unlike(targets, target_of(target), scalar);
             }
         }
         None
@@ -150,7 +151,7 @@ impl Looking<'_> {
         for target in targets {
             let into = self.types.value(target);
             if clash(into, kept) {
-                return Some(Reason::Store(target.place.line, into, kept));
+                return Some(Reason::Store(target_of(target), into, kept));
             }
         }
         None
@@ -332,6 +333,18 @@ impl Looking<'_> {
         }
     }
 
+    /// The step of a DO with a BYTE or WORD index.
+    fn plain_step(
+        &self,
+        place: Position,
+        e: &Expression,
+        found: &mut Vec<Reasoned>,
+    ) -> Result<(), AllocError> {
+        self.expression(e, found)?;
+        let scalar = self.types.expression(e);
+        self.types_if(place, is_no_number(scalar), Reason::Step(scalar), found)
+    }
+
     /// The step of a DO whose index has this type.
     fn step(
         &self,
@@ -345,7 +358,7 @@ impl Looking<'_> {
                 if is_integer(index) {
                     return self.integer_step(place, step, found);
                 }
-                self.condition(place, step, found)
+                self.plain_step(place, step, found)
             }
             None => Ok(()),
         }
@@ -360,9 +373,10 @@ impl Looking<'_> {
         found: &mut Vec<Reasoned>,
     ) -> Result<(), AllocError> {
         let into = self.type_of(bounds.binding);
+        let number = number_at(name);
         self.index(place, name, bounds.binding, found)?;
-        self.bound(place, (into, name.line), &bounds.from, found)?;
-        self.bound(place, (into, name.line), &bounds.to, found)?;
+        self.bound(place, (into, number), &bounds.from, found)?;
+        self.bound(place, (into, number), &bounds.to, found)?;
         self.step(place, into, &bounds.step, found)
     }
 

@@ -7,6 +7,8 @@ use crate::explaining::nearest::{nearest, nearest_declared};
 use crate::explaining::program_names::ProgramNames;
 use crate::explaining::scope::Declared;
 use crate::explaining::sentence::{Part, put_all_parts, sentence, separator};
+use crate::explaining::studied::number_of;
+use crate::explaining::text_faults::wants_suffix;
 use crate::explaining::told::{Told, tell};
 use crate::phase_faults::TokenAt;
 use plm_token::{Keyword, Kind, Mark, Token};
@@ -36,7 +38,7 @@ impl<'s, 'a> At<'s, 'a> {
 
     /// The line of a declared name.
     fn line(&self, declared: &Declared<'a>) -> u64 {
-        u64::from(self.named.source.line(declared.token.line))
+        u64::from(self.named.source.line(number_of(&declared.token)))
     }
 
     /// The declaration of the name at the token itself.
@@ -63,12 +65,7 @@ fn is_like_a_number(name: &[u8]) -> bool {
     let Some((last, digits)) = name.split_last() else {
         return false;
     };
-    for digit in digits {
-        if !matches!(*digit, b'0'..=b'9' | b'A'..=b'F' | b'a'..=b'f' | b'$') {
-            return false;
-        }
-    }
-    matches!(*last, b'H' | b'h') && !digits.is_empty()
+    matches!(*last, b'H' | b'h') && !digits.is_empty() && wants_suffix(digits)
 }
 
 /// Whether the token stands in the list of a procedure's parameters.
@@ -202,11 +199,13 @@ fn put_listed(alloc: Global, help: &mut Vec<u8>, own: &[&[u8]]) -> Result<(), Fa
 
 /// A name that is declared in the module, and not known where it stands.
 fn known_elsewhere(alloc: Global, at: &At<'_, '_>, declared: &Declared<'_>) -> Result<Told, Fault> {
-    let line = u64::from(at.named.source.line(declared.token.line));
-    let words = if declared.at < at.token.place {
-        " is declared in a block that ends before, in line "
-    } else {
+    let line = u64::from(at.named.source.line(number_of(&declared.token)));
+    let words = if at.token.place < declared.at {
         " is declared further down, in line "
+    } else if at.token.place <= declared.end {
+        " stands in its own declaration, in line "
+    } else {
+        " is declared in a block that ends before, in line "
     };
     let parts = [
         Part::Spelled(at.name()),
@@ -337,20 +336,30 @@ pub(crate) fn declared_twice(alloc: Global, at: &At<'_, '_>) -> Result<Told, Fau
     }
 }
 
-/// What is told of E303.
+/// Where AT can place a name.
+const PLACES: &str =
+    " where AT says: a page of the screen is 0B0000H to 0B0F9FH or 0B8000H to 0B8F9FH, and AT (@V) lies in V's object, in RAM and declared before";
+
+/// What is told of E303. How many bytes `(*)` has, its values say.
 pub(crate) fn misplaced(alloc: Global, at: &At<'_, '_>) -> Result<Told, Fault> {
     let bytes = match at.declared() {
-        Some(entry) => entry.facts.bytes(),
-        None => 0,
+        Some(entry) if entry.facts.elements != Elements::AsValues => entry.facts.bytes(),
+        Some(_) | None => {
+            let parts = [
+                Part::Spelled(at.name()),
+                Part::Words(" does not lie"),
+                Part::Words(PLACES),
+            ];
+            return at.told(alloc, &parts);
+        }
     };
     let parts = [
         Part::Spelled(at.name()),
         Part::Words(" has "),
         Part::Number(bytes),
         Part::Words(if bytes == 1 { " byte" } else { " bytes" }),
-        Part::Words(
-            ", and not all lie where AT says: a page of the screen is 0B0000H to 0B0F9FH or 0B8000H to 0B8F9FH, and AT (@V) lies in V's object, in RAM and declared before",
-        ),
+        Part::Words(", and not all lie"),
+        Part::Words(PLACES),
     ];
     at.told(alloc, &parts)
 }
@@ -377,8 +386,8 @@ pub(crate) fn bad_base(alloc: Global, at: &At<'_, '_>) -> Result<Told, Fault> {
             Part::Words(" is "),
         ],
     )?;
-    let place = at.token.place.saturating_add(2);
-    match at.named.known_as(alloc, base.text, place)? {
+    // A based name is no base of its own: an outer one of its name is.
+    match at.named.known_as(alloc, base.text, at.token.place)? {
         Some(entry) => {
             if is_plain_base(&entry.facts) {
                 let parts = [

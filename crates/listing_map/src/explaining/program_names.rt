@@ -2,7 +2,7 @@
 
 use crate::explaining::facts::Facts;
 use crate::explaining::named::{Entry, LOOKED_AT, Named, with_names};
-use crate::explaining::studied::Studied;
+use crate::explaining::studied::{Studied, number_of};
 use plm_syntax::Module;
 use plm_token::{Keyword, Kind, Token, normal};
 use std::alloc::{AllocError, Global};
@@ -51,7 +51,7 @@ impl<'s, 'a> Other<'s, 'a> {
     /// The line on which it is declared.
     pub fn line(&self) -> u64 {
         let named = self.named;
-        u64::from(named.source.line(self.entry.declared.token.line))
+        u64::from(named.source.line(number_of(&self.entry.declared.token)))
     }
 
     /// The file in which it is declared.
@@ -116,7 +116,7 @@ impl<'a> ProgramNames<'a> {
         for token in tokens {
             match token.kind {
                 Kind::Numeral(vector) if is_next => {
-                    let number = token.line;
+                    let number = number_of(token);
                     let _ = self
                         .handlers
                         .entry(vector)?

@@ -50,6 +50,13 @@ pub(crate) enum Rule {
     Data,
 }
 
+/// A target, by the numbers of its name's token and of its member's, if it has one.
+#[derive(Clone, Copy)]
+pub(crate) struct Target {
+    pub name: u32,
+    pub member: Option<u32>,
+}
+
 /// Why there is one. Names are given by the numbers of their tokens.
 #[derive(Clone, Copy)]
 pub(crate) enum Reason {
@@ -62,12 +69,14 @@ pub(crate) enum Reason {
     Operand(UnaryOperator, Type),
     /// What is no condition.
     Condition(Type),
+    /// The step of a BYTE or a WORD that is neither.
+    Step(Type),
     /// The index's token and type, and the type of its start or bound.
     Bound(u32, Type, Type),
-    /// Two targets of different kinds: the token and the type of each.
-    Targets(u32, Type, u32, Type),
-    /// The target's token and type, and the value's type.
-    Store(u32, Type, Type),
+    /// Two targets of different kinds, with the type of each.
+    Targets(Target, Type, Target, Type),
+    /// The target and its type, and the value's type.
+    Store(Target, Type, Type),
     SeveralSubscripts(usize),
     /// The parameter, by its number among all variables, and the types of it and of the argument.
     Argument(usize, Type, Type),
@@ -130,14 +139,14 @@ pub(crate) fn first(one: Option<Reason>, other: Option<Reason>) -> Option<Reason
     }
 }
 
-/// What a value of a type is called.
+/// What a value of a type is called. What has none has a fault of its own, a structure too.
 pub(crate) fn one_of(scalar: Type) -> &'static str {
     match scalar {
         Some(ScalarType::Byte) => "a BYTE",
         Some(ScalarType::Word) => "a WORD",
         Some(ScalarType::Pointer) => "a POINTER",
         Some(ScalarType::Integer) => "an INTEGER",
-        None => "a STRUCTURE",
+        None => "what has a fault of its own",
     }
 }
 

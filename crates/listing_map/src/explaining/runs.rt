@@ -224,7 +224,7 @@ fn put_order(
     match before.turn {
         Some(turn) if !quoted.starts_with(b"FILL ") => {
             let parts = [
-                Part::Words("the line before has turn "),
+                Part::Words("the event before has turn "),
                 Part::Number(turn),
                 Part::Words(if quoted.starts_with(b"STOP ") {
                     ", and STOP's is above it"

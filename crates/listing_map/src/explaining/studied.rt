@@ -3,16 +3,16 @@
 use crate::explaining::pieces::{Piece, seen_pieces};
 use crate::texts::NamedText;
 use plm_decl::{Names, resolve};
-use plm_syntax::{Module, expand, parse};
-use plm_token::{Token, scan};
+use plm_syntax::{Module, Position, expand, parse};
+use plm_token::{Kind, Token, scan};
 use std::alloc::{AllocError, Global};
 use word86::Fault;
 
 /// A source: its file's name, its tokens where they stand, the same with their numbers from 1 on for lines, and these once literals are
 /// replaced.
 ///
-/// So the `line` of these tokens is a token's number, and that of each place in the trees that are made of them: `line` here gives the line
-/// of the text on which the token of a number stands.
+/// So what these tokens have for a line is a token's number, and that of each place in the trees that are made of them: `number_of` and
+/// `number_at` read it there, and `line` gives the line of the text on which the token of a number stands.
 #[derive(Drop)]
 pub(crate) struct Studied<'a> {
     pub name: &'a str,
@@ -64,17 +64,30 @@ pub(crate) fn copied<'a>(
     Ok(all)
 }
 
+/// The number of a token that has it for its line.
+pub(crate) fn number_of(token: &Token<'_>) -> u32 {
+    token.line
+}
+
+/// The number of the token at a place in trees of such tokens.
+pub(crate) fn number_at(place: Position) -> u32 {
+    place.line
+}
+
+/// A token behind so many others, with its number for its line.
+pub(crate) fn numbered_token<'a>(kind: Kind, text: &'a [u8], before: usize) -> Token<'a> {
+    Token {
+        kind,
+        text,
+        line: u32::try_from(before).unwrap_or(u32::MAX).saturating_add(1),
+    }
+}
+
 /// The tokens with their numbers for lines.
 fn numbered<'a>(alloc: Global, tokens: &[Token<'a>]) -> Result<Vec<Token<'a>>, AllocError> {
     let mut all = Vec::new(alloc);
-    let mut line: u32 = 0;
-    for token in tokens {
-        line = line.saturating_add(1);
-        all.push(Token {
-            kind: token.kind,
-            text: token.text,
-            line,
-        })?;
+    for (before, token) in tokens.iter().enumerate() {
+        all.push(numbered_token(token.kind, token.text, before))?;
     }
     Ok(all)
 }

@@ -146,15 +146,15 @@ fn digit_count(text: &[u8]) -> u64 {
     count
 }
 
-/// Whether a piece is a number that lacks its H alone: with it, a number has five digits at most.
-fn wants_suffix(text: &[u8]) -> bool {
+/// Whether digits are a number that lacks its H alone: with it, a number has five digits at most.
+pub(crate) fn wants_suffix(text: &[u8]) -> bool {
     lacks_suffix(text) && digit_count(text) <= 5
 }
 
 fn number_fault(alloc: Global, piece: &Piece<'_>) -> Result<Told, Fault> {
     let text = piece.text;
     let parts = match text {
-        [b'0', b'x' | b'X', digits @ ..] => [
+        [b'0', b'x' | b'X', digits @ ..] if wants_suffix(digits) => [
             Part::Spelled(text),
             Part::Words(" is no number here: a hexadecimal one ends in H, as 0"),
             Part::Spelled(digits),

@@ -3,14 +3,14 @@
 use crate::explaining::number_expressions::is_bitwise;
 use crate::explaining::phases::TypedSources;
 use crate::explaining::reason::{
-    Reason, Type, TypeFault, one_of, operator_name, reason_at, rule_words, sign_name,
+    Reason, Target, Type, TypeFault, one_of, operator_name, reason_at, rule_words, sign_name,
 };
 use crate::explaining::sentence::Part;
-use crate::explaining::studied::Studied;
+use crate::explaining::studied::{Studied, number_at};
 use crate::explaining::told::{Told, tell};
 use crate::explaining::value_types::{is_equality, is_integer, is_pointer};
 use crate::phase_faults::TokenAt;
-use plm_decl::Names;
+use plm_decl::{Names, ScalarType};
 use plm_syntax::{BinaryOperator, UnaryOperator};
 use std::alloc::Global;
 use word86::Fault;
@@ -96,6 +96,11 @@ fn argument_way(value: Type) -> &'static str {
     }
 }
 
+/// What stands between a target's name and its member.
+fn period(target: Target) -> Part<'static> {
+    Part::Words(if target.member.is_some() { "." } else { "" })
+}
+
 /// The token of a module at which a fault of types stands.
 #[derive(Clone, Copy)]
 struct Faulty<'s, 'a> {
@@ -143,7 +148,7 @@ impl<'s, 'a> Faulty<'s, 'a> {
             return b"";
         };
         match self.sources.get(variable.module) {
-            Some(source) => source.spelled(variable.place.line),
+            Some(source) => source.spelled(number_at(variable.place)),
             None => b"",
         }
     }
@@ -178,6 +183,15 @@ impl<'s, 'a> Faulty<'s, 'a> {
         ])
     }
 
+    fn step(&self, scalar: Type) -> Result<Told, Fault> {
+        self.told(&[
+            Part::Spelled(self.name()),
+            Part::Words(" counts by a BYTE or a WORD, and its step is "),
+            Part::Words(one_of(scalar)),
+            Part::Words(way_into(Some(ScalarType::Word), scalar)),
+        ])
+    }
+
     fn bound(&self, index: u32, into: Type, value: Type) -> Result<Told, Fault> {
         self.told(&[
             Part::Words("the index "),
@@ -200,26 +214,40 @@ impl<'s, 'a> Faulty<'s, 'a> {
         ])
     }
 
-    fn targets(&self, one: (u32, Type), other: (u32, Type)) -> Result<Told, Fault> {
+    /// The member of a target; nothing where it has none.
+    fn member(&self, target: Target) -> Part<'a> {
+        match target.member {
+            Some(number) => Part::Spelled(self.spelled(number)),
+            None => Part::Words(""),
+        }
+    }
+
+    fn targets(&self, one: (Target, Type), other: (Target, Type)) -> Result<Told, Fault> {
         self.told(&[
             Part::Words("the target "),
-            Part::Spelled(self.spelled(one.0)),
+            Part::Spelled(self.spelled(one.0.name)),
+            period(one.0),
+            self.member(one.0),
             Part::Words(" is "),
             Part::Words(one_of(one.1)),
             Part::Words(", the target "),
-            Part::Spelled(self.spelled(other.0)),
+            Part::Spelled(self.spelled(other.0.name)),
+            period(other.0),
+            self.member(other.0),
             Part::Words(" "),
             Part::Words(one_of(other.1)),
             Part::Words(": the two want an assignment each"),
         ])
     }
 
-    fn store(&self, target: u32, into: Type, value: Type) -> Result<Told, Fault> {
+    fn store(&self, target: Target, into: Type, value: Type) -> Result<Told, Fault> {
         self.told(&[
             Part::Words("the value is "),
             Part::Words(one_of(value)),
             Part::Words(", the target "),
-            Part::Spelled(self.spelled(target)),
+            Part::Spelled(self.spelled(target.name)),
+            period(target),
+            self.member(target),
             Part::Words(" "),
             Part::Words(one_of(into)),
             Part::Words(way_into(into, value)),
@@ -306,6 +334,7 @@ impl<'s, 'a> Faulty<'s, 'a> {
             Reason::Operand(operator, scalar) => self.operand(operator, scalar),
             Reason::LargeInteger => self.large_integer(),
             Reason::Condition(scalar) => self.condition(scalar),
+            Reason::Step(scalar) => self.step(scalar),
             Reason::Bound(index, into, value) => self.bound(index, into, value),
             Reason::Targets(one, scalar, other, kind) => {
                 self.targets((one, scalar), (other, kind))

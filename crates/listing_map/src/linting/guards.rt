@@ -1,6 +1,7 @@
 //! Subscripts that one side of AND or OR reads and another one tests: all sides are evaluated.
 
 use crate::explaining::number_expressions::is_relation;
+use crate::explaining::studied::number_at;
 use plm_decl::{Binding, Expression, Form, Names, Operation, Reference, ScalarType, Selector};
 use plm_syntax::BinaryOperator;
 use std::alloc::{AllocError, Global};
@@ -95,7 +96,7 @@ pub(crate) struct Reading {
 pub(crate) fn array_read(e: &Expression, names: &Names) -> Option<Reading> {
     match e {
         Expression::Reference(reference) => Some(Reading {
-            number: reference.place.line,
+            number: number_at(reference.place),
             subscript: subscript_of(reference, names)?,
         }),
         Expression::Parenthesised(_, inner) => array_read(inner, names),

@@ -1,5 +1,6 @@
 //! Procedures with a value that may come to their END without RETURN.
 
+use crate::explaining::studied::number_at;
 use crate::linting::constants::{condition, may_be_selected, selected};
 use crate::linting::{Finding, Found};
 use plm_decl::{Binding, Names, Reference, Statement};
@@ -144,7 +145,7 @@ pub(crate) fn add_without_return(
         if has_body && procedure.returned.is_some() && !ends.body(&procedure.body) {
             found.push(Found {
                 module: procedure.module,
-                number: procedure.place.line,
+                number: number_at(procedure.place),
                 finding: Finding::WithoutReturn,
             })?;
         }

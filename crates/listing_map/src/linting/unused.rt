@@ -1,7 +1,7 @@
 //! Names that a module declares and does not use.
 
 use crate::explaining::scope::all_names;
-use crate::explaining::studied::Studied;
+use crate::explaining::studied::{Studied, number_of};
 use crate::linting::{Finding, Found};
 use plm_token::{Keyword, Kind, Mark, Token, normal};
 use std::alloc::{AllocError, Global};
@@ -103,7 +103,7 @@ pub(crate) fn add_unused(
         if !is_shared && !is_literal(tokens, declared.at) && !stands_again(&spelled, &name) {
             found.push(Found {
                 module,
-                number: declared.token.line,
+                number: number_of(&declared.token),
                 finding: Finding::Unused,
             })?;
         }

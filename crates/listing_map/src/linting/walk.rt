@@ -1,5 +1,6 @@
 //! What is found in expressions and statements.
 
+use crate::explaining::studied::number_at;
 use crate::explaining::value_types::{Typed, Types, is_integer, is_measure};
 use crate::linting::constants::{
     Constant, condition, constant_value, integer_value, may_be_selected, selected,
@@ -37,6 +38,14 @@ fn is_division(operator: BinaryOperator) -> bool {
         | BinaryOperator::And
         | BinaryOperator::Or
         | BinaryOperator::ExclusiveOr => false,
+    }
+}
+
+/// The token of what a target stores to: its member's, if it has one.
+fn held_at(target: &Reference) -> Position {
+    match &target.selector {
+        Selector::None => target.place,
+        Selector::Member(place, _) | Selector::Element(place, _, _) => *place,
     }
 }
 
@@ -113,7 +122,7 @@ impl Walk<'_> {
         if let Some(finding) = finding {
             found.push(Found {
                 module: self.module,
-                number: place.line,
+                number: number_at(place),
                 finding,
             })?;
         }
@@ -215,7 +224,7 @@ impl Walk<'_> {
             Some(value) if is_byte && value.value > 0xFF => Some(Finding::TooLarge(value.value)),
             Some(_) | None => None,
         };
-        self.add(target.place, finding, found)
+        self.add(held_at(target), finding, found)
     }
 
     #[cycle(linting)]
