@@ -35,7 +35,10 @@ impl Colours {
 
 /// The character and the attribute of a place of a page, by its row and its column, both from 0 on.
 pub(crate) fn place_at(page: &[u8], row: usize, column: usize) -> (u8, u8) {
-    let at = row.wrapping_mul(COLUMNS).wrapping_add(column).wrapping_mul(2);
+    let at = row
+        .wrapping_mul(COLUMNS)
+        .wrapping_add(column)
+        .wrapping_mul(2);
     match (page.get(at), page.get(at.wrapping_add(1))) {
         (Some(character), Some(attribute)) => (*character, *attribute),
         (Some(_), None) | (None, Some(_)) | (None, None) => (0, 0),

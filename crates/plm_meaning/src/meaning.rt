@@ -21,14 +21,13 @@ ghost use Rattle.plm_meaning.specs.Inner.Meaning.{Performed, StopsAt};
 
 mod next_store;
 
-pub use next_store::ObjectStore;
-
 use crate::around::Surroundings;
 use crate::context::{Context, Focus};
 use crate::opening::first_objects;
 use crate::redex::{Action, go_on, handler_action, main_action, next_action};
 use crate::settle::settle;
 use crate::store::Store;
+pub use next_store::ObjectStore;
 use plm_decl::Placement;
 use plm_type::{Line, Program};
 use ppi_kbd::Ports;
