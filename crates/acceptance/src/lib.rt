@@ -59,6 +59,8 @@ mod tokens;
 #[cfg(test)]
 mod trace_lines;
 #[cfg(test)]
+mod type_rules;
+#[cfg(test)]
 mod typed_trees;
 #[cfg(test)]
 mod types;

@@ -1,12 +1,12 @@
 //! Listings of small sources, and maps of small programs, written by hand.
 
 use crate::expect::{Expect, is_cut};
-use crate::sources::{names_of, seen};
+use crate::sources::{program_of, seen};
 use frames::Stack;
 use layout_link::Image;
 use listing_map::{listing, map, padded_rom, rom_halves, rom_hex};
-use plm_decl::{Names, Placement};
-use plm_type::Warning;
+use plm_decl::Placement;
+use plm_type::{Program, Warning};
 use std::alloc::Global;
 use std::process::Abort;
 use std::test::Fail;
@@ -166,18 +166,18 @@ STACK 001A 0FFE
 START 4294967295
 ";
 
-/// Fails unless the image with these names has this map, also in a sink that takes three bytes a call.
+/// Fails unless the image of this program has this map, also in a sink that takes three bytes a call.
 fn is_mapped(
     rt: &impl Abort,
     alloc: Global,
     image: &Image,
-    names: &Names,
+    program: &Program,
     text: &[u8],
 ) -> Result<(), Fail> {
     let mut expect = Expect::new(rt);
     for step in [1000, 3] {
         let mut sink = CutSink::new(alloc, 1000, step)?;
-        expect.same(map(image, names, &mut sink), Ok(()));
+        expect.same(map(image, program, &mut sink), Ok(()));
         expect.same(sink.bytes(), text);
     }
     Ok(())
@@ -188,34 +188,34 @@ fn is_cut_anywhere(
     rt: &impl Abort,
     alloc: Global,
     image: &Image,
-    names: &Names,
+    program: &Program,
     text: &[u8],
 ) -> Result<(), Fail> {
     let mut expect = Expect::new(rt);
     for room in 0..text.len() {
         let mut sink = CutSink::new(alloc, room, 1)?;
-        expect.same(map(image, names, &mut sink), Err(CANNOT_WRITE));
+        expect.same(map(image, program, &mut sink), Err(CANNOT_WRITE));
         expect.holds(is_cut(&sink, text, room));
     }
     Ok(())
 }
 
-fn maps_program(rt: &impl Abort, alloc: Global, names: &Names) -> Result<(), Fail> {
+fn maps_program(rt: &impl Abort, alloc: Global, program: &Program) -> Result<(), Fail> {
     let stack = Stack {
         main: 0x1A,
         handler: 0xFFE,
     };
     // the last object has no offset
     let image = image_of(alloc, 16384, &[2, 3, 4, 0xEFFE], stack, 4294967295)?;
-    is_mapped(rt, alloc, &image, names, MAP)?;
-    is_cut_anywhere(rt, alloc, &image, names, MAP)
+    is_mapped(rt, alloc, &image, program, MAP)?;
+    is_cut_anywhere(rt, alloc, &image, program, MAP)
 }
 
 #[test]
 fn maps_a_program(rt: HostRuntime) -> Result<(), Fail> {
     let alloc = rt.alloc();
-    seen(names_of(alloc, &[PROGRAM]), |names| {
-        maps_program(&rt, alloc, names)
+    seen(program_of(alloc, &[PROGRAM]), |program| {
+        maps_program(&rt, alloc, program)
     })?
 }
 
@@ -227,13 +227,13 @@ STACK 0000 ABCD
 START 0
 ";
 
-fn maps_both(rt: &impl Abort, alloc: Global, names: &Names) -> Result<(), Fail> {
+fn maps_both(rt: &impl Abort, alloc: Global, program: &Program) -> Result<(), Fail> {
     let stack = Stack {
         main: 0,
         handler: 0xABCD,
     };
     let image = image_of(alloc, 65536, &[], stack, 0)?;
-    is_mapped(rt, alloc, &image, names, MAP_OF_TWO)
+    is_mapped(rt, alloc, &image, program, MAP_OF_TWO)
 }
 
 // an EXTERNAL procedure serves no interrupt
@@ -243,8 +243,8 @@ fn maps_two_modules(rt: HostRuntime) -> Result<(), Fail> {
     let first = b"M: DO; H: PROCEDURE INTERRUPT 0 EXTERNAL; END H; ; END M;";
     let second =
         b"N: DO; DECLARE X (60000) BYTE; H: PROCEDURE INTERRUPT 255 PUBLIC; END H; K: PROCEDURE INTERRUPT 0; END K; END N;";
-    seen(names_of(alloc, &[first, second]), |names| {
-        maps_both(&rt, alloc, names)
+    seen(program_of(alloc, &[first, second]), |program| {
+        maps_both(&rt, alloc, program)
     })?
 }
 

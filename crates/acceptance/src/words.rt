@@ -134,6 +134,7 @@ fn names_faults(rt: HostRuntime) -> Result<(), Fail> {
         Number::W1.text(),
         "W1 procedure shared with an interrupt procedure",
     );
+    expect.same(Number::E308.code(), 308);
     let fault = Fault::At(1, 12, Number::E201);
     expect.same(
         format!(in rt.alloc(); "{fault}")?.as_str(),

@@ -1,10 +1,12 @@
 -- A run turn by turn, each line after its turn.
-use Rattle.std.proofs.Common.{◌≡◌, ℕ, zero, suc, ◌+◌, ◌-◌, ◌<◌, ◌++◌, List, [], ◌∷◌, Option, Some, None, refl, sym, ap, ap₂, ◌∙◌, subst, append-nil, append_assoc, arith, inl, inr, ◌⊎◌, drop, get_or, length}
+use Rattle.std.proofs.Common.{◌≡◌, ℕ, zero, suc, ◌+◌, ◌-◌, ◌<◌, ◌++◌, List, [], ◌∷◌, Option, Some, None, refl, sym, ap, ap₂, ◌∙◌, subst, append-nil, append_assoc, arith, inl, inr, drop, get_or, length}
 use Rattle.std.specs.Prelude.{map, option_map}
 use Rattle.std.specs.List.{flat_map}
 use Rattle.std.proofs.lemmas.Grind.{flat_map-append}
 use Rattle.std.proofs.lemmas.List.{at_drop_more}
 use Rattle.std.proofs.KnownBytes.{Appends-trans, Appends-nil}
+use Rattle.std.proofs.lemmas.Option.{none-some}
+use Rattle.std.proofs.lemmas.Bool.{cases_order}
 use Rattle.word86.specs.declared.event.Event.{Event}
 use Rattle.word86.specs.declared.label.Label.{Label}
 use Rattle.word86.specs.Event.{event_label}
@@ -22,7 +24,7 @@ use Rattle.board.specs.Trace.{opcode_of}
 use Rattle.board.specs.Run.{board_turn, board_kind, board_after, kind_at, GoesOn, Ends}
 use Rattle.board.specs.Board.{Shows}
 use Rattle.board.specs.Numbered.{numbered, numbered_lines, numbered_closing, numbered_turn_text, numbered_text, numbered_run, RanNumbered, BrokeNumbered}
-use Rattle.board.proofs.Running.{board_next, goes_on_next}
+use Rattle.board.proofs.Running.{board_next, goes_on_next, goes_on_by, ends_by}
 
 -- the lines of the labels from a place of the list on
 pub labels_from : (turn : ℕ) (ls : List Label) (j : ℕ) (d : Label) → j < length ls
@@ -51,20 +53,6 @@ closing_is turn (kinds.Opcode x) a e = let s : x ≡ a = cc in ap (λ (n : ℕ).
 closing_is turn kinds.Ack a e = absurd cc
 closing_is turn kinds.Instr a e = absurd cc
 closing_is turn kinds.Wait a e = absurd cc
-
-goes_on_by : (o : Option ℕ) → None ≡ option_map Opcode o → o ≡ None
-goes_on_by None e = refl
-goes_on_by (Some a) e = absurd cc
-
-ends_by : (o : Option ℕ) (e : End) → Some e ≡ option_map Opcode o → (a : ℕ) × (o ≡ Some a) × (e ≡ Opcode a)
-ends_by None e h = absurd cc
-ends_by (Some a) e h = (a, refl, cc)
-
-none_some : (a : ℕ) → None ≡ Some a → ⊥
-none_some a e = cc
-
-three_ways : (k j : ℕ) → (k < j) ⊎ ((k ≡ j) ⊎ (j < k))
-three_ways k j = grind arith
 
 regroup : (a c d e f : List ℕ) → ((a ++ (c ++ d)) ++ e) ++ f ≡ (a ++ c) ++ (d ++ (e ++ f))
 regroup a c d e f = simp append_assoc refl
@@ -110,17 +98,17 @@ module _ (due : ℕ → List Event) (b : Board (World ChipState)) where
       let last = numbered stop (end_line stop) in
       (rest ++ (t.0 ++ last), ap (λ (l : List ℕ). l ++ last) (t.1 ∙ ap (λ (l : List ℕ). (numbered_text due k b ++ l) ++ t.0) (sym (turn_goes_on k none) ∙ cut)) ∙ regroup (numbered_text due k b) done rest t.0 last)
   begins stop k done rest lt on cut (Opcode a) m (j, next, within, goes, met) =
-      elim (three_ways k j) [
-        | inl before ↦
-            let t = text_more (m - suc k) (suc k) m (omega (arith, before, next)) in
-            let last = numbered (m - 1) (opcode_line a) in
-            (rest ++ (t.0 ++ last), ap (λ (l : List ℕ). l ++ last) (t.1 ∙ ap (λ (l : List ℕ). (numbered_text due k b ++ l) ++ t.0) (sym (turn_goes_on k (goes k before)) ∙ cut)) ∙ regroup (numbered_text due k b) done rest t.0 last)
-        | inr (inl same) ↦
+      elim (cases_order k j) [
+        | inl same ↦
             let here : opcode_of (kind_at due k b) ≡ Some a = subst (λ i. opcode_of (kind_at due i b) ≡ Some a) (sym same) met in
             let after : m ≡ suc k = omega (arith, next, same) in
             let turn : m - 1 ≡ k = omega (arith, next, same) in
             (rest, ap₂ (λ (i t : ℕ). numbered_text due i b ++ numbered t (opcode_line a)) after turn ∙ sym (turn_ends k a here) ∙ ap (λ (l : List ℕ). numbered_text due k b ++ l) cut ∙ sym (append_assoc (numbered_text due k b) done rest))
-        | inr (inr later) ↦ absurd (none_some a (sym (on j later) ∙ met))
+        | inr (inl before) ↦
+            let t = text_more (m - suc k) (suc k) m (omega (arith, before, next)) in
+            let last = numbered (m - 1) (opcode_line a) in
+            (rest ++ (t.0 ++ last), ap (λ (l : List ℕ). l ++ last) (t.1 ∙ ap (λ (l : List ℕ). (numbered_text due k b ++ l) ++ t.0) (sym (turn_goes_on k (goes k before)) ∙ cut)) ∙ regroup (numbered_text due k b) done rest t.0 last)
+        | inr (inr later) ↦ absurd (none-some a (sym (on j later) ∙ met))
       ]
 
   pub counted_none : (p : code.Board) (a : Option (List ℕ)) (m : ℕ) → Shows p b → Counted due b 0 p a a m m
@@ -190,7 +178,7 @@ module _ (due : ℕ → List Event) (b : Board (World ChipState)) where
       → (e : End) (m : ℕ) → Ends due stop b e m → (left : List ℕ) × (numbered_run due stop b e m ≡ (numbered_text due stop b ++ done) ++ left)
   stop_text stop done rest on cut Stopped m ends =
       (rest, ap (λ (i : ℕ). numbered_text due i b ++ numbered stop (end_line stop)) ends.0 ∙ ap (λ (l : List ℕ). numbered_text due stop b ++ l) cut ∙ sym (append_assoc (numbered_text due stop b) done rest))
-  stop_text stop done rest on cut (Opcode a) m (j, next, within, goes, met) = absurd (none_some a (sym (on j (omega (arith, next, within))) ∙ met))
+  stop_text stop done rest on cut (Opcode a) m (j, next, within, goes, met) = absurd (none-some a (sym (on j (omega (arith, next, within))) ∙ met))
 
   pub counted_fails_at_stop : (stop : ℕ) (q : code.Board) (old mid new : Option (List ℕ)) (m l n : ℕ) → Counted due b stop q old mid m l → Cut mid new (numbered stop (end_line stop)) × Rises l n → BrokeNumbered due stop b q old new m n
   counted_fails_at_stop stop q old mid new m l n f h =

@@ -1,12 +1,13 @@
 -- Which fault a text has: the fold over its lines against the format's own terms.
-use Rattle.std.proofs.lemmas.Bool.{ltb-false, or_right}
+use Rattle.std.proofs.lemmas.Bool.{ltb-false, or_parts, and_parts}
 use Rattle.std.proofs.lemmas.Option.{same_Some, none-some}
-use Rattle.std.proofs.Common.{◌≡◌, ◌∙◌, ℕ, suc, ◌+◌, ◌-◌, ◌^◌, ◌≤◌, ◌++◌, ◌==◌, min, max, Bool, true, false, cond, List, [], ◌∷◌, Option, Some, None, length, refl, sym, ap, ap₂, subst, arith, inl, inr, ◌⊎◌, append_assoc}
+use Rattle.std.proofs.Common.{◌≡◌, ◌∙◌, ℕ, suc, ◌+◌, ◌-◌, ◌^◌, ◌≤◌, ◌++◌, ◌==◌, min, max, Bool, true, false, cond, List, [], ◌∷◌, Option, Some, None, length, refl, sym, ap, ap₂, subst, arith, inl, inr, ◌⊎◌, append_assoc, append-nil, true≢false}
 use Rattle.std.specs.Prelude.{not, ◌&&◌, ◌||◌, nat_lt, nat_le, is_some, map, if◌then◌else◌}
 use Rattle.std.specs.List.{list_any}
 use Rattle.std.proofs.lemmas.Bool.Decides.{nat_tests}
 use Rattle.std.proofs.lemmas.List.Folds.{list_any-append}
 use Rattle.std.proofs.lemmas.List.Sums.{fold-append}
+use Rattle.std.proofs.Math.Bool.{or-true, or-false}
 use Rattle.word86.specs.declared.fault.Fault.{Fault}
 use Rattle.word86.specs.declared.fault.Fault.TheVariants.{At as Fault-At}
 use Rattle.word86.specs.declared.number.Number.{Number}
@@ -18,32 +19,9 @@ use Rattle.board.specs.Schedule.{Text, View, item_of, is_skipped, start, with_it
 use Rattle.board.specs.Spelling.{said}
 use Rattle.board.specs.Format.{IsLineOf, forbids, is_out_of_order, AreInOrder, Spell, Say, is_stop, line_number, HasFault, NoItem, OutOfOrder, NoStop}
 use Rattle.board.proofs.LineForms.{line_is, line_from, no_line}
-use Rattle.board.proofs.Spelled.{Core, core, bad, add, adds, Goes, after, counted, with_core, refused_item, true_false, cons_nil, head_same, tail_same, line_skipped, line_said, line_taken, stuck, forward, backward, middle, grown, last_append}
+use Rattle.board.proofs.Spelled.{Core, core, bad, add, adds, Goes, after, counted, with_core, refused_item, cons_nil, head_same, tail_same, line_skipped, line_said, line_taken, stuck, forward, backward, middle, grown, last_append}
 
 -- ---- items out of order
-
-or_true : (a : Bool) → (a || true) ≡ true
-or_true a = or_right a true refl
-
-or_false : (a : Bool) → (a || false) ≡ a
-or_false true = refl
-or_false false = refl
-
-left_of : (a b : Bool) → (a || b) ≡ false → a ≡ false
-left_of true b e = absurd (true_false e)
-left_of false b e = refl
-
-right_of : (a b : Bool) → (a || b) ≡ false → b ≡ false
-right_of true b e = absurd (true_false e)
-right_of false b e = e
-
-first_of_both : (a b : Bool) → (a && b) ≡ true → a ≡ true
-first_of_both true b e = refl
-first_of_both false b e = absurd (true_false (sym e))
-
-second_of_both : (a b : Bool) → (a && b) ≡ true → b ≡ true
-second_of_both true b e = e
-second_of_both false b e = absurd (true_false (sym e))
 
 -- a test that a second one implies
 with_implied : (s y x : Bool) → (y ≡ true → x ≡ true) → (s || x) ≡ ((s || y) || x)
@@ -63,30 +41,30 @@ up_to_too n l m e le = grind (arith, nat_tests)
 
 at_forbids : (ts : List ℕ) (m n : ℕ) → (not (length ts == 0) && nat_lt m (last_turn ts)) ≡ false → (not (length ts == 0) && nat_lt n (last_turn ts)) ≡ true → nat_lt n m ≡ true
 at_forbids ts m n h e =
-    below_too n (last_turn ts) m (second_of_both (not (length ts == 0)) (nat_lt n (last_turn ts)) e) (last_below ts m h (first_of_both (not (length ts == 0)) (nat_lt n (last_turn ts)) e))
+    below_too n (last_turn ts) m (and_parts (not (length ts == 0)) (nat_lt n (last_turn ts)) e).1 (last_below ts m h (and_parts (not (length ts == 0)) (nat_lt n (last_turn ts)) e).0)
 
 stop_forbids : (ts : List ℕ) (m n : ℕ) → (not (length ts == 0) && nat_lt m (last_turn ts)) ≡ false → (not (length ts == 0) && nat_le n (last_turn ts)) ≡ true → nat_le n m ≡ true
 stop_forbids ts m n h e =
-    up_to_too n (last_turn ts) m (second_of_both (not (length ts == 0)) (nat_le n (last_turn ts)) e) (last_below ts m h (first_of_both (not (length ts == 0)) (nat_le n (last_turn ts)) e))
+    up_to_too n (last_turn ts) m (and_parts (not (length ts == 0)) (nat_le n (last_turn ts)) e).1 (last_below ts m h (and_parts (not (length ts == 0)) (nat_le n (last_turn ts)) e).0)
 
 -- one more item makes just that out of order which it forbids
 bad_next : (z x : Item) (c : Core) → bad z c ≡ false → bad x (add z c) ≡ (bad x c || forbids z x)
-bad_next (Fill b) (Fill d) c h = sym (or_true (bad (Fill d) c))
-bad_next (Fill b) (At n e) c h = sym (or_false (bad (At n e) c))
-bad_next (Fill b) (Stop n) c h = sym (or_false (bad (Stop n) c))
+bad_next (Fill b) (Fill d) c h = sym (or-true (bad (Fill d) c))
+bad_next (Fill b) (At n e) c h = sym (or-false (bad (At n e) c))
+bad_next (Fill b) (Stop n) c h = sym (or-false (bad (Stop n) c))
 bad_next (At m d) (Fill b) c h =
-    (ap (λ t. is_some c.fill || is_some c.stop || t) (grown c.turns m) ∙ or_true (is_some c.fill || is_some c.stop)) ∙ sym (or_true (bad (Fill b) c))
+    (ap (λ t. is_some c.fill || is_some c.stop || t) (grown c.turns m) ∙ or-true (is_some c.fill || is_some c.stop)) ∙ sym (or-true (bad (Fill b) c))
 bad_next (At m d) (At n e) c h =
     ap (λ t. is_some c.stop || (t && nat_lt n (last_turn (c.turns ++ m ∷ [])))) (grown c.turns m)
     ∙ (ap (λ k. is_some c.stop || nat_lt n k) (last_append c.turns m)
-    ∙ with_implied (is_some c.stop) (not (length c.turns == 0) && nat_lt n (last_turn c.turns)) (nat_lt n m) (at_forbids c.turns m n (right_of (is_some c.stop) (not (length c.turns == 0) && nat_lt m (last_turn c.turns)) h)))
+    ∙ with_implied (is_some c.stop) (not (length c.turns == 0) && nat_lt n (last_turn c.turns)) (nat_lt n m) (at_forbids c.turns m n (or_parts (is_some c.stop) (not (length c.turns == 0) && nat_lt m (last_turn c.turns)) h).1))
 bad_next (At m d) (Stop n) c h =
     ap (λ t. is_some c.stop || (t && nat_le n (last_turn (c.turns ++ m ∷ [])))) (grown c.turns m)
     ∙ (ap (λ k. is_some c.stop || nat_le n k) (last_append c.turns m)
-    ∙ with_implied (is_some c.stop) (not (length c.turns == 0) && nat_le n (last_turn c.turns)) (nat_le n m) (stop_forbids c.turns m n (right_of (is_some c.stop) (not (length c.turns == 0) && nat_lt m (last_turn c.turns)) h)))
-bad_next (Stop m) (Fill b) c h = middle (is_some c.fill) true (not (length c.turns == 0)) refl ∙ sym (or_true (bad (Fill b) c))
-bad_next (Stop m) (At n e) c h = sym (or_true (bad (At n e) c))
-bad_next (Stop m) (Stop n) c h = sym (or_true (bad (Stop n) c))
+    ∙ with_implied (is_some c.stop) (not (length c.turns == 0) && nat_le n (last_turn c.turns)) (nat_le n m) (stop_forbids c.turns m n (or_parts (is_some c.stop) (not (length c.turns == 0) && nat_lt m (last_turn c.turns)) h).1))
+bad_next (Stop m) (Fill b) c h = middle (is_some c.fill) true (not (length c.turns == 0)) refl ∙ sym (or-true (bad (Fill b) c))
+bad_next (Stop m) (At n e) c h = sym (or-true (bad (At n e) c))
+bad_next (Stop m) (Stop n) c h = sym (or-true (bad (Stop n) c))
 
 -- what was read stands for these items: the same is out of order
 abbrev Tied : List Item → Core → Type 0
@@ -101,19 +79,15 @@ tied_next : (earlier : List Item) (z : Item) (c : Core) → Tied earlier c → b
 tied_next earlier z c t h x =
     bad_next z x c h
     ∙ (ap (λ b. b || forbids z x) (t x)
-    ∙ (ap (λ b. is_out_of_order earlier x || b) (sym (or_false (forbids z x)))
+    ∙ (ap (λ b. is_out_of_order earlier x || b) (sym (or-false (forbids z x)))
     ∙ sym (list_any-append (λ y. forbids y x) earlier (z ∷ []))))
 
 record Ordered (items earlier : List Item) (c : Core) : Type 0 where
   goes : Goes items c
   tied : Tied (earlier ++ items) (adds items c)
 
-nothing_more : (xs : List Item) → xs ++ [] ≡ xs
-nothing_more [] = refl
-nothing_more (x ∷ xs) = ap (λ (l : List Item). x ∷ l) (nothing_more xs)
-
 goes_of : (items earlier : List Item) (c : Core) → Tied earlier c → AreInOrder earlier items → Ordered items earlier c
-goes_of [] earlier c t h = record { goes = tt; tied = subst (λ (l : List Item). Tied l c) (sym (nothing_more earlier)) t }
+goes_of [] earlier c t h = record { goes = tt; tied = subst (λ (l : List Item). Tied l c) (sym (append-nil earlier)) t }
 goes_of (x ∷ xs) earlier c t h =
     let fits : bad x c ≡ false = t x ∙ h.0 in
     let r = goes_of xs (earlier ++ x ∷ []) (add x c) (tied_next earlier x c t fits) h.1 in
@@ -218,7 +192,7 @@ no_stop : (xs : List Item) (c : Core) → c.stop ≡ None → list_any is_stop x
 no_stop [] c none h = none
 no_stop (Fill b ∷ xs) c none h = no_stop xs (add (Fill b) c) none h
 no_stop (At n e ∷ xs) c none h = no_stop xs (add (At n e) c) none h
-no_stop (Stop n ∷ xs) c none h = absurd (true_false h)
+no_stop (Stop n ∷ xs) c none h = absurd (true≢false h)
 
 pub answered : (lines : List Text) (line : ℕ) (number : Number) → HasFault lines line number → fault_of (after lines start) ≡ Some (Fault-At 0 line number)
 answered lines line number (NoItem before l rest items is said shown none) =
@@ -285,7 +259,7 @@ breaks_item true l ls x more e i v earlier g out none t end =
       in_order = tt;
       shown = e;
       line = alone v.line cap g.0 h.0;
-      why = inr (x, i, ap (λ (k : List Item). is_out_of_order k x) (nothing_more earlier) ∙ (sym (t x) ∙ out), h.1);
+      why = inr (x, i, ap (λ (k : List Item). is_out_of_order k x) (append-nil earlier) ∙ (sym (t x) ∙ out), h.1);
     }
 breaks_item false l ls x more e i v earlier g fits none t end =
     let u = with_core (add x (core v)) (counted v) in

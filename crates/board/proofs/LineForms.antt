@@ -15,9 +15,6 @@ use Rattle.board.specs.declared.reading.Item.TheVariants.{Fill, At, Stop}
 use Rattle.board.specs.Schedule.{Text, after_word, is_digit, with_digit, number_of, hex_value, hex_of, word_len, tick_of, event_of_rest, event_of, at_of, item_from, item_of}
 use Rattle.board.specs.Format.{AreDigits, spelled_from, IsNumber, IsHexDigit, IsHexByte, IsEventOf, IsLineOf}
 
-true_false : true ≡ false → ⊥
-true_false e = cc
-
 -- ---- a word at the beginning
 
 word_cut : (t : Bool) (w l r : Text) → bytes_eq (take (length w) l) w ≡ t → (if t then Some (drop (length w) l) else None) ≡ Some r → l ≡ w ++ r

@@ -1,7 +1,7 @@
 -- A text is read without a fault exactly where it spells a schedule.
-use Rattle.std.proofs.lemmas.Bool.{lt-leb, le-ltb, leb-false, ltb-false, and_right, or_right}
+use Rattle.std.proofs.lemmas.Bool.{lt-leb, le-ltb, leb-false, ltb-false, and_right, or_right, or_parts}
 use Rattle.std.proofs.lemmas.Option.{none-some, same_Some}
-use Rattle.std.proofs.Common.{◌≡◌, ◌∙◌, ℕ, ◌+◌, ◌-◌, ◌^◌, ◌<◌, ◌≤◌, ◌++◌, ◌==◌, min, Bool, true, false, cond, List, [], ◌∷◌, Option, Some, None, length, refl, sym, ap, ap₂, subst, arith, inl, inr, ◌⊎◌, append_assoc, append-nil, length-append}
+use Rattle.std.proofs.Common.{◌≡◌, ◌∙◌, ℕ, ◌+◌, ◌-◌, ◌^◌, ◌<◌, ◌≤◌, ◌++◌, ◌==◌, min, Bool, true, false, cond, List, [], ◌∷◌, Option, Some, None, length, refl, sym, ap, ap₂, subst, arith, inl, inr, ◌⊎◌, append_assoc, append-nil, length-append, true≢false}
 use Rattle.std.specs.Prelude.{not, ◌&&◌, ◌||◌, nat_lt, nat_le, is_some, map, fold, slice_index, if◌then◌else◌}
 use Rattle.std.proofs.lemmas.Bool.Decides.{nat_tests}
 use Rattle.word86.specs.declared.event.Event.{Event}
@@ -52,9 +52,6 @@ pub refused_item : (x : Item) (v : View) → bad x (core v) ≡ true → with_it
 refused_item (Fill b) v e = ap (λ t. if t then failed E702 v else record v { fill = Some b }) e
 refused_item (At n d) v e = ap (λ t. if t then failed E702 v else record v { turns = v.turns ++ n ∷ []; events = v.events ++ d ∷ [] }) e
 refused_item (Stop n) v e = ap (λ t. if t then failed E702 v else record v { stop = Some n }) e
-
-pub true_false : true ≡ false → ⊥
-true_false e = cc
 
 positive : (n : ℕ) → 0 < n → not (n == 0) ≡ true
 positive n lt = ap not (let x : (n == 0) ≡ false = grind (arith, nat_tests) in x)
@@ -113,7 +110,7 @@ stuck (l ∷ ls) v h = ap (after ls) (line_faulty l v h) ∙ stuck ls v h
 broken : (l : Text) (ls : List Text) (v u : View) → with_line v l ≡ u → is_some u.fault ≡ true → (after (l ∷ ls) v).fault ≡ None → ⊥
 broken l ls v u e h end =
     let same : after (l ∷ ls) v ≡ u = ap (after ls) e ∙ stuck ls u h in
-    true_false (sym h ∙ ap is_some (sym (ap (λ (x : View). x.fault) same) ∙ end))
+    true≢false (sym h ∙ ap is_some (sym (ap (λ (x : View). x.fault) same) ∙ end))
 
 abbrev pub Read : List Text → View → List Item → Type 0
 Read ls v items = ((after ls v).fault ≡ None) × (core (after ls v) ≡ adds items (core v))
@@ -258,15 +255,15 @@ no_fill (At n e ∷ xs) c h = tt
 no_fill (Stop n ∷ xs) c h = tt
 
 clash : (a s t : Bool) → (a || s || t) ≡ false → (a || t) ≡ true → ⊥
-clash true s t e h = true_false e
-clash false true t e h = true_false e
-clash false false t e h = true_false (sym h ∙ e)
+clash true s t e h = true≢false e
+clash false true t e h = true≢false e
+clash false false t e h = true≢false (sym h ∙ e)
 
 ended : (xs : List Item) (c : Core) (n : ℕ) → c.stop ≡ Some n → Goes xs c → xs ≡ []
 ended [] c n s g = refl
-ended (Fill b ∷ xs) c n s g = absurd (true_false (sym (middle (is_some c.fill) (is_some c.stop) (not (length c.turns == 0)) (ap is_some s)) ∙ g.0))
-ended (At m e ∷ xs) c n s g = absurd (true_false (sym (ap (λ o. is_some o || (not (length c.turns == 0) && nat_lt m (last_turn c.turns))) s) ∙ g.0))
-ended (Stop m ∷ xs) c n s g = absurd (true_false (sym (ap (λ o. is_some o || (not (length c.turns == 0) && nat_le m (last_turn c.turns))) s) ∙ g.0))
+ended (Fill b ∷ xs) c n s g = absurd (true≢false (sym (middle (is_some c.fill) (is_some c.stop) (not (length c.turns == 0)) (ap is_some s)) ∙ g.0))
+ended (At m e ∷ xs) c n s g = absurd (true≢false (sym (ap (λ o. is_some o || (not (length c.turns == 0) && nat_lt m (last_turn c.turns))) s) ∙ g.0))
+ended (Stop m ∷ xs) c n s g = absurd (true≢false (sym (ap (λ o. is_some o || (not (length c.turns == 0) && nat_le m (last_turn c.turns))) s) ∙ g.0))
 
 below_from : (t : Bool) (ts : List ℕ) (n : ℕ) → (length ts == 0) ≡ t → (not t && nat_le n (last_turn ts)) ≡ false → Below ts n
 below_from true ts n e h = inl e
@@ -275,10 +272,6 @@ below_from false ts n e h = inr (leb-false n (last_turn ts) h)
 order_from : (t : Bool) (ts : List ℕ) (n : ℕ) → (length ts == 0) ≡ t → (not t && nat_lt n (last_turn ts)) ≡ false → last_turn ts ≤ n
 order_from true ts n e h = none_yet ts n e
 order_from false ts n e h = ltb-false n (last_turn ts) h
-
-later : (s x : Bool) → (s || x) ≡ false → x ≡ false
-later true x e = absurd (true_false e)
-later false x e = e
 
 record Ordered (items : List Item) (c : Core) (n : ℕ) : Type 0 where
   due : List Due
@@ -290,7 +283,7 @@ pub grown : (ts : List ℕ) (n : ℕ) → not (length (ts ++ n ∷ []) == 0) ≡
 grown ts n = let e : 0 < length (ts ++ n ∷ []) = omega (arith, length-append ts (n ∷ [])) in positive (length (ts ++ n ∷ [])) e
 
 below_next : (ts : List ℕ) (m n : ℕ) → Below (ts ++ m ∷ []) n → m < n
-below_next ts m n (inl e) = absurd (true_false (sym (grown ts m) ∙ ap not e))
+below_next ts m n (inl e) = absurd (true≢false (sym (grown ts m) ∙ ap not e))
 below_next ts m n (inr lt) = subst (λ k. k < n) (last_append ts m) lt
 
 below_before : (t : Bool) (ts : List ℕ) (m n : ℕ) → (length ts == 0) ≡ t → last_turn ts ≤ m → m < n → Below ts n
@@ -307,12 +300,12 @@ ordered (Stop m ∷ xs) c n none free g end =
       due = [];
       items_are = ap₂ (λ (k : ℕ) (l : List Item). Stop k ∷ l) same alone;
       in_order = tt;
-      below = subst (Below c.turns) same (below_from (length c.turns == 0) c.turns m refl (later (is_some c.stop) _ g.0));
+      below = subst (Below c.turns) same (below_from (length c.turns == 0) c.turns m refl (or_parts (is_some c.stop) _ g.0).1);
     }
 ordered (At m e ∷ xs) c n none free g end =
     let k = add (At m e) c in
     let r = ordered xs k n none (no_fill xs k (or_right (is_some c.fill) _ (grown c.turns m))) g.1 end in
-    let le = order_from (length c.turns == 0) c.turns m refl (later (is_some c.stop) _ g.0) in
+    let le = order_from (length c.turns == 0) c.turns m refl (or_parts (is_some c.stop) _ g.0).1 in
     let lt = below_next c.turns m n r.below in
     record {
       due = (let d : Due = record { turn = m; event = e } in d) ∷ r.due;

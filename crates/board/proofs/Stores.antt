@@ -1,8 +1,9 @@
 -- A store below the screen leaves and_parts pages, and shows nothing. A word has its bytes side by side on one page, or not and_parts on one.
 use Rattle.std.proofs.Common.{◌≡◌, ℕ, ◌+◌, ◌-◌, ◌<◌, ◌≤◌, Bool, true, false, List, length, arith, ap, sym, subst, refl, ◌∙◌}
 use Rattle.std.specs.Prelude.{slice_set, nat_lt, nat_le, ◌&&◌, if◌then◌else◌, Option, Some, None}
-use Rattle.std.proofs.lemmas.Bool.{lt-leb, lt-ltb, le-leb, le-ltb, ltb-true, leb-true, and_parts}
+use Rattle.std.proofs.lemmas.Bool.{lt-leb, lt-ltb, le-leb, le-ltb, ltb-true, leb-true, and_parts, cond-false}
 use Rattle.std.proofs.lemmas.List.{length-set}
+use Rattle.std.proofs.Math.Bool.{and-false}
 use Rattle.word86.specs.declared.label.Label.TheVariants.{ScrW}
 use Rattle.word86.specs.declared.page.Page.{Page}
 use Rattle.word86.specs.declared.page.Page.TheVariants.{Monochrome, Colour}
@@ -22,11 +23,7 @@ pub below_colour : (l : List ℕ) (a v : ℕ) → a < ram_size → put (page_at 
 below_colour l a v lt = below_region (page_at Colour) l a v (omega (arith, lt))
 
 above_region : (base : ℕ) (l : List ℕ) (a v : ℕ) → base + length l ≤ a → put base l a v ≡ l
-above_region base l a v le = ap (λ t. if nat_le base a && t then slice_set l (a - base) v else l) (le-ltb a (base + length l) le) ∙ neither (nat_le base a) (slice_set l (a - base) v) l
-  where
-    neither : (t : Bool) (x y : List ℕ) → (if t && false then x else y) ≡ y
-    neither true x y = refl
-    neither false x y = refl
+above_region base l a v le = ap (λ t. if nat_le base a && t then slice_set l (a - base) v else l) (le-ltb a (base + length l) le) ∙ cond-false (nat_le base a && false) (slice_set l (a - base) v) l (and-false (nat_le base a))
 
 -- a byte of the colour page is neither in RAM nor on the other page
 pub colour_is_not_ram : (l : List ℕ) (i v : ℕ) → length l ≡ ram_size → put 0 l (page_at Colour + i) v ≡ l
@@ -141,14 +138,10 @@ colour_spot a i at lt =
     let to : a < page_at Colour + page_size = omega (arith, at, lt) in
     let same : a - page_at Colour ≡ i = omega (arith, at) in
     ap (λ t. if nat_le (page_at Monochrome) a && t then some_at Monochrome (a - page_at Monochrome) else if is_on Colour a then some_at Colour (a - page_at Colour) else None) (le-ltb a (page_at Monochrome + page_size) high)
-    ∙ neither (nat_le (page_at Monochrome) a) (some_at Monochrome (a - page_at Monochrome)) (if is_on Colour a then some_at Colour (a - page_at Colour) else None)
+    ∙ cond-false (nat_le (page_at Monochrome) a && false) (some_at Monochrome (a - page_at Monochrome)) (if is_on Colour a then some_at Colour (a - page_at Colour) else None) (and-false (nat_le (page_at Monochrome) a))
     ∙ ap (λ t. if t && nat_lt a (page_at Colour + page_size) then some_at Colour (a - page_at Colour) else None) (le-leb (page_at Colour) a from)
     ∙ ap (λ t. if t then some_at Colour (a - page_at Colour) else None) (lt-ltb a (page_at Colour + page_size) to)
     ∙ ap (some_at Colour) same
-  where
-    neither : (t : Bool) (x y : Option (Page × ℕ)) → (if t && false then x else y) ≡ y
-    neither true x y = refl
-    neither false x y = refl
 
 pub seen_word : (low high i v : ℕ) → low ≡ page_at Colour + i → high ≡ page_at Colour + (i + 1) → i + 1 < page_size → Some (ScrW i v) ≡ shown_store (stores.Word low high v)
 seen_word low high i v at next lt =

@@ -1,5 +1,5 @@
 -- No run has more words on its stack than the paths of calls push.
-use Rattle.std.proofs.Common.{◌≡◌, ℕ, zero, suc, ◌+◌, ◌-◌, ◌≤◌, ◌<◌, Bool, true, false, if◌then◌else◌, List, [], ◌∷◌, length, take, drop, Option, Some, None, slice_get, refl, sym, ap, ◌∙◌, subst, arith, ◌⊎◌, inl, inr}
+use Rattle.std.proofs.Common.{◌≡◌, ℕ, zero, suc, ◌+◌, ◌-◌, ◌≤◌, Bool, true, false, if◌then◌else◌, List, [], ◌∷◌, length, take, drop, Option, Some, None, slice_get, refl, sym, ap, ◌∙◌, subst, arith, ◌⊎◌, inl, inr}
 use Rattle.std.specs.Prelude.{nat_lt, nat_le}
 use Rattle.std.proofs.lemmas.Option.{none-some, same_Some}
 use Rattle.word86.specs.declared.width.Width.{Width}
@@ -12,13 +12,13 @@ use Rattle.icode.specs.declared.instruction.Instruction.TheVariants as op
 use Rattle.icode.specs.declared.instruction.Test.{Test}
 use Rattle.icode.specs.declared.instruction.Test.TheVariants as test
 use Rattle.icode.specs.declared.code.Routine.{Routine}
-use Rattle.icode.specs.declared.code.Routine.TheVariants.{Procedure, Nowhere}
+use Rattle.icode.specs.declared.code.Routine.TheVariants.{Nowhere}
 use Rattle.icode.specs.declared.code.Position.{Position}
 use Rattle.icode.specs.declared.code.Word.{Word}
 use Rattle.icode.specs.declared.code.Word.TheVariants.{Value, Return}
-use Rattle.icode.specs.Machine.{Context, At, is_odd, stands, address, found, operated, computed, value_in, value_on_top, with_value, loaded, stored, dropped, finished, switched, left, jumped, run, run_at, does}
-use Rattle.icode.specs.Heights.{popped, after, behind, height, target, HasHeights}
-use Rattle.icode.specs.Counted.{Calls, IsPath, words_along, IsDepth}
+use Rattle.icode.specs.Machine.{Context, At, is_odd, stands, address, found, operated, computed, value_in, with_value, loaded, stored, switched, jumped, run_at, does}
+use Rattle.icode.specs.Heights.{popped, after, behind, height, HasHeights}
+use Rattle.icode.specs.Counted.{IsPath, words_along, IsDepth}
 use Rattle.icode.specs.Runs.{Leads, Comes}
 
 -- wherever an action leads
@@ -75,7 +75,7 @@ module _ (offsets sizes : List ℕ) (code : Routine → List Instruction) (has_h
   abbrev pub Standing : Context → Type 0
   Standing (At r p a ws) = (ps : List Position) × IsPath code begin ps r × Shape (height (code r) p) ps ws
 
-  -- after a division by zero
+  -- where there is no quotient
   abbrev pub Lost : Context → Type 0
   Lost (At r p a ws) = (r ≡ Nowhere) × (length ws ≤ most)
 

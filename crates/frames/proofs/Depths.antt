@@ -1,5 +1,5 @@
 -- What is needed along the instructions is what the paths of calls push and change.
-use Rattle.std.proofs.Common.{◌≡◌, ℕ, zero, suc, ◌+◌, ◌≤◌, ◌<◌, List, [], ◌∷◌, ◌++◌, take, Option, Some, None, slice_get, refl, sym, ap, ◌∙◌, subst, arith, ◌⊎◌, inl, inr}
+use Rattle.std.proofs.Common.{◌≡◌, ℕ, zero, suc, ◌+◌, ◌≤◌, ◌<◌, List, [], ◌∷◌, ◌++◌, take, Some, slice_get, refl, sym, ap, ◌∙◌, subst, arith, ◌⊎◌, inl, inr}
 use Rattle.std.proofs.lemmas.Bool.{cases_lt}
 use Rattle.std.proofs.lemmas.Option.{none-some}
 use Rattle.icode.specs.declared.instruction.Instruction.{Instruction}
@@ -8,11 +8,11 @@ use Rattle.icode.specs.declared.code.Routine.{Routine}
 use Rattle.icode.specs.declared.code.Routine.TheVariants.{Procedure}
 use Rattle.icode.specs.declared.code.Position.{Position}
 use Rattle.icode.specs.declared.registers.Registers.{Registers}
-use Rattle.icode.specs.Registers.{none, joined, changes}
+use Rattle.icode.specs.Registers.{joined, changes}
 use Rattle.icode.specs.Heights.{behind, height}
 use Rattle.icode.specs.Counted.{Calls, IsPath, words_along, IsDepth, HasAll, IsChanged}
 use Rattle.frames.specs.declared.need.Need.{Need}
-use Rattle.frames.specs.Inner.Need.{nothing, need}
+use Rattle.frames.specs.Inner.Need.{need}
 use Rattle.frames.proofs.Registers.{joined_none, has_self, has_through}
 use Rattle.frames.proofs.Needing as needing
 

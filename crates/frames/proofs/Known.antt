@@ -1,12 +1,10 @@
 -- The table of what procedures need, along the order.
-use Rattle.std.proofs.Common.{◌≡◌, ℕ, zero, suc, ◌+◌, ◌*◌, ◌≤◌, ◌<◌, List, [], ◌∷◌, length, Option, Some, None, slice_get, refl, sym, ap, ◌∙◌, subst, arith, ◌⊎◌, inl, inr}
+use Rattle.std.proofs.Common.{◌≡◌, ℕ, zero, suc, ◌+◌, ◌*◌, ◌≤◌, ◌<◌, List, [], ◌∷◌, length, Some, slice_get, refl, sym, ap, ◌∙◌, subst, arith, ◌⊎◌, inl, inr}
 use Rattle.std.specs.Prelude.{slice_set}
 use Rattle.std.proofs.lemmas.Bool.{cases_lt}
+use Rattle.std.proofs.lemmas.List.{set_past, length-set}
 use Rattle.std.proofs.lemmas.Option.{slice_get_past, slice_get_within, same_Some}
-use Rattle.icode.specs.declared.instruction.Instruction.{Instruction}
 use Rattle.icode.specs.declared.instruction.Instruction.TheVariants as op
-use Rattle.icode.specs.declared.code.Procedure as declared
-use Rattle.icode.specs.declared.code.Routine.{Routine}
 use Rattle.icode.specs.declared.code.Routine.TheVariants.{Procedure}
 use Rattle.icode.specs.declared.code.Code.{Code}
 use Rattle.icode.specs.Code.{code_of}
@@ -27,11 +25,6 @@ at_other (x ∷ t) zero n (suc q) d = refl
 at_other (x ∷ t) (suc p) n zero d = refl
 at_other (x ∷ t) (suc p) n (suc q) d = at_other t p n q (λ e. d (ap suc e))
 
-pub set_past : (t : List Need) (p : ℕ) (n : Need) → length t ≤ p → slice_set t p n ≡ t
-set_past [] p n h = refl
-set_past (x ∷ t) zero n h = absurd (omega (arith, h))
-set_past (x ∷ t) (suc p) n h = ap (λ u. x ∷ u) (set_past t p n (omega (arith, h)))
-
 pub set_few : (t : List Need) (p : ℕ) (n : Need) (b : ℕ) → ((q : ℕ) → (need_at t q).words ≤ b) → n.words ≤ b → (q : ℕ) → (need_at (slice_set t p n) q).words ≤ b
 set_few [] p n b h e q = h q
 set_few (x ∷ t) zero n b h e zero = e
@@ -41,11 +34,6 @@ set_few (x ∷ t) (suc p) n b h e (suc q) = set_few t p n b (λ k. h (suc k)) e 
 
 pub nothing_at : (t : List Need) (q : ℕ) → length t ≤ q → need_at t q ≡ nothing
 nothing_at t q h = ap need_or (slice_get_past t q h)
-
-length-set : (t : List Need) (p : ℕ) (n : Need) → length (slice_set t p n) ≡ length t
-length-set [] p n = refl
-length-set (x ∷ t) zero n = refl
-length-set (x ∷ t) (suc p) n = ap suc (length-set t p n)
 
 next_product : (i b : ℕ) → i * b + b ≡ (i + 1) * b
 next_product i b = grind arith

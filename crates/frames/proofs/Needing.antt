@@ -1,14 +1,15 @@
 -- What a routine needs along its instructions, met by met.
-use Rattle.std.proofs.Common.{◌≡◌, ℕ, zero, suc, ◌+◌, ◌≤◌, ◌<◌, max, List, [], ◌∷◌, length, take, drop, Option, Some, None, slice_get, refl, sym, ap, ◌∙◌, subst, arith, ◌⊎◌, inl, inr}
+use Rattle.std.proofs.Common.{◌≡◌, ℕ, zero, suc, ◌+◌, ◌≤◌, ◌<◌, max, List, [], ◌∷◌, length, take, drop, Some, slice_get, refl, sym, ap, ◌∙◌, subst, arith, ◌⊎◌, inl, inr}
 use Rattle.std.specs.Prelude.{slice_index_or}
 use Rattle.std.proofs.Common.{drop-cons}
 use Rattle.std.proofs.lemmas.Bool.{cases_lt}
+use Rattle.std.proofs.Math.Nat.{le-max_left}
 use Rattle.std.proofs.lemmas.Option.{none-some, same_Some}
 use Rattle.icode.specs.declared.instruction.Instruction.{Instruction}
 use Rattle.icode.specs.declared.instruction.Instruction.TheVariants as op
 use Rattle.icode.specs.declared.registers.Registers.{Registers}
 use Rattle.icode.specs.Heights.{after, behind}
-use Rattle.icode.specs.Registers.{none, joined, changes}
+use Rattle.icode.specs.Registers.{joined, changes}
 use Rattle.frames.specs.declared.need.Need.{Need}
 use Rattle.frames.specs.Inner.Need.{nothing, both, met, need}
 use Rattle.frames.proofs.Registers.{joined_parts, joined_none, has_left, has_right, has_self, has_through, has_both}
@@ -29,12 +30,6 @@ met_height : (t : ℕ → Need) (x : Instruction) (h : ℕ) → h ≤ (met t x h
 met_height t (op.Invoke q) h = omega arith
 met_height t _ h = omega arith
 
-left_le : (a b : ℕ) → a ≤ max a b
-left_le a b = omega arith
-
-right_le : (a b : ℕ) → b ≤ max a b
-right_le a b = omega arith
-
 at_most : (a b c : ℕ) → a ≤ b → a ≤ max c b
 at_most a b c e = omega (arith, e)
 
@@ -42,12 +37,12 @@ module _ (t : ℕ → Need) where
   pub heights : (h : ℕ) (xs : List Instruction) (k : ℕ) → behind h (take k xs) ≤ (need t h xs).words
   heights h [] zero = omega arith
   heights h [] (suc k) = omega arith
-  heights h (x ∷ xs) zero = omega (arith, met_height t x h, left_le (met t x h).words (need t (after x h) xs).words)
+  heights h (x ∷ xs) zero = omega (arith, met_height t x h, le-max_left (met t x h).words (need t (after x h) xs).words)
   heights h (x ∷ xs) (suc k) = at_most _ _ _ (heights (after x h) xs k)
 
   pub calls : (h : ℕ) (xs : List Instruction) (k q : ℕ) → slice_get xs k ≡ Some (op.Invoke q) → behind h (take k xs) + 1 + (t q).words ≤ (need t h xs).words
   calls h [] k q e = absurd (none-some _ e)
-  calls h (x ∷ xs) zero q e = subst (λ y. h + 1 + (t q).words ≤ (need t h (y ∷ xs)).words) (sym (same_Some x (op.Invoke q) e)) (left_le _ _)
+  calls h (x ∷ xs) zero q e = subst (λ y. h + 1 + (t q).words ≤ (need t h (y ∷ xs)).words) (sym (same_Some x (op.Invoke q) e)) (le-max_left _ _)
   calls h (x ∷ xs) (suc k) q e = at_most _ _ _ (calls (after x h) xs k q e)
 
   -- the words are those at some place, or at some call with those of the callee

@@ -1,5 +1,6 @@
 -- Registers of two, as sets.
 use Rattle.std.proofs.Common.{◌≡◌, Bool, true, false, ◌||◌, refl, sym, ap, ◌∙◌}
+use Rattle.std.proofs.Math.Bool.{or-false, or_self, or_assoc, or_comm}
 use Rattle.icode.specs.declared.registers.Registers.{Registers}
 use Rattle.icode.specs.Registers.{none, joined}
 
@@ -11,25 +12,9 @@ same x y a b c d e =
     ∙ ap (λ v. record y { address = v; frame = x.frame }) d
     ∙ ap (λ v. record y { frame = v }) e
 
-or_parts : (a b c : Bool) → ((a || b) || c) ≡ (a || (b || c))
-or_parts true b c = refl
-or_parts false b c = refl
-
-or_none : (a : Bool) → (a || false) ≡ a
-or_none true = refl
-or_none false = refl
-
-or_true : (a : Bool) → (a || true) ≡ true
-or_true true = refl
-or_true false = refl
-
-or_self : (a : Bool) → (a || a) ≡ a
-or_self true = refl
-or_self false = refl
-
 or_left : (a b : Bool) → ((a || b) || a) ≡ (a || b)
 or_left true b = refl
-or_left false b = or_none b
+or_left false b = or-false b
 
 or_right : (a b : Bool) → ((a || b) || b) ≡ (a || b)
 or_right true b = refl
@@ -37,10 +22,10 @@ or_right false b = or_self b
 
 pub joined_parts : (x y z : Registers) → joined (joined x y) z ≡ joined x (joined y z)
 joined_parts x y z =
-    same (joined (joined x y) z) (joined x (joined y z)) (or_parts x.accumulator y.accumulator z.accumulator) (or_parts x.right y.right z.right) (or_parts x.high y.high z.high) (or_parts x.address y.address z.address) (or_parts x.frame y.frame z.frame)
+    same (joined (joined x y) z) (joined x (joined y z)) (or_assoc x.accumulator y.accumulator z.accumulator) (or_assoc x.right y.right z.right) (or_assoc x.high y.high z.high) (or_assoc x.address y.address z.address) (or_assoc x.frame y.frame z.frame)
 
 pub joined_none : (x : Registers) → joined x none ≡ x
-joined_none x = same (joined x none) x (or_none x.accumulator) (or_none x.right) (or_none x.high) (or_none x.address) (or_none x.frame)
+joined_none x = same (joined x none) x (or-false x.accumulator) (or-false x.right) (or-false x.high) (or-false x.address) (or-false x.frame)
 
 -- g has the registers of x: joined g x ≡ g
 pub has_left : (x y : Registers) → joined (joined x y) x ≡ joined x y
@@ -58,9 +43,5 @@ has_through x y z e f = ap (λ v. joined v z) (sym e) ∙ joined_parts x y z ∙
 pub has_both : (g x y : Registers) → joined g x ≡ g → joined g y ≡ g → joined g (joined x y) ≡ g
 has_both g x y e f = sym (joined_parts g x y) ∙ ap (λ v. joined v y) e ∙ f
 
-or_other : (a b : Bool) → (a || b) ≡ (b || a)
-or_other true b = sym (or_true b)
-or_other false b = sym (or_none b)
-
 pub joined_other : (x y : Registers) → joined x y ≡ joined y x
-joined_other x y = same (joined x y) (joined y x) (or_other x.accumulator y.accumulator) (or_other x.right y.right) (or_other x.high y.high) (or_other x.address y.address) (or_other x.frame y.frame)
+joined_other x y = same (joined x y) (joined y x) (or_comm x.accumulator y.accumulator) (or_comm x.right y.right) (or_comm x.high y.high) (or_comm x.address y.address) (or_comm x.frame y.frame)

@@ -13,7 +13,7 @@ pub(crate) struct Need {
 }
 
 /// Keeps what a procedure needs.
-#[tactic(auto, using(crate::proofs::Known::set_past))]
+#[tactic(auto, using(std::proofs::lemmas::List::set_past))]
 pub(crate) fn keep(needs: &mut Vec<Need>, procedure: usize, need: Need)
     ensures { needs.new.items ≡ slice_set needs.old.items procedure need }
 {

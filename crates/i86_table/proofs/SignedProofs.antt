@@ -6,7 +6,7 @@ use Rattle.std.specs.Int.Bits.{and_self}
 use Rattle.std.proofs.lemmas.Int.{ints}
 use Rattle.std.proofs.lemmas.Nat.{mod_below}
 use Rattle.std.proofs.Math.Nat.{div-le_self}
-use Rattle.std.proofs.lemmas.Bool.{true≢false, cases_lt, lt-ltb, le-ltb, le-leb, lt-leb}
+use Rattle.std.proofs.lemmas.Bool.{true≢false, cases_lt, lt-ltb, le-ltb, le-leb, lt-leb, and_parts}
 use Rattle.word86.specs.declared.width.Width.TheVariants.{Word}
 use Rattle.word86.specs.Signed.{signed, in_range, signed_word, signed_less, has_quotient, signed_quotient, signed_remainder}
 use Rattle.word86.specs.DivisionLaw.{SignedLaw}
@@ -163,14 +163,6 @@ sign_small : (p : Bool) (m : ℕ) → m ≤ 65535 → with_sign 65536 p m < 6553
 sign_small true m h = omega arith
 sign_small false m h = omega (arith, h)
 
-second : (s t : Bool) → (s && t) ≡ true → t ≡ true
-second true t e = e
-second false t e = absurd (true≢false (sym e))
-
-not_zero : (a b : ℕ) → has_quotient a b ≡ true → 0 < b
-not_zero a zero e = absurd (true≢false (sym e))
-not_zero a (suc b) e = omega arith
-
 module _ (law : SignedLaw) (a b : ℕ) (ha : a < 65536) (hb : b < 65536) (h : has_quotient a b ≡ true) where
   abbrev wide : ℕ
   wide = sign_word a * 65536 + a
@@ -188,13 +180,13 @@ module _ (law : SignedLaw) (a b : ℕ) (ha : a < 65536) (hb : b < 65536) (h : ha
   n = magnitude 65536 b
 
   within : in_range 65536 (int_div (signed 65536 a) (signed 65536 b)) ≡ true
-  within = second (not (nat_eq b 0)) (in_range 65536 (int_div (signed 65536 a) (signed 65536 b))) (sym (law.exists a b ha hb) ∙ h)
+  within = (and_parts (not (nat_eq b 0)) (in_range 65536 (int_div (signed 65536 a) (signed 65536 b))) (sym (law.exists a b ha hb) ∙ h)).1
 
   no_fault : divided Signed Word wide b ≡ None → ⊥
   no_fault e = by (quotient_tells.idiv_fault Word wide b (wide_below a ha) hb e)
     where
       by : (b ≡ 0) ⊎ (in_range 65536 (int_div (signed (65536 * 65536) (sign_word a * 65536 + a)) (signed 65536 b)) ≡ false) → ⊥
-      by (inl none) = omega (arith, none, not_zero a b h)
+      by (inl none) = omega (arith, none, law.positive a b h)
       by (inr out) = true≢false (sym within ∙ ap (λ (z : ℤ). in_range 65536 (int_div z (signed 65536 b))) (sym (wide_number a ha)) ∙ out)
 
   quotient_is : int_div (signed 65536 a) (signed 65536 b) ≡ minus (not (same p q)) (m / n)
@@ -217,7 +209,7 @@ module _ (law : SignedLaw) (a b : ℕ) (ha : a < 65536) (hb : b < 65536) (h : ha
   small = magnitude_small 65536 a (even_width Word)
 
   rest : m % n ≤ 65535
-  rest = omega (arith, mod_below m n (magnitude_some 65536 b hb (not_zero a b h)), magnitude_small 65536 b (even_width Word))
+  rest = omega (arith, mod_below m n (magnitude_some 65536 b hb (law.positive a b h)), magnitude_small 65536 b (even_width Word))
 
   few : m / n ≤ 65535
   few = omega (arith, div-le_self m n, small)

@@ -33,7 +33,7 @@ use Rattle.i86_table.specs.Arithmetic.{sign_extended, sign_word, operated, added
 use Rattle.i86_table.specs.Contexts.{Context, Own, Working, Given, offset_in, further, top_of, stack_pointer, stack_word, word_in, byte_in, set_word, set_byte, set_flags, alu_word, alu_byte, is_sp, is_stack, unless, silently, reads, writes, takes, moved_word, stack_offer, jump_offer, offered, offered_at, room, refused, pop_offer, divides, word_quotient, byte_quotient, move_word_offer, move_byte_offer, alu_word_offer, alu_byte_offer, place_of, masks_sp, count_in, enable_offer, end_offer, gives_back}
 use Rattle.i86_table.specs.Widths.{HasWidths}
 use Rattle.i86_table.specs.Words.{AreWords, AllWords, HasWords, LeadsToWords, KeepsWords}
-use Rattle.i86_table.proofs.ProductProofs.{magnitude_small, product_small, even_width}
+use Rattle.i86_table.proofs.ProductProofs.{magnitude_small, magnitude_some, product_small, even_width}
 
 word_fits : (g : Working) → AreWords g → (r : Register16) → word_in g r < 65536
 word_fits g h Ax = h.ax
@@ -141,10 +141,6 @@ abbrev DivisionFits : Width → Option Division → Type 0
 DivisionFits width None = Unit {0}
 DivisionFits width (Some x) = (x.quotient < values width) × (x.remainder < values width)
 
-magnitude_some : (size b : ℕ) (p : Bool) → nat_lt b (size / 2) ≡ p → b < size → 0 < b → 0 < (if p then b else size - b)
-magnitude_some size b true e h some = some
-magnitude_some size b false e h some = omega (arith, h)
-
 size_some : (width : Width) → 0 < values width
 size_some widths.Byte = lit< tt
 size_some widths.Word = lit< tt
@@ -165,7 +161,7 @@ divided_fits Signed width a (suc b) l =
     let m = magnitude (size * size) a in
     let negative = not (same (is_negative (size * size) a) (is_negative size (suc b))) in
     let small : d ≤ size / 2 = magnitude_small size (suc b) (even_width width) in
-    let rest : m % d < d = mod-lt m {m = d} (magnitude_some size (suc b) (nat_lt (suc b) (size / 2)) refl l (omega arith)) in
+    let rest : m % d < d = mod-lt m {m = d} (magnitude_some size (suc b) l (omega arith)) in
     limited width (suc b == 0) (nat_lt (if negative then size / 2 else size / 2 - 1) (m / d)) (if negative then size / 2 else size / 2 - 1) (m / d) (m % d) negative (is_negative (size * size) a) refl (limit_small negative (values width) (size_some width)) (omega (arith, small, rest, size_some width))
   where
     limit_small : (p : Bool) (size : ℕ) → 0 < size → (if p then size / 2 else size / 2 - 1) < size

@@ -2,6 +2,7 @@
 use Rattle.std.proofs.Common.{◌≡◌, ℕ, suc, ◌+◌, ◌%◌, ◌/◌, ◌<◌, List, [], ◌∷◌, ◌++◌, length, get_or, set, refl, sym, ap, ap₂, ◌∙◌, subst, arith, append_assoc, length-append}
 use Rattle.std.specs.Prelude.{nat_lt, if◌then◌else◌, true}
 use Rattle.std.proofs.lemmas.Bool.{lt-ltb}
+use Rattle.std.proofs.Math.Seq.{get_or-append_seam, get_or-append-add}
 use Rattle.i86_code.specs.Forms.{word_bytes, Spells}
 use Rattle.i86_table.specs.declared.open.Open.{Open}
 use Rattle.select.specs.declared.part.Kind.{Kind}
@@ -19,20 +20,16 @@ use Rattle.layout_link.specs.Inner.Linked.{IsLinked, AreLinked}
 
 -- ---- a word among other bytes
 
-second : (a : List ℕ) (x y : ℕ) (z : List ℕ) → get_or (a ++ x ∷ y ∷ z) (length a + 1) 0 ≡ y
-second [] x y z = refl
-second (c ∷ a) x y z = let e : length (c ∷ a) + 1 ≡ suc (length a + 1) = omega arith in ap (λ n. get_or (c ∷ (a ++ x ∷ y ∷ z)) n 0) e ∙ second a x y z
-
-first : (a : List ℕ) (x : ℕ) (z : List ℕ) → get_or (a ++ x ∷ z) (length a) 0 ≡ x
-first [] x z = refl
-first (c ∷ a) x z = first a x z
-
 put_both : (a : List ℕ) (x y : ℕ) (z : List ℕ) (v w : ℕ) → set (set (a ++ x ∷ y ∷ z) (length a) v) (length a + 1) w ≡ a ++ v ∷ w ∷ z
 put_both [] x y z v w = refl
 put_both (c ∷ a) x y z v w = let e : length (c ∷ a) + 1 ≡ suc (length a + 1) = omega arith in ap (λ n. set (c ∷ set (a ++ x ∷ y ∷ z) (length a) v) n w) e ∙ ap (λ l. c ∷ l) (put_both a x y z v w)
 
 pub word_is : (a : List ℕ) (m : ℕ) (z : List ℕ) → word_in (a ++ (word_bytes m ++ z)) (length a) ≡ m
-word_is a m z = let p = first a (m % 256) (m / 256 ∷ z) in let q = second a (m % 256) (m / 256) z in omega (arith, p, q)
+word_is a m z =
+    let bytes = m % 256 ∷ m / 256 ∷ z in
+    let low = get_or-append_seam a (m % 256) (m / 256 ∷ z) 0 in
+    let high : get_or (a ++ bytes) (length a + 1) 0 ≡ m / 256 = get_or-append-add a bytes 1 0 in
+    omega (arith, low, high)
 
 module _ (offsets places : List ℕ) (base : ℕ) where
   -- one word, after these bytes

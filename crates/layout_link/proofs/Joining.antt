@@ -1,8 +1,8 @@
 -- Initial bytes that are joined to stretches.
-use Rattle.std.proofs.Common.{◌≡◌, ℕ, suc, ◌+◌, ◌<◌, ◌≤◌, Bool, true, false, List, [], ◌∷◌, ◌++◌, length, map, get_or, refl, ap, ◌∙◌, arith, length-append}
-use Rattle.std.specs.Prelude.{◌==◌, if◌then◌else◌}
+use Rattle.std.proofs.Common.{◌≡◌, ℕ, suc, ◌+◌, ◌<◌, ◌≤◌, List, [], ◌∷◌, ◌++◌, length, map, get_or, refl, ap, ◌∙◌, arith, length-append}
+use Rattle.std.specs.Prelude.{◌==◌}
 use Rattle.std.specs.List.{All}
-use Rattle.std.proofs.lemmas.Bool.{eqb-true}
+use Rattle.std.proofs.lemmas.Bool.{eqb-true, cond_both}
 use Rattle.std.proofs.lemmas.List.Elements.{All-head, All-tail}
 use Rattle.word86.specs.MemoryMap.{data_start, data_end}
 use Rattle.plm_decl.specs.declared.names.Object.{Object}
@@ -11,14 +11,10 @@ use Rattle.layout_link.specs.Initial.{Stretch, stretch, joined, object_bytes, st
 
 -- ---- what is joined
 
-either_way : (P : List Stretch → Type 0) (t : Bool) (one two : List Stretch) → (t ≡ true → P one) → (t ≡ false → P two) → P (if t then one else two)
-either_way P true one two f g = f refl
-either_way P false one two f g = g refl
-
 pub by_joined : (P : List Stretch → Type 0) (a : ℕ) (xs : List ℕ) (b : ℕ) (ys : List ℕ) (rest : List Stretch)
     → (b ≡ a + length xs → P (stretch a (xs ++ ys) ∷ rest)) → P (stretch a xs ∷ stretch b ys ∷ rest) → P (joined a xs (stretch b ys ∷ rest))
 by_joined P a xs b ys rest f g =
-    either_way P (b == a + length xs) (stretch a (xs ++ ys) ∷ rest) (stretch a xs ∷ stretch b ys ∷ rest) (λ e. f (eqb-true b (a + length xs) e)) (λ e. g)
+    cond_both (b == a + length xs) (stretch a (xs ++ ys) ∷ rest) (stretch a xs ∷ stretch b ys ∷ rest) P (λ e. f (eqb-true b (a + length xs) e)) (λ e. g)
 
 -- ---- how many bytes, and where
 

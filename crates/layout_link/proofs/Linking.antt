@@ -1,5 +1,5 @@
 -- What is linked fits, and takes few turns.
-use Rattle.std.proofs.Common.{◌≡◌, ℕ, ◌+◌, ◌<◌, ◌≤◌, ◌++◌, List, length, map, get_or, ap, ap₂, ◌∙◌, subst, arith}
+use Rattle.std.proofs.Common.{◌≡◌, ℕ, ◌+◌, ◌<◌, ◌≤◌, ◌++◌, List, length, map, get_or, ap, ap₂, ◌∙◌, arith}
 use Rattle.word86.specs.MemoryMap.{first_offset, data_end}
 use Rattle.plm_decl.specs.declared.names.Names.{Names}
 use Rattle.plm_decl.specs.declared.names.Object.{Object}
@@ -16,10 +16,6 @@ use Rattle.layout_link.proofs.Placing.{below, is_placement, sum_sizes}
 use Rattle.layout_link.proofs.Heading.{fit_both}
 use Rattle.layout_link.proofs.Fitting.{vectors_fit, data_fit, few_turns, few_bytes}
 use Rattle.layout_link.proofs.Joining.{are_low, total_is}
-
--- the same of three lists that are equal
-pub along : (P : List Part → List Task → List ℕ → Type 0) (ps ps' : List Part) (ts ts' : List Task) (bs bs' : List ℕ) → ps ≡ ps' → ts ≡ ts' → bs ≡ bs' → P ps ts bs → P ps' ts' bs'
-along P ps ps' ts ts' bs bs' p t b h = subst (λ x. P ps' ts' x) b (subst (λ x. P ps' x bs) t (subst (λ x. P x ts bs) p h))
 
 pub vectors_are : (parts ps : List Part) (ts : List Task) → ps ≡ parts → ts ≡ vector_tasks ps 0 256 → ts ≡ vector_tasks parts 0 256
 vectors_are parts ps ts p e = e ∙ ap (λ l. vector_tasks l 0 256) p

@@ -1,8 +1,10 @@
 -- The whole ROM.
-use Rattle.std.proofs.Common.{◌≡◌, ℕ, zero, suc, ◌+◌, ◌-◌, ◌%◌, ◌/◌, ◌<◌, ◌≤◌, Bool, true, false, List, [], ◌∷◌, ◌++◌, length, set, Some, refl, sym, ap, ap₂, ◌∙◌, arith, append_assoc, length-append, length-set}
-use Rattle.std.specs.Prelude.{nat_lt, if◌then◌else◌, slice_index, slice_get, replicate}
+use Rattle.std.proofs.Common.{◌≡◌, ℕ, zero, suc, ◌+◌, ◌-◌, ◌%◌, ◌/◌, ◌<◌, ◌≤◌, List, [], ◌∷◌, ◌++◌, length, set, Some, refl, sym, ap, ap₂, ◌∙◌, arith, append_assoc, length-append, length-set}
+use Rattle.std.specs.Prelude.{nat_lt, slice_index, slice_get, replicate}
 use Rattle.std.proofs.lemmas.List.{length-replicate, length-map, get_or-append-add, get_or_append_left}
 use Rattle.std.proofs.lemmas.List.Sums.{sum_by-take-le}
+use Rattle.std.proofs.lemmas.Bool.{cond_both}
+use Rattle.std.proofs.lemmas.Option.{same_Some}
 use Rattle.word86.specs.MemoryMap.{code_segment, reset_offset}
 use Rattle.i86_table.specs.declared.instruction.Instr.{Instr}
 use Rattle.i86_table.specs.declared.instruction.Instr.TheVariants as i
@@ -25,16 +27,12 @@ use Rattle.layout_link.proofs.Standing.{code_at, all_stand}
 
 -- ---- lengths
 
-either_long : (b : Bool) (x y : List ℕ) (n : ℕ) → length x ≡ n → length y ≡ n → length (if b then x else y) ≡ n
-either_long true x y n e f = e
-either_long false x y n e f = f
-
 module _ (offsets places : List ℕ) where
   one_long : (base : ℕ) (bytes : List ℕ) (f : Fixup) → length (filled_one offsets places base bytes f) ≡ length bytes
   one_long base bytes f =
       let m = (word_in bytes f.place + value_of offsets places base f) % 65536 in
-      either_long (nat_lt (f.place + 1) (length bytes)) (with_word bytes f.place m) bytes (length bytes)
-      (length-set (set bytes f.place (m % 256)) (f.place + 1) (m / 256) ∙ length-set bytes f.place (m % 256)) refl
+      cond_both (nat_lt (f.place + 1) (length bytes)) (with_word bytes f.place m) bytes (λ (l : List ℕ). length l ≡ length bytes)
+      (λ _. length-set (set bytes f.place (m % 256)) (f.place + 1) (m / 256) ∙ length-set bytes f.place (m % 256)) (λ _. refl)
 
   filled_long : (base : ℕ) (bytes : List ℕ) (fs : List Fixup) → length (filled offsets places base bytes fs) ≡ length bytes
   filled_long base bytes [] = refl
@@ -56,13 +54,10 @@ module _ (offsets places : List ℕ) where
     pub at : slice_index (places_from from ps) own ≡ from + length front
     pub fits : length front + length p.bytes.items ≤ total_of ps
 
-  same_part : (q p : Part) → Some q ≡ Some p → q ≡ p
-  same_part q p e = cc
-
   among : (k from own : ℕ) (ps : List Part) (p : Part) → slice_get ps own ≡ Some p → Among k from own ps p
   among k from own [] p e = absurd (cc)
   among k from zero (q ∷ ps) p e =
-      let s = same_part q p e in
+      let s = same_Some q p e in
       let z : k ≡ k + 0 = omega arith in
       let l = ap (λ (x : Part). length x.bytes.items) s in
       record {

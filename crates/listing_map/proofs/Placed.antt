@@ -5,9 +5,9 @@ use Rattle.std.specs.List.{concat}
 use Rattle.std.proofs.lemmas.Bool.{cases_lt}
 use Rattle.std.proofs.lemmas.List.{at_drop_more, at_drop_all, drop_more, drop_all, take_all, length-drop}
 use Rattle.plm_decl.specs.declared.names.Object.{Object}
-use Rattle.plm_decl.specs.declared.names.Procedure.{Procedure}
+use Rattle.plm_decl.specs.declared.names.Names.{Names}
 use Rattle.plm_decl.specs.declared.names.ScreenName.{ScreenName}
-use Rattle.listing_map.specs.ProgramMap.{place_line, object_lines, screen_line, declared_lines, handler_of, handler_line, handler_lines}
+use Rattle.listing_map.specs.ProgramMap.{place_line, object_lines, screen_line, declared_lines, handler_name, handler_line, handler_lines}
 
 pub length-object_lines : (offsets : List ℕ) (number : ℕ) (objects : List Object) → length (object_lines offsets number objects) ≡ length objects
 length-object_lines offsets number [] = refl
@@ -76,16 +76,16 @@ pub names_none : (offsets : List ℕ) (objects : List Object) (done : ℕ) (name
 names_none offsets objects done names j le = at_drop_all (declared_lines (object_lines offsets 0 objects) done) names j le ∙ sym (objects_left offsets objects done)
 
 -- the next interrupt
-pub handlers_from : (number : ℕ) (procedures : List Procedure) → number < 256
-    → handler_lines (256 - number) number procedures ≡ handler_line number (handler_of number procedures) ++ handler_lines (256 - (number + 1)) (number + 1) procedures
+pub handlers_from : (number : ℕ) (names : Names) → number < 256
+    → handler_lines (256 - number) number names ≡ handler_line number (handler_name names number) ++ handler_lines (256 - (number + 1)) (number + 1) names
 unfolding handler_lines
-handlers_from number procedures lt =
+handlers_from number names lt =
     let count : 256 - number ≡ suc (256 - (number + 1)) = omega arith in
-    ap (λ n. handler_lines n number procedures) count
+    ap (λ n. handler_lines n number names) count
 
 -- no interrupt is left
-pub handlers_none : (number : ℕ) (procedures : List Procedure) → 256 ≤ number → handler_lines (256 - number) number procedures ≡ []
+pub handlers_none : (number : ℕ) (names : Names) → 256 ≤ number → handler_lines (256 - number) number names ≡ []
 unfolding handler_lines
-handlers_none number procedures le =
+handlers_none number names le =
     let count : 256 - number ≡ 0 = omega arith in
-    ap (λ n. handler_lines n number procedures) count
+    ap (λ n. handler_lines n number names) count

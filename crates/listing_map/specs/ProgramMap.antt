@@ -1,6 +1,7 @@
 -- The map of a program: its ROM, its names with their places, its handlers, its stack and its start.
-use Rattle.std.specs.Prelude.{ℕ, zero, suc, ◌+◌, ◌/◌, max, if◌then◌else◌, List, [], ◌∷◌, ◌++◌, length, drop, slice_index, slice_range, Option, Some, None, codes, decimal}
+use Rattle.std.specs.Prelude.{ℕ, zero, suc, ◌+◌, ◌/◌, max, List, [], ◌∷◌, ◌++◌, length, drop, slice_get, slice_index, slice_range, Option, Some, None, option_map, codes, decimal}
 use Rattle.std.specs.List.{concat}
+use Rattle.std.specs.Option.{option_map_or}
 use Rattle.word86.specs.declared.page.Page.{Page}
 use Rattle.word86.specs.declared.page.Page.TheVariants.{Monochrome, Colour}
 use Rattle.frames.specs.declared.counting.Stack.{Stack}
@@ -8,7 +9,7 @@ use Rattle.plm_decl.specs.declared.names.Names.{Names}
 use Rattle.plm_decl.specs.declared.names.Object.{Object}
 use Rattle.plm_decl.specs.declared.names.Procedure.{Procedure}
 use Rattle.plm_decl.specs.declared.names.ScreenName.{ScreenName}
-use Rattle.plm_decl.specs.Names.{handles, procedure_of}
+use Rattle.plm_type.specs.Programs.{handler_number}
 use Rattle.layout_link.specs.declared.image.Image.{Image}
 use Rattle.listing_map.specs.Lines.{hex2, hex4, line_end}
 
@@ -38,19 +39,18 @@ abbrev pub declared_lines : List (List ℕ) → ℕ → List ScreenName → List
 declared_lines objects done [] = concat (drop done objects)
 declared_lines objects done (s ∷ ss) = concat (slice_range objects done s.objects_before) ++ screen_line s ++ declared_lines objects (max done s.objects_before) ss
 
--- the name of the first procedure that handles the interrupt of this number
-abbrev pub handler_of : ℕ → List Procedure → Option (List ℕ)
-handler_of number [] = None
-handler_of number (p ∷ ps) = if handles number (procedure_of p) then Some p.path.items else handler_of number ps
+-- the name of the procedure that an interrupt of this number enters
+abbrev pub handler_name : Names → ℕ → Option (List ℕ)
+handler_name names number = option_map_or (λ q. option_map (λ (p : Procedure). p.path.items) (slice_get names.procedures.items q)) (handler_number names number) None
 
 abbrev pub handler_line : ℕ → Option (List ℕ) → List ℕ
 handler_line number None = []
 handler_line number (Some name) = codes "HANDLER " ++ hex2 number ++ codes " " ++ name ++ line_end
 
--- a line for each interrupt that has a handler, of `count` from this number on
-unfoldable pub handler_lines : ℕ → ℕ → List Procedure → List ℕ
-handler_lines zero number procedures = []
-handler_lines (suc count) number procedures = handler_line number (handler_of number procedures) ++ handler_lines count (number + 1) procedures
+-- a line for each interrupt that enters a procedure, of `count` from this number on
+unfoldable pub handler_lines : ℕ → ℕ → Names → List ℕ
+handler_lines zero number names = []
+handler_lines (suc count) number names = handler_line number (handler_name names number) ++ handler_lines count (number + 1) names
 
 -- the most bytes that main and an interrupt have on the stack
 abbrev pub stack_line : Stack → List ℕ
@@ -62,4 +62,4 @@ start_line turns = codes "START " ++ decimal turns ++ line_end
 
 abbrev pub map_text : Image → Names → List ℕ
 map_text image names = rom_line (length image.rom.items) ++ declared_lines (object_lines image.placement.offsets.items 0 names.objects.items) 0 names.screen_names.items
-    ++ handler_lines 256 0 names.procedures.items ++ (stack_line image.stack ++ start_line image.start_turns)
+    ++ handler_lines 256 0 names ++ (stack_line image.stack ++ start_line image.start_turns)

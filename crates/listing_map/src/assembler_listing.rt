@@ -22,6 +22,7 @@ use layout_link::{Image, RESET, start_up_room};
 use marks::{Mark, Sort, marks_of, sort_of};
 use mnemonics::{put_instruction, put_number};
 use plm_decl::{Names, Statement};
+use plm_type::Program;
 use select::{RowPlaces, select};
 use std::alloc::{AllocError, Global};
 use word86::{Fault, Width};
@@ -454,11 +455,11 @@ impl Writing<'_, '_> {
 }
 
 /// The map's lines.
-fn map_lines(alloc: Global, image: &Image, names: &Names) -> Result<Vec<u8>, AllocError>
-    ensures { IfOk result (λ lines. lines.items ≡ map_text image.now names.now) }
+fn map_lines(alloc: Global, image: &Image, program: &Program) -> Result<Vec<u8>, AllocError>
+    ensures { IfOk result (λ lines. lines.items ≡ map_text image.now program.now.names) }
 {
     let mut lines = Collected::new(alloc);
-    match map(image, names, &mut lines) {
+    match map(image, program, &mut lines) {
         Ok(()) => {
             let Collected { text, .. } = lines;
             Ok(text)
@@ -491,12 +492,13 @@ fn parts_text(listed: Listed<'_>, sources: &[NamedText<'_>]) -> Result<Vec<u8>, 
 pub fn code_listing(
     alloc: Global,
     sources: &[NamedText<'_>],
-    names: &Names,
+    program: &Program,
     code: &Code,
     image: &Image,
 ) -> Result<Vec<u8>, Fault>
-    ensures { IfOk result (λ listed. (behind : List ℕ) × (listed.items ≡ map_text image.now names.now ++ behind)) }
+    ensures { IfOk result (λ listed. (behind : List ℕ) × (listed.items ≡ map_text image.now program.now.names ++ behind)) }
 {
+    let names = program.names();
     let listed = Listed {
         alloc,
         names,
@@ -505,7 +507,7 @@ pub fn code_listing(
         begin: parts_begin(alloc, names, code)?,
     };
     let behind = parts_text(listed, sources)?;
-    let mut text = map_lines(alloc, image, names)?;
+    let mut text = map_lines(alloc, image, program)?;
     text.extend_from_slice(&behind)?;
     Ok(text)
 }

@@ -5,7 +5,6 @@ ghost use Rattle.std.specs.List.{concat};
 ghost use Rattle.word86.specs.Sink.{Writes};
 ghost use Rattle.word86.specs.declared.fault.Fault.TheVariants.{At};
 ghost use Rattle.word86.specs.declared.number.Number.TheVariants.{E704};
-ghost use Rattle.plm_decl.specs.Names.{procedure_of, handles};
 ghost use Rattle.listing_map.specs.ProgramMap.{rom_line, place_line, object_lines, page_word, screen_line, declared_lines, handler_line, handler_lines, stack_line, start_line, map_text};
 ghost use Rattle.listing_map.specs.ProgramMap as spec;
 
@@ -14,38 +13,39 @@ use crate::numerals::{hex_byte, hex_low_word, hex_word};
 use crate::pieces::{put_five, put_four, put_three};
 use itoa::Buffer;
 use layout_link::Image;
-use plm_decl::{Names, Object, Procedure, ScreenName};
+use plm_decl::{Names, Object, ScreenName};
+use plm_type::Program;
 use word86::{Fault, Page, Sink, SinkFault};
 
 /// Writes the map of a program: how large its ROM is, each object and each name on a page of the screen with its place and its
 /// size, the procedures that handle interrupts, the most bytes on the stack, and the turns of its start. A name's place on a page
 /// counts from the page's first byte. The one refusal is E704, where the sink failed; what it took is then a beginning of the
 /// text. It takes no memory.
-pub fn map<S: Sink>(image: &Image, names: &Names, sink: &mut S) -> Result<(), Fault>
-    ensures text { Writes (S.taken sink.old) (S.taken sink.new) (S.failures sink.old) (S.failures sink.new) (map_text image.now names.now) result }
+pub fn map<S: Sink>(image: &Image, program: &Program, sink: &mut S) -> Result<(), Fault>
+    ensures text { Writes (S.taken sink.old) (S.taken sink.new) (S.failures sink.old) (S.failures sink.new) (map_text image.now program.now.names) result }
     ensures fault { IfErr result (λ e. e ≡ At 0 1 E704) }
 {
-    match put_map(sink, image, names) {
+    match put_map(sink, image, program) {
         Ok(()) => Ok(()),
         Err(_) => Err(CANNOT_WRITE),
     }
 }
 
-fn put_map<S: Sink>(sink: &mut S, image: &Image, names: &Names) -> Result<(), SinkFault>
-    ensures { Writes (S.taken sink.old) (S.taken sink.new) (S.failures sink.old) (S.failures sink.new) (map_text image.now names.now) result }
+fn put_map<S: Sink>(sink: &mut S, image: &Image, program: &Program) -> Result<(), SinkFault>
+    ensures { Writes (S.taken sink.old) (S.taken sink.new) (S.failures sink.old) (S.failures sink.new) (map_text image.now program.now.names) result }
 {
-    match put_named(sink, image, names) {
+    match put_named(sink, image, program) {
         Ok(()) => put_run(sink, image),
         Err(fault) => Err(fault),
     }
 }
 
 /// Writes the lines before that of the stack.
-fn put_named<S: Sink>(sink: &mut S, image: &Image, names: &Names) -> Result<(), SinkFault>
-    ensures { Writes (S.taken sink.old) (S.taken sink.new) (S.failures sink.old) (S.failures sink.new) (rom_line (length image.now.rom.items) ++ declared_lines (object_lines image.now.placement.offsets.items 0 names.now.objects.items) 0 names.now.screen_names.items ++ handler_lines 256 0 names.now.procedures.items) result }
+fn put_named<S: Sink>(sink: &mut S, image: &Image, program: &Program) -> Result<(), SinkFault>
+    ensures { Writes (S.taken sink.old) (S.taken sink.new) (S.failures sink.old) (S.failures sink.new) (rom_line (length image.now.rom.items) ++ declared_lines (object_lines image.now.placement.offsets.items 0 program.now.names.objects.items) 0 program.now.names.screen_names.items ++ handler_lines 256 0 program.now.names) result }
 {
-    match put_placed(sink, image, names) {
-        Ok(()) => put_handlers(sink, names.procedures.as_slice()),
+    match put_placed(sink, image, program.names()) {
+        Ok(()) => put_handlers(sink, program),
         Err(fault) => Err(fault),
     }
 }
@@ -185,46 +185,36 @@ fn put_place<S: Sink>(
     )
 }
 
-/// Writes a line for each interrupt that a procedure handles.
-fn put_handlers<S: Sink>(sink: &mut S, procedures: &[Procedure]) -> Result<(), SinkFault>
-    ensures { Writes (S.taken sink.old) (S.taken sink.new) (S.failures sink.old) (S.failures sink.new) (handler_lines 256 0 procedures.now) result }
+/// Writes a line for each interrupt that enters a procedure.
+fn put_handlers<S: Sink>(sink: &mut S, program: &Program) -> Result<(), SinkFault>
+    ensures { Writes (S.taken sink.old) (S.taken sink.new) (S.failures sink.old) (S.failures sink.new) (handler_lines 256 0 program.now.names) result }
 {
-    for number in 0..256 {
-        if let Err(fault) = put_handler(sink, number, handler_of(procedures, number)) {
+    for number in 0..256u16 {
+        let vector = number as u8;
+        if let Err(fault) = put_handler(sink, vector, handler_name(program, vector)) {
             return Err(fault);
         }
     }
     Ok(())
 }
 
-fn put_handler<S: Sink>(sink: &mut S, number: u16, name: Option<&[u8]>) -> Result<(), SinkFault>
-    requires { number < 256 }
+fn put_handler<S: Sink>(sink: &mut S, number: u8, name: Option<&[u8]>) -> Result<(), SinkFault>
     ensures { Writes (S.taken sink.old) (S.taken sink.new) (S.failures sink.old) (S.failures sink.new) (handler_line number (option_copied name.entry)) result }
 {
-    let [a, b] = hex_byte(number as u8);
+    let [a, b] = hex_byte(number);
     match name {
         Some(name) => put_four(sink, b"HANDLER ", &[a, b, b' '], name, b"\n"),
         None => Ok(()),
     }
 }
 
-/// The name of the first procedure that handles the interrupt of this number.
-fn handler_of(procedures: &[Procedure], number: u16) -> Option<&[u8]>
-    ensures { option_copied result ≡ spec.handler_of number procedures.now }
+/// The name of the procedure that an interrupt of this number enters.
+fn handler_name(program: &Program, number: u8) -> Option<&[u8]>
+    ensures { option_copied result ≡ spec.handler_name program.now.names number }
 {
-    for procedure in procedures {
-        if handles(procedure, number) {
-            return Some(procedure.path.as_slice());
-        }
-    }
-    None
-}
-
-/// Whether an interrupt of this number enters the procedure.
-fn handles(procedure: &Procedure, number: u16) -> bool
-    ensures { result ≡ handles number (procedure_of procedure.now) }
-{
-    procedure.vector() == Some(u32::from(number))
+    let handler = program.handler_number(number)?;
+    let procedure = program.names().procedures.get(handler)?;
+    Some(procedure.path.as_slice())
 }
 
 /// Writes the lines of the stack and of the start.

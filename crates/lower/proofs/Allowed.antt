@@ -1,5 +1,6 @@
 -- The runs of a checked program's code are allowed.
 use Rattle.std.proofs.Common.{◌≡◌, ℕ, zero, suc, Bool, true, false, List, [], ◌∷◌, ◌++◌, Option, Some, None, refl, slice_get}
+use Rattle.lower.proofs.Faultless.{none_of_both}
 use Rattle.std.specs.Prelude.{cond, not, ◌&&◌, is_some, Contains, map}
 use Rattle.plm_decl.specs.declared.names.Variable.{Variable}
 use Rattle.plm_decl.specs.Names.{ProcedureR, declared_location_of}
@@ -15,14 +16,15 @@ use Rattle.plm_type.specs.Statements.{of_locations, of_stray, of_entry}
 use Rattle.plm_decl.specs.Names.{is_external_linkage}
 use Rattle.lower.proofs.Typed.{statements_for, of_body, of_procedure, of_procedures, of_main, of_parameters, body_for, procedure_for}
 use Rattle.lower.proofs.Typed as typed
-use Rattle.plm_type.specs.Programs.{declared_procedures, main_tree, procedures_of}
-use Rattle.lower.specs.Lowering.{has_vector, serves, number_for, vectors_of}
+use Rattle.plm_type.specs.Programs.{declared_procedures, main_tree, procedures_of, handler_number}
+use Rattle.lower.specs.Lowering.{has_vector, serves, vectors_of}
 use Rattle.plm_decl.specs.Names.{vector_of}
 use Rattle.lower.specs.Runs.{RunsLaw}
 use Rattle.lower.proofs.Fitting.{Let}
 use Rattle.lower.proofs.Reached.{main_goes_on, own_end, none_enables, none_halts}
-use Rattle.lower.proofs.Texts.{Within, none_of_both, statements_within, statements_let}
+use Rattle.lower.proofs.Texts.{Within, statements_within, statements_let}
 use Rattle.icode.specs.Code.{procedure_or_none}
+use Rattle.lower.proofs.Handlers.{handler_serves}
 
 -- ---- a procedure
 
@@ -78,7 +80,7 @@ runs_allowed program names checked good =
     let quiet : (p q : ℕ) → serves vectors p ≡ true → Leads (text_graph ps) (p ∷ []) q → Let (body_of (slice_get procedures q)) → ⊥ = λ p q s l b. checked.lets_nothing_in p (serves_one ps p s, (q, l, body_lets variables ps sizes ps q b)) in
     record {
       main_goes_on = λ offsets objects n a c comes over. main_goes_on sizes procedures vectors main good offsets objects n a c comes over;
-      none_enables = λ offsets objects v n a c d comes e. none_enables sizes procedures vectors main good offsets objects (text_graph ps) has quiet v n a c d comes e;
-      none_halts = λ offsets objects v n a c d comes e. none_halts sizes procedures vectors main good offsets objects (text_graph ps) has quiet v n a c d comes e;
-      own_end = λ offsets objects v n a r k b ws comes e. own_end sizes procedures vectors main good offsets objects (procedure_or_none (number_for vectors v)) n a r k b ws comes e;
+      none_enables = λ offsets objects v n a c d comes e. none_enables sizes procedures vectors main good offsets objects (text_graph ps) has quiet (handler_number names v) (handler_serves names v) n a c d comes e;
+      none_halts = λ offsets objects v n a c d comes e. none_halts sizes procedures vectors main good offsets objects (text_graph ps) has quiet (handler_number names v) (handler_serves names v) n a c d comes e;
+      own_end = λ offsets objects v n a r k b ws comes e. own_end sizes procedures vectors main good offsets objects (procedure_or_none (handler_number names v)) n a r k b ws comes e;
     }

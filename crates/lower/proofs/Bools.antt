@@ -3,9 +3,6 @@ use Rattle.std.proofs.Common.{◌≡◌, ℕ, ◌≤◌, Bool, true, false, Some
 use Rattle.std.specs.Prelude.{◌&&◌, ◌||◌, nat_lt, nat_le, not}
 use Rattle.std.proofs.lemmas.Bool.Decides.{nat_tests}
 
-pub true_false : true ≡ false → ⊥
-true_false e = cc
-
 pub not_less : (a b : ℕ) → nat_le a b ≡ not (nat_lt b a)
 not_less a b = grind (arith, nat_tests)
 

@@ -1,5 +1,7 @@
 -- Typed trees have no more nodes than the resolved ones that they come from.
-use Rattle.std.proofs.Common.{◌≡◌, ℕ, ◌+◌, ◌≤◌, Bool, true, false, List, [], ◌∷◌, ◌++◌, Option, Some, None, refl, ap, arith, slice_get, take, true≢false}
+use Rattle.std.proofs.Common.{◌≡◌, ℕ, ◌+◌, ◌≤◌, Bool, true, false, List, [], ◌∷◌, ◌++◌, Option, Some, None, arith, slice_get, take}
+use Rattle.std.proofs.lemmas.Bool.{cond_both}
+use Rattle.lower.proofs.Faultless.{not_none, none_of_both}
 use Rattle.std.specs.Prelude.{cond}
 use Rattle.word86.specs.declared.width.Width.{Width}
 use Rattle.word86.specs.declared.width.Width.TheVariants as width
@@ -26,7 +28,8 @@ use Rattle.plm_type.specs.Shapes.{designated, fixed_place, read_of, store_to, me
 use Rattle.word86.specs.declared.number.Number.TheVariants.{E401, E402}
 use Rattle.plm_type.specs.Faults.{fault_unless, port_faults}
 use Rattle.plm_type.specs.Expressions.{wanted_beside}
-use Rattle.plm_type.specs.Statements.{wanted_of_return, variable_meant, wanted_among, assignment, targets, signed_step, integer_step}
+use Rattle.plm_type.specs.Statements.{wanted_of_return, variable_meant, wanted_among, assignment, targets}
+use Rattle.plm_type.specs.Steps.{signed_step, integer_step}
 use Rattle.plm_type.specs.Trees.{use_read, use_stored, refer, strided, to_port, operated, read_port, shifted, builtin_value}
 use Rattle.plm_type.specs.Types.{width_of, is_integer, may_be_numbers}
 use Rattle.plm_type.specs.Typing.{is_plain, is_measure, is_target, first_type, other_types, variable_type, wanted_arguments, parameters_wanted}
@@ -35,19 +38,6 @@ use Rattle.plm_type.specs.Nodes.{expression_nodes, expressions_nodes, selector_n
 use Rattle.lower.proofs.Typed.{tree_of, type_of, is_turned, wanted_tree, given_trees, given_types, trees_of, selector_trees, value_of, location_of, target_of, target_type, target_faults, measured_value, argument_value, reference_value, of_number, of_count, of_bound, target_types, target_trees, of_targets, called, of_index, step_for, of_step, statement_for, statements_for, of_statement, of_statements}
 use Rattle.lower.proofs.Rooms as typed
 use Rattle.lower.proofs.Integers.{turned_count}
-
--- ---- lists without items
-
-pub not_none : (x : Found) (xs : List Found) → x ∷ xs ≡ [] → ⊥
-not_none x xs e = true≢false (ap (λ (l : List Found). elim l [ [] ↦ false | g ∷ hs ↦ true ]) e)
-
-pub none_left : (xs ys : List Found) → xs ++ ys ≡ [] → xs ≡ []
-none_left [] ys e = refl
-none_left (x ∷ xs) ys e = absurd (not_none x (xs ++ ys) e)
-
-pub none_right : (xs ys : List Found) → xs ++ ys ≡ [] → ys ≡ []
-none_right [] ys e = e
-none_right (x ∷ xs) ys e = absurd (not_none x (xs ++ ys) e)
 
 -- ---- references
 
@@ -278,13 +268,9 @@ module _ (variables : List Variable) (procedures : List ProcedureR) (objects : L
 
   -- ---- targets and values of statements
 
-  either : (m : Bool) (n a b : ℕ) → n ≤ a → n ≤ b → n ≤ cond m a b
-  either true n a b x y = x
-  either false n a b x y = y
-
   no_port : (p : Position) (b : Builtin) (s : SelectorR) → port_faults module_index p b s [] ≡ [] → 1 ≤ cond (is_target b) 0 (1 + 0 + selector_nodes s)
-  no_port p builtin.Output s e = absurd (not_none _ [] (none_left (fault_unless module_index false E402 p) (fault_unless module_index (may_be_numbers (take 1 [])) E401 p) (none_right (fault_unless module_index (is_plain s) E401 p) _ (none_right [] _ e))))
-  no_port p builtin.OutputWord s e = absurd (not_none _ [] (none_left (fault_unless module_index false E402 p) (fault_unless module_index (may_be_numbers (take 1 [])) E401 p) (none_right (fault_unless module_index (is_plain s) E401 p) _ (none_right [] _ e))))
+  no_port p builtin.Output s e = absurd (not_none _ [] (none_of_both (fault_unless module_index false E402 p) (fault_unless module_index (may_be_numbers (take 1 [])) E401 p) (none_of_both (fault_unless module_index (is_plain s) E401 p) _ (none_of_both [] _ e).1).1).0)
+  no_port p builtin.OutputWord s e = absurd (not_none _ [] (none_of_both (fault_unless module_index false E402 p) (fault_unless module_index (may_be_numbers (take 1 [])) E401 p) (none_of_both (fault_unless module_index (is_plain s) E401 p) _ (none_of_both [] _ e).1).1).0)
   no_port p builtin.Length s e = omega arith
   no_port p builtin.Last s e = omega arith
   no_port p builtin.Size s e = omega arith
@@ -304,10 +290,10 @@ module _ (variables : List Variable) (procedures : List ProcedureR) (objects : L
       → typed.target_nodes (to_port b (trees es)) ≤ cond (is_target b) (expressions_nodes es) (1 + expressions_nodes es + selector_nodes s)
   tight_port p b no_expressions s e = no_port p b s e
   tight_port p b (expressions d no_expressions) s e =
-      let h = tree_count d in either (is_target b) (typed.nodes (tree d)) (expression_nodes d + 0) (1 + (expression_nodes d + 0) + selector_nodes s) (omega (arith, h)) (omega (arith, h))
+      let h = tree_count d in cond_both (is_target b) (expression_nodes d + 0) (1 + (expression_nodes d + 0) + selector_nodes s) (λ n. typed.nodes (tree d) ≤ n) (λ _. omega (arith, h)) (λ _. omega (arith, h))
   tight_port p b (expressions c (expressions d es)) s e =
       let h = positive c in
-      either (is_target b) 1 (expression_nodes c + (expression_nodes d + expressions_nodes es)) (1 + (expression_nodes c + (expression_nodes d + expressions_nodes es)) + selector_nodes s) (omega (arith, h)) (omega (arith, h))
+      cond_both (is_target b) (expression_nodes c + (expression_nodes d + expressions_nodes es)) (1 + (expression_nodes c + (expression_nodes d + expressions_nodes es)) + selector_nodes s) (λ n. 1 ≤ n) (λ _. omega (arith, h)) (λ _. omega (arith, h))
 
   checked_target : (x : ReferenceR') → target_faults variables procedures objects module_index x ≡ [] → typed.target_nodes (target_of variables procedures objects module_index x) ≤ target_nodes x
   checked_target (Use p (binding.Variable v) es s) e =
@@ -332,8 +318,8 @@ module _ (variables : List Variable) (procedures : List ProcedureR) (objects : L
   targets_count : (xs : ReferencesR) → of_targets variables procedures objects module_index xs ≡ [] → sum_of (target_trees variables procedures objects module_index xs) ≤ targets_nodes xs
   targets_count no_references e = omega arith
   targets_count (references x xs) e =
-      let h = checked_target x (none_left (target_faults variables procedures objects module_index x) (of_targets variables procedures objects module_index xs) e) in
-      let i = targets_count xs (none_right (target_faults variables procedures objects module_index x) (of_targets variables procedures objects module_index xs) e) in
+      let h = checked_target x (none_of_both (target_faults variables procedures objects module_index x) (of_targets variables procedures objects module_index xs) e).0 in
+      let i = targets_count xs (none_of_both (target_faults variables procedures objects module_index x) (of_targets variables procedures objects module_index xs) e).1 in
       omega (arith, h, i)
 
   wanted_count : (t : Option ScalarType) (d : ExpressionR) → typed.nodes (wanted_tree variables procedures objects module_index t d) ≤ expression_nodes d
@@ -403,7 +389,7 @@ module _ (variables : List Variable) (procedures : List ProcedureR) (objects : L
   mutual
     statement_count : (around : Around) (s : StatementR) → faults_for around s ≡ [] → typed.statement_nodes (statement_for variables procedures objects module_index around s) ≤ statement_nodes s
     statement_count around (EmptyR p) n = omega arith
-    statement_count around (AssignR xs e) n = assignment_count xs (wanted_among (target_types variables procedures objects module_index xs)) e (none_left (of_targets variables procedures objects module_index xs) _ n)
+    statement_count around (AssignR xs e) n = assignment_count xs (wanted_among (target_types variables procedures objects module_index xs)) e (none_of_both (of_targets variables procedures objects module_index xs) _ n).0
     statement_count around (CallR p x) n = let h = called_count p x in omega (arith, h)
     statement_count around (ReturnR p) n = omega arith
     statement_count around (ReturnValueR p e) n = let h = wanted_count (wanted_of_return around) e in omega (arith, h)
@@ -412,22 +398,22 @@ module _ (variables : List Variable) (procedures : List ProcedureR) (objects : L
     statement_count around (HaltR p) n = omega arith
     statement_count around (IfR p e s) n =
         let h = tree_count e in
-        let i = statement_count around s (none_right (number_faults p e) (faults_for around s) n) in
+        let i = statement_count around s (none_of_both (number_faults p e) (faults_for around s) n).1 in
         omega (arith, h, i)
     statement_count around (IfElseR p e s t) n =
-        let both = none_right (number_faults p e) (faults_for around s ++ faults_for around t) n in
+        let both = (none_of_both (number_faults p e) (faults_for around s ++ faults_for around t) n).1 in
         let h = tree_count e in
-        let i = statement_count around s (none_left (faults_for around s) (faults_for around t) both) in
-        let j = statement_count around t (none_right (faults_for around s) (faults_for around t) both) in
+        let i = statement_count around s (none_of_both (faults_for around s) (faults_for around t) both).0 in
+        let j = statement_count around t (none_of_both (faults_for around s) (faults_for around t) both).1 in
         omega (arith, h, i, j)
     statement_count around (DoR p ss) n = let h = statements_count around ss n in omega (arith, h)
     statement_count around (WhileR p e ss) n =
         let h = tree_count e in
-        let i = statements_count around ss (none_right (number_faults p e) (faults_among around ss) n) in
+        let i = statements_count around ss (none_of_both (number_faults p e) (faults_among around ss) n).1 in
         omega (arith, h, i)
     statement_count around (CaseR p e ss) n =
         let h = tree_count e in
-        let i = statements_count around ss (none_right (count_faults p e) (faults_among around ss) n) in
+        let i = statements_count around ss (none_of_both (count_faults p e) (faults_among around ss) n).1 in
         omega (arith, h, i)
     statement_count around (IterateR p q m a b s ss) n =
         let t = variable_type (variable_meant variables m) in
@@ -435,13 +421,15 @@ module _ (variables : List Variable) (procedures : List ProcedureR) (objects : L
         let h = wanted_count t a in
         let i = wanted_count t b in
         let j = step_count t p s in
-        let k = statements_count around ss (none_right last (faults_among around ss) (none_right (bound_faults t p b) (last ++ faults_among around ss) (none_right (bound_faults t p a) (bound_faults t p b ++ (last ++ faults_among around ss))
-        (none_right (of_index variables procedures objects module_index p q m) (bound_faults t p a ++ (bound_faults t p b ++ (last ++ faults_among around ss))) n)))) in
+        let after_index = (none_of_both (of_index variables procedures objects module_index p q m) (bound_faults t p a ++ (bound_faults t p b ++ (last ++ faults_among around ss))) n).1 in
+        let after_first = (none_of_both (bound_faults t p a) (bound_faults t p b ++ (last ++ faults_among around ss)) after_index).1 in
+        let after_bound = (none_of_both (bound_faults t p b) (last ++ faults_among around ss) after_first).1 in
+        let k = statements_count around ss (none_of_both last (faults_among around ss) after_bound).1 in
         omega (arith, h, i, j, k)
 
     pub statements_count : (around : Around) (ss : StatementsR) → faults_among around ss ≡ [] → typed.statements_nodes (statements_for variables procedures objects module_index around ss) ≤ statements_nodes ss
     statements_count around no_statements n = omega arith
     statements_count around (statements s ss) n =
-        let h = statement_count around s (none_left (faults_for around s) (faults_among around ss) n) in
-        let i = statements_count around ss (none_right (faults_for around s) (faults_among around ss) n) in
+        let h = statement_count around s (none_of_both (faults_for around s) (faults_among around ss) n).0 in
+        let i = statements_count around ss (none_of_both (faults_for around s) (faults_among around ss) n).1 in
         omega (arith, h, i)

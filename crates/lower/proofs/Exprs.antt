@@ -1,7 +1,8 @@
 -- The code of an expression does what its rest does.
-use Rattle.std.proofs.Common.{◌≡◌, ℕ, suc, ◌+◌, ◌*◌, ◌%◌, ◌<◌, ◌≤◌, Bool, true, false, cond, List, [], ◌∷◌, ◌++◌, length, drop, Option, Some, None, refl, sym, ap, ◌∙◌, subst, arith, slice_get, length-append}
+use Rattle.std.proofs.Common.{◌≡◌, ℕ, suc, ◌+◌, ◌*◌, ◌%◌, ◌<◌, ◌≤◌, Bool, true, false, cond, List, [], ◌∷◌, ◌++◌, length, drop, Option, Some, None, refl, sym, ap, ◌∙◌, subst, arith, slice_get, length-append, mul_comm}
 use Rattle.std.specs.Prelude.{nat_eq}
 use Rattle.std.proofs.lemmas.Nat.{mul-mod_second}
+use Rattle.std.proofs.lemmas.Bool.{eqb-true}
 use Rattle.word86.specs.declared.width.Width.{Width}
 use Rattle.word86.specs.declared.width.Width.TheVariants as widths
 use Rattle.word86.specs.declared.operation.UnaryOperation.{UnaryOperation}
@@ -99,18 +100,10 @@ pub two_sums : (o p q b c : ℕ) → b % 65536 ≡ p % 65536 → c % 65536 ≡ q
 two_sums o p q b c e f = omega (arith, e, f)
 
 strided : (v stride : ℕ) → (v * (stride % 65536)) % 65536 % 65536 ≡ (stride * v) % 65536
-strided v stride = let c : v * stride ≡ stride * v = mul_swap v stride in let e = mul-mod_second v stride 65536 in omega (arith, e, c) where
-  mul_swap : (a b : ℕ) → a * b ≡ b * a
-  mul_swap a b = omega arith
+strided v stride = let c : v * stride ≡ stride * v = mul_comm v stride in let e = mul-mod_second v stride 65536 in omega (arith, e, c)
 
 by_one : (v stride : ℕ) → stride ≡ 1 → v % 65536 ≡ (stride * v) % 65536
 by_one v stride e = let c : stride * v ≡ 1 * v = ap (λ n. n * v) e in omega (arith, c)
-
-is_one : (n : ℕ) → nat_eq n 1 ≡ true → n ≡ 1
-is_one n h = grind (arith, Rattle.std.proofs.lemmas.Bool.Decides.nat_tests)
-
-is_zero : (n : ℕ) → nat_eq n 0 ≡ true → n ≡ 0
-is_zero n h = grind (arith, Rattle.std.proofs.lemmas.Bool.Decides.nat_tests)
 
 from_alone : (b offset further more : ℕ) → b < 65536 → offset ≡ further → offset ≡ 0 → b ≡ (b + further) % 65536
 from_alone b offset further more lt e z = omega (arith, lt, e, z)
@@ -244,7 +237,7 @@ module _ (x : Setting) where
   -- the accumulator counts elements, and then bytes
   pub scaled_then : (n f stride v : ℕ) → f ≤ 1 → (b : Bool) → nat_eq stride 1 ≡ b → (R : Rest) (r : Routine) (p : ℕ) (ws : List Word) → HasAt (x.code r) p (cond b [] (op.BinaryConstant binary.Multiply widths.Word (stride % 65536) ∷ []))
       → ((more : ℕ) → more % 65536 ≡ (stride * v) % 65536 → S x 2 n f R (At r (p + length (cond b [] (op.BinaryConstant binary.Multiply widths.Word (stride % 65536) ∷ []))) more ws)) → S x 2 n (suc f) R (At r p v ws)
-  scaled_then n f stride v le true e R r p ws has k = eased x 2 2 n f (suc f) R (At r p v ws) (omega arith) (omega arith) (moved_to 2 n f R r (p + 0) p v ws (omega arith) (k v (by_one v stride (is_one stride e))))
+  scaled_then n f stride v le true e R r p ws has k = eased x 2 2 n f (suc f) R (At r p v ws) (omega arith) (omega arith) (moved_to 2 n f R r (p + 0) p v ws (omega arith) (k v (by_one v stride (eqb-true stride 1 e))))
   scaled_then n f stride v le false e R r p ws has k =
       let z = (v * (stride % 65536)) % 65536 in
       down x 2 n f R (At r p v ws) (At r (p + 1) z ws) (acts x r p v ws (op.BinaryConstant binary.Multiply widths.Word (stride % 65536)) has.0) (soon n f f R (At r (p + 1) z ws) (omega arith) (k z (strided v stride)))
@@ -267,7 +260,7 @@ module _ (x : Setting) where
   moved_then : (n offset b z : ℕ) (c : Bool) → nat_eq offset 0 ≡ c → (R : Rest) (r : Routine) (p : ℕ) (ws : List Word) → (offset ≡ 0 → b ≡ z) → (b + offset % 65536) % 65536 ≡ z → HasAt (x.code r) p (cond c [] (op.BinaryConstant binary.Add widths.Word (offset % 65536) ∷ []))
       → S x (suc x.room) n 1 R (At r (p + length (cond c [] (op.BinaryConstant binary.Add widths.Word (offset % 65536) ∷ []))) z ws) → T x n 2 R (At r p b ws)
   moved_then n offset b z true e R r p ws still on has k =
-      let h : S x (suc x.room) n 1 R (At r p b ws) = subst (λ y. S x (suc x.room) n 1 R (At r p y ws)) (sym (still (is_zero offset e))) (moved_to (suc x.room) n 1 R r (p + 0) p z ws (omega arith) k) in
+      let h : S x (suc x.room) n 1 R (At r p b ws) = subst (λ y. S x (suc x.room) n 1 R (At r p y ws)) (sym (still (eqb-true offset 0 e))) (moved_to (suc x.room) n 1 R r (p + 0) p z ws (omega arith) k) in
       then_ x (suc x.room) n 1 2 R (At r p b ws) (omega arith) (omega arith) h
   moved_then n offset b z false e R r p ws still on has k =
       soon n 2 2 R (At r p b ws) (omega arith)
@@ -278,7 +271,7 @@ module _ (x : Setting) where
   located_then : (n offset b z : ℕ) (c : Bool) → nat_eq offset 0 ≡ c → (R Q : Rest) → N x R ≡ Silent Q → (r : Routine) (p : ℕ) (ws : List Word) → (offset ≡ 0 → b ≡ z) → (b + offset % 65536) % 65536 ≡ z → HasAt (x.code r) p (cond c [] (op.BinaryConstant binary.Add widths.Word (offset % 65536) ∷ []))
       → S x x.room n 2 Q (At r (p + length (cond c [] (op.BinaryConstant binary.Add widths.Word (offset % 65536) ∷ []))) z ws) → T x n 2 R (At r p b ws)
   located_then n offset b z true e R Q u r p ws still on has k =
-      let h : S x x.room n 2 Q (At r p b ws) = subst (λ y. S x x.room n 2 Q (At r p y ws)) (sym (still (is_zero offset e))) (moved_to x.room n 2 Q r (p + 0) p z ws (omega arith) k) in
+      let h : S x x.room n 2 Q (At r p b ws) = subst (λ y. S x x.room n 2 Q (At r p y ws)) (sym (still (eqb-true offset 0 e))) (moved_to x.room n 2 Q r (p + 0) p z ws (omega arith) k) in
       then_ x (suc x.room) n 2 2 R (At r p b ws) (omega arith) (omega arith) (up x x.room n 2 (omega arith) R Q (At r p b ws) u h)
   located_then n offset b z false e R Q u r p ws still on has k =
       soon n 2 2 R (At r p b ws) (omega arith)

@@ -45,7 +45,7 @@ entries_level : (before : ℕ) (cases : List (List Instruction)) → behind 0 (e
 entries_level before [] = refl
 entries_level before (c ∷ cs) = entries_level (before + length c) cs
 
-entries_length : (before : ℕ) (cases : List (List Instruction)) → length (entries before cases) ≡ length cases
+pub entries_length : (before : ℕ) (cases : List (List Instruction)) → length (entries before cases) ≡ length cases
 entries_length before [] = refl
 entries_length before (c ∷ cs) = ap suc (entries_length (before + length c) cs)
 
@@ -192,9 +192,9 @@ module _ (MayCall : ℕ → Type 0) (Enables Finishes : Type 0) (Spot : ℕ → 
       let rest = spots_back p xs ys level s in
       fits_then p 0 0 xs ys (f p (spots_front p xs ys s) (subst Spot (omega arith) (spots_first (p + length xs) ys rest))) level (g (p + length xs) rest (subst Spot (omega (arith, l)) end))
 
-  pub repeated_fits : (condition body : List Instruction) (t : Test) (exit : ℕ) → Calm 0 condition → behind 0 condition ≡ popped t → asked_constant t < 65536 → behind 0 body ≡ 0 → Fitting 0 body
+  pub while_loop_fits : (condition body : List Instruction) (t : Test) (exit : ℕ) → Calm 0 condition → behind 0 condition ≡ popped t → asked_constant t < 65536 → behind 0 body ≡ 0 → Fitting 0 body
       → Fitting exit (condition ++ (op.AheadUnless t (length body + 1 + exit) ∷ (body ++ op.Back (length condition + length body + 2) ∷ [])))
-  repeated_fits condition body t exit f up word level fits p s end =
+  while_loop_fits condition body t exit f up word level fits p s end =
       let n = length body + 1 + exit in
       let back = op.Back (length condition + length body + 2) ∷ [] in
       let lc = length-append condition (op.AheadUnless t n ∷ (body ++ back)) in

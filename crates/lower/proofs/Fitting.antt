@@ -10,7 +10,7 @@ use Rattle.lower.specs.Expressions.{operand_of, place_of, beside, stands_to, tes
 use Rattle.lower.specs.Statements.{Kind, OfMain, Called, Giving, Serving, returning, narrowed, within, next_round, are_silent, over, all_of, switching, exit_before, statement_code, statements_code, cases_code}
 use Rattle.lower.specs.Well.{MayReturn, IsStatement, AreStatements}
 use Rattle.lower.proofs.Heights.{Keeps, expression_keeps, dropped_keeps, targets_keep}
-use Rattle.lower.proofs.Fits.{Fits, Calm, Fitting, AreLevel, level_then, tested_level, choosing_level, switching_level, next_level, fits_then, choosing_fits, one_then_more, repeated_fits, switching_fits, case_fits, counted_fits}
+use Rattle.lower.proofs.Fits.{Fits, Calm, Fitting, AreLevel, level_then, tested_level, choosing_level, switching_level, next_level, fits_then, choosing_fits, one_then_more, while_loop_fits, switching_fits, case_fits, counted_fits}
 use Rattle.lower.proofs.Calm.{expression_calm, dropped_calm, targets_calm, beside_calm, operand_word, condition_calm, bound_word, test_word, beside_up, condition_up}
 use Rattle.lower.proofs.Stmts.{silents_code}
 
@@ -146,7 +146,7 @@ module _ (MayCall : ℕ → Type 0) (Enables : Type 0) (Spot : ℕ → Type 0) (
         (statements_fit arm good.1 (λ h. lets (inl h)) arm_exit) (statements_fit other good.2 (λ h. lets (inr h)) exit)
     statement_fits (Block ss) good lets exit = statements_fit ss good lets exit
     statement_fits (While left c ss) good lets exit =
-        repeated_fits MayCall Enables (IsServing around) Spot (condition_code procedures c) (statements_code procedures around 0 ss) (test_of c) exit (condition_calm MayCall Enables (IsServing around) Spot sizes procedures c good.1) (condition_up procedures c)
+        while_loop_fits MayCall Enables (IsServing around) Spot (condition_code procedures c) (statements_code procedures around 0 ss) (test_of c) exit (condition_calm MayCall Enables (IsServing around) Spot sizes procedures c good.1) (condition_up procedures c)
         (test_word MayCall Enables (IsServing around) Spot sizes procedures c good.1) (statements_level procedures around ss 0) (statements_fit ss good.2 lets 0)
     statement_fits (Case e ss) good lets exit =
         one_then_more MayCall Enables (IsServing around) Spot false (expression_code procedures e) (switching (cases_code procedures around exit ss) exit) exit (λ h. cc) (expression_keeps procedures e 0)

@@ -1,32 +1,17 @@
 -- How many statements there are up to the last one that has code.
-use Rattle.std.proofs.Common.{◌≡◌, ℕ, zero, suc, ◌<◌, Bool, true, false, ◌&&◌, List, [], ◌∷◌, length, drop, get_or, nat_le, refl, ap, sym, ◌∙◌, arith, true≢false}
+use Rattle.std.proofs.Common.{◌≡◌, ℕ, zero, suc, ◌<◌, true, false, ◌&&◌, List, [], ◌∷◌, length, drop, get_or, nat_le, refl, ap, sym, ◌∙◌, arith}
 use Rattle.std.proofs.Math.Dec.{leb-zero, leb-suc-zero, leb-suc-suc}
+use Rattle.std.proofs.lemmas.Bool.{and_parts, and_left, and_right}
 use Rattle.std.specs.Global.{Box}
 use Rattle.plm_type.specs.declared.program.Statement.{Statement}
 use Rattle.plm_type.specs.View.{statement_of, statements_of}
 use Rattle.lower.specs.Statements.{is_silent, are_silent}
 
-and_left : (a b : Bool) → (a && b) ≡ true → a ≡ true
-and_left true b h = refl
-and_left false b h = h
-
-and_right : (a b : Bool) → (a && b) ≡ true → b ≡ true
-and_right true b h = h
-and_right false b h = absurd (true≢false (sym h))
-
-and_false : (a b : Bool) → b ≡ false → (a && b) ≡ false
-and_false true b h = h
-and_false false b h = refl
-
-first_false : (a b : Bool) → a ≡ false → (a && b) ≡ false
-first_false true b h = absurd (true≢false h)
-first_false false b h = refl
-
 -- what comes after nothing but silent statements is silent
 pub silent_behind : (ss : List (Box Statement)) (k : ℕ) → are_silent (statements_of ss) ≡ true → are_silent (statements_of (drop k ss)) ≡ true
 silent_behind ss zero h = h
 silent_behind [] (suc k) h = refl
-silent_behind (s ∷ ss) (suc k) h = silent_behind ss k (and_right (is_silent (statement_of s.value)) (are_silent (statements_of ss)) h)
+silent_behind (s ∷ ss) (suc k) h = silent_behind ss k (and_parts (is_silent (statement_of s.value)) (are_silent (statements_of ss)) h).1
 
 -- one more silent statement
 pub silent_at : (ss : List (Box Statement)) (k : ℕ) (d : Box Statement) → k < length ss → is_silent (statement_of (get_or ss k d).value) ≡ true → are_silent (statements_of (drop (suc k) ss)) ≡ true
@@ -43,7 +28,7 @@ none ss k h = leb-zero k ∙ sym (silent_behind ss k h)
 pub last : (ss : List (Box Statement)) (m : ℕ) (d : Box Statement) → m < length ss → is_silent (statement_of (get_or ss m d).value) ≡ false → are_silent (statements_of (drop (suc m) ss)) ≡ true
     → (k : ℕ) → nat_le (suc m) k ≡ are_silent (statements_of (drop k ss))
 last [] m d lt here behind k = absurd (omega (arith, lt))
-last (s ∷ ss) zero d lt here behind zero = leb-suc-zero 0 ∙ sym (first_false (is_silent (statement_of s.value)) (are_silent (statements_of ss)) here)
+last (s ∷ ss) zero d lt here behind zero = leb-suc-zero 0 ∙ sym (and_left (is_silent (statement_of s.value)) (are_silent (statements_of ss)) here)
 last (s ∷ ss) zero d lt here behind (suc k) = leb-suc-suc 0 k ∙ none ss k behind
-last (s ∷ ss) (suc m) d lt here behind zero = leb-suc-zero (suc m) ∙ sym (and_false (is_silent (statement_of s.value)) (are_silent (statements_of ss)) (sym (last ss m d (omega (arith, lt)) here behind zero) ∙ leb-suc-zero m))
+last (s ∷ ss) (suc m) d lt here behind zero = leb-suc-zero (suc m) ∙ sym (and_right (is_silent (statement_of s.value)) (are_silent (statements_of ss)) (sym (last ss m d (omega (arith, lt)) here behind zero) ∙ leb-suc-zero m))
 last (s ∷ ss) (suc m) d lt here behind (suc k) = leb-suc-suc (suc m) k ∙ last ss m d (omega (arith, lt)) here behind k

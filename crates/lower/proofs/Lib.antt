@@ -2,6 +2,7 @@ pub mod Setting
 pub mod Sim
 pub mod Holes
 pub mod Bools
+pub mod Faultless
 pub mod Sums
 pub mod Memory
 pub mod Values

@@ -1,5 +1,7 @@
 -- The peak of a tree's code is at most the leaves of the resolved tree that it comes from.
 use Rattle.std.proofs.Common.{◌≡◌, ℕ, zero, suc, ◌+◌, ◌≤◌, Bool, true, false, List, [], ◌∷◌, Option, Some, None, map, refl, ap, arith, slice_get}
+use Rattle.std.proofs.lemmas.Bool.{cond_both}
+use Rattle.std.proofs.lemmas.Option.{none-some}
 use Rattle.std.specs.Prelude.{cond, max}
 use Rattle.word86.specs.declared.width.Width.{Width}
 use Rattle.word86.specs.declared.width.Width.TheVariants as width
@@ -24,7 +26,8 @@ use Rattle.plm_type.specs.Rest as rest
 use Rattle.plm_type.specs.Rest.{Expression, Expressions, NoMore, More, Reference, Refer, Subscripts, NoSubscripts, Target, Statements, End, Procedure}
 use Rattle.plm_type.specs.Shapes.{designated, fixed_place, read_of, store_to, member_stride}
 use Rattle.plm_type.specs.Expressions.{wanted_beside}
-use Rattle.plm_type.specs.Statements.{wanted_of_return, variable_meant, wanted_among, assignment, targets, signed_step, integer_step}
+use Rattle.plm_type.specs.Statements.{wanted_of_return, variable_meant, wanted_among, assignment, targets}
+use Rattle.plm_type.specs.Steps.{signed_step, integer_step}
 use Rattle.plm_decl.specs.Names.{is_external_linkage}
 use Rattle.plm_type.specs.Trees.{use_read, use_stored, refer, strided, operated, read_port, shifted, builtin_value}
 use Rattle.plm_type.specs.Types.{width_of, is_integer}
@@ -172,10 +175,6 @@ one_leaf (Use p m es s) = cases (is_unevaluated m)
     cases true = omega arith
     cases false = omega arith
 
-either : (m : Bool) (n a b : ℕ) → n ≤ a → n ≤ b → n ≤ cond m a b
-either true n a b x y = x
-either false n a b x y = y
-
 -- ---- trees
 
 module _ (variables : List Variable) (procedures : List ProcedureR) (objects : List ℕ) (module_index : ℕ) where
@@ -274,7 +273,7 @@ module _ (variables : List Variable) (procedures : List ProcedureR) (objects : L
     stored_at_peak (Use p (binding.Builtin b) (expressions e no_expressions) s) =
         let h = tree_peak e in
         let i = port_at_most (tree e) (peak (tree e)) in
-        either (is_target b) (port_peak (tree e) (peak (tree e))) (expression_leaves e + 0) (1 + (expression_leaves e + 0) + selector_leaves s) (omega (arith, h, i)) (omega (arith, h, i))
+        cond_both (is_target b) (expression_leaves e + 0) (1 + (expression_leaves e + 0) + selector_leaves s) (λ n. port_peak (tree e) (peak (tree e)) ≤ n) (λ _. omega (arith, h, i)) (λ _. omega (arith, h, i))
     stored_at_peak (Use p (binding.Builtin b) (expressions e (expressions d es)) s) = omega arith
     stored_at_peak (Use p binding.Nothing es s) = omega arith
 
@@ -359,10 +358,7 @@ module _ (variables : List Variable) (declared : List ProcedureR) (sizes : List 
       cases false = statements_low variables declared sizes p.module (stands.Procedure p.returned) p.body
 
   pub procedure_low : (ps : List ProcedureR) (q : ℕ) (x : Procedure) → slice_get (map (procedure_for variables declared sizes) ps) q ≡ Some x → statements_peak x.body ≤ procedures_most ps
-  procedure_low [] q x got = absurd (nothing_there got)
-    where
-      nothing_there : None ≡ Some x → ⊥
-      nothing_there e = cc
+  procedure_low [] q x got = absurd (none-some x got)
   procedure_low (p ∷ ps) zero x got =
       let h = body_low p in
       let same : statements_peak (body_for variables declared sizes p) ≡ statements_peak x.body = ap (λ (o : Option Procedure). elim o [ None ↦ statements_peak (body_for variables declared sizes p) | Some y ↦ statements_peak y.body ]) got in

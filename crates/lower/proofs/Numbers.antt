@@ -1,25 +1,14 @@
 -- The numbers of INTERRUPT fit a byte.
-use Rattle.std.proofs.Common.{◌≡◌, ℕ, zero, suc, ◌<◌, Bool, true, false, List, [], ◌∷◌, ◌++◌, length, map, slice_index_or, refl, ap, true≢false, arith}
-use Rattle.word86.specs.declared.number.Number.{Number}
-use Rattle.plm_syntax.specs.declared.tree.Position.{Position}
-use Rattle.plm_decl.specs.declared.found.Found.{Found}
+use Rattle.std.proofs.Common.{◌≡◌, ℕ, zero, suc, ◌<◌, true, List, [], ◌∷◌, ◌++◌, length, map, slice_index_or, arith}
+use Rattle.lower.proofs.Faultless.{none_of_both, holds_without_fault}
 use Rattle.plm_decl.specs.declared.names.Variable.{Variable}
 use Rattle.plm_decl.specs.declared.names.Names.{Names}
 use Rattle.plm_decl.specs.declared.names.Procedure as declared
 use Rattle.plm_decl.specs.Names.{ProcedureR, procedure_of, declared_location_of, main_of}
 use Rattle.plm_decl.specs.Placement.{sizes_of}
-use Rattle.plm_type.specs.Faults.{fault_unless}
 use Rattle.plm_type.specs.Statements.{of_locations, interrupt_fits}
 use Rattle.plm_type.specs.Programs.{faults, declared_procedures}
 use Rattle.lower.proofs.Typed.{of_procedure, of_procedures, of_main}
-
-none_of_both : (fs gs : List Found) → fs ++ gs ≡ [] → (fs ≡ []) × (gs ≡ [])
-none_of_both [] gs e = (refl, e)
-none_of_both (f ∷ fs) gs e = absurd (true≢false (ap (λ (l : List Found). elim l [ [] ↦ false | g ∷ hs ↦ true ]) e))
-
-holds_without_fault : (m : ℕ) (b : Bool) (n : Number) (p : Position) → fault_unless m b n p ≡ [] → b ≡ true
-holds_without_fault m true n p e = refl
-holds_without_fault m false n p e = absurd (true≢false (ap (λ (l : List Found). elim l [ [] ↦ false | f ∷ fs ↦ true ]) e))
 
 module _ (variables : List Variable) (all : List ProcedureR) (sizes : List ℕ) where
   number_fits : (p : ProcedureR) → of_procedure variables all sizes p ≡ [] → interrupt_fits p.interrupt ≡ true

@@ -1,8 +1,8 @@
 -- An order of procedures in which each stands after those that it calls is one along which calls go down.
-use Rattle.std.proofs.Common.{◌≡◌, ℕ, zero, suc, ◌<◌, List, [], ◌∷◌, ◌++◌, length, Option, Some, None, refl, sym, ap, ◌∙◌, subst, arith, slice_get}
+use Rattle.std.proofs.Common.{◌≡◌, ℕ, zero, suc, ◌<◌, List, [], ◌∷◌, ◌++◌, length, Some, refl, sym, ap, ◌∙◌, subst, arith, slice_get}
 use Rattle.std.specs.Prelude.{Contains, map}
 use Rattle.std.proofs.lemmas.List.Elements.{Contains-append_left, Contains-append_right, Contains-push}
-use Rattle.std.proofs.lemmas.Option.{slice_get-map}
+use Rattle.std.proofs.lemmas.Option.{slice_get-map, slice_get_within}
 use Rattle.std.specs.Prelude.{option_map}
 use Rattle.plm_type.specs.Rest.{Expression, Constant, Plain, Variable, Location, Unary, Binary, Embedded, Input, Call, Value, Passing, Running, Expressions, NoMore, More, Refer, Subscripts, NoSubscripts, Subscript, Target, ToPlain, ToVariable, ToPort, Targets, Only, Also, Loop, Count, Statement, Empty, Assign, Evaluate, Return, ReturnValue, Enabling, Disabling, Halting, If, Block, While, Case, Iterate, Leaving, Round, Comparing, Stepping, Adding, Storing, Ending, Statements, End, Then, Returned, Procedure}
 use Rattle.plm_type.specs.Reach.{row_of}
@@ -10,15 +10,6 @@ use Rattle.plm_type.specs.Calls.{calls_in, argument_calls, subscript_calls, targ
 use Rattle.plm_type.specs.Order.{place_in, IsOrder}
 use Rattle.lower.specs.Statements.{Kind, OfMain, Called, Giving, Serving}
 use Rattle.lower.specs.Well.{IsExpression, AreExpressions, AreSubscripts, IsTarget, AreTargets, MayReturn, MayReturnValue, IsStatement, IsLoop, AreStatements}
-
-abbrev NoProcedure : Option Procedure → Type 0
-NoProcedure None = Unit {0}
-NoProcedure (Some p) = ⊥
-
-pub below_get : (ps : List Procedure) (q : ℕ) (procedure : Procedure) → slice_get ps q ≡ Some procedure → q < length ps
-below_get [] q procedure h = absurd (subst (λ o. NoProcedure o) h tt)
-below_get (p ∷ ps) zero procedure h = omega arith
-below_get (p ∷ ps) (suc q) procedure h = omega (arith, below_get ps q procedure h)
 
 module _ (sizes : List ℕ) (procedures : List Procedure) (A B : ℕ → Type 0) where
   -- of all that is called
@@ -43,7 +34,7 @@ module _ (sizes : List ℕ) (procedures : List Procedure) (A B : ℕ → Type 0)
     expression_all (Input w e) good all = expression_all e good all
     expression_all (Call p es) good all =
         let c = good.0 in
-        let here : B p = all p (below_get procedures p c.0 c.1) (Contains-append_left (p ∷ []) (argument_calls es) p (Contains-push [] p)) in
+        let here : B p = all p (slice_get_within procedures p c.0 c.1) (Contains-append_left (p ∷ []) (argument_calls es) p (Contains-push [] p)) in
         ((c.0, c.1, c.2, c.3, (c.4, here)), expressions_all es good.1 (right (p ∷ []) (argument_calls es) all))
     expression_all (Value v) good all = good
     expression_all (Passing p xs vs) good all = good
@@ -121,7 +112,7 @@ called_before procedures order sorted q procedure got p lt c =
     let g = graph_of procedures in
     let long : length g ≡ length procedures = length_map procedures in
     let row : row_of (slice_get g q) ≡ statements_calls procedure.body = ap row_of (slice_get-map (λ (y : Procedure). statements_calls y.body) procedures q ∙ ap (option_map (λ (y : Procedure). statements_calls y.body)) got) in
-    sorted.later q p (omega (arith, long, below_get procedures q procedure got)) (omega (arith, long, lt)) (subst (λ l. Contains l p) (sym row) c)
+    sorted.later q p (omega (arith, long, slice_get_within procedures q procedure got)) (omega (arith, long, lt)) (subst (λ l. Contains l p) (sym row) c)
   where
     length_map : (ps : List Procedure) → length (map (λ (y : Procedure). statements_calls y.body) ps) ≡ length ps
     length_map [] = refl

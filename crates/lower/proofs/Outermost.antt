@@ -9,7 +9,7 @@ use Rattle.plm_type.specs.View.{expression_of, chained}
 use Rattle.icode.specs.declared.instruction.Relation.{Relation}
 use Rattle.icode.specs.declared.instruction.Test.TheVariants as test
 use Rattle.lower.specs.Expressions.{expression_code, operand_of, beside, relation_of, asked, asking, stands_to, test_of, condition_code}
-use Rattle.lower.specs.Inner.Chains.{chain_code}
+use Rattle.lower.specs.Inner.Expressions.{chain_code}
 use Rattle.lower.proofs.Trees.{chain_coded}
 
 -- the last operator is the outermost one

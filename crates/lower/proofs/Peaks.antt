@@ -367,9 +367,9 @@ choosing_stays m condition t arm silent otherwise exit sc sa so =
     then_stays m 0 (popped t) 0 condition (x ∷ rest) sc (step_stays m (popped t) 0 0 x rest (ends m 0 (popped t) condition sc) (omega arith)
     (then_stays m 0 0 0 arm (over silent otherwise exit ++ otherwise) sa (then_stays m 0 0 0 (over silent otherwise exit) otherwise (over_stays m silent otherwise exit) so)))
 
-repeating_stays : (m : ℕ) (condition : List Instruction) (t : Test) (body : List Instruction) (n k : ℕ) → Stays m 0 (popped t) condition → Stays m 0 0 body
+while_loop_stays : (m : ℕ) (condition : List Instruction) (t : Test) (body : List Instruction) (n k : ℕ) → Stays m 0 (popped t) condition → Stays m 0 0 body
     → Stays m 0 0 (condition ++ (op.AheadUnless t n ∷ (body ++ op.Back k ∷ [])))
-repeating_stays m condition t body n k sc sb =
+while_loop_stays m condition t body n k sc sb =
     then_stays m 0 (popped t) 0 condition (op.AheadUnless t n ∷ (body ++ op.Back k ∷ [])) sc
     (step_stays m (popped t) 0 0 (op.AheadUnless t n) (body ++ op.Back k ∷ []) (ends m 0 (popped t) condition sc) (omega arith) (then_stays m 0 0 0 body (op.Back k ∷ []) sb (omega arith, (omega arith, refl))))
 
@@ -436,7 +436,7 @@ module _ (procedures : List Procedure) (around : Kind) where
     statement_stays (While c d ss) exit m le =
         let condition = condition_code procedures d in
         let body = statements_code procedures around 0 ss in
-        repeating_stays m condition (test_of d) body (length body + 1 + exit) (length condition + length body + 2) (condition_stays procedures d m (omega (arith, le))) (statements_stay ss 0 m (omega (arith, le)))
+        while_loop_stays m condition (test_of d) body (length body + 1 + exit) (length condition + length body + 2) (condition_stays procedures d m (omega (arith, le))) (statements_stay ss 0 m (omega (arith, le)))
     statement_stays (Case e ss) exit m le =
         let cs = cases_code procedures around exit ss in
         then_stays m 0 0 0 (expression_code procedures e) (switching cs exit) (expression_stays procedures e m 0 (omega (arith, le))) (switching_stays m cs exit (cases_stay ss exit m (omega (arith, le))))

@@ -1,8 +1,8 @@
 -- The code of a program, from that of its procedures one by one.
-use Rattle.std.proofs.Common.{◌≡◌, ℕ, zero, suc, ◌+◌, ◌<◌, ◌≤◌, nat_eq, cond, List, [], ◌∷◌, ◌++◌, append_assoc, length, map, drop, get_or, Option, Some, None, ◌⊎◌, inl, inr, refl, sym, ap, ◌∙◌, subst, slice_get, true≢false, true, false, arith}
+use Rattle.std.proofs.Common.{◌≡◌, ℕ, zero, suc, ◌+◌, ◌<◌, ◌≤◌, nat_eq, cond, List, [], ◌∷◌, ◌++◌, append_assoc, length, map, drop, get_or, Option, Some, None, ◌⊎◌, inl, inr, refl, sym, ap, ◌∙◌, subst, slice_get, arith}
 use Rattle.std.specs.Global.{Box}
 use Rattle.std.proofs.lemmas.List.{drop_more, length-map, map-append}
-use Rattle.std.proofs.lemmas.Option.{slice_get_cases}
+use Rattle.std.proofs.lemmas.Option.{slice_get_cases, none-some}
 use Rattle.plm_decl.specs.Names.{ProcedureR, procedure_of}
 use Rattle.plm_decl.specs.declared.names.Names.{Names}
 use Rattle.plm_decl.specs.declared.names.Procedure as declared
@@ -33,9 +33,6 @@ use Rattle.plm_decl.specs.Names.{vector_of}
 use Rattle.lower.specs.Checked.{IsSound}
 use Rattle.lower.specs.Inner.Lowering.{ProcedureC, plain, one_lowered, all_lowered}
 use Rattle.lower.proofs.Typed.{procedure_for}
-
-none_is_some : {A : Type 0} {x : A} → None ≡ Some x → ⊥
-none_is_some {A} e = true≢false (ap (λ (o : Option A). elim o [ None ↦ true | Some x ↦ false ]) e)
 
 places_agree : (xs : List ℕ) (p : ℕ) → place_in xs p ≡ order.place_in xs p
 places_agree [] p = refl
@@ -149,7 +146,7 @@ module _ (names : Names) (qs : List code.Procedure) (is : map plain qs ≡ all_l
     where
       within : ((d : code.Procedure) × (p < length qs) × (slice_get qs p ≡ Some d) × (get_or qs p d ≡ d)) ⊎ ((length qs ≤ p) × (slice_get qs p ≡ None)) → slice_get (instructions_of (slice_get qs p)) k ≡ Some x → p < length qs
       within (inl w) h = w.1
-      within (inr w) h = absurd (none_is_some (subst (λ o. slice_get (instructions_of o) k ≡ Some x) w.1 h))
+      within (inr w) h = absurd (none-some _ (subst (λ o. slice_get (instructions_of o) k ≡ Some x) w.1 h))
 
   pub procedures_ordered : (os : List ℕ) → IsOrder os (graph_of (procedures_of names)) → IsSound names → AreOrdered os qs
   procedures_ordered os o s = record {

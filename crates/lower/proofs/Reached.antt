@@ -1,9 +1,7 @@
 -- Which routines main and an interrupt come to, and what stands in them.
-use Rattle.std.proofs.Common.{◌≡◌, ℕ, zero, suc, ◌⊎◌, inl, inr, ⊎_elim, Bool, true, false, List, [], ◌∷◌, Option, Some, None, refl, sym, ap, ◌∙◌, slice_get}
-use Rattle.std.specs.Prelude.{Contains, get_or}
-use Rattle.std.proofs.lemmas.Option.{slice_get-get_or}
+use Rattle.std.proofs.Common.{◌≡◌, ℕ, zero, suc, ◌⊎◌, inl, inr, ⊎_elim, Bool, true, false, List, [], ◌∷◌, Option, Some, None, refl, sym, ap, ◌∙◌, slice_get, true≢false}
+use Rattle.std.specs.Prelude.{Contains}
 use Rattle.std.proofs.lemmas.List.Elements.{Contains-push}
-use Rattle.std.proofs.lemmas.List.Quantifiers.{position-Some}
 use Rattle.word86.specs.Action.{Enable, Halt, Over}
 use Rattle.plm_type.specs.Rest.{Statements, Procedure}
 use Rattle.plm_type.specs.Next.{body_of}
@@ -15,26 +13,14 @@ use Rattle.icode.specs.declared.code.Routine.{Routine}
 use Rattle.icode.specs.declared.code.Routine.TheVariants as routine
 use Rattle.icode.specs.declared.code.Word.{Word}
 use Rattle.icode.specs.Code.{procedure_or_none}
-use Rattle.icode.specs.Vectors.{is_number}
 use Rattle.icode.specs.Machine.{Context, At, does}
 use Rattle.icode.specs.Runs.{Comes}
 use Rattle.lower.specs.Expressions.{gives}
-use Rattle.lower.specs.Lowering.{kind_of, has_vector, serves, number_for, code}
+use Rattle.lower.specs.Lowering.{kind_of, serves, MayBeEntered, code}
 use Rattle.lower.specs.Tracking.{IsProgram}
-use Rattle.lower.proofs.Bools.{true_false}
 use Rattle.lower.proofs.Fitting.{Let, IsServing}
 use Rattle.lower.proofs.Routines.{Calls, LetsIn, Ends, program_fits, invokes, enables, halts, finishes}
 use Rattle.lower.proofs.Visits.{IsInside, comes_inside, over_meets, enable_meets, halt_meets}
-
--- a vector's number is that of a procedure that serves it
-numbered : (n : Option ℕ) (v : ℕ) → is_number n v ≡ true → has_vector (Some n) ≡ true
-numbered (Some m) v h = refl
-numbered None v h = absurd (true_false (sym h))
-
-pub number_serves : (vectors : List (Option ℕ)) (v q : ℕ) → number_for vectors v ≡ Some q → serves vectors q ≡ true
-number_serves vectors v q e =
-    let first = position-Some (λ m. is_number m v) vectors q None e in
-    ap has_vector (slice_get-get_or vectors q None first.0) ∙ numbered (get_or vectors q None) v first.1
 
 -- one call more
 one_more : (g : Graph) (n : ℕ) (called : List ℕ) (p q : ℕ) → LeadsBy g n called p → Contains (row_of (slice_get g p)) q → LeadsBy g (suc n) called q
@@ -83,7 +69,7 @@ module _ (sizes : List ℕ) (procedures : List Procedure) (vectors : List (Optio
   GoesOn routine.Nowhere = Unit {0}
 
   serving_ends : (b g : Bool) → b ≡ false → IsServing (kind_of b g) → ⊥
-  serving_ends true g e f = true_false e
+  serving_ends true g e f = true≢false e
   serving_ends false true e f = f
   serving_ends false false e f = f
 
@@ -150,7 +136,7 @@ module _ (sizes : List ℕ) (procedures : List Procedure) (vectors : List (Optio
       from_first (Some p) = (0, Contains-push [] p)
       from_first None = tt
 
-      from_lets : (o : Option ℕ) (r : Routine) → ((p : ℕ) → o ≡ Some p → serves vectors p ≡ true) → From o r → LetsIn sizes procedures vectors main good r → ⊥
+      from_lets : (o : Option ℕ) (r : Routine) → MayBeEntered vectors o → From o r → LetsIn sizes procedures vectors main good r → ⊥
       from_lets (Some p) (routine.Procedure q) s f l = quiet p q (s p refl) f l
       from_lets (Some p) routine.Nowhere s f l = l
       from_lets (Some p) routine.Main s f l = f
@@ -160,21 +146,18 @@ module _ (sizes : List ℕ) (procedures : List Procedure) (vectors : List (Optio
       from_lets None routine.Main s f l = f
       from_lets None routine.Unserved s f l = l
 
-      module _ (v n a : ℕ) (c d : Context) (comes : Comes (does offsets objects (code procedures vectors main)) (At (procedure_or_none (number_for vectors v)) 0 a []) n c) where
-        o : Option ℕ
-        o = number_for vectors v
-
-        inside : IsInside (From (number_for vectors v)) (from_nowhere (number_for vectors v)) c
+      module _ (o : Option ℕ) (may : MayBeEntered vectors o) (n a : ℕ) (c d : Context) (comes : Comes (does offsets objects (code procedures vectors main)) (At (procedure_or_none o) 0 a []) n c) where
+        inside : IsInside (From o) (from_nowhere o) c
         inside =
-            comes_inside (From (number_for vectors v)) (from_nowhere (number_for vectors v)) offsets objects (code procedures vectors main) (from_calls (number_for vectors v)) (At (procedure_or_none (number_for vectors v)) 0 a [])
-            (from_first (number_for vectors v), tt) n c comes
+            comes_inside (From o) (from_nowhere o) offsets objects (code procedures vectors main) (from_calls o) (At (procedure_or_none o) 0 a [])
+            (from_first o, tt) n c comes
 
         pub none_enables : does offsets objects (code procedures vectors main) c ≡ Enable d → ⊥
         none_enables e =
-            let m = enable_meets (From (number_for vectors v)) (from_nowhere (number_for vectors v)) offsets objects (code procedures vectors main) (from_calls (number_for vectors v)) c d inside e in
-            from_lets (number_for vectors v) m.0 (number_serves vectors v) m.2 (lets_enable m.0 m.1 m.3)
+            let m = enable_meets (From o) (from_nowhere o) offsets objects (code procedures vectors main) (from_calls o) c d inside e in
+            from_lets o m.0 may m.2 (lets_enable m.0 m.1 m.3)
 
         pub none_halts : does offsets objects (code procedures vectors main) c ≡ Halt d → ⊥
         none_halts e =
-            let m = halt_meets (From (number_for vectors v)) (from_nowhere (number_for vectors v)) offsets objects (code procedures vectors main) (from_calls (number_for vectors v)) c d inside e in
-            from_lets (number_for vectors v) m.0 (number_serves vectors v) m.2 (lets_halt m.0 m.1 m.3)
+            let m = halt_meets (From o) (from_nowhere o) offsets objects (code procedures vectors main) (from_calls o) c d inside e in
+            from_lets o m.0 may m.2 (lets_halt m.0 m.1 m.3)

@@ -1,7 +1,8 @@
 -- The code of a program's procedures takes at most 46 bytes a node.
 use Rattle.std.proofs.Common.{◌≡◌, ℕ, zero, suc, ◌+◌, ◌*◌, ◌≤◌, Bool, true, false, List, [], ◌∷◌, ◌++◌, length, Option, Some, None, map, refl, ap, ◌∙◌, subst, arith, slice_get}
 use Rattle.std.specs.Prelude.{cond, option_map}
-use Rattle.std.proofs.lemmas.Option.{slice_get-map}
+use Rattle.std.proofs.lemmas.Option.{slice_get-map, none-some}
+use Rattle.lower.proofs.Faultless.{none_of_both}
 use Rattle.plm_decl.specs.declared.found.Found.{Found}
 use Rattle.plm_decl.specs.declared.names.Variable.{Variable}
 use Rattle.plm_decl.specs.Names.{ProcedureR, MainR}
@@ -28,7 +29,7 @@ use Rattle.plm_type.specs.Programs.{declared_procedures, main_tree}
 use Rattle.lower.specs.Checked.{IsWellFormed}
 use Rattle.lower.specs.Room.{procedures_room, HasRoom}
 use Rattle.lower.proofs.Rooms as typed
-use Rattle.lower.proofs.Counts.{none_left, none_right, statements_count}
+use Rattle.lower.proofs.Counts.{statements_count}
 
 -- ---- sums
 
@@ -57,20 +58,16 @@ module _ (variables : List Variable) (declared : List ProcedureR) (sizes : List 
   body_faults p = of_body variables declared sizes p
 
   no_fault_in : (ps : List ProcedureR) (q : ℕ) (p : ProcedureR) → of_procedures variables declared sizes ps ≡ [] → slice_get ps q ≡ Some p → body_faults p ≡ []
-  no_fault_in [] q p none got = absurd (nothing_there got)
-    where
-      nothing_there : None ≡ Some p → ⊥
-      nothing_there e = cc
+  no_fault_in [] q p none got = absurd (none-some p got)
   no_fault_in (r ∷ ps) zero p none got =
       let behind = of_stray r.module r.stray ++ body_faults r in
       let fits = fault_unless r.module (interrupt_fits r.interrupt) E401 r.place in
-      let here : body_faults r ≡ [] = none_right (of_stray r.module r.stray) (body_faults r)
-      (none_right (of_entry declared r) behind
-      (none_right fits (of_entry declared r ++ behind)
-      (none_right (of_parameters variables (is_external_linkage r.linkage) r.module r.parameters) (fits ++ (of_entry declared r ++ behind))
-      (none_left (of_procedure variables declared sizes r) (of_procedures variables declared sizes ps) none)))) in
+      let own = (none_of_both (of_procedure variables declared sizes r) (of_procedures variables declared sizes ps) none).0 in
+      let after_parameters = (none_of_both (of_parameters variables (is_external_linkage r.linkage) r.module r.parameters) (fits ++ (of_entry declared r ++ behind)) own).1 in
+      let after_fits = (none_of_both fits (of_entry declared r ++ behind) after_parameters).1 in
+      let here : body_faults r ≡ [] = (none_of_both (of_stray r.module r.stray) (body_faults r) (none_of_both (of_entry declared r) behind after_fits).1).1 in
       subst (λ x. body_faults x ≡ []) (ap (λ (o : Option ProcedureR). elim o [ None ↦ r | Some x ↦ x ]) got) here
-  no_fault_in (r ∷ ps) (suc q) p none got = no_fault_in ps q p (none_right (of_procedure variables declared sizes r) (of_procedures variables declared sizes ps) none) got
+  no_fault_in (r ∷ ps) (suc q) p none got = no_fault_in ps q p (none_of_both (of_procedure variables declared sizes r) (of_procedures variables declared sizes ps) none).1 got
 
   body_count : (p : ProcedureR) → body_faults p ≡ [] → typed.statements_nodes (body_for variables declared sizes p) ≤ statements_nodes p.body
   body_count p = cases (is_external_linkage p.linkage)
@@ -118,9 +115,9 @@ programs_fit program names checked well =
     let sizes = sizes_of names in
     let vectors = vectors_of names in
     let MayCall : ℕ → Type 0 = λ p. serves vectors p ≡ false in
-    let both = none_right (of_locations variables declared sizes (map declared_location_of names.locations.items)) (of_procedures variables declared sizes declared ++ of_main variables declared sizes (main_of names.main)) checked.no_fault in
-    let of_each = none_left (of_procedures variables declared sizes declared) (of_main variables declared sizes (main_of names.main)) both in
-    let of_last = none_right (of_procedures variables declared sizes declared) (of_main variables declared sizes (main_of names.main)) both in
+    let both = (none_of_both (of_locations variables declared sizes (map declared_location_of names.locations.items)) (of_procedures variables declared sizes declared ++ of_main variables declared sizes (main_of names.main)) checked.no_fault).1 in
+    let of_each = (none_of_both (of_procedures variables declared sizes declared) (of_main variables declared sizes (main_of names.main)) both).0 in
+    let of_last = (none_of_both (of_procedures variables declared sizes declared) (of_main variables declared sizes (main_of names.main)) both).1 in
     let sum = room_is_sum names (length declared) in
     let h = procedures_fit variables declared sizes MayCall vectors (main_tree names) well.bodies of_each in
     record { main = main_fits variables declared sizes MayCall vectors (main_of names.main) of_last well.main_body; procedures = omega (arith, sum, h) }

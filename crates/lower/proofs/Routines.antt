@@ -1,5 +1,5 @@
 -- The code of each routine of a well-formed program, and what it is by that.
-use Rattle.std.proofs.Common.{◌≡◌, ℕ, zero, suc, ◌+◌, ◌-◌, ◌<◌, ◌≤◌, Bool, true, false, List, [], ◌∷◌, ◌++◌, length, Option, Some, None, refl, sym, ap, ◌∙◌, subst, arith, slice_get, length-append}
+use Rattle.std.proofs.Common.{◌≡◌, ℕ, zero, suc, ◌+◌, ◌-◌, ◌<◌, ◌≤◌, Bool, true, false, List, [], ◌∷◌, ◌++◌, length, Option, Some, None, refl, sym, ap, ◌∙◌, subst, arith, slice_get, length-append, zero-add, suc-add, add-one}
 use Rattle.std.specs.Prelude.{take, drop, Contains, option_map}
 use Rattle.std.proofs.lemmas.List.{take-append-le}
 use Rattle.std.proofs.Math.Seq.{take-length}
@@ -31,28 +31,16 @@ Lands all t = (height all t ≡ 0) × (t < length all)
 
 behind_more : (h k : ℕ) (xs : List Instruction) (x : Instruction) → slice_get xs k ≡ Some x → behind h (take (suc k) xs) ≡ after x (behind h (take k xs))
 behind_more h k [] x e = absurd cc
-behind_more h zero (y ∷ xs) x e = ap (λ (z : Instruction). after z h) (same y x e)
-  where
-    same : (y x : Instruction) → Some y ≡ Some x → y ≡ x
-    same y x e = cc
+behind_more h zero (y ∷ xs) x e = ap (λ (z : Instruction). after z h) (same_Some y x e)
 behind_more h (suc k) (y ∷ xs) x e = behind_more (after y h) k xs x e
-
-plus_zero : (j : ℕ) → j ≡ 0 + j
-plus_zero j = omega arith
-
-plus_suc : (n j : ℕ) → suc (n + j) ≡ suc n + j
-plus_suc n j = omega arith
-
-plus_one : (n : ℕ) → n + 1 ≡ suc n
-plus_one n = omega arith
 
 further : (n j : ℕ) → n + 1 + j ≡ suc n + j
 further n j = omega arith
 
 get_drop : (n j : ℕ) (xs : List Instruction) → slice_get (drop n xs) j ≡ slice_get xs (n + j)
-get_drop zero j xs = ap (slice_get xs) (plus_zero j)
+get_drop zero j xs = ap (slice_get xs) (sym (zero-add j))
 get_drop (suc n) j [] = refl
-get_drop (suc n) j (x ∷ xs) = get_drop n j xs ∙ ap (slice_get (x ∷ xs)) (plus_suc n j)
+get_drop (suc n) j (x ∷ xs) = get_drop n j xs ∙ ap (slice_get (x ∷ xs)) (sym (suc-add n j))
 
 module _ (MayCall : ℕ → Type 0) (Enables Finishes : Type 0) where
   module _ (Spot : ℕ → Type 0) where
@@ -85,7 +73,7 @@ module _ (MayCall : ℕ → Type 0) (Enables Finishes : Type 0) where
       drops = λ k n e. at k (op.Drop n) e;
       flat = λ k t x e j.
           let l = jump_fits (Lands all) x k (height all k) t (drop (suc k) all) (at k x e) j in
-          (ap (λ n. behind 0 (take n all)) (plus_one k) ∙ (behind_more 0 k all x e ∙ l.0), l.1.0);
+          (ap (λ n. behind 0 (take n all)) (add-one k) ∙ (behind_more 0 k all x e ∙ l.0), l.1.0);
     }
 
     pub made : IsMade all

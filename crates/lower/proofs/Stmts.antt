@@ -1,6 +1,6 @@
 -- The code of statements does what their rest does.
 use Rattle.std.proofs.lemmas.Bool.{and_parts, ltb-true, ltb-false}
-use Rattle.std.proofs.Common.{◌≡◌, ℕ, zero, suc, ◌+◌, ◌-◌, ◌%◌, ◌<◌, ◌≤◌, Bool, true, false, List, [], ◌∷◌, ◌++◌, length, Some, refl, sym, ap, ◌∙◌, subst, arith, slice_get, length-append}
+use Rattle.std.proofs.Common.{◌≡◌, ℕ, zero, suc, ◌+◌, ◌-◌, ◌%◌, ◌<◌, ◌≤◌, Bool, true, false, List, [], ◌∷◌, ◌++◌, length, Some, refl, sym, ap, ◌∙◌, subst, arith, slice_get, length-append, true≢false}
 use Rattle.std.specs.Prelude.{if◌then◌else◌, nat_lt, ◌&&◌}
 use Rattle.word86.specs.declared.width.Width.{Width}
 use Rattle.word86.specs.declared.width.Width.TheVariants as widths
@@ -27,13 +27,13 @@ use Rattle.lower.specs.Well.{StepIs, Lies, IsExpression, AreTargets, MayReturn, 
 use Rattle.lower.proofs.Setting.{Setting}
 use Rattle.lower.proofs.Sim.{N, X, S, fewer, eased, then_, up, down, down_more, both, both_more, touches, enables, disables, halts}
 use Rattle.lower.proofs.Holes.{IsBody, in_assign, in_evaluate, in_return, in_if, in_while, in_case, in_iterate, in_comparing, in_stepping, in_only, in_also, acts, HasAt, has_front, has_back}
-use Rattle.lower.proofs.Bools.{true_false}
 use Rattle.lower.proofs.Sums.{left_sum, named_up, computed_up, pushed_sum}
 use Rattle.lower.proofs.Memory.{found_plain}
 use Rattle.lower.proofs.Values.{low_word}
 use Rattle.lower.proofs.Exprs.{IsOperand, operand_is, Left, ProcedureRuns, moved_to, has_at, rise, soon, push_then}
 use Rattle.lower.proofs.Terms.{not_value, expression_sim, call_sim, target_sim}
 use Rattle.lower.proofs.Tests.{condition_sim, bound_sim}
+use Rattle.lower.proofs.Fits.{entries_length}
 use Rattle.lower.proofs.Leads.{lead, leads}
 
 -- the first part of code, and one more instruction
@@ -48,31 +48,31 @@ module _ (procedures : List Rattle.plm_type.specs.Rest.Procedure) (around : Kind
     pub silent_code : (s : Statement) → is_silent s ≡ true → (exit : ℕ) → statement_code procedures around exit s ≡ []
     silent_code Empty h exit = refl
     silent_code (Block ss) h exit = silents_code ss h exit
-    silent_code (Assign ts e) h exit = absurd (true_false (sym h))
-    silent_code (Evaluate e) h exit = absurd (true_false (sym h))
-    silent_code Return h exit = absurd (true_false (sym h))
-    silent_code (ReturnValue w e) h exit = absurd (true_false (sym h))
-    silent_code Enabling h exit = absurd (true_false (sym h))
-    silent_code Disabling h exit = absurd (true_false (sym h))
-    silent_code Halting h exit = absurd (true_false (sym h))
-    silent_code (If c arm other) h exit = absurd (true_false (sym h))
-    silent_code (While l c ss) h exit = absurd (true_false (sym h))
-    silent_code (Case e ss) h exit = absurd (true_false (sym h))
-    silent_code (Iterate e l) h exit = absurd (true_false (sym h))
-    silent_code Leaving h exit = absurd (true_false (sym h))
-    silent_code (Round l) h exit = absurd (true_false (sym h))
-    silent_code (Comparing i e l) h exit = absurd (true_false (sym h))
-    silent_code (Stepping e l) h exit = absurd (true_false (sym h))
-    silent_code (Adding i s l) h exit = absurd (true_false (sym h))
-    silent_code (Storing s b l) h exit = absurd (true_false (sym h))
-    silent_code (Ending b l) h exit = absurd (true_false (sym h))
+    silent_code (Assign ts e) h exit = absurd (true≢false (sym h))
+    silent_code (Evaluate e) h exit = absurd (true≢false (sym h))
+    silent_code Return h exit = absurd (true≢false (sym h))
+    silent_code (ReturnValue w e) h exit = absurd (true≢false (sym h))
+    silent_code Enabling h exit = absurd (true≢false (sym h))
+    silent_code Disabling h exit = absurd (true≢false (sym h))
+    silent_code Halting h exit = absurd (true≢false (sym h))
+    silent_code (If c arm other) h exit = absurd (true≢false (sym h))
+    silent_code (While l c ss) h exit = absurd (true≢false (sym h))
+    silent_code (Case e ss) h exit = absurd (true≢false (sym h))
+    silent_code (Iterate e l) h exit = absurd (true≢false (sym h))
+    silent_code Leaving h exit = absurd (true≢false (sym h))
+    silent_code (Round l) h exit = absurd (true≢false (sym h))
+    silent_code (Comparing i e l) h exit = absurd (true≢false (sym h))
+    silent_code (Stepping e l) h exit = absurd (true≢false (sym h))
+    silent_code (Adding i s l) h exit = absurd (true≢false (sym h))
+    silent_code (Storing s b l) h exit = absurd (true≢false (sym h))
+    silent_code (Ending b l) h exit = absurd (true≢false (sym h))
 
     pub silents_code : (ss : Statements) → are_silent ss ≡ true → (exit : ℕ) → statements_code procedures around exit ss ≡ []
     silents_code End h exit = refl
     silents_code (Then s later) h exit =
         let b = and_parts (is_silent s) (are_silent later) h in
         ap (λ c. c ++ statements_code procedures around exit later) (silent_code s b.0 (exit_before (are_silent later) exit)) ∙ silents_code later b.1 exit
-    silents_code (Returned v) h exit = absurd (true_false (sym h))
+    silents_code (Returned v) h exit = absurd (true≢false (sym h))
 
 low_twice : (w : Width) (v : ℕ) → low w (low w v) ≡ low w v
 low_twice widths.Byte v = omega arith
@@ -124,24 +124,24 @@ module _ (x : Setting) (MayCall : ℕ → Type 0) (calls : (q : ℕ) → MayCall
         let leaving : K (suc k) f n (Then Leaving later) p = λ b. up x k n f le (D (Then Leaving later)) (D later) (At r p b ws) (dx (Then Leaving later) refl) (go b) in
         eased x (suc (suc k + leads ss)) (k + (leads ss + 2)) n f f (D (Then (Block ss) later)) (At r p a ws) (omega arith) (omega arith)
         (up x (suc k + leads ss) n f le (D (Then (Block ss) later)) (D (behind ss (Then Leaving later))) (At r p a ws) (dx (Then (Block ss) later) refl) (silents_sim ss h n (suc k) f (Then Leaving later) p le leaving a))
-    silent_sim (Assign ts e) h n k f later p le go = absurd (true_false (sym h))
-    silent_sim (Evaluate e) h n k f later p le go = absurd (true_false (sym h))
-    silent_sim Return h n k f later p le go = absurd (true_false (sym h))
-    silent_sim (ReturnValue w e) h n k f later p le go = absurd (true_false (sym h))
-    silent_sim Enabling h n k f later p le go = absurd (true_false (sym h))
-    silent_sim Disabling h n k f later p le go = absurd (true_false (sym h))
-    silent_sim Halting h n k f later p le go = absurd (true_false (sym h))
-    silent_sim (If c arm other) h n k f later p le go = absurd (true_false (sym h))
-    silent_sim (While l c ss) h n k f later p le go = absurd (true_false (sym h))
-    silent_sim (Case e ss) h n k f later p le go = absurd (true_false (sym h))
-    silent_sim (Iterate e l) h n k f later p le go = absurd (true_false (sym h))
-    silent_sim Leaving h n k f later p le go = absurd (true_false (sym h))
-    silent_sim (Round l) h n k f later p le go = absurd (true_false (sym h))
-    silent_sim (Comparing i e l) h n k f later p le go = absurd (true_false (sym h))
-    silent_sim (Stepping e l) h n k f later p le go = absurd (true_false (sym h))
-    silent_sim (Adding i s l) h n k f later p le go = absurd (true_false (sym h))
-    silent_sim (Storing s b l) h n k f later p le go = absurd (true_false (sym h))
-    silent_sim (Ending b l) h n k f later p le go = absurd (true_false (sym h))
+    silent_sim (Assign ts e) h n k f later p le go = absurd (true≢false (sym h))
+    silent_sim (Evaluate e) h n k f later p le go = absurd (true≢false (sym h))
+    silent_sim Return h n k f later p le go = absurd (true≢false (sym h))
+    silent_sim (ReturnValue w e) h n k f later p le go = absurd (true≢false (sym h))
+    silent_sim Enabling h n k f later p le go = absurd (true≢false (sym h))
+    silent_sim Disabling h n k f later p le go = absurd (true≢false (sym h))
+    silent_sim Halting h n k f later p le go = absurd (true≢false (sym h))
+    silent_sim (If c arm other) h n k f later p le go = absurd (true≢false (sym h))
+    silent_sim (While l c ss) h n k f later p le go = absurd (true≢false (sym h))
+    silent_sim (Case e ss) h n k f later p le go = absurd (true≢false (sym h))
+    silent_sim (Iterate e l) h n k f later p le go = absurd (true≢false (sym h))
+    silent_sim Leaving h n k f later p le go = absurd (true≢false (sym h))
+    silent_sim (Round l) h n k f later p le go = absurd (true≢false (sym h))
+    silent_sim (Comparing i e l) h n k f later p le go = absurd (true≢false (sym h))
+    silent_sim (Stepping e l) h n k f later p le go = absurd (true≢false (sym h))
+    silent_sim (Adding i s l) h n k f later p le go = absurd (true≢false (sym h))
+    silent_sim (Storing s b l) h n k f later p le go = absurd (true≢false (sym h))
+    silent_sim (Ending b l) h n k f later p le go = absurd (true≢false (sym h))
 
     silents_sim : (ss : Statements) → are_silent ss ≡ true → (n k f : ℕ) (later : Statements) (p : ℕ) → f ≤ 2 → K k f n later p → K (k + leads ss) f n (behind ss later) p
     silents_sim End h n k f later p le go = k_more k (k + 0) f f n later p (omega arith) (omega arith) go
@@ -149,7 +149,7 @@ module _ (x : Setting) (MayCall : ℕ → Type 0) (calls : (q : ℕ) → MayCall
         let b = and_parts (is_silent s) (are_silent rest) h in
         k_more (k + leads rest + lead s) (k + (lead s + leads rest + 1)) f f n (Then s (behind rest later)) p (omega arith) (omega arith)
         (silent_sim s b.0 n (k + leads rest) f (behind rest later) p le (silents_sim rest b.1 n k f later p le go))
-    silents_sim (Returned v) h n k f later p le go = absurd (true_false (sym h))
+    silents_sim (Returned v) h n k f later p le go = absurd (true≢false (sym h))
 
   -- ---- what the code of statements does, from where one instruction without a step may come, to their end and their exit
 
@@ -186,7 +186,7 @@ module _ (x : Setting) (MayCall : ℕ → Type 0) (calls : (q : ℕ) → MayCall
   pair_runs : (s : Statement) (rest : Statements) → StatementRuns s → StatementsRun rest → (bs br : Bool) → is_silent s ≡ bs → are_silent rest ≡ br → (bs && br) ≡ false → (n : ℕ) → Returns around n → (exit : ℕ) (later : Statements) (p k : ℕ) → k + (lead s + leads rest + 1) ≤ x.room
       → HasAt (x.code r) p (code_at (exit_before br exit) s ++ codes_at exit rest) → K k 2 n later (p + length (code_at (exit_before br exit) s ++ codes_at exit rest)) → K k 1 n later (p + length (code_at (exit_before br exit) s ++ codes_at exit rest) + exit)
       → K (k + (lead s + leads rest + 1)) 1 n (Then s (behind rest later)) p
-  pair_runs s rest run runs true true es er theirs n ret exit later p k small has to out = absurd (true_false theirs)
+  pair_runs s rest run runs true true es er theirs n ret exit later p k small has to out = absurd (true≢false theirs)
   pair_runs s rest run runs false true es er theirs n ret exit later p k small has to out =
       let cs = code_at exit s in
       let cr = codes_at exit rest in
@@ -500,10 +500,6 @@ module _ (x : Setting) (MayCall : ℕ → Type 0) (calls : (q : ℕ) → MayCall
       let act = acts x r p v ws (op.Switch m) has.0 in
       by b e done act h1 h2 out'
     where
-      entries_length : (before : ℕ) (cs : List (List Instruction)) → length (entries before cs) ≡ length cs
-      entries_length before [] = refl
-      entries_length before (c ∷ cs) = ap suc (entries_length (before + length c) cs)
-
       by : (b : Bool) → nat_lt v (length (cases_at exit ss)) ≡ b → ((q : ℕ) → X x (At r p v ws) ≡ Silent (At r q v ws) → K (k + leads ss) 2 n (after_case later v ss) q → S x 2 n 0 (D (Then (Case (Value v) ss) later)) (At r p v ws))
           → X x (At r p v ws) ≡ (if nat_lt v (length (cases_at exit ss)) then switched (slice_get (x.code r) (p + 1 + v)) r (p + 1 + suc v) v ws else Silent (At r (p + 1 + length (cases_at exit ss)) v ws))
           → HasAt (x.code r) (p + 1) (entries 0 (cases_at exit ss)) → HasAt (x.code r) (p + 1 + length (cases_at exit ss)) (op.Ahead (length (all_of (cases_at exit ss)) + exit) ∷ all_of (cases_at exit ss))
@@ -706,7 +702,7 @@ module _ (x : Setting) (MayCall : ℕ → Type 0) (calls : (q : ℕ) → MayCall
 
   mutual
     pub statement_sim : (s : Statement) → IsStatement x.sizes x.procedures MayCall around s → StatementRuns s
-    statement_sim Empty good = λ not. absurd (true_false not)
+    statement_sim Empty good = λ not. absurd (true≢false not)
     statement_sim (Assign ts e) good = assign_runs ts e good.0 good.1
     statement_sim (Evaluate e) good = evaluate_runs e good
     statement_sim Return good = λ not n ret exit later p k small has to out a. eased x 2 (k + 5) n 1 1 (D (Then Return later)) (At r p a ws) (omega arith) (omega arith) (return_then around good n ret later p a has)
@@ -736,6 +732,6 @@ module _ (x : Setting) (MayCall : ℕ → Type 0) (calls : (q : ℕ) → MayCall
     cases_sim (Returned v) good = absurd good
 
     pub statements_sim : (ss : Statements) → AreStatements x.sizes x.procedures MayCall around ss → StatementsRun ss
-    statements_sim End good = λ not. absurd (true_false not)
+    statements_sim End good = λ not. absurd (true≢false not)
     statements_sim (Then s rest) good = λ not. pair_runs s rest (statement_sim s good.0) (statements_sim rest good.1) (is_silent s) (are_silent rest) refl refl not
     statements_sim (Returned v) good = absurd good

@@ -2,8 +2,9 @@
 use Rattle.std.proofs.Common.{◌≡◌, ℕ, ⊎_elim, Bool, true, false, List, [], ◌∷◌, ◌++◌, Option, Some, None, refl, sym, ap, subst, arith, slice_get}
 use Rattle.std.specs.Prelude.{cond, Contains}
 use Rattle.std.proofs.lemmas.List.Elements.{Contains-append_left, Contains-append_right, Contains-append_cases}
+use Rattle.lower.proofs.TypedTrees.{targets_evaluate}
+use Rattle.lower.proofs.Faultless.{none_of_both, holds_without_fault}
 use Rattle.word86.specs.declared.width.Width.{Width}
-use Rattle.word86.specs.declared.number.Number.{Number}
 use Rattle.word86.specs.declared.operation.UnaryOperation.{UnaryOperation}
 use Rattle.word86.specs.declared.operation.BinaryOperation.{BinaryOperation}
 use Rattle.word86.specs.Access.{Where}
@@ -29,7 +30,8 @@ use Rattle.plm_type.specs.Typing.{is_measure, is_target, first_type, other_types
 use Rattle.plm_type.specs.Types.{width_of, is_integer}
 use Rattle.plm_type.specs.Shapes.{fixed_place, designated, read_of, store_to}
 use Rattle.plm_type.specs.Trees.{entry_of, strided, use_read, use_stored, refer, builtin_value, operated, shifted, read_port, to_port}
-use Rattle.plm_type.specs.Statements.{wanted_of_return, variable_meant, wanted_among, targets, assignment, signed_step, integer_step, number_step, chosen_step, number_in}
+use Rattle.plm_type.specs.Statements.{wanted_of_return, variable_meant, wanted_among, targets, assignment, number_in}
+use Rattle.plm_type.specs.Steps.{signed_step, integer_step, number_step, chosen_step}
 use Rattle.lower.proofs.Typed.{type_of, is_turned, wanted_tree, wanted_faults, given_trees, given_faults, target_type, target_types, tree_of, trees_of, selector_trees, value_of, location_of, target_of, faults_of, faults_in, selector_faults, value_faults, location_faults, target_faults, measured_value, argument_value, reference_value, target_trees, called, step_for, statement_for, statements_for}
 use Rattle.lower.proofs.Typed as typed
 use Rattle.plm_type.specs.Faults.{fault_unless}
@@ -38,24 +40,6 @@ use Rattle.plm_type.specs.Effects.{of_expression, of_list, of_selector, of_parts
 use Rattle.plm_type.specs.Interrupts as interrupts
 use Rattle.lower.proofs.Integers.{turned_calls}
 use Rattle.lower.proofs.Fitting.{Lets, Let}
-
--- ---- lists without a fault
-
-pub none_of_both : (fs gs : List Found) → fs ++ gs ≡ [] → (fs ≡ []) × (gs ≡ [])
-none_of_both [] gs e = (refl, e)
-none_of_both (f ∷ fs) gs e = cc
-
-unless : (b : Bool) (m : ℕ) (n : Number) (p : Position) → fault_unless m b n p ≡ [] → b ≡ true
-unless true m n p e = refl
-unless false m n p e = cc
-
-target_measures : (b : Builtin) → is_target b ≡ true → is_measure b ≡ false
-target_measures builtin.Output e = refl
-target_measures builtin.OutputWord e = refl
-target_measures builtin.Length e = cc
-target_measures builtin.Last e = cc
-target_measures builtin.Size e = cc
-target_measures _ e = refl
 
 -- ---- what calls are among
 
@@ -261,8 +245,8 @@ module _ (ps : List ProcedureR) where
           (left (argument_calls (trees_of variables ps sizes m es)) (of_list es) (of_selector s) (expressions_within es f.0)) (right (argument_calls (selector_trees variables ps sizes m s)) (of_list es) (of_selector s) (selector_within s f.1)))
       target_within (Use p (binding.Builtin b) es s) h =
           let f = none_of_both (faults_in variables ps sizes m es) _ h in
-          let port = unless (is_target b) m _ p (none_of_both (fault_unless m (is_target b) _ p) _ f.1).0 in
-          subst (λ c. Within (target_calls (to_port b (trees_of variables ps sizes m es))) (cond c [] (of_list es ++ of_selector s))) (sym (target_measures b port))
+          let port = holds_without_fault m (is_target b) _ p (none_of_both (fault_unless m (is_target b) _ p) _ f.1).0 in
+          subst (λ c. Within (target_calls (to_port b (trees_of variables ps sizes m es))) (cond c [] (of_list es ++ of_selector s))) (sym (targets_evaluate b port))
           (left (target_calls (to_port b (trees_of variables ps sizes m es))) (of_list es) (of_selector s) (to_port_within (trees_of variables ps sizes m es) (of_list es) (expressions_within es f.0) b))
       target_within (Use p (binding.Procedure n) es s) h = none (of_parts (Use p (binding.Procedure n) es s))
       target_within (Use p binding.Nothing es s) h = none (of_parts (Use p binding.Nothing es s))

@@ -18,7 +18,7 @@ use Rattle.plm_type.specs.View.{expressions_of, subscripts_of, chained, anchor_o
 use Rattle.icode.specs.declared.instruction.Instruction.{Instruction}
 use Rattle.icode.specs.declared.instruction.Instruction.TheVariants as op
 use Rattle.lower.specs.Expressions.{place_of, expression_code, dropped_code, operand_of, Computed, passing, call_code, count_of, anchor_place, moved, based, reading, locating, writing, target_code, targets_code}
-use Rattle.lower.specs.Inner.Chains.{operation_code, chain_code, others_code}
+use Rattle.lower.specs.Inner.Expressions.{operation_code, chain_code, others_code}
 
 pub same_place : (p : Place) → place_of (where_of p) ≡ p
 same_place (places.Ram k i) = refl

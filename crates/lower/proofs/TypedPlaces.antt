@@ -1,12 +1,10 @@
 -- Of a program without faults of types: what its variables stand for lies in objects, or in pages of the screen.
 use Rattle.std.proofs.lemmas.Bool.{and_parts, leb-true}
-use Rattle.std.proofs.Common.{◌≡◌, ℕ, ◌+◌, ◌*◌, ◌-◌, ◌^◌, ◌≤◌, Bool, true, false, not, cond, List, [], ◌∷◌, ◌++◌, slice_get, Option, Some, None, is_some, refl, sym, arith}
+use Rattle.std.proofs.Common.{◌≡◌, ℕ, ◌+◌, ◌*◌, ◌-◌, ◌^◌, ◌≤◌, Bool, true, false, not, cond, List, slice_get, Option, Some, None, is_some, refl, sym, arith, true≢false}
 use Rattle.std.specs.Prelude.{◌&&◌, nat_le, slice_index}
 use Rattle.std.proofs.Math.Nat.{min-le_left}
-use Rattle.word86.specs.declared.number.Number.{Number}
 use Rattle.word86.specs.Page.{page_size}
 use Rattle.word86.specs.Place.{bytes}
-use Rattle.plm_syntax.specs.declared.tree.Position.{Position}
 use Rattle.plm_decl.specs.declared.layout.Form.{Form}
 use Rattle.plm_decl.specs.declared.layout.Form.TheVariants as form
 use Rattle.plm_decl.specs.declared.layout.ScalarType.{ScalarType}
@@ -14,25 +12,12 @@ use Rattle.plm_decl.specs.declared.layout.ScalarType.TheVariants.{Byte, Word, Po
 use Rattle.plm_decl.specs.declared.names.Region.{Region}
 use Rattle.plm_decl.specs.declared.names.Region.TheVariants as region
 use Rattle.plm_decl.specs.declared.names.Variable.{Variable}
-use Rattle.plm_decl.specs.declared.found.Found.{Found}
 use Rattle.plm_decl.specs.Layout.{elements, size_of}
 use Rattle.plm_type.specs.Rest.{Behind}
 use Rattle.plm_type.specs.Types.{width_of}
 use Rattle.plm_type.specs.Shapes.{form_type, span, where_at, is_based, capped, scalar_size, lies_somewhere, has_room, nowhere, behind, anchor_at, anchor_for, scalar_for}
 use Rattle.plm_type.specs.Statements.{is_plain_scalar, is_placed_scalar}
-use Rattle.plm_type.specs.Faults.{fault_unless}
 use Rattle.lower.specs.Well.{Lies, ScalarLies, AnchorLies}
-use Rattle.lower.proofs.Bools.{true_false}
-
--- ---- no fault
-
-pub none_both : (fs gs : List Found) → fs ++ gs ≡ [] → (fs ≡ []) × (gs ≡ [])
-none_both [] gs e = (refl, e)
-none_both (f ∷ fs) gs e = cc
-
-pub holds_there : (m : ℕ) (b : Bool) (n : Number) (p : Position) → fault_unless m b n p ≡ [] → b ≡ true
-holds_there m true n p e = refl
-holds_there m false n p e = cc
 
 -- ---- variables
 
@@ -65,8 +50,8 @@ module _ (sizes : List ℕ) where
   placed_at : (v : Variable) (r : Region) (t : ScalarType) → LiesAt sizes (v.stride * elements v.dimension) r → lies_somewhere r ≡ true → size_of t ≤ span v → Lies sizes (width_of (Some t)) (where_at r)
   placed_at v (region.Ram k i) t lies e room = omega (arith, lies, room, width_bytes t, capped_least i, span_least v)
   placed_at v (region.Screen page i) t lies e room = omega (arith, lies, room, width_bytes t, capped_least i, span_least v)
-  placed_at v (region.Based b) t lies e room = absurd (true_false (sym e))
-  placed_at v region.Nowhere t lies e room = absurd (true_false (sym e))
+  placed_at v (region.Based b) t lies e room = absurd (true≢false (sym e))
+  placed_at v region.Nowhere t lies e room = absurd (true≢false (sym e))
 
   -- where the region has room for the scalar's bytes, the scalar lies in it
   pub with_room : (v : Variable) (t : ScalarType) → IsLying sizes v → has_room (size_of t) v ≡ true → Lies sizes (width_of (Some t)) (where_at v.region)
@@ -76,7 +61,7 @@ module _ (sizes : List ℕ) where
 
   scalar_of_form : (v : Variable) (f : Form) → IsLying sizes v → is_some (form_type f) ≡ true → has_room (scalar_size (form_type f)) v ≡ true → Lies sizes (width_of (form_type f)) (where_at v.region)
   scalar_of_form v (form.Scalar t) lies e h = with_room v t lies h
-  scalar_of_form v (form.Structure n) lies e h = absurd (true_false (sym e))
+  scalar_of_form v (form.Structure n) lies e h = absurd (true≢false (sym e))
 
   -- a placed scalar lies
   pub placed_lies : (v : Variable) → IsLying sizes v → is_placed_scalar v ≡ true → ScalarLies sizes (scalar_for v)

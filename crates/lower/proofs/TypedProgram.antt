@@ -1,12 +1,13 @@
 -- A checked program has well-formed trees.
 use Rattle.std.proofs.lemmas.Bool.{and_parts, leb-true, false_from_ne_true, not-true, eqb-true}
-use Rattle.std.proofs.Common.{◌≡◌, ℕ, zero, suc, ◌+◌, ◌*◌, Bool, true, false, not, cond, nat_eq, List, [], ◌∷◌, map, length, slice_get, Option, Some, None, is_some, option_map, inl, inr, refl, sym, ap, ◌∙◌, subst, arith}
+use Rattle.std.proofs.Common.{◌≡◌, ℕ, zero, suc, ◌+◌, ◌*◌, Bool, true, false, not, cond, nat_eq, List, [], ◌∷◌, map, length, slice_get, Option, Some, None, is_some, option_map, inl, inr, refl, sym, ap, ◌∙◌, subst, arith, true≢false}
 use Rattle.std.specs.Prelude.{◌&&◌, ◌||◌, nat_lt, slice_index, Contains}
 use Rattle.std.specs.List.{list_all}
 use Rattle.std.proofs.lemmas.Bool.Decides.{nat_tests}
 use Rattle.std.proofs.lemmas.List.{length-map}
 use Rattle.std.proofs.lemmas.List.Elements.{Contains-append_right}
 use Rattle.std.proofs.lemmas.Option.{slice_get-map, same_Some, none-some}
+use Rattle.lower.proofs.Faultless.{none_of_both, holds_without_fault}
 use Rattle.word86.specs.declared.number.Number.TheVariants.{E401}
 use Rattle.word86.specs.Page.{page_size}
 use Rattle.plm_decl.specs.declared.layout.ScalarType.{ScalarType}
@@ -42,8 +43,7 @@ use Rattle.lower.specs.Lowering.{has_vector, serves, kind_of, vectors_of}
 use Rattle.plm_decl.specs.Names.{vector_of}
 use Rattle.lower.specs.Checked.{IsWellFormed, CheckedLaw}
 use Rattle.lower.specs.Well.{AllLie, ScalarLies, IsCall, MayReturn, MayReturnValue, AreStatements}
-use Rattle.lower.proofs.Bools.{true_false}
-use Rattle.lower.proofs.TypedPlaces.{none_both, holds_there, LiesAt, IsLying, AreLying, placed_lies}
+use Rattle.lower.proofs.TypedPlaces.{LiesAt, IsLying, AreLying, placed_lies}
 use Rattle.lower.proofs.TypedTrees.{Callable, AllCallable}
 use Rattle.lower.proofs.TypedStatements.{statements_well}
 use Rattle.lower.proofs.Unvalued.{settled}
@@ -81,12 +81,12 @@ are_lying names k v e = held_lies names.objects.items (v.stride * elements v.dim
 
 parameter_lies : (sizes : List ℕ) (m : ℕ) (o : Option Variable) (v : Variable) → o ≡ Some v → IsLying sizes v → of_parameter false m o ≡ [] → ScalarLies sizes (index_for o)
 parameter_lies sizes m None v e lies f = absurd (none-some v e)
-parameter_lies sizes m (Some w) v e lies f = placed_lies sizes w (subst (IsLying sizes) (sym (same_Some w v e)) lies) (holds_there m (is_placed_scalar w) E401 w.place f)
+parameter_lies sizes m (Some w) v e lies f = placed_lies sizes w (subst (IsLying sizes) (sym (same_Some w v e)) lies) (holds_without_fault m (is_placed_scalar w) E401 w.place f)
 
 parameters_lie : (sizes : List ℕ) (vs : List Variable) → AreLying sizes vs → (m : ℕ) (xs : List ℕ) → of_parameters vs false m xs ≡ [] → list_all (λ x. nat_lt x (length vs)) xs ≡ true → AllLie sizes (parameters_for vs xs)
 parameters_lie sizes vs all m [] f h = tt
 parameters_lie sizes vs all m (x ∷ xs) f h =
-    let both = none_both (of_parameter false m (slice_get vs x)) (of_parameters vs false m xs) f in
+    let both = none_of_both (of_parameter false m (slice_get vs x)) (of_parameters vs false m xs) f in
     let within = and_parts (nat_lt x (length vs)) (list_all (λ y. nat_lt y (length vs)) xs) h in
     let at = there vs x within.0 in
     (parameter_lies sizes m (slice_get vs x) at.0 at.1 (all x at.0 at.1) both.0, parameters_lie sizes vs all m xs both.1 within.1)
@@ -100,17 +100,17 @@ as_many_parameters vs (x ∷ xs) = ap suc (as_many_parameters vs xs)
 unserved : (external : Bool) (i : Option ℕ) → is_some i ≡ false → has_vector (Some (cond external None i)) ≡ false
 unserved true i h = refl
 unserved false None h = refl
-unserved false (Some n) h = absurd (true_false h)
+unserved false (Some n) h = absurd (true≢false h)
 
 for_interrupt : (external : Bool) (i : Option ℕ) → has_vector (Some (cond external None i)) ≡ true → is_some i ≡ true
-for_interrupt true i h = absurd (true_false (sym h))
-for_interrupt false None h = absurd (true_false (sym h))
+for_interrupt true i h = absurd (true≢false (sym h))
+for_interrupt false None h = absurd (true≢false (sym h))
 for_interrupt false (Some n) h = refl
 
 untyped : (i r n : Bool) → i ≡ true → ((i && (r || n)) ≡ true → ⊥) → r ≡ false
 untyped true true n e h = absurd (h refl)
 untyped true false n e h = refl
-untyped false r n e h = absurd (true_false (sym e))
+untyped false r n e h = absurd (true≢false (sym e))
 
 module _ (program : Program) (names : Names) (typed : AreTyped program names) where
   abbrev vs : List Variable
@@ -125,12 +125,12 @@ module _ (program : Program) (names : Names) (typed : AreTyped program names) wh
   -- ---- procedures without a fault
 
   sound_parts : (of_procedures vs ps (sizes_of names) ps ≡ []) × (of_main vs ps (sizes_of names) (main_of names.main) ≡ [])
-  sound_parts = none_both _ _ (none_both (of_locations vs ps (sizes_of names) (map declared_location_of names.locations.items)) _ typed.no_fault).1
+  sound_parts = none_of_both _ _ (none_of_both (of_locations vs ps (sizes_of names) (map declared_location_of names.locations.items)) _ typed.no_fault).1
 
   each_sound : (qs : List ProcedureR) → of_procedures vs ps (sizes_of names) qs ≡ [] → (k : ℕ) (p : ProcedureR) → slice_get qs k ≡ Some p → of_procedure vs ps (sizes_of names) p ≡ []
   each_sound [] f k p e = absurd (none-some p e)
-  each_sound (q ∷ qs) f zero p e = subst (λ (z : ProcedureR). of_procedure vs ps (sizes_of names) z ≡ []) (same_Some q p e) (none_both (of_procedure vs ps (sizes_of names) q) (of_procedures vs ps (sizes_of names) qs) f).0
-  each_sound (q ∷ qs) f (suc k) p e = each_sound qs (none_both (of_procedure vs ps (sizes_of names) q) (of_procedures vs ps (sizes_of names) qs) f).1 k p e
+  each_sound (q ∷ qs) f zero p e = subst (λ (z : ProcedureR). of_procedure vs ps (sizes_of names) z ≡ []) (same_Some q p e) (none_of_both (of_procedure vs ps (sizes_of names) q) (of_procedures vs ps (sizes_of names) qs) f).0
+  each_sound (q ∷ qs) f (suc k) p e = each_sound qs (none_of_both (of_procedure vs ps (sizes_of names) q) (of_procedures vs ps (sizes_of names) qs) f).1 k p e
 
   sound : (k : ℕ) (p : ProcedureR) → slice_get ps k ≡ Some p → of_procedure vs ps (sizes_of names) p ≡ []
   sound k p e = each_sound ps sound_parts.0 k p e
@@ -147,14 +147,14 @@ module _ (program : Program) (names : Names) (typed : AreTyped program names) wh
 
   own_parameters : (k : ℕ) (p : ProcedureR) → slice_get ps k ≡ Some p → is_external_linkage p.linkage ≡ false → AllLie (sizes_of names) (parameters_for vs p.parameters)
   own_parameters k p e own =
-      let f = (none_both (of_parameters vs (is_external_linkage p.linkage) p.module p.parameters) _ (sound k p e)).0 in
+      let f = (none_of_both (of_parameters vs (is_external_linkage p.linkage) p.module p.parameters) _ (sound k p e)).0 in
       parameters_lie (sizes_of names) vs (are_lying names) p.module p.parameters (subst (λ (b : Bool). of_parameters vs b p.module p.parameters ≡ []) own f) (within k p e)
 
   vector_at : (k : ℕ) (p : ProcedureR) → slice_get ps k ≡ Some p → slice_get (vectors_of names) k ≡ Some (vector_of p)
   vector_at k p e = slice_get-map vector_of ps k ∙ ap (option_map vector_of) e
 
   entered : (n k : ℕ) (o : Option ProcedureR) → slice_get ps k ≡ o → is_entry n o ≡ true → is_for_interrupt o ≡ false → IsCall (sizes_of names) (procedures_of names) MayCall k n
-  entered n k None e h i = absurd (true_false (sym h))
+  entered n k None e h i = absurd (true≢false (sym h))
   entered n k (Some p) e h i =
       let both = and_parts (not (is_external_linkage p.linkage)) (nat_eq (length p.parameters) n) h in (
         procedure_for vs ps (sizes_of names) p,
@@ -166,8 +166,8 @@ module _ (program : Program) (names : Names) (typed : AreTyped program names) wh
 
   entry_sound : (k : ℕ) (p : ProcedureR) → slice_get ps k ≡ Some p → is_entry (length p.parameters) (slice_get ps p.entry) ≡ true
   entry_sound k p e =
-      let behind = (none_both (of_parameters vs (is_external_linkage p.linkage) p.module p.parameters) _ (sound k p e)).1 in
-      holds_there p.module (is_entry (length p.parameters) (slice_get ps p.entry)) E401 p.place (none_both (of_entry ps p) _ (none_both _ _ behind).1).0
+      let behind = (none_of_both (of_parameters vs (is_external_linkage p.linkage) p.module p.parameters) _ (sound k p e)).1 in
+      holds_without_fault p.module (is_entry (length p.parameters) (slice_get ps p.entry)) E401 p.place (none_of_both (of_entry ps p) _ (none_of_both _ _ behind).1).0
 
   callable_at : (q : ℕ) (o : Option ProcedureR) → slice_get ps q ≡ o → is_for_interrupt (slice_get ps (entry_of o)) ≡ false → Callable ps (sizes_of names) (procedures_of names) MayCall o
   callable_at q None e h = tt
@@ -188,8 +188,8 @@ module _ (program : Program) (names : Names) (typed : AreTyped program names) wh
   -- ---- bodies
 
   value_if : (c : Bool) (t : Option ScalarType) → (c ≡ true → is_some t ≡ false) → (v : Option ScalarType) → may_return_value (stands.Procedure t) v ≡ true → MayReturnValue (sizes_of names) (procedures_of names) MayCall (kind_of c true)
-  value_if true None h v e = absurd (true_false (sym e))
-  value_if true (Some t) h v e = absurd (true_false (h refl))
+  value_if true None h v e = absurd (true≢false (sym e))
+  value_if true (Some t) h v e = absurd (true≢false (h refl))
   value_if false t h v e = tt
 
   return_if : (c : Bool) → MayReturn (sizes_of names) (procedures_of names) MayCall (kind_of c true)
@@ -210,8 +210,8 @@ module _ (program : Program) (names : Names) (typed : AreTyped program names) wh
 
   own_body : (q : ℕ) (p : ProcedureR) → slice_get ps q ≡ Some p → AreStatements (sizes_of names) (procedures_of names) MayCall (kind_of (serves (vectors_of names) q) true) (body_for vs ps (sizes_of names) p)
   own_body q p e =
-      let behind = (none_both (of_parameters vs (is_external_linkage p.linkage) p.module p.parameters) _ (sound q p e)).1 in
-      let faultless = (none_both _ (of_body vs ps (sizes_of names) p) (none_both (of_entry ps p) _ (none_both _ _ behind).1).1).1 in
+      let behind = (none_of_both (of_parameters vs (is_external_linkage p.linkage) p.module p.parameters) _ (sound q p e)).1 in
+      let faultless = (none_of_both _ (of_body vs ps (sizes_of names) p) (none_of_both (of_entry ps p) _ (none_of_both _ _ behind).1).1).1 in
       let row : row_of (slice_get (text_graph ps) q) ≡ called ps (body_effects p) = ap row_of (slice_get-map (λ (z : ProcedureR). called ps (body_effects z)) ps q ∙ ap (option_map (λ (z : ProcedureR). called ps (body_effects z))) e) in
       let calls = texts_callable (body_effects p) (λ k c. uncalled k (inr (q, subst (λ (l : List ℕ). Contains l k) (sym row) c))) in
       body_if (is_external_linkage p.linkage) (kind_of (serves (vectors_of names) q) true) (of_statements vs ps (sizes_of names) p.module (stands.Procedure p.returned) p.body) (effects.of_statements p.body) (statements_for vs ps (sizes_of names) p.module (stands.Procedure p.returned) p.body)
@@ -231,7 +231,7 @@ module _ (program : Program) (names : Names) (typed : AreTyped program names) wh
   main_well =
       let main = main_of names.main in
       statements_well ps (sizes_of names) (procedures_of names) MayCall vs (are_lying names) main.module stands.Main OfMain
-      (λ h. true_false (sym h)) (λ t h. true_false (sym h)) main.statements sound_parts.1 main_calls_nothing_else
+      (λ h. true≢false (sym h)) (λ t h. true≢false (sym h)) main.statements sound_parts.1 main_calls_nothing_else
 
   trees_are_well : IsWellFormed names
   trees_are_well = record {

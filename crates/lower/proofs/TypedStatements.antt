@@ -1,7 +1,8 @@
 -- Of a program without faults of types: the trees of its statements are well formed.
 use Rattle.std.proofs.lemmas.Bool.{and_parts, leb-true, ltb-true, ltb-false}
 use Rattle.std.proofs.lemmas.Option.{none-some}
-use Rattle.std.proofs.Common.{◌≡◌, ℕ, ◌<◌, Bool, true, false, cond, List, [], slice_get, Option, Some, None, refl, sym, arith}
+use Rattle.std.proofs.Common.{◌≡◌, ℕ, ◌<◌, Bool, true, false, cond, List, [], slice_get, Option, Some, None, refl, sym, arith, true≢false}
+use Rattle.lower.proofs.Faultless.{none_of_both, holds_without_fault}
 use Rattle.std.specs.Prelude.{◌&&◌, nat_le, nat_lt}
 use Rattle.word86.specs.declared.width.Width.{Width}
 use Rattle.word86.specs.declared.width.Width.TheVariants as widths
@@ -23,20 +24,20 @@ use Rattle.plm_type.specs.Rest.{Procedure}
 use Rattle.plm_type.specs.Types.{width_of, may_count, is_integer}
 use Rattle.plm_type.specs.Shapes.{form_type}
 use Rattle.plm_type.specs.Typing.{variable_type, parameters_wanted}
-use Rattle.plm_type.specs.Statements.{may_return, may_return_value, wanted_of_return, is_placed_scalar, is_index, index_for, variable_meant, wanted_among, targets, assignment, signed_step, step_fits, counting_by, integer_step, number_step, chosen_step, number_in}
+use Rattle.plm_type.specs.Statements.{may_return, may_return_value, wanted_of_return, is_placed_scalar, is_index, index_for, variable_meant, wanted_among, targets, assignment, number_in}
+use Rattle.plm_type.specs.Steps.{signed_step, step_fits, counting_by, integer_step, number_step, chosen_step}
 use Rattle.lower.proofs.Typed.{tree_of, target_of, faults_of, wanted_tree, wanted_type, wanted_faults, given_types, given_faults, target_faults, of_number, of_count, of_bound, target_types, target_trees, of_targets, called, of_call, of_index, step_for, counting_for, of_step, statement_for, statements_for, of_statement, of_statements}
 use Rattle.lower.specs.Expressions.{Number, operand_of}
 use Rattle.lower.specs.Statements.{Kind}
 use Rattle.lower.specs.Well.{StepIs, ScalarLies, IsExpression, AreTargets, MayReturn, MayReturnValue, IsStatement, AreStatements}
-use Rattle.lower.proofs.Bools.{true_false}
-use Rattle.lower.proofs.TypedPlaces.{none_both, holds_there, IsLying, AreLying, placed_lies}
+use Rattle.lower.proofs.TypedPlaces.{IsLying, AreLying, placed_lies}
 use Rattle.lower.proofs.TypedTrees.{zero_well, AllCallable, parted, call_well, given_many, tree_well, given_well, target_well, wanted_well}
 
 -- ---- the step of a DO with an index
 
 integer_width : (t : Option ScalarType) → is_integer t ≡ true → width_of t ≡ widths.Word
 integer_width None e = refl
-integer_width (Some Byte) e = absurd (true_false (sym e))
+integer_width (Some Byte) e = absurd (true≢false (sym e))
 integer_width (Some Word) e = refl
 integer_width (Some Pointer) e = refl
 integer_width (Some Integer) e = refl
@@ -53,11 +54,11 @@ signed_is w true n false e is le = (omega (arith, ltb-false 0 n e), is)
 
 fitting_is : (w : Width) (s : _) (b : Bool) → step_fits s ≡ b → b ≡ true → w ≡ widths.Word → StepIs (counting_by s) w (Number (cond b (signed s.negative 65536 s.value) 0))
 fitting_is w s true e h is = signed_is w s.negative s.value (nat_lt 0 s.value) refl is e
-fitting_is w s false e h is = absurd (true_false (sym h))
+fitting_is w s false e h is = absurd (true≢false (sym h))
 
 integer_is : (w : Width) (m : ℕ) (p : Position) (o : Option _) → (integer_step m p o).faults ≡ [] → w ≡ widths.Word → StepIs (integer_step m p o).counting w (operand_of (integer_step m p o).tree)
-integer_is w m p None f is = absurd (true_false (sym (holds_there m false E401 p f)))
-integer_is w m p (Some s) f is = fitting_is w s (step_fits s) refl (holds_there m (step_fits s) E401 s.place f) is
+integer_is w m p None f is = absurd (true≢false (sym (holds_without_fault m false E401 p f)))
+integer_is w m p (Some s) f is = fitting_is w s (step_fits s) refl (holds_without_fault m (step_fits s) E401 s.place f) is
 
 chosen_is : (c : Bool) (w : Width) (a b : TypedStep) → (c ≡ true → a.faults ≡ [] → StepIs a.counting w (operand_of a.tree)) → (c ≡ false → StepIs b.counting w (operand_of b.tree)) → (chosen_step c a b).faults ≡ []
     → StepIs (chosen_step c a b).counting w (operand_of (chosen_step c a b).tree)
@@ -87,7 +88,7 @@ module _ (ps : List ProcedureR) (sizes : List ℕ) (trees : List Procedure) (May
   -- ---- parts
 
   index_lies : (o : Option Variable) → ((v : Variable) → o ≡ Some v → IsLying sizes v) → is_index o ≡ true → ScalarLies sizes (index_for o)
-  index_lies None lies h = absurd (true_false (sym h))
+  index_lies None lies h = absurd (true≢false (sym h))
   index_lies (Some v) lies h = placed_lies sizes v (lies v refl) (and_parts (is_placed_scalar v) (may_count (form_type v.form)) h).0
 
   meant_lies : (b : Binding) (v : Variable) → variable_meant vs b ≡ Some v → IsLying sizes v
@@ -97,14 +98,14 @@ module _ (ps : List ProcedureR) (sizes : List ℕ) (trees : List Procedure) (May
   meant_lies binding.Nothing v e = absurd (none-some v e)
 
   number_well : (p : Position) (e : ExpressionR) → of_number vs ps sizes m p e ≡ [] → AllCallable ps sizes trees MayCall (effects.of_expression e) → IsExpression sizes trees MayCall (tree_of vs ps sizes m e)
-  number_well p e f g = tree_well ps sizes trees MayCall vs all m e (none_both (faults_of vs ps sizes m e) _ f).0 g
+  number_well p e f g = tree_well ps sizes trees MayCall vs all m e (none_of_both (faults_of vs ps sizes m e) _ f).0 g
 
   -- the value of DO CASE
   count_well : (p : Position) (e : ExpressionR) → of_count vs ps sizes m p e ≡ [] → AllCallable ps sizes trees MayCall (effects.of_expression e) → IsExpression sizes trees MayCall (tree_of vs ps sizes m e)
-  count_well p e f g = tree_well ps sizes trees MayCall vs all m e (none_both (faults_of vs ps sizes m e) _ f).0 g
+  count_well p e f g = tree_well ps sizes trees MayCall vs all m e (none_of_both (faults_of vs ps sizes m e) _ f).0 g
 
   bound_well : (t : Option ScalarType) (p : Position) (e : ExpressionR) → of_bound vs ps sizes m t p e ≡ [] → AllCallable ps sizes trees MayCall (effects.of_expression e) → IsExpression sizes trees MayCall (wanted_tree vs ps sizes m t e)
-  bound_well t p e f g = wanted_well ps sizes trees MayCall vs all m t e (none_both (wanted_faults vs ps sizes m t e) _ f).0 g
+  bound_well t p e f g = wanted_well ps sizes trees MayCall vs all m t e (none_of_both (wanted_faults vs ps sizes m t e) _ f).0 g
 
   step_well : (t : Option ScalarType) (p : Position) (o : Option ExpressionR) → of_step vs ps sizes m t p o ≡ [] → AllCallable ps sizes trees MayCall (effects.of_step o) → IsExpression sizes trees MayCall (step_for vs ps sizes m t p o)
   step_well t p None f g = omega arith
@@ -121,14 +122,14 @@ module _ (ps : List ProcedureR) (sizes : List ℕ) (trees : List Procedure) (May
       → AreTargets sizes trees MayCall (targets (target_of vs ps sizes m x) (target_trees vs ps sizes m xs))
   targets_well no_references x e f g h = target_well ps sizes trees MayCall vs all m x e g
   targets_well (references y xs) x e f g h =
-      let both = none_both (target_faults vs ps sizes m y) (of_targets vs ps sizes m xs) f in
+      let both = none_of_both (target_faults vs ps sizes m y) (of_targets vs ps sizes m xs) f in
       let calls = parted ps sizes trees MayCall (effects.of_parts y) (effects.of_targets xs) h in
       (target_well ps sizes trees MayCall vs all m x e g, targets_well xs y both.0 both.1 calls.0 calls.1)
 
   called_well : (p : Position) (x : ReferenceR') → of_call vs ps sizes m p x ≡ [] → AllCallable ps sizes trees MayCall (effects.of_value x) → IsExpression sizes trees MayCall (called vs ps sizes m p x)
   called_well p (Use q (binding.Procedure n) es s) f g =
       let ts = parameters_wanted vs (slice_get ps n) in
-      let both = none_both (given_faults vs ps sizes m ts es) _ f in
+      let both = none_of_both (given_faults vs ps sizes m ts es) _ f in
       let calls = parted ps sizes trees MayCall (effects.of_list es) (effects.of_selector s) g.1 in
       (call_well ps sizes trees MayCall vs m q (slice_get ps n) s (given_types vs ps sizes m ts es) _ (given_many ps sizes trees MayCall vs all m es ts) g.0 both.1, given_well ps sizes trees MayCall vs all m es ts both.0 calls.0)
   called_well p (Use q (binding.Variable v) es s) f g = zero_well sizes trees MayCall
@@ -141,7 +142,7 @@ module _ (ps : List ProcedureR) (sizes : List ℕ) (trees : List Procedure) (May
         → IsStatement sizes trees MayCall kind (assignment (target_trees vs ps sizes m xs) (wanted_tree vs ps sizes m t e))
     assigned_well no_references t e f h g k = wanted_well ps sizes trees MayCall vs all m t e h k
     assigned_well (references x xs) t e f h g k =
-        let both = none_both (target_faults vs ps sizes m x) (of_targets vs ps sizes m xs) f in
+        let both = none_of_both (target_faults vs ps sizes m x) (of_targets vs ps sizes m xs) f in
         let calls = parted ps sizes trees MayCall (effects.of_parts x) (effects.of_targets xs) g in
         (targets_well xs x both.0 both.1 calls.0 calls.1, wanted_well ps sizes trees MayCall vs all m t e h k)
 
@@ -149,54 +150,54 @@ module _ (ps : List ProcedureR) (sizes : List ℕ) (trees : List Procedure) (May
       pub statement_well : (s : StatementR) → of_statement vs ps sizes m around s ≡ [] → AllCallable ps sizes trees MayCall (effects.of_statement s) → IsStatement sizes trees MayCall kind (statement_for vs ps sizes m around s)
       statement_well (EmptyR p) f g = tt
       statement_well (AssignR xs e) f g =
-          let both = none_both (of_targets vs ps sizes m xs) _ f in
+          let both = none_of_both (of_targets vs ps sizes m xs) _ f in
           let calls = parted ps sizes trees MayCall (effects.of_targets xs) (effects.of_expression e) g in
           let t = wanted_among (target_types vs ps sizes m xs) in
-          assigned_well xs t e both.0 (none_both (wanted_faults vs ps sizes m t e) _ both.1).0 calls.0 calls.1
+          assigned_well xs t e both.0 (none_of_both (wanted_faults vs ps sizes m t e) _ both.1).0 calls.0 calls.1
       statement_well (CallR p x) f g = called_well p x f g
-      statement_well (ReturnR p) f g = returns (holds_there m (may_return around) E401 p f)
+      statement_well (ReturnR p) f g = returns (holds_without_fault m (may_return around) E401 p f)
       statement_well (ReturnValueR p e) f g =
           let t = wanted_of_return around in
-          let both = none_both (wanted_faults vs ps sizes m t e) _ f in
-          (returns_value (wanted_type vs ps sizes m t e) (holds_there m (may_return_value around (wanted_type vs ps sizes m t e)) E401 p both.1), wanted_well ps sizes trees MayCall vs all m t e both.0 g)
+          let both = none_of_both (wanted_faults vs ps sizes m t e) _ f in
+          (returns_value (wanted_type vs ps sizes m t e) (holds_without_fault m (may_return_value around (wanted_type vs ps sizes m t e)) E401 p both.1), wanted_well ps sizes trees MayCall vs all m t e both.0 g)
       statement_well (EnableR p) f g = tt
       statement_well (DisableR p) f g = tt
       statement_well (HaltR p) f g = tt
       statement_well (IfR p e s) f g =
-          let both = none_both (of_number vs ps sizes m p e) _ f in
+          let both = none_of_both (of_number vs ps sizes m p e) _ f in
           let calls = parted ps sizes trees MayCall (effects.of_expression e) (effects.of_statement s) g in
           (number_well p e both.0 calls.0, (statement_well s both.1 calls.1, tt), tt)
       statement_well (IfElseR p e s t) f g =
-          let both = none_both (of_number vs ps sizes m p e) _ f in
-          let arms = none_both (of_statement vs ps sizes m around s) (of_statement vs ps sizes m around t) both.1 in
+          let both = none_of_both (of_number vs ps sizes m p e) _ f in
+          let arms = none_of_both (of_statement vs ps sizes m around s) (of_statement vs ps sizes m around t) both.1 in
           let calls = parted ps sizes trees MayCall (effects.of_expression e) _ g in
           let others = parted ps sizes trees MayCall (effects.of_statement s) (effects.of_statement t) calls.1 in
           (number_well p e both.0 calls.0, (statement_well s arms.0 others.0, tt), (statement_well t arms.1 others.1, tt))
       statement_well (DoR p ss) f g = statements_well ss f g
       statement_well (WhileR p e ss) f g =
-          let both = none_both (of_number vs ps sizes m p e) _ f in
+          let both = none_of_both (of_number vs ps sizes m p e) _ f in
           let calls = parted ps sizes trees MayCall (effects.of_expression e) (effects.of_statements ss) g in
           (refl, number_well p e both.0 calls.0, statements_well ss both.1 calls.1)
       statement_well (CaseR p e ss) f g =
-          let both = none_both (of_count vs ps sizes m p e) _ f in
+          let both = none_of_both (of_count vs ps sizes m p e) _ f in
           let calls = parted ps sizes trees MayCall (effects.of_expression e) (effects.of_statements ss) g in
           (count_well p e both.0 calls.0, statements_well ss both.1 calls.1)
       statement_well (IterateR p q b from to by ss) f g =
           let o = variable_meant vs b in
           let t = variable_type o in
-          let index = none_both (of_index vs ps sizes m p q b) _ f in
-          let first = none_both (of_bound vs ps sizes m t p from) _ index.1 in
-          let second = none_both (of_bound vs ps sizes m t p to) _ first.1 in
-          let third = none_both (of_step vs ps sizes m t p by) _ second.1 in
+          let index = none_of_both (of_index vs ps sizes m p q b) _ f in
+          let first = none_of_both (of_bound vs ps sizes m t p from) _ index.1 in
+          let second = none_of_both (of_bound vs ps sizes m t p to) _ first.1 in
+          let third = none_of_both (of_step vs ps sizes m t p by) _ second.1 in
           let calls = parted ps sizes trees MayCall (effects.of_expression from) _ g in
           let later = parted ps sizes trees MayCall (effects.of_expression to) _ calls.1 in
           let last = parted ps sizes trees MayCall (effects.of_step by) (effects.of_statements ss) later.1 in
-          let is = holds_there m (is_index o) E401 p (none_both _ _ index.0).0 in
+          let is = holds_without_fault m (is_index o) E401 p (none_of_both _ _ index.0).0 in
           (bound_well t p from first.0 calls.0, (index_lies o (meant_lies b) is, bound_well t p to second.0 later.0, step_well t p by third.0 last.0, statements_well ss third.1 last.1, step_is o p by third.0))
 
       pub statements_well : (ss : StatementsR) → of_statements vs ps sizes m around ss ≡ [] → AllCallable ps sizes trees MayCall (effects.of_statements ss) → AreStatements sizes trees MayCall kind (statements_for vs ps sizes m around ss)
       statements_well no_statements f g = tt
       statements_well (statements s ss) f g =
-          let both = none_both (of_statement vs ps sizes m around s) (of_statements vs ps sizes m around ss) f in
+          let both = none_of_both (of_statement vs ps sizes m around s) (of_statements vs ps sizes m around ss) f in
           let calls = parted ps sizes trees MayCall (effects.of_statement s) (effects.of_statements ss) g in
           (statement_well s both.0 calls.0, statements_well ss both.1 calls.1)

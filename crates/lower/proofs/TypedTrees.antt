@@ -1,8 +1,9 @@
 -- Of a program without faults of types: the trees of its expressions are well formed.
 use Rattle.std.proofs.lemmas.Bool.{and_parts, leb-true, eqb-true}
-use Rattle.std.proofs.Common.{◌≡◌, ℕ, zero, suc, ◌+◌, ◌≤◌, ◌<◌, Bool, true, false, not, cond, nat_eq, List, [], ◌∷◌, ◌++◌, length, slice_get, Option, Some, None, refl, sym, ap, ◌∙◌, subst, arith}
+use Rattle.std.proofs.Common.{◌≡◌, ℕ, zero, suc, ◌+◌, ◌≤◌, ◌<◌, Bool, true, false, not, cond, nat_eq, List, [], ◌∷◌, ◌++◌, length, slice_get, Option, Some, None, refl, sym, ap, ◌∙◌, subst, arith, true≢false}
 use Rattle.std.specs.Prelude.{nat_le, slice_index}
 use Rattle.std.proofs.lemmas.Bool.Decides.{nat_tests}
+use Rattle.lower.proofs.Faultless.{none_of_both, holds_without_fault}
 use Rattle.word86.specs.declared.number.Number.TheVariants.{E401, E402}
 use Rattle.word86.specs.declared.page.Page.{Page}
 use Rattle.word86.specs.declared.width.Width.{Width}
@@ -38,9 +39,8 @@ use Rattle.plm_type.specs.Trees.{constant, text_value, operated, read_port, to_p
 use Rattle.lower.proofs.Typed.{type_of, is_turned, wanted_tree, wanted_faults, given_trees, given_types, given_faults, target_type, tree_of, trees_of, selector_trees, value_of, location_of, target_of, types_of, selector_types, faults_of, faults_in, selector_faults, value_faults, location_faults, target_faults, measured_value, argument_value, reference_value}
 use Rattle.lower.specs.Expressions.{count_of}
 use Rattle.lower.specs.Well.{Lies, IsCall, IsExpression, AreExpressions, IsReference, AreSubscripts, IsTarget}
-use Rattle.lower.proofs.Bools.{true_false}
 use Rattle.lower.proofs.Integers.{turned_well}
-use Rattle.lower.proofs.TypedPlaces.{none_both, holds_there, width_bytes, capped_least, IsLying, AreLying, anchor_lies}
+use Rattle.lower.proofs.TypedPlaces.{width_bytes, capped_least, IsLying, AreLying, anchor_lies}
 
 -- ---- parts
 
@@ -73,7 +73,7 @@ module _ (sizes : List ℕ) (trees : List Procedure) (MayCall : ℕ → Type 0) 
 
   refer_well : (vs : List Variable) → AreLying sizes vs → (m line : ℕ) (part : Bool) (o : Option Variable) → ((v : Variable) → o ≡ Some v → IsLying sizes v) → (s : SelectorR) (es fs : Expressions) (ts us : List (Option ScalarType))
       → length ts ≡ count_of es → count_of fs ≤ 1 → may_be_used part o s ts us ≡ true → AreExpressions sizes trees MayCall es → AreExpressions sizes trees MayCall fs → IsReference sizes trees MayCall (refer vs m line o s es fs)
-  refer_well vs all m line part None lies s es fs ts us len few used h g = absurd (true_false (sym used))
+  refer_well vs all m line part None lies s es fs ts us len few used h g = absurd (true≢false (sym used))
   refer_well vs all m line part (Some v) lies s es fs ts us len few used h g =
       let shape = and_parts (shape_fits part v (length ts) s) _ used in
       let fit = and_parts (subscripts_fit part v.dimension (length ts)) (selector_fits part v.form s) shape.0 in
@@ -198,12 +198,12 @@ module _ (sizes : List ℕ) (trees : List Procedure) (MayCall : ℕ → Type 0) 
       argument_well (BinaryR p o a d) = zero_well
   measured_well vs ps m at b (expressions e (expressions d es)) = zero_well
 
-targets_evaluate : (b : Builtin) → is_target b ≡ true → is_measure b ≡ false
+pub targets_evaluate : (b : Builtin) → is_target b ≡ true → is_measure b ≡ false
 targets_evaluate builtin.Output h = refl
 targets_evaluate builtin.OutputWord h = refl
-targets_evaluate builtin.Length h = absurd (true_false (sym h))
-targets_evaluate builtin.Last h = absurd (true_false (sym h))
-targets_evaluate builtin.Size h = absurd (true_false (sym h))
+targets_evaluate builtin.Length h = absurd (true≢false (sym h))
+targets_evaluate builtin.Last h = absurd (true≢false (sym h))
+targets_evaluate builtin.Size h = absurd (true≢false (sym h))
 targets_evaluate builtin.Low h = refl
 targets_evaluate builtin.High h = refl
 targets_evaluate builtin.Double h = refl
@@ -237,10 +237,10 @@ module _ (ps : List ProcedureR) (sizes : List ℕ) (trees : List Procedure) (May
 
   pub call_well : (vs : List Variable) (m : ℕ) (place : Position) (o : Option ProcedureR) (s : SelectorR) (ts : List (Option ScalarType)) (n : ℕ)
       → length ts ≡ n → Callable o → call_faults vs m place o s ts ≡ [] → IsCall sizes trees MayCall (entry_of o) n
-  call_well vs m place None s ts n len h f = absurd (true_false (sym (holds_there m false E401 place f)))
+  call_well vs m place None s ts n len h f = absurd (true≢false (sym (holds_without_fault m false E401 place f)))
   call_well vs m place (Some q) s ts n len h f =
-      let behind = (none_both _ _ f).1 in
-      let count = holds_there m (nat_eq (length q.parameters) (length ts)) E402 place (none_both _ _ behind).0 in
+      let behind = (none_of_both _ _ f).1 in
+      let count = holds_without_fault m (nat_eq (length q.parameters) (length ts)) E402 place (none_of_both _ _ behind).0 in
       subst (λ (k : ℕ). IsCall sizes trees MayCall q.entry k) (eqb-true (length q.parameters) (length ts) count ∙ len) h
 
   builtin_if : (c : Bool) (x y : Expression) (others own : List Found) (texts : List Effect)
@@ -269,7 +269,7 @@ module _ (ps : List ProcedureR) (sizes : List ℕ) (trees : List Procedure) (May
         → IsReference sizes trees MayCall (refer vs m line (slice_get vs v) s (trees_of vs ps sizes m es) (selector_trees vs ps sizes m s))
     used_well part line p v es s f h g =
         refer_well sizes trees MayCall vs all m line part (slice_get vs v) (all v) s _ _ (types_of vs ps sizes m es) (selector_types vs ps sizes m s) (as_many es) (few_members s)
-        (holds_there m (may_be_used part (slice_get vs v) s (types_of vs ps sizes m es) (selector_types vs ps sizes m s)) E401 p f) h g
+        (holds_without_fault m (may_be_used part (slice_get vs v) s (types_of vs ps sizes m es) (selector_types vs ps sizes m s)) E401 p f) h g
 
     mutual
       pub tree_well : (e : ExpressionR) → faults_of vs ps sizes m e ≡ [] → AllCallable (effects.of_expression e) → IsExpression sizes trees MayCall (tree_of vs ps sizes m e)
@@ -279,15 +279,15 @@ module _ (ps : List ProcedureR) (sizes : List ℕ) (trees : List Procedure) (May
       tree_well (LocationR l) f g = location_well l f g
       tree_well (ParenthesisedR p e) f g = tree_well e f g
       tree_well (EmbeddedR p x e) f g =
-          let first = none_both (target_faults vs ps sizes m x) _ f in
+          let first = none_of_both (target_faults vs ps sizes m x) _ f in
           let t = target_type vs ps sizes m x in
-          let second = none_both (wanted_faults vs ps sizes m t e) _ first.1 in
+          let second = none_of_both (wanted_faults vs ps sizes m t e) _ first.1 in
           let calls = parted (effects.of_parts x) (effects.of_expression e) g in
-          (target_well x first.0 calls.0, turned_well sizes trees MayCall (is_turned vs ps sizes m t e) (tree_of vs ps sizes m e) (tree_well e (none_both (faults_of vs ps sizes m e) _ second.0).0 calls.1))
-      tree_well (UnaryR p o e) f g = tree_well e (none_both (faults_of vs ps sizes m e) _ f).0 g
+          (target_well x first.0 calls.0, turned_well sizes trees MayCall (is_turned vs ps sizes m t e) (tree_of vs ps sizes m e) (tree_well e (none_of_both (faults_of vs ps sizes m e) _ second.0).0 calls.1))
+      tree_well (UnaryR p o e) f g = tree_well e (none_of_both (faults_of vs ps sizes m e) _ f).0 g
       tree_well (BinaryR p o a b) f g =
-          let first = none_both (faults_of vs ps sizes m a) _ f in
-          let second = none_both (faults_of vs ps sizes m b) _ first.1 in
+          let first = none_of_both (faults_of vs ps sizes m a) _ f in
+          let second = none_of_both (faults_of vs ps sizes m b) _ first.1 in
           let calls = parted (effects.of_expression a) (effects.of_expression b) g in (
             turned_well sizes trees MayCall (is_turned vs ps sizes m (wanted_beside o (type_of vs ps sizes m b)) a) (tree_of vs ps sizes m a) (tree_well a first.0 calls.0),
             turned_well sizes trees MayCall (is_turned vs ps sizes m (wanted_beside o (type_of vs ps sizes m a)) b) (tree_of vs ps sizes m b) (tree_well b second.0 calls.1),
@@ -296,16 +296,16 @@ module _ (ps : List ProcedureR) (sizes : List ℕ) (trees : List Procedure) (May
       pub trees_well : (es : ExpressionsR) → faults_in vs ps sizes m es ≡ [] → AllCallable (effects.of_list es) → AreExpressions sizes trees MayCall (trees_of vs ps sizes m es)
       trees_well no_expressions f g = tt
       trees_well (expressions e es) f g =
-          let both = none_both (faults_of vs ps sizes m e) (faults_in vs ps sizes m es) f in
+          let both = none_of_both (faults_of vs ps sizes m e) (faults_in vs ps sizes m es) f in
           let calls = parted (effects.of_expression e) (effects.of_list es) g in
           (tree_well e both.0 calls.0, trees_well es both.1 calls.1)
 
       pub given_well : (es : ExpressionsR) (ts : List (Option ScalarType)) → given_faults vs ps sizes m ts es ≡ [] → AllCallable (effects.of_list es) → AreExpressions sizes trees MayCall (given_trees vs ps sizes m ts es)
       given_well no_expressions ts f g = tt
       given_well (expressions e es) ts f g =
-          let both = none_both (wanted_faults vs ps sizes m (first_type ts) e) (given_faults vs ps sizes m (other_types ts) es) f in
+          let both = none_of_both (wanted_faults vs ps sizes m (first_type ts) e) (given_faults vs ps sizes m (other_types ts) es) f in
           let calls = parted (effects.of_expression e) (effects.of_list es) g in (
-            turned_well sizes trees MayCall (is_turned vs ps sizes m (first_type ts) e) (tree_of vs ps sizes m e) (tree_well e (none_both (faults_of vs ps sizes m e) _ both.0).0 calls.0),
+            turned_well sizes trees MayCall (is_turned vs ps sizes m (first_type ts) e) (tree_of vs ps sizes m e) (tree_well e (none_of_both (faults_of vs ps sizes m e) _ both.0).0 calls.0),
             given_well es (other_types ts) both.1 calls.1,
           )
 
@@ -316,30 +316,30 @@ module _ (ps : List ProcedureR) (sizes : List ℕ) (trees : List Procedure) (May
 
       pub value_well : (x : ReferenceR') → value_faults vs ps sizes m x ≡ [] → AllCallable (effects.of_value x) → IsExpression sizes trees MayCall (value_of vs ps sizes m x)
       value_well (Use p (binding.Variable v) es s) f g =
-          let both = none_both (faults_in vs ps sizes m es ++ selector_faults vs ps sizes m s) _ f in
-          let parts = none_both (faults_in vs ps sizes m es) (selector_faults vs ps sizes m s) both.0 in
+          let both = none_of_both (faults_in vs ps sizes m es ++ selector_faults vs ps sizes m s) _ f in
+          let parts = none_of_both (faults_in vs ps sizes m es) (selector_faults vs ps sizes m s) both.0 in
           let calls = parted (effects.of_list es) (effects.of_selector s) g in
           use_read_well sizes trees MayCall (slice_get vs v) s _ (used_well false p.line p v es s both.1 (trees_well es parts.0 calls.0) (selector_well s parts.1 calls.1))
       value_well (Use p (binding.Procedure q) es s) f g =
           let ts = parameters_wanted vs (slice_get ps q) in
-          let both = none_both (given_faults vs ps sizes m ts es) _ f in
-          let call = none_both (call_faults vs m p (slice_get ps q) s (given_types vs ps sizes m ts es)) _ both.1 in
+          let both = none_of_both (given_faults vs ps sizes m ts es) _ f in
+          let call = none_of_both (call_faults vs m p (slice_get ps q) s (given_types vs ps sizes m ts es)) _ both.1 in
           let calls = parted (effects.of_list es) (effects.of_selector s) g.1 in
           (call_well vs m p (slice_get ps q) s (given_types vs ps sizes m ts es) _ (given_many es ts) g.0 call.0, given_well es ts both.0 calls.0)
       value_well (Use p (binding.Builtin b) es s) f g =
-          let both = none_both (fault_unless m (not (is_target b)) E401 p) _ f in
+          let both = none_of_both (fault_unless m (not (is_target b)) E401 p) _ f in
           let ts = wanted_arguments b in
           builtin_if (is_measure b) _ _ _ _ (effects.of_list es ++ effects.of_selector s) (measured_well sizes trees MayCall vs ps m p b es)
           (λ own calls. builtin_well sizes trees MayCall m p.line b (width_of (first_type (given_types vs ps sizes m ts es))) (given_trees vs ps sizes m ts es)
-          (given_well es ts (none_both (given_faults vs ps sizes m ts es) (builtin_faults m p b s (given_types vs ps sizes m ts es)) own).0 (parted (effects.of_list es) (effects.of_selector s) calls).0))
+          (given_well es ts (none_of_both (given_faults vs ps sizes m ts es) (builtin_faults m p b s (given_types vs ps sizes m ts es)) own).0 (parted (effects.of_list es) (effects.of_selector s) calls).0))
           both.1 g
       value_well (Use p binding.Nothing es s) f g = zero_well sizes trees MayCall
 
       pub location_well : (l : LocationR') → location_faults vs ps sizes m l ≡ [] → AllCallable (effects.of_location l) → IsExpression sizes trees MayCall (location_of vs ps sizes m l)
       location_well (LocationOf p k (Use q (binding.Variable v) es s)) f g =
-          let both = none_both (faults_in vs ps sizes m es ++ selector_faults vs ps sizes m s) _ f in
-          let parts = none_both (faults_in vs ps sizes m es) (selector_faults vs ps sizes m s) both.0 in
-          let used = none_both (fault_unless m (may_be_located (slice_get vs v)) E401 p) _ both.1 in
+          let both = none_of_both (faults_in vs ps sizes m es ++ selector_faults vs ps sizes m s) _ f in
+          let parts = none_of_both (faults_in vs ps sizes m es) (selector_faults vs ps sizes m s) both.0 in
+          let used = none_of_both (fault_unless m (may_be_located (slice_get vs v)) E401 p) _ both.1 in
           let calls = parted (effects.of_list es) (effects.of_selector s) g in
           used_well true q.line q v es s used.1 (trees_well es parts.0 calls.0) (selector_well s parts.1 calls.1)
       location_well (LocationOf p k (Use q (binding.Procedure n) es s)) f g = zero_well sizes trees MayCall
@@ -349,14 +349,14 @@ module _ (ps : List ProcedureR) (sizes : List ℕ) (trees : List Procedure) (May
 
       pub target_well : (x : ReferenceR') → target_faults vs ps sizes m x ≡ [] → AllCallable (effects.of_parts x) → IsTarget sizes trees MayCall (target_of vs ps sizes m x)
       target_well (Use p (binding.Variable v) es s) f g =
-          let both = none_both (faults_in vs ps sizes m es ++ selector_faults vs ps sizes m s) _ f in
-          let parts = none_both (faults_in vs ps sizes m es) (selector_faults vs ps sizes m s) both.0 in
-          let used = none_both (use_faults m false p (slice_get vs v) s (types_of vs ps sizes m es) (selector_types vs ps sizes m s)) _ both.1 in
+          let both = none_of_both (faults_in vs ps sizes m es ++ selector_faults vs ps sizes m s) _ f in
+          let parts = none_of_both (faults_in vs ps sizes m es) (selector_faults vs ps sizes m s) both.0 in
+          let used = none_of_both (use_faults m false p (slice_get vs v) s (types_of vs ps sizes m es) (selector_types vs ps sizes m s)) _ both.1 in
           let calls = parted (effects.of_list es) (effects.of_selector s) g in
           use_stored_well sizes trees MayCall (slice_get vs v) s _ (used_well false p.line p v es s used.0 (trees_well es parts.0 calls.0) (selector_well s parts.1 calls.1))
       target_well (Use p (binding.Builtin b) es s) f g =
-          let both = none_both (faults_in vs ps sizes m es) _ f in
-          let is_port = holds_there m (is_target b) E401 p (none_both (fault_unless m (is_target b) E401 p) (builtin_faults m p b s (types_of vs ps sizes m es)) both.1).0 in
+          let both = none_of_both (faults_in vs ps sizes m es) _ f in
+          let is_port = holds_without_fault m (is_target b) E401 p (none_of_both (fault_unless m (is_target b) E401 p) (builtin_faults m p b s (types_of vs ps sizes m es)) both.1).0 in
           let evaluated = subst (λ (c : Bool). AllCallable (cond c [] (effects.of_list es ++ effects.of_selector s))) (targets_evaluate b is_port) g in
           to_port_well sizes trees MayCall b (trees_of vs ps sizes m es) (trees_well es both.0 (parted (effects.of_list es) (effects.of_selector s) evaluated).0)
       target_well (Use p (binding.Procedure q) es s) f g = zero_well sizes trees MayCall
@@ -364,4 +364,4 @@ module _ (ps : List ProcedureR) (sizes : List ℕ) (trees : List Procedure) (May
 
     -- where a value of a type is wanted
     pub wanted_well : (t : Option ScalarType) (e : ExpressionR) → wanted_faults vs ps sizes m t e ≡ [] → AllCallable (effects.of_expression e) → IsExpression sizes trees MayCall (wanted_tree vs ps sizes m t e)
-    wanted_well t e f g = turned_well sizes trees MayCall (is_turned vs ps sizes m t e) (tree_of vs ps sizes m e) (tree_well e (none_both (faults_of vs ps sizes m e) _ f).0 g)
+    wanted_well t e f g = turned_well sizes trees MayCall (is_turned vs ps sizes m t e) (tree_of vs ps sizes m e) (tree_well e (none_of_both (faults_of vs ps sizes m e) _ f).0 g)

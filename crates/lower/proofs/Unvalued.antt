@@ -1,12 +1,11 @@
 -- Statements in which no RETURN has a value are those of a procedure that gives none.
 use Rattle.std.proofs.lemmas.Bool.{or_parts}
-use Rattle.std.proofs.Common.{◌≡◌, ℕ, Bool, true, false, List, refl}
+use Rattle.std.proofs.Common.{◌≡◌, ℕ, Bool, true, false, List, refl, true≢false}
 use Rattle.plm_type.specs.Rest.{Count, Statement, Empty, Assign, Evaluate, Return, ReturnValue, Enabling, Disabling, Halting, If, Block, While, Case, Iterate, Leaving, Round, Comparing, Stepping, Adding, Storing, Ending, Statements, End, Then, Returned, Procedure}
 use Rattle.lower.specs.Expressions.{is_giving, are_giving}
 use Rattle.lower.specs.Statements.{Called, Giving}
 use Rattle.lower.specs.Lowering.{kind_of}
 use Rattle.lower.specs.Well.{IsStatement, AreStatements}
-use Rattle.lower.proofs.Bools.{true_false}
 
 module _ (sizes : List ℕ) (procedures : List Procedure) (MayCall : ℕ → Type 0) where
   abbrev Was : Statement → Type 0
@@ -21,7 +20,7 @@ module _ (sizes : List ℕ) (procedures : List Procedure) (MayCall : ℕ → Typ
     statement_called (Assign ts e) lacks good = good
     statement_called (Evaluate e) lacks good = good
     statement_called Return lacks good = tt
-    statement_called (ReturnValue w e) lacks good = absurd (true_false lacks)
+    statement_called (ReturnValue w e) lacks good = absurd (true≢false lacks)
     statement_called Enabling lacks good = tt
     statement_called Disabling lacks good = tt
     statement_called Halting lacks good = tt

@@ -1,5 +1,5 @@
 -- Procedures, main and the interrupt procedures.
-use Rattle.std.proofs.Common.{◌≡◌, ℕ, zero, suc, ◌+◌, ◌<◌, ◌≤◌, Bool, true, false, List, [], ◌∷◌, ◌++◌, length, Option, Some, None, refl, sym, ap, ◌∙◌, subst, arith, slice_get, length-append, append_assoc}
+use Rattle.std.proofs.Common.{◌≡◌, ℕ, zero, suc, ◌+◌, ◌<◌, ◌≤◌, Bool, true, false, true≢false, List, [], ◌∷◌, ◌++◌, length, Option, Some, None, refl, sym, ap, ◌∙◌, subst, arith, slice_get, length-append, append_assoc}
 use Rattle.word86.specs.Action.{Silent}
 use Rattle.plm_type.specs.Rest.{Rest, Expression, Running, Value, Statements, End, Then, Returned, Procedure, Main, Handler}
 use Rattle.plm_type.specs.Next.{behind, body_of}
@@ -14,16 +14,14 @@ use Rattle.icode.specs.declared.code.Word.{Word}
 use Rattle.icode.specs.declared.code.Word.TheVariants.{Return}
 use Rattle.icode.specs.Machine.{At}
 use Rattle.icode.specs.Code.{procedure_or_none}
-use Rattle.icode.specs.Vectors.{is_number}
 use Rattle.lower.specs.Expressions.{are_giving}
 use Rattle.lower.specs.Statements.{OfMain, Called, Giving, Serving, are_silent, statements_code, routine_code}
-use Rattle.lower.specs.Lowering.{kind_of, serves, number_for, procedure_code, code}
+use Rattle.lower.specs.Lowering.{kind_of, serves, MayBeEntered, procedure_code, code}
 use Rattle.plm_type.specs.Programs.{body_for}
 use Rattle.lower.specs.Well.{AreStatements}
 use Rattle.lower.specs.Tracking.{IsProgram, CodeTracks, LoweringTracks}
 use Rattle.std.specs.Prelude.{get_or}
-use Rattle.std.proofs.lemmas.Option.{slice_get-get_or, same_Some}
-use Rattle.std.proofs.lemmas.List.Quantifiers.{position-Some}
+use Rattle.std.proofs.lemmas.Option.{slice_get-get_or, same_Some, none-some}
 use Rattle.lower.proofs.Setting.{Setting}
 use Rattle.lower.proofs.Sim.{N, T, S, eased, then_, down, both, halts_more, ends}
 use Rattle.lower.proofs.Holes.{IsHole, in_running, in_main, in_handler, acts, HasAt, has_front, has_back}
@@ -32,7 +30,6 @@ use Rattle.lower.proofs.Leads.{leads}
 use Rattle.lower.proofs.Stmts.{arm_runs, statements_sim}
 use Rattle.lower.proofs.Placed.{finds_in, low_in}
 use Rattle.lower.proofs.Ordered.{statements_all, called_before}
-use Rattle.lower.proofs.Reached.{number_serves}
 
 behind_end : (ss : Statements) → behind ss End ≡ ss
 behind_end End = refl
@@ -158,21 +155,23 @@ abbrev all_leads : List Procedure → ℕ
 all_leads [] = 0
 all_leads (p ∷ ps) = leads p.body + all_leads ps
 
-abbrev NoProcedure : Option Procedure → Type 0
-NoProcedure None = Unit {0}
-NoProcedure (Some p) = ⊥
-
 among : (ps : List Procedure) (q : ℕ) (procedure : Procedure) → slice_get ps q ≡ Some procedure → leads procedure.body ≤ all_leads ps
-among [] q procedure h = absurd (subst (λ o. NoProcedure o) h tt)
+among [] q procedure h = absurd (none-some procedure h)
 among (p ∷ ps) zero procedure h = subst (λ (y : Procedure). leads y.body ≤ leads p.body + all_leads ps) (same_Some p procedure h) (omega arith)
 among (p ∷ ps) (suc q) procedure h = omega (arith, among ps q procedure h)
+
+-- a procedure that serves a vector is one of them
+serving_within : (vectors : List (Option ℕ)) (q : ℕ) → serves vectors q ≡ true → q < length vectors
+serving_within [] q s = absurd (true≢false (sym s))
+serving_within (v ∷ vs) zero s = omega arith
+serving_within (v ∷ vs) (suc q) s = omega (arith, serving_within vs q s)
 
 pub program_tracks : (sizes : List ℕ) (procedures : List Procedure) (vectors : List (Option ℕ)) (order : List ℕ) (main : Statements) → IsProgram sizes procedures vectors main → IsOrder order (graph_of procedures) → LoweringTracks sizes procedures vectors main
 program_tracks sizes procedures vectors order main good sorted = (leads main + all_leads procedures + 5 + 5, λ offsets placed n a. whole offsets placed n a)
   where
     whole : (offsets : List ℕ) → IsPlacement offsets sizes → (n a : ℕ)
         → CodeTracks sizes procedures vectors main (leads main + all_leads procedures + 5 + 5) n offsets (Main main) (At routine.Main 0 a [])
-        × ((v : ℕ) → CodeTracks sizes procedures vectors main (leads main + all_leads procedures + 5 + 5) n offsets (Handler (body_for procedures (number_for vectors v))) (At (procedure_or_none (number_for vectors v)) 0 a []))
+        × ((o : Option ℕ) → MayBeEntered vectors o → CodeTracks sizes procedures vectors main (leads main + all_leads procedures + 5 + 5) n offsets (Handler (body_for procedures o)) (At (procedure_or_none o) 0 a []))
     whole offsets placed n a =
         let x : Setting = record {
           offsets = offsets;
@@ -194,14 +193,14 @@ program_tracks sizes procedures vectors order main good sorted = (leads main + a
         let handled : (q : ℕ) (procedure : Procedure) → slice_get procedures q ≡ Some procedure → serves vectors q ≡ true → T x n 2 (Handler procedure.body) (At (routine.Procedure q) 0 a []) = λ q procedure got is.
         handler_tracks x (serves vectors) (place_in order) bodies coded roomy q procedure got is n a in (
           main_tracks x (serves vectors) (place_in order) bodies coded roomy main good.main_body (omega arith) (has_all (code procedures vectors main routine.Main)) n a,
-          λ v. by_number x (unserved_tracks x (serves vectors) (place_in order) bodies coded roomy refl n a) handled v (number_for vectors v) refl,
+          λ o may. by_number x (unserved_tracks x (serves vectors) (place_in order) bodies coded roomy refl n a) handled o may,
         )
       where
         by_number : (x : Setting) → T x n 2 (Handler End) (At routine.Unserved 0 a []) → ((q : ℕ) (procedure : Procedure) → slice_get procedures q ≡ Some procedure → serves vectors q ≡ true → T x n 2 (Handler procedure.body) (At (routine.Procedure q) 0 a []))
-            → (v : ℕ) (o : Option ℕ) → number_for vectors v ≡ o → T x n 2 (Handler (body_for procedures o)) (At (procedure_or_none o) 0 a [])
-        by_number x none some v None e = none
-        by_number x none some v (Some q) e =
-            let first = position-Some (λ m. is_number m v) vectors q None e in
+            → (o : Option ℕ) → MayBeEntered vectors o → T x n 2 (Handler (body_for procedures o)) (At (procedure_or_none o) 0 a [])
+        by_number x none some None may = none
+        by_number x none some (Some q) may =
+            let is = may q refl in
             let empty : Procedure = record { parameters = []; body = End } in
-            let got = slice_get-get_or procedures q empty (omega (arith, first.0, good.each)) in
-            subst (λ o. T x n 2 (Handler (body_of o)) (At (routine.Procedure q) 0 a [])) (sym got) (some q (get_or procedures q empty) got (number_serves vectors v q e))
+            let got = slice_get-get_or procedures q empty (omega (arith, serving_within vectors q is, good.each)) in
+            subst (λ o. T x n 2 (Handler (body_of o)) (At (routine.Procedure q) 0 a [])) (sym got) (some q (get_or procedures q empty) got is)

@@ -1,4 +1,5 @@
-pub mod Shown
-pub mod Chains
-pub mod Parts
+pub mod Put
+pub mod Expressions
+pub mod Loops
+pub mod Statements
 pub mod Lowering

@@ -1,14 +1,13 @@
 -- What `lower` gives: the code of a program's trees, each procedure in the section of its module.
-use Rattle.std.specs.Prelude.{ℕ, suc, Bool, true, false, cond, List, [], ◌∷◌, Option, Some, None, slice_get, position, ◌≡◌, max, map}
+use Rattle.std.specs.Prelude.{ℕ, suc, Bool, true, false, cond, List, [], ◌∷◌, Option, Some, None, slice_get, ◌≡◌, max, map}
 use Rattle.plm_type.specs.Rest.{Statements, Procedure}
 use Rattle.icode.specs.declared.instruction.Instruction.{Instruction}
 use Rattle.icode.specs.declared.instruction.Instruction.TheVariants as op
 use Rattle.icode.specs.declared.code.Routine.{Routine}
 use Rattle.icode.specs.declared.code.Routine.TheVariants as routine
-use Rattle.icode.specs.Vectors.{is_number}
 use Rattle.plm_decl.specs.declared.names.Names.{Names}
 use Rattle.plm_decl.specs.Names.{ProcedureR, main_of, vector_of}
-use Rattle.plm_type.specs.Programs.{declared_procedures, main_tree, procedures_of, handler_tree, body_for}
+use Rattle.plm_type.specs.Programs.{declared_procedures, main_tree, procedures_of, handler_number}
 use Rattle.icode.specs.declared.code.Code.{Code}
 use Rattle.icode.specs.Code.{code_of, serving, procedure_or_none}
 use Rattle.lower.specs.Expressions.{are_giving, gives}
@@ -24,9 +23,9 @@ has_vector None = false
 abbrev pub serves : (vectors : List (Option ℕ)) → (procedure : ℕ) → Bool
 serves vectors q = has_vector (slice_get vectors q)
 
--- the first procedure that serves a vector
-abbrev pub number_for : (vectors : List (Option ℕ)) → (vector : ℕ) → Option ℕ
-number_for vectors v = position (λ n. is_number n v) vectors
+-- what an interrupt may enter: a procedure that serves a vector, or none
+abbrev pub MayBeEntered : (vectors : List (Option ℕ)) → Option ℕ → Type 0
+MayBeEntered vectors o = (q : ℕ) → o ≡ Some q → serves vectors q ≡ true
 
 abbrev pub kind_of : (serves gives : Bool) → Kind
 kind_of serves gives = cond serves Serving (cond gives Giving Called)
@@ -61,10 +60,10 @@ module _ (names : Names) where
     pub main_is_in : c.main_module ≡ (main_of names.main).module
     pub sections_are : c.sections ≡ suc (last_module (main_of names.main).module (declared_procedures names))
 
--- What an interrupt does: it enters the first procedure with its vector, in the meaning and in the code.
-pub record EntersFirst (names : Names) (vector : ℕ) : Type 0 where
-  pub meant : handler_tree names vector ≡ body_for (procedures_of names) (number_for (vectors_of names) vector)
-  pub coded : (c : Code) → IsLowered names c → serving c vector ≡ procedure_or_none (number_for (vectors_of names) vector)
+-- What an interrupt does: the procedure that it enters in the meaning serves a vector, and the code enters the same one.
+pub record EntersTheSame (names : Names) (vector : ℕ) : Type 0 where
+  pub meant : MayBeEntered (vectors_of names) (handler_number names vector)
+  pub coded : (c : Code) → IsLowered names c → serving c vector ≡ procedure_or_none (handler_number names vector)
 
 abbrev pub EntryLaw : Type 0
-EntryLaw = (names : Names) (vector : ℕ) → EntersFirst names vector
+EntryLaw = (names : Names) (vector : ℕ) → EntersTheSame names vector

@@ -5,6 +5,7 @@ use Rattle.word86.specs.Action.{Action, Enable, Halt, Over}
 use Rattle.plm_decl.specs.declared.names.Names.{Names}
 use Rattle.plm_type.specs.declared.checked.Program.{Program}
 use Rattle.plm_type.specs.Checked.{AreTyped}
+use Rattle.plm_type.specs.Programs.{handler_number}
 use Rattle.icode.specs.declared.code.Routine.{Routine}
 use Rattle.icode.specs.declared.code.Routine.TheVariants.{Main}
 use Rattle.icode.specs.declared.code.Word.{Word}
@@ -12,7 +13,7 @@ use Rattle.icode.specs.declared.instruction.Instruction.TheVariants.{Finish}
 use Rattle.icode.specs.Code.{procedure_or_none}
 use Rattle.icode.specs.Machine.{Context, At, does}
 use Rattle.icode.specs.Runs.{Comes}
-use Rattle.lower.specs.Lowering.{number_for, vectors_of, program_code}
+use Rattle.lower.specs.Lowering.{program_code}
 use Rattle.lower.specs.Checked.{IsWellFormed}
 
 module _ (names : Names) where
@@ -21,7 +22,7 @@ module _ (names : Names) where
 
   -- what an interrupt with this vector enters
   abbrev pub entered : (vector : ℕ) → Routine
-  entered v = procedure_or_none (number_for (vectors_of names) v)
+  entered v = procedure_or_none (handler_number names v)
 
   -- Main is never used up. An interrupt comes to no ENABLE or HALT, and is used up in the procedure that it entered.
   pub record RunsAreAllowed : Type 0 where

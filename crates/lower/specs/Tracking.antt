@@ -12,7 +12,7 @@ use Rattle.icode.specs.Machine.{Context, At, does}
 use Rattle.icode.specs.Code.{procedure_or_none}
 use Rattle.lower.specs.Expressions.{are_giving}
 use Rattle.lower.specs.Statements.{OfMain}
-use Rattle.lower.specs.Lowering.{kind_of, serves, number_for, code}
+use Rattle.lower.specs.Lowering.{kind_of, serves, MayBeEntered, code}
 use Rattle.plm_type.specs.Programs.{body_for}
 use Rattle.lower.specs.Well.{AreStatements}
 
@@ -26,12 +26,12 @@ pub record IsProgram (sizes : List ℕ) (procedures : List Procedure) (vectors :
 abbrev pub CodeTracks : (sizes : List ℕ) (procedures : List Procedure) (vectors : List (Option ℕ)) (main : Statements) (most n : ℕ) (offsets : List ℕ) → Rest → Context → Type 0
 CodeTracks sizes procedures vectors main most n offsets r c = Tracks Access answers Rest (next offsets sizes procedures) Context (does offsets sizes (code procedures vectors main)) 2 most n 2 r c
 
--- wherever the objects lie, and whatever is in the accumulator: from where main begins, and from where what serves a vector begins
+-- wherever the objects lie, and whatever is in the accumulator: from where main begins, and from where what an interrupt may enter begins
 abbrev pub LoweringTracks : (sizes : List ℕ) (procedures : List Procedure) (vectors : List (Option ℕ)) (main : Statements) → Type 0
 LoweringTracks sizes procedures vectors main =
     (most : ℕ) × ((offsets : List ℕ) → IsPlacement offsets sizes → (n a : ℕ)
     → CodeTracks sizes procedures vectors main most n offsets (Main main) (At routine.Main 0 a [])
-    × ((v : ℕ) → CodeTracks sizes procedures vectors main most n offsets (Handler (body_for procedures (number_for vectors v))) (At (procedure_or_none (number_for vectors v)) 0 a [])))
+    × ((o : Option ℕ) → MayBeEntered vectors o → CodeTracks sizes procedures vectors main most n offsets (Handler (body_for procedures o)) (At (procedure_or_none o) 0 a [])))
 
 -- for every program that has an order of its procedures in which each stands after those that it calls
 abbrev pub LoweringLaw : Type 0

@@ -52,7 +52,7 @@ fn is_giving(statement: &Statement) -> bool
         Statement::Block(body) => are_giving(body),
         Statement::While(_, body) => are_giving(body),
         Statement::Case(_, cases) => are_giving(cases),
-        Statement::Iterate(_, iteration) => are_giving(&iteration.body),
+        Statement::Iterate(_, rounds) => are_giving(&rounds.body),
         Statement::Empty
         | Statement::Assign(_, _, _)
         | Statement::Evaluate(_)

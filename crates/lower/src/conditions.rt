@@ -3,8 +3,8 @@
 ghost use Rattle.std.specs.Prelude.{◌≡◌, ◌++◌, OnOk, IfOk, IsOkUnless};
 ghost use Rattle.plm_type.specs.View.{expression_of, procedures_of};
 ghost use Rattle.lower.specs.Expressions.{operand_of, relation_of, stands_to, test_of, condition_code, expression_code, beside};
-ghost use Rattle.lower.specs.Inner.Shown.{operand_shown};
-ghost use Rattle.lower.specs.Inner.Chains.{chain_code};
+ghost use Rattle.lower.specs.Inner.Put.{operand_shown};
+ghost use Rattle.lower.specs.Inner.Expressions.{chain_code};
 
 use crate::callees::Callees;
 use crate::expressions::{chain, expression, right};

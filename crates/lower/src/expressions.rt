@@ -6,7 +6,7 @@ ghost use Rattle.word86.specs.Place.{where_of};
 ghost use Rattle.plm_type.specs.Rest.{Call};
 ghost use Rattle.plm_type.specs.Next.{parameters_of};
 ghost use Rattle.lower.specs.Expressions.{anchor_place, scaled, moved, based, reading, locating, writing, receiving, sending, passing, expression_code, subscripts_code, pushed_code, target_code, targets_code, operand_of, alone, beside, calling, dropped_code};
-ghost use Rattle.lower.specs.Inner.Chains.{operation_code, chain_code};
+ghost use Rattle.lower.specs.Inner.Expressions.{operation_code, chain_code};
 
 use crate::callees::Callees;
 use crate::put::{Operand, add, as_operand, put};

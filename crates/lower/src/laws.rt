@@ -46,7 +46,7 @@ pub fn heights_are_low()
     ensures { HeightLaw }
 {}
 
-/// An interrupt enters the first procedure with its vector, in what the program means and in its code.
+/// An interrupt enters the same procedure in the code as in what the program means, and that one serves a vector.
 pub fn interrupts_enter_their_procedures()
     ensures { EntryLaw }
 {}

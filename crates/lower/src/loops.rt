@@ -4,7 +4,7 @@ ghost use Rattle.std.specs.Prelude.{◌≡◌, ◌++◌, ◌+◌, length, IfOk, 
 ghost use Rattle.plm_type.specs.View.{expression_of, procedures_of, scalar_of};
 ghost use Rattle.lower.specs.Expressions.{operand_of, beside, expression_code, condition_code, test_of};
 ghost use Rattle.lower.specs.Statements.{within, left_in, left_from, next_by_number, add_pushed, next_round};
-ghost use Rattle.lower.specs.Inner.Parts.{repeating, counting, iterating};
+ghost use Rattle.lower.specs.Inner.Loops.{while_loop, counting, iterating};
 
 use crate::callees::Callees;
 use crate::conditions::{condition, stands_to};
@@ -18,14 +18,14 @@ use word86::{BinaryOperation, Fault, add16};
 type Instructions = Vec<Instruction>;
 
 /// DO WHILE.
-pub fn repeat(
+pub fn while_loop(
     alloc: Global,
     callees: Callees<'_>,
     tree: &Expression,
     body: &[Instruction],
     exit: usize,
 ) -> Result<Instructions, Fault>
-    ensures code { IfOk result (λ r. r.items ≡ repeating (condition_code (procedures_of callees.entry.procedures.now) (expression_of tree.now)) (test_of (expression_of tree.now)) body.now exit) }
+    ensures code { IfOk result (λ r. r.items ≡ while_loop (condition_code (procedures_of callees.entry.procedures.now) (expression_of tree.now)) (test_of (expression_of tree.now)) body.now exit) }
     ensures memory { IsOkUnless result Fault.Memory }
 {
     let mut code = Vec::with_capacity(alloc, body.len().saturating_add(ROOM))?;
@@ -73,28 +73,28 @@ pub fn iterate(
     code: &mut Instructions,
     alloc: Global,
     callees: Callees<'_>,
-    iteration: &Loop,
+    rounds: &Loop,
     body: &[Instruction],
     exit: usize,
 ) -> Result<(), Fault>
-    ensures code { OnOk result (code.new.items ≡ code.old.items ++ iterating iteration.now.counting (scalar_of iteration.now.index) (operand_of (expression_of iteration.now.bound)) (beside (operand_of (expression_of iteration.now.bound)) (expression_code (procedures_of callees.entry.procedures.now) (expression_of iteration.now.bound))) (operand_of (expression_of iteration.now.step)) (expression_code (procedures_of callees.entry.procedures.now) (expression_of iteration.now.step)) body.now exit) }
+    ensures code { OnOk result (code.new.items ≡ code.old.items ++ iterating rounds.now.counting (scalar_of rounds.now.index) (operand_of (expression_of rounds.now.bound)) (beside (operand_of (expression_of rounds.now.bound)) (expression_code (procedures_of callees.entry.procedures.now) (expression_of rounds.now.bound))) (operand_of (expression_of rounds.now.step)) (expression_code (procedures_of callees.entry.procedures.now) (expression_of rounds.now.step)) body.now exit) }
     ensures memory { IsOkUnless result Fault.Memory }
 {
-    let Scalar { width, place } = iteration.index;
+    let Scalar { width, place } = rounds.index;
     let mut compared = Vec::new(alloc);
-    right(&mut compared, callees, &iteration.bound)?;
+    right(&mut compared, callees, &rounds.bound)?;
     let before = distance(distance(compared.len(), body.len())?, 2)?;
     let again = next_round(
         alloc,
         callees,
-        iteration.counting,
-        iteration.index,
-        &iteration.step,
+        rounds.counting,
+        rounds.index,
+        &rounds.step,
         before,
     )?;
     put(code, Instruction::Store(width, place))?;
     put(code, Instruction::Load(width, place))?;
-    let test = stands_to(within(iteration.counting), as_operand(&iteration.bound));
+    let test = stands_to(within(rounds.counting), as_operand(&rounds.bound));
     count(code, &compared, test, body, &again, exit)
 }
 

@@ -3,7 +3,7 @@
 ghost use Rattle.std.specs.Prelude.{◌≡◌, ◌+◌, ◌++◌, ◌∷◌, [], IfOk, OnOk, IsOkUnless};
 ghost use Rattle.plm_type.specs.View.{expression_of};
 ghost use Rattle.lower.specs.Expressions.{operand_of};
-ghost use Rattle.lower.specs.Inner.Shown.{operand_shown};
+ghost use Rattle.lower.specs.Inner.Put.{operand_shown};
 
 use icode::Instruction;
 use plm_type::{Expression, Place, trees_have_their_lists};

@@ -6,14 +6,14 @@ ghost use Rattle.plm_type.specs.View.{statement_of, statements_of, expression_of
 ghost use Rattle.plm_type.specs.Rest.{While, Case, Iterate};
 ghost use Rattle.lower.specs.Expressions.{targets_code, expression_code, dropped_code, condition_code, test_of};
 ghost use Rattle.lower.specs.Statements.{returning, narrowed, statement_code, statements_code, cases_code, over, failing, choosing, ending, routine_code};
-ghost use Rattle.lower.specs.Inner.Parts.{branching};
+ghost use Rattle.lower.specs.Inner.Statements.{branching};
 
 use crate::callees::Callees;
 use crate::cases::switch;
 use crate::conditions::condition;
 use crate::expressions::{assign, dropped, expression};
 use crate::kind::Kind;
-use crate::loops::{iterate, repeat};
+use crate::loops::{iterate, while_loop};
 use crate::put::{ROOM, add, distance, put};
 use crate::silence::{are_silent, exit_before, with_code};
 use icode::Instruction;
@@ -179,9 +179,9 @@ impl Around<'_> {
                 self.branch(code, arm, condition, are_silent(other), &otherwise, exit)
             }
             Statement::Block(body) => self.statements(code, body, exit),
-            Statement::While(condition, body) => self.repetition(code, body, condition, exit),
-            Statement::Case(value, cases) => self.cases(code, cases, value, exit),
-            Statement::Iterate(first, iteration) => self.iteration(code, iteration, first, exit),
+            Statement::While(condition, body) => self.while_loop(code, body, condition, exit),
+            Statement::Case(value, cases) => self.case(code, cases, value, exit),
+            Statement::Iterate(first, rounds) => self.iterate(code, rounds, first, exit),
         }
     }
 
@@ -236,7 +236,7 @@ impl Around<'_> {
 
     // DO WHILE.
     #[cycle(statements)]
-    fn repetition(
+    fn while_loop(
         self,
         code: &mut Instructions,
         body: &[Box<Statement>],
@@ -246,31 +246,31 @@ impl Around<'_> {
         ensures code { OnOk result (code.new.items ≡ code.old.items ++ statement_code (procedures_of self.entry.callees.procedures.now) self.entry.kind exit (While (expression_of tree.now) (expression_of tree.now) (statements_of body.now))) }
         ensures memory { IsOkUnless result Fault.Memory }
     {
-        let rounds = self.apart(body, 0)?;
-        let more = repeat(self.alloc, self.callees, tree, &rounds, exit)?;
+        let body = self.apart(body, 0)?;
+        let more = while_loop(self.alloc, self.callees, tree, &body, exit)?;
         add(code, &more)
     }
 
     // DO with an index.
     #[cycle(statements)]
-    fn iteration(
+    fn iterate(
         self,
         code: &mut Instructions,
-        iteration: &Loop,
+        rounds: &Loop,
         first: &Expression,
         exit: usize,
     ) -> Result<(), Fault>
-        ensures code { OnOk result (code.new.items ≡ code.old.items ++ statement_code (procedures_of self.entry.callees.procedures.now) self.entry.kind exit (Iterate (expression_of first.now) (loop_of iteration.now))) }
+        ensures code { OnOk result (code.new.items ≡ code.old.items ++ statement_code (procedures_of self.entry.callees.procedures.now) self.entry.kind exit (Iterate (expression_of first.now) (loop_of rounds.now))) }
         ensures memory { IsOkUnless result Fault.Memory }
     {
-        let rounds = self.apart(&iteration.body, 0)?;
+        let body = self.apart(&rounds.body, 0)?;
         expression(code, self.callees, first)?;
-        iterate(code, self.alloc, self.callees, iteration, &rounds, exit)
+        iterate(code, self.alloc, self.callees, rounds, &body, exit)
     }
 
     // DO CASE.
     #[cycle(statements)]
-    fn cases(
+    fn case(
         self,
         code: &mut Instructions,
         cases: &[Box<Statement>],

@@ -1,5 +1,6 @@
 -- The order of priority: what a search over the places of it finds.
 use Rattle.std.proofs.lemmas.Bool.{or_left, lt-ltb, ltb-true, false_from_ne_true, or_parts, and_parts, not-true, and_from}
+use Rattle.std.proofs.Math.Bool.{and-false}
 use Rattle.std.proofs.Common.{◌≡◌, ℕ, zero, suc, ◌+◌, ◌-◌, ◌<◌, ◌≤◌, ◌⊎◌, inl, inr, Bool, true, false, not, ◌&&◌, ◌||◌, refl, sym, ap, ◌∙◌, subst, arith, mod-lt, Option, Some, None, find, map, nat_lt, List, IfSome}
 use Rattle.std.specs.Prelude.{if◌then◌else◌, is_some, unwrap_or}
 use Rattle.std.specs.List.{list_all, range_with_len}
@@ -84,25 +85,13 @@ all_true lowest t (suc n) i f =
     ap (λ b. b && list_all t (places lowest (i + 1) n)) (f i (omega arith) (omega arith))
     ∙ all_true lowest t n (i + 1) (λ j a b. f j (omega arith) (omega arith))
 
-and_false : (b : Bool) → (b && false) ≡ false
-and_false true = refl
-and_false false = refl
-
-and_left : (a b : Bool) → (a && b) ≡ true → a ≡ true
-and_left true b h = refl
-and_left false b h = absurd (clash (sym h))
-
-and_right : (a b : Bool) → (a && b) ≡ true → b ≡ true
-and_right true b h = h
-and_right false b h = absurd (clash (sym h))
-
 pub all_at : (lowest : ℕ) (t : ℕ → Bool) (n i j : ℕ) → list_all t (places lowest i n) ≡ true → i ≤ j → j < i + n → t (level_at lowest j) ≡ true
 all_at lowest t zero i j h a b = absurd (omega arith)
 all_at lowest t (suc n) i j h a b =
     let split : (i ≡ j) ⊎ (i < j) = grind arith in
     elim split [
-      | inl same ↦ ap (λ x. t (level_at lowest x)) (sym same) ∙ and_left (t (level_at lowest i)) (list_all t (places lowest (i + 1) n)) h
-      | inr more ↦ all_at lowest t n (i + 1) j (and_right (t (level_at lowest i)) (list_all t (places lowest (i + 1) n)) h) (omega arith) (omega arith)
+      | inl same ↦ ap (λ x. t (level_at lowest x)) (sym same) ∙ (and_parts (t (level_at lowest i)) (list_all t (places lowest (i + 1) n)) h).0
+      | inr more ↦ all_at lowest t n (i + 1) j (and_parts (t (level_at lowest i)) (list_all t (places lowest (i + 1) n)) h).1 (omega arith) (omega arith)
     ]
 
 -- the highest level that passes a test
@@ -180,7 +169,7 @@ unfolding highest
 next_none lowest a w h =
     find_nothing lowest (λ k. is_above lowest a k && w k) 8 0 (λ j c d.
     let none = find_none lowest (λ k. a k || w k) 8 0 h j c d in
-    ap (λ b. is_above lowest a (level_at lowest j) && b) (or_parts (a (level_at lowest j)) (w (level_at lowest j)) none).1 ∙ and_false (is_above lowest a (level_at lowest j)))
+    ap (λ b. is_above lowest a (level_at lowest j) && b) (or_parts (a (level_at lowest j)) (w (level_at lowest j)) none).1 ∙ and-false (is_above lowest a (level_at lowest j)))
 
 -- the first active level is in service: nothing is next
 pub next_served : (lowest : ℕ) (a w : ℕ → Bool) (k : ℕ) → lowest < 8 → highest lowest (λ k. a k || w k) ≡ Some k → a k ≡ true → highest lowest (λ k. is_above lowest a k && w k) ≡ None
@@ -192,7 +181,7 @@ next_served lowest a w k below h served =
     find_nothing lowest (λ k. is_above lowest a k && w k) 8 0 (λ j c d.
     let split : (j < r.place) ⊎ (r.place ≤ j) = grind arith in
     elim split [
-      | inl less ↦ ap (λ b. is_above lowest a (level_at lowest j) && b) (or_parts (a (level_at lowest j)) (w (level_at lowest j)) (r.none_before j c less)).1 ∙ and_false (is_above lowest a (level_at lowest j))
+      | inl less ↦ ap (λ b. is_above lowest a (level_at lowest j) && b) (or_parts (a (level_at lowest j)) (w (level_at lowest j)) (r.none_before j c less)).1 ∙ and-false (is_above lowest a (level_at lowest j))
       | inr more ↦ ap (λ b. b && w (level_at lowest j)) (above_served lowest r.place j a below small (omega arith) more served_there)
     ])
 
@@ -207,7 +196,7 @@ next_wanted lowest a w k below h unserved =
     let wanted : w (level_at lowest r.place) ≡ true = or_rest (a (level_at lowest r.place)) (w (level_at lowest r.place)) unserved_there r.passes in
     find_make lowest (λ k. is_above lowest a k && w k) 8 0 r.place r.from r.within
     (ap (λ b. b && w (level_at lowest r.place)) above ∙ wanted)
-    (λ j c d. ap (λ b. is_above lowest a (level_at lowest j) && b) (or_parts (a (level_at lowest j)) (w (level_at lowest j)) (r.none_before j c d)).1 ∙ and_false (is_above lowest a (level_at lowest j)))
+    (λ j c d. ap (λ b. is_above lowest a (level_at lowest j) && b) (or_parts (a (level_at lowest j)) (w (level_at lowest j)) (r.none_before j c d)).1 ∙ and-false (is_above lowest a (level_at lowest j)))
     ∙ ap Some (sym r.level_is)
 
 -- the same, of a controller
@@ -243,7 +232,7 @@ higher_is_above lowest a k j i less f = higher_at (nat_lt (rank lowest j) (rank 
 wanted_above : (lowest : ℕ) (a w : ℕ → Bool) (k : ℕ) → lowest < 8 → IsHighest lowest (λ k. is_above lowest a k && w k) k → (j : ℕ) → j < 8 → w j ≡ true → rank lowest k ≤ rank lowest j
 wanted_above lowest a w k below h j small wanted =
     let split : (rank lowest k ≤ rank lowest j) ⊎ (rank lowest j < rank lowest k) = grind arith in
-    let mine = above_levels lowest a k below (and_left (is_above lowest a k) (w k) h.passes) in
+    let mine = above_levels lowest a k below (and_parts (is_above lowest a k) (w k) h.passes).0 in
     elim split [
       | inl le ↦ le
       | inr less ↦
@@ -259,8 +248,8 @@ pending_is_next s k below h =
     let parts = and_parts (is_above s.lowest (has s.in_service) k) (is_wanted s k) top.passes in
     record {
       is_level = top.is_level;
-      requested = and_left (has s.requested k) (not (has s.masked k)) parts.1;
-      unmasked = not-true (has s.masked k) (and_right (has s.requested k) (not (has s.masked k)) parts.1);
+      requested = (and_parts (has s.requested k) (not (has s.masked k)) parts.1).0;
+      unmasked = not-true (has s.masked k) (and_parts (has s.requested k) (not (has s.masked k)) parts.1).1;
       above_service = above_levels s.lowest (has s.in_service) k below parts.0;
       highest = λ j small asked free. wanted_above s.lowest (has s.in_service) (is_wanted s) k below top j small (ap (λ b. b && not (has s.masked j)) asked ∙ ap not free);
     }
@@ -321,11 +310,11 @@ pub line_up : (s : Controller) (k : ℕ) → s.lowest < 8 → s.mode_8086 ≡ tr
 line_up s k below mode h = and_from s.mode_8086 (is_some (pending s)) mode (some_up (pending s) (not_none s k below h))
 
 pub line_mode : (s : Controller) → int_line s ≡ true → s.mode_8086 ≡ true
-line_mode s h = and_left s.mode_8086 (is_some (pending s)) h
+line_mode s h = (and_parts s.mode_8086 (is_some (pending s)) h).0
 
 level_taken : (o : Option ℕ) (s : Controller) → s.lowest < 8 → pending s ≡ o → is_some o ≡ true → (k : ℕ) × IsNext s k × (vector s ≡ s.base + k) × (acknowledged s ≡ taken (Some k) s)
 level_taken None s below e up = absurd (clash (sym up))
 level_taken (Some k) s below e up = (k, pending_is_next s k below e, ap (λ (o : Option ℕ). s.base + unwrap_or o 0) e, ap (λ (o : Option ℕ). taken o s) e)
 
 pub line_level : (s : Controller) → s.lowest < 8 → int_line s ≡ true → (k : ℕ) × IsNext s k × (vector s ≡ s.base + k) × (acknowledged s ≡ taken (Some k) s)
-line_level s below h = level_taken (pending s) s below refl (and_right s.mode_8086 (is_some (pending s)) h)
+line_level s below h = level_taken (pending s) s below refl (and_parts s.mode_8086 (is_some (pending s)) h).1

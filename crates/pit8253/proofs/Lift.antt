@@ -1,5 +1,5 @@
 -- From what is counted to the channel around it.
-use Rattle.std.proofs.lemmas.Bool.{cases_Bool}
+use Rattle.std.proofs.lemmas.Bool.{cases_Bool, and_parts}
 use Rattle.std.proofs.Common.{◌≡◌, ℕ, zero, suc, Bool, true, false, not, ◌&&◌, ◌||◌, refl, sym, ap, ◌∙◌, subst, inl, inr, MatchBool}
 use Rattle.std.specs.Prelude.{is_some}
 use Rattle.pit8253.specs.Progress.{Progress, Still, Once, one, is_high}
@@ -22,17 +22,13 @@ unfolding pulses
 pulses_stuck zero s h = refl
 pulses_stuck (suc k) s h = ap pulse (pulses_stuck k s h) ∙ ap (λ b. record s { progress = moved b s.progress }) h
 
-and_first : (a b : Bool) → (a && b) ≡ true → a ≡ true
-and_first true b h = refl
-and_first false b h = absurd (clash (sym h))
-
 or_none : (a b c : Bool) → b ≡ true → ((a && not b) || c) ≡ c
 or_none true true c h = refl
 or_none false true c h = refl
 or_none a false c h = absurd (clash (sym h))
 
 pub out_counting : (s : Counter) (m : Progress) → is_counting s ≡ true → out (record s { progress = m }) ≡ is_high m
-out_counting s m h = or_none (is_periodic s.mode) s.gate (is_high m) (and_first s.gate (not (is_terminal s.mode && is_some s.low)) h)
+out_counting s m h = or_none (is_periodic s.mode) s.gate (is_high m) (and_parts s.gate (not (is_terminal s.mode && is_some s.low)) h).0
 
 pub out_pulses : (k : ℕ) (s : Counter) → is_counting s ≡ true → out (pulses k s) ≡ is_high (many.pulses k s.progress)
 out_pulses k s h = ap out (pulses_counting k s h) ∙ out_counting s (many.pulses k s.progress) h

@@ -1,5 +1,6 @@
 -- The labels of `mean` are those of a run that the language allows.
 use Rattle.std.proofs.Common.{◌≡◌, ℕ, Bool, true, false, ◌++◌, List, [], ◌∷◌, Option, Some, None, refl, sym, ap, ◌∙◌, append_assoc, append-nil, inl, inr, ◌⊎◌}
+use Rattle.std.proofs.lemmas.Option.{some_pair_parts}
 use Rattle.word86.specs.Action.{Shared, Action, Silent, Touch, Enable, Disable, Halt, Over, Bad, IsBad}
 use Rattle.word86.specs.declared.event.Event.{Event}
 use Rattle.word86.specs.declared.label.Label.{Label}
@@ -52,22 +53,14 @@ unless_bad false o b h = (refl, h)
 
 -- ---- one run after another
 
-pair_same : {A : Type 0} → (x y : A) → Some x ≡ Some y → x ≡ y
-pair_same x y h = cc
-
-both_same : {S L : Type 0} → (s t : S) (l m : L) → ◌≡◌ {A = Option (S × L)} (Some (s, l)) (Some (t, m)) → (s ≡ t) × (l ≡ m)
-both_same {S} {L} s t l m h =
-    let same : ◌≡◌ {A = S × L} (s, l) (t, m) = pair_same {A = S × L} (s, l) (t, m) h in
-    (ap (λ (z : S × L). z.0) same, ap (λ (z : S × L). z.1) same)
-
 -- The labels before those of the first run stand before those of both.
 labelled_both : {S L : Type 0} → (before ls ms : List L) (t u : S) (y : S × List L) (o : Option (S × List L)) → labelled before (Some y) ≡ Some (t, ls) → o ≡ Some (u, y.1 ++ ms) → labelled before o ≡ Some (u, ls ++ ms)
 labelled_both before ls ms t u y o h e =
-    let labels = (both_same y.0 t (before ++ y.1) ls h).1 in
+    let labels = (some_pair_parts y.0 t (before ++ y.1) ls h).1 in
     ap (labelled before) e ∙ ap (λ l. Some (u, l)) (sym (append_assoc before y.1 ms) ∙ ap (λ l. l ++ ms) labels)
 
 state_labelled : {S L : Type 0} → (before ls : List L) (t : S) (y : S × List L) → labelled before (Some y) ≡ Some (t, ls) → y.0 ≡ t
-state_labelled before ls t y h = (both_same y.0 t (before ++ y.1) ls h).0
+state_labelled before ls t y h = (some_pair_parts y.0 t (before ++ y.1) ls h).0
 
 -- Where the first run leads on by the second, after a step too.
 leads_on : {S L : Type 0} → (f g : S → Option (S × List L)) (t u : S) (ms : List L) → ((s : S) (ls : List L) → f s ≡ Some (t, ls) → g s ≡ Some (u, ls ++ ms))
@@ -89,7 +82,7 @@ module _ (sh : Shared) (R : Type 0) (next : R → Action sh.Access R) (body : �
   both : (cs ds : List (Choice sh.Event)) (s t u : System sh.State R) (ls ms : List sh.Label) → steps sh R next body cs s ≡ Some (t, ls) → steps sh R next body ds t ≡ Some (u, ms)
       → steps sh R next body (cs ++ ds) s ≡ Some (u, ls ++ ms)
   both [] ds s t u ls ms a b =
-      let same = both_same s t [] ls a in
+      let same = some_pair_parts s t [] ls a in
       let state = same.0 in
       let labels = same.1 in
       ap (steps sh R next body ds) state ∙ b ∙ ap (λ (l : List sh.Label). Some (u, l ++ ms)) labels

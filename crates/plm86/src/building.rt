@@ -137,8 +137,7 @@ fn text_of_code(
     }
     let code = teller.or_refusal(lower(alloc, &built.program))?;
     let texts = named_texts(alloc, teller.sources)?;
-    let names = built.program.names();
-    teller.or_refusal(code_listing(alloc, &texts, names, &code, &built.image))
+    teller.or_refusal(code_listing(alloc, &texts, &built.program, &code, &built.image))
 }
 
 // The ROM as Intel HEX; nothing where no file is wanted.
@@ -185,8 +184,13 @@ fn warnings_of(alloc: Global, ordinal: usize, given: &[Warning]) -> Result<Vec<W
 fn text_of_map(alloc: Global, file: Option<&str>, built: &Built) -> Result<Vec<u8>, Stop> {
     let mut text = Vec::new(alloc);
     if file.is_some() {
-        let names = built.program.names();
-        if map(&built.image, names, &mut WriterSink::new(&mut text)).is_err() {
+        if map(
+            &built.image,
+            &built.program,
+            &mut WriterSink::new(&mut text),
+        )
+        .is_err()
+        {
             return Err(Stop::Memory);
         }
     }

@@ -18,6 +18,7 @@ ghost use Rattle.board.specs.Trace.{lines};
 ghost use Rattle.plm86.specs.Mean.{Alternatives, one_step, choices_from, meant, run_text, mean_status_of, IsCutShort};
 ghost use Rattle.plm86.specs.Inner.Meaning.{a_step, event_choices, Came, IsIdle, Far, Ended};
 
+use crate::status::status_of_fault;
 use board::Schedule;
 use listing_map::{put_end_line, put_label};
 use plm_decl::Placement;
@@ -204,7 +205,7 @@ pub fn mean_status(end: &Result<MeanEnd, Fault>) -> u8
 {
     match end {
         Ok(MeanEnd::Stopped) => 0,
-        Err(Fault::At(_, _, Number::E704)) => 3,
-        Ok(MeanEnd::Bad(_, _)) | Err(Fault::Memory | Fault::At(_, _, _)) => 1,
+        Err(Fault::At(_, _, number)) => status_of_fault(*number),
+        Ok(MeanEnd::Bad(_, _)) | Err(Fault::Memory) => 1,
     }
 }

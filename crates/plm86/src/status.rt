@@ -1,7 +1,7 @@
 //! The status with which a run of the program ends.
 
 ghost use Rattle.std.specs.Prelude.{◌≡◌};
-ghost use Rattle.plm86.specs.Status.{status_of};
+ghost use Rattle.plm86.specs.Status.{status_of, status_of_fault};
 
 use board::End;
 use word86::{Fault, Number};
@@ -13,7 +13,14 @@ pub fn status(end: &Result<End, Fault>) -> u8
 {
     match end {
         Ok(End::Stopped) => 0,
-        Err(Fault::At(_, _, Number::E704)) => 3,
-        Ok(End::Opcode(_)) | Err(Fault::Memory | Fault::At(_, _, _)) => 1,
+        Err(Fault::At(_, _, number)) => status_of_fault(*number),
+        Ok(End::Opcode(_)) | Err(Fault::Memory) => 1,
     }
+}
+
+/// 3 where the output cannot be written (E704).
+pub(crate) fn status_of_fault(number: Number) -> u8
+    ensures { result ≡ status_of_fault number }
+{
+    if number.code() == 704 { 3 } else { 1 }
 }

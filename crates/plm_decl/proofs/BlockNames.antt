@@ -1,5 +1,6 @@
 -- The names of a frame are those that its block declares.
 use Rattle.std.proofs.Common.{◌≡◌, ℕ, List, [], ◌∷◌, ◌++◌, Bool, true, false, ◌||◌, not, cond, is_some, Option, Some, None, bytes_eq, refl, sym, ap, ◌∙◌}
+use Rattle.std.proofs.Math.Bool.{or-false, or_assoc}
 use Rattle.std.specs.Option.{option_or}
 use Rattle.std.proofs.lemmas.Slice.Eq.{bytes_eq-Decides}
 use Rattle.plm_token.specs.Names.{normal}
@@ -20,18 +21,10 @@ use Rattle.plm_decl.specs.BlockNames.{name_of_variable, names_of_variables, name
 
 -- ---- tests
 
-pub or_none : (b : Bool) → (b || false) ≡ b
-or_none true = refl
-or_none false = refl
-
-pub or_together : (a b c : Bool) → ((a || b) || c) ≡ (a || (b || c))
-or_together true b c = refl
-or_together false b c = refl
-
 pub has_both : (name : List ℕ) (ms ns : List NameT) → has_name name (ms ++ ns) ≡ (has_name name ms || has_name name ns)
 has_both name [] ns = refl
 has_both name (m ∷ ms) ns =
-    ap (λ (b : Bool). bytes_eq name (normal m.text) || b) (has_both name ms ns) ∙ sym (or_together (bytes_eq name (normal m.text)) (has_name name ms) (has_name name ns))
+    ap (λ (b : Bool). bytes_eq name (normal m.text) || b) (has_both name ms ns) ∙ sym (or_assoc (bytes_eq name (normal m.text)) (has_name name ms) (has_name name ns))
 
 -- ---- one more name
 
@@ -43,15 +36,15 @@ chosen true i o = refl
 chosen false i o = refl
 
 finds_pushed : (name key : List ℕ) (i : Item) (es : Entries) → finds name (es ++ (key, i) ∷ []) ≡ (finds name es || bytes_eq name key)
-finds_pushed name key i [] = chosen (bytes_eq name key) i None ∙ or_none (bytes_eq name key)
+finds_pushed name key i [] = chosen (bytes_eq name key) i None ∙ or-false (bytes_eq name key)
 finds_pushed name key i (e ∷ es) =
     chosen (bytes_eq name e.0) e.1 (found_in name (es ++ (key, i) ∷ []))
     ∙ ap (λ (b : Bool). bytes_eq name e.0 || b) (finds_pushed name key i es)
-    ∙ sym (or_together (bytes_eq name e.0) (finds name es) (bytes_eq name key))
+    ∙ sym (or_assoc (bytes_eq name e.0) (finds name es) (bytes_eq name key))
     ∙ ap (λ (b : Bool). b || bytes_eq name key) (sym (chosen (bytes_eq name e.0) e.1 (found_in name es)))
 
 there : (name key : List ℕ) (es : Entries) (b : Bool) → bytes_eq name key ≡ b → finds key es ≡ true → finds name es ≡ (finds name es || b)
-there name key es false e h = sym (or_none (finds name es))
+there name key es false e h = sym (or-false (finds name es))
 there name key es true e h =
     let found : finds name es ≡ true = ap (λ (x : List ℕ). finds x es) ((bytes_eq-Decides name key).0 e) ∙ h in
     found ∙ sym (ap (λ (b : Bool). b || true) found)
@@ -69,14 +62,14 @@ pub record Enters (f : Frame) (outer : List Frame) (ns : List NameT) (after : Li
   pub finds_names : (name : List ℕ) → finds name innermost.names ≡ (finds name f.names || has_name name ns)
 
 enters_none : (f : Frame) (outer : List Frame) → Enters f outer [] (f ∷ outer)
-enters_none f outer = record { innermost = f; is = refl; finds_names = λ name. sym (or_none (finds name f.names)) }
+enters_none f outer = record { innermost = f; is = refl; finds_names = λ name. sym (or-false (finds name f.names)) }
 
 enters_one : (f : Frame) (outer : List Frame) (n : NameT) (i : Item) → Enters f outer (n ∷ []) (with_name (normal n.text) i (f ∷ outer))
 enters_one f outer n i = record {
   innermost = record f { names = with_entry (normal n.text) i f.names };
   is = refl;
   finds_names = λ name. entered (finds (normal n.text) f.names) name (normal n.text) i f.names refl
-      ∙ ap (λ (b : Bool). finds name f.names || b) (sym (or_none (bytes_eq name (normal n.text))));
+      ∙ ap (λ (b : Bool). finds name f.names || b) (sym (or-false (bytes_eq name (normal n.text))));
 }
 
 pub enters_then : (f : Frame) (outer : List Frame) (ms ns : List NameT) (step : List Frame → List Frame) (before : List Frame)
@@ -87,7 +80,7 @@ enters_then f outer ms ns step before a b =
       innermost = c.innermost;
       is = ap step a.is ∙ c.is;
       finds_names = λ name. c.finds_names name ∙ ap (λ (x : Bool). x || has_name name ns) (a.finds_names name)
-          ∙ or_together (finds name f.names) (has_name name ms) (has_name name ns)
+          ∙ or_assoc (finds name f.names) (has_name name ms) (has_name name ns)
           ∙ ap (λ (x : Bool). finds name f.names || x) (sym (has_both name ms ns));
     }
 

@@ -1,5 +1,6 @@
 -- What reading a tree notes of names that are declared twice.
 use Rattle.std.proofs.Common.{◌≡◌, ℕ, ◌+◌, ◌-◌, List, [], ◌∷◌, ◌++◌, map, length, Bool, true, false, ◌&&◌, ◌||◌, not, cond, Option, Some, None, nat_eq, nat_le, refl, sym, ap, subst, ◌∙◌}
+use Rattle.std.proofs.Math.Bool.{or-false}
 use Rattle.std.specs.Prelude.{slice_get, bytes_eq}
 use Rattle.std.specs.Option.{option_map_or}
 use Rattle.std.proofs.lemmas.List.{append-nil, append_assoc, map-append}
@@ -43,7 +44,8 @@ use Rattle.plm_decl.specs.Resolved.{ReferencesR, StatementsR, no_references, and
 use Rattle.plm_decl.specs.Expressions.{structure_meant, member_of_structure, member_meant, are_constants, constant_bytes, expression, reference, subscripts, selector, location}
 use Rattle.plm_decl.specs.Datum.{is_byte, character_datum}
 use Rattle.plm_decl.specs.Shape.{member_names, member_count, member_scalar, number_of_elements, with_member_name, with_member_names, with_members, structure_for, form_for, elements_filled, dimension_for, shape_for, scalar_at, size_of_shape}
-use Rattle.plm_decl.specs.Elements.{start, found_item, base_for, with_screen_name, region_for, with_public, linked, declared, with_variable, variable_in, region_of_variable, declared_variable, declared_variables, declared_list, place_of_variable}
+use Rattle.plm_decl.specs.Linkage.{start, found_item, with_public, linked}
+use Rattle.plm_decl.specs.Elements.{base_for, with_screen_name, region_for, declared, with_variable, variable_in, region_of_variable, declared_variable, declared_variables, declared_list, place_of_variable}
 use Rattle.plm_decl.specs.Sites.{location_site, at_site, first_site, site_after}
 use Rattle.plm_decl.specs.Attributes.{element_values, has_values, is_placed, traits_for}
 use Rattle.plm_decl.specs.Fill.{location_in, datum_for, FillingR, given_at, given_in, put_datum, too_many, name_at, put_at, put_value, past_at, unless_past, put_characters, put_single, filled_with, filled_from, filled_element, declared_at, declared_names, element}
@@ -54,7 +56,7 @@ use Rattle.plm_decl.specs.Joins.{region_joined, entry_joined, joined, agree, unj
 use Rattle.plm_decl.specs.Modules.{faults_of, whole_faults_of}
 use Rattle.plm_decl.specs.BlockNames.{name_of_variable, names_of_variables, names_of_element, names_of_items, has_name}
 use Rattle.plm_decl.specs.DeclaredAgain.{place_again, places_again, names_of_members, again_in_type, again_in_names, again_in_element, again_in_elements, again_in_block, again_in_items, again_in_item, again_in_statements, again_in_statement, again_in_basic, declared_twice, again_in_module, again_from, declared_again, is_twice, second_declarations}
-use Rattle.plm_decl.proofs.BlockNames.{finds, entered, has_both, or_none, Enters, enters_then, one_variable, one_element, block_enters, fresh_where_undeclared}
+use Rattle.plm_decl.proofs.BlockNames.{finds, entered, has_both, Enters, enters_then, one_variable, one_element, block_enters, fresh_where_undeclared}
 use Rattle.plm_decl.proofs.Once.{has_pushed, has_names}
 
 -- ---- what is noted on the way
@@ -137,7 +139,7 @@ twice_unless b before n k h =
     subst (λ (x : Bool). Notes (place_again before n) k (note_unless x E302 n.place k)) (sym h) (twice_if (has_name (normal n.text) before) n.place k)
 
 has_one_more : (name : List ℕ) (before : List NameT) (n : NameT) → has_name name (before ++ n ∷ []) ≡ (has_name name before || bytes_eq name (normal n.text))
-has_one_more name before n = has_both name before (n ∷ []) ∙ ap (λ (b : Bool). has_name name before || b) (or_none (bytes_eq name (normal n.text)))
+has_one_more name before n = has_both name before (n ∷ []) ∙ ap (λ (b : Bool). has_name name before || b) (or-false (bytes_eq name (normal n.text)))
 
 places_of_both : (before ms ns : List NameT) → places_again before (ms ++ ns) ≡ places_again before ms ++ places_again (before ++ ms) ns
 places_of_both before [] ns = ap (λ (ls : List NameT). places_again ls ns) (sym (append-nil before))

@@ -33,7 +33,8 @@ use Rattle.plm_decl.specs.Resolver.{Known, note_unless}
 use Rattle.plm_decl.specs.Names.{ObjectR}
 use Rattle.plm_decl.specs.Uses.{used, binding_of, is_something}
 use Rattle.plm_decl.specs.Shape.{scalar_at, size_of_shape, shape_for}
-use Rattle.plm_decl.specs.Elements.{is_base, based_region, base_for, with_screen_name, region_for, with_public, linked, with_variable, variable_in, declared, region_of_variable, variable_declared, declared_variable, declared_variables, declared_list, place_of_variable}
+use Rattle.plm_decl.specs.Linkage.{with_public, linked}
+use Rattle.plm_decl.specs.Elements.{is_base, based_region, base_for, with_screen_name, region_for, with_variable, variable_in, declared, region_of_variable, variable_declared, declared_variable, declared_variables, declared_list, place_of_variable}
 use Rattle.plm_decl.specs.Sites.{site_after, location_site, at_site, first_site}
 use Rattle.plm_decl.specs.Attributes.{element_values, has_values, traits_for}
 use Rattle.plm_decl.specs.Fill.{FillingR, filled, declared_at, declared_names, element}

@@ -21,6 +21,7 @@ use Rattle.plm_decl.specs.Lists.{member_list}
 use Rattle.plm_decl.specs.Shape.{number_of_elements, with_member_name, with_member_names, member_names, member_count, member_scalar, with_members, structure_for, form_for, stride_of, scalars_of, scalar_of_structure, scalar_at, size_of_shape, elements_filled, dimension_for, shape_for}
 use Rattle.plm_decl.specs.Fill.{scalars_in_name}
 use Rattle.plm_decl.proofs.Objects.{last_got}
+use Rattle.plm_decl.proofs.MemberScalars.{uncounted}
 
 -- ---- the bytes of a row of scalars
 
@@ -197,9 +198,6 @@ alike_fit s n = record {
     bounded Pointer n m p = omega (arith, p)
     bounded Integer n m p = omega (arith, p)
 
-unsaturated : (n : ℕ) → counted n < 18446744073709551615 → counted n ≡ n
-unsaturated n h = omega (arith, h)
-
 factor_below : (a b : ℕ) → 0 < b → a ≤ a * b
 factor_below a zero q = omega (arith, q)
 factor_below a (suc b) q = let e : a * suc b ≡ a * b + a = grind arith in omega (arith, e)
@@ -210,7 +208,7 @@ turned a b = grind arith
 structure_room : (s : StructureR) (n m : ℕ) → Adds s → 0 < n → counted (s.size * n) < 18446744073709551615 → m ≤ counted (s.scalars * n)
     → bytes_before (scalar_of_structure s) m ≤ counted (s.size * n)
 structure_room s n m h p small q =
-    let whole = unsaturated (s.size * n) small in
+    let whole = uncounted (s.size * n) small in
     let below = factor_below s.size n p in
     let bytes : s.size ≡ bytes_of_fields s.fields = omega (arith, h.bytes, whole, below, small) in
     let fewer = bytes_are_more s.fields in

@@ -1,5 +1,6 @@
 -- The initial values of what statements, procedures and modules declare have room in their objects.
 use Rattle.std.proofs.Common.{◌≡◌, ℕ, ◌+◌, ◌<◌, ◌≤◌, List, [], ◌∷◌, ◌++◌, map, length, Bool, true, false, ◌||◌, not, cond, Option, Some, None, nat_eq, arith, refl, sym, ap, subst, ◌∙◌}
+use Rattle.std.proofs.lemmas.Bool.{and_parts}
 use Rattle.std.specs.Prelude.{slice_get, sum_by}
 use Rattle.std.specs.List.{list_all, All}
 use Rattle.std.proofs.lemmas.List.{length-append, length-set}
@@ -31,7 +32,8 @@ use Rattle.plm_decl.specs.Lists.{element_list, name_list, reference_list}
 use Rattle.plm_decl.specs.Uses.{used}
 use Rattle.plm_decl.specs.Resolved.{ReferencesR, no_references, StatementsR, and_reference}
 use Rattle.plm_decl.specs.Expressions.{expression, reference}
-use Rattle.plm_decl.specs.Elements.{start, linked, with_variable}
+use Rattle.plm_decl.specs.Linkage.{start, linked}
+use Rattle.plm_decl.specs.Elements.{with_variable}
 use Rattle.plm_decl.specs.Fill.{element}
 use Rattle.plm_decl.specs.Statements.{targets_from, step_for, block_path, with_elements, statement, basic, statements as read_statements, block, with_items, with_item}
 use Rattle.plm_syntax.specs.Spelling.{last_name}
@@ -39,10 +41,11 @@ use Rattle.plm_decl.specs.Procedures.{linkage_of, is_handled, note_handler, head
 use Rattle.plm_decl.specs.Joins.{agree, with_region, region_joined, entry_joined, joined, external_joined, externals_joined, bytes_from, have_room, program_fault, modules_joined, has_statements, with_main, at_module, with_module, modules_from, known_from}
 use Rattle.plm_decl.specs.Values.{bytes_of_datum, values_fit}
 use Rattle.plm_decl.specs.Initial.{datum_bytes, initial_bytes}
-use Rattle.plm_decl.proofs.Kept.{both, left, right}
+use Rattle.plm_decl.proofs.Kept.{both}
 use Rattle.plm_decl.proofs.FitsShapes.{SameTables, same_tables, same_then, noted_same}
 use Rattle.plm_decl.proofs.FitsFills.{fits, Extends, extends_none, extends_then, used_extends, expression_extends, reference_extends}
 use Rattle.plm_decl.proofs.FitsElements.{Fits, fits_none, fits_then, fits_same, fits_extended, fits_tables, unless_same, linked_same, declared_same, element_fits}
+use Rattle.plm_decl.proofs.Lying.{first_bytes}
 
 -- ---- parts of statements
 
@@ -228,17 +231,13 @@ modules_join k =
 
 -- ---- the whole program
 
-first_bytes_of : (b : ℕ) (os : List ObjectR) → counted b ≤ bytes_from b os
-first_bytes_of b [] = omega arith
-first_bytes_of b (o ∷ os) = let rest = first_bytes_of (counted (b + o.size)) os in omega (arith, rest)
-
 -- objects that have room in RAM are small enough
 small_fit : (b : ℕ) (os : List ObjectR) → bytes_from b os ≤ data_room → list_all fits os ≡ true → list_all values_fit os ≡ true
 small_fit b [] h f = refl
 small_fit b (o ∷ os) h f =
-    let first = first_bytes_of (counted (b + o.size)) os in
+    let first = first_bytes (counted (b + o.size)) os in
     let small : o.size ≤ data_room = omega (arith, first, h) in
-    both (here o small (left (fits o) (list_all fits os) f)) (small_fit (counted (b + o.size)) os h (right (fits o) (list_all fits os) f))
+    both (here o small (and_parts (fits o) (list_all fits os) f).0) (small_fit (counted (b + o.size)) os h (and_parts (fits o) (list_all fits os) f).1)
   where
     here : (o : ObjectR) → o.size ≤ data_room → fits o ≡ true → values_fit o ≡ true
     here o small f = grind (arith, nat_tests)
@@ -289,8 +288,8 @@ module _ (offsets : List ℕ) (vs : List Variable) where
   all_bytes_fit [] h = All-nil (λ o. length (initial_bytes offsets vs o.initial.items) ≤ o.size)
   all_bytes_fit (o ∷ os) h =
       All-cons (λ o. length (initial_bytes offsets vs o.initial.items) ≤ o.size) o os
-      (bytes_have_room (object_of o) (left (values_fit (object_of o)) (list_all values_fit (map object_of os)) h))
-      (all_bytes_fit os (right (values_fit (object_of o)) (list_all values_fit (map object_of os)) h))
+      (bytes_have_room (object_of o) (and_parts (values_fit (object_of o)) (list_all values_fit (map object_of os)) h).0)
+      (all_bytes_fit os (and_parts (values_fit (object_of o)) (list_all values_fit (map object_of os)) h).1)
 
 pub initial_bytes_fit : (names : Names) (offsets : List ℕ) → All (λ o. length (initial_bytes offsets names.variables.items o.initial.items) ≤ o.size) names.objects.items
 initial_bytes_fit names offsets = all_bytes_fit offsets names.variables.items names.objects.items names.values_fit

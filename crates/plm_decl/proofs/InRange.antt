@@ -1,11 +1,11 @@
 -- What the numbers of `Names` come to, table by table, for the crates above.
 use Rattle.std.proofs.Common.{◌≡◌, List, true, ◌&&◌, length}
+use Rattle.std.proofs.lemmas.Bool.{and_parts}
 use Rattle.std.specs.List.{list_all}
 use Rattle.plm_decl.specs.declared.names.Variable.{Variable}
 use Rattle.plm_decl.specs.Layout.{StructureR}
 use Rattle.plm_decl.specs.Names.{ObjectR, ProcedureR, DeclaredLocationR, MainR}
 use Rattle.plm_decl.specs.Ranges.{Counts, variable_within, object_within, procedure_within, declared_location_within, main_within, names_within}
-use Rattle.plm_decl.proofs.Kept.{left, right}
 
 pub record InRange (vs : List Variable) (ss : List StructureR) (os : List ObjectR) (ps : List ProcedureR) (ls : List DeclaredLocationR) (main : MainR) (c : Counts) : Type 0 where
   pub variables : list_all (variable_within c) vs ≡ true
@@ -24,13 +24,13 @@ in_range vs ss os ps ls main h =
     let procedures = list_all (procedure_within c) ps in
     let locations = list_all (declared_location_within c) ls in
     let rest = main_within c main in
-    let h1 = right variables (objects && (procedures && (locations && rest))) h in
-    let h2 = right objects (procedures && (locations && rest)) h1 in
-    let h3 = right procedures (locations && rest) h2 in
+    let h1 = (and_parts variables (objects && (procedures && (locations && rest))) h).1 in
+    let h2 = (and_parts objects (procedures && (locations && rest)) h1).1 in
+    let h3 = (and_parts procedures (locations && rest) h2).1 in
     record {
-      variables = left variables (objects && (procedures && (locations && rest))) h;
-      objects = left objects (procedures && (locations && rest)) h1;
-      procedures = left procedures (locations && rest) h2;
-      locations = left locations rest h3;
-      main_statements = right locations rest h3;
+      variables = (and_parts variables (objects && (procedures && (locations && rest))) h).0;
+      objects = (and_parts objects (procedures && (locations && rest)) h1).0;
+      procedures = (and_parts procedures (locations && rest) h2).0;
+      locations = (and_parts locations rest h3).0;
+      main_statements = (and_parts locations rest h3).1;
     }

@@ -5,18 +5,15 @@ use Rattle.std.proofs.lemmas.Bool.Decides.{nat_tests}
 use Rattle.plm_decl.specs.declared.found.Found.{Found}
 use Rattle.plm_decl.specs.Resolver.{Known}
 use Rattle.plm_decl.specs.Joins.{externals_joined, modules_joined, program_fault}
+use Rattle.plm_decl.proofs.Kept.{not_nil}
 
-not_nil : {A : Type 0} → (xs : List A) (x : A) → xs ++ x ∷ [] ≡ [] → ⊥
-not_nil [] x e = cc
-not_nil (y ∷ xs) x e = cc
+pub fault_holds : (b : Bool) (f : Found) (k : Known) → (program_fault b f k).whole ≡ [] → b ≡ true
+fault_holds true f k e = refl
+fault_holds false f k e = absurd (not_nil k.whole f e)
 
-holds : (b : Bool) (f : Found) (k : Known) → (program_fault b f k).whole ≡ [] → b ≡ true
-holds true f k e = refl
-holds false f k e = absurd (not_nil k.whole f e)
-
-before : (b : Bool) (f : Found) (k : Known) → (program_fault b f k).whole ≡ [] → k.whole ≡ []
-before true f k e = e
-before false f k e = absurd (not_nil k.whole f e)
+pub fault_before : (b : Bool) (f : Found) (k : Known) → (program_fault b f k).whole ≡ [] → k.whole ≡ []
+fault_before true f k e = e
+fault_before false f k e = absurd (not_nil k.whole f e)
 
 mains_kept : (b : Bool) (f : Found) (k : Known) → (program_fault b f k).mains ≡ k.mains
 mains_kept true f k = refl
@@ -29,7 +26,7 @@ one_after : (b : Bool) (f g : Found) (q : Known) → let p = program_fault (nat_
 one_after b f g q e =
     let p = program_fault (nat_eq (length q.mains) 1) g q in
     ap length (mains_kept b f p) ∙ ap length (mains_kept (nat_eq (length q.mains) 1) g q)
-    ∙ one_from (length q.mains) (holds (nat_eq (length q.mains) 1) g q (before b f p e))
+    ∙ one_from (length q.mains) (fault_holds (nat_eq (length q.mains) 1) g q (fault_before b f p e))
 
 pub one_main : (k : Known) → (modules_joined k).whole ≡ [] → length (modules_joined k).mains ≡ 1
 one_main k e = one_after _ _ _ (externals_joined k.externals (record k { externals = [] })) e

@@ -1,5 +1,5 @@
 -- Joined modules: what the EXTERNAL names stand for.
-use Rattle.std.proofs.Common.{◌≡◌, ℕ, zero, suc, List, [], ◌∷◌, ◌++◌, map, length, Bool, true, false, cond, Option, Some, None, nat_eq, refl, sym, ap, subst, ◌∙◌}
+use Rattle.std.proofs.Common.{◌≡◌, ℕ, zero, suc, List, [], ◌∷◌, map, length, Bool, true, false, cond, Option, Some, None, nat_eq, refl, sym, ap, subst, ◌∙◌}
 use Rattle.std.specs.Prelude.{slice_get, slice_set, bytes_eq, option_map}
 use Rattle.plm_syntax.specs.Tree.{ModuleT}
 use Rattle.word86.specs.declared.number.Number.TheVariants.{E308, E310}
@@ -11,16 +11,14 @@ use Rattle.plm_decl.specs.declared.found.Found.{Found}
 use Rattle.plm_decl.specs.Names.{ProcedureR, procedure_of}
 use Rattle.plm_decl.specs.Scope.{Entries, found_in}
 use Rattle.plm_decl.specs.Resolver.{Known, ExternalR, note_whole}
-use Rattle.plm_decl.specs.Elements.{start}
+use Rattle.plm_decl.specs.Linkage.{start}
 use Rattle.plm_decl.specs.Joins.{same_type, same_procedure, agree, with_region, with_entry_at, region_joined, entry_joined, joined, unjoined, external_joined, externals_joined, have_room, program_fault, known_from}
 use Rattle.plm_decl.specs.Modules.{AreNames}
 use Rattle.plm_decl.specs.JoinedNames.{region_at, run_by, IsJoined, AreJoined}
 use Rattle.plm_decl.proofs.OwnNumbers.{IsNoneOf, IsNotPublic, AreApart}
-use Rattle.plm_decl.proofs.OwnNames.{externals_are_apart}
-
-not_nil : {A : Type 0} → (xs : List A) (x : A) → xs ++ x ∷ [] ≡ [] → ⊥
-not_nil [] x e = cc
-not_nil (y ∷ xs) x e = cc
+use Rattle.plm_decl.proofs.Joined.{fault_before}
+use Rattle.plm_decl.proofs.Kept.{not_nil}
+use Rattle.plm_decl.proofs.OwnNames.{externals_are_apart, fault_variables}
 
 set_here : {X : Type 0} → (xs : List X) (i : ℕ) (x y : X) → slice_get xs i ≡ Some x → slice_get (slice_set xs i y) i ≡ Some y
 set_here [] i x y e = cc
@@ -224,17 +222,9 @@ all_joined (e ∷ es) k ps s h none =
     let last = carried q r e.item o (externals_same es q e.item h.0) (public_same o ps e.name es q (sym name) h.2) one in
     (subst (IsJoined r.variables r.procedures e.item) name last, all_joined es q ps (external_publics e.item o k ∙ s) h.2 none)
 
-fault_variables : (b : Bool) (f : Found) (k : Known) → (program_fault b f k).variables ≡ k.variables
-fault_variables true f k = refl
-fault_variables false f k = refl
-
 fault_procedures : (b : Bool) (f : Found) (k : Known) → (program_fault b f k).procedures ≡ k.procedures
 fault_procedures true f k = refl
 fault_procedures false f k = refl
-
-fault_before : (b : Bool) (f : Found) (k : Known) → (program_fault b f k).whole ≡ [] → k.whole ≡ []
-fault_before true f k e = e
-fault_before false f k e = absurd (not_nil k.whole f e)
 
 pub externals_are_joined : (names : Names) (ms : List ModuleT) → AreNames names ms
     → let k = known_from ms in AreJoined names.variables.items (map procedure_of names.procedures.items) k.publics k.externals

@@ -1,5 +1,6 @@
 -- What reading a tree keeps: tables grow, faults stay, and what is within the final counts stays so.
-use Rattle.std.proofs.Common.{◌≡◌, ℕ, zero, suc, ◌≤◌, List, [], ◌∷◌, ◌++◌, length, Bool, true, false, ◌&&◌, cond, Option, Some, None, nat_lt, refl, sym, ap, ◌∙◌, true≢false, arith}
+use Rattle.std.proofs.Common.{◌≡◌, ℕ, zero, suc, ◌≤◌, List, [], ◌∷◌, ◌++◌, length, Bool, true, false, ◌&&◌, cond, Option, Some, None, nat_lt, refl, sym, ◌∙◌, arith}
+use Rattle.std.proofs.lemmas.Bool.{and_parts, and_from}
 use Rattle.std.specs.List.{list_all}
 use Rattle.std.specs.Prelude.{slice_get, slice_set}
 use Rattle.std.specs.Option.{option_or}
@@ -17,26 +18,18 @@ use Rattle.plm_decl.specs.Inner.Ranges.{Within, item_within, entries_within}
 -- ---- tests
 
 pub both : {a b : Bool} → a ≡ true → b ≡ true → (a && b) ≡ true
-both {a} {b} p q = ap (λ x. x && b) p ∙ q
-
-pub left : (a b : Bool) → (a && b) ≡ true → a ≡ true
-left true b h = refl
-left false b h = h
-
-pub right : (a b : Bool) → (a && b) ≡ true → b ≡ true
-right true b h = h
-right false b h = absurd (true≢false (sym h))
+both {a} {b} p q = and_from a b p q
 
 pub all_pushed : {X : Type 0} (p : X → Bool) (xs : List X) (x : X) → list_all p xs ≡ true → p x ≡ true → list_all p (xs ++ x ∷ []) ≡ true
 all_pushed p xs x h e = list_all-append p xs (x ∷ []) ∙ both h (both e refl)
 
 pub all_set : {X : Type 0} (p : X → Bool) (xs : List X) (i : ℕ) (x : X) → list_all p xs ≡ true → p x ≡ true → list_all p (slice_set xs i x) ≡ true
 all_set p [] i x h e = refl
-all_set p (y ∷ xs) zero x h e = both e (right (p y) (list_all p xs) h)
-all_set p (y ∷ xs) (suc i) x h e = both (left (p y) (list_all p xs) h) (all_set p xs i x (right (p y) (list_all p xs) h) e)
+all_set p (y ∷ xs) zero x h e = both e (and_parts (p y) (list_all p xs) h).1
+all_set p (y ∷ xs) (suc i) x h e = both (and_parts (p y) (list_all p xs) h).0 (all_set p xs i x (and_parts (p y) (list_all p xs) h).1 e)
 
 pub last_of : {X : Type 0} (p : X → Bool) (xs : List X) (x : X) → list_all p (xs ++ x ∷ []) ≡ true → p x ≡ true
-last_of p xs x h = left (p x) true (right (list_all p xs) (p x && true) (sym (list_all-append p xs (x ∷ [])) ∙ h))
+last_of p xs x h = (and_parts (p x) true (and_parts (list_all p xs) (p x && true) (sym (list_all-append p xs (x ∷ [])) ∙ h)).1).0
 
 -- of what may be there
 abbrev pub maybe : {X : Type 0} → (X → Bool) → Option X → Bool
@@ -45,8 +38,8 @@ maybe p (Some x) = p x
 
 pub got : {X : Type 0} (p : X → Bool) (xs : List X) (i : ℕ) → list_all p xs ≡ true → maybe p (slice_get xs i) ≡ true
 got p [] i h = refl
-got p (x ∷ xs) zero h = left (p x) (list_all p xs) h
-got p (x ∷ xs) (suc i) h = got p xs i (right (p x) (list_all p xs) h)
+got p (x ∷ xs) zero h = (and_parts (p x) (list_all p xs) h).0
+got p (x ∷ xs) (suc i) h = got p xs i (and_parts (p x) (list_all p xs) h).1
 
 pub maybe_unless : {X : Type 0} (p : X → Bool) (b : Bool) (o : Option X) → maybe p o ≡ true → maybe p (cond b o None) ≡ true
 maybe_unless p true o h = h

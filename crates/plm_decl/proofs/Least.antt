@@ -4,7 +4,8 @@ use Rattle.std.specs.List.{AllByRecursion}
 use Rattle.std.proofs.lemmas.List.Elements.{All-from_recursion, Contains-append_right}
 use Rattle.std.proofs.lemmas.Bool.Decides.{nat_tests}
 use Rattle.plm_decl.specs.declared.found.Found.{Found}
-use Rattle.plm_decl.specs.Found.{code_of, precedes, IsLeast}
+use Rattle.word86.specs.FaultCode.{code_of}
+use Rattle.plm_decl.specs.Found.{precedes, IsLeast}
 use Rattle.plm_decl.specs.Least.{sooner, least}
 
 -- by one number, then by a test

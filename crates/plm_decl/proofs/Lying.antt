@@ -1,5 +1,6 @@
 -- Views stay in their objects: objects keep their sizes, and further ones come after them.
 use Rattle.std.proofs.Common.{◌≡◌, ℕ, zero, suc, ◌+◌, ◌*◌, ◌≤◌, List, [], ◌∷◌, ◌++◌, length, Bool, true, false, ◌&&◌, Option, Some, None, nat_le, nat_eq, refl, ap, ◌∙◌, arith}
+use Rattle.std.proofs.lemmas.Bool.{and_parts}
 use Rattle.std.specs.Prelude.{slice_get, slice_set}
 use Rattle.std.specs.List.{list_all}
 use Rattle.std.proofs.lemmas.Bool.Decides.{nat_tests}
@@ -17,14 +18,14 @@ use Rattle.plm_decl.specs.Joins.{same_dimension, same_form, same_type, with_regi
 use Rattle.plm_decl.specs.Regions.{size_at}
 use Rattle.plm_decl.specs.Lying.{region_holds, view_lies, views_lie}
 use Rattle.plm_decl.specs.Inner.Regions.{counted_holds, span, lies_in}
-use Rattle.plm_decl.proofs.Kept.{both, left, right}
+use Rattle.plm_decl.proofs.Kept.{both}
 
 pub le_more : (a b c : ℕ) → nat_le a b ≡ true → b ≤ c → nat_le a c ≡ true
 le_more a b c h g = grind (arith, nat_tests)
 
 pub all_weaker : {X : Type 0} (p q : X → Bool) (xs : List X) → ((x : X) → p x ≡ true → q x ≡ true) → list_all p xs ≡ true → list_all q xs ≡ true
 all_weaker p q [] f h = refl
-all_weaker p q (x ∷ xs) f h = both (f x (left (p x) (list_all p xs) h)) (all_weaker p q xs f (right (p x) (list_all p xs) h))
+all_weaker p q (x ∷ xs) f h = both (f x (and_parts (p x) (list_all p xs) h).0) (all_weaker p q xs f (and_parts (p x) (list_all p xs) h).1)
 
 holds_more : (os more : List ObjectR) (size : ℕ) (r : Region) → ((i : ℕ) → size_at os i ≤ size_at more i) → counted_holds os size r ≡ true → counted_holds more size r ≡ true
 holds_more os more size (region.Ram object offset) f h = le_more (counted (offset + size)) (size_at os object) (size_at more object) h (f object)
@@ -87,8 +88,8 @@ same_span : (k : Known) (v w : Variable) → same_type k (Some v) (Some w) ≡ t
 same_span k v w h =
     let strides = nat_eq v.stride w.stride in
     let forms = same_form k v.form w.form in
-    let one = same_elements v.dimension w.dimension (left (same_dimension v.dimension w.dimension) (strides && forms) h) in
-    let two = equal v.stride w.stride (left strides forms (right (same_dimension v.dimension w.dimension) (strides && forms) h)) in
+    let one = same_elements v.dimension w.dimension (and_parts (same_dimension v.dimension w.dimension) (strides && forms) h).0 in
+    let two = equal v.stride w.stride (and_parts strides forms (and_parts (same_dimension v.dimension w.dimension) (strides && forms) h).1).0 in
     (λ j. counted (two j * one j))
   where
     equal : (m n : ℕ) → nat_eq m n ≡ true → m ≡ n
@@ -100,7 +101,7 @@ joined_lies k os v w h g = ap (λ (n : ℕ). counted_holds os n w.region) (same_
 
 -- ---- the finished tables, in which no number of bytes is above the room for data
 
-first_bytes : (b : ℕ) (os : List ObjectR) → counted b ≤ bytes_from b os
+pub first_bytes : (b : ℕ) (os : List ObjectR) → counted b ≤ bytes_from b os
 first_bytes b [] = omega arith
 first_bytes b (o ∷ os) = let rest = first_bytes (counted (b + o.size)) os in omega (arith, rest)
 

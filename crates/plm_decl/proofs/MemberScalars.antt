@@ -67,7 +67,7 @@ behind f fs p h = chosen (nat_lt p (elements f.member.dimension)) (grind (arith,
     chosen true e = cc
     chosen false e = refl
 
-uncounted : (n : ℕ) → counted n < 18446744073709551615 → counted n ≡ n
+pub uncounted : (n : ℕ) → counted n < 18446744073709551615 → counted n ≡ n
 uncounted n h = grind arith
 
 from_member : (gs fs : List Field) (f : Field) (n p : ℕ) → n ≤ 18446744073709551615 → map (λ (f : Field). f.scalars_before) (gs ++ f ∷ fs) ≡ scalars_before n (gs ++ f ∷ fs)

@@ -28,7 +28,8 @@ use Rattle.plm_decl.specs.Spelling.{constants_after, name_after}
 use Rattle.plm_decl.specs.Resolver.{Known, note_unless}
 use Rattle.plm_decl.specs.Shape.{size_of_shape}
 use Rattle.plm_decl.specs.Expressions.{one_datum, constant_data, all_constant_data, are_constants, with_constants, constant_bytes}
-use Rattle.plm_decl.specs.Elements.{linked, with_public, with_variable, variable_in, own_region, variable_declared, declared_variable, declared_variables}
+use Rattle.plm_decl.specs.Linkage.{linked, with_public}
+use Rattle.plm_decl.specs.Elements.{with_variable, variable_in, own_region, variable_declared, declared_variable, declared_variables}
 use Rattle.plm_decl.specs.Values.{bytes_of_datum}
 use Rattle.plm_decl.specs.Laws.{has_no_base, own_regions}
 

@@ -44,7 +44,8 @@ use Rattle.plm_decl.specs.Resolved.{ReferencesR, StatementsR, no_references, and
 use Rattle.plm_decl.specs.Expressions.{structure_meant, member_of_structure, member_meant, all_constant_data, are_constants, with_constants, constant_bytes, expression, reference, subscripts, selector, location}
 use Rattle.plm_decl.specs.Datum.{is_byte, character_datum}
 use Rattle.plm_decl.specs.Shape.{member_names, member_count, member_scalar, number_of_elements, with_member_name, with_member_names, with_members, structure_for, form_for, elements_filled, dimension_for, shape_for, scalar_at, size_of_shape}
-use Rattle.plm_decl.specs.Elements.{start, base_for, with_screen_name, own_region, region_for, with_public, linked, declared, with_variable, variable_in, region_of_variable, with_unplaced, variable_declared, declared_variable, declared_variables, declared_list, place_of_variable}
+use Rattle.plm_decl.specs.Linkage.{start, with_public, linked}
+use Rattle.plm_decl.specs.Elements.{base_for, with_screen_name, own_region, region_for, declared, with_variable, variable_in, region_of_variable, with_unplaced, variable_declared, declared_variable, declared_variables, declared_list, place_of_variable}
 use Rattle.plm_decl.specs.Sites.{location_site, at_site, first_site, site_after}
 use Rattle.plm_decl.specs.Attributes.{linkage_for, element_values, has_values, is_placed, traits_for}
 use Rattle.plm_decl.specs.Fill.{location_in, datum_for, FillingR, given_at, given_in, put_datum, too_many, name_at, put_at, put_value, past_at, unless_past, put_characters, put_single, filled_with, filled_from, filled_element, declared_at, declared_names, element}
@@ -929,7 +930,7 @@ externals_marked marks [] k h = refl
 externals_marked marks (e ∷ es) k h =
     let p = found_in e.name k.publics in externals_marked marks es (external_joined e.item p k) h.1 ∙ external_marked marks e.item p k h.0
 
-fault_variables : (b : Bool) (f : Found) (k : Known) → (program_fault b f k).variables ≡ k.variables
+pub fault_variables : (b : Bool) (f : Found) (k : Known) → (program_fault b f k).variables ≡ k.variables
 fault_variables true f k = refl
 fault_variables false f k = refl
 

@@ -4,7 +4,7 @@ use Rattle.plm_decl.specs.declared.names.Item.{Item}
 use Rattle.plm_decl.specs.declared.names.Item.TheVariants as item
 use Rattle.plm_decl.specs.Scope.{Entries, found_in}
 use Rattle.plm_decl.specs.Resolver.{Known, ExternalR}
-use Rattle.plm_decl.specs.Elements.{with_public, with_external}
+use Rattle.plm_decl.specs.Linkage.{with_public, with_external}
 
 abbrev pub IsNoneOf : Item → List ExternalR → Type 0
 IsNoneOf i [] = Unit {0}

@@ -1,5 +1,6 @@
 -- Names of an element with AT lie where its location says.
 use Rattle.std.proofs.Common.{◌≡◌, ℕ, ◌+◌, ◌-◌, ◌*◌, ◌<◌, ◌≤◌, List, [], ◌∷◌, ◌++◌, length, Bool, true, false, ◌&&◌, cond, Option, Some, None, refl, sym, ap, subst, ◌∙◌, append_assoc, true≢false, nat_le, nat_lt, arith}
+use Rattle.std.proofs.lemmas.Bool.{and_parts, and_right}
 use Rattle.std.specs.Prelude.{slice_get}
 use Rattle.std.specs.List.{list_all}
 use Rattle.std.proofs.lemmas.List.{append-nil, map-append}
@@ -33,11 +34,12 @@ use Rattle.plm_decl.specs.Expressions.{reference}
 use Rattle.plm_decl.specs.Shape.{size_of_shape, shape_for}
 use Rattle.plm_decl.specs.Sites.{first_number, member_distance, distance, is_unplaced, has_shape, unplaced_site, site_within, variable_site, site_of, site_after, is_in_page, page_site, screen_site, at_site}
 use Rattle.plm_decl.specs.Attributes.{element_values, traits_for}
-use Rattle.plm_decl.specs.Elements.{region_for, with_public, linked, with_variable, variable_in, declared_variable, declared_variables}
+use Rattle.plm_decl.specs.Linkage.{with_public, linked}
+use Rattle.plm_decl.specs.Elements.{region_for, with_variable, variable_in, declared_variable, declared_variables}
 use Rattle.plm_decl.specs.Fill.{declared_at}
 use Rattle.plm_decl.specs.Laws.{has_no_base}
 use Rattle.plm_decl.specs.PlacedNames.{regions_of, behind, one_behind_the_other, place_at, HasAt}
-use Rattle.plm_decl.proofs.Kept.{both, left, right}
+use Rattle.plm_decl.proofs.Kept.{both}
 use Rattle.plm_decl.proofs.OwnNames.{at_still, shape_still, filled_still}
 
 -- ---- where a location leads
@@ -98,12 +100,8 @@ is_there begins size offset h = both (here begins offset) (below begins size off
     below begins size offset h = grind (arith, nat_tests)
 
 is_behind : (begins size n : ℕ) → begins + size ≤ n → (nat_le begins n && nat_lt (n - begins) size) ≡ false
-is_behind begins size n h = no_right (nat_le begins n) (nat_lt (n - begins) size) (past begins size n h)
+is_behind begins size n h = and_right (nat_le begins n) (nat_lt (n - begins) size) (past begins size n h)
   where
-    no_right : (a b : Bool) → b ≡ false → (a && b) ≡ false
-    no_right true b h = h
-    no_right false b h = refl
-
     past : (begins size n : ℕ) → begins + size ≤ n → nat_lt (n - begins) size ≡ false
     past begins size n h = grind (arith, nat_tests)
 
@@ -139,7 +137,7 @@ none_there begins size n none = decide (nat_le begins n && nat_lt (n - begins) s
 
     decide : (b : Bool) → (nat_le begins n && nat_lt (n - begins) size) ≡ b → (nat_le begins n && nat_lt (n - begins) size) ≡ false
     decide false e = e
-    decide true e = absurd (none (n - begins) (below (n - begins) (right (nat_le begins n) (nat_lt (n - begins) size) e)) (again (left (nat_le begins n) (nat_lt (n - begins) size) e)))
+    decide true e = absurd (none (n - begins) (below (n - begins) (and_parts (nat_le begins n) (nat_lt (n - begins) size) e).1) (again (and_parts (nat_le begins n) (nat_lt (n - begins) size) e).0))
 
 pub outside_the_screen : (n : ℕ) → ((page : Page) (offset : ℕ) → offset < page_size → ¬ (n ≡ page_at page + offset)) → screen_site n ≡ site.Outside
 outside_the_screen n none =

@@ -1,5 +1,6 @@
 -- Declared variables are within the final counts.
 use Rattle.std.proofs.Common.{◌≡◌, ℕ, ◌+◌, ◌-◌, List, [], ◌∷◌, ◌++◌, length, Bool, true, false, cond, Option, Some, None, nat_lt, nat_le, refl, ap, ◌∙◌}
+use Rattle.std.proofs.lemmas.Bool.{and_parts}
 use Rattle.std.specs.Prelude.{slice_get}
 use Rattle.word86.specs.declared.number.Number.TheVariants.{E302, E303, E304}
 use Rattle.word86.specs.declared.page.Page.{Page}
@@ -30,14 +31,15 @@ use Rattle.plm_decl.specs.Resolved.{ReferenceR', Use, ExpressionsR, SelectorR}
 use Rattle.plm_decl.specs.Expressions.{reference}
 use Rattle.plm_decl.specs.Shape.{size_of_shape}
 use Rattle.plm_decl.specs.Sites.{site_after, site_within, has_shape, is_unplaced, unplaced_site, variable_site, site_of, is_in_page, page_site, screen_site, location_site, at_site, first_site}
-use Rattle.plm_decl.specs.Elements.{based_region, base_for, with_screen_name, region_for, with_public, with_external, linked, declared, with_variable, variable_in, region_of_variable, variable_declared, declared_variable, declared_variables}
+use Rattle.plm_decl.specs.Linkage.{with_public, with_external, linked}
+use Rattle.plm_decl.specs.Elements.{based_region, base_for, with_screen_name, region_for, declared, with_variable, variable_in, region_of_variable, variable_declared, declared_variable, declared_variables}
 use Rattle.plm_decl.specs.Ranges.{Counts, form_within, region_within, variable_within, binding_within}
 use Rattle.plm_decl.specs.Inner.Ranges.{Within, item_within}
 use Rattle.plm_decl.specs.Names.{ObjectR}
 use Rattle.plm_decl.specs.Regions.{size_at}
 use Rattle.plm_decl.specs.Inner.Regions.{counted_holds, lies_in}
 use Rattle.plm_decl.proofs.Lying.{pushed_lie, last_lies, noted_objects}
-use Rattle.plm_decl.proofs.Kept.{Ends, Kept, Reads, reads, kept, kept_then, both, right, frames_within, note_kept, note_unless_kept, note_unless_holds, all_pushed, maybe, got, unless_kept, pushed_below, pushed_most}
+use Rattle.plm_decl.proofs.Kept.{Ends, Kept, Reads, reads, kept, kept_then, both, frames_within, note_kept, note_unless_kept, note_unless_holds, all_pushed, maybe, got, unless_kept, pushed_below, pushed_most}
 use Rattle.plm_decl.proofs.RangesNames.{used_kept, used_within, with_entry_within, with_name_within}
 use Rattle.plm_decl.proofs.RangesExpressions.{reference_kept, reference_is_within}
 
@@ -77,7 +79,7 @@ meant_site : (c : Counts) (unplaced : Bool) (v : Option Variable) (es : Expressi
     → maybe (variable_within c) v ≡ true → site_is_within c (variable_site unplaced v es s d) ≡ true
 meant_site c unplaced None es s d h = refl
 meant_site c unplaced (Some v) es s d h =
-    shaped_site c (has_shape v es s) (cond unplaced (unplaced_site d) (site_within v.region d)) (placed_site c unplaced v.region d (right (form_within c v.form) (region_within c v.region) h))
+    shaped_site c (has_shape v es s) (cond unplaced (unplaced_site d) (site_within v.region d)) (placed_site c unplaced v.region d (and_parts (form_within c v.form) (region_within c v.region) h).1)
 
 site_of_within : (c : Counts) (k : Known) (x : ReferenceR') → Within c k → site_is_within c (site_of k x) ≡ true
 site_of_within c k (Use p (binding.Variable n) es s) w = meant_site c (is_unplaced k n) (slice_get k.variables n) es s _ (got (variable_within c) k.variables n w.0)

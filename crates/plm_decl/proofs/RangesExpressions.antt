@@ -1,5 +1,6 @@
 -- Resolved expressions are within the final counts.
 use Rattle.std.proofs.Common.{◌≡◌, ℕ, List, [], ◌∷◌, ◌++◌, map, length, Bool, true, false, cond, Option, Some, None, nat_lt, refl, sym, ap, ◌∙◌}
+use Rattle.std.proofs.lemmas.Bool.{and_parts}
 use Rattle.std.specs.List.{list_all}
 use Rattle.std.proofs.lemmas.List.Folds.{list_all-append}
 use Rattle.word86.specs.declared.number.Number.TheVariants.{E301, E305}
@@ -19,7 +20,7 @@ use Rattle.plm_decl.specs.Uses.{used}
 use Rattle.plm_decl.specs.Resolved.{ExpressionR, ExpressionsR, no_expressions, expressions, and_expression}
 use Rattle.plm_decl.specs.Expressions.{structure_meant, member_of_structure, member_meant, one_datum, constant_data, all_constant_data, are_constants, with_constants, constant_bytes, expression, reference, subscripts, selector, location}
 use Rattle.plm_decl.specs.Ranges.{Counts, datum_within, expression_within, reference_within, expressions_within, selector_within, location_within}
-use Rattle.plm_decl.proofs.Kept.{Ends, Kept, kept, kept_then, both, left, right, frames_within, note_unless_kept, all_pushed, pushed_below, pushed_most}
+use Rattle.plm_decl.proofs.Kept.{Ends, Kept, kept, kept_then, both, frames_within, note_unless_kept, all_pushed, pushed_below, pushed_most}
 use Rattle.plm_decl.proofs.Lying.{pushed_lie}
 use Rattle.plm_decl.proofs.RangesNames.{used_kept, used_within}
 
@@ -101,7 +102,7 @@ mutual
 pub and_within : (c : Counts) (es : ExpressionsR) (e : ExpressionR) → expressions_within c es ≡ true → expression_within c e ≡ true → expressions_within c (and_expression es e) ≡ true
 and_within c no_expressions e h d = both d refl
 and_within c (expressions x es) e h d =
-    both (left (expression_within c x) (expressions_within c es) h) (and_within c es e (right (expression_within c x) (expressions_within c es) h) d)
+    both (and_parts (expression_within c x) (expressions_within c es) h).0 (and_within c es e (and_parts (expression_within c x) (expressions_within c es) h).1 d)
 
 mutual
   pub expression_is_within : (c : Counts) (frames : List Frame) (e : ExpressionT) (k : Known) → frames_within c frames ≡ true → Ends c (expression frames e k).1 → expression_within c (expression frames e k).0 ≡ true

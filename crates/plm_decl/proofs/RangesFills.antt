@@ -1,5 +1,6 @@
 -- Initial values are within the final counts.
 use Rattle.std.proofs.Common.{◌≡◌, ℕ, ◌+◌, ◌-◌, List, [], ◌∷◌, length, Bool, true, false, ◌&&◌, not, cond, Option, Some, None, nat_lt, nat_le, ◌≤◌, subst, refl}
+use Rattle.std.proofs.lemmas.Bool.{and_parts}
 use Rattle.std.specs.Prelude.{slice_get}
 use Rattle.std.specs.Option.{option_map_or}
 use Rattle.std.proofs.lemmas.List.{length-set}
@@ -30,7 +31,7 @@ use Rattle.plm_decl.specs.Attributes.{element_values, has_values, is_placed, tra
 use Rattle.plm_decl.specs.Fill.{address_at, address_datum, variable_datum, reference_datum, location_datum, form_of_location, location_in, datum_for, FillingR, with_datum, given_at, given_in, put_datum, too_many, name_at, put_at, put_value, past_at, unless_past, put_characters, put_single, filled_with, filled_from, filled_element, declared_at, declared_names, element}
 use Rattle.plm_decl.specs.Ranges.{Counts, datum_within, object_within, expressions_within, selector_within, reference_within, location_within}
 use Rattle.plm_decl.specs.Inner.Ranges.{Within}
-use Rattle.plm_decl.proofs.Kept.{Ends, Kept, Reads, Declares, reads, reads_then, declares_none, kept, kept_then, left, frames_within, note_kept, note_unless_kept, all_pushed, all_set, maybe, got, maybe_unless}
+use Rattle.plm_decl.proofs.Kept.{Ends, Kept, Reads, Declares, reads, reads_then, declares_none, kept, kept_then, frames_within, note_kept, note_unless_kept, all_pushed, all_set, maybe, got, maybe_unless}
 use Rattle.plm_decl.proofs.Lying.{set_lie}
 use Rattle.plm_decl.proofs.RangesExpressions.{location_kept, location_is_within}
 use Rattle.plm_decl.proofs.RangesShapes.{shape_kept, shape_is_within}
@@ -54,7 +55,7 @@ variable_datum_within c n (Some v) d h = address_within c n v.region d h
 
 reference_datum_within : (c : Counts) (k : Known) (x : ReferenceR') → reference_within c x ≡ true → maybe (datum_within c) (reference_datum k x) ≡ true
 reference_datum_within c k (Use p (binding.Variable n) es s) h =
-    variable_datum_within c n (slice_get k.variables n) (distance k (Use p (binding.Variable n) es s)) (left (nat_lt n c.variables) (expressions_within c es && selector_within c s) h)
+    variable_datum_within c n (slice_get k.variables n) (distance k (Use p (binding.Variable n) es s)) (and_parts (nat_lt n c.variables) (expressions_within c es && selector_within c s) h).0
 reference_datum_within c k (Use p (binding.Procedure q) es s) h = refl
 reference_datum_within c k (Use p (binding.Builtin b) es s) h = refl
 reference_datum_within c k (Use p binding.Nothing es s) h = refl

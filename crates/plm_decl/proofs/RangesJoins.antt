@@ -1,5 +1,6 @@
 -- What the modules declare is within its own counts, and stays so where they are joined.
 use Rattle.std.proofs.Common.{◌≡◌, ℕ, ◌+◌, ◌≤◌, List, [], ◌∷◌, map, length, Bool, true, false, ◌&&◌, cond, Option, Some, None, nat_lt, nat_eq, refl, ap, ◌∙◌, arith}
+use Rattle.std.proofs.lemmas.Bool.{and_parts}
 use Rattle.std.specs.Prelude.{slice_get}
 use Rattle.std.specs.List.{list_all, sum_by}
 use Rattle.std.proofs.lemmas.List.{length-set}
@@ -20,15 +21,16 @@ use Rattle.plm_decl.specs.Resolver.{Known, ExternalR, nothing_known}
 use Rattle.plm_decl.specs.Names.{ProcedureR, object_of}
 use Rattle.plm_decl.specs.Resolved.{StatementsR}
 use Rattle.plm_decl.specs.Statements.{block}
-use Rattle.plm_decl.specs.Elements.{start}
+use Rattle.plm_decl.specs.Linkage.{start}
 use Rattle.plm_decl.specs.Joins.{same_type, agree, with_region, with_entry_at, region_joined, entry_joined, joined, external_joined, externals_joined, bytes_from, have_room, program_fault, modules_joined, has_statements, with_main, at_module, with_module, modules_from, known_from}
 use Rattle.plm_decl.specs.Ranges.{Counts, form_within, region_within, variable_within, procedure_within, main_within, statements_within}
 use Rattle.plm_decl.specs.Inner.Ranges.{counts_of, Within, item_within}
-use Rattle.plm_decl.proofs.Kept.{Ends, Kept, kept, kept_then, both, left, right, all_pushed, all_set, not_nil, maybe, got}
+use Rattle.plm_decl.proofs.Kept.{Ends, Kept, kept, kept_then, both, all_pushed, all_set, maybe, got}
 use Rattle.plm_decl.specs.Inner.Regions.{lies_in}
 use Rattle.plm_decl.proofs.Lying.{joined_lies}
 use Rattle.plm_decl.proofs.RangesNames.{found_within}
 use Rattle.plm_decl.proofs.RangesStatements.{block_gives}
+use Rattle.plm_decl.proofs.Joined.{fault_holds}
 
 -- ---- modules
 
@@ -70,8 +72,8 @@ region_stays : (c : Counts) (m : ℕ) (v w : Option Variable) (k : Known) → ma
 region_stays c m None w k g h a l i = i
 region_stays c m (Some v) None k g h a l i = i
 region_stays c m (Some v) (Some w) k g h a l i =
-    let one = left (form_within c v.form) (region_within c v.region) g in
-    let two = right (form_within c w.form) (region_within c w.region) h in
+    let one = (and_parts (form_within c v.form) (region_within c v.region) g).0 in
+    let two = (and_parts (form_within c w.form) (region_within c w.region) h).1 in
     (all_set (variable_within c) k.variables m (with_region w.region v) i.0 (both one two), i.1, i.2, i.3, i.4, i.5, i.6, all_set (lies_in k.objects) k.variables m (with_region w.region v) i.7 (joined_lies k k.objects v w a l))
 
 entry_stays : (c : Counts) (m : ℕ) (p : Option ProcedureR) (n : ℕ) (k : Known) → maybe (procedure_within c) p ≡ true → nat_lt n c.procedures ≡ true → Within c k → Within c (entry_joined m p n k)
@@ -80,7 +82,7 @@ entry_stays c m (Some p) n k g h i =
     let ps = list_all (λ v. nat_lt v c.variables) p.parameters in
     let body = statements_within c p.body in
     let entry = nat_lt p.entry c.procedures in
-    (i.0, i.1, all_set (procedure_within c) k.procedures m (with_entry_at n p) i.2 (both (left ps (entry && body) g) (both h (right entry body (right ps (entry && body) g)))), i.3, i.4, i.5, i.6, i.7)
+    (i.0, i.1, all_set (procedure_within c) k.procedures m (with_entry_at n p) i.2 (both (and_parts ps (entry && body) g).0 (both h (and_parts entry body (and_parts ps (entry && body) g).1).1)), i.3, i.4, i.5, i.6, i.7)
 
 joined_stays : (c : Counts) (e p : Item) (k : Known) → item_within c p ≡ true → agree k e p ≡ true → Within c k → Within c (joined e p k)
 joined_stays c (item.Variable m) (item.Variable n) k h a w =
@@ -155,11 +157,6 @@ joined_counts k =
     fault_counts _ _ _ ∙ fault_counts (nat_eq (length q.mains) 1) _ q ∙ externals_counts k.externals (record k { externals = [] })
 
 -- ---- room
-
--- no fault of the whole program was met
-fault_holds : (b : Bool) (f : Found) (k : Known) → (program_fault b f k).whole ≡ [] → b ≡ true
-fault_holds true f k e = refl
-fault_holds false f k e = absurd (not_nil k.whole f e)
 
 fault_objects : (b : Bool) (f : Found) (k : Known) → (program_fault b f k).objects ≡ k.objects
 fault_objects true f k = refl

@@ -1,5 +1,6 @@
 -- What a name means is within the final counts.
 use Rattle.std.proofs.Common.{◌≡◌, ℕ, List, [], ◌∷◌, ◌++◌, Bool, true, false, cond, Option, Some, None, refl}
+use Rattle.std.proofs.lemmas.Bool.{and_parts}
 use Rattle.std.specs.Prelude.{bytes_eq}
 use Rattle.plm_syntax.specs.Terminal.{NameT}
 use Rattle.plm_token.specs.Names.{normal}
@@ -13,7 +14,7 @@ use Rattle.plm_decl.specs.Resolver.{Known}
 use Rattle.plm_decl.specs.Uses.{binding_for, is_something, used}
 use Rattle.plm_decl.specs.Ranges.{Counts, binding_within}
 use Rattle.plm_decl.specs.Inner.Ranges.{item_within, entries_within}
-use Rattle.plm_decl.proofs.Kept.{Ends, Kept, both, left, right, frames_within, maybe, or_within, note_unless_kept, note_unless_holds, all_pushed}
+use Rattle.plm_decl.proofs.Kept.{Ends, Kept, both, frames_within, maybe, or_within, note_unless_kept, note_unless_holds, all_pushed}
 
 chosen : (c : Counts) (b : Bool) (i : Item) (o : Option Item) → item_within c i ≡ true → maybe (item_within c) o ≡ true → maybe (item_within c) (cond b (Some i) o) ≡ true
 chosen c true i o p q = p
@@ -22,17 +23,17 @@ chosen c false i o p q = q
 pub found_within : (c : Counts) (name : List ℕ) (es : Entries) → entries_within c es ≡ true → maybe (item_within c) (found_in name es) ≡ true
 found_within c name [] h = refl
 found_within c name (e ∷ es) h =
-    chosen c (bytes_eq name e.0) e.1 (found_in name es) (left (item_within c e.1) (entries_within c es) h) (found_within c name es (right (item_within c e.1) (entries_within c es) h))
+    chosen c (bytes_eq name e.0) e.1 (found_in name es) (and_parts (item_within c e.1) (entries_within c es) h).0 (found_within c name es (and_parts (item_within c e.1) (entries_within c es) h).1)
 
 pub meant_within : (c : Counts) (name : List ℕ) (frames : List Frame) → frames_within c frames ≡ true → maybe (item_within c) (meant name frames) ≡ true
 meant_within c name [] h = refl
 meant_within c name (l ∷ ls) h =
-    or_within c (found_in name l.names) (meant name ls) (found_within c name l.names (left (entries_within c l.names) (frames_within c ls) h))
-    (meant_within c name ls (right (entries_within c l.names) (frames_within c ls) h))
+    or_within c (found_in name l.names) (meant name ls) (found_within c name l.names (and_parts (entries_within c l.names) (frames_within c ls) h).0)
+    (meant_within c name ls (and_parts (entries_within c l.names) (frames_within c ls) h).1)
 
 pub here_within : (c : Counts) (name : List ℕ) (frames : List Frame) → frames_within c frames ≡ true → maybe (item_within c) (found_here name frames) ≡ true
 here_within c name [] h = refl
-here_within c name (l ∷ ls) h = found_within c name l.names (left (entries_within c l.names) (frames_within c ls) h)
+here_within c name (l ∷ ls) h = found_within c name l.names (and_parts (entries_within c l.names) (frames_within c ls) h).0
 
 entry_within : (c : Counts) (b : Bool) (name : List ℕ) (i : Item) (es : Entries) → entries_within c es ≡ true → item_within c i ≡ true → entries_within c (cond b es (es ++ (name, i) ∷ [])) ≡ true
 entry_within c true name i es h e = h
@@ -44,7 +45,7 @@ with_entry_within c name i es h e = entry_within c _ name i es h e
 pub with_name_within : (c : Counts) (name : List ℕ) (i : Item) (frames : List Frame) → frames_within c frames ≡ true → item_within c i ≡ true → frames_within c (with_name name i frames) ≡ true
 with_name_within c name i [] h e = refl
 with_name_within c name i (l ∷ ls) h e =
-    both (with_entry_within c name i l.names (left (entries_within c l.names) (frames_within c ls) h) e) (right (entries_within c l.names) (frames_within c ls) h)
+    both (with_entry_within c name i l.names (and_parts (entries_within c l.names) (frames_within c ls) h).0 e) (and_parts (entries_within c l.names) (frames_within c ls) h).1
 
 something_within : (c : Counts) (o : Option Item) (b : Option Builtin) → maybe (item_within c) o ≡ true → is_something (binding_for o b) ≡ true → binding_within c (binding_for o b) ≡ true
 something_within c (Some (item.Variable v)) b h e = h

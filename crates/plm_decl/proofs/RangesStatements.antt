@@ -1,5 +1,6 @@
 -- Resolved statements and procedures are within the final counts.
 use Rattle.std.proofs.Common.{◌≡◌, ℕ, ◌≤◌, List, [], ◌∷◌, ◌++◌, length, Bool, true, false, ◌&&◌, ◌||◌, not, cond, Option, Some, None, nat_lt, is_some, subst, refl, sym, ap, ◌∙◌}
+use Rattle.std.proofs.lemmas.Bool.{and_parts}
 use Rattle.std.specs.Prelude.{slice_get}
 use Rattle.std.specs.List.{list_all}
 use Rattle.std.proofs.lemmas.List.{length-set}
@@ -21,7 +22,8 @@ use Rattle.plm_decl.specs.Lists.{element_list, name_list, reference_list}
 use Rattle.plm_decl.specs.Uses.{used}
 use Rattle.plm_decl.specs.Resolved.{ReferencesR, no_references, references, ReferenceR', StatementR, StatementsR, no_statements, statements, and_reference, and_statement}
 use Rattle.plm_decl.specs.Expressions.{expression, reference}
-use Rattle.plm_decl.specs.Elements.{linked, with_variable}
+use Rattle.plm_decl.specs.Linkage.{linked}
+use Rattle.plm_decl.specs.Elements.{with_variable}
 use Rattle.plm_decl.specs.Fill.{element}
 use Rattle.plm_decl.specs.Statements.{targets_from, step_for, block_path, with_elements, statement, basic, statements as read_statements, block, with_items, with_item}
 use Rattle.plm_syntax.specs.Spelling.{last_name}
@@ -29,7 +31,7 @@ use Rattle.plm_decl.specs.Procedures.{linkage_of, is_handled, note_handler, head
 use Rattle.plm_decl.specs.Ranges.{Counts, binding_within, expression_within, reference_within, references_within, step_within, statement_within, statements_within, variable_within, procedure_within}
 use Rattle.plm_decl.specs.Inner.Ranges.{Within, item_within}
 use Rattle.plm_decl.specs.Inner.Regions.{lies_in}
-use Rattle.plm_decl.proofs.Kept.{Ends, Kept, Declares, declares_none, declares_then, kept, kept_then, both, left, right, frames_within, note_kept, note_unless_kept, all_pushed, all_set, maybe, got, pushed_below, pushed_most, unless_kept}
+use Rattle.plm_decl.proofs.Kept.{Ends, Kept, Declares, declares_none, declares_then, kept, kept_then, both, frames_within, note_kept, note_unless_kept, all_pushed, all_set, maybe, got, pushed_below, pushed_most, unless_kept}
 use Rattle.plm_decl.proofs.RangesNames.{used_kept, used_within, here_within, with_name_within}
 use Rattle.plm_decl.proofs.RangesExpressions.{expression_kept, expression_is_within, reference_kept, reference_is_within}
 use Rattle.plm_decl.proofs.RangesElements.{linked_kept, declared_kept}
@@ -40,12 +42,12 @@ use Rattle.plm_decl.proofs.RangesFills.{element_declares}
 and_reference_within : (c : Counts) (xs : ReferencesR) (x : ReferenceR') → references_within c xs ≡ true → reference_within c x ≡ true → references_within c (and_reference xs x) ≡ true
 and_reference_within c no_references x h g = both g refl
 and_reference_within c (references y xs) x h g =
-    both (left (reference_within c y) (references_within c xs) h) (and_reference_within c xs x (right (reference_within c y) (references_within c xs) h) g)
+    both (and_parts (reference_within c y) (references_within c xs) h).0 (and_reference_within c xs x (and_parts (reference_within c y) (references_within c xs) h).1 g)
 
 and_statement_within : (c : Counts) (ss : StatementsR) (s : StatementR) → statements_within c ss ≡ true → statement_within c s ≡ true → statements_within c (and_statement ss s) ≡ true
 and_statement_within c no_statements s h g = both g refl
 and_statement_within c (statements t ss) s h g =
-    both (left (statement_within c t) (statements_within c ss) h) (and_statement_within c ss s (right (statement_within c t) (statements_within c ss) h) g)
+    both (and_parts (statement_within c t) (statements_within c ss) h).0 (and_statement_within c ss s (and_parts (statement_within c t) (statements_within c ss) h).1 g)
 
 targets_kept : (c : Counts) (frames : List Frame) (before : ReferencesR) (xs : List ReferenceT) (k : Known) → Kept c k (targets_from frames before xs k).1
 targets_kept c frames before [] k = kept c k
@@ -160,7 +162,7 @@ completed_at_within : (c : Counts) (number : ℕ) (ps : List ℕ) (body : Statem
     → list_all (λ v. nat_lt v c.variables) ps ≡ true → statements_within c body ≡ true → maybe (procedure_within c) p ≡ true → Within c k → Within c (completed_at number ps body p k)
 completed_at_within c number ps body None k h g m w = w
 completed_at_within c number ps body (Some p) k h g m w =
-    let entry = left (nat_lt p.entry c.procedures) (statements_within c p.body) (right (list_all (λ v. nat_lt v c.variables) p.parameters) (nat_lt p.entry c.procedures && statements_within c p.body) m) in
+    let entry = (and_parts (nat_lt p.entry c.procedures) (statements_within c p.body) (and_parts (list_all (λ v. nat_lt v c.variables) p.parameters) (nat_lt p.entry c.procedures && statements_within c p.body) m).1).0 in
     (w.0, w.1, all_set (procedure_within c) k.procedures number (record p { parameters = ps; body = body }) w.2 (both h (both entry g)), w.3, w.4, w.5, w.6, w.7)
 
 -- ---- statements

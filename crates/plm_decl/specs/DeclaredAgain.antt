@@ -9,7 +9,7 @@ use Rattle.plm_syntax.specs.declared.tree.Position.{Position}
 use Rattle.plm_syntax.specs.Terminal.{NameT}
 use Rattle.plm_syntax.specs.Tree.{VariableT, MemberT, TypeT, ScalarType, StructureType, ElementT, LiteralElement, VariableElement, BasicT, EmptyS, AssignS, CallS, ReturnS, ReturnValueS, EnableS, DisableS, HaltS, IfS, IfElseS, DoS, WhileS, CaseS, IterateS, StatementT, Labelled, StatementsT, no_statements, statements, BlockT, BlockOf, ItemsT, no_items, items, ItemT, DeclareI, ProcedureI, ModuleT, ModuleOf}
 use Rattle.plm_decl.specs.declared.found.Found.{Found}
-use Rattle.plm_decl.specs.Found.{code_of}
+use Rattle.word86.specs.FaultCode.{code_of}
 use Rattle.plm_decl.specs.Lists.{name_list, member_list, element_list}
 use Rattle.plm_decl.specs.Shape.{member_names}
 use Rattle.plm_decl.specs.Elements.{declared_list}

@@ -2,14 +2,11 @@
 use Rattle.std.specs.Prelude.{ℕ, ◌+◌, List, [], ◌∷◌, ◌++◌, length, slice_get, Bool, true, false, not, cond, ◌&&◌, nat_le, is_some, Option, Some, None}
 use Rattle.plm_decl.specs.Lists.{variable_list}
 use Rattle.std.specs.Option.{option_map_or}
-use Rattle.word86.specs.declared.number.Number.{Number}
-use Rattle.word86.specs.declared.number.Number.TheVariants.{E302, E303, E304, E307}
+use Rattle.word86.specs.declared.number.Number.TheVariants.{E302, E303, E304}
 use Rattle.word86.specs.declared.page.Page.{Page}
 use Rattle.word86.specs.Page.{page_size}
 use Rattle.plm_token.specs.Names.{normal}
 use Rattle.plm_syntax.specs.declared.tree.Position.{Position}
-use Rattle.plm_syntax.specs.declared.tree.Linkage.{Linkage}
-use Rattle.plm_syntax.specs.declared.tree.Linkage.TheVariants as linkage
 use Rattle.plm_syntax.specs.Terminal.{NameT}
 use Rattle.plm_syntax.specs.Tree.{VariableT, VariableOf, DeclaredT, OneVariable, VariableList}
 use Rattle.plm_decl.specs.declared.layout.ScalarType.TheVariants.{Byte, Word, Pointer, Integer}
@@ -22,15 +19,15 @@ use Rattle.plm_decl.specs.declared.names.Item.{Item}
 use Rattle.plm_decl.specs.declared.names.Item.TheVariants as item
 use Rattle.plm_decl.specs.declared.resolved.Binding.{Binding}
 use Rattle.plm_decl.specs.declared.resolved.Binding.TheVariants as binding
-use Rattle.plm_decl.specs.declared.found.Found.{Found}
 use Rattle.plm_decl.specs.declared.sites.Site.{Site}
 use Rattle.plm_decl.specs.declared.sites.Site.TheVariants as site
 use Rattle.plm_decl.specs.declared.attributes.Traits.{Traits}
 use Rattle.plm_decl.specs.Layout.{counted}
-use Rattle.plm_decl.specs.Scope.{Frame, with_name, is_fresh, is_external, path_in, found_in, with_entry}
+use Rattle.plm_decl.specs.Scope.{Frame, with_name, is_fresh, is_external, path_in}
 use Rattle.plm_decl.specs.Spelling.{name_after}
 use Rattle.plm_decl.specs.Regions.{size_at}
-use Rattle.plm_decl.specs.Resolver.{Known, note, note_unless, note_whole}
+use Rattle.plm_decl.specs.Resolver.{Known, note, note_unless}
+use Rattle.plm_decl.specs.Linkage.{linked}
 use Rattle.plm_decl.specs.Uses.{used}
 use Rattle.plm_decl.specs.Shape.{size_of_shape}
 use Rattle.plm_decl.specs.Sites.{site_after, names_no_place}
@@ -91,29 +88,6 @@ region_for frames n name size site.Outside k = (region.Nowhere, note E303 n.plac
 region_for frames n name size (site.Ram object offset) k = (region.Ram object offset, note_unless (nat_le (counted (offset + size)) (size_at k.objects object)) E303 n.place k)
 region_for frames n name size (site.Screen page offset) k =
     (region.Screen page offset, with_screen_name frames name size page offset (note_unless (nat_le (counted (offset + size)) page_size) E303 n.place k))
-
--- ---- names of several modules
-
-abbrev pub start : Position
-start = record { token = 0; line = 1 }
-
-abbrev pub found_item : Known → Item → Number → Found
-found_item k (item.Variable v) number = option_map_or (λ x. record { «module» = x.module; place = x.place; number = number }) (slice_get k.variables v) (record { «module» = 0; place = start; number = number })
-found_item k (item.Procedure p) number = option_map_or (λ x. record { «module» = x.module; place = x.place; number = number }) (slice_get k.procedures p) (record { «module» = 0; place = start; number = number })
-
--- the first PUBLIC of a name counts; each further one is a fault at the first
-abbrev pub with_public : List ℕ → Item → Option Item → Known → Known
-with_public name i None k = record k { publics = with_entry name i k.publics }
-with_public name i (Some first) k = note_whole (found_item k first E307) k
-
-abbrev pub with_external : List ℕ → Item → Known → Known
-with_external name i k = record k { externals = k.externals ++ record { name = name; item = i } ∷ [] }
-
--- what an EXTERNAL procedure declares joins nothing
-abbrev pub linked : List Frame → Linkage → List ℕ → Item → Known → Known
-linked frames linkage.None name i k = k
-linked frames linkage.Public name i k = cond (is_external frames) k (with_public name i (found_in name k.publics) k)
-linked frames linkage.External name i k = cond (is_external frames) k (with_external name i k)
 
 -- ---- declared names
 

@@ -19,7 +19,7 @@ use Rattle.plm_decl.specs.Scope.{frame, found_in}
 use Rattle.plm_decl.specs.Resolver.{Known, ExternalR, note_whole, nothing_known}
 use Rattle.plm_decl.specs.Names.{ObjectR, ProcedureR}
 use Rattle.plm_decl.specs.Resolved.{StatementsR}
-use Rattle.plm_decl.specs.Elements.{start, found_item}
+use Rattle.plm_decl.specs.Linkage.{start, found_item}
 use Rattle.plm_decl.specs.Statements.{block}
 
 -- ---- agreement

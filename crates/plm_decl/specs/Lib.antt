@@ -15,6 +15,7 @@ pub mod Expressions
 pub mod Shape
 pub mod Attributes
 pub mod Sites
+pub mod Linkage
 pub mod Elements
 pub mod Fill
 pub mod Stray

@@ -21,7 +21,8 @@ use Rattle.plm_decl.specs.Scope.{Frame, Entries, found_here, found_in, with_entr
 use Rattle.plm_decl.specs.Resolver.{Known, note, note_unless, note_whole}
 use Rattle.plm_decl.specs.Names.{handles, ProcedureR, is_external_linkage}
 use Rattle.plm_decl.specs.Resolved.{StatementsR, no_statements}
-use Rattle.plm_decl.specs.Elements.{declared, linked, with_variable}
+use Rattle.plm_decl.specs.Linkage.{linked}
+use Rattle.plm_decl.specs.Elements.{declared, with_variable}
 use Rattle.plm_decl.specs.Stray.{stray_of}
 
 abbrev pub linkage_of : LinkageT → Linkage

@@ -13,6 +13,7 @@ pub mod found;
 mod joins;
 mod laws;
 mod layout;
+mod linkage;
 mod members;
 mod modules;
 mod names;

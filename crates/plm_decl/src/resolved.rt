@@ -98,7 +98,7 @@ pub enum Statement {
     Iterate(Position, Position, Box<Bounds>, Vec<Statement>),
 }
 
-/// What stands before the statements of an iterative DO: what its index means, its first and last value, and the step.
+/// What stands before the statements of a DO with an index: what its index means, its first and last value, and the step.
 #[derive(Drop)]
 pub struct Bounds {
     pub binding: Binding,

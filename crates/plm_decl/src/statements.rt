@@ -94,7 +94,7 @@ impl Resolver {
         Ok(resolved)
     }
 
-    /// What stands before the body of an iterative DO block.
+    /// What stands before the body of a DO with an index.
     #[inline(never)]
     fn bounds(
         &mut self,
@@ -224,7 +224,7 @@ impl Resolver {
     #[cycle(statement)]
     #[tactic(auto, using(crate::proofs::ResolvedRows::statement_row))]
     #[inline(never)]
-    fn repetition(
+    fn while_loop(
         &mut self,
         body: &[plm_syntax::Statement<'_>],
         test: &plm_syntax::Expression<'_>,
@@ -241,7 +241,7 @@ impl Resolver {
     #[cycle(statement)]
     #[tactic(auto, using(crate::proofs::ResolvedRows::statement_row))]
     #[inline(never)]
-    fn selection(
+    fn case(
         &mut self,
         cases: &[plm_syntax::Statement<'_>],
         selector: &plm_syntax::Expression<'_>,
@@ -254,10 +254,10 @@ impl Resolver {
         Ok(Statement::Case(place, selector, self.statements(cases, scope)?))
     }
 
-    /// An iterative DO block.
+    /// A block of DO with an index.
     #[cycle(statement)]
     #[inline(never)]
-    fn iteration(
+    fn iterate(
         &mut self,
         body: &[plm_syntax::Statement<'_>],
         bounds: Box<Bounds>,
@@ -298,13 +298,11 @@ impl Resolver {
                 resolver.alternative(other, test, then, *place, scope)
             }
             Basic::Do(place, block, _) => resolver.do_block(block, *place, scope, labels),
-            Basic::While(place, test, body, _) => resolver.repetition(body, test, *place, scope),
-            Basic::Case(place, selector, cases, _) => resolver.selection(
-                cases, selector, *place, scope,
-            ),
+            Basic::While(place, test, body, _) => resolver.while_loop(body, test, *place, scope),
+            Basic::Case(place, selector, cases, _) => resolver.case(cases, selector, *place, scope),
             Basic::Iterate(place, index, values, body, _) => {
                 let bounds = resolver.bounds(index, values, scope)?;
-                resolver.iteration(body, bounds, *place, index.place, scope)
+                resolver.iterate(body, bounds, *place, index.place, scope)
             }
         }
     }

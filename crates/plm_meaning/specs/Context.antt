@@ -41,8 +41,8 @@ statements_in (Expr e) = evaluated (value_of e) e End
 statements_in (ToRun ss) = ss
 
 abbrev pub origin_of : Origin → Anchor
-origin_of (origin.Ram k start size) = InObject k start size
-origin_of (origin.Screen page start size) = OnScreen page start size
+origin_of (origin.InObject k start size) = InObject k start size
+origin_of (origin.OnScreen page start size) = OnScreen page start size
 origin_of (origin.There address) = There address
 
 -- a target of a value

@@ -17,9 +17,9 @@ use word86::{Page, Width};
 #[derive(Clone, Copy)]
 pub enum Origin {
     /// In a RAM object: its number, the index of the first byte in it, and the size in bytes of what the name declares.
-    Ram(usize, u64, u64),
+    InObject(usize, u64, u64),
     /// On this page of the screen: how many bytes after the page's first they begin, and the size in bytes of what the name declares.
-    Screen(Page, u64, u64),
+    OnScreen(Page, u64, u64),
     /// At the address that the base held.
     There(u16),
 }
@@ -101,8 +101,9 @@ impl PlacedObjects<'_> {
         ensures { Some result ≡ address_at (anchored self.entry.offsets.now (sizes_in self.entry) (origin_of origin)) offset }
     {
         let begin = match origin {
-            Origin::Ram(object, start, _) => u128::from(self.offset(object)) + u128::from(start),
-            Origin::Screen(page, start, _) => u128::from(page.begins()) + u128::from(start),
+            Origin::InObject(object, start, _) => u128::from(self.offset(object))
+                + u128::from(start),
+            Origin::OnScreen(page, start, _) => u128::from(page.begins()) + u128::from(start),
             Origin::There(address) => u128::from(address),
         };
         ((begin + u128::from(offset)) % 0x1_0000) as u16
@@ -117,7 +118,7 @@ impl PlacedObjects<'_> {
         size: u64,
         address: u16,
     ) -> Option<Place>
-        ensures { option_map where_of result ≡ placed self.entry.offsets.now (sizes_in self.entry) width (origin_of (Origin.Ram object start size)) address }
+        ensures { option_map where_of result ≡ placed self.entry.offsets.now (sizes_in self.entry) width (origin_of (Origin.InObject object start size)) address }
     {
         let offset = self.offset(object);
         if covers(
@@ -145,8 +146,10 @@ impl PlacedObjects<'_> {
         ensures { option_map where_of result ≡ placed self.entry.offsets.now (sizes_in self.entry) width (origin_of origin) address }
     {
         match origin {
-            Origin::Ram(object, start, size) => self.in_object(width, object, start, size, address),
-            Origin::Screen(page, start, size) => {
+            Origin::InObject(object, start, size) => self.in_object(
+                width, object, start, size, address,
+            ),
+            Origin::OnScreen(page, start, size) => {
                 let begins = page.begins();
                 if covers(
                     u128::from(begins) + u128::from(start),

@@ -217,10 +217,15 @@ impl<'a> Meaning<'a> {
             None => return Err(Stop::NotAllowed),
             Some(context) => {
                 settle(self.alloc, context)?;
-                matches!(
-                    next_action(context, &self.around),
-                    Action::Ended | Action::Returned
-                )
+                match next_action(context, &self.around) {
+                    Action::Ended | Action::Returned => true,
+                    Action::Silent
+                    | Action::Touch(_)
+                    | Action::Enable
+                    | Action::Disable
+                    | Action::Halt
+                    | Action::Bad(_) => false,
+                }
             }
         };
         if !over {
@@ -319,7 +324,14 @@ fn counted(can: bool, next: &Action, silents: u8, switches: u8) -> Option<(u8, u
     match next {
         Action::Silent if silents < 8 => Some((silents + 1, switches)),
         Action::Enable | Action::Halt if switches < 1 => Some((silents, switches + 1)),
-        _ => None,
+        Action::Silent
+        | Action::Touch(_)
+        | Action::Enable
+        | Action::Disable
+        | Action::Halt
+        | Action::Ended
+        | Action::Returned
+        | Action::Bad(_) => None,
     }
 }
 
@@ -330,7 +342,7 @@ fn is_on_after(next: &Action, on: bool) -> bool
     match next {
         Action::Enable | Action::Halt => true,
         Action::Disable => false,
-        _ => on,
+        Action::Silent | Action::Touch(_) | Action::Ended | Action::Returned | Action::Bad(_) => on,
     }
 }
 
@@ -338,7 +350,16 @@ fn is_on_after(next: &Action, on: bool) -> bool
 fn is_halted_after(next: &Action) -> bool
     ensures { (k : ℕ → Part) → result ≡ halted_after (acting next.now k) }
 {
-    matches!(next, Action::Halt)
+    match next {
+        Action::Halt => true,
+        Action::Silent
+        | Action::Touch(_)
+        | Action::Enable
+        | Action::Disable
+        | Action::Ended
+        | Action::Returned
+        | Action::Bad(_) => false,
+    }
 }
 
 // Makes what the context does next: its label.

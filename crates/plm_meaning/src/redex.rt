@@ -125,7 +125,7 @@ fn referred<'a>(
 }
 
 // A DO CASE: a case is dropped, or taken.
-fn choose<'a>(v: u16, cases: &'a [Box<Statement>]) -> Focus<'a>
+fn case<'a>(v: u16, cases: &'a [Box<Statement>]) -> Focus<'a>
     ensures { Quiet (part_of result) ≡ map_action ToRun (next_case (Some v) (statements_of cases.now) End Over) }
 {
     match cases.split_first() {
@@ -153,7 +153,7 @@ fn arm<'a>(v: u16, arm: &'a [Box<Statement>], other: &'a [Box<Statement>]) -> Fo
 }
 
 // A DO WHILE after its test.
-fn repeat<'a>(v: u16, condition: &'a Expression, body: &'a [Box<Statement>]) -> Focus<'a>
+fn while_loop<'a>(v: u16, condition: &'a Expression, body: &'a [Box<Statement>]) -> Focus<'a>
     ensures { part_of result ≡ ToRun (if is_odd v then behind (statements_of body.now) (Then (While (expression_of condition.now) (expression_of condition.now) (statements_of body.now)) End) else End) }
 {
     if is_odd(v) {
@@ -342,8 +342,8 @@ fn redex_left<'a>(around: &Surroundings<'_>, redex: &Redex<'a>, answer: u16) -> 
         Redex::ReturnValue(width, v) => Focus::Returned(width.low(u32::from(*v))),
         Redex::If(v, taken, other) => arm(*v, taken, other),
         Redex::Block(body) => Focus::Within(Later::Leaving, body),
-        Redex::While(v, condition, body) => repeat(*v, condition, body),
-        Redex::Case(v, cases) => choose(*v, cases),
+        Redex::While(v, condition, body) => while_loop(*v, condition, body),
+        Redex::Case(v, cases) => case(*v, cases),
         Redex::Loop(phase, rounds) => round_left(*phase, rounds, answer),
     }
 }

@@ -22,13 +22,13 @@ fn refer<'a>(purpose: Purpose<'a>, line: Line, anchor: Anchor, offset: u64) -> R
         Anchor::InObject(object, start, size) => Redex::Refer(
             purpose,
             line,
-            Origin::Ram(object, start, size),
+            Origin::InObject(object, start, size),
             offset,
         ),
         Anchor::OnScreen(page, start, size) => Redex::Refer(
             purpose,
             line,
-            Origin::Screen(page, start, size),
+            Origin::OnScreen(page, start, size),
             offset,
         ),
     }

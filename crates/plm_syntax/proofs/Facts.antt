@@ -7,7 +7,7 @@ use Rattle.std.specs.Int.{bit_at}
 use Rattle.std.specs.Int.RustNames.{bit_or}
 use lib.Bits.{bit_and}
 use Rattle.std.proofs.Math.Nat.{le-max_left, le-max_right}
-use Rattle.std.proofs.lemmas.Bool.{ltb-true, lt-ltb, le-ltb, eqb-true, eqb-false, or_right, and_from}
+use Rattle.std.proofs.lemmas.Bool.{ltb-true, lt-ltb, le-ltb, eqb-true, eqb-false, or_right, and_from, and_parts}
 use Rattle.std.proofs.lemmas.Nat.Bits.{bit_at_or, bit_at_and, bit_at-lt, bit_at-zero, bit_at-pow_other}
 use Rattle.std.proofs.lemmas.Option.{slice_get_within, get_or_from_slice_get, slice_get-map, same_Some}
 use Rattle.std.proofs.lemmas.List.{length-append, map-append, take-append-drop, take-append-le, take-take, take_all, append_assoc, append-nil, length-take-le, get_or-set_same, get_or-set_other}
@@ -27,7 +27,7 @@ use Rattle.plm_syntax.specs.Inner.Names.{names_in, passes_one, is_number}
 use Rattle.plm_syntax.specs.Inner.Scope.{named_symbol, literal_text, text_of, text_at, StandsAt, IsNumberAt, IsNumbered}
 use Rattle.plm_syntax.specs.Inner.Literals.{blocks_in}
 use Rattle.plm_syntax.specs.Inner.Known.{each_quiet, is_quiet, is_quiet_text, is_quiet_range, is_quiet_number, Pass, is_quiet_if_any, is_assumed, Hold, Saying, quiet_name, quiet_run, IsRule, IsFounded, IsRun, IsQuietRun, IsQuietName, IsKnown, AreTrue, AreKnown, HasLiteral}
-use Rattle.plm_syntax.proofs.Quiet.{and_first, and_second, quiet_among_more, quiet_same}
+use Rattle.plm_syntax.proofs.Quiet.{quiet_among_more, quiet_same}
 use Rattle.plm_syntax.proofs.Passed.{quiet_both, among_more, fewer_closed}
 use Rattle.plm_syntax.proofs.Replaced.{some_at}
 use Rattle.plm_syntax.proofs.Numbers.{stands_for, found_still, number_still, kept_along, kept_all}
@@ -110,9 +110,9 @@ assumed_along : (names all : List Symbol) (literals more : List LiteralText) (as
     → (is_quiet_if_any names literals e (slice_get assumed bit) ≡ true → is_quiet_if_any all more e (slice_get others bit) ≡ true) → is_assumed names literals assumed e bit ≡ true → is_assumed all more others e bit ≡ true
 assumed_along names all literals more assumed others e bit f h =
     and_from (nat_lt 0 e) (nat_lt 62 bit || is_quiet_if_any all more e (slice_get others bit))
-    (and_first (nat_lt 0 e) (nat_lt 62 bit || is_quiet_if_any names literals e (slice_get assumed bit)) h)
+    (and_parts (nat_lt 0 e) (nat_lt 62 bit || is_quiet_if_any names literals e (slice_get assumed bit)) h).0
     (or_along (nat_lt 62 bit) (is_quiet_if_any names literals e (slice_get assumed bit)) (is_quiet_if_any all more e (slice_get others bit)) f
-    (and_second (nat_lt 0 e) (nat_lt 62 bit || is_quiet_if_any names literals e (slice_get assumed bit)) h))
+    (and_parts (nat_lt 0 e) (nat_lt 62 bit || is_quiet_if_any names literals e (slice_get assumed bit)) h).1)
 
 -- of more names no less is assumed
 hold_fewer : (names : List Symbol) (literals : List LiteralText) (assumed others : List ℕ) (depth : ℕ) (words : List ℕ) → take (length assumed) others ≡ assumed → Hold names literals others depth words → Hold names literals assumed depth words
@@ -140,7 +140,7 @@ or_second true b e h = absurd (cc e)
 pub assumed_is : (names : List Symbol) (literals : List LiteralText) (assumed : List ℕ) (e bit number : ℕ) → bit < 63 → slice_get assumed bit ≡ Some number → is_assumed names literals assumed e bit ≡ true → is_quiet_number names literals e number ≡ true
 assumed_is names literals assumed e bit number less at h =
     ap (is_quiet_if_any names literals e) (sym at)
-    ∙ or_second (nat_lt 62 bit) (is_quiet_if_any names literals e (slice_get assumed bit)) (le-ltb 62 bit (omega arith)) (and_second (nat_lt 0 e) (nat_lt 62 bit || is_quiet_if_any names literals e (slice_get assumed bit)) h)
+    ∙ or_second (nat_lt 62 bit) (is_quiet_if_any names literals e (slice_get assumed bit)) (le-ltb 62 bit (omega arith)) (and_parts (nat_lt 0 e) (nat_lt 62 bit || is_quiet_if_any names literals e (slice_get assumed bit)) h).1
 
 -- the bit of a name that puts nothing out
 pub is_so_assumed : (names : List Symbol) (literals : List LiteralText) (assumed : List ℕ) (e bit number : ℕ) → 0 < e → slice_get assumed bit ≡ Some number → is_quiet_number names literals e number ≡ true → is_assumed names literals assumed e bit ≡ true
@@ -520,7 +520,7 @@ name_of_run scope depth fewer number literal size r g more has stands all_of lon
           follows = λ all rest d kept hold.
               let others : List LiteralText = take g.level literals ++ rest in
               let both = pass (λ k bit. is_assumed all others scope.assumed.items (d - k) bit) hold in
-              let some : 0 < d = omega (arith, ltb-true 0 (d - 0) (and_first (nat_lt 0 (d - 0)) true both.1)) in
+              let some : 0 < d = omega (arith, ltb-true 0 (d - 0) (and_parts (nat_lt 0 (d - 0)) true both.1).0) in
               let back : d - 1 + 1 ≡ d = omega (arith, some) in
               let quiet = rule.follows all rest (d - 1) kept (λ k bit l b. let same : d - (k + 1) ≡ d - 1 - k = omega arith in subst (λ (n : ℕ). is_assumed all others scope.assumed.items n bit ≡ true) same (both.0 k bit l b)) in
               subst (λ (n : ℕ). is_quiet_number all others n number ≡ true) back

@@ -1,5 +1,6 @@
 -- What each goal of the machine stands for, in trees.
 use Rattle.std.proofs.Common.{◌≡◌, ℕ, zero, suc, ◌≤◌, List, [], ◌∷◌, ◌++◌, Bool, true, false, cond, Option, Some, None, refl, sym, ap, ◌∙◌, subst}
+use Rattle.std.proofs.lemmas.Option.{same_Some}
 use Rattle.plm_token.specs.declared.token.Keyword.{Keyword}
 use Rattle.plm_token.specs.declared.token.Keyword.TheVariants as key
 use Rattle.plm_token.specs.declared.token.Mark.{Mark}
@@ -252,9 +253,6 @@ element_at n [] = None
 element_at zero (x ∷ xs) = Some x
 element_at (suc n) (x ∷ xs) = element_at n xs
 
-pub some_inj : {A : Type 0} {x y : A} → Some x ≡ Some y → x ≡ y
-some_inj h = cc
-
 abbrev pub all_sign : List Mark
 all_sign = mark.Equal ∷ mark.Period ∷ mark.Slash ∷ mark.LeftParenthesis ∷ mark.RightParenthesis ∷ mark.Plus ∷ mark.Minus ∷ mark.Star ∷ mark.Comma ∷ mark.Less ∷ mark.Greater ∷ mark.Colon ∷ mark.Semicolon ∷ mark.AtSign ∷ mark.NotEqual ∷ mark.LessEqual ∷ mark.GreaterEqual ∷ mark.Assign ∷ []
 
@@ -279,7 +277,7 @@ sign_found mark.GreaterEqual = refl
 sign_found mark.Assign = refl
 
 pub same_sign : (x y : Mark) → nat_eq (sign_number x) (sign_number y) ≡ true → x ≡ y
-same_sign x y h = some_inj (sym (sign_found x) ∙ ap (λ (n : ℕ). element_at n all_sign) (eqb-true (sign_number x) (sign_number y) h) ∙ sign_found y)
+same_sign x y h = same_Some x y (sym (sign_found x) ∙ ap (λ (n : ℕ). element_at n all_sign) (eqb-true (sign_number x) (sign_number y) h) ∙ sign_found y)
 
 abbrev pub all_key : List Keyword
 all_key = key.Address ∷ key.And ∷ key.At ∷ key.Based ∷ key.By ∷ key.Byte ∷ key.Call ∷ key.Case ∷ key.Data ∷ key.Declare ∷ key.Disable ∷ key.Do ∷ key.Dword ∷ key.Else ∷ key.Enable ∷ key.End ∷ key.External ∷ key.Go ∷ key.Goto ∷ key.Halt ∷ key.If ∷ key.Initial ∷ key.Integer ∷ key.Interrupt ∷ key.Label ∷ key.Literally ∷ key.Minus ∷ key.Mod ∷ key.Not ∷ key.Or ∷ key.Plus ∷ key.Pointer ∷ key.Procedure ∷ key.Public ∷ key.Real ∷ key.Reentrant ∷ key.Return ∷ key.Selector ∷ key.Structure ∷ key.Then ∷ key.To ∷ key.While ∷ key.Word ∷ key.Xor ∷ []
@@ -331,7 +329,7 @@ key_found key.Word = refl
 key_found key.Xor = refl
 
 pub same_key : (x y : Keyword) → nat_eq (key_number x) (key_number y) ≡ true → x ≡ y
-same_key x y h = some_inj (sym (key_found x) ∙ ap (λ (n : ℕ). element_at n all_key) (eqb-true (key_number x) (key_number y) h) ∙ key_found y)
+same_key x y h = same_Some x y (sym (key_found x) ∙ ap (λ (n : ℕ). element_at n all_key) (eqb-true (key_number x) (key_number y) h) ∙ key_found y)
 
 pub sign_is : (m : Mark) (t : Terminal) → is_sign m t ≡ true → Sign m ≡ t
 sign_is m (Sign n) h = ap Sign (same_sign m n h)

@@ -1,5 +1,6 @@
 -- The literals in force at each token that is put out are those of the tree.
 use Rattle.std.proofs.Common.{◌≡◌, ℕ, zero, suc, ◌+◌, ◌≤◌, List, [], ◌∷◌, ◌++◌, length, take, fold, Bool, true, false, cond, ◌&&◌, ◌||◌, Option, Some, None, Result, Ok, Err, refl, sym, ap, ◌∙◌, arith}
+use Rattle.std.proofs.Math.Bool.{or-false}
 use Rattle.std.proofs.lemmas.List.{append-nil}
 use Rattle.word86.specs.declared.number.Number.{Number}
 use Rattle.plm_token.specs.declared.token.Keyword.{Keyword}
@@ -15,9 +16,10 @@ use Rattle.plm_syntax.specs.Terminal.{Terminal, Finish, Leaf, leaf}
 use Rattle.plm_syntax.specs.Tree.{ModuleT}
 use Rattle.plm_syntax.specs.Spelling.{leaves_of}
 use Rattle.plm_syntax.specs.Sentence.{Fits, Spells}
-use Rattle.plm_syntax.specs.Literals.{LiteralText, Blocks, Out, opens, ends, declares, finishes, is_keyword, is_identifier, is_string, opened, closed, ends_block, blocks_behind, name_of, declared_name, between, declare, put, put_source, nothing_out}
+use Rattle.plm_syntax.specs.Literals.{LiteralText, Blocks, Out, opens, ends, declares, finishes, is_keyword, is_identifier, opened, closed, ends_block, blocks_behind, name_of, declared_name, between, declare, put, put_source, nothing_out}
 use Rattle.plm_syntax.specs.Faults.{terminal_of, place_of, tokens_from}
 use Rattle.plm_syntax.specs.InForce.{table_at, in_force, put_all}
+use Rattle.plm_syntax.proofs.Replaced.{no_string}
 use Rattle.plm_syntax.proofs.Words.{Word, Declares, Named, Quoted, Other, key_word, sign_word, word_of, ends_words, name_words, finished, named, behind, trail, blocks}
 use Rattle.plm_syntax.proofs.LeadBlock.{module_trail}
 
@@ -54,10 +56,6 @@ pub sign_ends : (m : Mark) (w : Word) → false ≡ ends_words (sign_word m) w
 sign_ends mark.Semicolon w = refl
 sign_ends m w = refl
 
-pub or_nothing : (b : Bool) → (b || false) ≡ b
-or_nothing true = refl
-or_nothing false = refl
-
 pub key_behind_name : (n : List ℕ) (k : Keyword) → ends k ≡ ends_words (Named n) (key_word k)
 key_behind_name n key.Do = refl
 key_behind_name n key.Procedure = refl
@@ -84,7 +82,7 @@ one_ends String text = refl
 one_ends (Special m) text = sign_ends m Other
 
 pub two_end : (k : Kind) (text : List ℕ) (j : Kind) (before : List ℕ) → (is_keyword ends k || (is_identifier k && is_keyword ends j)) ≡ ends_words (word_for k text) (word_for j before)
-two_end (Reserved k) text j before = or_nothing (ends k) ∙ key_ends k (word_for j before)
+two_end (Reserved k) text j before = or-false (ends k) ∙ key_ends k (word_for j before)
 two_end Identifier text j before = name_ends text j before
 two_end (NumeralKind v) text j before = refl
 two_end String text j before = refl
@@ -140,12 +138,6 @@ same_name None before = refl
 same_name (Some l) None = unnamed (word_for l.kind l.text)
 same_name (Some l) (Some b) = two_name l.kind l.text b.kind b.text
 
--- only a string declares
-pub no_name : (k : Kind) (last before : Option Lexeme) → is_string k ≡ false → declared_name k last before ≡ None
-no_name k None before h = refl
-no_name k (Some l) None h = refl
-no_name k (Some l) (Some b) h = ap (λ (x : Bool). name_of (x && is_keyword declares l.kind && is_identifier b.kind) b.text) h
-
 -- ---- a token put out does what its word does
 
 pub declare_blocks : (name : Option (List ℕ)) (r : Result (List Symbol) Number) (line : ℕ) (o : Out) → (declare name r line o).blocks ≡ named name r o.blocks
@@ -179,11 +171,11 @@ sign_does mark.Semicolon last before bs = finishing (ends_block last before) bs 
 sign_does m last before bs = refl
 
 pub kind_does : (k : Kind) (text : List ℕ) (last before : Option Lexeme) (bs : Blocks) → named (declared_name k last before) (literal_of (between text)) (blocks_behind k (ends_block last before) bs) ≡ behind (word_for k text) (word_last last) (word_last before) bs
-kind_does (Reserved k) text last before bs = ap (λ (x : Option (List ℕ)). named x (literal_of (between text)) (cond (opens k) (opened bs) bs)) (no_name (Reserved k) last before refl) ∙ key_does k (word_last last) (word_last before) bs
-kind_does Identifier text last before bs = ap (λ (x : Option (List ℕ)). named x (literal_of (between text)) bs) (no_name Identifier last before refl)
-kind_does (NumeralKind v) text last before bs = ap (λ (x : Option (List ℕ)). named x (literal_of (between text)) bs) (no_name (NumeralKind v) last before refl)
+kind_does (Reserved k) text last before bs = ap (λ (x : Option (List ℕ)). named x (literal_of (between text)) (cond (opens k) (opened bs) bs)) (no_string (Reserved k) last before refl) ∙ key_does k (word_last last) (word_last before) bs
+kind_does Identifier text last before bs = ap (λ (x : Option (List ℕ)). named x (literal_of (between text)) bs) (no_string Identifier last before refl)
+kind_does (NumeralKind v) text last before bs = ap (λ (x : Option (List ℕ)). named x (literal_of (between text)) bs) (no_string (NumeralKind v) last before refl)
 kind_does String text last before bs = ap (λ (x : Option (List ℕ)). named x (literal_of (between text)) bs) (same_name last before)
-kind_does (Special m) text last before bs = ap (λ (x : Option (List ℕ)). named x (literal_of (between text)) (cond (finishes m && ends_block last before) (closed bs.literals bs.starts) bs)) (no_name (Special m) last before refl) ∙ sign_does m last before bs
+kind_does (Special m) text last before bs = ap (λ (x : Option (List ℕ)). named x (literal_of (between text)) (cond (finishes m && ends_block last before) (closed bs.literals bs.starts) bs)) (no_string (Special m) last before refl) ∙ sign_does m last before bs
 
 pub put_does : (t : Lexeme) (o : Out) → (put_source t o).blocks ≡ behind (word_for t.kind t.text) (word_last o.last) (word_last o.before) o.blocks
 put_does t o = declare_blocks (declared_name t.kind o.last o.before) (literal_of (between t.text)) t.line (put t o) ∙ kind_does t.kind t.text o.last o.before o.blocks

@@ -3,7 +3,7 @@ use Rattle.std.proofs.Common.{◌≡◌, ◌∙◌, ℕ, zero, suc, ◌<◌, Lis
 use Rattle.std.specs.Prelude.{nat_lt, bytes_eq}
 use Rattle.std.specs.Bool.{if◌then◌else◌}
 use Rattle.std.specs.List.{All, slice_get}
-use Rattle.std.proofs.lemmas.Bool.{ltb-true, and_from}
+use Rattle.std.proofs.lemmas.Bool.{ltb-true, and_from, and_parts}
 use Rattle.std.proofs.lemmas.Slice.Eq.{bytes_eq-Decides}
 use Rattle.std.proofs.lemmas.Option.{slice_get-map, slice_get_read, slice_get_within, get_or_from_slice_get, same_Some}
 use Rattle.std.proofs.lemmas.List.{map-append, take-append-le, take_all}
@@ -18,7 +18,6 @@ use Rattle.plm_syntax.specs.Literals.{is_identifier}
 use Rattle.plm_syntax.specs.Inner.NamedToken.{named_symbol, IsSameName, is_same_name}
 use Rattle.plm_syntax.specs.Inner.Names.{names_in, passes_one, is_number, has_number}
 use Rattle.plm_syntax.specs.Inner.Scope.{letters_of, literal_text, literal_at, has_name, first_named, StandsAt, AreFirst, HaveNumbers, IsNumbered}
-use Rattle.plm_syntax.proofs.Quiet.{and_first, and_second}
 use Rattle.plm_syntax.proofs.Located.{first_of_all, text_found}
 
 -- ---- what is read
@@ -61,11 +60,11 @@ same_name_so a b h =
 
 pub same_name_is : (a b : Symbol) → is_same_name a b ≡ true → IsSameName a b
 same_name_is a b h =
-    let rest : (is_identifier b.kind && bytes_eq (normal a.text) (normal b.text)) ≡ true = and_second (is_identifier a.kind) (is_identifier b.kind && bytes_eq (normal a.text) (normal b.text)) h in
+    let rest : (is_identifier b.kind && bytes_eq (normal a.text) (normal b.text)) ≡ true = (and_parts (is_identifier a.kind) (is_identifier b.kind && bytes_eq (normal a.text) (normal b.text)) h).1 in
     record {
-      first = and_first (is_identifier a.kind) (is_identifier b.kind && bytes_eq (normal a.text) (normal b.text)) h;
-      second = and_first (is_identifier b.kind) (bytes_eq (normal a.text) (normal b.text)) rest;
-      same = (bytes_eq-Decides (normal a.text) (normal b.text)).0 (and_second (is_identifier b.kind) (bytes_eq (normal a.text) (normal b.text)) rest);
+      first = (and_parts (is_identifier a.kind) (is_identifier b.kind && bytes_eq (normal a.text) (normal b.text)) h).0;
+      second = (and_parts (is_identifier b.kind) (bytes_eq (normal a.text) (normal b.text)) rest).0;
+      same = (bytes_eq-Decides (normal a.text) (normal b.text)).0 (and_parts (is_identifier b.kind) (bytes_eq (normal a.text) (normal b.text)) rest).1;
     }
 
 -- the symbol that a number stands for

@@ -23,9 +23,10 @@ use Rattle.plm_syntax.specs.Faults.{tokens_from, text_end}
 use Rattle.plm_syntax.specs.InForce.{in_force, put_all, IsRead, of_source, of_text, LiteralsInForce}
 use Rattle.plm_syntax.proofs.Replaced.{symbol_stopped, symbol_text}
 use Rattle.plm_syntax.proofs.Words.{key_word, sign_word}
-use Rattle.plm_syntax.proofs.InForce.{word_for, word_last, no_name, put_does, declare_last, declare_before, puts, at_token}
+use Rattle.plm_syntax.proofs.InForce.{word_for, word_last, put_does, declare_last, declare_before, puts, at_token}
 use Rattle.plm_syntax.proofs.PlainText.{IsPlain}
 use Rattle.plm_syntax.proofs.Apart.{ArePlain, AreApart, find_at, plain_found, May, Sound, sound_behind}
+use Rattle.plm_syntax.proofs.Replaced.{no_string}
 
 -- ---- one token put out
 
@@ -52,7 +53,7 @@ put_tokens t o = declare_tokens (declared_name t.kind o.last o.before) (literal_
 
 -- a token that is no string declares nothing
 pub put_plain : (t : Lexeme) (o : Out) → is_string t.kind ≡ false → put_source t o ≡ put t o
-put_plain t o h = ap (λ (x : Option (List ℕ)). declare x (literal_of (between t.text)) t.line (put t o)) (no_name t.kind o.last o.before h)
+put_plain t o h = ap (λ (x : Option (List ℕ)). declare x (literal_of (between t.text)) t.line (put t o)) (no_string t.kind o.last o.before h)
 
 -- ---- tokens put out one after the other
 

@@ -1,6 +1,6 @@
 -- Tokens of literals that put nothing out, and what that rests on.
-use Rattle.std.proofs.lemmas.Bool.{and_from}
-use Rattle.std.proofs.Common.{◌≡◌, ◌∙◌, ℕ, zero, suc, List, [], ◌∷◌, ◌++◌, Bool, true, false, cond, ◌&&◌, Option, Some, None, find, fold, ap, refl, sym}
+use Rattle.std.proofs.lemmas.Bool.{and_from, and_parts}
+use Rattle.std.proofs.Common.{◌≡◌, ◌∙◌, ℕ, zero, suc, List, [], ◌∷◌, ◌++◌, Bool, true, false, cond, Option, Some, None, find, fold, ap, refl, sym}
 use Rattle.std.specs.List.{list_all}
 use Rattle.std.specs.Option.{option_or}
 use Rattle.std.specs.Prelude.{bytes_eq}
@@ -14,17 +14,9 @@ use Rattle.plm_syntax.specs.Inner.Known.{each_quiet, is_quiet, is_quiet_text}
 
 -- ---- tests of all tokens
 
-pub and_first : (a b : Bool) → (a && b) ≡ true → a ≡ true
-and_first true b h = refl
-and_first false b h = h
-
-pub and_second : (a b : Bool) → (a && b) ≡ true → b ≡ true
-and_second true b h = h
-and_second false b h = absurd (cc h)
-
 pub all_along : {A : Type 0} (p q : A → Bool) → ((x : A) → p x ≡ true → q x ≡ true) → (xs : List A) → list_all p xs ≡ true → list_all q xs ≡ true
 all_along p q f [] h = refl
-all_along p q f (x ∷ xs) h = and_from (q x) (list_all q xs) (f x (and_first (p x) (list_all p xs) h)) (all_along p q f xs (and_second (p x) (list_all p xs) h))
+all_along p q f (x ∷ xs) h = and_from (q x) (list_all q xs) (f x (and_parts (p x) (list_all p xs) h).0) (all_along p q f xs (and_parts (p x) (list_all p xs) h).1)
 
 -- ---- more replacements, and more literals
 
@@ -56,8 +48,8 @@ all_same : (F : Symbol → Out → Out) (quiet : List LiteralText → Symbol →
     → (ss : List Symbol) (o : Out) → list_all (quiet o.blocks.literals) ss ≡ true → fold (λ p x. F x p) o ss ≡ o
 all_same F quiet same [] o h = refl
 all_same F quiet same (s ∷ ss) o h =
-    ap (λ (q : Out). fold (λ p x. F x p) q ss) (same s o (and_first (quiet o.blocks.literals s) (list_all (quiet o.blocks.literals) ss) h))
-    ∙ all_same F quiet same ss o (and_second (quiet o.blocks.literals s) (list_all (quiet o.blocks.literals) ss) h)
+    ap (λ (q : Out). fold (λ p x. F x p) q ss) (same s o (and_parts (quiet o.blocks.literals s) (list_all (quiet o.blocks.literals) ss) h).0)
+    ∙ all_same F quiet same ss o (and_parts (quiet o.blocks.literals s) (list_all (quiet o.blocks.literals) ss) h).1
 
 or_same : (stop : Option (Number × ℕ)) (o next : Out) → next ≡ o → or_else stop o next ≡ o
 or_same None o next e = e

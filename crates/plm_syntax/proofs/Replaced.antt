@@ -65,7 +65,8 @@ numbered_text depth line s o i more e at lt =
     let named = some_at o.blocks.literals i lt in
     ap (λ (found : Option LiteralText). text_out (depth - 1) line (text_of found) o) named.1 ∙ symbol_replaced depth line s o named.0 more e (sym at ∙ named.1)
 
-no_string : (kind : Kind) (last before : Option Lexeme) → is_string kind ≡ false → declared_name kind last before ≡ None
+-- only a string declares
+pub no_string : (kind : Kind) (last before : Option Lexeme) → is_string kind ≡ false → declared_name kind last before ≡ None
 no_string kind None before e = refl
 no_string kind (Some last) None e = refl
 no_string kind (Some last) (Some before) e = rw e refl

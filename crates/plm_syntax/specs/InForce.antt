@@ -8,7 +8,7 @@ use Rattle.plm_token.specs.Names.{names_equal}
 use Rattle.plm_token.specs.Scanner.{Lexeme}
 use Rattle.plm_token.specs.Literals.{Symbol, literal_of}
 use Rattle.plm_syntax.specs.Terminal.{NameT, Name, Finish, Leaf}
-use Rattle.plm_syntax.specs.Tree.{ElementT, LiteralElement, VariableElement, ElementsT, no_elements, elements, StatementT, Labelled, BasicT, IfS, IfElseS, DoS, WhileS, CaseS, IterateS, StatementsT, no_statements, statements, BlockT, BlockOf, ItemsT, no_items, items, ItemT, DeclareI, ProcedureI, ModuleT, ModuleOf}
+use Rattle.plm_syntax.specs.Tree.{ElementT, LiteralElement, VariableElement, ElementsT, no_elements, elements, StatementT, Labelled, BasicT, EmptyS, AssignS, CallS, ReturnS, ReturnValueS, EnableS, DisableS, HaltS, IfS, IfElseS, DoS, WhileS, CaseS, IterateS, StatementsT, no_statements, statements, BlockT, BlockOf, ItemsT, no_items, items, ItemT, DeclareI, ProcedureI, ModuleT, ModuleOf}
 use Rattle.plm_syntax.specs.Spelling.{tok, sign, word, expression, parenthesised_names, element, returned, interrupt, linkage, ending, labels, step, basic}
 use Rattle.plm_syntax.specs.Sentence.{Spells}
 use Rattle.plm_syntax.specs.Literals.{LiteralText, Out, between, literal_for, put_source, text_out, nothing_out, expanded}
@@ -66,13 +66,20 @@ abbrev mutual
 
   -- in a statement without statements nothing is declared
   pub in_basic : Table → BasicT → List Table → List Table
+  in_basic ls (EmptyS p) r = basic (at ls) 0 0 (EmptyS p) r
+  in_basic ls (AssignS xs e) r = basic (at ls) 0 0 (AssignS xs e) r
+  in_basic ls (CallS p x) r = basic (at ls) 0 0 (CallS p x) r
+  in_basic ls (ReturnS p) r = basic (at ls) 0 0 (ReturnS p) r
+  in_basic ls (ReturnValueS p e) r = basic (at ls) 0 0 (ReturnValueS p e) r
+  in_basic ls (EnableS p) r = basic (at ls) 0 0 (EnableS p) r
+  in_basic ls (DisableS p) r = basic (at ls) 0 0 (DisableS p) r
+  in_basic ls (HaltS p) r = basic (at ls) 0 0 (HaltS p) r
   in_basic ls (IfS p e s) r = word (at ls) key.If (expression (at ls) 0 e (word (at ls) key.Then (in_statement ls s r)))
   in_basic ls (IfElseS p e s t) r = word (at ls) key.If (expression (at ls) 0 e (word (at ls) key.Then (in_statement ls s (word (at ls) key.Else (in_statement ls t r)))))
   in_basic ls (DoS p b n) r = word (at ls) key.Do (sign (at ls) mark.Semicolon (in_block ls b n r))
   in_basic ls (WhileS p e ss n) r = word (at ls) key.Do (word (at ls) key.While (expression (at ls) 0 e (sign (at ls) mark.Semicolon (in_statements ls ss (ending (at ls) n r)))))
   in_basic ls (CaseS p e ss n) r = word (at ls) key.Do (word (at ls) key.Case (expression (at ls) 0 e (sign (at ls) mark.Semicolon (in_statements ls ss (ending (at ls) n r)))))
   in_basic ls (IterateS p i a b s ss n) r = word (at ls) key.Do (tok (at ls) (Name i) (sign (at ls) mark.Equal (expression (at ls) 0 a (word (at ls) key.To (expression (at ls) 0 b (step (at ls) 0 s (sign (at ls) mark.Semicolon (in_statements ls ss (ending (at ls) n r)))))))))
-  in_basic ls b r = basic (at ls) 0 0 b r
 
   pub in_statements : Table → StatementsT → List Table → List Table
   in_statements ls no_statements r = r

@@ -1,6 +1,6 @@
 -- Which trees are well formed: operators stand at their precedence, equal precedences lean left, lists that cannot be empty are not, ELSE stands at
 -- the nearest IF, and the name after END is the block's last label.
-use Rattle.std.specs.Prelude.{◌≡◌, ℕ, ◌≤◌, ◌<◌, Bool, true, false, Option, Some, None}
+use Rattle.std.specs.Prelude.{◌≡◌, ℕ, ◌≤◌, ◌<◌, nat_eq, cond, Bool, true, false, Option, Some, None}
 use Rattle.plm_syntax.specs.declared.tree.UnaryOperator.{UnaryOperator}
 use Rattle.plm_syntax.specs.declared.tree.UnaryOperator.TheVariants as unary
 use Rattle.plm_syntax.specs.declared.tree.BinaryOperator.{BinaryOperator}
@@ -29,26 +29,26 @@ precedence_of binary.ExclusiveOr = 7
 
 -- what an operator's left operand may be: there is one relation at most
 abbrev pub left_precedence : BinaryOperator → ℕ
-left_precedence binary.Equal = 3
-left_precedence binary.NotEqual = 3
-left_precedence binary.Less = 3
-left_precedence binary.LessEqual = 3
-left_precedence binary.Greater = 3
-left_precedence binary.GreaterEqual = 3
-left_precedence o = precedence_of o
+left_precedence o = cond (nat_eq (precedence_of o) 4) 3 (precedence_of o)
 
 abbrev pub unary_precedence : UnaryOperator → ℕ
 unary_precedence unary.Not = 5
-unary_precedence o = 1
+unary_precedence unary.Plus = 1
+unary_precedence unary.Minus = 1
 
+-- what an operator's operand may be: NOT stands before NOT, a sign before a primary
 abbrev pub operand_precedence : UnaryOperator → ℕ
-operand_precedence unary.Not = 5
-operand_precedence o = 0
+operand_precedence o = cond (nat_eq (unary_precedence o) 1) 0 (unary_precedence o)
 
 abbrev pub precedence : ExpressionT → ℕ
+precedence (NumeralE n) = 0
+precedence (TextE s) = 0
+precedence (ReferenceE x) = 0
+precedence (LocationE l) = 0
+precedence (ParenthesisedE p e) = 0
+precedence (EmbeddedE p x e) = 0
 precedence (UnaryE p o e) = unary_precedence o
 precedence (BinaryE p o a b) = precedence_of o
-precedence e = 0
 
 abbrev mutual
   pub Well : ExpressionT → Type 0
@@ -161,9 +161,20 @@ abbrev mutual
   ends_open (Labelled ns b) = basic_open b
 
   pub basic_open : BasicT → Bool
+  basic_open (EmptyS p) = false
+  basic_open (AssignS xs e) = false
+  basic_open (CallS p x) = false
+  basic_open (ReturnS p) = false
+  basic_open (ReturnValueS p e) = false
+  basic_open (EnableS p) = false
+  basic_open (DisableS p) = false
+  basic_open (HaltS p) = false
   basic_open (IfS p e s) = true
   basic_open (IfElseS p e s t) = ends_open t
-  basic_open b = false
+  basic_open (DoS p b n) = false
+  basic_open (WhileS p e ss n) = false
+  basic_open (CaseS p e ss n) = false
+  basic_open (IterateS p i a b s ss n) = false
 
 -- whether a name may stand after the END of a block with this label
 abbrev pub is_end_name : Option NameT → NameT → Bool

@@ -11,7 +11,7 @@ ghost use Rattle.plm_syntax.specs.Faults.{terminal_of};
 ghost use Rattle.plm_syntax.specs.WellFormed.{is_end_name};
 ghost use Rattle.plm_syntax.specs.Inner.Symbol.{Want, Need, Do, need, NamesR, NameR, ReferencesR, StatementsR, ItemsR, HeaderR, StepR, StatementG, ArmG, DoG, StatementsG, EndG, ItemsG, StepG, SubscriptsG, SelectorG, MoreTargetsG, CalledG, ReturnedG, ParametersG, InterruptG};
 ghost use Rattle.plm_syntax.specs.Inner.Parsed.{Leads, LeadsInside, Reads, Within, is_name, next_of, ahead};
-ghost use Rattle.plm_syntax.specs.Inner.Blocks.{is_label, begins_statement, IsBeginning, IsLabel, IsHeading, LeadsItem, WithinItem, LeadsReturned, LeadsLinkage, Parses, read_statement, read_arm, read_basic, read_block, read_body, read_end, read_governed, read_step, read_procedure, read_header, read_range, read_interrupt, Shrinks, condition_goals, governed_goals, iteration_goals, range_goals, procedure_goals, header_goals, no_parameters_read};
+ghost use Rattle.plm_syntax.specs.Inner.Blocks.{is_label, begins_statement, IsBeginning, IsLabel, IsHeading, LeadsItem, WithinItem, LeadsReturned, LeadsLinkage, Parses, read_statement, read_arm, read_basic, read_block, read_body, read_end, read_governed, read_step, read_procedure, read_header, read_range, read_interrupt, Shrinks, condition_goals, governed_goals, iterate_goals, range_goals, procedure_goals, header_goals, no_parameters_read};
 ghost use Rattle.plm_token.specs.declared.token.Mark.TheVariants.{Semicolon};
 ghost use Rattle.plm_syntax.specs.Inner.Machine.{make_call, an_expression};
 ghost use Rattle.plm_syntax.specs.Inner.Parts.{nothing_read, read_expression, reference_read, read_parameters};
@@ -527,7 +527,7 @@ fn group<'t, 'a>(
     ensures within { Within result cursor.entry }
 {
     if let Some((index, after)) = cursor.name() {
-        return iteration(alloc, room, label, place, index, after);
+        return iterate(alloc, room, label, place, index, after);
     }
     if let Some((_, inner)) = cursor.mark(Mark::Semicolon) {
         let ((block, end), rest) = block(alloc, room, label, inner)?;
@@ -568,7 +568,7 @@ fn governed<'t, 'a>(
 /// `DO i = a TO b [BY s]` after its index.
 #[cycle(statement)]
 #[inline(never)]
-fn iteration<'t, 'a>(
+fn iterate<'t, 'a>(
     alloc: Global,
     room: u8,
     label: Option<Name<'a>>,
@@ -576,7 +576,7 @@ fn iteration<'t, 'a>(
     index: Name<'a>,
     cursor: Cursor<'t, 'a>,
 ) -> Result<(Basic<'a>, Cursor<'t, 'a>), Failure>
-    ensures leads { (ls : NamesT) → Leads (read_basic ls) (iteration_goals place (base_of label.entry)) (λ v. NameR (name_of index.entry) ∷ NamesR ls ∷ v) result cursor.entry room }
+    ensures leads { (ls : NamesT) → Leads (read_basic ls) (iterate_goals place (base_of label.entry)) (λ v. NameR (name_of index.entry) ∷ NamesR ls ∷ v) result cursor.entry room }
     ensures within { Within result cursor.entry }
 {
     let (header, start) = range(alloc, room, cursor)?;
@@ -601,7 +601,7 @@ fn range<'t, 'a>(
     Ok((bounds, rest))
 }
 
-/// The step of an iteration, where the word BY comes next, and the semicolon after it.
+/// The step of a DO with an index, where the word BY comes next, and the semicolon after it.
 fn step<'t, 'a>(
     alloc: Global,
     room: u8,

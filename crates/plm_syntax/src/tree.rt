@@ -259,7 +259,7 @@ pub enum Basic<'a> {
     Iterate(Position, Name<'a>, Box<Bounds<'a>>, Vec<Statement<'a>>, Option<Name<'a>>),
 }
 
-/// The first and the last value of an iteration's index, and the step.
+/// The first and the last value of the index of a DO with an index, and the step.
 #[derive(Drop)]
 pub struct Bounds<'a> {
     pub first: Expression<'a>,

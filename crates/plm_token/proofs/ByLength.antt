@@ -1,5 +1,6 @@
 -- A name is none of the reserved words of another length.
 use Rattle.std.proofs.Common.{◌≡◌, ◌∙◌, ℕ, suc, List, [], ◌∷◌, length, Bool, true, false, ◌&&◌, cond, nat_eq, bytes_eq, find, Some, refl, ap, sym, subst, arith}
+use Rattle.std.proofs.Math.Bool.{and-false}
 use Rattle.std.proofs.lemmas.Bool.Decides.{nat_tests}
 use Rattle.plm_token.specs.declared.token.Keyword.{Keyword}
 use Rattle.plm_token.specs.Names.{spelling, keywords, keyword_of}
@@ -9,15 +10,11 @@ abbrev pub of_length : ℕ → List Keyword → List Keyword
 of_length n [] = []
 of_length n (k ∷ ks) = cond (nat_eq (length (spelling k)) n) (k ∷ of_length n ks) (of_length n ks)
 
-and_false : (b : Bool) → (b && false) ≡ false
-and_false true = refl
-and_false false = refl
-
 apart : (a b : List ℕ) → (length a ≡ length b → ⊥) → bytes_eq a b ≡ false
 apart [] [] h = absurd (h refl)
 apart [] (y ∷ ys) h = refl
 apart (x ∷ xs) [] h = refl
-apart (x ∷ xs) (y ∷ ys) h = ap (λ b. nat_eq x y && b) (apart xs ys (λ e. h (ap suc e))) ∙ and_false (nat_eq x y)
+apart (x ∷ xs) (y ∷ ys) h = ap (λ b. nat_eq x y && b) (apart xs ys (λ e. h (ap suc e))) ∙ and-false (nat_eq x y)
 
 other_length : (name word : List ℕ) (n : ℕ) → length name ≡ n → nat_eq (length word) n ≡ false → bytes_eq name word ≡ false
 other_length name word n size other = apart name word (λ same. grind (arith, nat_tests))

@@ -9,10 +9,6 @@ pub pick : {A : Type 0} (test : Bool) (x y z : A) → (test ≡ true → x ≡ z
 pick true x y z f g = f refl
 pick false x y z f g = g refl
 
-pub and-false : (p : Bool) → (p && false) ≡ false
-and-false true = refl
-and-false false = refl
-
 -- no special token begins with another character than these
 pub no_mark : (b : ℕ) (cs : List ℕ) → nat_eq b 61 ≡ false → nat_eq b 46 ≡ false → nat_eq b 47 ≡ false → nat_eq b 40 ≡ false → nat_eq b 41 ≡ false → nat_eq b 43 ≡ false → nat_eq b 45 ≡ false → nat_eq b 42 ≡ false → nat_eq b 44 ≡ false → nat_eq b 60 ≡ false → nat_eq b 62 ≡ false → nat_eq b 58 ≡ false → nat_eq b 59 ≡ false → nat_eq b 64 ≡ false → mark_of (b ∷ cs) ≡ None
 no_mark b cs e61 e46 e47 e40 e41 e43 e45 e42 e44 e60 e62 e58 e59 e64 = rw (e61, e46, e47, e40, e41, e43, e45, e42, e44, e60, e62, e58, e59, e64) refl
@@ -35,8 +31,8 @@ letter_not_61 b h = grind (arith, nat_tests)
 letter_not_46 : (b : ℕ) → is_letter b ≡ true → nat_eq b 46 ≡ false
 letter_not_46 b h = grind (arith, nat_tests)
 
-letter_not_47 : (b : ℕ) → is_letter b ≡ true → nat_eq b 47 ≡ false
-letter_not_47 b h = grind (arith, nat_tests)
+pub letter_not_slash : (b : ℕ) → is_letter b ≡ true → nat_eq b 47 ≡ false
+letter_not_slash b h = grind (arith, nat_tests)
 
 letter_not_40 : (b : ℕ) → is_letter b ≡ true → nat_eq b 40 ≡ false
 letter_not_40 b h = grind (arith, nat_tests)
@@ -71,11 +67,8 @@ letter_not_59 b h = grind (arith, nat_tests)
 letter_not_64 : (b : ℕ) → is_letter b ≡ true → nat_eq b 64 ≡ false
 letter_not_64 b h = grind (arith, nat_tests)
 
-pub letter_not_slash : (b : ℕ) → is_letter b ≡ true → nat_eq b 47 ≡ false
-letter_not_slash = letter_not_47
-
 pub letter_no_mark : (b : ℕ) (cs : List ℕ) → is_letter b ≡ true → mark_of (b ∷ cs) ≡ None
-letter_no_mark b cs h = no_mark b cs (letter_not_61 b h) (letter_not_46 b h) (letter_not_47 b h) (letter_not_40 b h) (letter_not_41 b h) (letter_not_43 b h) (letter_not_45 b h) (letter_not_42 b h) (letter_not_44 b h) (letter_not_60 b h) (letter_not_62 b h) (letter_not_58 b h) (letter_not_59 b h) (letter_not_64 b h)
+letter_no_mark b cs h = no_mark b cs (letter_not_61 b h) (letter_not_46 b h) (letter_not_slash b h) (letter_not_40 b h) (letter_not_41 b h) (letter_not_43 b h) (letter_not_45 b h) (letter_not_42 b h) (letter_not_44 b h) (letter_not_60 b h) (letter_not_62 b h) (letter_not_58 b h) (letter_not_59 b h) (letter_not_64 b h)
 
 pub digit_not_blank : (b : ℕ) → is_digit b ≡ true → is_blank b ≡ false
 digit_not_blank b h = grind (arith, nat_tests)
@@ -95,8 +88,8 @@ digit_not_61 b h = grind (arith, nat_tests)
 digit_not_46 : (b : ℕ) → is_digit b ≡ true → nat_eq b 46 ≡ false
 digit_not_46 b h = grind (arith, nat_tests)
 
-digit_not_47 : (b : ℕ) → is_digit b ≡ true → nat_eq b 47 ≡ false
-digit_not_47 b h = grind (arith, nat_tests)
+pub digit_not_slash : (b : ℕ) → is_digit b ≡ true → nat_eq b 47 ≡ false
+digit_not_slash b h = grind (arith, nat_tests)
 
 digit_not_40 : (b : ℕ) → is_digit b ≡ true → nat_eq b 40 ≡ false
 digit_not_40 b h = grind (arith, nat_tests)
@@ -131,11 +124,8 @@ digit_not_59 b h = grind (arith, nat_tests)
 digit_not_64 : (b : ℕ) → is_digit b ≡ true → nat_eq b 64 ≡ false
 digit_not_64 b h = grind (arith, nat_tests)
 
-pub digit_not_slash : (b : ℕ) → is_digit b ≡ true → nat_eq b 47 ≡ false
-digit_not_slash = digit_not_47
-
 pub digit_no_mark : (b : ℕ) (cs : List ℕ) → is_digit b ≡ true → mark_of (b ∷ cs) ≡ None
-digit_no_mark b cs h = no_mark b cs (digit_not_61 b h) (digit_not_46 b h) (digit_not_47 b h) (digit_not_40 b h) (digit_not_41 b h) (digit_not_43 b h) (digit_not_45 b h) (digit_not_42 b h) (digit_not_44 b h) (digit_not_60 b h) (digit_not_62 b h) (digit_not_58 b h) (digit_not_59 b h) (digit_not_64 b h)
+digit_no_mark b cs h = no_mark b cs (digit_not_61 b h) (digit_not_46 b h) (digit_not_slash b h) (digit_not_40 b h) (digit_not_41 b h) (digit_not_43 b h) (digit_not_45 b h) (digit_not_42 b h) (digit_not_44 b h) (digit_not_60 b h) (digit_not_62 b h) (digit_not_58 b h) (digit_not_59 b h) (digit_not_64 b h)
 
 pub blank_not_apostrophe : (b : ℕ) → is_blank b ≡ true → is_apostrophe b ≡ false
 blank_not_apostrophe b h = grind (arith, nat_tests)
@@ -155,8 +145,8 @@ blank_not_61 b h = grind (arith, nat_tests)
 blank_not_46 : (b : ℕ) → is_blank b ≡ true → nat_eq b 46 ≡ false
 blank_not_46 b h = grind (arith, nat_tests)
 
-blank_not_47 : (b : ℕ) → is_blank b ≡ true → nat_eq b 47 ≡ false
-blank_not_47 b h = grind (arith, nat_tests)
+pub blank_not_slash : (b : ℕ) → is_blank b ≡ true → nat_eq b 47 ≡ false
+blank_not_slash b h = grind (arith, nat_tests)
 
 blank_not_40 : (b : ℕ) → is_blank b ≡ true → nat_eq b 40 ≡ false
 blank_not_40 b h = grind (arith, nat_tests)
@@ -191,8 +181,5 @@ blank_not_59 b h = grind (arith, nat_tests)
 blank_not_64 : (b : ℕ) → is_blank b ≡ true → nat_eq b 64 ≡ false
 blank_not_64 b h = grind (arith, nat_tests)
 
-pub blank_not_slash : (b : ℕ) → is_blank b ≡ true → nat_eq b 47 ≡ false
-blank_not_slash = blank_not_47
-
 pub blank_no_mark : (b : ℕ) (cs : List ℕ) → is_blank b ≡ true → mark_of (b ∷ cs) ≡ None
-blank_no_mark b cs h = no_mark b cs (blank_not_61 b h) (blank_not_46 b h) (blank_not_47 b h) (blank_not_40 b h) (blank_not_41 b h) (blank_not_43 b h) (blank_not_45 b h) (blank_not_42 b h) (blank_not_44 b h) (blank_not_60 b h) (blank_not_62 b h) (blank_not_58 b h) (blank_not_59 b h) (blank_not_64 b h)
+blank_no_mark b cs h = no_mark b cs (blank_not_61 b h) (blank_not_46 b h) (blank_not_slash b h) (blank_not_40 b h) (blank_not_41 b h) (blank_not_43 b h) (blank_not_45 b h) (blank_not_42 b h) (blank_not_44 b h) (blank_not_60 b h) (blank_not_62 b h) (blank_not_58 b h) (blank_not_59 b h) (blank_not_64 b h)

@@ -4,13 +4,14 @@ use Rattle.std.proofs.lemmas.Bool.Decides.{nat_tests}
 use Rattle.word86.specs.declared.fault.Fault.{Fault}
 use Rattle.word86.specs.declared.number.Number.{Number}
 use Rattle.word86.specs.declared.fault.Fault.TheVariants.{At}
+use Rattle.word86.specs.FaultCode.{code_of}
 use Rattle.plm_token.specs.declared.piece.ScanState.{ScanState}
 use Rattle.plm_token.specs.declared.piece.ScanState.TheVariants.{Literal}
 use Rattle.plm_token.specs.declared.piece.Piece.{Piece}
 use Rattle.plm_token.specs.declared.piece.Piece.TheVariants.{Fault as Faulty}
 use Rattle.plm_token.specs.Pieces.{Cut, pieces, pieces_behind}
 use Rattle.plm_token.specs.Scanner.{Lexeme, put_before, tokens_of}
-use Rattle.plm_token.specs.Literals.{Symbol, lesser, rank, least_fault, symbols_of, on_line, at_line, literal_of}
+use Rattle.plm_token.specs.Literals.{Symbol, lesser, least_fault, symbols_of, on_line, at_line, literal_of}
 
 abbrev pub put_all_before : List Lexeme → Result (List Lexeme) Fault → Result (List Lexeme) Fault
 put_all_before ts (Ok us) = Ok (ts ++ us)
@@ -24,8 +25,8 @@ pub put_none : (r : Result (List Lexeme) Fault) → r ≡ put_all_before [] r
 put_none (Ok us) = refl
 put_none (Err f) = refl
 
-min_assoc : (a b c : Number) → cond (nat_lt (rank c) (rank (cond (nat_lt (rank b) (rank a)) b a))) c (cond (nat_lt (rank b) (rank a)) b a)
-    ≡ cond (nat_lt (rank (cond (nat_lt (rank c) (rank b)) c b)) (rank a)) (cond (nat_lt (rank c) (rank b)) c b) a
+min_assoc : (a b c : Number) → cond (nat_lt (code_of c) (code_of (cond (nat_lt (code_of b) (code_of a)) b a))) c (cond (nat_lt (code_of b) (code_of a)) b a)
+    ≡ cond (nat_lt (code_of (cond (nat_lt (code_of c) (code_of b)) c b)) (code_of a)) (cond (nat_lt (code_of c) (code_of b)) c b) a
 min_assoc a b c = grind (arith, nat_tests)
 
 pub lesser_assoc : (a b c : Option Number) → lesser (lesser a b) c ≡ lesser a (lesser b c)

@@ -5,6 +5,7 @@ use Rattle.std.specs.List.{prefix_len, slice_split, onto_first}
 use Rattle.plm_token.specs.Characters.{is_name_character}
 use Rattle.plm_token.specs.Names.{normal}
 use Rattle.plm_token.specs.Pieces.{holds_include}
+use Rattle.plm_token.proofs.Runs.{one-add}
 
 abbrev parts : List ℕ → List (List ℕ)
 parts line = slice_split (λ b. not (is_name_character b)) line
@@ -12,9 +13,6 @@ parts line = slice_split (λ b. not (is_name_character b)) line
 abbrev parts_behind : List ℕ → List (List ℕ)
 parts_behind [] = []
 parts_behind (b ∷ bs) = parts bs
-
-one-add : (n : ℕ) → 1 + n ≡ suc n
-one-add n = omega arith
 
 more : (b : ℕ) (bs : List ℕ) (n : ℕ) → parts bs ≡ take n bs ∷ parts_behind (drop n bs) → (p : Bool)
     → cond (not p) ([] ∷ parts bs) (onto_first b (parts bs)) ≡ take (cond p (1 + n) 0) (b ∷ bs) ∷ parts_behind (drop (cond p (1 + n) 0) (b ∷ bs))

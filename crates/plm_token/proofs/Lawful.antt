@@ -6,7 +6,7 @@ use Rattle.plm_token.specs.declared.piece.Front.{Front}
 use Rattle.plm_token.specs.Forms.{Form, form_of}
 use Rattle.plm_token.specs.Pieces.{longest_within, or_shorter, front_from, front_of, state_after, line_behind, pieces, pieces_behind}
 use Rattle.plm_token.specs.Laws.{IsLongest, formed, formless, FirstThenRest, InOrder, characters_of}
-use Rattle.plm_token.proofs.Skips.{skipped}
+use Rattle.plm_token.proofs.Skips.{first_then_rest}
 
 -- what the longest beginning of at most this number of characters is
 data Found : ScanState → List ℕ → ℕ → Option (Form × ℕ) → Type 0 where
@@ -43,14 +43,6 @@ longest_front state text = from_found state text (longest_within (length text) s
 bounds : (state : ScanState) (text : List ℕ) (front : Front) → 0 < length text → IsLongest state text front → (0 < front.length) × (front.length ≤ length text)
 bounds state text _ some (formed form n more inside here none) = (more, inside)
 bounds state text _ some (formless none) = (omega arith, omega arith)
-
-first_then_rest : (state : ScanState) (line b : ℕ) (bs : List ℕ) (front : Front) (k : ℕ) → front ≡ front_of state (b ∷ bs) → front.length ≡ suc k → k ≤ length bs
-    → pieces state line (b ∷ bs) ≡ record { piece = front.piece; text = take (suc k) (b ∷ bs); line = line }
-    ∷ pieces (fold state_after state (take (suc k) (b ∷ bs))) (fold line_behind line (take (suc k) (b ∷ bs))) (drop (suc k) (b ∷ bs))
-unfolding pieces_behind
-first_then_rest state line b bs front k e n inside =
-    let less : suc k - 1 ≡ k = omega arith in
-    rw (← e, n, less, skipped k (state_after state b) (line_behind line b) bs inside) refl
 
 in_front : (state : ScanState) (line b : ℕ) (bs : List ℕ) (front : Front) (k : ℕ) → front ≡ front_of state (b ∷ bs) → front.length ≡ suc k → k ≤ length bs → FirstThenRest state line (b ∷ bs) front
 in_front state line b bs front k e n inside = rw n (first_then_rest state line b bs front k e n inside)

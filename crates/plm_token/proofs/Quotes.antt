@@ -3,9 +3,7 @@ use Rattle.std.proofs.Common.{◌≡◌, ℕ, zero, suc, ◌+◌, ◌<◌, ◌�
 use Rattle.plm_token.specs.Characters.{is_apostrophe, is_printable}
 use Rattle.plm_token.specs.Strings.{ends_string}
 use Rattle.plm_token.specs.Inner.Front.{string_length, string_closed}
-
-one-add : (n : ℕ) → 1 + n ≡ suc n
-one-add n = omega arith
+use Rattle.plm_token.proofs.Runs.{one-add}
 
 inside_more : (k l n : ℕ) → k ≤ n → l ≤ n → (p q : Bool) → cond p (1 + k) (cond q (1 + l) 0) ≤ suc n
 inside_more k l n h g true q = omega arith

@@ -2,7 +2,7 @@
 use Rattle.std.proofs.Common.{◌≡◌, ℕ, zero, suc, ◌+◌, ◌<◌, ◌≤◌, List, [], ◌∷◌, length, take, Bool, true, false, cond, refl, arith}
 use Rattle.std.specs.List.{list_all, prefix_len}
 
-one-add : (n : ℕ) → 1 + n ≡ suc n
+pub one-add : (n : ℕ) → 1 + n ≡ suc n
 one-add n = omega arith
 
 take_more : (test : ℕ → Bool) (b : ℕ) (bs : List ℕ) → list_all test (take (prefix_len test bs) bs) ≡ true

@@ -27,13 +27,18 @@ pub line_behind-all : (line : ℕ) (bs : List ℕ) → fold line_behind line bs 
 line_behind-all line [] = omega arith
 line_behind-all line (b ∷ bs) = line_behind-all (line_behind line b) bs ∙ on_feed line (count_by is_line_feed bs) (is_line_feed b) ∙ ap (λ (n : ℕ). line + n) (sym (feeds b bs))
 
+pub first_then_rest : (state : ScanState) (line b : ℕ) (bs : List ℕ) (front : Front) (k : ℕ) → front ≡ front_of state (b ∷ bs) → front.length ≡ suc k → k ≤ length bs
+    → pieces state line (b ∷ bs) ≡ record { piece = front.piece; text = take (suc k) (b ∷ bs); line = line }
+    ∷ pieces (fold state_after state (take (suc k) (b ∷ bs))) (fold line_behind line (take (suc k) (b ∷ bs))) (drop (suc k) (b ∷ bs))
+unfolding pieces_behind
+first_then_rest state line b bs front k e n inside =
+    let less : suc k - 1 ≡ k = omega arith in
+    rw (← e, n, less, skipped k (state_after state b) (line_behind line b) bs inside) refl
+
 first_piece : (state : ScanState) (line b : ℕ) (bs : List ℕ) (front : Front) (k : ℕ) → front ≡ front_of state (b ∷ bs) → front.length ≡ suc k → k ≤ length bs
     → pieces state line (b ∷ bs) ≡ record { piece = front.piece; text = take (suc k) (b ∷ bs); line = line }
     ∷ pieces (fold state_after state (take (suc k) (b ∷ bs))) (line + count_by is_line_feed (take (suc k) (b ∷ bs))) (drop (suc k) (b ∷ bs))
-unfolding pieces_behind
-first_piece state line b bs front k e n inside =
-    let less : suc k - 1 ≡ k = omega arith in
-    rw (← e, n, less, skipped k (state_after state b) (line_behind line b) bs inside, ← line_behind-all line (take (suc k) (b ∷ bs))) refl
+first_piece state line b bs front k e n inside = rw (← line_behind-all line (take (suc k) (b ∷ bs))) (first_then_rest state line b bs front k e n inside)
 
 -- the first piece of a text, and those after it
 pub next_piece : (state : ScanState) (line : ℕ) (text front_text behind : List ℕ) (front : Front) → front ≡ front_of state text → 0 < front.length → front.length ≤ length text

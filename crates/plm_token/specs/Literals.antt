@@ -3,7 +3,7 @@ use Rattle.std.specs.Prelude.{ℕ, List, [], ◌∷◌, map, cond, nat_lt, Resul
 use Rattle.word86.specs.declared.fault.Fault.{Fault}
 use Rattle.word86.specs.declared.fault.Fault.TheVariants.{At}
 use Rattle.word86.specs.declared.number.Number.{Number}
-use Rattle.word86.specs.declared.number.Number.TheVariants.{E101, E103, E104, E105}
+use Rattle.word86.specs.FaultCode.{code_of}
 use Rattle.plm_token.specs.declared.token.Kind.{Kind}
 use Rattle.plm_token.specs.declared.piece.ScanState.TheVariants.{Literal}
 use Rattle.plm_token.specs.declared.piece.Piece.{Piece}
@@ -16,19 +16,11 @@ pub record Symbol : Type 0 where
   pub kind : Kind
   pub text : List ℕ
 
--- the order of the faults of a literal's text; E204 is the greatest
-abbrev pub rank : Number → ℕ
-rank E101 = 101
-rank E103 = 103
-rank E104 = 104
-rank E105 = 105
-rank number = 204
-
 -- the lesser of two faults, if any
 abbrev pub lesser : Option Number → Option Number → Option Number
 lesser None b = b
 lesser (Some a) None = Some a
-lesser (Some a) (Some b) = Some (cond (nat_lt (rank b) (rank a)) b a)
+lesser (Some a) (Some b) = Some (cond (nat_lt (code_of b) (code_of a)) b a)
 
 abbrev pub fault_in : Piece → Option Number
 fault_in Skipped = None

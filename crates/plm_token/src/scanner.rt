@@ -5,7 +5,7 @@ ghost use Rattle.plm_token.specs.declared.piece.ScanState.TheVariants.{FirstColu
 ghost use Rattle.plm_token.specs.Characters.{is_line_feed};
 ghost use Rattle.plm_token.specs.Pieces.{pieces, state_after};
 ghost use Rattle.plm_token.specs.Scanner.{scan_of, tokens_of, trimmed, Answers};
-ghost use Rattle.plm_token.specs.Literals.{literal_of, at_line, lesser, rank};
+ghost use Rattle.plm_token.specs.Literals.{literal_of, at_line, lesser};
 
 use crate::front::front;
 use crate::piece::{Piece, ScanState};
@@ -153,20 +153,7 @@ fn lesser(least: Option<Number>, number: Number) -> Number
     ensures { Some result ≡ lesser least (Some number) }
 {
     match least {
-        Some(before) if rank(before) <= rank(number) => before,
-        _ => number,
-    }
-}
-
-/// The order of the faults of a literal's text; E204 is the greatest.
-fn rank(number: Number) -> u8
-    ensures { result ≡ rank number }
-{
-    match number {
-        Number::E101 => 101,
-        Number::E103 => 103,
-        Number::E104 => 104,
-        Number::E105 => 105,
-        _ => 204,
+        Some(before) if before.code() <= number.code() => before,
+        Some(_) | None => number,
     }
 }

@@ -1,6 +1,6 @@
 -- What is said of a scalar that is named alone is what the definition says of it.
 use Rattle.std.proofs.Common.{◌≡◌, ℕ, List, [], ◌∷◌, length, nat_eq, Bool, true, false, not, ◌&&◌, cond, Option, Some, None, is_some, arith, refl, sym, ap, ◌∙◌}
-use Rattle.std.proofs.lemmas.Bool.{true≢false}
+use Rattle.std.proofs.lemmas.Bool.{true≢false, and_parts}
 use Rattle.std.proofs.lemmas.Option.{none-some, same_Some}
 use Rattle.plm_syntax.specs.declared.tree.Position.{Position}
 use Rattle.plm_decl.specs.declared.layout.ScalarType.{ScalarType}
@@ -28,10 +28,6 @@ some_then false x t e = absurd (none-some t e)
 some_else : {A : Type 0} → (b : Bool) (x : Option A) (t : A) → cond b None x ≡ Some t → (b ≡ false) × (x ≡ Some t)
 some_else true x t e = absurd (none-some t e)
 some_else false x t e = (refl, e)
-
-both_hold : (a b : Bool) → (a && b) ≡ true → (a ≡ true) × (b ≡ true)
-both_hold true b e = (refl, e)
-both_hold false b e = absurd (true≢false (sym e))
 
 no_dimension : (d : Option ℕ) → not (is_some d) ≡ true → d ≡ None
 no_dimension None e = refl
@@ -67,8 +63,8 @@ module _ (self : Typer) (p : Position) where
       let listless = nat_eq (length r.subscripts.items) 0 in
       let plain = is_plain (resolved.selector_of r.selector) in
       let known = some_then (flat && (listless && plain)) (form_type v.form) t e in
-      let named = both_hold flat (listless && plain) known.0 in
-      let bare = both_hold listless plain named.1 in
+      let named = and_parts flat (listless && plain) known.0 in
+      let bare = and_parts listless plain named.1 in
       let d = no_dimension v.dimension named.0 in
       let es = no_items r.subscripts.items bare.0 in
       let s = no_selector (resolved.selector_of r.selector) bare.1 in
@@ -84,8 +80,8 @@ module _ (self : Typer) (p : Position) where
       let plain = is_plain (resolved.selector_of r.selector) in
       let free = some_else v.is_data (alone_type v r) t e in
       let known = some_then (flat && (listless && plain)) (form_type v.form) t free.1 in
-      let named = both_hold flat (listless && plain) known.0 in
-      let bare = both_hold listless plain named.1 in
+      let named = and_parts flat (listless && plain) known.0 in
+      let bare = and_parts listless plain named.1 in
       let d = no_dimension v.dimension named.0 in
       let es = no_items r.subscripts.items bare.0 in
       let s = no_selector (resolved.selector_of r.selector) bare.1 in

@@ -1,9 +1,11 @@
 -- What several searches mark.
-use Rattle.std.proofs.Common.{◌≡◌, ℕ, zero, suc, ◌+◌, ◌<◌, ◌≤◌, List, [], ◌∷◌, Bool, true, false, true≢false, cond, ◌||◌, ◌++◌, append_assoc, length, slice_get, slice_index_or, refl, sym, ap, subst, ◌∙◌, arith, ◌↔◌, nat_lt}
+use Rattle.std.proofs.Common.{◌≡◌, ℕ, zero, suc, ◌+◌, ◌<◌, ◌≤◌, List, [], ◌∷◌, Bool, true, false, true≢false, Some, cond, ◌||◌, ◌++◌, append_assoc, length, slice_get, slice_index_or, refl, sym, ap, subst, ◌∙◌, arith, ◌↔◌, nat_lt}
 use Rattle.std.proofs.lemmas.Bool.Decides.{nat_tests}
 use Rattle.std.proofs.lemmas.List.{get_or_past}
 use Rattle.plm_decl.specs.declared.names.Procedure.{Procedure}
-use Rattle.plm_type.specs.Sharing.{is_handler, handlers_from, LeadsFrom, LeadTwice}
+use Rattle.plm_decl.specs.Names.{procedure_of}
+use Rattle.plm_type.specs.Interrupts.{serves_interrupt}
+use Rattle.plm_type.specs.Sharing.{handlers_from, LeadsFrom, LeadTwice}
 use Rattle.plm_type.specs.Reach.{Graph, Leads}
 use Rattle.plm_type.specs.Inner.Reach.{IsMarked, AreReached, marked_twice}
 
@@ -84,14 +86,14 @@ abbrev pub Marked : Graph → (all : List (List ℕ)) → (come : List (List ℕ
 Marked g all come marks = (more : List (List Bool)) → AreReached g come more → AreReached g all (marks ++ more)
 
 pub one_searched : (g : Graph) (all : List (List ℕ)) (k : ℕ) (p : Procedure) (ps : List Procedure) (old new : List (List Bool)) (marks : List Bool)
-    → is_handler p ≡ true → length marks ≡ length g → ((q : ℕ) → q < length g → IsMarked marks q ↔ Leads g (k ∷ []) q) → new ≡ old ++ marks ∷ []
+    → serves_interrupt (Some (procedure_of p)) ≡ true → length marks ≡ length g → ((q : ℕ) → q < length g → IsMarked marks q ↔ Leads g (k ∷ []) q) → new ≡ old ++ marks ∷ []
     → Marked g all (handlers_from k (p ∷ ps)) old → Marked g all (handlers_from (k + 1) ps) new
 one_searched g all k p ps old new marks e long exact is m more r =
     subst (λ (x : List (List Bool)). AreReached g all x) (sym (ap (λ (x : List (List Bool)). x ++ more) is ∙ append_assoc old (marks ∷ []) more))
     (m (marks ∷ more) (subst (λ (b : Bool). AreReached g (cond b ((k ∷ []) ∷ handlers_from (k + 1) ps) (handlers_from (k + 1) ps)) (marks ∷ more)) (sym e) (long, exact, r)))
 
 pub none_searched : (g : Graph) (all : List (List ℕ)) (k : ℕ) (p : Procedure) (ps : List Procedure) (old new : List (List Bool))
-    → is_handler p ≡ false → new ≡ old → Marked g all (handlers_from k (p ∷ ps)) old → Marked g all (handlers_from (k + 1) ps) new
+    → serves_interrupt (Some (procedure_of p)) ≡ false → new ≡ old → Marked g all (handlers_from k (p ∷ ps)) old → Marked g all (handlers_from (k + 1) ps) new
 none_searched g all k p ps old new e is m more r =
     subst (λ (x : List (List Bool)). AreReached g all (x ++ more)) (sym is)
     (m more (subst (λ (b : Bool). AreReached g (cond b ((k ∷ []) ∷ handlers_from (k + 1) ps) (handlers_from (k + 1) ps)) more) (sym e) r))

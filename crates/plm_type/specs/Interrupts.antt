@@ -1,5 +1,6 @@
 -- The faults of interrupt procedures: one reaches ENABLE or HALT (E405); one is called, typed or has parameters (E406).
-use Rattle.std.specs.Prelude.{◌≡◌, ℕ, ◌+◌, ◌↔◌, ◌⊎◌, Bool, true, false, not, ◌&&◌, ◌||◌, nat_eq, cond, List, [], ◌∷◌, ◌++◌, map, length, slice_get, Option, Some, None, is_some, IsTrue, Contains}
+use Rattle.std.specs.Prelude.{◌≡◌, ℕ, ◌+◌, ◌↔◌, ◌⊎◌, Bool, true, false, not, ◌&&◌, ◌||◌, nat_eq, cond, List, [], ◌∷◌, ◌++◌, map, length, slice_get, Option, is_some, IsTrue, Contains}
+use Rattle.std.specs.Option.{option_map_or}
 use Rattle.word86.specs.declared.number.Number.{Number}
 use Rattle.word86.specs.declared.number.Number.TheVariants.{E405, E406}
 use Rattle.plm_decl.specs.declared.names.Names.{Names}
@@ -35,12 +36,11 @@ abbrev pub main_calls : Names → List ℕ
 main_calls names = called (declared_procedures names) (of_statements (main_of names.main).statements)
 
 abbrev pub procedure_lets_in : Option ProcedureR → Bool
-procedure_lets_in None = false
-procedure_lets_in (Some p) = lets_in (body_effects p)
+procedure_lets_in o = option_map_or (λ p. lets_in (body_effects p)) o false
 
+-- an EXTERNAL one serves none
 abbrev pub serves_interrupt : Option ProcedureR → Bool
-serves_interrupt None = false
-serves_interrupt (Some p) = is_some (vector_of p)
+serves_interrupt o = option_map_or (λ p. is_some (vector_of p)) o false
 
 -- it serves an interrupt, and it or a procedure that it reaches by calls has ENABLE or HALT
 abbrev pub LetsIn : List ProcedureR → ℕ → Type 0
@@ -53,12 +53,10 @@ IsCalled names p = Contains (main_calls names) p ⊎ ((q : ℕ) × Contains (row
 
 -- it is for an interrupt, EXTERNAL or not, and typed or with parameters
 abbrev pub has_interface : Option ProcedureR → Bool
-has_interface None = false
-has_interface (Some p) = is_some p.interrupt && (is_some p.returned || not (nat_eq (length p.parameters) 0))
+has_interface o = option_map_or (λ p. is_some p.interrupt && (is_some p.returned || not (nat_eq (length p.parameters) 0))) o false
 
 abbrev pub is_for_interrupt : Option ProcedureR → Bool
-is_for_interrupt None = false
-is_for_interrupt (Some p) = is_some p.interrupt
+is_for_interrupt o = option_map_or (λ p. is_some p.interrupt) o false
 
 abbrev pub IsMisused : Names → ℕ → Type 0
 IsMisused names p =

@@ -10,6 +10,7 @@ pub mod Numbers
 pub mod Trees
 pub mod Typer
 pub mod Expressions
+pub mod Steps
 pub mod Statements
 pub mod Nodes
 pub mod Leaves

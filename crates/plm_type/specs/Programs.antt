@@ -1,5 +1,6 @@
 -- What the names of a program say: the faults of its types, its trees, and what its contexts have to do at first.
-use Rattle.std.specs.Prelude.{ℕ, List, ◌++◌, map, position, slice_get, Option, Some, None}
+use Rattle.std.specs.Prelude.{ℕ, List, ◌++◌, map, position, slice_get, Option}
+use Rattle.std.specs.Option.{option_map_or}
 use Rattle.plm_decl.specs.declared.names.Names.{Names}
 use Rattle.plm_decl.specs.declared.found.Found.{Found}
 use Rattle.plm_decl.specs.Names.{ProcedureR, handles, procedure_of, declared_location_of, main_of}
@@ -17,8 +18,7 @@ handler_number names vector = position (handles vector) (declared_procedures nam
 
 -- without a procedure nothing is done
 abbrev pub body_for : List Procedure → Option ℕ → Statements
-body_for procedures (Some q) = body_of (slice_get procedures q)
-body_for procedures None = End
+body_for procedures o = option_map_or (λ q. body_of (slice_get procedures q)) o End
 
 module _ (names : Names) where
   abbrev pub faults : List Found

@@ -1,9 +1,10 @@
 -- What `warnings` answers: the procedures that main and an interrupt procedure share, or two of these.
-use Rattle.std.specs.Prelude.{◌≡◌, ℕ, ◌+◌, ◌<◌, ◌↔◌, List, [], ◌∷◌, map, Bool, cond, IsTrue, is_some, length, slice_get, Option, Some, None}
+use Rattle.std.specs.Prelude.{◌≡◌, ℕ, ◌+◌, ◌<◌, ◌↔◌, List, [], ◌∷◌, map, Bool, cond, IsTrue, length, slice_get, Option, Some, None}
 use Rattle.plm_decl.specs.declared.names.Procedure as declared
-use Rattle.plm_decl.specs.Names.{procedure_of, vector_of}
+use Rattle.plm_decl.specs.Names.{procedure_of}
 use Rattle.plm_type.specs.declared.checked.Program.{Program}
 use Rattle.plm_type.specs.declared.sharing.Warning.{Warning}
+use Rattle.plm_type.specs.Interrupts.{serves_interrupt}
 use Rattle.plm_type.specs.Reach.{Graph, Leads}
 use Rattle.plm_type.specs.Calls.{statements_calls, graph_of}
 use Rattle.plm_type.specs.View as view
@@ -20,13 +21,10 @@ pub record LeadTwice (g : Graph) (roots : List (List ℕ)) (p : ℕ) : Type 0 wh
   pub first : LeadsFrom g (slice_get roots a) p
   pub second : LeadsFrom g (slice_get roots b) p
 
-abbrev pub is_handler : declared.Procedure → Bool
-is_handler p = is_some (vector_of (procedure_of p))
-
 -- an interrupt procedure reaches itself, and what it calls: of the procedures from this number on, each that is one
 abbrev pub handlers_from : ℕ → List declared.Procedure → List (List ℕ)
 handlers_from k [] = []
-handlers_from k (p ∷ ps) = cond (is_handler p) ((k ∷ []) ∷ handlers_from (k + 1) ps) (handlers_from (k + 1) ps)
+handlers_from k (p ∷ ps) = cond (serves_interrupt (Some (procedure_of p))) ((k ∷ []) ∷ handlers_from (k + 1) ps) (handlers_from (k + 1) ps)
 
 -- main reaches what it calls
 abbrev pub roots : Program → List (List ℕ)

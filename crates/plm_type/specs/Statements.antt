@@ -1,5 +1,6 @@
 -- Statements, procedures and main: what is said of each, with names as places.
-use Rattle.std.specs.Prelude.{ℕ, Bool, true, false, not, ◌&&◌, ◌||◌, nat_eq, nat_lt, nat_le, cond, List, [], ◌∷◌, ◌++◌, length, map, slice_get, Option, Some, None, is_some, option_map}
+use Rattle.std.specs.Prelude.{ℕ, Bool, true, false, not, ◌&&◌, ◌||◌, nat_eq, nat_le, cond, List, [], ◌∷◌, ◌++◌, length, map, slice_get, Option, Some, None, is_some}
+use Rattle.std.specs.Option.{option_map_or}
 use Rattle.std.specs.List.{flat_map}
 use Rattle.word86.specs.declared.number.Number.TheVariants.{E401, E403}
 use Rattle.word86.specs.declared.width.Width.{Width}
@@ -12,15 +13,10 @@ use Rattle.plm_decl.specs.declared.resolved.Binding.{Binding}
 use Rattle.plm_decl.specs.declared.resolved.Binding.TheVariants as binding
 use Rattle.plm_decl.specs.declared.found.Found.{Found}
 use Rattle.plm_decl.specs.Names.{ProcedureR, DeclaredLocationR, MainR, is_external_linkage}
-use Rattle.plm_decl.specs.Resolved.{ExpressionR, NumberR, TextR, ReferenceR, LocationR, ParenthesisedR, EmbeddedR, UnaryR, BinaryR, ReferenceR', Use, ReferencesR, no_references, references, StatementR, EmptyR, AssignR, CallR, ReturnR, ReturnValueR, EnableR, DisableR, HaltR, IfR, IfElseR, DoR, WhileR, CaseR, IterateR, StatementsR, no_statements, statements}
+use Rattle.plm_decl.specs.Resolved.{ExpressionR, ReferenceR', Use, ReferencesR, no_references, references, StatementR, EmptyR, AssignR, CallR, ReturnR, ReturnValueR, EnableR, DisableR, HaltR, IfR, IfElseR, DoR, WhileR, CaseR, IterateR, StatementsR, no_statements, statements}
 use Rattle.plm_type.specs.declared.statements.Around.{Around}
-use Rattle.plm_type.specs.declared.statements.SignedStep.{SignedStep}
-use Rattle.plm_type.specs.declared.program.Counting.{Counting}
 use Rattle.plm_type.specs.declared.program.Counting.TheVariants as counting
 use Rattle.plm_decl.specs.declared.layout.ScalarType.TheVariants.{Integer}
-use Rattle.plm_decl.specs.Datum.{signed}
-use Rattle.plm_syntax.specs.Terminal.{NumeralT}
-use Rattle.plm_syntax.specs.declared.tree.UnaryOperator.TheVariants as sign
 use Rattle.plm_type.specs.declared.statements.Around.TheVariants as stands
 use Rattle.plm_type.specs.Rest.{Expression, Constant, Call, Target, Targets, Only, Also, Scalar, Count, Statement, Empty, Assign, Evaluate, Return, ReturnValue, Enabling, Disabling, Halting, If, Block, While, Case, Iterate, Statements, End, Then, Procedure}
 use Rattle.plm_type.specs.Types.{width_of, may_be_number, may_be_integer, may_be_pointer, may_count, is_integer, takes, may_be_numbers, may_be_integers, may_be_pointers, has_integer}
@@ -29,6 +25,7 @@ use Rattle.plm_type.specs.Typing.{may_be_assigned, variable_type, parameters_wan
 use Rattle.plm_type.specs.Faults.{first_place, fault_unless, call_faults}
 use Rattle.plm_type.specs.Trees.{entry_of}
 use Rattle.plm_type.specs.Typer.{Typed, TypedTargets, TypedStep, Noted}
+use Rattle.plm_type.specs.Steps.{signed_step, integer_step, number_step, chosen_step}
 use Rattle.plm_type.specs.Expressions.{typed, wanted, given, location, target}
 
 -- RETURN stands in procedures alone, with a value exactly in a typed one
@@ -126,58 +123,11 @@ while_loop e ss = record { tree = While e.tree e.tree ss.tree; faults = e.faults
 abbrev pub cases : Noted Expression → Noted Statements → Noted Statement
 cases e ss = record { tree = Case e.tree ss.tree; faults = e.faults ++ ss.faults }
 
-abbrev pub iteration : Noted Scalar → (from bound : Noted Expression) → TypedStep → Noted Statements → Noted Statement
-iteration i a b s ss = record {
+abbrev pub iterate : Noted Scalar → (from bound : Noted Expression) → TypedStep → Noted Statements → Noted Statement
+iterate i a b s ss = record {
   tree = Iterate a.tree (Count s.counting i.tree b.tree s.tree ss.tree);
   faults = i.faults ++ (a.faults ++ (b.faults ++ (s.faults ++ ss.faults)));
 }
-
--- ---- the step of a DO with an INTEGER index: a number, perhaps after one sign
-
-abbrev pub number_alone : ExpressionR → Option NumeralT
-number_alone (NumberR n) = Some n
-number_alone (TextR p cs) = None
-number_alone (ReferenceR x) = None
-number_alone (LocationR l) = None
-number_alone (ParenthesisedR p e) = None
-number_alone (EmbeddedR p x e) = None
-number_alone (UnaryR p o e) = None
-number_alone (BinaryR p o a b) = None
-
-abbrev pub with_its_sign : (negative : Bool) → NumeralT → SignedStep
-with_its_sign negative n = record { negative = negative; value = n.value; place = n.place }
-
-abbrev pub signed_step : ExpressionR → Option SignedStep
-signed_step (NumberR n) = Some (with_its_sign false n)
-signed_step (TextR p cs) = None
-signed_step (ReferenceR x) = None
-signed_step (LocationR l) = None
-signed_step (ParenthesisedR p e) = None
-signed_step (EmbeddedR p x e) = None
-signed_step (UnaryR p sign.Plus e) = option_map (with_its_sign false) (number_alone e)
-signed_step (UnaryR p sign.Minus e) = option_map (with_its_sign true) (number_alone e)
-signed_step (UnaryR p sign.Not e) = None
-signed_step (BinaryR p o a b) = None
-
-abbrev pub step_fits : SignedStep → Bool
-step_fits s = nat_le s.value (cond s.negative 32768 32767)
-
--- it is one constant with its sign
-abbrev pub step_value : SignedStep → ℕ
-step_value s = cond (step_fits s) (signed s.negative 65536 s.value) 0
-
-abbrev pub counting_by : SignedStep → Counting
-counting_by s = cond (s.negative && nat_lt 0 s.value) counting.SignedDown counting.SignedUp
-
-abbrev pub integer_step : (module_index : ℕ) → Position → Option SignedStep → TypedStep
-integer_step module_index p None = record { tree = Constant 0; counting = counting.SignedUp; faults = fault_unless module_index false E401 p }
-integer_step module_index p (Some s) = record { tree = Constant (step_value s); counting = counting_by s; faults = fault_unless module_index (step_fits s) E401 s.place }
-
-abbrev pub number_step : Noted Expression → TypedStep
-number_step e = record { tree = e.tree; counting = counting.Up; faults = e.faults }
-
-abbrev pub chosen_step : Bool → TypedStep → TypedStep → TypedStep
-chosen_step c a b = record { tree = cond c a.tree b.tree; counting = cond c a.counting b.counting; faults = cond c a.faults b.faults }
 
 -- ---- in a program that declares these
 module _ (variables : List Variable) (procedures : List ProcedureR) (sizes : List ℕ) (module_index : ℕ) where
@@ -244,7 +194,7 @@ module _ (variables : List Variable) (procedures : List ProcedureR) (sizes : Lis
 
   -- a DO with an index, up to its statements
   abbrev pub typed_range : Option ScalarType → Noted Scalar → Position → (from to : ExpressionR) → (by : Option ExpressionR) → Noted Statements → Noted Statement
-  typed_range t i p a b s ss = iteration i (bound_in t p a) (bound_in t p b) (typed_step t p s) ss
+  typed_range t i p a b s ss = iterate i (bound_in t p a) (bound_in t p b) (typed_step t p s) ss
 
   abbrev mutual
     pub typed_statement : Around → StatementR → Noted Statement
@@ -303,8 +253,7 @@ of_stray module_index (Some p) = fault_unless module_index false E401 p
 
 -- the number of INTERRUPT is 0 to 255
 abbrev pub interrupt_fits : Option ℕ → Bool
-interrupt_fits None = true
-interrupt_fits (Some n) = nat_le n 255
+interrupt_fits o = option_map_or (λ n. nat_le n 255) o true
 
 module _ (variables : List Variable) (procedures : List ProcedureR) (sizes : List ℕ) where
   -- an EXTERNAL one has none

@@ -1,5 +1,6 @@
 -- Trees of constructs whose parts have their trees: with types known and names as places.
 use Rattle.std.specs.Prelude.{ℕ, ◌+◌, ◌*◌, nat_le, cond, List, [], ◌∷◌, Option, Some, None}
+use Rattle.std.specs.Option.{option_map_or}
 use Rattle.word86.specs.declared.width.Width.{Width}
 use Rattle.word86.specs.declared.width.Width.TheVariants as width
 use Rattle.word86.specs.declared.operation.UnaryOperation.{UnaryOperation}
@@ -53,12 +54,10 @@ strided stride NoMore others = others
 strided stride (More e es) others = Subscript stride e (strided stride es others)
 
 abbrev pub entry_of : Option ProcedureR → ℕ
-entry_of (Some p) = p.entry
-entry_of None = 0
+entry_of o = option_map_or (λ p. p.entry) o 0
 
 abbrev pub object_size : Option ℕ → ℕ
-object_size (Some n) = n
-object_size None = 0
+object_size o = option_map_or (λ n. n) o 0
 
 abbrev pub use_read : Option Variable → SelectorR → Reference → Expression
 use_read None s r = Constant 0

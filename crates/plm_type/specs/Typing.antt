@@ -1,5 +1,6 @@
 -- Types of constructs whose parts have their types; what has a fault has none.
 use Rattle.std.specs.Prelude.{ℕ, ◌-◌, ◌*◌, Bool, true, false, not, ◌&&◌, ◌||◌, nat_eq, cond, List, [], ◌∷◌, ◌++◌, length, slice_get, Option, Some, None, is_some}
+use Rattle.std.specs.Option.{option_map_or}
 use Rattle.plm_syntax.specs.declared.tree.LocationForm.{LocationForm}
 use Rattle.plm_decl.specs.declared.builtin.Builtin.{Builtin}
 use Rattle.plm_decl.specs.declared.builtin.Builtin.TheVariants as builtin
@@ -161,13 +162,11 @@ builtin_fits b s ts = is_plain s && (nat_eq (length ts) (arity b) && (are_known 
 
 -- a location of what is on a page of the screen is refused
 abbrev pub may_be_located : Option Variable → Bool
-may_be_located None = true
-may_be_located (Some v) = not (is_on_screen v.region)
+may_be_located o = option_map_or (λ v. not (is_on_screen v.region)) o true
 
 -- DATA may not be assigned; it keeps its type as a target all the same
 abbrev pub may_be_assigned : Option Variable → Bool
-may_be_assigned None = true
-may_be_assigned (Some v) = not v.is_data
+may_be_assigned o = option_map_or (λ v. not v.is_data) o true
 
 abbrev pub located_type : LocationForm → Option Variable → SelectorR → List (Option ScalarType) → List (Option ScalarType) → Option ScalarType
 located_type f v s ts us = given_if (may_be_located v && use_fits true v s ts us) (Some (location_type f))

@@ -116,7 +116,7 @@ fn letting_in(alloc: Global, procedures: &[Procedure]) -> Result<Vec<bool>, Allo
 }
 
 /// Whether it serves an interrupt: an EXTERNAL one does not.
-fn serves_interrupt(procedure: &Procedure) -> bool
+pub(crate) fn serves_interrupt(procedure: &Procedure) -> bool
     ensures { result ≡ spec.serves_interrupt (Some (procedure_of procedure.now)) }
 {
     procedure.vector().is_some()

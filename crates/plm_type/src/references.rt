@@ -175,8 +175,13 @@ fn located_type(
     }
 }
 
-/// What LENGTH, LAST or SIZE answers.
-fn measure(builtin: Builtin, variable: Option<Variable>, count: usize, selector: &Selector) -> u64
+/// What LENGTH, LAST or SIZE answers of a reference to a variable, with so many subscripts.
+pub fn measure(
+    builtin: Builtin,
+    variable: Option<Variable>,
+    count: usize,
+    selector: &Selector,
+) -> u64
     ensures { result ≡ typing.measure builtin variable count (resolved.selector_of selector.now) }
 {
     match variable {

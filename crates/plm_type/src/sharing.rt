@@ -7,6 +7,7 @@ ghost use Rattle.plm_type.specs.Sharing as spec;
 
 use crate::calls::{add_statements, call_graph};
 use crate::checked::Program;
+use crate::interrupts::serves_interrupt;
 use crate::reach::{is_marked, reached};
 use plm_decl::Procedure;
 use std::alloc::{AllocError, Global};
@@ -18,13 +19,6 @@ use word86::Fault;
 pub struct Warning {
     pub module: usize,
     pub line: u32,
-}
-
-/// Whether it is an interrupt procedure.
-fn is_handler(procedure: &Procedure) -> bool
-    ensures { result ≡ spec.is_handler procedure.now }
-{
-    procedure.vector().is_some()
 }
 
 /// Which procedures main reaches, and which each interrupt procedure, itself among them.
@@ -40,7 +34,7 @@ fn reached_from_roots(
     add_statements(program.main(), &mut called)?;
     roots.push(reached(alloc, graph, &called)?)?;
     for (number, procedure) in program.names().procedures.iter().enumerate() {
-        if is_handler(procedure) {
+        if serves_interrupt(procedure) {
             roots.push(reached(alloc, graph, &[number])?)?;
         }
     }

@@ -1,19 +1,19 @@
 //! Statements: the faults of their types, and what they do with names as places.
 
-ghost use Rattle.std.specs.Prelude.{◌≡◌, ◌∷◌, [], ◌++◌, IfOk, OnOk, map, option_map};
-ghost use Rattle.plm_syntax.specs.View.{number_of};
+ghost use Rattle.std.specs.Prelude.{◌≡◌, ◌∷◌, [], ◌++◌, IfOk, OnOk, map};
 ghost use Rattle.plm_decl.specs.Resolved.{references, no_references};
 ghost use Rattle.plm_decl.specs.ResolvedView as resolved;
-ghost use Rattle.plm_type.specs.Inner.Typer.{one, variables, noted, noted_after, targets_said, targets_after, step_said, step_after, number_by, count_by, bound_by, targets_by, call_by, index_by, step_by, assignment_by, return_by, range_of, range_by, condition_of, condition_by, statement_by, statements_by};
+ghost use Rattle.plm_type.specs.Inner.Typer.{one, variables, noted, noted_after, targets_said, targets_after, step_said, number_by, count_by, bound_by, targets_by, call_by, index_by, assignment_by, return_by, range_of, range_by, condition_of, condition_by, statement_by, statements_by};
 ghost use Rattle.plm_type.specs.Rest as rest;
 ghost use Rattle.plm_type.specs.Statements as spec;
 ghost use Rattle.plm_type.specs.View as view;
 
 use crate::applications::{entry_of, variable_type};
 use crate::expressions::first_place;
-use crate::program::{Counting, Expression, Loop, Scalar, Statement, Target};
+use crate::program::{Expression, Loop, Scalar, Statement, Target};
 use crate::references::{TypedTarget, may_be_assigned};
 use crate::shapes::{form_type, has_room, is_based, scalar, scalar_size};
+use crate::steps::Step;
 use crate::typer::{Typer, alone};
 use crate::types::{
     has_integer, is_integer, may_be_integer, may_be_integers, may_be_number, may_be_numbers,
@@ -23,7 +23,7 @@ use plm_decl::found::Found;
 use plm_decl::{
     Binding, Bounds, ScalarType, Statement as Resolved, Variable, resolved_trees_have_their_lists,
 };
-use plm_syntax::{Numeral, Position, UnaryOperator};
+use plm_syntax::Position;
 use std::alloc::AllocError;
 use word86::{Number, Place, Width};
 
@@ -99,128 +99,13 @@ impl Condition {
     }
 }
 
-/// The index of an iterative DO and its values: the first, the bound and the step.
+/// The index of a DO and its values: the first, the bound and the step.
 #[derive(Drop)]
 struct Range {
     index: Scalar,
     from: Expression,
     bound: Expression,
     step: Step,
-}
-
-/// The step of an iterative DO, and how it counts.
-#[derive(Drop)]
-struct Step {
-    tree: Expression,
-    counting: Counting,
-}
-
-/// A number, and whether a minus stands before it.
-#[derive(Clone, Copy)]
-struct SignedStep {
-    negative: bool,
-    value: u32,
-    place: Position,
-}
-
-impl SignedStep {
-    fn new(negative: bool, number: Numeral) -> SignedStep
-        ensures { result ≡ spec.with_its_sign negative (number_of number) }
-    {
-        SignedStep {
-            negative,
-            value: number.value,
-            place: number.place,
-        }
-    }
-
-    /// Whether an INTEGER can have it.
-    fn fits(self) -> bool
-        ensures { result ≡ spec.step_fits self }
-    {
-        self.value <= if self.negative { 32_768 } else { 32_767 }
-    }
-
-    /// Its word; 0 if no INTEGER can have it.
-    fn word(self) -> u16
-        ensures { result ≡ spec.step_value self }
-    {
-        if !self.fits() {
-            return 0;
-        }
-        let value = self.value as u16;
-        if self.negative {
-            value.wrapping_neg()
-        } else {
-            value
-        }
-    }
-
-    fn counting(self) -> Counting
-        ensures { result ≡ spec.counting_by self }
-    {
-        if self.negative && self.value > 0 {
-            Counting::SignedDown
-        } else {
-            Counting::SignedUp
-        }
-    }
-}
-
-/// A number that stands alone.
-#[cycle(number_alone)]
-fn number_alone(e: &plm_decl::Expression) -> Option<Numeral>
-    ensures { option_map number_of result ≡ spec.number_alone (resolved.expression_of e.now) }
-{
-    resolved_trees_have_their_lists();
-    match e {
-        plm_decl::Expression::Number(number) => Some(*number),
-        // Without operators it is its first operand.
-        plm_decl::Expression::Chain { first, others } => {
-            if others.is_empty() {
-                return number_alone(first);
-            }
-            None
-        }
-        plm_decl::Expression::Text(_, _)
-        | plm_decl::Expression::Reference(_)
-        | plm_decl::Expression::Location(_)
-        | plm_decl::Expression::Parenthesised(_, _)
-        | plm_decl::Expression::Embedded(_, _, _)
-        | plm_decl::Expression::Unary(_, _, _) => None,
-    }
-}
-
-/// The step of a DO with an INTEGER index: a number, perhaps after one sign.
-#[cycle(signed_step)]
-fn signed_step(e: &plm_decl::Expression) -> Option<SignedStep>
-    ensures { result ≡ spec.signed_step (resolved.expression_of e.now) }
-{
-    resolved_trees_have_their_lists();
-    match e {
-        plm_decl::Expression::Number(number) => Some(SignedStep::new(false, *number)),
-        plm_decl::Expression::Unary(_, UnaryOperator::Plus, operand) => {
-            let number = number_alone(operand)?;
-            Some(SignedStep::new(false, number))
-        }
-        plm_decl::Expression::Unary(_, UnaryOperator::Minus, operand) => {
-            let number = number_alone(operand)?;
-            Some(SignedStep::new(true, number))
-        }
-        // Without operators it is its first operand.
-        plm_decl::Expression::Chain { first, others } => {
-            if others.is_empty() {
-                return signed_step(first);
-            }
-            None
-        }
-        plm_decl::Expression::Unary(_, UnaryOperator::Not, _)
-        | plm_decl::Expression::Text(_, _)
-        | plm_decl::Expression::Reference(_)
-        | plm_decl::Expression::Location(_)
-        | plm_decl::Expression::Embedded(_, _, _)
-        | plm_decl::Expression::Parenthesised(_, _) => None,
-    }
 }
 
 impl TypedTargets {
@@ -336,7 +221,7 @@ impl Typer<'_> {
     }
 
     /// A condition, or the step of a DO with a BYTE or WORD index.
-    fn number_in(
+    pub fn number_in(
         &self,
         place: Position,
         e: &plm_decl::Expression,
@@ -363,7 +248,7 @@ impl Typer<'_> {
         Ok(typed.tree)
     }
 
-    /// The start or the bound of an iterative DO whose index has this type.
+    /// The start or the bound of a DO whose index has this type.
     fn bound_in(
         &self,
         scalar: Option<ScalarType>,
@@ -495,7 +380,7 @@ impl Typer<'_> {
         Ok(value.tree)
     }
 
-    /// The index of an iterative DO.
+    /// The index of a DO.
     fn index(
         &self,
         place: Position,
@@ -511,61 +396,7 @@ impl Typer<'_> {
         Ok(index_for(variable))
     }
 
-    /// The step of an iterative DO with an INTEGER index.
-    fn integer_step(
-        &self,
-        place: Position,
-        step: Option<SignedStep>,
-        faults: &mut Vec<Found>,
-    ) -> Result<Step, AllocError>
-        ensures { IfOk result (λ r. step_said r faults.new.items ≡ step_after faults.old.items (spec.integer_step self.now.module place step)) }
-    {
-        let Some(step) = step else {
-            self.note_unless(false, Number::E401, place, faults)?;
-            return Ok(Step {
-                tree: Expression::Constant(0),
-                counting: Counting::SignedUp,
-            });
-        };
-        self.note_unless(step.fits(), Number::E401, step.place, faults)?;
-        Ok(Step {
-            tree: Expression::Constant(step.word()),
-            counting: step.counting(),
-        })
-    }
-
-    /// The step of an iterative DO whose index has this type: 1 if it is missing.
-    fn step(
-        &self,
-        scalar: Option<ScalarType>,
-        place: Position,
-        step: &Option<plm_decl::Expression>,
-        faults: &mut Vec<Found>,
-    ) -> Result<Step, AllocError>
-        ensures { IfOk result (λ r. step_said r faults.new.items ≡ step_after faults.old.items (step_by self.now scalar place (resolved.step_of step.now))) }
-    {
-        match step {
-            Some(step) => {
-                if is_integer(scalar) {
-                    return self.integer_step(place, signed_step(step), faults);
-                }
-                Ok(Step {
-                    tree: self.number_in(place, step, faults)?,
-                    counting: Counting::Up,
-                })
-            }
-            None => Ok(Step {
-                tree: Expression::Constant(1),
-                counting: if is_integer(scalar) {
-                    Counting::SignedUp
-                } else {
-                    Counting::Up
-                },
-            }),
-        }
-    }
-
-    /// An iterative DO up to its statements, with the place of its index.
+    /// A DO with an index up to its statements, with the place of its index.
     #[inline(never)]
     fn range(
         &self,
@@ -667,7 +498,7 @@ impl Typer<'_> {
             }
             Resolved::Iterate(place, name, bounds, body) => {
                 let range = self.range(*place, *name, bounds, faults)?;
-                self.rounds(around, range, body, faults)
+                self.iterate(around, range, body, faults)
             }
         }
     }
@@ -755,17 +586,17 @@ impl Typer<'_> {
         Ok(Statement::Case(value, cases))
     }
 
-    /// An iterative DO with its index and values, and its statements.
+    /// A DO with its index and values, and its statements.
     #[cycle(statement)]
     #[inline(never)]
-    fn rounds(
+    fn iterate(
         &self,
         around: Around,
         range: Range,
         body: &[Resolved],
         faults: &mut Vec<Found>,
     ) -> Result<Statement, AllocError>
-        ensures { IfOk result (λ r. noted (view.statement_of r) faults.new.items ≡ noted_after faults.old.items (spec.iteration (noted (view.scalar_of range.index) []) (noted (view.expression_of range.from) []) (noted (view.expression_of range.bound) []) (step_said range.step []) (statements_by self.now around (resolved.statements_of body.now)))) }
+        ensures { IfOk result (λ r. noted (view.statement_of r) faults.new.items ≡ noted_after faults.old.items (spec.iterate (noted (view.scalar_of range.index) []) (noted (view.expression_of range.from) []) (noted (view.expression_of range.bound) []) (step_said range.step []) (statements_by self.now around (resolved.statements_of body.now)))) }
     {
         let Range {
             index,

@@ -93,7 +93,8 @@ pub fn is_bitwise(operator: BinaryOperator) -> bool
     }
 }
 
-fn is_equality(operator: BinaryOperator) -> bool
+/// Whether it is = or <>, which take any kind, POINTERs too, the same on both sides.
+pub fn is_equality(operator: BinaryOperator) -> bool
     ensures { result ≡ spec.is_equality operator }
 {
     match operator {
@@ -142,7 +143,8 @@ fn are_alike(left: Option<ScalarType>, right: Option<ScalarType>) -> bool
     (may_be_number(left) && may_be_number(right)) || (may_be_integer(left) && may_be_integer(right))
 }
 
-/// Whether an operator may take operands of these types.
+/// Whether an operator may take operands of these types, where one that is not known may be any: AND, OR and XOR take numbers, = and
+/// <> any kind, and the others numbers or INTEGERs.
 pub fn operands_fit(
     operator: BinaryOperator,
     left: Option<ScalarType>,
@@ -159,7 +161,7 @@ pub fn operands_fit(
     }
 }
 
-/// Whether a unary operator may take an operand of this type.
+/// Whether a unary operator may take an operand of this type: NOT a number, a sign an INTEGER too.
 pub fn unary_fits(operator: UnaryOperator, operand: Option<ScalarType>) -> bool
     ensures { result ≡ spec.unary_fits operator operand }
 {
@@ -169,7 +171,7 @@ pub fn unary_fits(operator: UnaryOperator, operand: Option<ScalarType>) -> bool
     }
 }
 
-/// The type of a number.
+/// The type of a number: a BYTE up to 255, a WORD up to 65,535, and none above.
 pub fn number_type(value: u64) -> Option<ScalarType>
     ensures { result ≡ spec.number_type value }
 {
@@ -182,7 +184,7 @@ pub fn number_type(value: u64) -> Option<ScalarType>
     }
 }
 
-/// The type of a string as a value.
+/// The type of a string as a value: a BYTE of one character, a WORD of two, and none of another length.
 pub fn text_type(characters: &[u8]) -> Option<ScalarType>
     ensures { result ≡ spec.text_type characters.now }
 {
@@ -238,7 +240,9 @@ fn number_result(operator: BinaryOperator, left: ScalarType, right: ScalarType) 
     }
 }
 
-fn result_type(operator: BinaryOperator, left: ScalarType, right: ScalarType) -> ScalarType
+/// The type of an operator's value, of operands that it takes: a relation answers a BYTE, INTEGERs give an INTEGER, a product of numbers
+/// is a WORD, and else two BYTEs give a BYTE.
+pub fn result_type(operator: BinaryOperator, left: ScalarType, right: ScalarType) -> ScalarType
     ensures { result ≡ spec.result_type operator left right }
 {
     if is_relation(operator) {

@@ -3,11 +3,12 @@ use Rattle.std.proofs.Common.{◌≡◌, ℕ, zero, suc, ◌+◌, ◌<◌, ◌�
 use Rattle.std.specs.Prelude.{sum}
 use Rattle.std.proofs.lemmas.Bool.{cases_lt}
 use Rattle.std.proofs.lemmas.List.{length-map, get_or_past}
+use Rattle.select.proofs.Spelling.{extent_here}
 use Rattle.select.specs.declared.sizes.Extent.TheVariants.{Jump}
 use Rattle.select.specs.declared.part.Fixup.{Fixup}
 use Rattle.select.specs.declared.part.Step.{Step}
 use Rattle.select.specs.declared.part.Step.TheVariants.{Plain, Refer, AtStep, Word, Goto, GotoIf}
-use Rattle.select.specs.Sizes.{start, extent_at, IsSettled}
+use Rattle.select.specs.Sizes.{start, IsSettled}
 use Rattle.select.specs.Parts.{extent_of, AreSpelt, IsPart}
 use Rattle.select.specs.Inner.Settling.{longest}
 use Rattle.select.specs.Inner.Assembly.{nothing}
@@ -34,11 +35,6 @@ step_bounded s k (AtStep x t) h = omega (arith, h)
 step_bounded s k (Word t) h = omega (arith, h)
 step_bounded s k (Goto t) h = jump_bounded s k t 3 (omega arith) h
 step_bounded s k (GotoIf c t) h = jump_bounded s k t 5 (omega arith) h
-
-extent_here : (xs : List Step) (k : ℕ) → k < length xs → extent_at (map extent_of xs) k ≡ extent_of (get_or xs k nothing)
-extent_here [] k l = absurd (omega arith)
-extent_here (x ∷ xs) zero l = refl
-extent_here (x ∷ xs) (suc k) l = extent_here xs k (omega arith)
 
 longest_here : (xs : List Step) (k : ℕ) → k < length xs → get_or (map (λ x. longest (extent_of x)) xs) k 0 ≡ longest (extent_of (get_or xs k nothing))
 longest_here [] k l = absurd (omega arith)

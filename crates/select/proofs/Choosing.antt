@@ -1,5 +1,5 @@
 -- The instructions of a `Switch` lead to the case that its value chooses.
-use Rattle.std.proofs.Common.{◌≡◌, ℕ, suc, ◌+◌, ◌*◌, ◌%◌, ◌^◌, ◌<◌, ◌≤◌, inl, inr, Bool, true, false, List, Option, Some, refl, sym, ap, ◌∙◌, subst, arith, slice_get}
+use Rattle.std.proofs.Common.{◌≡◌, ℕ, suc, ◌+◌, ◌*◌, ◌%◌, ◌<◌, ◌≤◌, inl, inr, Bool, true, false, List, Option, Some, refl, sym, ap, ◌∙◌, subst, arith, slice_get}
 use Rattle.std.specs.Prelude.{not, if◌then◌else◌, nat_lt}
 use Rattle.std.proofs.lemmas.Bool.{lt-ltb, le-ltb}
 use Rattle.word86.specs.declared.width.Width.TheVariants as widths
@@ -35,17 +35,6 @@ use Rattle.select.proofs.Flags
 use Rattle.select.proofs.Jumping
 use Rattle.select.proofs.Tables
 use Rattle.select.proofs.Whole
-
--- shifted by one it is doubled
-twice : (y z : ℕ) → z + 2 * y < 65536 → y * 2 ^ 1 % 65536 ≡ 2 * y
-twice y z l = omega (arith, l)
-
--- a sum below 65,536, the other way round
-turned_sum : (y z : ℕ) → z + y < 65536 → (y + z) % 65536 ≡ z + y
-turned_sum y z l = omega (arith, l)
-
-index_sum : (k y z : ℕ) → k + 1 + y + 1 + z ≡ k + 1 + suc y + z
-index_sum k y z = omega arith
 
 module _ (inverse_holds : InverseHolds) (laws : Laws) (x : Image) (all : IsSelected x) where
   -- an instruction that stands here, and what comes after it
@@ -135,14 +124,14 @@ module _ (inverse_holds : InverseHolds) (laws : Laws) (x : Image) (all : IsSelec
         case = Tables.case_at x all (Whole.stand laws x all) r k n e g.ax l
 
         target_is : k + 1 + g.ax + 1 + case.0 ≡ k + 1 + suc g.ax + case.0
-        target_is = index_sum k g.ax case.0
+        target_is = Tables.index_sum k g.ax case.0
 
         small : table + 2 * g.ax < 65536
         small = entry_small g.ax (omega (arith, l))
 
         -- BX has the distance of the case's word from the table
         offset_is : (doubled.bx + table) % 65536 ≡ place (k + 1 + g.ax)
-        offset_is = ap (λ z. (z + table) % 65536) (laws.shift.shl widths.Word g.ax 1 copied.flags a ∙ twice g.ax table small) ∙ turned_sum (2 * g.ax) table small
+        offset_is = ap (λ z. (z + table) % 65536) (laws.shift.shl widths.Word g.ax 1 copied.flags a ∙ Tables.twice g.ax table small) ∙ Tables.turned_sum (2 * g.ax) table small
             ∙ sym (Tables.entry_at x all (Whole.stand laws x all) r k n e g.ax (omega (arith, l)))
 
         -- and that word is the place of the case's first instruction

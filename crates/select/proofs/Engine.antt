@@ -7,10 +7,8 @@ use Rattle.word86.specs.Following.{Offer, Does, Arms, Meets, Follows}
 use Rattle.i86_table.specs.declared.instruction.Instr.{Instr}
 use Rattle.i86_table.specs.declared.instruction.Instr.TheVariants as i
 use Rattle.i86_table.specs.declared.instruction.Condition.{Condition}
-use Rattle.i86_table.specs.declared.instruction.Condition.TheVariants.{Overflow, NotOverflow, Below, NotBelow, Equal, NotEqual, BelowOrEqual, Above, Sign, NotSign, ParityEven, ParityOdd, Less, NotLess, LessOrEqual, Greater}
-use Rattle.i86_table.specs.declared.flags.Flags.{Flags}
 use Rattle.i86_table.specs.Condition.{holds}
-use Rattle.i86_table.specs.Inverse.{inverse}
+use Rattle.i86_table.specs.Inverse.{inverse, InverseHolds}
 use Rattle.i86_table.specs.Arithmetic.{sign_extended}
 use Rattle.i86_table.specs.Contexts.{Context, Own, Working, Given, further, offered, offered_at, offer}
 use Rattle.select.specs.declared.part.Step.{Step}
@@ -148,44 +146,22 @@ module _ (R : Type 0) (next : R → Action Access R) (code : ℕ → Option (Ins
   goes n f p q t target r r2 g st u (inl x) low go = joint n f r r2 (Own p g st false given) (Own t g st false given) u (stands p q (i.JumpShort x.0) g st false x.1 low ∙ ap (λ z. Does (Silent (Own z g st false given))) x.2) go
   goes n f p q t target r r2 g st u (inr x) low go = joint n f r r2 (Own p g st false given) (Own t g st false given) u (stands p q (i.Jump x.0) g st false x.1 low ∙ ap (λ z. Does (Silent (Own z g st false given))) x.2) go
 
-  not_not : (b : Bool) → not (not b) ≡ b
-  not_not true = refl
-  not_not false = refl
-
-  turned : (c : Condition) (f : Flags) → holds (inverse c) f ≡ not (holds c f)
-  turned Overflow f = refl
-  turned NotOverflow f = sym (not_not _)
-  turned Below f = refl
-  turned NotBelow f = sym (not_not _)
-  turned Equal f = refl
-  turned NotEqual f = sym (not_not _)
-  turned BelowOrEqual f = refl
-  turned Above f = sym (not_not _)
-  turned Sign f = refl
-  turned NotSign f = sym (not_not _)
-  turned ParityEven f = refl
-  turned ParityOdd f = sym (not_not _)
-  turned Less f = sym (not_not _)
-  turned NotLess f = refl
-  turned LessOrEqual f = refl
-  turned Greater f = sym (not_not _)
-
   -- a conditional jump, one or two instructions of its own
-  pub goes_if : (c : Condition) (b : Bool) (n f p q t target : ℕ) (r : R) (g : Working) (st : List ℕ) → holds c g.flags ≡ b → Stands code words offsets places p q t (GotoIf c target) → q < 65536
+  pub goes_if : InverseHolds → (c : Condition) (b : Bool) (n f p q t target : ℕ) (r : R) (g : Working) (st : List ℕ) → holds c g.flags ≡ b → Stands code words offsets places p q t (GotoIf c target) → q < 65536
       → ((m : ℕ) → m ≤ n → Fl m f r (Own (if b then t else q) g st false given)) → Fl n (suc (suc f)) r (Own p g st false given)
-  goes_if c b zero f p q t target r g st e h low go = tt
-  goes_if c true (suc n) f p q t target r g st e (inl x) low go =
+  goes_if inverse_holds c b zero f p q t target r g st e h low go = tt
+  goes_if inverse_holds c true (suc n) f p q t target r g st e (inl x) low go =
       looser (suc n) (suc f) (suc (suc f)) r (Own p g st false given) (omega arith)
       (alone n f r (Own p g st false given) (Own t g st false given)
       (stands p q (i.JumpIf c x.0) g st false x.1 low ∙ ap (λ (z : Bool). Does (Silent (Own (if z then further q (sign_extended x.0) else q) g st false given))) e ∙ ap (λ z. Does (Silent (Own z g st false given))) x.2) (go n (omega arith)))
-  goes_if c false (suc n) f p q t target r g st e (inl x) low go =
+  goes_if inverse_holds c false (suc n) f p q t target r g st e (inl x) low go =
       looser (suc n) (suc f) (suc (suc f)) r (Own p g st false given) (omega arith)
       (alone n f r (Own p g st false given) (Own q g st false given)
       (stands p q (i.JumpIf c x.0) g st false x.1 low ∙ ap (λ (z : Bool). Does (Silent (Own (if z then further q (sign_extended x.0) else q) g st false given))) e) (go n (omega arith)))
-  goes_if c true (suc n) f p q t target r g st e (inr x) low go =
+  goes_if inverse_holds c true (suc n) f p q t target r g st e (inr x) low go =
       let near : x.1 < 65536 = middle_low x.3 in
       alone n (suc f) r (Own p g st false given) (Own x.1 g st false given)
-      (stands p x.1 (i.JumpIf (inverse c) 3) g st false x.2 near ∙ ap (λ (z : Bool). Does (Silent (Own (if z then further x.1 (sign_extended 3) else x.1) g st false given))) (turned c g.flags ∙ ap not e))
+      (stands p x.1 (i.JumpIf (inverse c) 3) g st false x.2 near ∙ ap (λ (z : Bool). Does (Silent (Own (if z then further x.1 (sign_extended 3) else x.1) g st false given))) (inverse_holds c g.flags ∙ ap not e))
       (over n (λ m le. go m (omega (arith, le))))
     where
       middle_low : StandsAt code x.1 (i.Jump x.0) q → x.1 < 65536
@@ -195,8 +171,8 @@ module _ (R : Type 0) (next : R → Action Access R) (code : ℕ → Option (Ins
       over zero go = tt
       over (suc m) go =
           alone m f r (Own x.1 g st false given) (Own t g st false given) (stands x.1 q (i.Jump x.0) g st false x.3 low ∙ ap (λ z. Does (Silent (Own z g st false given))) x.5) (go m (omega arith))
-  goes_if c false (suc n) f p q t target r g st e (inr x) low go =
+  goes_if inverse_holds c false (suc n) f p q t target r g st e (inr x) low go =
       let near : x.1 < 65536 = omega (arith, x.3.2, low) in
       looser (suc n) (suc f) (suc (suc f)) r (Own p g st false given) (omega arith)
       (alone n f r (Own p g st false given) (Own q g st false given)
-      (stands p x.1 (i.JumpIf (inverse c) 3) g st false x.2 near ∙ ap (λ (z : Bool). Does (Silent (Own (if z then further x.1 (sign_extended 3) else x.1) g st false given))) (turned c g.flags ∙ ap not e) ∙ ap (λ z. Does (Silent (Own z g st false given))) x.4) (go n (omega arith)))
+      (stands p x.1 (i.JumpIf (inverse c) 3) g st false x.2 near ∙ ap (λ (z : Bool). Does (Silent (Own (if z then further x.1 (sign_extended 3) else x.1) g st false given))) (inverse_holds c g.flags ∙ ap not e) ∙ ap (λ z. Does (Silent (Own z g st false given))) x.4) (go n (omega arith)))

@@ -1,9 +1,10 @@
 -- The flags that selection asks for: carry and zero of a comparison, and whether a test left zero.
-use Rattle.std.proofs.Common.{◌≡◌, ℕ, ◌+◌, ◌-◌, ◌%◌, ◌<◌, ◌≤◌, ◌⊎◌, inl, inr, Bool, true, false, refl, sym, ap, ◌∙◌, nat_eq, arith}
+use Rattle.std.proofs.Common.{◌≡◌, ℕ, ◌+◌, ◌-◌, ◌%◌, ◌<◌, ◌≤◌, ◌⊎◌, inl, inr, Bool, false, refl, sym, ap, ◌∙◌, nat_eq, arith}
 use Rattle.std.specs.Prelude.{nat_lt, nat_le, not, ◌||◌}
 use Rattle.std.specs.Int.RustNames.{bit_and}
 use Rattle.std.specs.Int.Bits.{and_self}
 use Rattle.std.proofs.lemmas.Bool.{cases_lt, lt-ltb, le-ltb, lt-leb, le-leb, eq-eqb, ne_eqb}
+use Rattle.std.proofs.Math.Bool.{not-not}
 use Rattle.word86.specs.declared.width.Width.{Width}
 use Rattle.word86.specs.declared.width.Width.TheVariants as widths
 use Rattle.word86.specs.Signed.{signed_less}
@@ -24,10 +25,6 @@ flipped_le x y = by (cases_lt y x)
     by : (y < x) ⊎ (x ≤ y) → not (nat_lt y x) ≡ nat_le x y
     by (inl l) = ap not (lt-ltb y x l) ∙ sym (lt-leb x y l)
     by (inr l) = ap not (le-ltb y x l) ∙ sym (le-leb x y l)
-
-not_not : (b : Bool) → not (not b) ≡ b
-not_not true = refl
-not_not false = refl
 
 -- below or equal
 lower_or_same : (x y : ℕ) → (nat_lt x y || nat_eq x y) ≡ nat_le x y
@@ -99,15 +96,15 @@ module _ (laws : Laws) where
   -- the condition says that the relation does not hold
   fails_by : (o : Relation) (a b : ℕ) (f : Flags) → Tells a b f → holds (fails o) f ≡ not (stands o a b)
   fails_by relation.Equal a b f t = ap not t.zero_flag
-  fails_by relation.NotEqual a b f t = t.zero_flag ∙ sym (not_not _)
+  fails_by relation.NotEqual a b f t = t.zero_flag ∙ sym (not-not _)
   fails_by relation.Less a b f t = ap not t.carry
   fails_by relation.LessEqual a b f t = ap not (either a b f t.carry t.zero_flag)
   fails_by relation.Greater a b f t = either a b f t.carry t.zero_flag ∙ sym (flipped_le a b)
-  fails_by relation.GreaterEqual a b f t = t.carry ∙ sym (ap not (sym (flipped_le b a)) ∙ not_not _)
+  fails_by relation.GreaterEqual a b f t = t.carry ∙ sym (ap not (sym (flipped_le b a)) ∙ not-not _)
   fails_by relation.LessSigned a b f t = laws.inverse Less f ∙ ap not t.less
   fails_by relation.LessEqualSigned a b f t = laws.inverse LessOrEqual f ∙ ap not t.less_or_equal
   fails_by relation.GreaterSigned a b f t = t.less_or_equal
-  fails_by relation.GreaterEqualSigned a b f t = t.less ∙ sym (not_not _)
+  fails_by relation.GreaterEqualSigned a b f t = t.less ∙ sym (not-not _)
 
   pub fails_where : (o : Relation) (a b : ℕ) (f : Flags) → a < 65536 → b < 65536 → holds (fails o) (operated Cmp widths.Word a b f).flags ≡ not (stands o a b)
   fails_where o a b f l m =

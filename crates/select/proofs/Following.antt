@@ -1,8 +1,8 @@
 -- The instructions of a context follow the intermediate code, row by row.
-use Rattle.std.proofs.Common.{◌≡◌, ℕ, zero, suc, ◌+◌, ◌-◌, ◌*◌, ◌/◌, ◌%◌, ◌^◌, ◌<◌, ◌≤◌, ◌⊎◌, inl, inr, Bool, true, false, List, [], ◌∷◌, ◌++◌, length, drop, Option, Some, None, refl, sym, ap, ◌∙◌, subst, arith, slice_get}
+use Rattle.std.proofs.Common.{◌≡◌, ℕ, zero, suc, ◌+◌, ◌-◌, ◌*◌, ◌/◌, ◌%◌, ◌<◌, ◌≤◌, ◌⊎◌, inl, inr, Bool, true, false, List, [], ◌∷◌, ◌++◌, length, drop, Option, Some, None, refl, sym, ap, ◌∙◌, subst, arith, slice_get}
 use Rattle.std.specs.Prelude.{not, if◌then◌else◌, nat_le, nat_lt, nat_eq, ◌==◌, ◌&&◌, slice_index}
 use Rattle.std.specs.Int.RustNames.{bit_and}
-use Rattle.std.proofs.lemmas.Bool.{cases_lt, lt-ltb, le-ltb, le-leb, lt-leb, leb-true, eq-eqb, ne_eqb, eqb-true}
+use Rattle.std.proofs.lemmas.Bool.{cases_lt, lt-ltb, le-ltb, le-leb, lt-leb, leb-true, eq-eqb, ne_eqb, eqb-true, and_parts, and_right}
 use Rattle.std.proofs.lemmas.Option.{none-some}
 use Rattle.std.proofs.lemmas.Nat.{and_mask}
 use Rattle.word86.specs.declared.width.Width.{Width}
@@ -152,14 +152,6 @@ module _ (laws : Laws) (x : Image) (all : IsSelected x)
   address_on (word_place.Ram j z) m = omega arith
   address_on (word_place.Screen page z) m = omega arith
 
-  first_holds : (b c : Bool) → (b && c) ≡ true → b ≡ true
-  first_holds true c h = refl
-  first_holds false c h = h
-
-  second_fails : (b c : Bool) → c ≡ false → (b && c) ≡ false
-  second_fails true c h = h
-  second_fails false c h = refl
-
   abbrev colour_at : (a n : ℕ) → Bool → Option Where
   colour_at a n c = if c then Some (Screen Colour (a - page_begins Colour)) else None
 
@@ -169,9 +161,9 @@ module _ (laws : Laws) (x : Image) (all : IsSelected x)
   page_found page a n w false e h = absurd (none-some w h)
   page_found Monochrome a n w true e h = ap (λ (c : Bool). if c then Some (Screen Monochrome (a - page_begins Monochrome)) else colour_at a n (covers (page_begins Colour) page_size a n)) e
   page_found Colour a n w true e h =
-      let begins : nat_le (page_begins Colour) a ≡ true = first_holds (nat_le (page_begins Colour) a) (nat_le (a + n) (page_begins Colour + page_size)) e in
+      let begins : nat_le (page_begins Colour) a ≡ true = (and_parts (nat_le (page_begins Colour) a) (nat_le (a + n) (page_begins Colour + page_size)) e).0 in
       let behind : page_begins Colour ≤ a = leb-true (page_begins Colour) a begins in
-      let past : covers (page_begins Monochrome) page_size a n ≡ false = second_fails (nat_le (page_begins Monochrome) a) (nat_le (a + n) (page_begins Monochrome + page_size)) (lt-leb (a + n) (page_begins Monochrome + page_size) (omega (arith, behind))) in
+      let past : covers (page_begins Monochrome) page_size a n ≡ false = and_right (nat_le (page_begins Monochrome) a) (nat_le (a + n) (page_begins Monochrome + page_size)) (lt-leb (a + n) (page_begins Monochrome + page_size) (omega (arith, behind))) in
       ap (λ (c : Bool). if c then Some (Screen Monochrome (a - page_begins Monochrome)) else colour_at a n (covers (page_begins Colour) page_size a n)) past ∙ ap (colour_at a n) e
 
   -- where the code finds a place's byte, the processor does
@@ -268,10 +260,10 @@ module _ (laws : Laws) (x : Image) (all : IsSelected x)
         → holds cond h.flags ≡ not b → h.ax ≡ v → v < 65536 → Small ws2 → OnlyChanges (changes ins) g h
         → (z : ℕ) → Chain r z (GotoIf cond (first r t) ∷ []) (place r (k + 1)) → (m : ℕ) → m < n → Fl m 10 (At r (if b then k + 1 else t) v ws2) (Own z h (stack_of ws2) false given)
     branches cond true c u t v ws2 h leads e2 is lt sm keep z at m l =
-        Engine.goes_if machine.Context next x.code x.find x.words x.entry x.main x.handler 20 (is_main given) x.offsets x.places given cond false m 8 z at.0 (place r t) (first r t) (At r (k + 1) v ws2) h (stack_of ws2) e2 at.1 at.2
+        Engine.goes_if machine.Context next x.code x.find x.words x.entry x.main x.handler 20 (is_main given) x.offsets x.places given laws.inverse cond false m 8 z at.0 (place r t) (first r t) (At r (k + 1) v ws2) h (stack_of ws2) e2 at.1 at.2
         (λ j le. lands j (omega (arith, l, le)) c u r (k + 1) v at.0 ws2 h (stack_of ws2) leads at.3 refl is lt sm keep)
     branches cond false c u t v ws2 h leads e2 is lt sm keep z at m l =
-        Engine.goes_if machine.Context next x.code x.find x.words x.entry x.main x.handler 20 (is_main given) x.offsets x.places given cond true m 8 z at.0 (place r t) (first r t) (At r t v ws2) h (stack_of ws2) e2 at.1 at.2
+        Engine.goes_if machine.Context next x.code x.find x.words x.entry x.main x.handler 20 (is_main given) x.offsets x.places given laws.inverse cond true m 8 z at.0 (place r t) (first r t) (At r t v ws2) h (stack_of ws2) e2 at.1 at.2
         (λ j le. lands j (omega (arith, l, le)) c u r t v (place r t) ws2 h (stack_of ws2) leads refl refl is lt sm keep)
 
     -- a read, instructions after it, and the next instruction
@@ -553,7 +545,7 @@ module _ (laws : Laws) (x : Image) (all : IsSelected x)
           silent r k (op.BinaryConstant o width c) e g n go a inv ws p sm y ns v ws gives.0 (ap (λ z. machine.operated z (λ v. At r (k + 1) v ws)) is)
           (subst (λ z. Chain r (place r k) (plain z) (place r (k + 1))) are (rows_stand r k (op.BinaryConstant o width c) e)) (omega (arith, pace)) gives.1 gives.2 gives.3 sm gives.4
 
-  -- nothing goes on at what divides by zero
+  -- nothing goes on where there is no quotient
   stuck : (m f : ℕ) (ws : List Word) (c : Context) → Fl m f (At Nowhere 0 0 ws) c
   stuck m f ws c =
       Engine.spoilt machine.Context next x.code x.find x.words x.entry x.main x.handler 20 (is_main given) x.offsets x.places given m f (At Nowhere 0 0 ws) c
@@ -905,7 +897,7 @@ module _ (laws : Laws) (x : Image) (all : IsSelected x)
           let d = At r (k + 1 + m) g.ax ws in
           let u = ap (λ (b : Bool). if b then switched (slice_get (x.icode r) (k + 1 + g.ax)) r (k + 1 + suc g.ax) g.ax ws else Silent (At r (k + 1 + m) g.ax ws)) (le-ltb g.ax m l) in
           begins r k (op.Switch m) e g n go a inv ws p sm (alu_number Cmp Ax (m % 65536)) [] 10 c.0 d (compared_with g m) (stack_of ws) u (c.0, c.1, c.2, refl) (omega arith) ((compared_with g m), stack_of ws, λ q. refl, (refl, refl))
-          (λ j less. Engine.goes_if machine.Context next x.code x.find x.words x.entry x.main x.handler 20 (is_main given) x.offsets x.places given conditions.NotBelow true j 8 c.0 c.3.0 (place r (k + 1 + m)) (first r (k + 1 + m)) d (compared_with g m) (stack_of ws) (outside (le-ltb g.ax m l)) c.3.1 c.3.2
+          (λ j less. Engine.goes_if machine.Context next x.code x.find x.words x.entry x.main x.handler 20 (is_main given) x.offsets x.places given laws.inverse conditions.NotBelow true j 8 c.0 c.3.0 (place r (k + 1 + m)) (first r (k + 1 + m)) d (compared_with g m) (stack_of ws) (outside (le-ltb g.ax m l)) c.3.1 c.3.2
           (λ j1 le. lands r k (op.Switch m) e g n go a inv ws p sm j1 (omega (arith, le, less)) (Silent d) u r (k + 1 + m) g.ax (place r (k + 1 + m)) ws (compared_with g m) (stack_of ws) refl refl refl refl a sm (refl, refl, refl, tt, refl, refl, refl)))
 
       chosen : g.ax < m → Fl n 8 (At r k g.ax ws) (Own (place r k) g (stack_of ws) false given)
@@ -921,12 +913,12 @@ module _ (laws : Laws) (x : Image) (all : IsSelected x)
           let jump = rest.3.3 in
           let table = place r (k + 1) in
           let small = Tables.entry_small x all rows_stand r k m e g.ax (omega (arith, l)) in
-          let doubled : h2.bx ≡ 2 * g.ax = laws.shift.shl widths.Word g.ax 1 h1.flags a ∙ twice g.ax table small in
-          let offset : (h2.bx + table) % 65536 ≡ place r (k + 1 + g.ax) = ap (λ z. (z + table) % 65536) doubled ∙ turned_sum (2 * g.ax) table small ∙ sym (Tables.entry_at x all rows_stand r k m e g.ax (omega (arith, l))) in
+          let doubled : h2.bx ≡ 2 * g.ax = laws.shift.shl widths.Word g.ax 1 h1.flags a ∙ Tables.twice g.ax table small in
+          let offset : (h2.bx + table) % 65536 ≡ place r (k + 1 + g.ax) = ap (λ z. (z + table) % 65536) doubled ∙ Tables.turned_sum (2 * g.ax) table small ∙ sym (Tables.entry_at x all rows_stand r k m e g.ax (omega (arith, l))) in
           let entry = rows_stand r (k + 1 + g.ax) (op.Case t.0) t.1 in
-          let to : k + 1 + g.ax + 1 + t.0 ≡ target = index_sum g.ax t.0 in
+          let to : k + 1 + g.ax + 1 + t.0 ≡ target = Tables.index_sum k g.ax t.0 in
           begins r k (op.Switch m) e g n go a inv ws p sm (alu_number Cmp Ax (m % 65536)) [] 13 c.0 d (compared_with g m) (stack_of ws) u (c.0, c.1, c.2, refl) (omega arith) ((compared_with g m), stack_of ws, λ q. refl, (refl, refl))
-          (λ j less. Engine.goes_if machine.Context next x.code x.find x.words x.entry x.main x.handler 20 (is_main given) x.offsets x.places given conditions.NotBelow false j 11 c.0 c.3.0 (place r (k + 1 + m)) (first r (k + 1 + m)) d (compared_with g m) (stack_of ws) (inside (lt-ltb g.ax m l)) c.3.1 c.3.2
+          (λ j less. Engine.goes_if machine.Context next x.code x.find x.words x.entry x.main x.handler 20 (is_main given) x.offsets x.places given laws.inverse conditions.NotBelow false j 11 c.0 c.3.0 (place r (k + 1 + m)) (first r (k + 1 + m)) d (compared_with g m) (stack_of ws) (inside (lt-ltb g.ax m l)) c.3.1 c.3.2
           (λ j1 le. looser j1 11 11 d (Own c.3.0 (compared_with g m) (stack_of ws) false given) (omega arith)
           (Engine.runs machine.Context next x.code x.find x.words x.entry x.main x.handler 20 (is_main given) x.offsets x.places given (x.at r) (copy Bx Ax ∷ i.ShiftWord shifts.Shl (rm.Register Bx) counts.One ∷ []) j1 9 c.3.0 rest.3.0 d (compared_with g m) (stack_of ws) h2 (stack_of ws)
           (h1, stack_of ws, λ q. refl, (h2, stack_of ws, λ q. refl, (refl, refl)))
@@ -934,15 +926,6 @@ module _ (laws : Laws) (x : Image) (all : IsSelected x)
           (λ j2 le2. leaps j2 rest.3.0 jump.0 (place r target) table h2 d jump.1 jump.2 (ap x.words offset ∙ entry.1.0 ∙ ap (λ z. Some (place r z)) to)
           (λ j3 le3. lands r k (op.Switch m) e g n go a inv ws p sm j3 (omega (arith, le, less, le2, le3)) (Silent d) u r target g.ax (place r target) ws h2 (stack_of ws) refl refl refl refl a sm (refl, refl, refl, tt, refl, refl, refl))))))
         where
-          twice : (y z : ℕ) → z + 2 * y < 65536 → y * 2 ^ 1 % 65536 ≡ 2 * y
-          twice y z l = omega (arith, l)
-
-          turned_sum : (y z : ℕ) → z + y < 65536 → (y + z) % 65536 ≡ z + y
-          turned_sum y z l = omega (arith, l)
-
-          index_sum : (y z : ℕ) → k + 1 + y + 1 + z ≡ k + 1 + suc y + z
-          index_sum y z = omega arith
-
           -- the jump through the table
           leaps : (j z q to table : ℕ) (h : Working) (d : machine.Context) → Rattle.select.specs.Linked.StandsAt x.code z (i.JumpTo (rm.Memory (Rattle.i86_table.specs.Open.spot_memory (spot (Some bases.Bx) segments.Cs) table))) q → q < 65536
               → x.words ((h.bx + table) % 65536) ≡ Some to → ((m : ℕ) → m ≤ j → Fl m 8 d (Own to h (stack_of ws) false given)) → Fl j 9 d (Own z h (stack_of ws) false given)

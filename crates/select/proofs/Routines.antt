@@ -1,5 +1,5 @@
 -- The rows of a routine stand one after another.
-use Rattle.std.proofs.Common.{◌≡◌, ℕ, zero, suc, ◌+◌, ◌<◌, List, [], ◌∷◌, length, take, Option, Some, None, refl, sym, ap, ◌∙◌, subst, arith, slice_get}
+use Rattle.std.proofs.Common.{◌≡◌, ℕ, zero, suc, ◌+◌, ◌<◌, List, [], ◌∷◌, length, take, Option, Some, None, refl, sym, ap, ◌∙◌, subst, arith, slice_get, zero-add}
 use Rattle.std.specs.Prelude.{map, Bool, true, false, nat_eq, nat_le, if◌then◌else◌}
 use Rattle.std.specs.Prelude as prelude
 use Rattle.std.proofs.lemmas.List.Sums.{sum_by-cons}
@@ -123,13 +123,10 @@ module _ (code : ℕ → Option (Instr × ℕ)) (words : ℕ → Option ℕ) (of
   row_stands s k n e =
       let rest = Chains.later code words offsets places at low (plain (saved (registers_of saves))) (rows first part saves 0 all) 0 s in
       let begin : 0 + length (plain (saved (registers_of saves))) ≡ first 0 = omega (arith, saved_size) in
-      let stand = rows_from all 0 (λ i. ap (slice_get all) (zero_more i)) (subst (λ z. AllStand code words offsets places at z (rows first part saves 0 all)) begin rest) k n e in
-      let stand_k = subst (λ z. AllStand code words offsets places at (first z) (row first part saves (z + 1) n)) (sym (zero_more k)) stand in
+      let stand = rows_from all 0 (λ i. ap (slice_get all) (sym (zero-add i))) (subst (λ z. AllStand code words offsets places at z (rows first part saves 0 all)) begin rest) k n e in
+      let stand_k = subst (λ z. AllStand code words offsets places at (first z) (row first part saves (z + 1) n)) (zero-add k) stand in
       let end : first k + length (row first part saves (k + 1) n) ≡ first (k + 1) = ap (λ z. first k + z) (row_size first part saves (k + 1) n) ∙ sym (first_more saves all k n e) in
       subst (λ z. Chains.From code words offsets places at (at (first k)) (row first part saves (k + 1) n) (at z)) end (Chains.from_all code words offsets places at low (row first part saves (k + 1) n) (first k) stand_k)
-    where
-      zero_more : (i : ℕ) → i ≡ 0 + i
-      zero_more i = omega arith
 
   -- the pushes come first
   pub saves_stand : AllStand code words offsets places at 0 (routine part saves all)

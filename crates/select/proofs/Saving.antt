@@ -1,6 +1,7 @@
 -- The registers that are saved, and those of the routine for vectors without a procedure.
-use Rattle.std.proofs.Common.{◌≡◌, ℕ, zero, suc, ◌+◌, ◌≤◌, Bool, true, false, List, [], ◌∷◌, length, Some, slice_get, refl, sym, ap, ◌∙◌, ap₂, subst, arith}
+use Rattle.std.proofs.Common.{◌≡◌, ℕ, zero, suc, ◌+◌, ◌≤◌, Bool, true, false, List, [], ◌∷◌, length, Some, slice_get, sym, ap, ◌∙◌, ap₂, subst, arith}
 use Rattle.std.proofs.lemmas.Option.{none-some, same_Some}
+use Rattle.std.proofs.Math.Bool.{or-false}
 use Rattle.std.specs.Prelude.{◌||◌}
 use Rattle.i86_table.specs.declared.registers.Register16.{Register16}
 use Rattle.i86_table.specs.declared.registers.Register16.TheVariants.{Ax, Bx, Cx, Dx, Bp}
@@ -47,15 +48,11 @@ only_finish (suc k) x e = absurd (none-some x e)
 no_call : (q : ℕ) → op.Finish ≡ op.Invoke q → ⊥
 no_call q e = absurd (cc)
 
-or_false : (b : Bool) → (b || false) ≡ b
-or_false true = refl
-or_false false = refl
-
 with_none : (h : Registers) → joined h none ≡ h
 with_none h =
-    ap₂ (λ a b. record { accumulator = a; right = b; high = h.high || false; address = h.address || false; frame = h.frame || false }) (or_false h.accumulator) (or_false h.right)
-    ∙ ap₂ (λ a b. record { accumulator = h.accumulator; right = h.right; high = a; address = b; frame = h.frame || false }) (or_false h.high) (or_false h.address)
-    ∙ ap (λ a. record { accumulator = h.accumulator; right = h.right; high = h.high; address = h.address; frame = a }) (or_false h.frame)
+    ap₂ (λ a b. record { accumulator = a; right = b; high = h.high || false; address = h.address || false; frame = h.frame || false }) (or-false h.accumulator) (or-false h.right)
+    ∙ ap₂ (λ a b. record { accumulator = h.accumulator; right = h.right; high = a; address = b; frame = h.frame || false }) (or-false h.high) (or-false h.address)
+    ∙ ap (λ a. record { accumulator = h.accumulator; right = h.right; high = h.high; address = h.address; frame = a }) (or-false h.frame)
 
 module _ (c : Code) where
   stays : (ps : List Position) (r : Routine) → IsPath (code_of c) Unserved ps r → Unserved ≡ r

@@ -177,7 +177,7 @@ module _ (own : ℕ) (s : List ℕ) (k : ℕ) where
 
 -- ---- all steps
 
-extent_here : (xs : List Step) (k : ℕ) → k < length xs → extent_at (map extent_of xs) k ≡ extent_of (get_or xs k nothing)
+pub extent_here : (xs : List Step) (k : ℕ) → k < length xs → extent_at (map extent_of xs) k ≡ extent_of (get_or xs k nothing)
 extent_here [] k l = absurd (omega arith)
 extent_here (x ∷ xs) zero l = refl
 extent_here (x ∷ xs) (suc k) l = extent_here xs k (omega arith)

@@ -1,7 +1,7 @@
 -- The steps of a routine: their rows depend on where they lead alone, and no jump leads past them.
-use Rattle.std.proofs.Common.{◌≡◌, ℕ, zero, suc, ◌+◌, ◌-◌, ◌<◌, ◌≤◌, ◌%◌, List, [], ◌∷◌, ◌++◌, length, take, drop, Some, refl, sym, ap, ◌∙◌, arith, slice_get, append_assoc, length-append, inl, inr, ◌⊎◌}
+use Rattle.std.proofs.Common.{◌≡◌, ℕ, zero, suc, ◌+◌, ◌-◌, ◌<◌, ◌≤◌, ◌%◌, List, [], ◌∷◌, ◌++◌, length, take, drop, Some, refl, sym, ap, ◌∙◌, arith, slice_get, append_assoc, length-append, inl, inr, ◌⊎◌, zero-add}
 use Rattle.std.specs.Prelude.{Bool, true, false, nat_eq, nat_le, min, if◌then◌else◌, slice_index, slice_index_or}
-use Rattle.std.proofs.lemmas.List.{length-map, append-nil}
+use Rattle.std.proofs.lemmas.List.{length-map, append-nil, take_all}
 use Rattle.std.proofs.lemmas.Bool.{cases_lt}
 use Rattle.word86.specs.declared.width.Width.TheVariants as widths
 use Rattle.word86.specs.declared.width.Width.{Width}
@@ -246,16 +246,13 @@ module _ (many : ℕ) (f h : ℕ → ℕ) (saves : Registers) where
 
 -- the steps of made code can be assembled
 pub routine_inside : (part : ℕ → ℕ) (saves : Registers) (all : List Instruction) → IsMade all → AreSteps (routine part saves all)
-routine_inside part saves all made = at_inside many (routine part saves all) (both_inside many (plain (saved (registers_of saves))) (rows f part saves 0 all) (plain_inside many _) (from 0 all (λ k. ap (slice_get all) (zero_more k))))
+routine_inside part saves all made = at_inside many (routine part saves all) (both_inside many (plain (saved (registers_of saves))) (rows f part saves 0 all) (plain_inside many _) (from 0 all (λ k. ap (slice_get all) (sym (zero-add k)))))
   where
     many : ℕ
     many = length (routine part saves all)
 
     f : ℕ → ℕ
     f = first_of saves all
-
-    zero_more : (k : ℕ) → k ≡ 0 + k
-    zero_more k = omega arith
 
     shifted : (j k : ℕ) → j + 1 + k ≡ j + suc k
     shifted j k = omega arith
@@ -272,15 +269,9 @@ routine_inside part saves all made = at_inside many (routine part saves all) (bo
 
 -- ---- where rows begin, as a list has it
 
-taken_all : (xs : List Instruction) (k : ℕ) → length xs ≤ k → take k xs ≡ xs
-taken_all [] zero l = refl
-taken_all [] (suc k) l = refl
-taken_all (x ∷ xs) zero l = absurd (omega (arith, l))
-taken_all (x ∷ xs) (suc k) l = ap (λ z. x ∷ z) (taken_all xs k (omega (arith, l)))
-
 -- past the last row
 first_past : (saves : Registers) (all : List Instruction) (k : ℕ) → length all ≤ k → first_of saves all k ≡ first_of saves all (length all)
-first_past saves all k l = ap (λ z. length (registers_of saves) + total saves z) (taken_all all k l ∙ sym (taken_all all (length all) (omega arith)))
+first_past saves all k l = ap (λ z. length (registers_of saves) + total saves z) (take_all k all l ∙ sym (take_all (length all) all (omega arith)))
 
 -- no row begins past the last step
 pub first_within : (part : ℕ → ℕ) (saves : Registers) (all : List Instruction) (k : ℕ) → k ≤ length all → first_of saves all k ≤ length (routine part saves all)
@@ -289,7 +280,7 @@ first_within part saves all k le = by (cases_lt k (length all))
     by : (k < length all) ⊎ (length all ≤ k) → first_of saves all k ≤ length (routine part saves all)
     by (inl lt) = omega (arith, first_inside part saves all k lt)
     by (inr past) =
-        let last : total saves (take k all) ≡ total saves all = ap (total saves) (taken_all all k past) in
+        let last : total saves (take k all) ≡ total saves all = ap (total saves) (take_all k all past) in
         omega (arith, steps_of part saves all, last)
 
 pub firsts_are : (saves : Registers) (all : List Instruction) (firsts : List ℕ) → length firsts ≡ suc (length all) → ((k : ℕ) → k ≤ length all → slice_index firsts k ≡ first_of saves all k)

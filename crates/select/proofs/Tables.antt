@@ -1,5 +1,5 @@
 -- The words of a table stand after the `Switch` that jumps through it.
-use Rattle.std.proofs.Common.{◌≡◌, ℕ, zero, suc, ◌+◌, ◌*◌, ◌<◌, ◌≤◌, Some, ap, ◌∙◌, arith, slice_get}
+use Rattle.std.proofs.Common.{◌≡◌, ℕ, zero, suc, ◌+◌, ◌*◌, ◌<◌, ◌≤◌, Some, ap, ◌∙◌, arith, slice_get, ◌%◌, ◌^◌}
 use Rattle.icode.specs.declared.instruction.Instruction.{Instruction}
 use Rattle.icode.specs.declared.instruction.Instruction.TheVariants as op
 use Rattle.icode.specs.declared.code.Routine.{Routine}
@@ -7,6 +7,17 @@ use Rattle.select.specs.Rows.{row, first_of}
 use Rattle.select.specs.Promise.{Image, IsSelected, place_of}
 use Rattle.select.proofs.Cases.{a_case}
 use Rattle.select.proofs.Chains
+
+-- an index shifted by one is doubled
+pub twice : (y z : ℕ) → z + 2 * y < 65536 → y * 2 ^ 1 % 65536 ≡ 2 * y
+twice y z l = omega (arith, l)
+
+-- a sum below 65,536, the other way round
+pub turned_sum : (y z : ℕ) → z + y < 65536 → (y + z) % 65536 ≡ z + y
+turned_sum y z l = omega (arith, l)
+
+pub index_sum : (k y z : ℕ) → k + 1 + y + 1 + z ≡ k + 1 + suc y + z
+index_sum k y z = omega arith
 
 module _ (x : Image) (all : IsSelected x)
     (rows_stand : (r : Routine) (k : ℕ) (ins : Instruction) → slice_get (x.icode r) k ≡ Some ins → Chains.From x.code x.words x.offsets x.places (x.at r) (place_of x r k) (row (first_of (x.saves r) (x.icode r)) x.part (x.saves r) (k + 1) ins) (place_of x r (k + 1)))

@@ -2,6 +2,7 @@
 use Rattle.std.proofs.Common.{◌≡◌, ℕ, suc, ◌+◌, ◌-◌, ◌%◌, ◌<◌, ◌≤◌, Bool, true, false, List, [], ◌∷◌, ◌++◌, length, Option, Some, None, refl, sym, ap, ◌∙◌, subst, arith, slice_get}
 use Rattle.std.specs.Prelude.{◌==◌, if◌then◌else◌}
 use Rattle.std.proofs.lemmas.Bool.{lt-ltb, eq-eqb, and_from}
+use Rattle.select.proofs.Saving.{few_registers}
 use Rattle.word86.specs.Access.{Access, answers}
 use Rattle.word86.specs.Action.{Action, Silent, Over}
 use Rattle.word86.specs.Following.{Follows, Does}
@@ -131,13 +132,6 @@ no_sp : (s : Registers) → NoSp (registers_of s)
 no_sp s =
     adds s.accumulator Ax _ (adds s.right Cx _ (adds s.high Dx _ (adds s.address Bx _ (adds s.frame Bp [] tt (λ n. n)) (λ n. n)) (λ n. n)) (λ n. n)) (λ n. n)
 
-size_of : (b : Bool) (r : Register16) (rs : List Register16) (m : ℕ) → length rs ≤ m → length (with_register b r rs) ≤ suc m
-size_of true r rs m l = omega (arith, l)
-size_of false r rs m l = omega (arith, l)
-
-five : (s : Registers) → length (registers_of s) ≤ 5
-five s = size_of s.accumulator Ax _ 4 (size_of s.right Cx _ 3 (size_of s.high Dx _ 2 (size_of s.address Bx _ 1 (size_of s.frame Bp [] 0 (omega arith)))))
-
 -- another register is not touched
 other : (b : Bool) (r : Register16) (rs : List Register16) (g h : Working) (get : Working → ℕ) → ((w : Working) (v : ℕ) → get (set_word w r v) ≡ get w) → get (restored (with_register b r rs) g h) ≡ get (restored rs g h)
 other true r rs g h get f = f (restored rs g h) (word_in g r % 65536)
@@ -248,7 +242,7 @@ module _ (laws : Laws) (x : Image) (all : IsSelected x) where
         let own : x.saves r ≡ s0 = ap x.saves same in
         let c2 = subst (λ z. Chains.From x.code x.words x.offsets x.places (x.at r) (place_of x r k) (plain (given_back (registers_of z) ++ i.InterruptReturn ∷ [])) (place_of x r (k + 1))) own c in
         let all_back = given_back rs in
-        let pace : with_each all_back 0 ≤ 8 = omega (arith, back_pace rs 0, five s0) in
+        let pace : with_each all_back 0 ≤ 8 = omega (arith, back_pace rs 0, few_registers s0) in
         iret n r k h inv e c2 pace
       where
         iret : (n : ℕ) (r : Routine) (k : ℕ) (h : Working) → Inv h → next (At r k h.ax []) ≡ Over
@@ -272,7 +266,7 @@ module _ (laws : Laws) (x : Image) (all : IsSelected x) where
     unfolding began
     handler_follows n =
         let c = Routines.saves_stand x.code x.words x.offsets x.places x.part (x.at (x.serving v)) (all.low (x.serving v)) s0 (x.icode (x.serving v)) (all.stand (x.serving v)) in
-        let pace : with_each (saved rs) 8 ≤ 20 = omega (arith, saved_pace rs 8, five s0) in
+        let pace : with_each (saved rs) 8 ≤ 20 = omega (arith, saved_pace rs 8, few_registers s0) in
         let room_for : length rs + 0 ≤ x.handler = omega (arith, served.enough) in
         subst (λ z. Follows Access answers machine.Context next Context (offer x.code x.find x.words x.entry x.main x.handler) 20 1 false n 20 begin (Own z began [] false (Some given))) (sym (all.starts v))
         (Engine.looser machine.Context next x.code x.find x.words x.entry x.main x.handler 20 false x.offsets x.places (Some given) n (with_each (saved rs) 8) 20 begin (Own (x.at (x.serving v) 0) began [] false (Some given)) pace

@@ -2,7 +2,7 @@
 use Rattle.std.proofs.Common.{◌≡◌, ℕ, zero, suc, ◌-◌, ◌*◌, ◌/◌, ◌%◌, ◌<◌, ◌≤◌, ◌⊎◌, inl, inr, ◌&&◌, not, Bool, true, false, Option, Some, None, ap, ◌∙◌, refl, sym, subst, nat_le, nat_eq, arith, if◌then◌else◌}
 use Rattle.std.specs.Prelude.{ℤ, pos, negsuc, ◌-ℤ◌, neg_ℤ, int_lt, int_div, int_rem, unsigned_abs}
 use Rattle.std.proofs.lemmas.Int.{ints, quot-rem, rem_below}
-use Rattle.std.proofs.lemmas.Bool.{true≢false, ltb-true, leb-true, leb-false, lt-ltb, le-ltb, le-leb, lt-leb, eqb-true, eqb-false, ne_eqb}
+use Rattle.std.proofs.lemmas.Bool.{true≢false, ltb-true, leb-true, leb-false, lt-ltb, le-ltb, le-leb, lt-leb, eqb-true, eqb-false, ne_eqb, and_parts}
 use Rattle.std.proofs.lemmas.Nat.{div-add-mod'}
 use Rattle.std.proofs.Math.Nat.{div-le_self, mul-le-mul_left}
 use Rattle.word86.specs.Signed.{signed, in_range, signed_word, has_quotient, signed_quotient, signed_remainder}
@@ -150,10 +150,6 @@ positive : (x y : ℕ) → has_quotient x y ≡ true → 0 < y
 positive x zero e = absurd (true≢false (sym e))
 positive x (suc y) e = omega arith
 
-second : (s t : Bool) → (s && t) ≡ true → t ≡ true
-second true t e = e
-second false t e = absurd (true≢false (sym e))
-
 divided : (x y q r : ℕ) → x < 65536 → y < 65536 → signed_quotient x y ≡ Some q → signed_remainder x y ≡ Some r → IsQuotient (signed 65536 x) (signed 65536 y) (signed 65536 q) (signed 65536 r)
 divided x y q r hx hy is_q is_r =
     let a = signed 65536 x in
@@ -161,11 +157,11 @@ divided x y q r hx hy is_q is_r =
     let got = answered (has_quotient x y) (signed_word (int_div a b)) q is_q in
     let rest = answered (has_quotient x y) (signed_word (int_rem a b)) r is_r in
     let some : 0 < unsigned_abs b = some_size (nat_le 32768 y) y refl hy (positive x y got.0) in
-    let within : in_range 65536 (int_div a b) ≡ true = second (not (nat_eq y 0)) (in_range 65536 (int_div a b)) (sym (exists x y hx hy) ∙ got.0) in
+    let within : in_range 65536 (int_div a b) ≡ true = (and_parts (not (nat_eq y 0)) (in_range 65536 (int_div a b)) (sym (exists x y hx hy) ∙ got.0)).1 in
     let small : in_range 65536 (int_rem a b) ≡ true = size_fits (int_rem a b) (omega (arith, rem_below a b some, small_size b (fits y hy))) in
     let quotient : int_div a b ≡ signed 65536 q = sym (number_again (int_div a b) within) ∙ ap (signed 65536) got.1 in
     let remainder : int_rem a b ≡ signed 65536 r = sym (number_again (int_rem a b) small) ∙ ap (signed 65536) rest.1 in
     subst (λ z. IsQuotient a b z (signed 65536 r)) quotient (subst (λ z. IsQuotient a b (int_div a b) z) remainder (is_quotient a b some))
 
 pub signed_tells : SignedLaw
-signed_tells = record { fits = fits; word_again = λ v h. word_of_sign (nat_le 32768 v) v refl h; number_again = number_again; exists = exists; divided = divided }
+signed_tells = record { positive = positive; fits = fits; word_again = λ v h. word_of_sign (nat_le 32768 v) v refl h; number_again = number_again; exists = exists; divided = divided }

@@ -48,14 +48,22 @@ map_action f (Bad module_index line) = Bad module_index line
 
 -- whether interrupts are on after an action
 abbrev pub on_after : {A R : Type 0} → Action A R → Bool → Bool
+on_after (Silent r) on = on
+on_after (Touch a k) on = on
 on_after (Enable r) on = true
 on_after (Disable r) on = false
 on_after (Halt r) on = true
-on_after _ on = on
+on_after Over on = on
+on_after (Bad module_index line) on = on
 
 abbrev pub halted_after : {A R : Type 0} → Action A R → Bool
+halted_after (Silent r) = false
+halted_after (Touch a k) = false
+halted_after (Enable r) = false
+halted_after (Disable r) = false
 halted_after (Halt r) = true
-halted_after _ = false
+halted_after Over = false
+halted_after (Bad module_index line) = false
 
 -- what an action does to what is shared, and its labels; none where the context is used up, or the step is Bad
 abbrev pub perform : (sh : Shared) → {R : Type 0} → Action sh.Access R → sh.State → Option (R × sh.State × List sh.Label)

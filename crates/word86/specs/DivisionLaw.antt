@@ -13,6 +13,8 @@ pub record SignedLaw : Type 0 where
   pub fits : (v : ℕ) → v < 65536 → in_range 65536 (signed 65536 v) ≡ true
   pub word_again : (v : ℕ) → v < 65536 → signed_word (signed 65536 v) ≡ v
   pub number_again : (z : ℤ) → in_range 65536 z ≡ true → signed 65536 (signed_word z) ≡ z
+  -- what something is divided by is not zero
+  pub positive : (x y : ℕ) → has_quotient x y ≡ true → 0 < y
   -- there are quotient and remainder exactly where the divisor is not zero and a word has the quotient
   pub exists : (x y : ℕ) → x < 65536 → y < 65536 → has_quotient x y ≡ (not (nat_eq y 0) && in_range 65536 (int_div (signed 65536 x) (signed 65536 y)))
   pub divided : (x y q r : ℕ) → x < 65536 → y < 65536 → signed_quotient x y ≡ Some q → signed_remainder x y ≡ Some r

@@ -1,4 +1,5 @@
 pub mod Number
+pub mod FaultCode
 pub mod Access
 pub mod Chips
 pub mod Action

@@ -23,7 +23,7 @@ unary_value Low width v = v % 256
 unary_value High width v = v / 256
 unary_value Double width v = v
 
--- nothing is divided by zero
+-- without sign there is no quotient, and no remainder, exactly by zero
 abbrev pub quotient : ℕ → ℕ → Option ℕ
 quotient x zero = None
 quotient x (suc y) = Some (x / suc y)
@@ -32,7 +32,7 @@ abbrev pub remainder : ℕ → ℕ → Option ℕ
 remainder x zero = None
 remainder x (suc y) = Some (x % suc y)
 
--- a value of this width; a shift's count is the low byte of its second operand
+-- a value of this width, and none where there is no quotient; a shift's count is the low byte of its second operand
 abbrev pub binary_value : BinaryOperation → Width → ℕ → ℕ → Option ℕ
 binary_value Multiply width x y = Some (low width (x * y))
 binary_value Divide width x y = quotient x y

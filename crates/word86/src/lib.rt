@@ -8,6 +8,7 @@ mod bytes;
 mod division_law;
 mod event;
 mod fault;
+mod fault_code;
 mod label;
 mod memory_map;
 mod number;

@@ -1,5 +1,5 @@
-//! Words as numbers with sign, in two's complement: the arithmetic of INTEGER, where it differs from that of WORD (PL/M-86 User's
-//! Guide, integer arithmetic).
+//! Words as numbers with sign, in two's complement: the arithmetic of INTEGER, where it differs from that of WORD. Its rules are this
+//! project's own (docs/LANGUAGE.md).
 
 ghost use Rattle.std.specs.Prelude.{◌≡◌, ◌≢◌, ◌⊎◌, pos, negsuc, int_div, int_rem, Some, None, if◌then◌else◌};
 ghost use Rattle.word86.specs.Signed.{signed, signed_word, has_quotient, signed_quotient, signed_remainder, signed_less};
@@ -15,7 +15,7 @@ pub fn signed16(value: u16) -> i16
     }
 }
 
-/// The word of a number with sign.
+/// The word of a number with sign: from 0 to 32,767 for one that is not negative, from 32,768 to 65,535 for a negative one.
 pub fn unsigned16(value: i16) -> u16
     ensures { result ≡ signed_word value }
 {

@@ -2,7 +2,7 @@
 use Rattle.std.specs.Prelude.{ℕ, Bool, true, false, ◌≡◌, ◌==◌, ◌+◌, ◌-◌, ◌%◌, ◌/◌, ◌<◌, ◌≤◌, ◌&&◌, ◌||◌, nat_lt, nat_le, if◌then◌else◌, List, slice_index, slice_set, length, refl}
 use Rattle.std.proofs.Common.{cond, ◌∙◌, ◌⊎◌, sym, ap, arith, inl, inr, subst}
 use Rattle.std.proofs.lemmas.Bool.Decides.{eqb_tells}
-use Rattle.std.proofs.lemmas.Bool.{ltb-true, leb-true}
+use Rattle.std.proofs.lemmas.Bool.{ltb-true, leb-true, and_parts}
 use Rattle.std.proofs.lemmas.List.{get_or-set_other, get_or-set_same, length-set}
 use Rattle.cpu8086.specs.declared.bus.Store.{Store}
 use Rattle.cpu8086.specs.declared.bus.Store.TheVariants as stores
@@ -26,12 +26,8 @@ pub length-after_store : (base : ℕ) (l : List ℕ) (s : Store) → length (aft
 length-after_store base l (stores.Byte a v) = length-put base l a v
 length-after_store base l (stores.Word low high v) = length-put base (put base l low (v % 256)) high (v / 256) ∙ length-put base l low (v % 256)
 
-both : (a b : Bool) → (a && b) ≡ true → (a ≡ true) × (b ≡ true)
-both true b e = (refl, e)
-both false b e = absurd cc
-
 inside : (base : ℕ) (l : List ℕ) (a : ℕ) → lies_in base l a ≡ true → (base ≤ a) × (a < base + length l)
-inside base l a e = let t = both (nat_le base a) (nat_lt a (base + length l)) e in (leb-true base a t.0, ltb-true a (base + length l) t.1)
+inside base l a e = let t = and_parts (nat_le base a) (nat_lt a (base + length l)) e in (leb-true base a t.0, ltb-true a (base + length l) t.1)
 
 same_within : (base : ℕ) (l k : List ℕ) (a : ℕ) → length k ≡ length l → lies_in base k a ≡ lies_in base l a
 same_within base l k a e = ap (λ n. nat_le base a && nat_lt a (base + n)) e

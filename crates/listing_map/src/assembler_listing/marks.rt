@@ -3,10 +3,10 @@
 //! The code of a statement stands in one piece, and what ends it can be told: an assignment stores so many values, a CALL calls so many
 //! procedures, a condition ends at the jump that asks it. So statements and code are gone through side by side.
 
-use crate::explaining::value_types::is_measure;
 use icode::Instruction;
 use plm_decl::{Binding, Expression, Location, Operation, Reference, Selector, Statement};
 use plm_syntax::Position;
+use plm_type::is_measure;
 use std::alloc::AllocError;
 
 /// The line of a statement, and the number of its first instruction. Behind the last statement stands a routine's end, which has no line.

@@ -1,8 +1,8 @@
 //! Where texts call procedures, and where they let interrupts in: by the calls, ENABLE and HALT that stand in them, in the order of the text.
 
-use crate::explaining::value_types::is_measure;
 use plm_decl::{Binding, Bounds, Expression, Location, Operation, Reference, Selector, Statement};
 use plm_syntax::Position;
+use plm_type::is_measure;
 use std::alloc::AllocError;
 
 /// What a text does.

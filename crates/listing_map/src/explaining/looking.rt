@@ -1,16 +1,17 @@
 //! Why there are faults of types, and where: the statements and expressions are gone through once, in the order in which types are checked.
 
 use crate::explaining::reason::{Reason, Reasoned, Rule, Target, Type, TypeFault, first};
+use crate::explaining::references::{reference_of, variable_of};
 use crate::explaining::studied::number_at;
-use crate::explaining::value_types::{
-    Typed, Types, beside, clash, is_measure, is_no_number, is_pointer, paired, refuses,
-    refuses_operand,
-};
+use crate::explaining::value_types::{Typed, Types, beside, paired};
 use plm_decl::{
-    Binding, Builtin, Expression, Form, Location, Operation, Reference, Region, ScalarType,
-    Selector, Variable,
+    Binding, Builtin, Expression, Form, Location, Operation, Reference, Region, Selector, Variable,
 };
 use plm_syntax::Position;
+use plm_type::{
+    arity, is_measure, is_target, may_be_arguments, may_count, number_type, operands_fit, takes,
+    text_type, unary_fits, wanted_arguments,
+};
 use std::alloc::AllocError;
 
 /// What faults of types are looked for in: a module, with the names by which its expressions are typed.
@@ -20,82 +21,23 @@ pub(crate) struct Looking<'n> {
     pub module: usize,
 }
 
-/// Whether a built-in is a target alone.
-fn is_target(builtin: Builtin) -> bool {
-    match builtin {
-        Builtin::Output | Builtin::OutputWord => true,
-        Builtin::Length
-        | Builtin::Last
-        | Builtin::Size
-        | Builtin::Low
-        | Builtin::High
-        | Builtin::Double
-        | Builtin::ShiftLeft
-        | Builtin::ShiftRight
-        | Builtin::RotateLeft
-        | Builtin::RotateRight
-        | Builtin::Input
-        | Builtin::InputWord
-        | Builtin::Signed
-        | Builtin::Unsigned => false,
-    }
-}
-
-/// How many arguments a built-in takes.
-fn arity(builtin: Builtin) -> usize {
-    match builtin {
-        Builtin::ShiftLeft | Builtin::ShiftRight | Builtin::RotateLeft | Builtin::RotateRight => 2,
-        Builtin::Low
-        | Builtin::High
-        | Builtin::Double
-        | Builtin::Length
-        | Builtin::Last
-        | Builtin::Size
-        | Builtin::Input
-        | Builtin::InputWord
-        | Builtin::Output
-        | Builtin::OutputWord
-        | Builtin::Signed
-        | Builtin::Unsigned => 1,
-    }
-}
-
-/// What a built-in takes: UNSIGN an INTEGER, the others BYTEs and WORDs.
+/// What a built-in takes first: UNSIGN an INTEGER; nothing where that is a BYTE or a WORD.
 fn taken_by(builtin: Builtin) -> Type {
-    match builtin {
-        Builtin::Unsigned => Some(ScalarType::Integer),
-        Builtin::ShiftLeft
-        | Builtin::ShiftRight
-        | Builtin::RotateLeft
-        | Builtin::RotateRight
-        | Builtin::Low
-        | Builtin::High
-        | Builtin::Double
-        | Builtin::Length
-        | Builtin::Last
-        | Builtin::Size
-        | Builtin::Input
-        | Builtin::InputWord
-        | Builtin::Output
-        | Builtin::OutputWord
-        | Builtin::Signed => None,
-    }
-}
-
-/// Whether a built-in that takes this does not take such an argument.
-fn is_refused(taken: Type, argument: Type) -> bool {
-    match taken {
-        Some(_) => clash(taken, argument),
-        None => is_no_number(argument),
+    match wanted_arguments(builtin) {
+        [first, ..] => *first,
+        [] => None,
     }
 }
 
 /// Whether LENGTH, LAST or SIZE is of a variable.
 fn measures_variable(arguments: &[Expression]) -> bool {
-    let [Expression::Reference(reference)] = arguments else {
+    let [argument] = arguments else {
         return false;
     };
-    matches!(reference.binding, Binding::Variable(_))
+    match reference_of(argument) {
+        Some(reference) => variable_of(reference.binding).is_some(),
+        None => false,
+    }
 }
 
 /// Where an expression begins.
@@ -268,13 +210,13 @@ impl Looking<'_> {
     /// Whether a subscript is a POINTER.
     fn has_pointer(&self, reference: &Reference) -> bool {
         for e in &reference.subscripts {
-            if is_pointer(self.types.expression(e)) {
+            if !may_count(self.types.expression(e)) {
                 return true;
             }
         }
         match &reference.selector {
             Selector::None | Selector::Member(_, _) => false,
-            Selector::Element(_, _, subscript) => is_pointer(self.types.expression(subscript)),
+            Selector::Element(_, _, subscript) => !may_count(self.types.expression(subscript)),
         }
     }
 
@@ -313,7 +255,7 @@ impl Looking<'_> {
         for (parameter, argument) in parameters.iter().zip(arguments) {
             let into = self.types.variable_type(*parameter);
             let value = self.types.typed(argument).wanted(into).scalar;
-            if clash(into, value) {
+            if !takes(into, value) {
                 return Some(Reason::Argument(*parameter, into, value));
             }
         }
@@ -334,11 +276,12 @@ impl Looking<'_> {
         Ok(())
     }
 
-    /// The first argument that a built-in which takes this does not take.
-    fn builtin_argument(&self, taken: Type, arguments: &[Expression]) -> Option<Reason> {
+    /// The first argument that a built-in does not take.
+    fn builtin_argument(&self, builtin: Builtin, arguments: &[Expression]) -> Option<Reason> {
+        let taken = taken_by(builtin);
         for argument in arguments {
             let value = self.types.typed(argument).wanted(taken).scalar;
-            if is_refused(taken, value) {
+            if !may_be_arguments(builtin, &[value]) {
                 return Some(Reason::BuiltinArgument(taken, value));
             }
         }
@@ -401,11 +344,10 @@ impl Looking<'_> {
     ) -> Result<(), AllocError> {
         let place = reference.place;
         let arguments = reference.subscripts.as_slice();
-        let taken = taken_by(builtin);
-        self.large_operand(taken, arguments, found)?;
+        self.large_operand(taken_by(builtin), arguments, found)?;
         self.count_unless(place, arity(builtin), arguments.len(), found)?;
         let counted = &arguments[..arity(builtin).min(arguments.len())];
-        self.types_for(place, self.builtin_argument(taken, counted), found)
+        self.types_for(place, self.builtin_argument(builtin, counted), found)
     }
 
     /// Looks in an expression.
@@ -413,11 +355,12 @@ impl Looking<'_> {
     pub fn expression(&self, e: &Expression, found: &mut Vec<Reasoned>) -> Result<(), AllocError> {
         match e {
             Expression::Number(number) => {
+                let holds = number_type(u64::from(number.value)).is_none();
                 let reason = Reason::Broken(Rule::LargeNumber);
-                self.types_if(number.place, number.value > 0xFFFF, reason, found)
+                self.types_if(number.place, holds, reason, found)
             }
             Expression::Text(place, text) => {
-                let holds = text.is_empty() || 2 < text.len();
+                let holds = text_type(text).is_none();
                 self.types_if(*place, holds, Reason::LongText(text.len()), found)
             }
             Expression::Reference(reference) => self.value(reference, found),
@@ -431,7 +374,7 @@ impl Looking<'_> {
             Expression::Unary(place, operator, operand) => {
                 self.expression(operand, found)?;
                 let scalar = self.types.expression(operand);
-                let holds = refuses_operand(*operator, scalar);
+                let holds = !unary_fits(*operator, scalar);
                 self.types_if(*place, holds, Reason::Operand(*operator, scalar), found)
             }
             Expression::Chain {
@@ -457,7 +400,7 @@ impl Looking<'_> {
         let kept = value.wanted(into).scalar;
         self.range(into, value, found)?;
         let reason = Reason::Store(target_of(target), into, kept);
-        self.types_if(place, clash(into, kept), reason, found)
+        self.types_if(place, !takes(into, kept), reason, found)
     }
 
     /// Why an operator does not take its operands, by itself, of which the left one begins at a place.
@@ -473,7 +416,7 @@ impl Looking<'_> {
         self.range(beside(operator, right.scalar), left, found)?;
         self.range(beside(operator, left.scalar), right, found)?;
         let (one, other) = paired(operator, left, right);
-        let holds = refuses(operator, one.scalar, other.scalar);
+        let holds = !operands_fit(operator, one.scalar, other.scalar);
         let reason = Reason::Operands(operator, one.scalar, other.scalar);
         self.types_if(begin, holds, reason, found)
     }
@@ -562,15 +505,24 @@ impl Looking<'_> {
         arguments: &[Expression],
         found: &mut Vec<Reasoned>,
     ) -> Result<(), AllocError> {
-        let [Expression::Reference(reference)] = arguments else {
+        let [argument] = arguments else {
             return Ok(());
         };
-        match reference.binding {
-            Binding::Variable(number) => {
-                self.parts(reference, found)?;
-                self.shape(Extent::Part, number, reference, found)
-            }
-            Binding::Procedure(_) | Binding::Builtin(_) | Binding::Nothing => Ok(()),
+        match argument {
+            Expression::Reference(reference) => match variable_of(reference.binding) {
+                Some(number) => {
+                    self.parts(reference, found)?;
+                    self.shape(Extent::Part, number, reference, found)
+                }
+                None => Ok(()),
+            },
+            Expression::Number(_)
+            | Expression::Text(_, _)
+            | Expression::Location(_)
+            | Expression::Parenthesised(_, _)
+            | Expression::Embedded(_, _, _)
+            | Expression::Unary(_, _, _)
+            | Expression::Chain { .. } => Ok(()),
         }
     }
 
@@ -581,23 +533,30 @@ impl Looking<'_> {
         location: &Location,
         found: &mut Vec<Reasoned>,
     ) -> Result<(), AllocError> {
-        let Location::Reference(place, _, reference) = location else {
-            return Ok(());
-        };
-        let Binding::Variable(number) = reference.binding else {
-            return self.types_if(*place, true, Reason::Broken(Rule::NoLocation), found);
+        match location {
+            Location::Reference(place, _, reference) => self.located(*place, reference, found),
+            Location::Constants(_, _, _) => Ok(()),
+        }
+    }
+
+    /// Looks in the location of what a reference names.
+    #[cycle(looking)]
+    fn located(
+        &self,
+        place: Position,
+        reference: &Reference,
+        found: &mut Vec<Reasoned>,
+    ) -> Result<(), AllocError> {
+        let Some(number) = variable_of(reference.binding) else {
+            return self.types_if(place, true, Reason::Broken(Rule::NoLocation), found);
         };
         let is_shown = match self.variable(number) {
             Some(variable) => is_on_screen(&variable),
             None => false,
         };
         self.parts(reference, found)?;
-        self.types_if(
-            *place,
-            is_shown,
-            Reason::Broken(Rule::ScreenLocation),
-            found,
-        )?;
+        let reason = Reason::Broken(Rule::ScreenLocation);
+        self.types_if(place, is_shown, reason, found)?;
         self.shape(Extent::Part, number, reference, found)
     }
 

@@ -2,10 +2,12 @@
 
 use crate::explaining::looking::{Looking, first_place, target_of};
 use crate::explaining::reason::{Reason, Reasoned, Rule, Target, Type, first};
+use crate::explaining::references::variable_of;
 use crate::explaining::studied::number_at;
-use crate::explaining::value_types::{Types, clash, is_integer, is_no_number, is_pointer};
+use crate::explaining::value_types::Types;
 use plm_decl::{Binding, Bounds, Expression, Names, Procedure, Reference, Region, Statement};
 use plm_syntax::{Linkage, Numeral, Position, UnaryOperator};
+use plm_type::{is_integer, may_be_number, may_count, takes};
 use std::alloc::{AllocError, Global};
 
 /// What a statement stands in: main, or a procedure with the type of its value.
@@ -95,7 +97,7 @@ impl Looking<'_> {
         let scalar = self.types.expression(e);
         self.types_if(
             place,
-            is_no_number(scalar),
+            !may_be_number(scalar),
             Reason::Condition(scalar),
             found,
         )
@@ -109,7 +111,7 @@ impl Looking<'_> {
         found: &mut Vec<Reasoned>,
     ) -> Result<(), AllocError> {
         self.expression(e, found)?;
-        let holds = is_pointer(self.types.expression(e));
+        let holds = !may_count(self.types.expression(e));
         self.types_if(place, holds, Reason::Broken(Rule::CaseValue), found)
     }
 
@@ -128,7 +130,7 @@ impl Looking<'_> {
     fn unlike(&self, targets: &[Reference], one: Target, scalar: Type) -> Option<Reason> {
         for target in targets {
             let other = self.types.value(target);
-            if clash(scalar, other) {
+            if !takes(scalar, other) {
                 return Some(Reason::Targets(one, scalar, target_of(target), other));
             }
         }
@@ -150,7 +152,7 @@ impl Looking<'_> {
     fn untaken(&self, targets: &[Reference], kept: Type) -> Option<Reason> {
         for target in targets {
             let into = self.types.value(target);
-            if clash(into, kept) {
+            if !takes(into, kept) {
                 return Some(Reason::Store(target_of(target), into, kept));
             }
         }
@@ -246,7 +248,7 @@ impl Looking<'_> {
         let kept = value.wanted(returned).scalar;
         self.range(returned, value, found)?;
         let reason = Reason::ReturnType(returned, kept);
-        self.types_if(place, clash(returned, kept), reason, found)
+        self.types_if(place, !takes(returned, kept), reason, found)
     }
 
     /// RETURN with a value.
@@ -274,7 +276,7 @@ impl Looking<'_> {
         binding: Binding,
         found: &mut Vec<Reasoned>,
     ) -> Result<(), AllocError> {
-        let Binding::Variable(number) = binding else {
+        let Some(number) = variable_of(binding) else {
             return self.types_if(place, true, Reason::Broken(Rule::Index), found);
         };
         let is_plain = match self.types.names.variables.get(number) {
@@ -282,17 +284,14 @@ impl Looking<'_> {
             None => false,
         };
         let scalar = self.types.variable_type(number);
-        let holds = !is_plain || scalar.is_none() || is_pointer(scalar);
+        let holds = !is_plain || scalar.is_none() || !may_count(scalar);
         self.types_if(place, holds, Reason::Broken(Rule::Index), found)?;
         self.data_if(name, number, found)
     }
 
     /// The type of the variable that a name stands for.
     fn type_of(&self, binding: Binding) -> Type {
-        match binding {
-            Binding::Variable(number) => self.types.variable_type(number),
-            Binding::Procedure(_) | Binding::Builtin(_) | Binding::Nothing => None,
-        }
+        self.types.variable_type(variable_of(binding)?)
     }
 
     /// The start or the bound of a DO whose index, at a token, has this type.
@@ -306,14 +305,14 @@ impl Looking<'_> {
         let (into, name) = index;
         let value = self.types.typed(e);
         let kept = value.wanted(into).scalar;
-        let holds = if is_integer(into) {
-            clash(into, kept)
+        let is_taken = if is_integer(into) {
+            takes(into, kept)
         } else {
-            is_no_number(kept)
+            may_be_number(kept)
         };
         self.expression(e, found)?;
         self.range(into, value, found)?;
-        self.types_if(place, holds, Reason::Bound(name, into, kept), found)
+        self.types_if(place, !is_taken, Reason::Bound(name, into, kept), found)
     }
 
     /// The step of a DO with an INTEGER index.
@@ -342,7 +341,7 @@ impl Looking<'_> {
     ) -> Result<(), AllocError> {
         self.expression(e, found)?;
         let scalar = self.types.expression(e);
-        self.types_if(place, is_no_number(scalar), Reason::Step(scalar), found)
+        self.types_if(place, !may_be_number(scalar), Reason::Step(scalar), found)
     }
 
     /// The step of a DO whose index has this type.

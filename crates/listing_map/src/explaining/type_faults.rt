@@ -1,6 +1,5 @@
 //! What is told of the faults of types: E401 to E403.
 
-use crate::explaining::number_expressions::is_bitwise;
 use crate::explaining::phases::TypedSources;
 use crate::explaining::reason::{
     Reason, Target, Type, TypeFault, one_of, operator_name, reason_at, rule_words, sign_name,
@@ -8,10 +7,10 @@ use crate::explaining::reason::{
 use crate::explaining::sentence::Part;
 use crate::explaining::studied::{Studied, number_at};
 use crate::explaining::told::{Told, tell};
-use crate::explaining::value_types::{is_equality, is_integer, is_pointer};
 use crate::phase_faults::TokenAt;
 use plm_decl::{Names, ScalarType};
 use plm_syntax::{BinaryOperator, UnaryOperator};
+use plm_type::{is_bitwise, is_equality, is_integer};
 use std::alloc::Global;
 use word86::Fault;
 
@@ -23,6 +22,10 @@ const FROM_INTEGER: &str = ": UNSIGN makes an INTEGER a WORD";
 
 const TO_AND_FROM_INTEGER: &str =
     ": SIGNED makes a BYTE or a WORD an INTEGER, UNSIGN an INTEGER a WORD";
+
+fn is_pointer(scalar: Type) -> bool {
+    scalar == Some(ScalarType::Pointer)
+}
 
 /// What would do where a value of the second type is to go where the first is.
 fn way_into(into: Type, value: Type) -> &'static str {

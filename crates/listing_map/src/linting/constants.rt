@@ -1,7 +1,8 @@
 //! The values of expressions that are made of constants.
 
-use plm_decl::{Expression, Operation};
+use plm_decl::{Expression, Operation, ScalarType};
 use plm_syntax::{BinaryOperator, UnaryOperator};
+use plm_type::{number_type, result_type};
 use word86::signed16;
 
 /// What numbers are where they stand: BYTEs where they fit one, or INTEGERs.
@@ -11,57 +12,57 @@ enum Sense {
     WithSign,
 }
 
-/// A value, and whether it is a BYTE.
+/// A value, as its bits are without a sign, and its type.
 #[derive(Clone, Copy)]
 pub(crate) struct Constant {
     pub value: u32,
-    pub is_byte: bool,
+    scalar: ScalarType,
 }
 
 /// A value of this type, of which the low bits count.
-fn cut(value: u32, is_byte: bool) -> Constant {
-    let values = if is_byte { 0x100 } else { 0x1_0000 };
+fn cut(value: u32, scalar: ScalarType) -> Constant {
+    let values = if scalar == ScalarType::Byte {
+        0x100
+    } else {
+        0x1_0000
+    };
     Constant {
         value: value % values,
-        is_byte,
+        scalar,
     }
 }
 
 fn number(sense: Sense, value: u32) -> Option<Constant> {
-    if value > 0xFFFF {
-        return None;
-    }
-    let is_byte = match sense {
-        Sense::WithoutSign => value <= 0xFF,
-        Sense::WithSign => false,
+    let without_sign = number_type(u64::from(value))?;
+    let scalar = match sense {
+        Sense::WithoutSign => without_sign,
+        Sense::WithSign => ScalarType::Integer,
     };
-    Some(cut(value, is_byte))
+    Some(cut(value, scalar))
 }
 
 fn signed(operator: UnaryOperator, operand: Constant) -> Constant {
     match operator {
         UnaryOperator::Plus => operand,
-        UnaryOperator::Minus => cut(0u32.wrapping_sub(operand.value), operand.is_byte),
-        UnaryOperator::Not => cut(!operand.value, operand.is_byte),
+        UnaryOperator::Minus => cut(0u32.wrapping_sub(operand.value), operand.scalar),
+        UnaryOperator::Not => cut(!operand.value, operand.scalar),
     }
 }
 
 /// What a relation gives.
-fn truth(holds: bool) -> Constant {
-    cut(if holds { 0xFF } else { 0 }, true)
+fn truth(holds: bool) -> u32 {
+    if holds { 0xFF } else { 0 }
 }
 
-/// What an operator gives; nothing where it divides.
-fn joined(operator: BinaryOperator, left: Constant, right: Constant) -> Option<Constant> {
-    let are_bytes = left.is_byte && right.is_byte;
-    let (one, other) = (left.value, right.value);
+/// What an operator gives, of which the low bits count; nothing where it divides.
+fn outcome(operator: BinaryOperator, one: u32, other: u32) -> Option<u32> {
     match operator {
-        BinaryOperator::Add => Some(cut(one.wrapping_add(other), are_bytes)),
-        BinaryOperator::Subtract => Some(cut(one.wrapping_sub(other), are_bytes)),
-        BinaryOperator::Multiply => Some(cut(one.wrapping_mul(other), false)),
-        BinaryOperator::And => Some(cut(one & other, are_bytes)),
-        BinaryOperator::Or => Some(cut(one | other, are_bytes)),
-        BinaryOperator::ExclusiveOr => Some(cut(one ^ other, are_bytes)),
+        BinaryOperator::Add => Some(one.wrapping_add(other)),
+        BinaryOperator::Subtract => Some(one.wrapping_sub(other)),
+        BinaryOperator::Multiply => Some(one.wrapping_mul(other)),
+        BinaryOperator::And => Some(one & other),
+        BinaryOperator::Or => Some(one | other),
+        BinaryOperator::ExclusiveOr => Some(one ^ other),
         BinaryOperator::Equal => Some(truth(one == other)),
         BinaryOperator::NotEqual => Some(truth(one != other)),
         BinaryOperator::Less => Some(truth(one < other)),
@@ -70,6 +71,11 @@ fn joined(operator: BinaryOperator, left: Constant, right: Constant) -> Option<C
         BinaryOperator::GreaterEqual => Some(truth(one >= other)),
         BinaryOperator::Divide | BinaryOperator::Modulo => None,
     }
+}
+
+fn joined(operator: BinaryOperator, left: Constant, right: Constant) -> Option<Constant> {
+    let value = outcome(operator, left.value, right.value)?;
+    Some(cut(value, result_type(operator, left.scalar, right.scalar)))
 }
 
 /// The value of an expression, where it is made of constants.

@@ -1,9 +1,10 @@
 //! Subscripts that one side of AND or OR reads and another one tests: all sides are evaluated.
 
-use crate::explaining::number_expressions::is_relation;
+use crate::explaining::references::{reference_of, variable_of};
 use crate::explaining::studied::number_at;
-use plm_decl::{Binding, Expression, Form, Names, Operation, Reference, ScalarType, Selector};
+use plm_decl::{Expression, Form, Names, Operation, Reference, ScalarType, Selector};
 use plm_syntax::BinaryOperator;
+use plm_type::is_relation;
 use std::alloc::{AllocError, Global};
 
 /// How many values a BYTE has.
@@ -48,13 +49,9 @@ fn is_plain(reference: &Reference) -> bool {
 
 /// The variable that an expression is, without a subscript and a member.
 fn plain_variable(e: &Expression) -> Option<usize> {
-    let Expression::Reference(reference) = e else {
-        return None;
-    };
-    match reference.binding {
-        Binding::Variable(number) => is_plain(reference).then_some(number),
-        Binding::Procedure(_) | Binding::Builtin(_) | Binding::Nothing => None,
-    }
+    let reference = reference_of(e)?;
+    let number = variable_of(reference.binding)?;
+    is_plain(reference).then_some(number)
 }
 
 fn is_byte(names: &Names, number: usize) -> bool {
@@ -74,14 +71,10 @@ fn has_bytes(names: &Names, array: usize) -> bool {
 
 /// The variable that a subscript of this reference is, where it may be no element's number.
 fn subscript_of(reference: &Reference, names: &Names) -> Option<usize> {
-    match reference.binding {
-        Binding::Variable(array) => {
-            let subscript = plain_variable(reference.subscripts.first()?)?;
-            let is_element = is_byte(names, subscript) && has_bytes(names, array);
-            (!is_element).then_some(subscript)
-        }
-        Binding::Procedure(_) | Binding::Builtin(_) | Binding::Nothing => None,
-    }
+    let array = variable_of(reference.binding)?;
+    let subscript = plain_variable(reference.subscripts.first()?)?;
+    let is_element = is_byte(names, subscript) && has_bytes(names, array);
+    (!is_element).then_some(subscript)
 }
 
 /// An array that is read, by the number of its token, with the variable that is its subscript.

@@ -1,7 +1,8 @@
 //! What is found in expressions and statements.
 
+use crate::explaining::references::variable_of;
 use crate::explaining::studied::number_at;
-use crate::explaining::value_types::{Typed, Types, is_integer, is_measure};
+use crate::explaining::value_types::{Typed, Types};
 use crate::linting::constants::{
     Constant, condition, constant_value, integer_value, may_be_selected, selected,
 };
@@ -13,6 +14,7 @@ use plm_decl::{
     Statement,
 };
 use plm_syntax::{BinaryOperator, Position};
+use plm_type::{is_integer, is_measure};
 use std::alloc::{AllocError, Global};
 
 /// Where findings are looked for: the names, and the module that statements are of.
@@ -105,7 +107,8 @@ fn value_beside(left: Option<ScalarType>, e: &Expression) -> Option<i64> {
 
 /// Whether a divisor is 0. Where numbers alone stand, they may be INTEGERs throughout: it is 0 as such, too.
 fn is_zero(left: Typed, divisor: &Expression) -> bool {
-    if left.numbers.are_all() && integer_value(divisor) != Some(0) {
+    let may_turn = left.numbers.turn(Some(ScalarType::Integer));
+    if may_turn && integer_value(divisor) != Some(0) {
         return false;
     }
     value_beside(left.scalar, divisor) == Some(0)
@@ -131,11 +134,10 @@ impl Walk<'_> {
 
     /// A constant subscript by which an access leaves the bytes of its name.
     fn access(&self, reference: &Reference, found: &mut Vec<Found>) -> Result<(), AllocError> {
-        let variable = match reference.binding {
-            Binding::Variable(number) => self.types.names.variables.get(number),
-            Binding::Procedure(_) | Binding::Builtin(_) | Binding::Nothing => None,
+        let Some(number) = variable_of(reference.binding) else {
+            return Ok(());
         };
-        let Some(variable) = variable else {
+        let Some(variable) = self.types.names.variables.get(number) else {
             return Ok(());
         };
         match outside(variable, reference) {

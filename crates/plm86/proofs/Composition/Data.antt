@@ -1,7 +1,8 @@
 -- What a ROM has for the initial bytes of objects: for each stretch of them at most as much as for a node of code, and the bytes themselves.
 use Rattle.std.proofs.Common.{◌≡◌, ℕ, zero, suc, ◌+◌, ◌-◌, ◌*◌, ◌<◌, ◌≤◌, ◌⊎◌, ◌&&◌, Bool, true, false, List, [], ◌∷◌, ◌++◌, length, map, inl, inr, ⊎_elim, true≢false, refl, sym, ap, ◌∙◌, subst, arith, append_assoc, length-append}
 use Rattle.std.specs.Prelude.{◌==◌, cond, if◌then◌else◌, nat_lt, nat_le, slice_index}
-use Rattle.std.proofs.lemmas.Bool.{cases_lt, cases_eq, and_parts, eqb-true, ne_eqb, ltb-true, lt-ltb, le-ltb, le-leb, lt-leb}
+use Rattle.std.proofs.lemmas.Bool.{cases_lt, cases_eq, and_parts, eqb-true, ne_eqb, ltb-true, lt-ltb, le-ltb, le-leb, lt-leb, and_right}
+use Rattle.std.proofs.Math.Seq.{get_or-append_seam}
 use Rattle.word86.specs.MemoryMap.{data_start}
 use Rattle.plm_decl.specs.declared.names.Datum.{Datum}
 use Rattle.plm_decl.specs.declared.names.Datum.TheVariants as datum
@@ -72,16 +73,12 @@ decided : (P : Bool → Type 0) (copies count : ℕ) → (copies < 840 → 5 ≤
 decided P copies count f g h =
     elim (cases_lt copies 840) [
       | inl few ↦ elim (cases_lt count 5) [
-        | inl small ↦ subst P (sym (off (nat_lt copies 840) (nat_le 5 count) (not_le small))) (g small)
+        | inl small ↦ subst P (sym (and_right (nat_lt copies 840) (nat_le 5 count) (not_le small))) (g small)
         | inr large ↦ subst P (sym (ap (λ b. b && nat_le 5 count) (lt-ltb copies 840 few) ∙ le-leb 5 count large)) (f few large)
       ]
       | inr many ↦ subst P (sym (ap (λ b. b && nat_le 5 count) (le-ltb copies 840 many))) (h many)
     ]
   where
-    off : (a b : Bool) → b ≡ false → (a && b) ≡ false
-    off true b e = e
-    off false b e = refl
-
     not_le : count < 5 → nat_le 5 count ≡ false
     not_le lt = lt-leb 5 count lt
 
@@ -111,16 +108,12 @@ module _ (offsets : List ℕ) where
   Lie k next [] = Unit {0}
   Lie k next (o ∷ os) = (slice_index offsets k ≡ next) × Lie (k + 1) (next + o.size) os
 
-  there : (before : List ℕ) (x : ℕ) (behind : List ℕ) → slice_index (before ++ x ∷ behind) (length before) ≡ x
-  there [] x behind = refl
-  there (b ∷ before) x behind = there before x behind
-
   all_lie : (before : List ℕ) (next : ℕ) (os : List Object) → offsets ≡ before ++ offsets_from next (map (λ o. o.size) os) → Lie (length before) next os
   all_lie before next [] e = tt
   all_lie before next (o ∷ os) e =
       let behind = offsets_from (next + o.size) (map (λ p. p.size) os) in
       let long : length (before ++ next ∷ []) ≡ length before + 1 = length-append before (next ∷ []) in (
-        ap (λ l. slice_index l (length before)) e ∙ there before next behind,
+        ap (λ l. slice_index l (length before)) e ∙ get_or-append_seam before next behind 0,
         subst (λ k. Lie k (next + o.size) os) long (all_lie (before ++ next ∷ []) (next + o.size) os (e ∙ sym (append_assoc before (next ∷ []) behind))),
       )
 

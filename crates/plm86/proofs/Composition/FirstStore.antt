@@ -15,7 +15,6 @@ use Rattle.plm_decl.specs.Placement.{IsPlacement, sizes_of}
 use Rattle.plm_meaning.specs.Opening.{object_at, objects_at, first_store}
 use Rattle.select.specs.declared.part.Part.{Part}
 use Rattle.layout_link.specs.declared.image.RomSize.{RomSize}
-use Rattle.layout_link.specs.declared.image.RomSize.TheVariants as sizes
 use Rattle.layout_link.specs.Image.{bytes_in}
 use Rattle.layout_link.specs.Tasks.{serving, is_unserved, vector_tasks}
 use Rattle.layout_link.specs.Initial.{object_bytes, HaveBytes, data_tasks}
@@ -26,19 +25,8 @@ use Rattle.plm86.proofs.Machine.Vectors.{rounds_set, rounds_beside}
 use Rattle.plm86.proofs.Composition.Acting.{done, done_append, vectors_beside, vectors_set}
 use Rattle.plm86.proofs.Composition.Storing.{AreApart, AreLow, AreInRom, objects_beside, objects_set}
 use Rattle.plm86.proofs.Composition.PowerOn.{in_ram, on_page, in_rom}
+use Rattle.plm86.proofs.Composition.Selected.{largest_rom, chosen_low}
 use Rattle.plm86.proofs.Composition.Opening.{size_at, size_past, object_is, object_past, object_long, object_first, object_rest}
-
--- a ROM has at most 64 KiB
-rom_small : (size : RomSize) → bytes_in size ≤ 65536
-rom_small sizes.Kib8 = omega arith
-rom_small sizes.Kib16 = omega arith
-rom_small sizes.Kib32 = omega arith
-rom_small sizes.Kib64 = omega arith
-
--- the place that is chosen is a word
-chosen_small : (places : List ℕ) (o : Option ℕ) (d : ℕ) → ((part : ℕ) → slice_index places part < 65536) → d < 65536 → option_map_or (λ p. slice_index places p) o d < 65536
-chosen_small places None d all small = small
-chosen_small places (Some p) d all small = all p
 
 -- the address of no initial byte of an object
 abbrev pub IsNoInitial : Names → (a : ℕ) → Type 0
@@ -132,7 +120,7 @@ module _ (names : Names) (parts : List Part) (size : RomSize) (rom ram : List �
     are_in_rom : AreInRom places (initial_at names parts size) 0 0 (stretches_in names) served
     are_in_rom j lt =
         let place = initial_at names parts size + j in
-        let small = rom_small size in
+        let small = largest_rom size in
         let here : code_start + (initial_at names parts size + 0 + j) ≡ code_start + place = omega arith in
         ap served here ∙ above (code_start + place) (omega arith)
         ∙ in_rom rom ram screen ram_long whole place (omega (arith, lt, fits, small)) (omega (arith, rom_long, small)) (omega (arith, rom_long, small))
@@ -245,9 +233,9 @@ pub first_store_stands : {P : Type 0} (x : Assembly) (names : Names) (parts : Li
 first_store_stands x names parts size rom ram screen chips ram_long whole rom_long fits stands have fit is entries within placed sized =
     let left = after_acts (acts_in names parts size) (with_vectors (place_of names parts size is_unserved) 0 256 (power_on_memory rom ram screen)) in
     let places = places_in names parts size in
-    let unserved_small = chosen_small places (position (λ p. is_unserved p.entry) parts) 0 within (omega arith) in (
+    let unserved_small = chosen_low places within (position (λ p. is_unserved p.entry) parts) 0 (omega arith) in (
       record {
-        entries = λ n lt. let e = entries n in let small = chosen_small places (serving parts n) (place_of names parts size is_unserved) within unserved_small in omega (arith, e, small);
+        entries = λ n lt. let e = entries n in let small = chosen_low places within (serving parts n) (place_of names parts size is_unserved) unserved_small in omega (arith, e, small);
         vectors = λ n lt. let v = vector_is names parts size rom ram screen ram_long n lt in let e = entries n in
             (v.0 ∙ ap (λ z. z % 256) (sym e), v.1 ∙ ap (λ z. z / 256) (sym e), v.2, v.3);
         bytes = λ k i lt. ap (λ z. left (data_start + (z + i))) (placed k) ∙ all_bytes names parts size rom ram screen ram_long whole rom_long fits stands have fit is k i lt;

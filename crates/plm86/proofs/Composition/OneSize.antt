@@ -1,5 +1,5 @@
 -- A program has one size, whatever code it was lowered to and whatever parts were selected.
-use Rattle.std.proofs.Common.{◌≡◌, ℕ, zero, suc, ◌+◌, cond, nat_eq, List, [], ◌∷◌, ◌++◌, length, map, option_map, Option, Some, None, slice_get, refl, sym, ap, ap₂, ◌∙◌, subst, arith, length-append}
+use Rattle.std.proofs.Common.{◌≡◌, ℕ, zero, suc, ◌+◌, cond, nat_eq, List, [], ◌∷◌, ◌++◌, length, map, option_map, Option, Some, None, slice_get, refl, sym, ap, ap₂, ◌∙◌, subst, arith}
 use Rattle.std.specs.Prelude.{position}
 use Rattle.std.proofs.Math.Path.{fun_ext}
 use Rattle.std.proofs.lemmas.List.{ext_get_or}
@@ -18,7 +18,7 @@ use Rattle.select.specs.declared.part.Entry.TheVariants as entries
 use Rattle.select.specs.declared.part.Fixup.{Fixup}
 use Rattle.select.specs.declared.part.Part.{Part}
 use Rattle.select.specs.declared.part.Step.{Step}
-use Rattle.select.specs.Parts.{AreSpelt, IsPart}
+use Rattle.select.specs.Parts.{IsPart}
 use Rattle.select.specs.Rows.{routine}
 use Rattle.select.specs.Selection.{procedures_in, is_procedure, part_in, vector_in, section, sections_before, routines, part_of, entry_for, entry_of, AreSavedBy, ArePartsOf, AreParts}
 use Rattle.select.specs.Sizes.{start}
@@ -29,18 +29,10 @@ use Rattle.layout_link.specs.Places.{total_of}
 use Rattle.layout_link.specs.Tasks.{start_up_bytes, vector_task, vector_tasks, is_serving}
 use Rattle.layout_link.specs.Tasks as tasks
 use Rattle.plm86.proofs.Composition.Entries.{parts_position}
+use Rattle.plm86.proofs.Composition.Standing.{spelt_end}
 use Rattle.plm86.proofs.Composition.OneStack.{one_changed, same_code, vector_at, handler_too}
 
 -- ---- parts of the same steps
-
-spelt_long : (own : ℕ) (at : ℕ → ℕ) (k : ℕ) (xs : List Step) (bytes : List ℕ) (fixups : List Fixup) → AreSpelt own at k xs bytes fixups → at (k + length xs) ≡ at k + length bytes
-spelt_long own at k [] bytes fixups h = let e : k + 0 ≡ k = omega arith in let p = ap at e in let q = ap length h.0 in omega (arith, p, q)
-spelt_long own at k (x ∷ xs) bytes fixups (b, bs, f, fs, bytes_are, fixups_are, ends, spelt, rest) =
-    let e : k + suc (length xs) ≡ suc k + length xs = omega arith in
-    let p = ap at e in
-    let r = spelt_long own at (suc k) xs bs fs rest in
-    let q = ap length bytes_are ∙ length-append b bs in
-    omega (arith, p, q, r, ends)
 
 module _ (own : ℕ) (steps : List Step) (bytes others : List ℕ) (fixups more : List Fixup) (x : IsPart own steps bytes fixups) (y : IsPart own steps others more) where
   same_sizes : x.sizes ≡ y.sizes
@@ -50,8 +42,8 @@ module _ (own : ℕ) (steps : List Step) (bytes others : List ℕ) (fixups more 
 
   same_long : length bytes ≡ length others
   same_long =
-      let a = spelt_long own (start x.sizes) 0 steps bytes fixups x.spelt in
-      let b = spelt_long own (start y.sizes) 0 steps others more y.spelt in
+      let a = spelt_end own (start x.sizes) 0 steps bytes fixups x.spelt in
+      let b = spelt_end own (start y.sizes) 0 steps others more y.spelt in
       let same = ap (λ sizes. start sizes (0 + length steps)) same_sizes in
       omega (arith, a, b, same)
 

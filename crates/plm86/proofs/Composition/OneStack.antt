@@ -1,7 +1,8 @@
 -- A program has one counted stack, whatever code it was lowered to.
-use Rattle.std.proofs.Common.{◌≡◌, ℕ, ◌≤◌, Bool, true, false, ◌||◌, List, option_map, Option, Some, None, slice_get, refl, sym, ap, ◌∙◌, subst, arith}
+use Rattle.std.proofs.Common.{◌≡◌, ℕ, ◌≤◌, List, option_map, Option, Some, None, slice_get, sym, ap, ◌∙◌, subst, arith}
 use Rattle.std.proofs.Math.Path.{fun_ext}
 use Rattle.std.proofs.lemmas.Option.{slice_get-map, same_Some}
+use Rattle.std.proofs.Math.Bool.{or_comm}
 use Rattle.plm_decl.specs.declared.names.Names.{Names}
 use Rattle.icode.specs.declared.instruction.Instruction.{Instruction}
 use Rattle.icode.specs.declared.code.Procedure as declared
@@ -32,14 +33,8 @@ same x y a b c d e =
     ∙ ap (λ v. record y { address = v; frame = x.frame }) d
     ∙ ap (λ v. record y { frame = v }) e
 
-or_other : (a b : Bool) → (a || b) ≡ (b || a)
-or_other true true = refl
-or_other true false = refl
-or_other false true = refl
-or_other false false = refl
-
 joined_other : (x y : Registers) → joined x y ≡ joined y x
-joined_other x y = same (joined x y) (joined y x) (or_other x.accumulator y.accumulator) (or_other x.right y.right) (or_other x.high y.high) (or_other x.address y.address) (or_other x.frame y.frame)
+joined_other x y = same (joined x y) (joined y x) (or_comm x.accumulator y.accumulator) (or_comm x.right y.right) (or_comm x.high y.high) (or_comm x.address y.address) (or_comm x.frame y.frame)
 
 pub one_changed : (code : Routine → List Instruction) (r : Routine) (g h : Registers) → IsChanged code r g → IsChanged code r h → g ≡ h
 one_changed code r g h d e = sym (e.least g d.all) ∙ joined_other g h ∙ d.least h e.all

@@ -44,7 +44,7 @@ use Rattle.plm86.proofs.Composition.Standing.{stands, steps_within}
 use Rattle.plm86.proofs.Composition.Entries.{parts_position, main_entry, last_entry, first_serves, served_entry, unserved_entry}
 
 -- no ROM is larger than a segment
-largest_rom : (size : RomSize) → bytes_in size ≤ 65536
+pub largest_rom : (size : RomSize) → bytes_in size ≤ 65536
 largest_rom kib.Kib8 = omega arith
 largest_rom kib.Kib16 = omega arith
 largest_rom kib.Kib32 = omega arith
@@ -56,7 +56,7 @@ all_absent f fails [] = tt
 all_absent f fails (r ∷ rs) = (fails r, all_absent f fails rs)
 
 -- places of parts are low, so is what is chosen of them
-chosen_low : (ps : List ℕ) → ((k : ℕ) → slice_index ps k < 65536) → (o : Option ℕ) (other : ℕ) → other < 65536 → option_map_or (λ k. slice_index ps k) o other < 65536
+pub chosen_low : (ps : List ℕ) → ((k : ℕ) → slice_index ps k < 65536) → (o : Option ℕ) (other : ℕ) → other < 65536 → option_map_or (λ k. slice_index ps k) o other < 65536
 chosen_low ps low (Some k) other h = low k
 chosen_low ps low None other h = h
 

@@ -56,7 +56,7 @@ module _ (c : Code) (saves : Routine → Registers) where
 -- ---- no step begins past the end of its part
 
 -- the bytes of steps end where the last of them ends
-spelt_end : (own : ℕ) (at : ℕ → ℕ) (k : ℕ) (steps : List Step) (bytes : List ℕ) (fixups : List Fixup) → AreSpelt own at k steps bytes fixups → at (k + length steps) ≡ at k + length bytes
+pub spelt_end : (own : ℕ) (at : ℕ → ℕ) (k : ℕ) (steps : List Step) (bytes : List ℕ) (fixups : List Fixup) → AreSpelt own at k steps bytes fixups → at (k + length steps) ≡ at k + length bytes
 spelt_end own at k [] bytes fixups s = let e : k + 0 ≡ k = omega arith in omega (arith, ap at e, ap length s.0)
 spelt_end own at k (x ∷ xs) bytes fixups s =
     let more : suc k + length xs ≡ k + length (x ∷ xs) = omega arith in

@@ -1,17 +1,13 @@
 -- Initial bytes that are joined with the stretches behind them.
 use Rattle.std.proofs.Common.{◌≡◌, ℕ, ◌+◌, Bool, true, false, List, [], ◌∷◌, ◌++◌, length, refl, sym, ap, ◌∙◌, arith, append_assoc, length-append}
 use Rattle.std.specs.Prelude.{◌==◌, if◌then◌else◌}
-use Rattle.std.proofs.lemmas.Bool.{eqb-true, eqb-false, eq-eqb, ne_eqb}
+use Rattle.std.proofs.lemmas.Bool.{eqb-true, eqb-false, eq-eqb, ne_eqb, cond_both}
 use Rattle.layout_link.specs.Initial.{Stretch, stretch, joined}
-
-either_way : (P : List Stretch → Type 0) (t : Bool) (one two : List Stretch) → (t ≡ true → P one) → P two → P (if t then one else two)
-either_way P true one two f g = f refl
-either_way P false one two f g = g
 
 -- the first stretch goes on with them where it begins at their end
 pub by_joined : (P : List Stretch → Type 0) (a : ℕ) (xs : List ℕ) (b : ℕ) (ys : List ℕ) (rest : List Stretch)
     → (b ≡ a + length xs → P (stretch a (xs ++ ys) ∷ rest)) → P (stretch a xs ∷ stretch b ys ∷ rest) → P (joined a xs (stretch b ys ∷ rest))
-by_joined P a xs b ys rest f g = either_way P (b == a + length xs) (stretch a (xs ++ ys) ∷ rest) (stretch a xs ∷ stretch b ys ∷ rest) (λ e. f (eqb-true b (a + length xs) e)) g
+by_joined P a xs b ys rest f g = cond_both (b == a + length xs) (stretch a (xs ++ ys) ∷ rest) (stretch a xs ∷ stretch b ys ∷ rest) P (λ e. f (eqb-true b (a + length xs) e)) (λ e. g)
 
 joined_there : (a : ℕ) (xs : List ℕ) (b : ℕ) (ys : List ℕ) (rest : List Stretch) → b ≡ a + length xs → joined a xs (stretch b ys ∷ rest) ≡ stretch a (xs ++ ys) ∷ rest
 joined_there a xs b ys rest e = ap (λ t. if t then stretch a (xs ++ ys) ∷ rest else stretch a xs ∷ stretch b ys ∷ rest) (eq-eqb b (a + length xs) e)

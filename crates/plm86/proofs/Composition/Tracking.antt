@@ -4,17 +4,16 @@ use Rattle.word86.specs.Access.{Access, answers}
 use Rattle.word86.specs.Following.{Tracks}
 use Rattle.plm_decl.specs.declared.names.Names.{Names}
 use Rattle.plm_decl.specs.Placement.{IsPlacement, sizes_of}
-use Rattle.plm_type.specs.Rest.{Rest, Handler}
+use Rattle.plm_type.specs.Rest.{Rest}
 use Rattle.plm_type.specs.Next.{next}
-use Rattle.plm_type.specs.Programs.{main_tree, procedures_of, main_rest, handler_rest}
+use Rattle.plm_type.specs.Programs.{main_tree, procedures_of, handler_number, main_rest, handler_rest}
 use Rattle.i86_table.specs.Contexts.{Working}
 use Rattle.icode.specs.declared.code.Routine.{Routine}
 use Rattle.icode.specs.declared.code.Routine.TheVariants.{Main}
 use Rattle.icode.specs.declared.code.Code.{Code}
 use Rattle.icode.specs.Machine.{At, does}
 use Rattle.icode.specs.Machine as machine
-use Rattle.lower.specs.Lowering.{number_for, vectors_of, program_code, IsLowered, EntryLaw}
-use Rattle.plm_type.specs.Programs.{body_for}
+use Rattle.lower.specs.Lowering.{vectors_of, program_code, IsLowered, EntryLaw}
 use Rattle.lower.specs.Runs.{runs_in, entered}
 use Rattle.lower.specs.Tracking.{LoweringTracks}
 use Rattle.select.specs.Promise.{Image, next_of, accumulator_of, Followed}
@@ -43,10 +42,8 @@ module _ (names : Names) (c : Code) (x : Image) (is : IsImageOf names c x) (lowe
 
   vector_tracks : (n v a : ℕ) → CodeFrom n a (handler_rest names v) (x.serving v)
   vector_tracks n v a =
-      let body = body_for (procedures_of names) (number_for (vectors_of names) v) in
-      let there : CodeFrom n a (Handler body) (entered names v) = in_image n a (Handler body) (entered names v) ((tracking.1 x.offsets placement n a).1 v) in
-      subst (λ tree. CodeFrom n a (Handler tree) (x.serving v)) (sym (enters names v).meant)
-      (subst (λ r. CodeFrom n a (Handler body) r) (sym (entered_is names c x is lowered enters v)) there)
+      let there : CodeFrom n a (handler_rest names v) (entered names v) = in_image n a (handler_rest names v) (entered names v) ((tracking.1 x.offsets placement n a).1 (handler_number names v) (enters names v).meant) in
+      subst (λ r. CodeFrom n a (handler_rest names v) r) (sym (entered_is names c x is lowered enters v)) there
 
   pub rests_are_tracked : IsLoweredTo names x (most_of names tracking)
   rests_are_tracked =

@@ -1,5 +1,6 @@
 -- What the board has of the program's store: by address in the relation, by the bytes of RAM and of the pages in the headline.
-use Rattle.std.proofs.Common.{◌≡◌, ℕ, suc, ◌+◌, ◌<◌, List, [], ◌∷◌, length, refl, sym, ap, ◌∙◌, subst, arith, ap₂}
+use Rattle.std.proofs.Common.{◌≡◌, ℕ, ◌+◌, ◌<◌, List, sym, ap, ◌∙◌, subst, arith, ap₂}
+use Rattle.std.proofs.lemmas.List.{ext_get_or}
 use Rattle.std.specs.Prelude.{slice_index}
 use Rattle.word86.specs.MemoryMap.{data_start}
 use Rattle.word86.specs.declared.page.Page.{Page}
@@ -13,13 +14,6 @@ use Rattle.plm86.specs.Laws.{Assembly}
 use Rattle.plm86.specs.Relation.{Fine, Placed}
 use Rattle.plm86.proofs.Machine.Memory.{page_whole}
 use Rattle.plm86.proofs.Composition.PowerOn.{in_ram, on_page}
-
--- bytes alike one by one
-same_bytes : (xs ys : List ℕ) → length xs ≡ length ys → ((i : ℕ) → i < length xs → slice_index xs i ≡ slice_index ys i) → xs ≡ ys
-same_bytes [] [] e h = refl
-same_bytes [] (y ∷ ys) e h = absurd (omega (arith, e))
-same_bytes (x ∷ xs) [] e h = absurd (omega (arith, e))
-same_bytes (x ∷ xs) (y ∷ ys) e h = ap₂ (λ v vs. v ∷ vs) (h 0 (omega arith)) (same_bytes xs ys (omega (arith, e)) (λ i lt. h (suc i) (omega (arith, lt))))
 
 -- pages alike one by one
 same_pages : (a b : Pages) → ((page : Page) → page_of page a ≡ page_of page b) → a ≡ b
@@ -35,7 +29,7 @@ has_store c x is_placed s w fine = record {
       ∙ fine.holds.bytes k i (subst (λ n. i < n) (sym (fine.sizes k)) lt);
   screen = same_pages w.screen s.screen (λ page.
       let long = page_whole page w.screen fine.whole.screen in
-      same_bytes (page_of page w.screen) (page_of page s.screen) (long ∙ sym (page_whole page s.screen fine.screen_size)) (λ i lt.
+      ext_get_or 0 (page_of page w.screen) (page_of page s.screen) (long ∙ sym (page_whole page s.screen fine.screen_size)) (λ i lt.
       let low : i < page_size = omega (arith, lt, long) in
       sym (on_page w.rom w.ram w.screen fine.whole.ram fine.whole.screen page i low) ∙ fine.holds.screen page i low));
   chips = fine.chips_are;

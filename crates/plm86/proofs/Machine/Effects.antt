@@ -1,7 +1,7 @@
 -- Each instruction does to the processor what it does to its context.
 use Rattle.std.proofs.Common.{◌≡◌, ℕ, ◌+◌, ◌-◌, ◌*◌, ◌/◌, ◌%◌, ◌<◌, ◌≤◌, ◌==◌, Bool, true, false, List, [], ◌∷◌, ◌++◌, length, drop, Option, Some, None, refl, sym, ap, ◌∙◌, subst, arith, ap₂, true≢false, eqb-true}
 use Rattle.std.specs.Prelude.{◌&&◌, not, nat_lt, nat_le, if◌then◌else◌}
-use Rattle.std.proofs.lemmas.Bool.{ltb-true, leb-true, leb-false, and_parts}
+use Rattle.std.proofs.lemmas.Bool.{ltb-true, leb-true, leb-false, and_parts, not-false}
 use Rattle.word86.specs.MemoryMap.{data_segment, code_segment, data_start, data_end, stack_top, stack_room}
 use Rattle.word86.specs.declared.width.Width.{Width}
 use Rattle.word86.specs.declared.width.Width.TheVariants as widths
@@ -674,11 +674,7 @@ module _ {W P : Type 0} (m : BusModel W) (c : Chips P) (chips : W → P) (Whole 
 
       -- a comparison of memory with a value
       compared_to : (f : AluOperation) (b : Bool) → not (is_comparison f) ≡ b → b ≡ false → (x y : Machine W) → (if is_comparison f then x else y) ≡ x
-      compared_to f b e off x y = ap (λ t. if t then x else y) (is_true (is_comparison f) (e ∙ off))
-        where
-          is_true : (t : Bool) → not t ≡ false → t ≡ true
-          is_true true h = refl
-          is_true false h = sym h
+      compared_to f b e off x y = ap (λ t. if t then x else y) (not-false (is_comparison f) (e ∙ off))
 
       compare_word : (start : ℕ) (f : AluOperation) (t : Memory) (r : Register16) → Fits (i.AluWord f (FromRegister (places.Memory t) r)) start
       unfolding effect computed

@@ -369,14 +369,10 @@ module _ {W P : Type 0} (m : BusModel W) (c : Chips P) (chips : W → P) (Whole 
   takes_is : (g : Working) (w : W) (s : Store P) (on : Bool) → F s w → FlagsAre on g.flags → (has g.flags 512 && m.int_line w) ≡ (on && c.int_line s.chips)
   takes_is g w s on fine flags = ap₂ (λ x y. x && y) flags.on_is (laws.int_line w ∙ ap c.int_line fine.chips_are)
 
-  on_if_taken : (on line : Bool) → (on && line) ≡ true → on ≡ true
-  on_if_taken true line e = refl
-  on_if_taken false line e = e
-
   single_goes : (b h : Bool) (p : ℕ) (hp : p < 65536) (g : Working) (st : List ℕ) (sp : ℕ) (w : W) (on : Bool) (s : Store P) → (on && (c.int_line s.chips)) ≡ b → Stack m w sp st [] main → F s w → FlagsAre on g.flags → Lifted (alone Sh Context off beg b (Own p g st false None) on h s) (goes m occurs (at_place p g sp w (waits_if h)))
   single_goes true h p hp g st sp w on s e stack fine flags =
       subst (λ o. Lifted (Some (Serving (Own p g st false None) (beg (c.vector s.chips) (Own p g st false None)) (with_chips (c.acknowledge s.chips) s), labels.Ack (c.vector s.chips) ∷ [])) o) (sym (going_to_ack p g sp w h (takes_is g w s on fine flags ∙ e)))
-      (ack_goes p hp g st sp w s h stack fine (subst (λ x. FlagsAre x g.flags) (on_if_taken on (c.int_line s.chips) e) flags))
+      (ack_goes p hp g st sp w s h stack fine (subst (λ x. FlagsAre x g.flags) (and_parts on (c.int_line s.chips) e).0 flags))
   single_goes false true p hp g st sp w on s e stack fine flags =
       subst (λ o. Lifted (Some (Alone (Own p g st false None) on true s, [])) o) (sym (waiting p g sp w (takes_is g w s on fine flags ∙ e)))
       (refl, record { pair = Single p g st on true s; is = refl; fits = record { sp = sp; is = refl; stack = stack; fine = fine; flags = flags; low = hp } })

@@ -11,6 +11,7 @@ use Rattle.word86.specs.declared.page.Page.TheVariants.{Monochrome, Colour}
 use Rattle.i86_table.specs.declared.registers.Regs.{Regs}
 use Rattle.i86_code.specs.Decoding.{decoded}
 use Rattle.std.proofs.Common.{append-nil, length-append, ⊎_elim, drop, zero, subst, eqb-true}
+use Rattle.std.proofs.Math.Bool.{and-false}
 use Rattle.cpu8086.specs.BusModel.{BusModel}
 use Rattle.cpu8086.specs.BusLaws.{stored}
 use Rattle.word86.specs.declared.width.Width.TheVariants as widths
@@ -79,11 +80,7 @@ lit : (page : Page) (a : ℕ) → page_at page ≤ a → a < page_at page + page
 lit page a le lt = and_from (nat_le (page_at page) a) (nat_lt a (page_at page + page_size)) (le-leb (page_at page) a le) (lt-ltb a (page_at page + page_size) lt)
 
 past : (page : Page) (a : ℕ) → page_at page + page_size ≤ a → is_on page a ≡ false
-past page a le = ap (λ b. nat_le (page_at page) a && b) (le-ltb a (page_at page + page_size) le) ∙ last (nat_le (page_at page) a)
-  where
-    last : (t : Bool) → (t && false) ≡ false
-    last true = refl
-    last false = refl
+past page a le = ap (λ b. nat_le (page_at page) a && b) (le-ltb a (page_at page + page_size) le) ∙ and-false (nat_le (page_at page) a)
 
 abbrev some_at : Page → ℕ → Option (Page × ℕ)
 some_at page i = Some (page, i)

@@ -1,5 +1,6 @@
 -- Bytes in the ROM that spell an instruction are decoded at their place.
-use Rattle.std.proofs.Common.{◌≡◌, ℕ, zero, suc, ◌+◌, ◌-◌, ◌*◌, ◌/◌, ◌%◌, ◌<◌, ◌≤◌, List, [], ◌∷◌, ◌++◌, length, drop, Option, Some, refl, ap, ◌∙◌, arith, ap₂}
+use Rattle.std.proofs.Common.{◌≡◌, ℕ, zero, suc, ◌+◌, ◌-◌, ◌*◌, ◌/◌, ◌%◌, ◌<◌, ◌≤◌, List, ◌++◌, length, drop, Option, Some, refl, ap, ◌∙◌, arith, ap₂}
+use Rattle.std.proofs.lemmas.List.Prefix.{front_from_reads}
 use Rattle.std.specs.Prelude.{slice_index, if◌then◌else◌}
 use Rattle.word86.specs.MemoryMap.{ram_size, code_segment, code_start}
 use Rattle.word86.specs.declared.page.Page.TheVariants.{Monochrome, Colour}
@@ -15,11 +16,6 @@ use Rattle.board.specs.World.{World, Whole, board_model, region}
 use Rattle.plm86.specs.Relation.{Spelled, HasTables}
 use Rattle.layout_link.specs.Rom.{rom_byte, Written, CodeInRom, WordsInRom}
 use Rattle.plm86.proofs.Machine.Regions.{within_true, within_above}
-
-begins_with : (front l : List ℕ) → length front ≤ length l → ((k : ℕ) → k < length front → slice_index l k ≡ slice_index front k) → l ≡ front ++ drop (length front) l
-begins_with [] l h e = refl
-begins_with (b ∷ front) [] h e = absurd (omega (arith, h))
-begins_with (b ∷ front) (d ∷ l) h e = ap₂ (λ x y. x ∷ y) (e 0 (omega arith)) (begins_with front l (omega (arith, h)) (λ k lt. e (suc k) (omega (arith, lt))))
 
 module _ {P : Type 0} (c : Chips P) (rom : List ℕ) (w : World P) (whole : Whole rom w) where
   -- a byte of the ROM
@@ -63,7 +59,7 @@ module _ {P : Type 0} (c : Chips P) (rom : List ℕ) (w : World P) (whole : Whol
   decoded_here only short place bytes instruction size lt spells at =
       let few = short bytes instruction spells in
       let all = fetched (board_model c) w code_segment place in
-      let front : all ≡ bytes ++ drop (length bytes) all = begins_with bytes all (omega (arith, few, eight place)) (λ k h.
+      let front : all ≡ bytes ++ drop (length bytes) all = front_from_reads 0 all bytes (omega (arith, few, eight place)) (λ k h.
       let here : (place + k) % 65536 ≡ place + k = omega (arith, h, at.fits) in
       fetched_at place k (omega (arith, h, few)) lt ∙ ap (loaded_byte (board_model c) w code_segment) here
       ∙ loaded_place (place + k) size (omega (arith, at.inside)) (omega (arith, h, at.fits)) ∙ at.bytes_are k h) in

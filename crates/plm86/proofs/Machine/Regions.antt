@@ -1,7 +1,8 @@
 -- What the lift asks of the board's memory.
-use Rattle.std.specs.Prelude.{ℕ, Bool, true, false, ◌≡◌, ◌+◌, ◌<◌, ◌≤◌, ◌&&◌, ◌||◌, nat_lt, nat_le, List, length, refl}
+use Rattle.std.specs.Prelude.{ℕ, true, false, ◌≡◌, ◌+◌, ◌<◌, ◌≤◌, ◌&&◌, ◌||◌, nat_lt, nat_le, List, length, refl}
 use Rattle.std.proofs.Common.{◌∙◌, ap, arith}
 use Rattle.std.proofs.lemmas.Bool.{lt-ltb, le-leb, le-ltb}
+use Rattle.std.proofs.Math.Bool.{and-false, or-true}
 use Rattle.word86.specs.MemoryMap.{ram_size, code_start}
 use Rattle.word86.specs.declared.page.Page.TheVariants.{Monochrome, Colour}
 use Rattle.word86.specs.declared.page.Page.{Page}
@@ -14,15 +15,7 @@ pub within_true : (base : ℕ) (l : List ℕ) (a n : ℕ) → length l ≡ n →
 within_true base l a n e le lt = ap (λ t. t && nat_lt a (base + length l)) (le-leb base a le) ∙ lt-ltb a (base + length l) (omega (arith, e, lt))
 
 pub within_above : (base : ℕ) (l : List ℕ) (a n : ℕ) → length l ≡ n → base + n ≤ a → lies_in base l a ≡ false
-within_above base l a n e le = ap (λ t. nat_le base a && t) (le-ltb a (base + length l) (omega (arith, e, le))) ∙ last (nat_le base a)
-  where
-    last : (t : Bool) → (t && false) ≡ false
-    last true = refl
-    last false = refl
-
-right : (t : Bool) → (t || true) ≡ true
-right true = refl
-right false = refl
+within_above base l a n e le = ap (λ t. nat_le base a && t) (le-ltb a (base + length l) (omega (arith, e, le))) ∙ and-false (nat_le base a)
 
 -- RAM and the pages keep what is stored, and nothing above them does
 ram_keeps : (ram : List ℕ) (screen : Pages) → length ram ≡ ram_size → (a : ℕ) → a < ram_size → is_kept ram screen a ≡ true
@@ -30,10 +23,10 @@ ram_keeps ram screen e a lt = ap (λ b. b || (lies_in (page_at Monochrome) scree
 
 page_keeps : (ram : List ℕ) (screen : Pages) → AreWhole screen → (page : Page) (a : ℕ) → page_at page ≤ a → a < page_at page + page_size → is_kept ram screen a ≡ true
 page_keeps ram screen t Monochrome a le lt =
-    ap (λ b. lies_in 0 ram a || (b || lies_in (page_at Colour) screen.colour a)) (within_true (page_at Monochrome) screen.monochrome a page_size t.monochrome le lt) ∙ right (lies_in 0 ram a)
+    ap (λ b. lies_in 0 ram a || (b || lies_in (page_at Colour) screen.colour a)) (within_true (page_at Monochrome) screen.monochrome a page_size t.monochrome le lt) ∙ or-true (lies_in 0 ram a)
 page_keeps ram screen t Colour a le lt =
     ap (λ b. lies_in 0 ram a || (lies_in (page_at Monochrome) screen.monochrome a || b)) (within_true (page_at Colour) screen.colour a page_size t.colour le lt)
-    ∙ ap (λ b. lies_in 0 ram a || b) (right (lies_in (page_at Monochrome) screen.monochrome a)) ∙ right (lies_in 0 ram a)
+    ∙ ap (λ b. lies_in 0 ram a || b) (or-true (lies_in (page_at Monochrome) screen.monochrome a)) ∙ or-true (lies_in 0 ram a)
 
 none_keeps : (ram : List ℕ) (screen : Pages) → length ram ≡ ram_size → AreWhole screen → (a : ℕ) → code_start ≤ a → is_kept ram screen a ≡ false
 none_keeps ram screen e t a le =

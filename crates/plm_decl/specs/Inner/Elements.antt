@@ -12,7 +12,8 @@ use Rattle.plm_decl.specs.declared.names.Item.TheVariants as item
 use Rattle.plm_decl.specs.Scope.{Frame, with_name, is_fresh}
 use Rattle.plm_decl.specs.Resolver.{Known, note_unless}
 use Rattle.plm_decl.specs.Shape.{size_of_shape}
-use Rattle.plm_decl.specs.Elements.{linked, with_variable, variable_in, declared_variable, declared_variables}
+use Rattle.plm_decl.specs.Linkage.{linked}
+use Rattle.plm_decl.specs.Elements.{with_variable, variable_in, declared_variable, declared_variables}
 use Rattle.plm_decl.specs.Sites.{site_after}
 
 -- a name, given in normal form, is joined with those of other modules and declared at this place

@@ -1,4 +1,4 @@
--- What stands before the body of an iterative DO block, and an IF with ELSE.
+-- What stands before the body of a DO with an index, and an IF with ELSE.
 use Rattle.std.specs.Prelude.{List, Option}
 use Rattle.plm_syntax.specs.Tree.{ExpressionT}
 use Rattle.plm_decl.specs.declared.resolved.Binding.{Binding}
@@ -13,7 +13,7 @@ use Rattle.plm_syntax.specs.Terminal.{NameT}
 use Rattle.plm_decl.specs.Resolver.{Known}
 use Rattle.plm_decl.specs.Statements.{step_for}
 
--- ---- iterative DO
+-- ---- DO with an index
 
 pub record BoundsR : Type 0 where
   pub binding : Binding

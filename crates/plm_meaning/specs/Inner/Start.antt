@@ -1,12 +1,14 @@
 -- How often what comes first of an expression is itself an expression of which a part comes first.
 use Rattle.std.specs.Prelude.{ℕ, suc}
-use Rattle.plm_type.specs.Rest.{Expression, Variable, Location, Unary, Binary, Embedded, Input, Call, Expressions, NoMore, More, Reference, Refer, Subscripts, NoSubscripts, Subscript}
+use Rattle.plm_type.specs.Rest.{Expression, Constant, Plain, Variable, Location, Unary, Binary, Embedded, Input, Call, Value, Passing, Running, Expressions, NoMore, More, Reference, Refer, Subscripts, NoSubscripts, Subscript}
 use Rattle.plm_type.specs.View.{expression_of, expressions_of}
 use Rattle.plm_meaning.specs.declared.context.Start.{Start}
 use Rattle.plm_meaning.specs.declared.context.Start.TheVariants as start
 
 abbrev mutual
   pub depth : Expression → ℕ
+  depth (Constant k) = 0
+  depth (Plain width x) = 0
   depth (Variable width r) = reference_depth r
   depth (Location r) = reference_depth r
   depth (Unary o width e) = suc (depth e)
@@ -14,7 +16,9 @@ abbrev mutual
   depth (Embedded t e) = suc (depth e)
   depth (Input width e) = suc (depth e)
   depth (Call n es) = arguments_depth es
-  depth _ = 0
+  depth (Value v) = 0
+  depth (Passing p xs vs) = 0
+  depth (Running ss) = 0
 
   pub arguments_depth : Expressions → ℕ
   arguments_depth NoMore = 0

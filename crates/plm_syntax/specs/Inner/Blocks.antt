@@ -156,8 +156,8 @@ governed_goals l s = an_expression (need mark.Semicolon ∷ no_statement_yet ∷
 abbrev pub range_goals : List Symbol → List Symbol
 range_goals s = need mark.Equal ∷ an_expression (Need (Key key.To) ∷ an_expression (Do make_range ∷ push (StepR None) ∷ Want StepG ∷ need mark.Semicolon ∷ s))
 
-abbrev pub iteration_goals : Position → Option NameT → List Symbol → List Symbol
-iteration_goals p l s = range_goals (no_statement_yet ∷ Want (StatementsG l) ∷ Do (make_iterate p) ∷ s)
+abbrev pub iterate_goals : Position → Option NameT → List Symbol → List Symbol
+iterate_goals p l s = range_goals (no_statement_yet ∷ Want (StatementsG l) ∷ Do (make_iterate p) ∷ s)
 
 abbrev pub header_goals : List Symbol → List Symbol
 header_goals s = Want ParametersG ∷ Want ReturnedTypeG ∷ Want InterruptG ∷ Want LinkageG ∷ need mark.Semicolon ∷ s

@@ -21,7 +21,7 @@ use Rattle.plm_type.specs.declared.program.Subscript.{Subscript}
 use Rattle.plm_type.specs.declared.statements.TypedTargets as declared_targets
 use Rattle.plm_type.specs.declared.statements.Condition as declared_condition
 use Rattle.plm_type.specs.declared.statements.Range as declared_range
-use Rattle.plm_type.specs.declared.statements.Step as declared_step
+use Rattle.plm_type.specs.declared.steps.Step as declared_step
 use Rattle.plm_type.specs.declared.statements.Around.{Around}
 use Rattle.plm_type.specs.Rest as rest
 use Rattle.plm_type.specs.Typer.{Typed, TypedTarget, TypedTargets, TypedList, TypedStep, Parts, Noted}
@@ -100,7 +100,7 @@ noted tree faults = record { tree = tree; faults = faults }
 abbrev pub condition_of : declared_condition.Condition → rest.Statement
 condition_of c = rest.If (expression_of c.test) (statements_of c.then.items) rest.End
 
--- an iterative DO without a statement
+-- a DO with an index, without its statements
 abbrev pub range_of : declared_range.Range → rest.Statement
 range_of r = rest.Iterate (expression_of r.from) (rest.Count r.step.counting (scalar_of r.index) (expression_of r.bound) (expression_of r.step.tree) rest.End)
 
@@ -183,7 +183,7 @@ condition_by t around p e s = statements.conditional (number_by t p e) (statemen
 abbrev pub range_by : Typer → Position → Position → Bounds → Noted rest.Statement
 range_by t p q b =
     let scalar = variable_type (statements.variable_meant (variables t) b.binding) in
-    statements.iteration (index_by t p q b.binding) (bound_by t scalar p (resolved.expression_of b.from)) (bound_by t scalar p (resolved.expression_of b.to)) (step_by t scalar p (resolved.step_of b.step)) (noted rest.End [])
+    statements.iterate (index_by t p q b.binding) (bound_by t scalar p (resolved.expression_of b.from)) (bound_by t scalar p (resolved.expression_of b.to)) (step_by t scalar p (resolved.step_of b.step)) (noted rest.End [])
 
 abbrev pub one : Noted Statement → Noted Statements
 one s = record { tree = Then s.tree End; faults = s.faults }

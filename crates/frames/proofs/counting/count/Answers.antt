@@ -1,4 +1,4 @@
-use Rattle.std.proofs.Common.{◌≡◌, ◌*◌, ap, ◌∙◌, inr, refl, max}
+use Rattle.std.proofs.Common.{◌*◌, ap, ◌∙◌, inr, refl, max}
 use Rattle.frames.specs.Inner.Need.{need, need_at, largest_room}
 use Rattle.frames.proofs.Whole.{counted, no_run}
 use Rattle.frames.proofs.counting.count.Goals as goal

@@ -1,7 +1,5 @@
-use Rattle.std.proofs.Common.{◌≡◌, ◌≤◌, ℕ, List, length, Some, slice_get, arith, get_or, sym, ap, ◌∙◌}
+use Rattle.std.proofs.Common.{◌≡◌, length, Some, slice_get, arith, get_or, sym, ap, ◌∙◌}
 use Rattle.std.proofs.lemmas.Option.{slice_get-get_or}
-use Rattle.icode.specs.declared.instruction.Instruction.{Instruction}
-use Rattle.frames.specs.declared.need.Need.{Need}
 use Rattle.frames.specs.Inner.Need.{need, need_at}
 use Rattle.frames.proofs.Known.{next_all}
 use Rattle.frames.proofs.counting.needs_of.Goals as goal

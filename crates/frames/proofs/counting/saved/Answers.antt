@@ -1,4 +1,3 @@
-use Rattle.std.proofs.Common.{◌≡◌}
 use Rattle.frames.proofs.Whole.{saved_by}
 use Rattle.frames.proofs.counting.saved.Goals as goal
 

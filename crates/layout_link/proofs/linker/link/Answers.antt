@@ -1,7 +1,10 @@
-use Rattle.std.proofs.Common.{◌≡◌, ◌+◌, ◌<◌, ℕ, length, map, refl, ap, sym, subst, ◌∙◌, arith}
+use Rattle.std.proofs.Common.{◌≡◌, ◌+◌, ◌<◌, ℕ, length, map, refl, ap, sym, subst, ◌∙◌, arith, List, subst₂}
 use Rattle.std.specs.Prelude.{slice_index}
 use Rattle.std.proofs.Common.{get_or}
+use Rattle.std.proofs.Math.Path.{subst₃}
 use Rattle.plm_decl.specs.Placement.{IsPlacement, sizes_of}
+use Rattle.select.specs.declared.part.Part.{Part}
+use Rattle.layout_link.specs.declared.tasks.Task.{Task}
 use Rattle.layout_link.specs.Image.{base_of}
 use Rattle.layout_link.specs.Objects.{offsets_from}
 use Rattle.layout_link.specs.Places.{total_of, places_from}
@@ -10,11 +13,11 @@ use Rattle.layout_link.specs.Tasks.{placed, bytes_of_tasks, start_up_bytes, is_m
 use Rattle.layout_link.specs.Initial.{HaveBytes, stretches, copied_bytes}
 use Rattle.layout_link.specs.Rom.{rom_byte, rom_code, rom_words}
 use Rattle.layout_link.specs.Stand.{PartsStand}
-use Rattle.layout_link.specs.Linker.{offsets_in, initial_in, tasks_in, place_in, places_in}
+use Rattle.layout_link.specs.Linker.{offsets_in, tasks_in, place_in, places_in}
 use Rattle.layout_link.specs.Inner.Head.{TasksFit, turns_of_tasks}
 use Rattle.layout_link.proofs.Imaging.{base_and_size, place_below}
 use Rattle.layout_link.proofs.Fitting.{all_turns}
-use Rattle.layout_link.proofs.Linking.{along, offsets_are, vectors_are, tasks_are, room, placed_well, tasks_fit, turns_few}
+use Rattle.layout_link.proofs.Linking.{offsets_are, vectors_are, tasks_are, room, placed_well, tasks_fit, turns_few}
 use Rattle.layout_link.proofs.linker.link.Goals as goal
 
 pub initial-requires : goal.initial-requires
@@ -33,7 +36,7 @@ rom_with-requires c =
     let vectors = vectors_are parts c.deref-2.result.now c.in_ok-tasks.tasks.items c.deref-2.ensures.value c.in_ok-tasks.ensures.tasks in
     let tasks = c.deref-6.ensures.value ∙ tasks_are names parts c.deref-3.result.now c.in_ok-tasks.tasks.items c.initial.new.tasks.items offsets vectors c.in_ok-bytes.ensures.tasks in
     let bytes = c.deref-7.ensures.value ∙ c.in_ok-bytes.ensures.bytes ∙ ap (λ b. copied_bytes 0 (stretches b names.variables.items 0 names.objects.items)) offsets in
-    along (λ ps ts bs. (from : ℕ) → from + length bs < 65536 → TasksFit from ts) parts parts (tasks_in names parts) c.deref-6.result.now (initial_in names) c.deref-7.result.now refl (sym tasks) (sym bytes) (tasks_fit names c.initial_values_fit.ensures.bytes parts)
+    subst₂ (λ (ts : List Task) (bs : List ℕ). (from : ℕ) → from + length bs < 65536 → TasksFit from ts) (sym tasks) (sym bytes) (tasks_fit names c.initial_values_fit.ensures.bytes parts)
 
 pub start_turns-requires : goal.start_turns-requires
 start_turns-requires c =
@@ -54,11 +57,11 @@ returns-clause-start_up c =
     let offsets = c.deref-3.ensures.value ∙ offsets_are names c.deref.result.now c.in_ok-offsets.offsets.items c.deref.ensures.value c.in_ok-offsets.ensures.offsets in
     let vectors = vectors_are parts c.deref-2.result.now c.in_ok-tasks.tasks.items c.deref-2.ensures.value c.in_ok-tasks.ensures.tasks in
     let tasks = c.deref-6.ensures.value ∙ tasks_are names parts c.deref-3.result.now c.in_ok-tasks.tasks.items c.initial.new.tasks.items offsets vectors c.in_ok-bytes.ensures.tasks in
-    along
-    (λ ps ts bs.
+    subst₂
+    (λ (ps : List Part) (ts : List Task).
     HasStartUpBefore (base + start_up_bytes ts) (rom_code c.in_ok-rom.rom.items) (place_in (places_from (base + start_up_bytes ts) ps) ps is_unserved)
     (map (placed (places_from (base + start_up_bytes ts) ps) (base + start_up_bytes ts + total_of ps)) ts) (place_in (places_from (base + start_up_bytes ts) ps) ps is_main))
-    c.deref-4.result.now parts c.deref-6.result.now (tasks_in names parts) c.deref-7.result.now c.deref-7.result.now c.deref-4.ensures.value tasks refl c.in_ok-rom.ensures.start_up
+    c.deref-4.ensures.value tasks c.in_ok-rom.ensures.start_up
 
 pub returns-clause-initial : goal.returns-clause-initial
 returns-clause-initial c =
@@ -69,8 +72,7 @@ returns-clause-initial c =
     let vectors = vectors_are parts c.deref-2.result.now c.in_ok-tasks.tasks.items c.deref-2.ensures.value c.in_ok-tasks.ensures.tasks in
     let tasks = c.deref-6.ensures.value ∙ tasks_are names parts c.deref-3.result.now c.in_ok-tasks.tasks.items c.initial.new.tasks.items offsets vectors c.in_ok-bytes.ensures.tasks in
     let bytes = c.deref-7.ensures.value ∙ c.in_ok-bytes.ensures.bytes ∙ ap (λ b. copied_bytes 0 (stretches b names.variables.items 0 names.objects.items)) offsets in
-    along (λ ps ts bs. (k : ℕ) → k < length bs → rom_byte c.in_ok-rom.rom.items (base + start_up_bytes ts + total_of ps + k) ≡ slice_index bs k)
-    c.deref-4.result.now parts c.deref-6.result.now (tasks_in names parts) c.deref-7.result.now (initial_in names) c.deref-4.ensures.value tasks bytes c.in_ok-rom.ensures.initial
+    subst₃ (λ (ps : List Part) (ts : List Task) (bs : List ℕ). (k : ℕ) → k < length bs → rom_byte c.in_ok-rom.rom.items (base + start_up_bytes ts + total_of ps + k) ≡ slice_index bs k) c.deref-4.ensures.value tasks bytes c.in_ok-rom.ensures.initial
 
 pub returns-clause-bytes : goal.returns-clause-bytes
 returns-clause-bytes c =
@@ -110,8 +112,7 @@ returns-clause-parts c =
     let vectors = vectors_are parts c.deref-2.result.now c.in_ok-tasks.tasks.items c.deref-2.ensures.value c.in_ok-tasks.ensures.tasks in
     let tasks = c.deref-6.ensures.value ∙ tasks_are names parts c.deref-3.result.now c.in_ok-tasks.tasks.items c.initial.new.tasks.items offsets vectors c.in_ok-bytes.ensures.tasks in
     let there : c.deref-5.result.now ≡ offsets_in names = c.deref-5.ensures.value ∙ sym c.deref-3.ensures.value ∙ offsets in
-    along (λ ps ts bs. PartsStand (rom_code rom) (rom_words rom) bs (places_from (base + start_up_bytes ts) ps) ps)
-    c.deref-4.result.now parts c.deref-6.result.now (tasks_in names parts) c.deref-5.result.now (offsets_in names) c.deref-4.ensures.value tasks there c.in_ok-rom.ensures.parts
+    subst₃ (λ (ps : List Part) (ts : List Task) (bs : List ℕ). PartsStand (rom_code rom) (rom_words rom) bs (places_from (base + start_up_bytes ts) ps) ps) c.deref-4.ensures.value tasks there c.in_ok-rom.ensures.parts
 
 pub returns-clause-within : goal.returns-clause-within
 returns-clause-within c = λ part.

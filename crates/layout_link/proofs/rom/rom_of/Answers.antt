@@ -1,4 +1,5 @@
 use Rattle.std.proofs.Common.{◌≡◌, ◌+◌, ◌-◌, ◌++◌, [], ℕ, length, refl, ap, ◌∙◌, subst, arith}
+use Rattle.layout_link.proofs.Imaging.{base_and_size}
 use Rattle.word86.specs.MemoryMap.{code_segment}
 use Rattle.i86_table.specs.declared.instruction.Instr.TheVariants as i
 use Rattle.i86_code.specs.Forms.{Spells}
@@ -6,20 +7,12 @@ use Rattle.i86_code.specs.Writing.{bytes_of, form_of}
 use Rattle.std.specs.Prelude.{replicate}
 use Rattle.layout_link.specs.Image.{bytes_in, base_of}
 use Rattle.layout_link.specs.Inner.Bytes.{all_bytes, all_filled}
-use Rattle.layout_link.specs.declared.image.RomSize.{RomSize}
-use Rattle.layout_link.specs.declared.image.RomSize.TheVariants.{Kib8, Kib16, Kib32, Kib64}
 use Rattle.layout_link.proofs.Whole.{all_filled_long, third_long, fifth_long, sixth_is, rom_long, initial_there, head_stands, resets, parts_stand}
 use Rattle.layout_link.proofs.rom.rom_of.Goals as goal
 
 jump_size : (base : ℕ) → length (bytes_of (i.JumpFar base code_segment)) ≡ 5
 unfolding form_of
 jump_size base = refl
-
-base_size : (s : RomSize) → base_of s + bytes_in s ≡ 65536
-base_size Kib8 = refl
-base_size Kib16 = refl
-base_size Kib32 = refl
-base_size Kib64 = refl
 
 pub pad-requires : goal.pad-requires
 pad-requires c =
@@ -61,21 +54,21 @@ returns-clause-bytes c =
 
 pub returns-clause-long : goal.returns-clause-long
 returns-clause-long c =
-    rom_long c.one_form.ensures.only c.args.head.now c.args.parts.now c.args.offsets.now c.args.places.now c.args.initial.now (bytes_in c.args.size) (base_of c.args.size) c.pad-2.new.code.items (base_size c.args.size) c.requires.fits c.in_ok-write_all.ensures.coded (returns-clause-bytes c)
+    rom_long c.one_form.ensures.only c.args.head.now c.args.parts.now c.args.offsets.now c.args.places.now c.args.initial.now (bytes_in c.args.size) (base_of c.args.size) c.pad-2.new.code.items (base_and_size c.args.size) c.requires.fits c.in_ok-write_all.ensures.coded (returns-clause-bytes c)
 
 pub returns-clause-initial : goal.returns-clause-initial
 returns-clause-initial c =
-    initial_there c.one_form.ensures.only c.args.head.now c.args.parts.now c.args.offsets.now c.args.places.now c.args.initial.now (bytes_in c.args.size) (base_of c.args.size) c.pad-2.new.code.items (base_size c.args.size) c.requires.fits c.in_ok-write_all.ensures.coded (returns-clause-bytes c)
+    initial_there c.one_form.ensures.only c.args.head.now c.args.parts.now c.args.offsets.now c.args.places.now c.args.initial.now (bytes_in c.args.size) (base_of c.args.size) c.pad-2.new.code.items (base_and_size c.args.size) c.requires.fits c.in_ok-write_all.ensures.coded (returns-clause-bytes c)
 
 pub returns-clause-start_up : goal.returns-clause-start_up
 returns-clause-start_up c =
-    head_stands c.one_form.ensures.only c.args.head.now c.args.parts.now c.args.offsets.now c.args.places.now c.args.initial.now (bytes_in c.args.size) (base_of c.args.size) c.pad-2.new.code.items (base_size c.args.size) c.requires.fits c.in_ok-write_all.ensures.coded (returns-clause-bytes c)
+    head_stands c.one_form.ensures.only c.args.head.now c.args.parts.now c.args.offsets.now c.args.places.now c.args.initial.now (bytes_in c.args.size) (base_of c.args.size) c.pad-2.new.code.items (base_and_size c.args.size) c.requires.fits c.in_ok-write_all.ensures.coded (returns-clause-bytes c)
 
 pub returns-clause-reset : goal.returns-clause-reset
 returns-clause-reset c =
     let spells = subst (λ n. Spells (bytes_of (i.JumpFar (65536 - n) code_segment)) (i.JumpFar (65536 - n) code_segment)) c.bytes-bytes.ensures c.write.ensures.coded in
-    resets c.one_form.ensures.only c.args.head.now c.args.parts.now c.args.offsets.now c.args.places.now c.args.initial.now (bytes_in c.args.size) (base_of c.args.size) c.pad-2.new.code.items (base_size c.args.size) c.requires.fits c.in_ok-write_all.ensures.coded (returns-clause-bytes c) spells
+    resets c.one_form.ensures.only c.args.head.now c.args.parts.now c.args.offsets.now c.args.places.now c.args.initial.now (bytes_in c.args.size) (base_of c.args.size) c.pad-2.new.code.items (base_and_size c.args.size) c.requires.fits c.in_ok-write_all.ensures.coded (returns-clause-bytes c) spells
 
 pub returns-clause-parts : goal.returns-clause-parts
 returns-clause-parts c =
-    parts_stand c.one_form.ensures.only c.args.head.now c.args.parts.now c.args.offsets.now c.args.places.now c.args.initial.now (bytes_in c.args.size) (base_of c.args.size) c.pad-2.new.code.items (base_size c.args.size) c.requires.fits c.in_ok-write_all.ensures.coded (returns-clause-bytes c) c.requires.places
+    parts_stand c.one_form.ensures.only c.args.head.now c.args.parts.now c.args.offsets.now c.args.places.now c.args.initial.now (bytes_in c.args.size) (base_of c.args.size) c.pad-2.new.code.items (base_and_size c.args.size) c.requires.fits c.in_ok-write_all.ensures.coded (returns-clause-bytes c) c.requires.places

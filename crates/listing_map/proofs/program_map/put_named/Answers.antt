@@ -2,7 +2,9 @@ use Rattle.listing_map.proofs.Writing.{cut_longer, writes_after}
 use Rattle.listing_map.proofs.program_map.put_named.Goals as goal
 
 pub returns-in-Ok : goal.returns-in-Ok
-returns-in-Ok g c = writes_after _ _ _ _ _ _ _ _ _ c.in-Ok.ensures (rw c.as_slice.ensures.value at c.put_handlers.ensures)
+returns-in-Ok g c = writes_after _ _ _ _ _ _ _ _ _ (rw c.names.ensures.names at c.in-Ok.ensures) c.put_handlers.ensures
 
 pub returns-in-Err : goal.returns-in-Err
-returns-in-Err g c = (cut_longer _ _ _ _ c.in-Err.ensures.0, c.in-Err.ensures.1)
+returns-in-Err g c =
+    let cut = rw c.names.ensures.names at c.in-Err.ensures in
+    (cut_longer _ _ _ _ cut.0, cut.1)

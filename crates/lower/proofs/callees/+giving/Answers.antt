@@ -35,4 +35,4 @@ pub is_giving-returns-in-Iterate : goal.is_giving-returns-in-Iterate
 is_giving-returns-in-Iterate t c =
     c.are_giving-in-Iterate.ensures ∙ ap (λ ss. are_giving (statements_of ss)) c.deref-in-Iterate-2.ensures.value
     ∙ ap (λ (l : Loop). are_giving (statements_of l.body.items)) c.deref-in-Iterate.ensures
-    ∙ sym (ap is_giving (ap statement_of c.in-Iterate.is ∙ c.trees_have_their_lists.ensures.iterate c.in-Iterate.field-0 c.in-Iterate.iteration))
+    ∙ sym (ap is_giving (ap statement_of c.in-Iterate.is ∙ c.trees_have_their_lists.ensures.iterate c.in-Iterate.field-0 c.in-Iterate.rounds))

@@ -1,7 +1,7 @@
 use Rattle.std.proofs.Common.{◌≡◌, ◌++◌, ◌-◌, OnOk, IfOk, Some, None, length, take, ap, subst, sym, ◌∙◌, arith}
 use Rattle.plm_type.specs.View.{expression_of, procedures_of}
 use Rattle.lower.specs.Expressions.{operand_of, beside, condition_code, expression_code, relation_of, stands_to, test_of}
-use Rattle.lower.specs.Inner.Chains.{chain_code}
+use Rattle.lower.specs.Inner.Expressions.{chain_code}
 use Rattle.lower.proofs.Trees.{chain_none}
 use Rattle.lower.proofs.Outermost.{chain_split, relation_coded, relation_tested, value_coded, value_tested}
 use Rattle.lower.proofs.conditions.+condition.Goals as goal

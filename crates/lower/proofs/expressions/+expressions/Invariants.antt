@@ -1,7 +1,7 @@
 use Rattle.std.proofs.Common.{◌≡◌, ◌++◌, drop}
 use Rattle.plm_type.specs.View.{expressions_of, subscripts_of, procedures_of}
 use Rattle.lower.specs.Expressions.{pushed_code, further_code}
-use Rattle.lower.specs.Inner.Chains.{chain_code}
+use Rattle.lower.specs.Inner.Expressions.{chain_code}
 use Rattle.lower.proofs.expressions.+expressions.Given as goal
 
 abbrev pub invariant-chain-loop-operation : goal.invariant-chain-loop-operation

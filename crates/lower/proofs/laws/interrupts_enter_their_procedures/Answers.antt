@@ -1,5 +1,5 @@
-use Rattle.lower.proofs.Handlers.{enters_first}
+use Rattle.lower.proofs.Handlers.{enters_the_same}
 use Rattle.lower.proofs.laws.interrupts_enter_their_procedures.Goals as goal
 
 pub returns : goal.returns
-returns c = enters_first
+returns c = enters_the_same

@@ -12,7 +12,7 @@ use Rattle.plm_syntax.specs.Inner.Symbol.{Symbol, depth, push, Want, Do, Leave, 
 use Rattle.plm_syntax.specs.Inner.Machine.{plain, add_label, join_arms, make_if, make_do, make_while, make_case, make_iterate, no_statement_yet, and_more, make_declare, make_procedure, procedure_symbols, run}
 use Rattle.plm_syntax.specs.Inner.Parsed.{ahead, next_of}
 use Rattle.plm_syntax.specs.Faults.{terminal_of}
-use Rattle.plm_syntax.specs.Inner.Blocks.{items_part, statements_part, read_statement, read_basic, read_block, read_body, read_governed, read_procedure, read_header, read_range, read_arm, iteration_goals, procedure_goals, no_parameters_read}
+use Rattle.plm_syntax.specs.Inner.Blocks.{items_part, statements_part, read_statement, read_basic, read_block, read_body, read_governed, read_procedure, read_header, read_range, read_arm, iterate_goals, procedure_goals, no_parameters_read}
 use Rattle.plm_syntax.specs.Inner.Parts.{read_expression, reference_read, read_elements}
 use Rattle.plm_syntax.proofs.Rows.{name_pushed, statement_pushed, item_pushed, statement_row}
 use Rattle.plm_syntax.proofs.Along.{out_of_memory, quiet, taken, refused, entered, too_deep, deeper, failed, refusal, depth_failure, arrives_behind, arrives_left, fails_behind, ahead_length}
@@ -91,10 +91,10 @@ condition-returns-clause-leads t c = λ ls s v d. c.in_ok-asked.ensures.leads (t
     ∙ ap (λ (x : Expression × Box Statement). run 64 s (StatementR (Labelled ls (IfElseS c.args.place (expression_of x.0) (statement_of x.1.value) (statement_of c.in_ok-test.other.value))) ∷ v) (ahead c.in_ok-test.rest)) (sym c.in_ok-test.ensures.0)
 
 pub group-returns-in-Some-clause-leads : goal.group-returns-in-Some-clause-leads
-group-returns-in-Some-clause-leads t c = λ ls s v d. arrives_behind (read_basic ls) s v c.iteration.result
+group-returns-in-Some-clause-leads t c = λ ls s v d. arrives_behind (read_basic ls) s v c.iterate.result
     (taken (Want (DoG c.args.place (base_of c.args.label)) ∷ s) (NamesR ls ∷ v) c.in-Some.ensures
-    ∙ quiet c.in-Some.after (push (NameR (name_of c.in-Some.index)) ∷ iteration_goals c.args.place (base_of c.args.label) s) (iteration_goals c.args.place (base_of c.args.label) s) (NamesR ls ∷ v) (NameR (name_of c.in-Some.index) ∷ NamesR ls ∷ v) (λ t q. refl))
-    (c.iteration.ensures.leads ls s v d)
+    ∙ quiet c.in-Some.after (push (NameR (name_of c.in-Some.index)) ∷ iterate_goals c.args.place (base_of c.args.label) s) (iterate_goals c.args.place (base_of c.args.label) s) (NamesR ls ∷ v) (NameR (name_of c.in-Some.index) ∷ NamesR ls ∷ v) (λ t q. refl))
+    (c.iterate.ensures.leads ls s v d)
 
 pub group-returns-in_err-block-clause-leads : goal.group-returns-in_err-block-clause-leads
 group-returns-in_err-block-clause-leads t c = λ ls s v d. failed (read_basic ls) s v c.from_residual.result c.in_err-block.field-0.0 c.from_residual.ensures.1
@@ -141,18 +141,18 @@ governed-returns-clause-leads t c = λ s v d. arrives_behind read_governed s v c
     (besides read_body read_governed c.in_ok-value.value s (read_expression c.in_ok-value.value v) v c.statements.result c.beside.result (run 64 (Want (StatementsG (base_of c.args.label)) ∷ s) (StatementsR no_statements ∷ read_expression c.in_ok-value.value v) (ahead c.in_ok-value.start)) c.beside.ensures (λ b. refl)
     (c.statements.ensures.leads s (read_expression c.in_ok-value.value v) d))
 
-pub iteration-returns-in_err-header-clause-leads : goal.iteration-returns-in_err-header-clause-leads
-iteration-returns-in_err-header-clause-leads t c = λ ls s v d. failed (read_basic ls) s v c.from_residual.result c.in_err-header.field-0.0 c.from_residual.ensures.1 refl
+pub iterate-returns-in_err-header-clause-leads : goal.iterate-returns-in_err-header-clause-leads
+iterate-returns-in_err-header-clause-leads t c = λ ls s v d. failed (read_basic ls) s v c.from_residual.result c.in_err-header.field-0.0 c.from_residual.ensures.1 refl
     (c.in_err-header.ensures.leads (name_of c.args.index) (no_statement_yet ∷ Want (StatementsG (base_of c.args.label)) ∷ Do (make_iterate c.args.place) ∷ s) (NamesR ls ∷ v) d)
 
-pub iteration-returns-in_err-bounds-clause-leads : goal.iteration-returns-in_err-bounds-clause-leads
-iteration-returns-in_err-bounds-clause-leads t c = λ ls s v d. failed (read_basic ls) s v c.from_residual-in_err-bounds.result c.in_err-bounds.field-0.0 c.from_residual-in_err-bounds.ensures.1
+pub iterate-returns-in_err-bounds-clause-leads : goal.iterate-returns-in_err-bounds-clause-leads
+iterate-returns-in_err-bounds-clause-leads t c = λ ls s v d. failed (read_basic ls) s v c.from_residual-in_err-bounds.result c.in_err-bounds.field-0.0 c.from_residual-in_err-bounds.ensures.1
     (c.in_ok-header.ensures.leads (name_of c.args.index) (no_statement_yet ∷ Want (StatementsG (base_of c.args.label)) ∷ Do (make_iterate c.args.place) ∷ s) (NamesR ls ∷ v) d
     ∙ quiet c.in_ok-header.start (no_statement_yet ∷ Want (StatementsG (base_of c.args.label)) ∷ Do (make_iterate c.args.place) ∷ s) (Want (StatementsG (base_of c.args.label)) ∷ Do (make_iterate c.args.place) ∷ s) (read_range (name_of c.args.index) c.in_ok-header.header (NamesR ls ∷ v)) (StatementsR no_statements ∷ read_range (name_of c.args.index) c.in_ok-header.header (NamesR ls ∷ v)) (λ t q. refl))
     (ended read_body (Do (make_iterate c.args.place) ∷ s) (read_range (name_of c.args.index) c.in_ok-header.header (NamesR ls ∷ v)) (run 64 (Want (StatementsG (base_of c.args.label)) ∷ Do (make_iterate c.args.place) ∷ s) (StatementsR no_statements ∷ read_range (name_of c.args.index) c.in_ok-header.header (NamesR ls ∷ v)) (ahead c.in_ok-header.start)) c.in_err-bounds.ensures (c.statements.ensures.leads (Do (make_iterate c.args.place) ∷ s) (read_range (name_of c.args.index) c.in_ok-header.header (NamesR ls ∷ v)) d))
 
-pub iteration-returns-clause-leads : goal.iteration-returns-clause-leads
-iteration-returns-clause-leads t c = λ ls s v d. c.in_ok-header.ensures.leads (name_of c.args.index) (no_statement_yet ∷ Want (StatementsG (base_of c.args.label)) ∷ Do (make_iterate c.args.place) ∷ s) (NamesR ls ∷ v) d
+pub iterate-returns-clause-leads : goal.iterate-returns-clause-leads
+iterate-returns-clause-leads t c = λ ls s v d. c.in_ok-header.ensures.leads (name_of c.args.index) (no_statement_yet ∷ Want (StatementsG (base_of c.args.label)) ∷ Do (make_iterate c.args.place) ∷ s) (NamesR ls ∷ v) d
     ∙ quiet c.in_ok-header.start (no_statement_yet ∷ Want (StatementsG (base_of c.args.label)) ∷ Do (make_iterate c.args.place) ∷ s) (Want (StatementsG (base_of c.args.label)) ∷ Do (make_iterate c.args.place) ∷ s) (read_range (name_of c.args.index) c.in_ok-header.header (NamesR ls ∷ v)) (StatementsR no_statements ∷ read_range (name_of c.args.index) c.in_ok-header.header (NamesR ls ∷ v)) (λ t q. refl)
     ∙ arrived read_body (Do (make_iterate c.args.place) ∷ s) (read_range (name_of c.args.index) c.in_ok-header.header (NamesR ls ∷ v)) c.in_ok-bounds.ensures.1 (c.statements.ensures.leads (Do (make_iterate c.args.place) ∷ s) (read_range (name_of c.args.index) c.in_ok-header.header (NamesR ls ∷ v)) d)
     ∙ ap (λ (x : Box Bounds). run 64 (Do (make_iterate c.args.place) ∷ s) (read_body (c.in_ok-bounds.body, c.in_ok-bounds.end) (read_range (name_of c.args.index) x (NamesR ls ∷ v))) (ahead c.in_ok-bounds.rest)) (sym c.in_ok-bounds.ensures.0)

@@ -15,8 +15,8 @@ decreases-group l = 8 * length l.cursor.tokens.now
 abbrev pub decreases-governed : goal.decreases-governed
 decreases-governed l = 8 * length l.cursor.tokens.now
 
-abbrev pub decreases-iteration : goal.decreases-iteration
-decreases-iteration l = 8 * length l.cursor.tokens.now
+abbrev pub decreases-iterate : goal.decreases-iterate
+decreases-iterate l = 8 * length l.cursor.tokens.now
 
 abbrev pub decreases-basic : goal.decreases-basic
 decreases-basic l = 8 * length l.cursor.tokens.now

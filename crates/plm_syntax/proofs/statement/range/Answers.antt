@@ -14,7 +14,7 @@ use Rattle.plm_syntax.proofs.Along.{out_of_memory, quiet, taken, need_refused, f
 use Rattle.plm_syntax.proofs.Joined.{arrived, ended, stays_within, stays_less}
 use Rattle.plm_syntax.proofs.statement.range.Goals as goal
 
--- what is awaited after an iteration's bounds
+-- what is awaited after the bounds of a DO with an index
 abbrev to_step : List Symbol → List Symbol
 to_step s = Do make_range ∷ push (StepR None) ∷ Want StepG ∷ need mark.Semicolon ∷ s
 

@@ -40,7 +40,7 @@ add_statement-returns-in_ok-add_expression-in-Case t c =
     ∙ ap (λ (s : StatementR). old ++ spec.of_statement s) (sym is) in
     subst (λ (l : List Effect). OnOk c.add_statements-in-Case.result (c.add_statements-in-Case.new.effects.items ≡ l)) path c.add_statements-in-Case.ensures
 
--- what stands before the statements of an iterative DO
+-- what stands before the statements of a DO with an index
 abbrev before : Bounds → List Effect
 before b = spec.of_expression (resolved.expression_of b.from) ++ (spec.of_expression (resolved.expression_of b.to) ++ spec.of_step (resolved.step_of b.step))
 

@@ -6,7 +6,7 @@ use Rattle.plm_type.specs.Inner.Reach.{rows, marks_of, AreReached}
 use Rattle.plm_type.specs.Sharing.{roots, handlers_from}
 use Rattle.plm_type.proofs.MarkedTwice.{Marked, one_searched, none_searched}
 use Rattle.plm_type.proofs.sharing.reached_from_roots.Goals as goal
-use Rattle.plm_type.proofs.sharing.reached_from_roots.Goals.{then-is_handler+in_ok-reached-2+in_ok-push-2, else-is_handler}
+use Rattle.plm_type.proofs.sharing.reached_from_roots.Goals.{then-serves_interrupt+in_ok-reached-2+in_ok-push-2, else-serves_interrupt}
 
 pub loop-number-preserved : goal.loop-number-preserved
 loop-number-preserved c =
@@ -20,19 +20,19 @@ loop-number-preserved c =
     let within : k < length ps = subst (λ (l : List Procedure). k < length l) same c.loop-number-test.true in
     let here : drop k ps ≡ p ∷ drop (k + 1) ps = drop_more ps k p within ∙ ap (λ (x : Procedure). x ∷ drop (k + 1) ps) (sym (c.procedure-item.is ∙ ap (λ (l : List Procedure). get_or l k p) same)) in
     let before : Marked g all (handlers_from k (p ∷ drop (k + 1) ps)) old = subst (λ (l : List Procedure). Marked g all (handlers_from k l) old) here c.loop-number.invariant in
-    elim c.if-is_handler.branch [
-      | then-is_handler+in_ok-reached-2+in_ok-push-2 w ↦
+    elim c.if-serves_interrupt.branch [
+      | then-serves_interrupt+in_ok-reached-2+in_ok-push-2 w ↦
           let marks = w.in_ok-reached-2.field-0.items in
           let rows_long = length-map c.args.graph.now (λ v. v.items) in
-          one_searched g all k p (drop (k + 1) ps) old (marks_of c.if-is_handler.roots.items) marks
-          (sym c.is_handler.ensures ∙ w.if-is_handler.true)
+          one_searched g all k p (drop (k + 1) ps) old (marks_of c.if-serves_interrupt.roots.items) marks
+          (sym c.serves_interrupt.ensures ∙ w.if-serves_interrupt.true)
           (w.in_ok-reached-2.ensures.length ∙ sym rows_long)
           (λ q h. w.in_ok-reached-2.ensures.reached q (subst (λ n. q < n) rows_long h))
           ((λ j. marks_of (w.roots-is j).items) ∙ ap marks_of w.in_ok-push-2.ensures.items ∙ map-append (λ v. v.items) c.loop-number.roots.items (w.in_ok-reached-2.field-0 ∷ []))
           before
-      | else-is_handler w ↦
-          none_searched g all k p (drop (k + 1) ps) old (marks_of c.if-is_handler.roots.items)
-          (sym c.is_handler.ensures ∙ w.if-is_handler.false) (λ j. marks_of (w.roots-is j).items) before
+      | else-serves_interrupt w ↦
+          none_searched g all k p (drop (k + 1) ps) old (marks_of c.if-serves_interrupt.roots.items)
+          (sym c.serves_interrupt.ensures ∙ w.if-serves_interrupt.false) (λ j. marks_of (w.roots-is j).items) before
     ]
 
 pub returns : goal.returns

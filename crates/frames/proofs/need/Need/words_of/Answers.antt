@@ -1,4 +1,3 @@
-use Rattle.std.proofs.Common.{◌≡◌}
 use Rattle.frames.specs.Inner.Need.{need_at}
 use Rattle.frames.proofs.Needing.{kept_words, kept_height}
 use Rattle.frames.proofs.need.Need.words_of.Goals as goal

@@ -2,7 +2,7 @@ use Rattle.std.proofs.Common.{◌≡◌, ◌++◌, ℕ, OnOk, map, vec_items, dr
 use Rattle.plm_type.specs.Rest.{Block, While, Case, Iterate}
 use Rattle.plm_type.specs.View.{statement_of, statements_of, expression_of, loop_of, procedures_of}
 use Rattle.lower.specs.Statements.{statement_code, statements_code, cases_code, are_silent}
-use Rattle.lower.specs.Inner.Parts.{branching}
+use Rattle.lower.specs.Inner.Statements.{branching}
 use Rattle.lower.proofs.Turned.{turned}
 use Rattle.lower.proofs.statements.Around.+statements.Goals as goal
 
@@ -17,20 +17,20 @@ statement-returns-in-While-clause-code t c =
     let ps = procedures_of c.args.self.callees.procedures.now in
     let e = expression_of c.in-While.condition in
     let is = ap (λ ss. While e e (statements_of ss)) c.deref-in-While.ensures.value ∙ sym (ap statement_of c.in-While.is ∙ c.trees_have_their_lists.ensures.while_true c.in-While.condition c.in-While.body) in
-    subst (λ s. OnOk c.repetition.result (c.repetition.new.code.items ≡ c.args.code.now.items ++ statement_code ps c.args.self.kind c.args.exit s)) is c.repetition.ensures.code
+    subst (λ s. OnOk c.while_loop.result (c.while_loop.new.code.items ≡ c.args.code.now.items ++ statement_code ps c.args.self.kind c.args.exit s)) is c.while_loop.ensures.code
 
 pub statement-returns-in-Case-clause-code : goal.statement-returns-in-Case-clause-code
 statement-returns-in-Case-clause-code t c =
     let ps = procedures_of c.args.self.callees.procedures.now in
     let e = expression_of c.in-Case.value in
     let is = ap (λ ss. Case e (statements_of ss)) c.deref-in-Case.ensures.value ∙ sym (ap statement_of c.in-Case.is ∙ c.trees_have_their_lists.ensures.case_of c.in-Case.value c.in-Case.cases) in
-    subst (λ s. OnOk c.cases.result (c.cases.new.code.items ≡ c.args.code.now.items ++ statement_code ps c.args.self.kind c.args.exit s)) is c.cases.ensures.code
+    subst (λ s. OnOk c.case.result (c.case.new.code.items ≡ c.args.code.now.items ++ statement_code ps c.args.self.kind c.args.exit s)) is c.case.ensures.code
 
 pub statement-returns-in-Iterate-clause-code : goal.statement-returns-in-Iterate-clause-code
 statement-returns-in-Iterate-clause-code t c =
     let ps = procedures_of c.args.self.callees.procedures.now in
-    let is = ap (λ l. Iterate (expression_of c.in-Iterate.first) (loop_of l)) c.deref-in-Iterate.ensures ∙ sym (ap statement_of c.in-Iterate.is ∙ c.trees_have_their_lists.ensures.iterate c.in-Iterate.first c.in-Iterate.iteration) in
-    subst (λ s. OnOk c.iteration.result (c.iteration.new.code.items ≡ c.args.code.now.items ++ statement_code ps c.args.self.kind c.args.exit s)) is c.iteration.ensures.code
+    let is = ap (λ l. Iterate (expression_of c.in-Iterate.first) (loop_of l)) c.deref-in-Iterate.ensures ∙ sym (ap statement_of c.in-Iterate.is ∙ c.trees_have_their_lists.ensures.iterate c.in-Iterate.first c.in-Iterate.rounds) in
+    subst (λ s. OnOk c.iterate.result (c.iterate.new.code.items ≡ c.args.code.now.items ++ statement_code ps c.args.self.kind c.args.exit s)) is c.iterate.ensures.code
 
 pub statement-returns-in_ok-otherwise-in-If-clause-code : goal.statement-returns-in_ok-otherwise-in-If-clause-code
 statement-returns-in_ok-otherwise-in-If-clause-code t c =

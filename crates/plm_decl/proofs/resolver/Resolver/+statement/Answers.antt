@@ -74,7 +74,7 @@ basic-returns-in-While t c =
     ap (λ (ss : List Statement). basic frames None (WhileS at.place (tree.expression_of at.test) (tree.statements_of ss) None) k) c.deref-in-While.ensures.value
     ∙ ap (λ (ss : StatementsT). basic frames None (WhileS at.place (tree.expression_of at.test) ss None) k) (sym (statement_row at.body))
     ∙ ap (λ (b : Basic). basic frames label (tree.basic_of b) k) (sym at.is) in
-    subst (λ (x : StatementR × Known). IfOk c.repetition.result (λ s. (view.statement_of s, known_of c.repetition.new.self) ≡ x)) all c.repetition.ensures
+    subst (λ (x : StatementR × Known). IfOk c.while_loop.result (λ s. (view.statement_of s, known_of c.while_loop.new.self) ≡ x)) all c.while_loop.ensures
 
 pub basic-returns-in-Case : goal.basic-returns-in-Case
 basic-returns-in-Case t c =
@@ -86,7 +86,7 @@ basic-returns-in-Case t c =
     ap (λ (ss : List Statement). basic frames None (CaseS at.place (tree.expression_of at.selector) (tree.statements_of ss) None) k) c.deref-in-Case.ensures.value
     ∙ ap (λ (ss : StatementsT). basic frames None (CaseS at.place (tree.expression_of at.selector) ss None) k) (sym (statement_row at.cases))
     ∙ ap (λ (b : Basic). basic frames label (tree.basic_of b) k) (sym at.is) in
-    subst (λ (x : StatementR × Known). IfOk c.selection.result (λ s. (view.statement_of s, known_of c.selection.new.self) ≡ x)) all c.selection.ensures
+    subst (λ (x : StatementR × Known). IfOk c.case.result (λ s. (view.statement_of s, known_of c.case.new.self) ≡ x)) all c.case.ensures
 
 pub basic-returns-in-Call : goal.basic-returns-in-Call
 basic-returns-in-Call t c =
@@ -119,7 +119,7 @@ basic-returns-in_ok-bounds-in-Iterate t c =
     (λ j. iterated at.place at.index.place (did j).0 (statements frames (tree.statements_of (c.deref-in-Iterate-2.ensures.value j)) (did j).1))
     ∙ ap (λ (ss : StatementsT). iterated at.place at.index.place read.0 (statements frames ss read.1)) (sym (statement_row at.body))
     ∙ ap (λ (b : Basic). basic frames label (tree.basic_of b) k) (sym at.is) in
-    subst (λ (x : StatementR × Known). IfOk c.iteration.result (λ s. (view.statement_of s, known_of c.iteration.new.self) ≡ x)) all c.iteration.ensures
+    subst (λ (x : StatementR × Known). IfOk c.iterate.result (λ s. (view.statement_of s, known_of c.iterate.new.self) ≡ x)) all c.iterate.ensures
 
 pub basic-returns-in_ok-then-in-IfElse : goal.basic-returns-in_ok-then-in-IfElse
 basic-returns-in_ok-then-in-IfElse t c =
@@ -144,8 +144,8 @@ do_block-returns t c =
     ∙ (λ j. (DoR c.args.place (body.ensures j).0, (body.ensures j).2))
     ∙ (λ j. let r = block (inside j) (tree.block_of c.args.block.now) (did j).1 in (DoR c.args.place r.0, r.2))
 
-pub repetition-returns : goal.repetition-returns
-repetition-returns t c =
+pub while_loop-returns : goal.while_loop-returns
+while_loop-returns t c =
     let frames = frames_of c.args.scope.now in
     let did = c.in_ok-test.ensures in
     let body = c.in_ok-statements in
@@ -154,8 +154,8 @@ repetition-returns t c =
     ∙ (λ j. (WhileR c.args.place first.0 (body.ensures j).0, (body.ensures j).1))
     ∙ (λ j. let r = statements frames (tree.statements_of c.args.body.now) (did j).1 in (WhileR c.args.place first.0 r.0, r.1))
 
-pub selection-returns : goal.selection-returns
-selection-returns t c =
+pub case-returns : goal.case-returns
+case-returns t c =
     let frames = frames_of c.args.scope.now in
     let did = c.in_ok-selector.ensures in
     let body = c.in_ok-statements in
@@ -164,8 +164,8 @@ selection-returns t c =
     ∙ (λ j. (CaseR c.args.place first.0 (body.ensures j).0, (body.ensures j).1))
     ∙ (λ j. let r = statements frames (tree.statements_of c.args.cases.now) (did j).1 in (CaseR c.args.place first.0 r.0, r.1))
 
-pub iteration-returns : goal.iteration-returns
-iteration-returns t c =
+pub iterate-returns : goal.iterate-returns
+iterate-returns t c =
     let body = c.in_ok-body in
     let made = iterated c.args.place c.args.index (bounds_of c.args.bounds.value) in
     (λ j. made (rows.statement_row body.body j, known_of c.statements.new.self)) ∙ ap made body.ensures

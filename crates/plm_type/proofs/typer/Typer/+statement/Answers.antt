@@ -105,7 +105,7 @@ statement-returns-in_ok-range-in-Iterate t c =
     let path = ap (λ (x : Noted rest.Statement). noted (with_body x.tree all.tree) (x.faults ++ all.faults)) range
     ∙ ap (noted (rest.Iterate a.tree (rest.Count s.counting i.tree b.tree s.tree all.tree))) faults
     ∙ ap (λ (x : StatementR). noted_after old (statement_by self around x)) is in
-    noted_moved view.statement_of c.rounds.result c.rounds.new.faults.items path c.rounds.ensures
+    noted_moved view.statement_of c.iterate.result c.iterate.new.faults.items path c.iterate.ensures
 
 -- ---- the kinds that hold statements
 
@@ -141,8 +141,8 @@ case-returns t c =
     let faults = (λ j. (cases j).faults) ∙ (λ j. (value j).faults ++ all.faults) ∙ append_assoc c.args.faults.now.items _ all.faults in
     λ j. noted (rest.Case (value j).tree (tree j)) (faults j)
 
-pub rounds-returns : goal.rounds-returns
-rounds-returns t c =
+pub iterate-returns : goal.iterate-returns
+iterate-returns t c =
     let r = c.args.range in
     let did = c.in_ok-body.ensures in
     let made = c.in_ok-new in

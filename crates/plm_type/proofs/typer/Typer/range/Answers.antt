@@ -28,4 +28,4 @@ returns c =
     ∙ append_assoc ((old ++ i.faults) ++ a.faults) b.faults s.faults ∙ append_assoc (old ++ i.faults) a.faults (b.faults ++ s.faults) ∙ append_assoc old i.faults (a.faults ++ (b.faults ++ s.faults))
     ∙ ap (λ (l : List Found). old ++ (i.faults ++ (a.faults ++ (b.faults ++ l)))) (sym (append-nil s.faults)) in
     (λ j. noted (rest.Iterate (first j).tree (rest.Count (step j).counting (index j).tree (bound j).tree (step j).tree rest.End)) (faults j))
-    ∙ ap (λ (t : Option ScalarType). noted_after old (spec.iteration i (bound_by self t c.args.place (resolved.expression_of bounds.from)) (bound_by self t c.args.place (resolved.expression_of bounds.to)) (step_by self t c.args.place (resolved.step_of bounds.step)) (noted rest.End []))) is_scalar
+    ∙ ap (λ (t : Option ScalarType). noted_after old (spec.iterate i (bound_by self t c.args.place (resolved.expression_of bounds.from)) (bound_by self t c.args.place (resolved.expression_of bounds.to)) (step_by self t c.args.place (resolved.step_of bounds.step)) (noted rest.End []))) is_scalar

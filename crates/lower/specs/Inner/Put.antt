@@ -1,4 +1,4 @@
--- The code's own types as those of the definitions.
+-- An operand of the code as one of the definitions.
 use Rattle.lower.specs.declared.put.Operand as declared_operand
 use Rattle.lower.specs.declared.put.Operand.TheVariants as operand
 use Rattle.lower.specs.Expressions.{Operand, Number, Name, Computed}
